@@ -1,0 +1,6 @@
+pub mod Numbers
+pub mod Codec
+pub mod Fronts
+pub mod Splitting
+pub mod Runs
+pub mod Pushing

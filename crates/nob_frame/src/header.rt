@@ -1,0 +1,210 @@
+//! The header of a frame: its first 28 bytes.
+
+ghost use Rattle.std.specs.Prelude.{◌≡◌, ◌≤◌, ◌<◌, ◌+◌, ◌^◌, length, IfOk, OnOk};
+ghost use Rattle.nob_frame.specs.Spelling.{heading, header_of};
+ghost use Rattle.nob_frame.specs.Reading.{field, is_seq, is_length, kind_at, numbers_at, sound, header_at};
+ghost use Rattle.nob_frame.specs.Streams.{wanted_by};
+
+use crate::fault::FrameFault;
+use crate::frame::{Frame, FrameKind};
+use byteorder::{BigEndian, ByteOrder};
+use nob_ids::SpaceId;
+
+/// How many bytes a header has.
+pub(crate) const HEADER_LEN: usize = 28;
+
+/// The byte that every frame begins with.
+const MAGIC: u8 = 0x4e;
+
+/// The version of the header.
+const VERSION: u8 = 1;
+
+/// The flags: none is in use.
+const NO_FLAGS: u8 = 0;
+
+/// The greatest number of an item.
+const MOST_ITEMS: u64 = 1 << 40;
+
+/// The greatest length of an item in bytes.
+const LONGEST_ITEM: usize = 16_384;
+
+/// What a header says.
+#[derive(Clone, Copy, Debug, PartialEq, Eq)]
+pub(crate) struct Header {
+    pub(crate) kind: FrameKind,
+    pub(crate) from: SpaceId,
+    pub(crate) to: SpaceId,
+    pub(crate) seq: u64,
+    pub(crate) ack: u64,
+    /// How many bytes the payload has.
+    pub(crate) length: usize,
+}
+
+impl Header {
+    /// The header of a frame, whether or not it has a spelling.
+    pub(crate) fn of(frame: &Frame) -> Header
+        ensures { result ≡ header_of frame.now }
+    {
+        Header {
+            kind: frame.kind,
+            from: frame.from,
+            to: frame.to,
+            seq: frame.seq,
+            ack: frame.ack,
+            length: frame.payload.len(),
+        }
+    }
+
+    /// The header itself, or the first of F6 to F9 that it is refused for.
+    #[tactic(auto, unfolding(crate::specs::Reading::sound))]
+    pub(crate) fn judged(self) -> Result<Header, FrameFault>
+        ensures exact { result ≡ sound self }
+        ensures same { IfOk result (λ header. header ≡ self) }
+        ensures short { IfOk result (λ header. header.length ≤ 16384) }
+    {
+        if self.from.get() == self.to.get() {
+            return Err(FrameFault::Spaces);
+        }
+        if !seq_fits(self.kind, self.seq) {
+            return Err(FrameFault::Seq);
+        }
+        if self.ack < 1 || self.ack > MOST_ITEMS + 1 {
+            return Err(FrameFault::Ack);
+        }
+        if !length_fits(self.kind, self.length) {
+            return Err(FrameFault::Length);
+        }
+        Ok(self)
+    }
+}
+
+/// Whether a frame of this kind may have this item's number.
+fn seq_fits(kind: FrameKind, seq: u64) -> bool
+    ensures { result ≡ is_seq kind seq }
+{
+    match kind {
+        FrameKind::Data => seq >= 1 && seq <= MOST_ITEMS,
+        FrameKind::Ack | FrameKind::Close => seq == 0,
+    }
+}
+
+/// Whether the payload of a frame of this kind may have this length.
+fn length_fits(kind: FrameKind, length: usize) -> bool
+    ensures { result ≡ is_length kind length }
+{
+    match kind {
+        FrameKind::Data => length >= 1 && length <= LONGEST_ITEM,
+        FrameKind::Ack => length == 0,
+        FrameKind::Close => length == 1,
+    }
+}
+
+/// The number in the two bytes from a place on.
+fn u16_at(bytes: &[u8], place: usize) -> u16
+    requires { place + 2 ≤ length bytes.now }
+    ensures { result ≡ field place 2 bytes.now }
+{
+    BigEndian::read_u16(bytes.split_at(place).1)
+}
+
+/// The number in the four bytes from a place on.
+fn u32_at(bytes: &[u8], place: usize) -> u32
+    requires { place + 4 ≤ length bytes.now }
+    ensures { result ≡ field place 4 bytes.now }
+{
+    BigEndian::read_u32(bytes.split_at(place).1)
+}
+
+/// The number in the eight bytes from a place on.
+fn u64_at(bytes: &[u8], place: usize) -> u64
+    requires { place + 8 ≤ length bytes.now }
+    ensures { result ≡ field place 8 bytes.now }
+{
+    BigEndian::read_u64(bytes.split_at(place).1)
+}
+
+/// The kind that the first four bytes say, or the first of F2 to F5.
+#[tactic(auto, unfolding(crate::specs::Reading::kind_at))]
+fn kind_from(bytes: &[u8]) -> Result<FrameKind, FrameFault>
+    requires { 4 ≤ length bytes.now }
+    ensures { result ≡ kind_at bytes.now }
+{
+    if bytes[0] != MAGIC {
+        return Err(FrameFault::Magic);
+    }
+    if bytes[1] != VERSION {
+        return Err(FrameFault::Version);
+    }
+    let Some(kind) = FrameKind::from_number(bytes[2]) else {
+        return Err(FrameFault::Kind);
+    };
+    if bytes[3] != NO_FLAGS {
+        return Err(FrameFault::Flags);
+    }
+    Ok(kind)
+}
+
+/// A header of this kind with the numbers that follow its marks, or the first of F6 to F9.
+#[tactic(auto, unfolding(crate::specs::Reading::sound))]
+fn numbered(kind: FrameKind, bytes: &[u8]) -> Result<Header, FrameFault>
+    requires { 28 ≤ length bytes.now }
+    ensures { result ≡ sound (numbers_at kind bytes.now) }
+{
+    let Some(from) = SpaceId::new(u16_at(bytes, 4)) else {
+        return Err(FrameFault::Spaces);
+    };
+    let Some(to) = SpaceId::new(u16_at(bytes, 6)) else {
+        return Err(FrameFault::Spaces);
+    };
+    let header = Header {
+        kind,
+        from,
+        to,
+        seq: u64_at(bytes, 8),
+        ack: u64_at(bytes, 16),
+        length: u32_at(bytes, 24) as usize,
+    };
+    header.judged()
+}
+
+/// The header at the front of the bytes, or the first of F1 to F9.
+#[tactic(auto, unfolding(crate::specs::Reading::header_at))]
+pub(crate) fn header_from(bytes: &[u8]) -> Result<Header, FrameFault>
+    ensures exact { result ≡ header_at bytes.now }
+    ensures whole { OnOk result (28 ≤ length bytes.now) }
+{
+    if bytes.len() < HEADER_LEN {
+        return Err(FrameFault::Short);
+    }
+    let kind = kind_from(bytes)?;
+    numbered(kind, bytes)
+}
+
+/// How many bytes there have to be before it can be said whether the frame at their front is whole.
+pub(crate) fn wanted_from(bytes: &[u8]) -> usize
+    ensures { result ≡ wanted_by bytes.now }
+{
+    if bytes.len() >= HEADER_LEN {
+        return HEADER_LEN + u32_at(bytes, 24) as usize;
+    }
+    HEADER_LEN
+}
+
+/// The bytes of a header.
+#[tactic(auto, unfolding(crate::specs::Spelling::heading))]
+pub(crate) fn header_bytes(header: Header) -> [u8; HEADER_LEN]
+    requires { header.length < 2 ^ 32 }
+    ensures { result ≡ heading header }
+{
+    let mut bytes = [0; HEADER_LEN];
+    bytes[0] = MAGIC;
+    bytes[1] = VERSION;
+    bytes[2] = header.kind.number();
+    bytes[3] = NO_FLAGS;
+    BigEndian::write_u16(&mut bytes[4..], header.from.get());
+    BigEndian::write_u16(&mut bytes[6..], header.to.get());
+    BigEndian::write_u64(&mut bytes[8..], header.seq);
+    BigEndian::write_u64(&mut bytes[16..], header.ack);
+    BigEndian::write_u32(&mut bytes[24..], header.length as u32);
+    bytes
+}

@@ -1,0 +1,21 @@
+//! Frames and their one spelling in bytes.
+#![tactic(auto)]
+
+mod fault;
+mod feed;
+mod frame;
+mod header;
+pub mod laws;
+mod reading;
+mod writing;
+
+pub use fault::{FrameError, FrameFault};
+pub use feed::Feed;
+pub use frame::{Frame, FrameKind, Payload};
+pub use reading::decode;
+pub use writing::encode;
+
+#[cfg(test)]
+mod stream_tests;
+#[cfg(test)]
+mod tests;
