@@ -1,0 +1,4 @@
+pub mod Given
+pub mod Sizes
+pub mod Spelt
+pub mod Fronts

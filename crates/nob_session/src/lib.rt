@@ -1,0 +1,16 @@
+//! One end of a session: ordered, once-only delivery of items over frames that may be lost, repeated and
+//! reordered on their way.
+#![tactic(auto)]
+
+mod closed;
+mod error;
+pub mod laws;
+mod session;
+
+pub use closed::{Arrival, Closed};
+pub use error::SessionError;
+pub use nob_model::{Kind, Refusal};
+pub use session::Session;
+
+#[cfg(test)]
+mod tests;

@@ -1,0 +1,404 @@
+//! One end of a session.
+
+ghost use Rattle.std.specs.Prelude.{◌≡◌, ◌≢◌, ◌+◌, ◌<◌, ◌≤◌, ◌^◌, List, ℕ, Ok, Err, Some, None, Bool, false, ◌&&◌, ◌==◌, nat_le, nat_lt, max, IfOk, OnOk, OnErr, IsOk, IsOkUnless, length, take, vec_len, [], ◌∷◌};
+ghost use Rattle.nob_ids.specs.declared.limits.Limits.{Limits as LimitsOf};
+ghost use Rattle.nob_model.specs.declared.entry.EndEntry.{EndEntry};
+ghost use Rattle.nob_model.specs.declared.entry.EndEntry.TheVariants.{Send, Transmit, Arrive, Front, Take, IsOpen, Tick, Close};
+ghost use Rattle.nob_model.specs.Texts.{front_text};
+ghost use Rattle.nob_model.specs.End.{greatest_seq};
+ghost use Rattle.nob_model.specs.Right as right;
+ghost use Rattle.nob_model.specs.Right.{IsRight};
+ghost use Rattle.std.specs.List.{AllByRecursion};
+ghost use Rattle.nob_frame.specs.Kinds.{is_data};
+ghost use Rattle.nob_frame.specs.Spelling.{Fits};
+ghost use Rattle.nob_session.specs.Items.{IsItem, IsPair};
+ghost use Rattle.nob_session.specs.Stands.{Stands, ended, heard};
+ghost use Rattle.nob_session.specs.Answers.{Answered, arrived_of};
+
+use crate::closed::{Arrival, Closed};
+use crate::error::SessionError;
+use nob_frame::{Frame, FrameKind, Payload};
+use nob_ids::{ItemNo, Limits, Reason, SpaceId};
+use nob_model::right::{INBOX_LIMIT, LAST_ITEM, QUEUE_LIMIT};
+use nob_model::{Kind, Refusal};
+use std::alloc::{AllocError, Global};
+use std::marker::Model;
+
+/// One end of the session between two spaces. It keeps every payload that was handed to it and every one that
+/// it accepted until it closes.
+#[derive(Debug, Drop)]
+pub struct Session {
+    alloc: Global,
+    me: SpaceId,
+    peer: SpaceId,
+    limits: Limits,
+    // all payloads that were handed, the first first; none once it is closed
+    sent: Vec<Payload>,
+    handed: u64,
+    // the lowest number that isn't acknowledged
+    lowest: u64,
+    transmitted: u64,
+    // all payloads that were accepted, the first first; none once it is closed
+    received: Vec<Payload>,
+    accepted: u64,
+    taken: u64,
+    // whether a Data frame arrived since the last transmit
+    data_arrived: bool,
+    ticks: u64,
+    ending: Option<Reason>,
+    owes_close: bool,
+}
+
+impl Model for Session {
+    ghost use Rattle.nob_session.specs.Stands.{Roomy};
+
+    ghost Value = { Roomy };
+
+    ghost use Rattle.nob_session.specs.Sound.{seen, IsSound};
+
+    ghost view = { seen };
+
+    ghost invariant = { IsSound };
+}
+
+impl Session {
+    /// Opens the end of `me` towards `peer`. Only memory fails it.
+    pub fn open(
+        alloc: Global,
+        me: SpaceId,
+        peer: SpaceId,
+        limits: Limits,
+    ) -> Result<Session, SessionError>
+        ensures stands { IfOk result (λ session. Stands me peer limits session.end []) }
+    {
+        Ok(Session {
+            alloc,
+            me,
+            peer,
+            limits,
+            sent: Vec::new(alloc),
+            handed: 0,
+            lowest: 1,
+            transmitted: 0,
+            received: Vec::new(alloc),
+            accepted: 0,
+            taken: 0,
+            data_arrived: false,
+            ticks: 0,
+            ending: None,
+            owes_close: false,
+        })
+    }
+
+    /// Whether this end is open.
+    pub fn is_open(&self) -> bool
+        ensures answer { (me peer : ℕ) (limits : LimitsOf) (L : List EndEntry) → Stands me peer limits self.now.end L → IsRight me peer limits (IsOpen result) L }
+    {
+        self.ending.is_none()
+    }
+
+    /// Makes room for so many sends: they can't run out of memory then. Only memory fails it.
+    pub fn reserve(&mut self, count: usize) -> Result<(), SessionError>
+        ensures same { self.new.end ≡ self.old.end }
+        ensures room { OnOk result (count ≤ self.new.room) }
+        ensures kept { self.old.room ≤ self.new.room }
+        ensures memory { IsOkUnless result SessionError.OutOfMemory }
+    {
+        self.sent.reserve(count)?;
+        Ok(())
+    }
+
+    /// Takes an item to be sent, of 1 to 16,384 bytes: its number. N1, N2, N3, in this order, and then memory, which
+    /// doesn't come while there is room from `reserve`; a send uses up one place of it.
+    pub fn send(&mut self, payload: Vec<u8>, kind: Kind) -> Result<ItemNo, SessionError>
+        requires { (0 < vec_len payload) × (vec_len payload ≤ 16384) }
+        ensures answer { (me peer : ℕ) (limits : LimitsOf) (L : List EndEntry) → Stands me peer limits self.old.end L →
+            Answered (λ n. n) result (λ answer. IsRight me peer limits (Send payload.items kind answer) L × Stands me peer limits self.new.end (Send payload.items kind answer ∷ L)) }
+        ensures err { OnErr result (self.new.end ≡ self.old.end) }
+        ensures reserved { 0 < self.old.room → result ≢ Err SessionError.OutOfMemory }
+        ensures room { self.old.room ≤ self.new.room + 1 }
+    {
+        if self.ending.is_some() {
+            return Err(SessionError::Refused(Refusal::Closed));
+        }
+        let unacknowledged = self.handed + 1 - self.lowest;
+        if kind.is_limited() && unacknowledged >= QUEUE_LIMIT as u64 {
+            return Err(SessionError::Refused(Refusal::QueueFull));
+        }
+        if self.handed >= LAST_ITEM {
+            return Err(SessionError::Refused(Refusal::SeqEnd));
+        }
+        self.sent.push(Payload::from_vec(payload))?;
+        self.handed += 1;
+        Ok(ItemNo::new(self.handed))
+    }
+
+    /// The frames to be sent now. An open end gives its unacknowledged items again, from the lowest on and at most a
+    /// window of them, or else an Ack if a Data frame arrived since the last transmit; a closed end gives the Close
+    /// that it owes, once. Only memory fails it.
+    pub fn transmit(&mut self) -> Result<Vec<Frame>, SessionError>
+        ensures answer { (me peer : ℕ) (limits : LimitsOf) (L : List EndEntry) → Stands me peer limits self.old.end L →
+            IfOk result (λ frames. IsRight me peer limits (Transmit frames.items) L × Stands me peer limits self.new.end (Transmit frames.items ∷ L)) }
+        ensures err { OnErr result (self.new.end ≡ self.old.end) }
+        // Each frame has a spelling.
+        ensures few { IfOk result (λ frames. length frames.items ≤ 64) }
+        ensures spelt { IsPair self.old.end.me self.old.end.peer → IfOk result (λ frames. AllByRecursion Fits frames.items) }
+        ensures memory { IsOkUnless result SessionError.OutOfMemory }
+        ensures room { self.old.room ≤ self.new.room }
+    {
+        if let Some(reason) = self.ending {
+            let frames = self.closed_frames(reason)?;
+            self.data_arrived = false;
+            self.owes_close = false;
+            return Ok(frames);
+        }
+        let frames = self.open_frames()?;
+        self.transmitted = self.highest();
+        self.data_arrived = false;
+        Ok(frames)
+    }
+
+    // The items that a transmit of the open end gives: at most a window of the unacknowledged ones.
+    fn given(&self) -> &[Payload]
+        requires { self.now.end.ending ≡ None }
+        ensures items { AllByRecursion IsItem result.now }
+        ensures given { result.now ≡ take self.now.end.limits.window self.now.end.unacknowledged }
+        ensures few { length result.now ≤ 64 }
+        ensures len { self.now.end.lowest + length result.now ≤ self.now.end.handed + 1 }
+    {
+        let unacknowledged = self.sent.as_slice().split_at(self.lowest as usize - 1).1;
+        let window = self.limits.window as usize;
+        if window >= unacknowledged.len() {
+            return unacknowledged;
+        }
+        unacknowledged.split_at(window).0
+    }
+
+    // The highest number that is transmitted after a transmit of the open end.
+    #[tactic(auto, using(crate::proofs::Given::highest_given))]
+    fn highest(&self) -> u64
+        requires { self.now.end.ending ≡ None }
+        ensures value { result ≡ max self.now.end.transmitted (greatest_seq (right.open_frames self.now.end.me self.now.end.peer (self.now.end.accepted + 1) self.now.end.lowest self.now.end.data_arrived (take self.now.end.limits.window self.now.end.unacknowledged))) }
+        ensures bound { (self.now.end.lowest ≤ result + 1) × (result ≤ self.now.end.handed) }
+    {
+        let last = self.lowest - 1 + self.given().len() as u64;
+        self.transmitted.max(last)
+    }
+
+    // What a transmit of the open end gives.
+    fn open_frames(&self) -> Result<Vec<Frame>, AllocError>
+        requires { self.now.end.ending ≡ None }
+        ensures few { IfOk result (λ frames. length frames.items ≤ 64) }
+        ensures spelt { IsPair self.now.end.me self.now.end.peer → IfOk result (λ frames. AllByRecursion Fits frames.items) }
+        ensures frames { IfOk result (λ frames. frames.items ≡ right.open_frames self.now.end.me self.now.end.peer (self.now.end.accepted + 1) self.now.end.lowest self.now.end.data_arrived (take self.now.end.limits.window self.now.end.unacknowledged)) }
+    {
+        let given = self.given();
+        let ack = self.accepted + 1;
+        if !given.is_empty() {
+            return data_frames(self.alloc, self.me, self.peer, ack, self.lowest, given);
+        }
+        if !self.data_arrived {
+            return Ok(Vec::new(self.alloc));
+        }
+        lone_frame(self.alloc, FrameKind::Ack, self.me, self.peer, ack, &[])
+    }
+
+    // What a transmit of the closed end gives.
+    fn closed_frames(&self, reason: Reason) -> Result<Vec<Frame>, AllocError>
+        ensures few { IfOk result (λ frames. length frames.items ≤ 64) }
+        ensures spelt { IsPair self.now.end.me self.now.end.peer → IfOk result (λ frames. AllByRecursion Fits frames.items) }
+        ensures frames { IfOk result (λ frames. frames.items ≡ right.closed_frames self.now.end.me self.now.end.peer (self.now.end.accepted + 1) self.now.end.owes_close (Some reason)) }
+    {
+        if !self.owes_close {
+            return Ok(Vec::new(self.alloc));
+        }
+        let payload = [reason.number()];
+        let ack = self.accepted + 1;
+        lone_frame(
+            self.alloc,
+            FrameKind::Close,
+            self.me,
+            self.peer,
+            ack,
+            &payload,
+        )
+    }
+
+    /// Gives a frame to this end. An open end is closed by a Close frame (reason 2) and by an acknowledgement of
+    /// what it never transmitted (reason 4); a Data frame is accepted if its item is the next, at most 2^40, and
+    /// fewer than 256 wait. A closed end takes nothing. N4 for a frame of another pair. Only Data takes memory.
+    pub fn arrive(&mut self, frame: &Frame) -> Result<Arrival, SessionError>
+        ensures answer { (me peer : ℕ) (limits : LimitsOf) (L : List EndEntry) → Stands me peer limits self.old.end L →
+            Answered arrived_of result (λ answer. IsRight me peer limits (Arrive frame.now answer) L × Stands me peer limits self.new.end (Arrive frame.now answer ∷ L)) }
+        ensures err { OnErr result (self.new.end ≡ self.old.end) }
+        ensures memory { is_data frame.now.kind ≡ false → result ≢ Err SessionError.OutOfMemory }
+        ensures room { self.old.room ≤ self.new.room }
+    {
+        if frame.from != self.peer || frame.to != self.me {
+            return Err(SessionError::Refused(Refusal::Strange));
+        }
+        if self.ending.is_some() {
+            self.owes_close = self.owes_close || !frame.kind.is_close();
+            return Ok(Arrival::Took(0));
+        }
+        if frame.kind.is_close() {
+            return Ok(Arrival::Closed(self.end(Reason::PeerClosed)));
+        }
+        if frame.ack > self.transmitted + 1 {
+            return Ok(Arrival::Closed(self.end(Reason::BadItem)));
+        }
+        if !self.accepts(frame) {
+            self.hear(frame);
+            return Ok(Arrival::Took(0));
+        }
+        self.received.push(frame.payload.copy()?)?;
+        self.accepted += 1;
+        self.hear(frame);
+        Ok(Arrival::Took(1))
+    }
+
+    // Whether the open end accepts the item of a frame.
+    fn accepts(&self, frame: &Frame) -> bool
+        requires { self.now.end.ending ≡ None }
+        ensures { result ≡ (is_data frame.now.kind && (frame.now.seq == self.now.end.accepted + 1) && nat_le frame.now.seq right.last_item && nat_lt (length self.now.end.waiting) right.inbox_limit) }
+    {
+        frame.kind.is_data()
+            && frame.seq == self.accepted + 1
+            && frame.seq <= LAST_ITEM
+            && self.accepted - self.taken < INBOX_LIMIT as u64
+    }
+
+    // Takes note of what a Data or Ack frame acknowledges, and of Data that is to be acknowledged.
+    fn hear(&mut self, frame: &Frame)
+        requires open { self.old.end.ending ≡ None }
+        requires transmitted { frame.now.ack ≤ self.old.end.transmitted + 1 }
+        ensures heard { self.new.end ≡ heard self.old.end frame.now }
+        ensures room { self.old.room ≤ self.new.room }
+    {
+        if frame.ack > self.lowest {
+            self.lowest = frame.ack;
+            self.ticks = 0;
+        }
+        if frame.kind.is_data() {
+            self.data_arrived = true;
+        }
+    }
+
+    /// The first item that waits, with its number. `None` where none waits, and once the end is closed.
+    pub fn front(&self) -> Option<(ItemNo, &[u8])>
+        ensures answer { (me peer : ℕ) (limits : LimitsOf) (L : List EndEntry) → Stands me peer limits self.now.end L → IsRight me peer limits (Front (front_text result)) L }
+        ensures waits { front_text result ≡ right.first_of (self.now.end.taken + 1) self.now.end.waiting }
+    {
+        let payload = self.received.get(self.taken as usize)?;
+        Some((ItemNo::new(self.taken + 1), payload.as_slice()))
+    }
+
+    /// Gives up the first item that waits: the caller has seen by `front` that there is one.
+    pub fn take(&mut self)
+        requires { 0 < length self.old.end.waiting }
+        ensures answer { (me peer : ℕ) (limits : LimitsOf) (L : List EndEntry) → Stands me peer limits self.old.end L →
+            IsRight me peer limits Take L × Stands me peer limits self.new.end (Take ∷ L) }
+        ensures room { self.old.room ≤ self.new.room }
+    {
+        self.taken += 1;
+    }
+
+    /// Counts a tick if something is transmitted and unacknowledged; the tick that makes the count reach the retry
+    /// limit closes the end (reason 3). N1 at a closed end.
+    pub fn tick(&mut self) -> Result<Option<Closed>, Refusal>
+        ensures answer { (me peer : ℕ) (limits : LimitsOf) (L : List EndEntry) → Stands me peer limits self.old.end L →
+            IsRight me peer limits (Tick result) L × Stands me peer limits self.new.end (Tick result ∷ L) }
+        ensures err { OnErr result (self.new.end ≡ self.old.end) }
+        ensures room { self.old.room ≤ self.new.room }
+    {
+        if self.ending.is_some() {
+            return Err(Refusal::Closed);
+        }
+        if self.lowest > self.transmitted {
+            return Ok(None);
+        }
+        if self.ticks + 1 >= self.limits.retry {
+            return Ok(Some(self.end(Reason::RetriesUsedUp)));
+        }
+        self.ticks += 1;
+        Ok(None)
+    }
+
+    /// Closes this end for a reason. N1 at a closed end.
+    pub fn close(&mut self, reason: Reason) -> Result<Closed, Refusal>
+        ensures answer { (me peer : ℕ) (limits : LimitsOf) (L : List EndEntry) → Stands me peer limits self.old.end L →
+            IsRight me peer limits (Close reason result) L × Stands me peer limits self.new.end (Close reason result ∷ L) }
+        ensures err { OnErr result (self.new.end ≡ self.old.end) }
+        ensures room { self.old.room ≤ self.new.room }
+    {
+        if self.ending.is_some() {
+            return Err(Refusal::Closed);
+        }
+        Ok(self.end(reason))
+    }
+
+    // Closes the open end: what it kept is thrown away.
+    fn end(&mut self, reason: Reason) -> Closed
+        requires { self.old.end.ending ≡ None }
+        ensures closed { (result.peer ≡ self.old.end.peer) × (result.reason ≡ reason) }
+        ensures thrown_away { self.new.end ≡ ended self.old.end reason }
+        ensures room { self.old.room ≤ self.new.room }
+    {
+        self.sent.clear();
+        self.received.clear();
+        self.ending = Some(reason);
+        self.owes_close = reason != Reason::PeerClosed;
+        Closed::new(self.peer, reason)
+    }
+}
+
+// A Data frame for each of these payloads, numbered from `first`.
+fn data_frames(
+    alloc: Global,
+    me: SpaceId,
+    peer: SpaceId,
+    ack: u64,
+    first: u64,
+    payloads: &[Payload],
+) -> Result<Vec<Frame>, AllocError>
+    requires { first + length payloads.now < 2 ^ 64 }
+    ensures len { IfOk result (λ frames. length frames.items ≡ length payloads.now) }
+    ensures frames { IfOk result (λ frames. frames.items ≡ right.data_frames me peer ack first payloads.now) }
+{
+    let mut frames = Vec::new(alloc);
+    for (i, payload) in payloads.iter().enumerate() {
+        frames.push(Frame {
+            kind: FrameKind::Data,
+            from: me,
+            to: peer,
+            seq: first + i as u64,
+            ack,
+            payload: payload.copy()?,
+        })?;
+    }
+    Ok(frames)
+}
+
+// The one frame of this kind.
+fn lone_frame(
+    alloc: Global,
+    kind: FrameKind,
+    me: SpaceId,
+    peer: SpaceId,
+    ack: u64,
+    payload: &[u8],
+) -> Result<Vec<Frame>, AllocError>
+    ensures len { IfOk result (λ frames. length frames.items ≤ 64) }
+    ensures frame { IfOk result (λ frames. frames.items ≡ record { kind = kind; from = me; to = peer; seq = 0; ack = ack; payload = payload.now } ∷ []) }
+{
+    let mut frames = Vec::new(alloc);
+    frames.push(Frame {
+        kind,
+        from: me,
+        to: peer,
+        seq: 0,
+        ack,
+        payload: Payload::from_vec(Vec::from_slice(alloc, payload)?),
+    })?;
+    Ok(frames)
+}
