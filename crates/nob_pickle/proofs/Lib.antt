@@ -1,0 +1,10 @@
+pub mod Forests
+pub mod Parts
+pub mod Loop
+pub mod Written
+pub mod Choices
+pub mod Numbers
+pub mod Taken
+pub mod Again
+pub mod Bounds
+pub mod Whole

@@ -1,0 +1,11 @@
+pub mod Trees
+pub mod Marks
+pub mod Shape
+pub mod Falls
+pub mod Spelling
+pub mod Parts
+pub mod Limits
+pub mod Writing
+pub mod Reading
+pub mod Laws
+pub use Rattle.nob_ids.specs.Names

@@ -1,0 +1,216 @@
+//! Bytes to values.
+
+ghost use Rattle.std.specs.Prelude.{◌≡◌, ℕ, ◌≤◌, ◌^◌, length, IfOk, Ok};
+ghost use Rattle.nob_pickle.specs.Shape.{tree, forest};
+ghost use Rattle.nob_pickle.specs.Limits.{Spelt};
+ghost use Rattle.nob_pickle.specs.Writing.{Gives};
+ghost use Rattle.nob_pickle.specs.Reading.{number_at, int_at, bytes_at, ref_at, list_at, trees_at, tree_by, tree_at, value_read};
+ghost use Rattle.nob_pickle.specs.declared.value.Value.{Value as ValueOf};
+
+use crate::fault::{PickleError, PickleFault};
+use crate::limits::{MOST_BYTES, MOST_ELEMENTS, MOST_IN_ALL, MOST_LEVELS, MOST_REFERENCES};
+use crate::value::{Bytes, Value, Values};
+use byteorder::{BigEndian, ByteOrder};
+use nob_ids::{SpaceId, WireRep};
+use std::alloc::Global;
+
+/// What is left of a pickle: its bytes, and how many references may still come.
+#[derive(Clone, Copy, Drop)]
+struct Rest<'a> {
+    bytes: &'a [u8],
+    references: u32,
+}
+
+/// The value that all of the bytes spell: Ok exactly where they do. Else the first fault: P8 for more than
+/// 16,000 bytes; then, from the front, P5 for a value at depth 17, P1 for a missing byte, P2 for a first byte
+/// that no value has, P3 and P4 for a length or a count above its limit, P7 for an owner that is no space,
+/// P8 for the 33rd reference; then P6 for a byte after the value. It takes time linear in the bytes.
+pub fn decode(alloc: Global, bytes: &[u8]) -> Result<Value, PickleError>
+    ensures found { IfOk result (λ value. Spelt bytes.now value) }
+    ensures only { (value : ValueOf) → Spelt bytes.now value → Gives (λ v. v) result (Ok value) }
+    ensures exact { Gives (λ v. v) result (value_read bytes.now) }
+{
+    whole(alloc, bytes)
+}
+
+#[tactic(auto, unfolding(crate::specs::Reading::value_read))]
+fn whole(alloc: Global, bytes: &[u8]) -> Result<Value, PickleError>
+    ensures { Gives (λ v. v) result (value_read bytes.now) }
+{
+    if bytes.len() > MOST_IN_ALL {
+        return Err(PickleError::Fault(PickleFault::TooBig));
+    }
+    let rest = Rest {
+        bytes,
+        references: MOST_REFERENCES,
+    };
+    let (value, rest) = value_of(alloc, MOST_LEVELS, rest)?;
+    if !rest.bytes.is_empty() {
+        return Err(PickleError::Fault(PickleFault::Trailing));
+    }
+    Ok(value)
+}
+
+/// The value that stands in front, which may have so many levels.
+#[cycle(reading)]
+#[tactic(auto, using(crate::proofs::Loop::tree_at_none, crate::proofs::Loop::tree_at_some))]
+fn value_of<'a>(
+    alloc: Global,
+    levels: u32,
+    rest: Rest<'a>,
+) -> Result<(Value, Rest<'a>), PickleError>
+    ensures { Gives (λ x. (tree x.0, x.1.references, x.1.bytes.now)) result (tree_at levels rest.entry.references rest.entry.bytes.now) }
+{
+    if levels == 0 {
+        return Err(PickleError::Fault(PickleFault::Depth));
+    }
+    value_by(alloc, levels - 1, rest)
+}
+
+/// The same by its first byte. Its elements may have so many levels.
+#[cycle(reading)]
+#[tactic(auto, unfolding(crate::specs::Reading::tree_by))]
+fn value_by<'a>(
+    alloc: Global,
+    levels: u32,
+    rest: Rest<'a>,
+) -> Result<(Value, Rest<'a>), PickleError>
+    ensures { Gives (λ x. (tree x.0, x.1.references, x.1.bytes.now)) result (tree_by (tree_at levels) rest.entry.references rest.entry.bytes.now) }
+{
+    let [first, bytes @ ..] = rest.bytes else {
+        return Err(PickleError::Fault(PickleFault::Short));
+    };
+    let rest = Rest {
+        bytes,
+        references: rest.references,
+    };
+    match *first {
+        0 => Ok((Value::Unit, rest)),
+        1 => int_of(rest),
+        2 => bytes_of(alloc, rest),
+        3 => list_of(alloc, levels, rest),
+        4 => reference_of(rest),
+        _ => Err(PickleError::Fault(PickleFault::Tag)),
+    }
+}
+
+/// A list, behind its first byte.
+#[cycle(reading)]
+#[tactic(auto, unfolding(crate::specs::Reading::list_at))]
+fn list_of<'a>(alloc: Global, levels: u32, rest: Rest<'a>) -> Result<(Value, Rest<'a>), PickleError>
+    ensures { Gives (λ x. (tree x.0, x.1.references, x.1.bytes.now)) result (list_at (tree_at levels) rest.entry.references rest.entry.bytes.now) }
+{
+    let (count, bytes) = u16_of(rest.bytes)?;
+    if count as usize > MOST_ELEMENTS {
+        return Err(PickleError::Fault(PickleFault::Count));
+    }
+    let rest = Rest {
+        bytes,
+        references: rest.references,
+    };
+    let (values, rest) = values_of(alloc, levels, count, rest)?;
+    Ok((Value::List(values), rest))
+}
+
+/// So many values, one after another.
+#[cycle(reading)]
+#[tactic(auto, using(crate::proofs::Loop::ends, crate::proofs::Loop::goes_on, crate::proofs::Loop::is_done))]
+fn values_of<'a>(
+    alloc: Global,
+    levels: u32,
+    count: u16,
+    rest: Rest<'a>,
+) -> Result<(Values, Rest<'a>), PickleError>
+    ensures { Gives (λ x. (x.0, x.1.references, x.1.bytes.now)) result (trees_at (tree_at levels) count rest.entry.references rest.entry.bytes.now) }
+{
+    let mut rest = rest;
+    let mut items = Vec::new(alloc);
+    for _ in 0..count {
+        let (value, after) = value_of(alloc, levels, rest)?;
+        items.push(value)?;
+        rest = after;
+    }
+    Ok((Values::from_vec(items), rest))
+}
+
+/// A whole number, behind its first byte.
+#[tactic(auto, unfolding(crate::specs::Reading::int_at))]
+fn int_of<'a>(rest: Rest<'a>) -> Result<(Value, Rest<'a>), PickleError>
+    ensures { Gives (λ x. (tree x.0, x.1.references, x.1.bytes.now)) result (int_at rest.entry.references rest.entry.bytes.now) }
+{
+    let (number, bytes) = u64_of(rest.bytes)?;
+    let rest = Rest {
+        bytes,
+        references: rest.references,
+    };
+    Ok((Value::Int(number.cast_signed()), rest))
+}
+
+/// Bytes, behind their first byte.
+#[tactic(auto, unfolding(crate::specs::Reading::bytes_at))]
+fn bytes_of<'a>(alloc: Global, rest: Rest<'a>) -> Result<(Value, Rest<'a>), PickleError>
+    ensures { Gives (λ x. (tree x.0, x.1.references, x.1.bytes.now)) result (bytes_at rest.entry.references rest.entry.bytes.now) }
+{
+    let (len, bytes) = u32_of(rest.bytes)?;
+    let len = len as usize;
+    if len > MOST_BYTES {
+        return Err(PickleError::Fault(PickleFault::Bytes));
+    }
+    if bytes.len() < len {
+        return Err(PickleError::Fault(PickleFault::Short));
+    }
+    let (items, bytes) = bytes.split_at(len);
+    let items = Bytes::from_vec(Vec::from_slice(alloc, items)?);
+    let rest = Rest {
+        bytes,
+        references: rest.references,
+    };
+    Ok((Value::Bytes(items), rest))
+}
+
+/// A reference, behind its first byte.
+#[tactic(auto, unfolding(crate::specs::Reading::ref_at))]
+fn reference_of<'a>(rest: Rest<'a>) -> Result<(Value, Rest<'a>), PickleError>
+    ensures { Gives (λ x. (tree x.0, x.1.references, x.1.bytes.now)) result (ref_at rest.entry.references rest.entry.bytes.now) }
+{
+    let (owner, bytes) = u16_of(rest.bytes)?;
+    let (index, bytes) = u64_of(bytes)?;
+    let Some(owner) = SpaceId::new(owner) else {
+        return Err(PickleError::Fault(PickleFault::Space));
+    };
+    if rest.references == 0 {
+        return Err(PickleError::Fault(PickleFault::TooBig));
+    }
+    let rest = Rest {
+        bytes,
+        references: rest.references - 1,
+    };
+    Ok((Value::Ref(WireRep { owner, index }), rest))
+}
+
+fn u16_of(bytes: &[u8]) -> Result<(u16, &[u8]), PickleError>
+    ensures { Gives (λ x. (x.0, x.1.now)) result (number_at 2 bytes.now) }
+{
+    if bytes.len() < 2 {
+        return Err(PickleError::Fault(PickleFault::Short));
+    }
+    Ok((BigEndian::read_u16(bytes), bytes.split_at(2).1))
+}
+
+fn u32_of(bytes: &[u8]) -> Result<(u32, &[u8]), PickleError>
+    ensures { Gives (λ x. (x.0, x.1.now)) result (number_at 4 bytes.now) }
+{
+    if bytes.len() < 4 {
+        return Err(PickleError::Fault(PickleFault::Short));
+    }
+    Ok((BigEndian::read_u32(bytes), bytes.split_at(4).1))
+}
+
+fn u64_of(bytes: &[u8]) -> Result<(u64, &[u8]), PickleError>
+    ensures { Gives (λ x. (x.0, x.1.now)) result (number_at 8 bytes.now) }
+{
+    if bytes.len() < 8 {
+        return Err(PickleError::Fault(PickleFault::Short));
+    }
+    Ok((BigEndian::read_u64(bytes), bytes.split_at(8).1))
+}
