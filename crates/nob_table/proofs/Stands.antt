@@ -1,0 +1,109 @@
+-- What a change of the rows of another space's reference makes of how each reference stands.
+use Rattle.std.proofs.Common.{◌≡◌, ℕ, Bool, true, false, ◌==◌, ◌||◌, cond, List, [], ◌∷◌, Option, Some, None, IsSome, is_some, if◌then◌else◌, refl, sym, ap, ◌∙◌}
+use Rattle.std.specs.List.{list_any}
+use Rattle.std.specs.Map.{lookup, keys_of}
+use Rattle.nob_ids.specs.declared.wire_rep.WireRep.{WireRep}
+use Rattle.nob_table.specs.declared.counts.Counts.{Counts}
+use Rattle.nob_table.specs.declared.standing.Grant.{Grant}
+use Rattle.nob_table.specs.declared.standing.Grant.TheVariants.{Waits, Given, Denied}
+use Rattle.nob_table.specs.declared.standing.Standing.{Standing}
+use Rattle.nob_table.specs.Rows.{is_same, row_at, reps_of, Puts}
+use Rattle.nob_table.specs.Standings.{own_standing, far_standing, is_known, is_pending, is_surrogate, state_of, in_state, with_counts}
+use Rattle.nob_table.specs.Table.{stands, was_given, IsTable}
+use Rattle.nob_table.proofs.Same.{same_refl, same_is}
+
+-- a list of rows has what it has
+puts_same : {X : Type 0} (rows : List (WireRep × X)) (rep : WireRep) → Puts rows rows rep (row_at rows rep)
+puts_same rows rep other =
+    elim (is_same rep other) as (λ b. is_same rep other ≡ b → row_at rows other ≡ (if b then row_at rows rep else row_at rows other)) [
+      | true ↦ λ t. ap (λ (w : WireRep). row_at rows w) (sym (same_is rep other t))
+      | false ↦ λ u. refl
+    ] refl
+
+-- what is put at a reference stands there
+put_there : {X : Type 0} (old new : List (WireRep × X)) (rep : WireRep) (row : Option X) → Puts old new rep row → row_at new rep ≡ row
+put_there old new rep row puts = puts rep ∙ (rw same_refl refl)
+
+-- only a surrogate is pending, and an answer changes its state alone
+answer_state : (mine given : Bool) (row : Option Counts) (old : Option Grant) (counts : Option Counts) (grant : Grant)
+    → is_pending (if mine then own_standing given row else far_standing old counts).state ≡ true
+    → (mine ≡ false) × (far_standing (Some grant) counts ≡ in_state (state_of grant) (far_standing old counts))
+answer_state true true None old counts grant p = absurd (cc)
+answer_state true false None old counts grant p = absurd (cc)
+answer_state true true (Some x) old counts grant p = absurd (cc)
+answer_state true false (Some x) old counts grant p = absurd (cc)
+answer_state false given row old None grant p = absurd (cc)
+answer_state false given row None (Some c) grant p = absurd (cc)
+answer_state false given row (Some g) (Some c) grant p = (refl, refl)
+
+-- counts change alone where there are some
+write_state : (old : Option Grant) (counts : Option Counts) (after : Counts) → is_known (far_standing old counts).state ≡ true
+    → far_standing old (Some after) ≡ with_counts after (far_standing old counts)
+write_state old None after p = absurd (cc)
+write_state None (Some c) after p = refl
+write_state (Some g) (Some c) after p = refl
+
+-- a reference with an answer is a surrogate
+placed_state : (mine given : Bool) (row : Option Counts) (grant : Option Grant) (counts : Option Counts)
+    → (IsSome grant → IsSome counts) → (IsSome counts → mine ≡ false)
+    → is_some grant ≡ is_surrogate (if mine then own_standing given row else far_standing grant counts).state
+placed_state true given row (Some g) counts has far = let bad = far (has refl) in absurd (cc)
+placed_state true true None None counts has far = refl
+placed_state true false None None counts has far = refl
+placed_state true true (Some x) None counts has far = refl
+placed_state true false (Some x) None counts has far = refl
+placed_state false given row None None has far = refl
+placed_state false given row None (Some c) has far = refl
+placed_state false given row (Some g) None has far = let bad = has refl in absurd (cc)
+placed_state false given row (Some Waits) (Some c) has far = refl
+placed_state false given row (Some Given) (Some c) has far = refl
+placed_state false given row (Some Denied) (Some c) has far = refl
+
+-- a key is among the keys where a look-up finds it
+any_key : {K X : Type 0} (test : K → Bool) (es : List (K × X)) → list_any test (keys_of es) ≡ is_some (lookup test es)
+any_key test [] = refl
+any_key test (e ∷ es) =
+    elim (test e.0) as (λ b. (b || list_any test (keys_of es)) ≡ is_some (cond b (Some e.1) (lookup test es))) [
+      | true ↦ refl
+      | false ↦ any_key test es
+    ]
+
+module _ (me exported : ℕ) (objects counted : List (WireRep × Counts)) (surrogates : List (WireRep × Grant)) (rep : WireRep) where
+  -- rows of another space's reference
+  far_put : (counted' : List (WireRep × Counts)) (surrogates' : List (WireRep × Grant)) (counts : Option Counts) (grant : Option Grant) → rep.owner == me ≡ false
+      → Puts counted counted' rep counts → Puts surrogates surrogates' rep grant → (other : WireRep)
+      → stands me exported objects counted' surrogates' other ≡ (if is_same rep other then far_standing grant counts else stands me exported objects counted surrogates other)
+  far_put counted' surrogates' counts grant far puts puts' other =
+      elim (is_same rep other) as (λ b. is_same rep other ≡ b → stands me exported objects counted' surrogates' other ≡ (if b then far_standing grant counts else stands me exported objects counted surrogates other)) [
+        | true ↦ λ t. ap (λ (w : WireRep). stands me exported objects counted' surrogates' w) (sym (same_is rep other t)) ∙ rw (far, put_there counted counted' rep counts puts, put_there surrogates surrogates' rep grant puts') refl
+        | false ↦ λ u.
+            let kept : row_at counted' other ≡ row_at counted other = puts other ∙ rw u refl in
+            let kept' : row_at surrogates' other ≡ row_at surrogates other = puts' other ∙ rw u refl in
+            rw (kept, kept') refl
+      ] refl
+
+  -- the owner's answer to a pending reference
+  pub answered : (surrogates' : List (WireRep × Grant)) (grant : Grant) → is_pending (stands me exported objects counted surrogates rep).state ≡ true
+      → Puts surrogates surrogates' rep (Some grant) → (other : WireRep)
+      → stands me exported objects counted surrogates' other ≡ (if is_same rep other then in_state (state_of grant) (stands me exported objects counted surrogates rep) else stands me exported objects counted surrogates other)
+  answered surrogates' grant pending puts other =
+      let says = answer_state (rep.owner == me) (was_given exported rep.index) (row_at objects rep) (row_at surrogates rep) (row_at counted rep) grant pending in
+      let is : stands me exported objects counted surrogates rep ≡ far_standing (row_at surrogates rep) (row_at counted rep) = rw says.0 refl in
+      far_put counted surrogates' (row_at counted rep) (Some grant) says.0 (puts_same counted rep) puts other
+      ∙ ap (λ (s : Standing). if is_same rep other then s else stands me exported objects counted surrogates other) (says.1 ∙ ap (in_state (state_of grant)) (sym is))
+
+  -- other counts of a reference that has some
+  pub written : (counted' : List (WireRep × Counts)) (after : Counts) → rep.owner == me ≡ false → is_known (stands me exported objects counted surrogates rep).state ≡ true
+      → Puts counted counted' rep (Some after) → (other : WireRep)
+      → stands me exported objects counted' surrogates other ≡ (if is_same rep other then with_counts after (stands me exported objects counted surrogates rep) else stands me exported objects counted surrogates other)
+  written counted' after far known puts other =
+      let is : stands me exported objects counted surrogates rep ≡ far_standing (row_at surrogates rep) (row_at counted rep) = rw far refl in
+      far_put counted' surrogates (Some after) (row_at surrogates rep) far puts (puts_same surrogates rep) other
+      ∙ ap (λ (s : Standing). if is_same rep other then s else stands me exported objects counted surrogates other)
+      (write_state (row_at surrogates rep) (row_at counted rep) after (rw is at known) ∙ ap (with_counts after) (sym is))
+
+  -- the surrogates are those that stand in the order
+  pub placed : IsTable me exported objects counted surrogates → list_any (is_same rep) (reps_of surrogates) ≡ is_surrogate (stands me exported objects counted surrogates rep).state
+  placed table =
+      any_key (is_same rep) surrogates
+      ∙ placed_state (rep.owner == me) (was_given exported rep.index) (row_at objects rep) (row_at surrogates rep) (row_at counted rep) (table.counts rep) (table.far rep)

@@ -1,0 +1,4 @@
+pub mod Counts
+pub mod Rows
+pub mod Standings
+pub mod Table

@@ -1,0 +1,162 @@
+-- The table as plain data, its words, and what each call makes of it.
+use Rattle.std.specs.Prelude.{◌≡◌, ℕ, ◌<◌, ◌≤◌, ◌==◌, ◌&&◌, ◌||◌, Bool, true, false, not, nat_le, List, length, slice_get, Option, Some, None, IsSome, IfSome, if◌then◌else◌}
+use Rattle.nob_ids.specs.declared.wire_rep.WireRep.{WireRep}
+use Rattle.nob_table.specs.declared.counts.Counts.{Counts}
+use Rattle.nob_table.specs.declared.counts.Part.{Part}
+use Rattle.nob_table.specs.declared.standing.Grant.{Grant}
+use Rattle.nob_table.specs.declared.standing.Standing.{Standing}
+use Rattle.nob_table.specs.declared.fault.TableFault.{TableFault}
+use Rattle.nob_table.specs.declared.fault.TableFault.TheVariants.{Absent, Limit, StillUsed}
+use Rattle.nob_table.specs.declared.fault.TableError.{TableError}
+use Rattle.nob_table.specs.declared.fault.TableError.TheVariants.{Fault, OutOfMemory}
+use Rattle.nob_table.specs.Counts as counts
+use Rattle.nob_table.specs.Counts.{is_held}
+use Rattle.nob_table.specs.Rows.{is_same, row_at, reps_of}
+use Rattle.nob_table.specs.Standings.{is_known, is_unknown, is_live, is_pending, is_granted, is_idle, own_standing, far_standing}
+
+-- the table of a space, with the room beside its items: how many more exports and surrogates fit without memory
+pub record Table : Type 0 where
+  -- the space
+  pub me : ℕ
+  -- the indexes given so far are 1 to this one
+  pub exported : ℕ
+  -- the space's live objects, with their counts, in no order
+  pub objects : List (WireRep × Counts)
+  -- the counts of other spaces' references: of surrogates, and of lost references, in no order
+  pub counted : List (WireRep × Counts)
+  -- the surrogates on open sessions with their owners' answers, in the order of their last Dirties
+  pub surrogates : List (WireRep × Grant)
+  -- how many more exports fit
+  pub export_room : ℕ
+  -- how many more surrogates fit
+  pub surrogate_room : ℕ
+
+-- how many objects are live at most
+abbrev pub most_objects : ℕ
+most_objects = 65536
+
+-- how many surrogates there are on open sessions at most, refused ones included
+abbrev pub most_surrogates : ℕ
+most_surrogates = 65536
+
+-- the greatest index: 2^48
+abbrev pub most_index : ℕ
+most_index = 281474976710656
+
+-- whether an index was ever given to an object
+abbrev pub was_given : ℕ → ℕ → Bool
+was_given exported index = nat_le 1 index && nat_le index exported
+
+-- how a reference stands, by the tables of a space
+abbrev pub stands : ℕ → ℕ → List (WireRep × Counts) → List (WireRep × Counts) → List (WireRep × Grant) → WireRep → Standing
+stands me exported objects counted surrogates rep =
+    if rep.owner == me
+    then own_standing (was_given exported rep.index) (row_at objects rep)
+    else far_standing (row_at surrogates rep) (row_at counted rep)
+
+-- how a reference stands
+abbrev pub standing : Table → WireRep → Standing
+standing t rep = stands t.me t.exported t.objects t.counted t.surrogates rep
+
+-- the surrogates on open sessions, in the order of their last Dirties
+abbrev pub order : Table → List WireRep
+order t = reps_of t.surrogates
+
+-- how many objects are live
+abbrev pub live : Table → ℕ
+live t = length t.objects
+
+-- the reference to an object of the table's space
+abbrev pub own : Table → ℕ → WireRep
+own t index = record { owner = t.me; index = index }
+
+-- both have the same items
+pub record Unchanged (old new : Table) : Type 0 where
+  pub me : new.me ≡ old.me
+  pub exported : new.exported ≡ old.exported
+  pub objects : new.objects ≡ old.objects
+  pub counted : new.counted ≡ old.counted
+  pub surrogates : new.surrogates ≡ old.surrogates
+
+-- this reference stands so in new, and every other one as it stood in old
+abbrev pub Becomes : Table → Table → WireRep → Standing → Type 0
+Becomes old new rep after = (other : WireRep) → standing new other ≡ (if is_same rep other then after else standing old other)
+
+-- new is the table of the same space, with the same indexes given and as many live objects
+abbrev pub SameObjects : Table → Table → Type 0
+SameObjects old new = (new.me ≡ old.me) × (new.exported ≡ old.exported) × (live new ≡ live old)
+
+-- new has the same surrogates in the same order
+abbrev pub SameOrder : Table → Table → Type 0
+SameOrder old new = order new ≡ order old
+
+-- new has as much room as old at least
+abbrev pub KeepsRoom : Table → Table → Type 0
+KeepsRoom old new = (old.export_room ≤ new.export_room) × (old.surrogate_room ≤ new.surrogate_room)
+
+-- the first refusal of an export: as many live objects as there may be, or no index left
+abbrev pub export_fault : Table → Option TableFault
+export_fault t = if nat_le most_objects (live t) || nat_le most_index t.exported then Some Limit else None
+
+-- the first refusal of a hold more
+abbrev pub hold_fault : Table → WireRep → Part → Option TableFault
+hold_fault t rep part = if is_known (standing t rep).state then counts.hold_limit part (standing t rep).counts else Some Absent
+
+-- the first refusal of a hold less
+abbrev pub release_fault : Table → WireRep → Part → Option TableFault
+release_fault t rep part = if is_known (standing t rep).state then counts.release_fault part (standing t rep).counts else Some Absent
+
+-- whether the space can have a surrogate of the reference: it is counted, and another space's
+abbrev pub is_far : Table → WireRep → Bool
+is_far t rep = not (rep.owner == t.me) && not (rep.index == 0)
+
+-- the first refusal of a Dirty that is sent
+abbrev pub pending_fault : Table → WireRep → Option TableFault
+pending_fault t rep =
+    if is_far t rep
+    then (if nat_le most_surrogates (length (order t)) then Some Limit else (if is_unknown (standing t rep).state then None else Some StillUsed))
+    else Some Absent
+
+-- the refusal of an owner's answer
+abbrev pub answer_fault : Table → WireRep → Option TableFault
+answer_fault t rep = if is_pending (standing t rep).state then None else Some Absent
+
+-- the first refusal of a Clean that is sent
+abbrev pub remove_fault : Table → WireRep → Option TableFault
+remove_fault t rep = if is_granted (standing t rep).state then (if is_held (standing t rep).counts then Some StillUsed else None) else Some Absent
+
+-- the first refusal of a withdrawal
+abbrev pub withdraw_fault : Table → ℕ → Option TableFault
+withdraw_fault t index = if is_live (standing t (own t index)).state then (if is_held (standing t (own t index)).counts then Some StillUsed else None) else Some Absent
+
+-- an error is the refusal that there is, and want of memory where there is none
+abbrev pub IsRefusal : Option TableFault → TableError → Type 0
+IsRefusal None error = error ≡ OutOfMemory
+IsRefusal (Some fault) error = error ≡ Fault fault
+
+-- the surrogate at this place isn't idle
+abbrev pub NotIdleAt : Table → ℕ → Type 0
+NotIdleAt t place = IfSome (slice_get (order t) place) (λ rep. is_idle (standing t rep) ≡ false)
+
+-- no surrogate from one place on and before another is idle
+abbrev pub NoneIdle : Table → ℕ → ℕ → Type 0
+NoneIdle t from to = (place : ℕ) → from ≤ place → place < to → NotIdleAt t place
+
+-- the idle surrogate at this place is the first from the other place on
+abbrev pub IsFirstIdle : Table → ℕ → ℕ → WireRep → Type 0
+IsFirstIdle t from at rep = (from ≤ at) × (slice_get (order t) at ≡ Some rep) × (is_idle (standing t rep) ≡ true) × NoneIdle t from at
+
+-- whether the reference is to an object of this owner, another space
+abbrev pub is_of : Table → ℕ → WireRep → Bool
+is_of t owner rep = rep.owner == owner && not (rep.owner == t.me)
+
+-- what holds of every table, said of its fields
+pub record IsTable (me exported : ℕ) (objects counted : List (WireRep × Counts)) (surrogates : List (WireRep × Grant)) : Type 0 where
+  -- a live object is the space's, and its index was given
+  pub given : (rep : WireRep) → IsSome (row_at objects rep) → (rep.owner ≡ me) × (1 ≤ rep.index) × (rep.index ≤ exported)
+  -- other spaces' references are other spaces'
+  pub far : (rep : WireRep) → IsSome (row_at counted rep) → rep.owner == me ≡ false
+  -- a surrogate has counts
+  pub counts : (rep : WireRep) → IsSome (row_at surrogates rep) → IsSome (row_at counted rep)
+  -- a lost reference is held
+  pub held : (rep : WireRep) → row_at surrogates rep ≡ None → IfSome (row_at counted rep) (λ counts. is_held counts ≡ true)

@@ -1,0 +1,149 @@
+//! Rows by reference.
+
+ghost use Rattle.std.specs.Prelude.{◌≡◌, ◌≢◌, ◌==◌, ◌||◌, ◌^◌, ◌+◌, ◌<◌, ◌≤◌, ◌++◌, ◌∷◌, [], length, IsSome, None, Some, OnOk, OnErr, IsOk, IfSome, slice_get, not, filter, if◌then◌else◌, is_some};
+ghost use Rattle.nob_ids.specs.declared.wire_rep.WireRep.{WireRep};
+ghost use Rattle.nob_table.specs.Counts.{is_held};
+ghost use Rattle.nob_table.specs.Rows.{RowList, row_at, reps_of, Puts, IsOnce, without, keep_if};
+
+use crate::counts::Counts;
+use crate::standing::Grant;
+use indexmap::IndexMap;
+use nob_ids::{SpaceId, WireRep};
+use std::alloc::{AllocError, Global};
+use std::marker::Model;
+
+// Rows by reference, in the order in which they were put in as long as none is taken out of turn.
+#[derive(Drop)]
+pub(crate) struct Rows<X> {
+    map: IndexMap<WireRep, X>,
+}
+
+impl<X> Model for Rows<X> {
+    ghost use Rattle.nob_table.specs.Rows.{RowList};
+
+    ghost Value = { RowList X };
+
+    ghost use Rattle.indexmap.specs.IndexMap.{spare};
+
+    ghost view = { λ a. record { rows = a.map.entries; room = spare a.map } };
+
+    ghost use Rattle.nob_table.specs.Rows.{IsOnce};
+
+    ghost invariant = { λ a. IsOnce a.map.entries };
+}
+
+impl<X: Copy + Drop> Rows<X> {
+    // No rows.
+    pub(crate) fn new(alloc: Global) -> Rows<X>
+        ensures { result.rows ≡ [] }
+    {
+        Rows {
+            map: IndexMap::new(alloc),
+        }
+    }
+
+    // How many rows there are.
+    pub(crate) fn len(&self) -> usize
+        ensures len { result ≡ length self.now.rows }
+        ensures small { result < 2 ^ 63 }
+        ensures once { IsOnce self.now.rows }
+    {
+        self.map.len()
+    }
+
+    // What stands at the reference.
+    pub(crate) fn get(&self, rep: WireRep) -> Option<X>
+        ensures { result ≡ row_at self.now.rows rep }
+    {
+        self.map.get(&rep).copied()
+    }
+
+    // The reference at a place.
+    pub(crate) fn rep_at(&self, place: usize) -> Option<WireRep>
+        ensures { result ≡ slice_get (reps_of self.now.rows) place }
+    {
+        let (rep, _) = self.map.get_index(place)?;
+        Some(*rep)
+    }
+
+    // Writes what stands at a reference that has a row.
+    pub(crate) fn set(&mut self, rep: &WireRep, row: X)
+        requires { IsSome (row_at self.old.rows rep.now) }
+        ensures rows { Puts self.old.rows self.new.rows rep.now (Some row) }
+        ensures reps { reps_of self.new.rows ≡ reps_of self.old.rows }
+        ensures len { length self.new.rows ≡ length self.old.rows }
+        ensures room { self.new.room ≡ self.old.room }
+    {
+        if let Some(place) = self.map.get_mut(rep) {
+            *place = row;
+        }
+    }
+
+    // Makes room for so many more rows.
+    pub(crate) fn reserve(&mut self, additional: usize) -> Result<(), AllocError>
+        ensures rows { self.new.rows ≡ self.old.rows }
+        ensures ok { OnOk result (additional ≤ self.new.room) }
+        ensures succeeds { additional ≤ self.old.room → IsOk result }
+        ensures room { self.old.room ≤ self.new.room }
+    {
+        self.map.reserve(additional)
+    }
+
+    // Puts a row at the end, at a reference that has none.
+    pub(crate) fn push(&mut self, rep: &WireRep, row: X)
+        requires new { row_at self.old.rows rep.now ≡ None }
+        requires room { 0 < self.old.room }
+        ensures puts { Puts self.old.rows self.new.rows rep.now (Some row) }
+        ensures rows { self.new.rows ≡ self.old.rows ++ (rep.now, row) ∷ [] }
+        ensures room { self.old.room ≤ self.new.room + 1 }
+    {
+        let _absent = self.map.insert(*rep, row).unwrap();
+    }
+
+    // Takes a row out. The last one takes its place.
+    pub(crate) fn take(&mut self, rep: &WireRep)
+        ensures puts { Puts self.old.rows self.new.rows rep.now None }
+        ensures len { length self.new.rows + (if is_some (row_at self.old.rows rep.now) then 1 else 0) ≡ length self.old.rows }
+        ensures room { self.old.room ≤ self.new.room }
+    {
+        let _row = self.map.swap_remove(rep);
+    }
+
+    // Takes a row out. The others keep their order.
+    pub(crate) fn take_in_order(&mut self, rep: &WireRep)
+        ensures puts { Puts self.old.rows self.new.rows rep.now None }
+        ensures reps { reps_of self.new.rows ≡ without rep.now (reps_of self.old.rows) }
+        ensures room { self.old.room ≤ self.new.room }
+    {
+        let _row = self.map.shift_remove(rep);
+    }
+}
+
+impl Rows<Counts> {
+    // Takes out the rows of this owner's references that nobody holds.
+    pub(crate) fn keep_held(&mut self, owner: SpaceId)
+        ensures rows { (rep : WireRep) → row_at self.new.rows rep ≡ (if rep.owner == owner then keep_if is_held (row_at self.old.rows rep) else row_at self.old.rows rep) }
+        ensures room { self.old.room ≤ self.new.room }
+    {
+        self.map.retain(
+            |rep: &WireRep, counts: &mut Counts| -> bool
+                ensures { (result ≡ (not (rep.now.owner == owner) || is_held counts.old)) × (counts.new ≡ counts.old) }
+            { rep.owner != owner || counts.is_held() },
+        );
+    }
+}
+
+impl Rows<Grant> {
+    // Takes out the rows of this owner's references. The others keep their order.
+    pub(crate) fn forget(&mut self, owner: SpaceId)
+        ensures rows { (rep : WireRep) → row_at self.new.rows rep ≡ (if rep.owner == owner then None else row_at self.old.rows rep) }
+        ensures reps { reps_of self.new.rows ≡ filter (λ rep. not (rep.owner == owner)) (reps_of self.old.rows) }
+        ensures room { self.old.room ≤ self.new.room }
+    {
+        self.map.retain(
+            |rep: &WireRep, grant: &mut Grant| -> bool
+                ensures { (result ≡ not (rep.now.owner == owner)) × (grant.new ≡ grant.old) }
+            { rep.owner != owner },
+        );
+    }
+}

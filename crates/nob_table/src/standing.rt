@@ -1,0 +1,105 @@
+//! How a reference stands.
+
+ghost use Rattle.std.specs.Prelude.{◌≡◌};
+ghost use Rattle.nob_table.specs.Standings.{is_known, is_pending, is_granted, is_lost, is_idle, state_of};
+
+use crate::counts::Counts;
+
+/// What the table knows of a counted reference.
+#[derive(Clone, Copy, Debug, PartialEq, Eq)]
+pub enum State {
+    /// The table has nothing of it: never exported, no surrogate, or an agent's reference.
+    Unknown,
+    /// An object of this space, exported and not withdrawn.
+    Live,
+    /// An object of this space, withdrawn.
+    Withdrawn,
+    /// A surrogate whose Dirty waits for its answer.
+    Pending,
+    /// A surrogate that its owner has granted.
+    Granted,
+    /// A surrogate that its owner has refused.
+    Refused,
+    /// The session with the owner has closed, and the reference is still held.
+    Lost,
+}
+
+/// How a reference stands: what the table knows of it, and how often it is held.
+#[derive(Clone, Copy, Debug, PartialEq, Eq)]
+pub struct Standing {
+    /// What the table knows of it.
+    pub state: State,
+    /// How often it is held.
+    pub counts: Counts,
+}
+
+impl Standing {
+    // What the table knows of a reference that it has nothing of.
+    pub(crate) const UNKNOWN: Standing = Standing {
+        state: State::Unknown,
+        counts: Counts::NONE,
+    };
+}
+
+impl Standing {
+    /// Whether the reference is granted and nothing holds it.
+    pub fn is_idle(&self) -> bool
+        ensures { result ≡ is_idle self.now }
+    {
+        self.state.is_granted() && !self.counts.is_held()
+    }
+}
+
+impl State {
+    /// Whether the reference has counts that a hold can change.
+    pub fn is_known(self) -> bool
+        ensures { result ≡ is_known self }
+    {
+        !matches!(self, State::Unknown | State::Withdrawn)
+    }
+
+    /// Whether it is a surrogate whose Dirty waits for its answer.
+    pub fn is_pending(self) -> bool
+        ensures { result ≡ is_pending self }
+    {
+        matches!(self, State::Pending)
+    }
+
+    /// Whether it is a surrogate that its owner has granted.
+    pub fn is_granted(self) -> bool
+        ensures { result ≡ is_granted self }
+    {
+        matches!(self, State::Granted)
+    }
+
+    /// Whether the session with the reference's owner has closed.
+    pub fn is_lost(self) -> bool
+        ensures { result ≡ is_lost self }
+    {
+        matches!(self, State::Lost)
+    }
+}
+
+/// What the owner has answered to a surrogate's Dirty.
+#[derive(Clone, Copy, Debug, PartialEq, Eq)]
+pub(crate) enum Grant {
+    /// Nothing yet.
+    Waits,
+    /// That this space is entered.
+    Given,
+    /// That the object is withdrawn.
+    Denied,
+}
+
+impl Grant {
+    // The state of a surrogate with this answer.
+    pub(crate) fn state(self) -> State
+        ensures { result ≡ state_of self }
+    {
+        match self {
+            Grant::Waits => State::Pending,
+            Grant::Given => State::Granted,
+            Grant::Denied => State::Refused,
+        }
+    }
+}

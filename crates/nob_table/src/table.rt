@@ -1,0 +1,391 @@
+//! The table itself.
+
+ghost use Rattle.std.specs.Prelude.{◌≡◌, ◌+◌, ◌<◌, ◌≤◌, ◌≢◌, ◌==◌, ◌++◌, ◌∷◌, [], filter, not, length, slice_get, Option, None, Some, IsSome, IsTrue, IsOk, OnOk, OnErr, IfOk, IfErr, MatchOption, MatchResult, if◌then◌else◌};
+ghost use Rattle.nob_ids.specs.declared.wire_rep.WireRep.{WireRep};
+ghost use Rattle.nob_table.specs.Counts.{is_held};
+ghost use Rattle.nob_table.specs.Rows.{is_same, without, IsOnce};
+ghost use Rattle.std.specs.List.{list_any};
+ghost use Rattle.nob_table.specs.Standings.{unknown, is_known, is_live, is_lost, is_idle, is_surrogate, state_of, withdrawn, exported_standing, pending_standing, with_counts, in_state, after_hold, after_release, after_close};
+ghost use Rattle.nob_table.specs.Table.{Table, standing, order, live, own, export_fault, hold_fault, release_fault, pending_fault, answer_fault, remove_fault, withdraw_fault, Unchanged, Becomes, SameObjects, SameOrder, KeepsRoom, IsRefusal, NoneIdle, IsFirstIdle, is_of};
+
+use crate::counts::{Counts, Part};
+use crate::fault::{TableError, TableFault};
+use crate::rows::Rows;
+use crate::standing::{Grant, Standing, State};
+use nob_ids::{SpaceId, WireRep};
+use std::alloc::{AllocError, Global};
+use std::marker::Model;
+
+/// The object table of one space. Contracts see it as plain data: how each reference stands, and the surrogates
+/// on open sessions in the order of their last Dirties.
+#[derive(Drop)]
+pub struct ObjectTable {
+    me: SpaceId,
+    exported: u64,
+    objects: Rows<Counts>,
+    counted: Rows<Counts>,
+    surrogates: Rows<Grant>,
+}
+
+impl Model for ObjectTable {
+    ghost use Rattle.nob_table.specs.Table.{Table};
+
+    ghost Value = { Table };
+
+    ghost use Rattle.std.specs.Prelude.{min};
+    ghost use Rattle.nob_table.specs.Table.{IsTable};
+
+    ghost view = { λ a. record { me = a.me; exported = a.exported; objects = a.objects.rows; counted = a.counted.rows; surrogates = a.surrogates.rows; export_room = a.objects.room; surrogate_room = min a.counted.room a.surrogates.room } };
+
+    ghost invariant = { λ a. IsTable a.me a.exported a.objects.rows a.counted.rows a.surrogates.rows };
+}
+
+impl ObjectTable {
+    /// How many objects are live at most.
+    pub const MOST_OBJECTS: usize = 65_536;
+    /// How many surrogates on open sessions there are at most, refused ones included.
+    pub const MOST_SURROGATES: usize = 65_536;
+    /// The greatest index of an object.
+    pub const MOST_INDEX: u64 = 1 << 48;
+
+    /// The table of a space that has neither exported anything nor heard of anything.
+    pub fn new(alloc: Global, me: SpaceId) -> ObjectTable
+        ensures me { result.me ≡ me }
+        ensures exported { result.exported ≡ 0 }
+        ensures live { live result ≡ 0 }
+        ensures order { order result ≡ [] }
+        ensures nothing { (rep : WireRep) → standing result rep ≡ unknown }
+    {
+        ObjectTable {
+            me,
+            exported: 0,
+            objects: Rows::new(alloc),
+            counted: Rows::new(alloc),
+            surrogates: Rows::new(alloc),
+        }
+    }
+
+    /// How the reference stands. Constant time on average.
+    pub fn state(&self, rep: WireRep) -> Standing
+        ensures stands { result ≡ standing self.now rep }
+        ensures given { IsTrue (is_live result.state) → (1 ≤ rep.index) × (rep.index ≤ self.now.exported) }
+        ensures held { IsTrue (is_lost result.state) → IsTrue (is_held result.counts) }
+    {
+        if rep.owner == self.me {
+            return match self.objects.get(rep) {
+                Some(counts) => Standing {
+                    state: State::Live,
+                    counts,
+                },
+                None if 1 <= rep.index && rep.index <= self.exported => Standing {
+                    state: State::Withdrawn,
+                    counts: Counts::NONE,
+                },
+                None => Standing::UNKNOWN,
+            };
+        }
+        let Some(counts) = self.counted.get(rep) else {
+            return Standing::UNKNOWN;
+        };
+        match self.surrogates.get(rep) {
+            None => Standing {
+                state: State::Lost,
+                counts,
+            },
+            Some(grant) => Standing {
+                state: grant.state(),
+                counts,
+            },
+        }
+    }
+
+    /// How many objects are live. Constant time.
+    pub fn object_count(&self) -> usize
+        ensures count { result ≡ live self.now }
+        ensures once { IsOnce self.now.objects }
+    {
+        self.objects.len()
+    }
+
+    /// How many surrogates there are on open sessions. Constant time.
+    pub fn surrogate_count(&self) -> usize
+        ensures count { result ≡ length (order self.now) }
+        ensures once { IsOnce self.now.surrogates }
+        ensures placed { (rep : WireRep) → list_any (is_same rep) (order self.now) ≡ is_surrogate (standing self.now rep).state }
+    {
+        self.surrogates.len()
+    }
+
+    /// One hold more on the reference, in this part: a live object's, a surrogate's, or a lost reference's that is
+    /// held already. B1 where it is none of these, B3 where the part is full. Constant time on average.
+    pub fn hold(&mut self, rep: WireRep, part: Part) -> Result<(), TableFault>
+        ensures answer { MatchResult result (λ _. hold_fault self.old rep part ≡ None) (λ fault. hold_fault self.old rep part ≡ Some fault) }
+        ensures held { OnOk result (Becomes self.old self.new rep (after_hold part (standing self.old rep))) }
+        ensures objects { SameObjects self.old self.new }
+        ensures order { SameOrder self.old self.new }
+        ensures room { KeepsRoom self.old self.new }
+        ensures err { OnErr result (Unchanged self.old self.new) }
+    {
+        let standing = self.state(rep);
+        let state = standing.state;
+        if !state.is_known() {
+            return Err(TableFault::Absent);
+        }
+        let before = standing.counts;
+        let counts = before.more(part)?;
+        self.write(&rep, counts);
+        Ok(())
+    }
+
+    /// One hold less on the reference, in this part. A lost reference is forgotten with its last hold. B1 where
+    /// the table has no counts of it, B2 where the part is 0. Constant time on average.
+    pub fn release(&mut self, rep: WireRep, part: Part) -> Result<(), TableFault>
+        ensures answer { MatchResult result (λ _. release_fault self.old rep part ≡ None) (λ fault. release_fault self.old rep part ≡ Some fault) }
+        ensures released { OnOk result (Becomes self.old self.new rep (after_release part (standing self.old rep))) }
+        ensures objects { SameObjects self.old self.new }
+        ensures order { SameOrder self.old self.new }
+        ensures room { KeepsRoom self.old self.new }
+        ensures err { OnErr result (Unchanged self.old self.new) }
+    {
+        let standing = self.state(rep);
+        let state = standing.state;
+        if !state.is_known() {
+            return Err(TableFault::Absent);
+        }
+        let before = standing.counts;
+        let counts = before.fewer(part)?;
+        if state.is_lost() && !counts.is_held() {
+            self.forget_lost(rep);
+        } else {
+            self.write(&rep, counts);
+        }
+        Ok(())
+    }
+
+    /// Makes room: after it so many exports and so many surrogates can't run out of memory. Linear in the
+    /// references where the room has to grow.
+    pub fn reserve(&mut self, exports: usize, surrogates: usize) -> Result<(), AllocError>
+        ensures items { Unchanged self.old self.new }
+        ensures room { KeepsRoom self.old self.new }
+        ensures exports { OnOk result (exports ≤ self.new.export_room) }
+        ensures surrogates { OnOk result (surrogates ≤ self.new.surrogate_room) }
+        ensures succeeds { exports ≤ self.old.export_room → surrogates ≤ self.old.surrogate_room → IsOk result }
+    {
+        self.objects.reserve(exports)?;
+        self.counted.reserve(surrogates)?;
+        self.surrogates.reserve(surrogates)
+    }
+
+    /// A new object: the reference to it, with the next index, live and once in hand. B3 where 65,536 objects are
+    /// live or no index is left, and OutOfMemory where there was no room and none could be had. Constant time on
+    /// average, save where the room has to grow.
+    pub fn export(&mut self) -> Result<WireRep, TableError>
+        ensures rep { IfOk result (λ rep. rep ≡ own self.old (self.old.exported + 1)) }
+        ensures exported { IfOk result (λ rep. Becomes self.old self.new rep exported_standing) }
+        ensures next { OnOk result (self.new.exported ≡ self.old.exported + 1) }
+        ensures live { OnOk result (live self.new ≡ live self.old + 1) }
+        ensures me { self.new.me ≡ self.old.me }
+        ensures order { SameOrder self.old self.new }
+        ensures room { (self.old.export_room ≤ self.new.export_room + 1) × (self.old.surrogate_room ≤ self.new.surrogate_room) }
+        ensures accepted { OnOk result (export_fault self.old ≡ None) }
+        ensures err { IfErr result (IsRefusal (export_fault self.old)) }
+        ensures unchanged { OnErr result (Unchanged self.old self.new) }
+        ensures succeeds { 0 < self.old.export_room → export_fault self.old ≡ None → IsOk result }
+    {
+        if self.objects.len() >= ObjectTable::MOST_OBJECTS
+            || self.exported >= ObjectTable::MOST_INDEX
+        {
+            return Err(TableError::Fault(TableFault::Limit));
+        }
+        self.objects.reserve(1)?;
+        self.exported += 1;
+        let rep = WireRep {
+            owner: self.me,
+            index: self.exported,
+        };
+        self.objects.push(&rep, Counts { hand: 1, lent: 0 });
+        Ok(rep)
+    }
+
+    /// Withdraws a live object that nothing holds. B1 where no live object has the index, B4 where it is held.
+    /// Constant time on average.
+    pub fn withdraw(&mut self, index: u64) -> Result<(), TableFault>
+        ensures answer { MatchResult result (λ _. withdraw_fault self.old index ≡ None) (λ fault. withdraw_fault self.old index ≡ Some fault) }
+        ensures withdrawn { OnOk result (Becomes self.old self.new (own self.old index) withdrawn) }
+        ensures live { OnOk result (live self.new + 1 ≡ live self.old) }
+        ensures exported { self.new.exported ≡ self.old.exported }
+        ensures me { self.new.me ≡ self.old.me }
+        ensures order { SameOrder self.old self.new }
+        ensures room { KeepsRoom self.old self.new }
+        ensures err { OnErr result (Unchanged self.old self.new) }
+    {
+        let rep = WireRep {
+            owner: self.me,
+            index,
+        };
+        let Some(counts) = self.objects.get(rep) else {
+            return Err(TableFault::Absent);
+        };
+        if counts.is_held() {
+            return Err(TableFault::StillUsed);
+        }
+        self.objects.take(&rep);
+        Ok(())
+    }
+
+    /// A Dirty for the reference is sent: it is a pending surrogate, the last in order. B1 where the space can't
+    /// have a surrogate of it, since it is its own or an agent's; B3 where there are 65,536 surrogates on open
+    /// sessions; B4 where it is a surrogate already, or lost and still held. Constant time on average, save where
+    /// the room has to grow.
+    pub fn pending(&mut self, rep: WireRep) -> Result<(), TableError>
+        ensures pending { OnOk result (Becomes self.old self.new rep pending_standing) }
+        ensures order { OnOk result (order self.new ≡ order self.old ++ rep ∷ []) }
+        ensures objects { SameObjects self.old self.new }
+        ensures room { (self.old.export_room ≤ self.new.export_room) × (self.old.surrogate_room ≤ self.new.surrogate_room + 1) }
+        ensures accepted { OnOk result (pending_fault self.old rep ≡ None) }
+        ensures err { IfErr result (IsRefusal (pending_fault self.old rep)) }
+        ensures unchanged { OnErr result (Unchanged self.old self.new) }
+        ensures succeeds { 0 < self.old.surrogate_room → pending_fault self.old rep ≡ None → IsOk result }
+    {
+        if rep.owner == self.me || rep.index == 0 {
+            return Err(TableError::Fault(TableFault::Absent));
+        }
+        if self.surrogates.len() >= ObjectTable::MOST_SURROGATES {
+            return Err(TableError::Fault(TableFault::Limit));
+        }
+        if self.counted.get(rep).is_some() {
+            return Err(TableError::Fault(TableFault::StillUsed));
+        }
+        self.counted.reserve(1)?;
+        self.surrogates.reserve(1)?;
+        self.counted.push(&rep, Counts::NONE);
+        self.surrogates.push(&rep, Grant::Waits);
+        Ok(())
+    }
+
+    /// The owner has granted the pending reference. B1 where it isn't pending. Constant time on average.
+    pub fn grant(&mut self, rep: WireRep) -> Result<(), TableFault>
+        ensures answer { MatchResult result (λ _. answer_fault self.old rep ≡ None) (λ fault. answer_fault self.old rep ≡ Some fault) }
+        ensures granted { OnOk result (Becomes self.old self.new rep (in_state State.Granted (standing self.old rep))) }
+        ensures objects { SameObjects self.old self.new }
+        ensures order { SameOrder self.old self.new }
+        ensures room { KeepsRoom self.old self.new }
+        ensures err { OnErr result (Unchanged self.old self.new) }
+    {
+        self.answer(rep, Grant::Given)
+    }
+
+    /// The owner has refused the pending reference. B1 where it isn't pending. Constant time on average.
+    pub fn refuse(&mut self, rep: WireRep) -> Result<(), TableFault>
+        ensures answer { MatchResult result (λ _. answer_fault self.old rep ≡ None) (λ fault. answer_fault self.old rep ≡ Some fault) }
+        ensures refused { OnOk result (Becomes self.old self.new rep (in_state State.Refused (standing self.old rep))) }
+        ensures objects { SameObjects self.old self.new }
+        ensures order { SameOrder self.old self.new }
+        ensures room { KeepsRoom self.old self.new }
+        ensures err { OnErr result (Unchanged self.old self.new) }
+    {
+        self.answer(rep, Grant::Denied)
+    }
+
+    /// The first surrogate, from this place on in the order of the last Dirties, that is granted and without
+    /// holds, with its place. Places count from 0. Linear in the surrogates that it passes.
+    pub fn first_idle(&self, place: usize) -> Option<(usize, WireRep)>
+        ensures { MatchOption result (NoneIdle self.now place (length (order self.now))) (λ found. IsFirstIdle self.now place found.0 found.1) }
+    {
+        for at in place..self.surrogates.len() {
+            let rep = self.surrogates.rep_at(at)?;
+            if self.is_idle(&rep) {
+                return Some((at, rep));
+            }
+        }
+        None
+    }
+
+    /// A Clean for the surrogate is sent: the table forgets it, and the others keep their order. B1 where it
+    /// isn't granted, B4 where it is held. Linear in the surrogates behind it.
+    pub fn remove(&mut self, rep: WireRep) -> Result<(), TableFault>
+        ensures answer { MatchResult result (λ _. remove_fault self.old rep ≡ None) (λ fault. remove_fault self.old rep ≡ Some fault) }
+        ensures removed { OnOk result (Becomes self.old self.new rep unknown) }
+        ensures order { OnOk result (order self.new ≡ without rep (order self.old)) }
+        ensures objects { SameObjects self.old self.new }
+        ensures room { KeepsRoom self.old self.new }
+        ensures err { OnErr result (Unchanged self.old self.new) }
+    {
+        let standing = self.state(rep);
+        let state = standing.state;
+        if !state.is_granted() {
+            return Err(TableFault::Absent);
+        }
+        if standing.counts.is_held() {
+            return Err(TableFault::StillUsed);
+        }
+        self.counted.take(&rep);
+        self.surrogates.take_in_order(&rep);
+        Ok(())
+    }
+
+    /// The session with the owner has closed: each of its surrogates is lost, and forgotten where nothing holds
+    /// it. The others keep their order. Linear in the surrogates and the lost references of all owners.
+    pub fn close(&mut self, owner: SpaceId)
+        ensures closed { (rep : WireRep) → standing self.new rep ≡ (if is_of self.old owner rep then after_close (standing self.old rep) else standing self.old rep) }
+        ensures order { order self.new ≡ filter (λ rep. not (rep.owner == owner)) (order self.old) }
+        ensures objects { SameObjects self.old self.new }
+        ensures room { KeepsRoom self.old self.new }
+    {
+        self.surrogates.forget(owner);
+        self.counted.keep_held(owner);
+    }
+
+    // Whether the reference is granted and nothing holds it.
+    fn is_idle(&self, rep: &WireRep) -> bool
+        ensures { result ≡ is_idle (standing self.now rep.now) }
+    {
+        let standing = self.state(*rep);
+        standing.is_idle()
+    }
+
+    // Writes the owner's answer to a pending reference.
+    fn answer(&mut self, rep: WireRep, grant: Grant) -> Result<(), TableFault>
+        ensures answer { MatchResult result (λ _. answer_fault self.old rep ≡ None) (λ fault. answer_fault self.old rep ≡ Some fault) }
+        ensures answered { OnOk result (Becomes self.old self.new rep (in_state (state_of grant) (standing self.old rep))) }
+        ensures objects { SameObjects self.old self.new }
+        ensures order { SameOrder self.old self.new }
+        ensures room { KeepsRoom self.old self.new }
+        ensures err { OnErr result (Unchanged self.old self.new) }
+    {
+        let standing = self.state(rep);
+        let state = standing.state;
+        if !state.is_pending() {
+            return Err(TableFault::Absent);
+        }
+        self.surrogates.set(&rep, grant);
+        Ok(())
+    }
+
+    // Writes the counts of a reference that has some.
+    fn write(&mut self, rep: &WireRep, counts: Counts)
+        requires known { IsTrue (is_known (standing self.old rep.now).state) }
+        requires held { IsTrue (is_lost (standing self.old rep.now).state) → IsTrue (is_held counts) }
+        ensures written { Becomes self.old self.new rep.now (with_counts counts (standing self.old rep.now)) }
+        ensures objects { SameObjects self.old self.new }
+        ensures order { SameOrder self.old self.new }
+        ensures room { KeepsRoom self.old self.new }
+    {
+        if rep.owner == self.me {
+            self.objects.set(rep, counts);
+        } else {
+            self.counted.set(rep, counts);
+        }
+    }
+
+    // Takes a lost reference out.
+    fn forget_lost(&mut self, rep: WireRep)
+        requires { IsTrue (is_lost (standing self.old rep).state) }
+        ensures forgotten { Becomes self.old self.new rep unknown }
+        ensures objects { SameObjects self.old self.new }
+        ensures order { SameOrder self.old self.new }
+        ensures room { KeepsRoom self.old self.new }
+    {
+        self.counted.take(&rep);
+    }
+}
