@@ -1,0 +1,40 @@
+//! What steps answer.
+
+ghost use Rattle.std.specs.Prelude.{◌+◌, ◌<◌, ◌^◌};
+
+use nob_frame::Payload;
+use nob_ids::{ItemNo, Reason};
+use nob_session::Refusal;
+
+/// The frames that a `send` gave: those of so many numbers after the frames before.
+#[derive(Clone, Copy, Debug, PartialEq, Eq)]
+pub struct Sent {
+    /// How many frames were transmitted before.
+    pub before: u64,
+    /// How many it gave.
+    pub count: u64,
+    ghost in_range: { before + count < 2 ^ 64 },
+}
+
+/// What a step answers.
+#[derive(Debug, Drop)]
+pub enum Answer {
+    /// A `put` item's number.
+    Item(ItemNo),
+    /// The frames that were transmitted.
+    Sent(Sent),
+    /// The number and the bytes of the item that was taken.
+    Got(ItemNo, Payload),
+    /// No item waits.
+    Nothing,
+    /// A tick that closed nothing.
+    Done,
+    /// How many items were accepted.
+    Took(u64),
+    /// The end closed for this reason.
+    Closed(Reason),
+    /// The session refuses the call.
+    Refused(Refusal),
+    /// X2: no such frame was transmitted.
+    NoFrame,
+}

@@ -1,0 +1,10 @@
+//! The exact texts of numbers, bytes and lines: each has one spelling, and what is read is what that spelling says.
+#![tactic(auto)]
+
+mod bytes;
+mod lines;
+mod number;
+
+pub use bytes::bytes_of;
+pub use lines::lines_of;
+pub use number::number_of;
