@@ -1,10 +1,17 @@
 //! The steps on one end.
 
-ghost use Rattle.std.specs.Prelude.{◌≡◌, ◌<◌, length, IfOk, IfSome, OnErr};
+ghost use Rattle.std.specs.Prelude.{◌≡◌, ◌++◌, ◌∷◌, List, ℕ, length, IfOk, OnErr};
+ghost use Rattle.nob_ids.specs.declared.limits.Limits.{Limits as LimitsOf};
+ghost use Rattle.nob_model.specs.declared.entry.EndEntry.{EndEntry};
 ghost use Rattle.nob_session.specs.Items.{IsItem};
+ghost use Rattle.nob_session.specs.Stands.{Stands};
 ghost use Rattle.nob_demo_pair.specs.Fronts.{IsFront};
+ghost use Rattle.nob_demo_pair.specs.Run.{answer_text, arrive_text, call_answer, calls_of};
+ghost use Rattle.nob_model.specs.Right.{right_arrive, right_transmit};
+ghost use Rattle.nob_model.specs.declared.entry.EndEntry.TheVariants.{Arrive};
 
 use crate::answer::{Answer, Sent};
+use crate::step::Call;
 use nob_frame::{Frame, Payload};
 use nob_ids::Reason;
 use nob_session::{Arrival, Kind, Refusal, Session, SessionError};
@@ -13,7 +20,9 @@ use std::alloc::{AllocError, Global};
 // Hands an item.
 pub fn put(session: &mut Session, item: &Payload) -> Result<Answer, AllocError>
     requires { IsItem item.now }
-    ensures { OnErr result (session.new.end ≡ session.old.end) }
+    ensures answer { (me peer before : ℕ) (limits : LimitsOf) (L : List EndEntry) → Stands me peer limits session.old.end L →
+        IfOk result (λ a. (answer_text a ≡ call_answer limits me peer (Call.Put item.now) before L) × Stands me peer limits session.new.end (calls_of limits me peer (Call.Put item.now) L ++ L)) }
+    ensures err { OnErr result (session.new.end ≡ session.old.end) }
 {
     let payload = item.copy()?.into_vec();
     match session.send(payload, Kind::Limited) {
@@ -25,7 +34,9 @@ pub fn put(session: &mut Session, item: &Payload) -> Result<Answer, AllocError>
 
 // Takes the first item that waits.
 pub fn get(alloc: Global, session: &mut Session) -> Result<Answer, AllocError>
-    ensures { OnErr result (session.new.end ≡ session.old.end) }
+    ensures answer { (me peer before : ℕ) (limits : LimitsOf) (L : List EndEntry) → Stands me peer limits session.old.end L →
+        IfOk result (λ a. (answer_text a ≡ call_answer limits me peer Call.Get before L) × Stands me peer limits session.new.end (calls_of limits me peer Call.Get L ++ L)) }
+    ensures err { OnErr result (session.new.end ≡ session.old.end) }
 {
     if !session.is_open() {
         return Ok(Answer::Refused(Refusal::Closed));
@@ -38,7 +49,10 @@ pub fn get(alloc: Global, session: &mut Session) -> Result<Answer, AllocError>
 }
 
 // Counts a tick.
-pub fn tick(session: &mut Session) -> Answer {
+pub fn tick(session: &mut Session) -> Answer
+    ensures answer { (me peer before : ℕ) (limits : LimitsOf) (L : List EndEntry) → Stands me peer limits session.old.end L →
+        (answer_text result ≡ call_answer limits me peer Call.Tick before L) × Stands me peer limits session.new.end (calls_of limits me peer Call.Tick L ++ L) }
+{
     match session.tick() {
         Ok(None) => Answer::Done,
         Ok(Some(closed)) => Answer::Closed(closed.reason()),
@@ -47,7 +61,10 @@ pub fn tick(session: &mut Session) -> Answer {
 }
 
 // Closes the end.
-pub fn close(session: &mut Session) -> Answer {
+pub fn close(session: &mut Session) -> Answer
+    ensures answer { (me peer before : ℕ) (limits : LimitsOf) (L : List EndEntry) → Stands me peer limits session.old.end L →
+        (answer_text result ≡ call_answer limits me peer Call.Close before L) × Stands me peer limits session.new.end (calls_of limits me peer Call.Close L ++ L) }
+{
     match session.close(Reason::Asked) {
         Ok(closed) => Answer::Closed(closed.reason()),
         Err(refusal) => Answer::Refused(refusal),
@@ -69,7 +86,9 @@ fn front_of(alloc: Global, session: &Session) -> Result<Option<Answer>, AllocErr
 
 // Gives a frame to the end.
 pub fn arrive(session: &mut Session, frame: &Frame) -> Result<Answer, AllocError>
-    ensures { OnErr result (session.new.end ≡ session.old.end) }
+    ensures answer { (me peer : ℕ) (limits : LimitsOf) (L : List EndEntry) → Stands me peer limits session.old.end L →
+        IfOk result (λ a. (answer_text a ≡ arrive_text (right_arrive me peer frame.now L)) × Stands me peer limits session.new.end (Arrive frame.now (right_arrive me peer frame.now L) ∷ L)) }
+    ensures err { OnErr result (session.new.end ≡ session.old.end) }
 {
     match session.arrive(frame) {
         Ok(Arrival::Took(count)) => Ok(Answer::Took(count)),
@@ -81,6 +100,10 @@ pub fn arrive(session: &mut Session, frame: &Frame) -> Result<Answer, AllocError
 
 // Transmits onto the list of all frames. A transmit gives 64 frames at most, for which there is room first.
 pub fn send(session: &mut Session, frames: &mut Vec<Frame>) -> Result<Answer, AllocError>
+    ensures answer { (me peer : ℕ) (limits : LimitsOf) (L : List EndEntry) → Stands me peer limits session.old.end L →
+        IfOk result (λ a. (answer_text a ≡ call_answer limits me peer Call.Send (length frames.old.items) L)
+        × Stands me peer limits session.new.end (calls_of limits me peer Call.Send L ++ L)
+        × (frames.new.items ≡ frames.old.items ++ right_transmit me peer limits.window L)) }
     ensures session { OnErr result (session.new.end ≡ session.old.end) }
     ensures frames { OnErr result (frames.new.items ≡ frames.old.items) }
 {

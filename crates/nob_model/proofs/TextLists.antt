@@ -1,5 +1,5 @@
 -- Lists of slices, as the lists that they point to.
-use Rattle.std.proofs.Common.{◌≡◌, ◌≤◌, ℕ, List, [], length, drop, take, sym, subst, Bor, ◌∙◌}
+use Rattle.std.proofs.Common.{◌≡◌, ◌≤◌, ℕ, List, [], length, drop, take, sym, subst, Bor}
 use Rattle.std.specs.List.{drop-map, take-map}
 use Rattle.std.proofs.lemmas.List.{length-map, drop_all, take_all}
 use Rattle.nob_model.specs.Texts.{texts}

@@ -1,14 +1,14 @@
 -- The words of one end of a session, read off the whole list of its calls. The newest call stands FIRST, so that
 -- each word of a list with one call more is computed from that call and the words before. An entry with a
 -- refusal changes no word.
-use Rattle.std.specs.Prelude.{ℕ, zero, suc, ◌+◌, ◌-◌, max, Bool, true, false, not, ◌&&◌, ◌||◌, nat_lt, nat_le, List, [], ◌∷◌, ◌++◌, length, drop, Option, Some, None, is_none, Result, Ok, Err, if◌then◌else◌}
+use Rattle.std.specs.Prelude.{ℕ, suc, ◌+◌, ◌-◌, max, Bool, true, false, not, ◌&&◌, ◌||◌, nat_lt, nat_le, List, [], ◌∷◌, ◌++◌, drop, Option, Some, None, is_none, Ok, if◌then◌else◌}
 use Rattle.nob_ids.specs.declared.reason.Reason.{Reason}
 use Rattle.nob_ids.specs.declared.reason.Reason.TheVariants.{PeerClosed, Asked, RetriesUsedUp, BadItem, BadReference, OutOfPlace}
 use Rattle.nob_frame.specs.declared.frame.Frame.{Frame}
 use Rattle.nob_frame.specs.Kinds.{is_data, is_close}
 use Rattle.nob_model.specs.declared.entry.Arrived.TheVariants as arrived
 use Rattle.nob_model.specs.declared.entry.EndEntry.{EndEntry}
-use Rattle.nob_model.specs.declared.entry.EndEntry.TheVariants.{Send, Transmit, Arrive, Front, Take, IsOpen, Tick, Close}
+use Rattle.nob_model.specs.declared.entry.EndEntry.TheVariants.{Send, Transmit, Arrive, Take, Tick, Close}
 
 -- why this end closed, if it has
 abbrev pub ending : List EndEntry → Option Reason

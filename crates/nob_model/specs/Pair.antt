@@ -1,9 +1,9 @@
 -- Two ends of one session: the runs of a pair, and what becomes of their items. The newest call stands first.
-use Rattle.std.specs.Prelude.{◌≡◌, ℕ, ◌+◌, Bool, IsTrue, List, [], ◌∷◌, ◌++◌, Option, Some, None, option_to_list, Contains}
+use Rattle.std.specs.Prelude.{◌≡◌, ℕ, ◌+◌, IsTrue, List, [], ◌∷◌, ◌++◌, option_to_list, Contains}
 use Rattle.nob_ids.specs.declared.limits.Limits.{Limits}
 use Rattle.nob_frame.specs.declared.frame.Frame.{Frame}
 use Rattle.nob_model.specs.declared.entry.EndEntry.{EndEntry}
-use Rattle.nob_model.specs.declared.entry.EndEntry.TheVariants.{Send, Transmit, Arrive, Front, Take, IsOpen, Tick, Close}
+use Rattle.nob_model.specs.declared.entry.EndEntry.TheVariants.{Transmit, Arrive, Take}
 use Rattle.nob_model.specs.declared.entry.PairEntry.{PairEntry}
 use Rattle.nob_model.specs.declared.entry.PairEntry.TheVariants.{First, Second}
 use Rattle.nob_model.specs.End.{is_open, handed}

@@ -1,4 +1,4 @@
-use Rattle.std.proofs.Common.{◌≡◌, List, ℕ, ◌++◌, ap, ◌∙◌}
+use Rattle.std.proofs.Common.{List, ℕ, ◌++◌, ap, ◌∙◌}
 use Rattle.std.specs.String.{string_bytes}
 use Rattle.nob_demo_pair.specs.Run.{sent_text}
 use Rattle.nob_demo_pair.proofs.Numbers.{one_more}

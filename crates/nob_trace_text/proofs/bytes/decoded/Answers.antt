@@ -1,4 +1,3 @@
-use Rattle.std.proofs.Common.{◌≡◌}
 use Rattle.nob_trace_text.proofs.HexTexts.{same_bytes, no_error}
 use Rattle.nob_trace_text.proofs.bytes.decoded.Goals as goal
 
