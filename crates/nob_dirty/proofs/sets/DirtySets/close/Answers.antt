@@ -1,0 +1,10 @@
+use Rattle.std.proofs.Common.{rules, not, ◌==◌}
+use Rattle.std.proofs.lemmas.Fn.{filter_same}
+use Rattle.nob_dirty.specs.declared.sets.Listing.{Listing}
+use Rattle.nob_dirty.proofs.Membership.{left_all}
+use Rattle.nob_dirty.proofs.sets.DirtySets.close.Goals as goal
+
+pub returns : goal.returns
+returns c =
+    let left = filter_same _ (λ (l : Listing). not (l.client == c.args.client)) _ (λ x b f call. search rules) _ _ c.retain.ensures.filtered in
+    record { leaves = rw (left, ← c.self.view_is) (left_all _ _) }
