@@ -1,0 +1,110 @@
+-- Numbers as they are read and written.
+use Rattle.std.proofs.Common.{true, cond, ◌≡◌, ℕ, ◌+◌, ◌^◌, ◌<◌, ◌≤◌, false, ltb, List, ◌++◌, length, get_or, take, drop, Ok, Err, refl, sym, ap, subst, ◌∙◌, arith, inl, inr}
+use Rattle.std.proofs.lemmas.Bool.{cases_lt, ltb-false, le-ltb}
+use Rattle.std.proofs.lemmas.List.{drop_at, take-append-drop, length-append, length-take, get_or-drop, get_or-take, get_or_past}
+use Rattle.std.proofs.lemmas.Nat.{be_bytes_2, be_bytes_8}
+use Rattle.byteorder.specs.Endian.{big_bytes, big_number}
+use Rattle.byteorder.specs.Numbers.{big_from-take, big_from-lt, big_number-reads_back, length-bytes_high_first}
+use Rattle.nob_item.specs.declared.fault.ItemFault.TheVariants.{Short, Number}
+use Rattle.std.proofs.lemmas.Bool.Decides.{nat_tests}
+use Rattle.nob_item.specs.Spelling.{IsCallNumber, IsItemNumber, IsStatus}
+use Rattle.nob_item.specs.Judging.{is_call_number, is_item_number, is_status}
+use Rattle.nob_item.specs.Reading.{number_at, call_number_at, item_number_at}
+use Rattle.nob_item.proofs.Choices.{bind_ok, ended_ok, ok_is, guard_ok}
+
+-- each is a byte
+abbrev pub IsBytes : List ℕ → Type 0
+IsBytes bytes = (i : ℕ) → get_or bytes i 0 < 256
+
+pub IsBytes-drop : (n : ℕ) (bytes : List ℕ) → IsBytes bytes → IsBytes (drop n bytes)
+IsBytes-drop n bytes h i = rw get_or-drop (h (n + i))
+
+pub IsBytes-take : (n : ℕ) (bytes : List ℕ) → IsBytes bytes → IsBytes (take n bytes)
+IsBytes-take n bytes h i =
+    elim (cases_lt i n) [
+      | inl lt ↦ rw (get_or-take n bytes i 0 lt) (h i)
+      | inr le ↦ rw (get_or_past (take n bytes) i 0 (omega (arith, length-take n bytes))) (omega arith)
+    ]
+
+-- the bytes of the number that bytes are, are these bytes
+abbrev pub ReadsBack : ℕ → Type 0
+ReadsBack size = (bytes : List ℕ) → length bytes ≡ size → IsBytes bytes → big_bytes size (big_number size bytes) ≡ bytes
+
+pub back_2 : ReadsBack 2
+back_2 bytes len fits = be_bytes_2 bytes (big_number 2 bytes) len fits (omega arith)
+
+pub back_8 : ReadsBack 8
+back_8 bytes len fits = be_bytes_8 bytes (big_number 8 bytes) len fits (omega arith)
+
+-- what was taken from the front
+pub record Takes (bytes text rest : List ℕ) : Type 0 where
+  pub parts : bytes ≡ text ++ rest
+  pub rest_fits : IsBytes rest
+
+pub number_takes : (size : ℕ) (bytes : List ℕ) (n : ℕ) (rest : List ℕ) → ReadsBack size → IsBytes bytes → number_at size bytes ≡ Ok (n, rest) → Takes bytes (big_bytes size n) rest × (n < 256 ^ size)
+number_takes size bytes n rest back fits e =
+    let g = guard_ok (ltb (length bytes) size) Short (Ok (big_number size bytes, drop size bytes)) (n, rest) e in
+    let pair : (big_number size bytes, drop size bytes) ≡ (n, rest) = ok_is (big_number size bytes, drop size bytes) (n, rest) g.1 in
+    let long : size ≤ length bytes = ltb-false _ _ g.0 in
+    let n-is : big_number size bytes ≡ n = ap (λ (p : ℕ × List ℕ). p.0) pair in
+    let rest-is : drop size bytes ≡ rest = ap (λ (p : ℕ × List ℕ). p.1) pair in
+    let same : big_number size (take size bytes) ≡ big_number size bytes = big_from-take 0 size size bytes (omega arith) in
+    let front : big_bytes size n ≡ take size bytes =
+    ap (big_bytes size) (sym n-is ∙ sym same) ∙ back (take size bytes) (omega (arith, length-take size bytes)) (IsBytes-take size bytes fits) in (
+      record { parts = sym (take-append-drop size bytes) ∙ ap (λ (x : List ℕ). x ++ drop size bytes) (sym front) ∙ ap (λ (x : List ℕ). big_bytes size n ++ x) rest-is; rest_fits = rw (← rest-is) (IsBytes-drop size bytes fits) },
+      rw (← n-is) (big_from-lt 0 size bytes fits),
+    )
+
+pub number_again : (size n : ℕ) (rest : List ℕ) → n < 256 ^ size → number_at size (big_bytes size n ++ rest) ≡ Ok (n, rest)
+number_again size n rest lt =
+    let len = length-bytes_high_first size n in
+    let long : ltb (length (big_bytes size n ++ rest)) size ≡ false = le-ltb _ _ (omega (arith, len, length-append (big_bytes size n) rest)) in
+    rw (long, big_number-reads_back size n rest lt, drop_at (big_bytes size n) rest size len) refl
+
+-- ---- the tests
+
+call_is : (n : ℕ) → is_call_number n ≡ true → IsCallNumber n
+call_is n e = (grind (arith, nat_tests), grind (arith, nat_tests))
+
+call_passes : (n : ℕ) → IsCallNumber n → is_call_number n ≡ true
+call_passes n h = grind (arith, nat_tests)
+
+item_is : (n : ℕ) → is_item_number n ≡ true → IsItemNumber n
+item_is n e = (grind (arith, nat_tests), grind (arith, nat_tests))
+
+item_passes : (n : ℕ) → IsItemNumber n → is_item_number n ≡ true
+item_passes n h = grind (arith, nat_tests)
+
+pub status_is : (n : ℕ) → is_status n ≡ true → IsStatus n
+status_is n e = grind (arith, nat_tests)
+
+pub status_passes : (n : ℕ) → IsStatus n → is_status n ≡ true
+status_passes n h = grind (arith, nat_tests)
+
+-- ---- numbers that are judged
+
+pub call_number_takes : (bs : List ℕ) (x : ℕ × List ℕ) → IsBytes bs → call_number_at bs ≡ Ok x → Takes bs (big_bytes 8 x.0) x.1 × IsCallNumber x.0
+unfolding call_number_at
+call_number_takes bs x fits e =
+    let b = bind_ok (number_at 8 bs) (λ n. cond (is_call_number n.0) (Ok n) (Err Number)) x e in
+    let n = b.0 in
+    let h = ended_ok (is_call_number n.0) Number n x b.2 in
+    let t = number_takes 8 bs n.0 n.1 back_8 fits b.1 in
+    subst (λ (p : ℕ × List ℕ). Takes bs (big_bytes 8 p.0) p.1 × IsCallNumber p.0) h.1 (t.0, call_is n.0 h.0)
+
+pub call_number_again : (n : ℕ) (rest : List ℕ) → IsCallNumber n → call_number_at (big_bytes 8 n ++ rest) ≡ Ok (n, rest)
+unfolding call_number_at
+call_number_again n rest h = rw (number_again 8 n rest (omega (arith, h.1)), call_passes n h) refl
+
+pub item_number_takes : (bs : List ℕ) (x : ℕ × List ℕ) → IsBytes bs → item_number_at bs ≡ Ok x → Takes bs (big_bytes 8 x.0) x.1 × IsItemNumber x.0
+unfolding item_number_at
+item_number_takes bs x fits e =
+    let b = bind_ok (number_at 8 bs) (λ n. cond (is_item_number n.0) (Ok n) (Err Number)) x e in
+    let n = b.0 in
+    let h = ended_ok (is_item_number n.0) Number n x b.2 in
+    let t = number_takes 8 bs n.0 n.1 back_8 fits b.1 in
+    subst (λ (p : ℕ × List ℕ). Takes bs (big_bytes 8 p.0) p.1 × IsItemNumber p.0) h.1 (t.0, item_is n.0 h.0)
+
+pub item_number_again : (n : ℕ) (rest : List ℕ) → IsItemNumber n → item_number_at (big_bytes 8 n ++ rest) ≡ Ok (n, rest)
+unfolding item_number_at
+item_number_again n rest h = rw (number_again 8 n rest (omega (arith, h.1)), item_passes n h) refl

@@ -1,0 +1,19 @@
+//! Items: what two spaces send each other, and their one spelling in bytes.
+#![tactic(auto)]
+
+mod counted;
+mod fault;
+mod item;
+pub mod laws;
+mod limits;
+mod reading;
+mod writing;
+
+pub use counted::counted_refs;
+pub use fault::{ItemError, ItemFault};
+pub use item::Item;
+pub use reading::decode;
+pub use writing::encode;
+
+#[cfg(test)]
+mod tests;

@@ -1,0 +1,60 @@
+-- Bundles as plain data: what is in transit to which peer in which item. No word tells their order.
+use Rattle.std.specs.Prelude.{ℕ, ◌==◌, ◌&&◌, Bool, not, nat_lt, List, ◌∷◌, filter, length}
+use Rattle.std.specs.List.{list_any, sum_by}
+use Rattle.std.specs.List.Sorted.{IsPermutation}
+use Rattle.nob_ids.specs.declared.wire_rep.WireRep.{WireRep}
+
+-- these references are in transit to a peer in an item
+pub record Pinned : Type 0 where
+  pub peer : ℕ
+  pub item : ℕ
+  pub reps : List WireRep
+
+-- the bundles, and how many more of them take no memory
+pub record Table : Type 0 where
+  pub bundles : List Pinned
+  pub room : ℕ
+
+-- whether a bundle of these references to this peer takes no memory: the room is any peer's and any references'
+abbrev pub has_room : Table → ℕ → List WireRep → Bool
+has_room table peer reps = nat_lt 0 table.room
+
+-- whether the bundle is of this peer and item
+abbrev pub is_of : ℕ → ℕ → Pinned → Bool
+is_of peer item bundle = bundle.peer == peer && bundle.item == item
+
+-- whether there is a bundle of this peer and item
+abbrev pub has_bundle : List Pinned → ℕ → ℕ → Bool
+has_bundle bundles peer item = list_any (is_of peer item) bundles
+
+-- the bundle of these references
+abbrev pub bundle_of : ℕ → ℕ → List WireRep → Pinned
+bundle_of peer item reps = record { peer = peer; item = item; reps = reps }
+
+-- new has this bundle, and those of old
+abbrev pub Adds : List Pinned → List Pinned → Pinned → Type 0
+Adds old new bundle = IsPermutation (bundle ∷ old) new
+
+-- new has the bundles of old but one of this peer and item
+abbrev pub TakesOut : List Pinned → List Pinned → ℕ → ℕ → Type 0
+TakesOut old new peer item = (reps : List WireRep) × Adds new old (bundle_of peer item reps)
+
+-- the bundles of other peers
+abbrev pub of_others : ℕ → List Pinned → List Pinned
+of_others peer bundles = filter (λ bundle. not (bundle.peer == peer)) bundles
+
+-- new has the bundles of old but those of this peer
+abbrev pub TakesOutAll : List Pinned → List Pinned → ℕ → Type 0
+TakesOutAll old new peer = IsPermutation (of_others peer old) new
+
+-- whether two references are one
+abbrev pub is_same : WireRep → WireRep → Bool
+is_same rep other = rep.owner == other.owner && rep.index == other.index
+
+-- how often the reference stands among these
+abbrev pub times : WireRep → List WireRep → ℕ
+times rep reps = length (filter (λ other. is_same other rep) reps)
+
+-- how often the reference is in transit, repeats included
+abbrev pub count_of : List Pinned → WireRep → ℕ
+count_of bundles rep = sum_by (λ bundle. times rep bundle.reps) bundles

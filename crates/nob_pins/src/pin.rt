@@ -1,0 +1,72 @@
+//! Pins.
+
+ghost use Rattle.std.specs.Prelude.{◌≡◌};
+
+use crate::evidence::Settled;
+use nob_ids::{ItemNo, SpaceId, WireRep};
+use nob_session::Closed;
+
+/// That a reference is in transit to a peer in an item. A pin can't be let go, copied or taken apart: it ends by
+/// `spend` or `give_up`.
+pub struct TransitPin {
+    rep: WireRep,
+    to: SpaceId,
+    item: ItemNo,
+}
+
+impl TransitPin {
+    /// Pins a reference that goes to a space in an item.
+    pub fn new(rep: WireRep, to: SpaceId, item: ItemNo) -> TransitPin
+        ensures rep { result.rep ≡ rep }
+        ensures to { result.to ≡ to }
+        ensures item { result.item ≡ item }
+    {
+        TransitPin { rep, to, item }
+    }
+
+    /// The reference.
+    pub fn rep(&self) -> WireRep
+        ensures { result ≡ self.now.rep }
+    {
+        self.rep
+    }
+
+    /// The space that it goes to.
+    pub fn to(&self) -> SpaceId
+        ensures { result ≡ self.now.to }
+    {
+        self.to
+    }
+
+    /// The item that it goes in.
+    pub fn item(&self) -> ItemNo
+        ensures { result ≡ self.now.item }
+    {
+        self.item
+    }
+
+    /// Ends the pin: its peer has dealt with its item.
+    pub fn spend(self, settled: &Settled)
+        requires peer { settled.now.peer ≡ self.to }
+        requires item { settled.now.item ≡ self.item }
+    {
+        prove!(settled.peer() == self.to && settled.item() == self.item);
+        let TransitPin {
+            rep: _,
+            to: _,
+            item: _,
+        } = self;
+    }
+
+    /// Ends the pin: the session with its peer has closed.
+    pub fn give_up(self, closed: &Closed)
+        requires { closed.now.peer ≡ self.to }
+    {
+        prove!(closed.peer() == self.to);
+        let TransitPin {
+            rep: _,
+            to: _,
+            item: _,
+        } = self;
+    }
+}
