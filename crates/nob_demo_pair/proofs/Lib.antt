@@ -1,3 +1,7 @@
 pub mod Headers
 pub mod Numbers
 pub mod Looks
+pub mod Runs
+pub mod Steps
+pub mod Keeping
+pub mod Playing

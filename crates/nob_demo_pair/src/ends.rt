@@ -1,9 +1,11 @@
 //! The steps on one end.
 
-ghost use Rattle.std.specs.Prelude.{◌≡◌, ◌++◌, ◌∷◌, List, ℕ, length, IfOk, OnErr};
+ghost use Rattle.std.specs.Prelude.{◌≡◌, ◌++◌, ◌∷◌, List, ℕ, length, IfOk, OnOk, OnErr};
 ghost use Rattle.nob_ids.specs.declared.limits.Limits.{Limits as LimitsOf};
 ghost use Rattle.nob_model.specs.declared.entry.EndEntry.{EndEntry};
-ghost use Rattle.nob_session.specs.Items.{IsItem};
+ghost use Rattle.std.specs.List.{AllByRecursion};
+ghost use Rattle.nob_frame.specs.Spelling.{Fits};
+ghost use Rattle.nob_session.specs.Items.{IsItem, IsPair};
 ghost use Rattle.nob_session.specs.Stands.{Stands};
 ghost use Rattle.nob_demo_pair.specs.Fronts.{IsFront};
 ghost use Rattle.nob_demo_pair.specs.Run.{answer_text, arrive_text, call_answer, calls_of};
@@ -101,11 +103,12 @@ pub fn arrive(session: &mut Session, frame: &Frame) -> Result<Answer, AllocError
 // Transmits onto the list of all frames. A transmit gives 64 frames at most, for which there is room first.
 pub fn send(session: &mut Session, frames: &mut Vec<Frame>) -> Result<Answer, AllocError>
     ensures answer { (me peer : ℕ) (limits : LimitsOf) (L : List EndEntry) → Stands me peer limits session.old.end L →
-        IfOk result (λ a. (answer_text a ≡ call_answer limits me peer Call.Send (length frames.old.items) L)
-        × Stands me peer limits session.new.end (calls_of limits me peer Call.Send L ++ L)
-        × (frames.new.items ≡ frames.old.items ++ right_transmit me peer limits.window L)) }
+        IfOk result (λ a. (answer_text a ≡ call_answer limits me peer Call.Send (length frames.old.items) L) × Stands me peer limits session.new.end (calls_of limits me peer Call.Send L ++ L)) }
+    ensures given { (me peer : ℕ) (limits : LimitsOf) (L : List EndEntry) → Stands me peer limits session.old.end L →
+        OnOk result (frames.new.items ≡ frames.old.items ++ right_transmit me peer limits.window L) }
     ensures session { OnErr result (session.new.end ≡ session.old.end) }
     ensures frames { OnErr result (frames.new.items ≡ frames.old.items) }
+    ensures spelt { IsPair session.old.end.me session.old.end.peer → AllByRecursion Fits frames.old.items → AllByRecursion Fits frames.new.items }
 {
     frames.reserve(64)?;
     let mut given = match session.transmit() {

@@ -1,7 +1,16 @@
 //! Two ends of one session, and the frames between them.
 
-ghost use Rattle.std.specs.Prelude.{◌≡◌, IfOk};
+ghost use Rattle.std.specs.Prelude.{◌≡◌, ◌++◌, ◌∷◌, [], List, ℕ, None, length, IfOk, OnOk, OnErr, MatchOption};
+ghost use Rattle.std.specs.List.{AllByRecursion};
+ghost use Rattle.nob_ids.specs.declared.limits.Limits.{Limits as LimitsOf};
+ghost use Rattle.nob_frame.specs.Spelling.{Fits};
+ghost use Rattle.nob_model.specs.declared.entry.EndEntry.{EndEntry};
+ghost use Rattle.nob_model.specs.declared.entry.PairEntry.{PairEntry};
+ghost use Rattle.nob_session.specs.Items.{IsPair};
+ghost use Rattle.nob_session.specs.Stands.{Stands};
 ghost use Rattle.nob_demo_pair.specs.Grammar.{IsStep, IsCall};
+ghost use Rattle.nob_demo_pair.specs.Run.{all_given, answer_text, arrival_of, call_answer, calls_of, delivery_answer, entries_of, frame_numbered, step_answer};
+ghost use Rattle.nob_demo_pair.specs.Pairs.{PairStands, IsEndOf, IsPairOfEnds, ends_of, frames_after};
 
 use crate::answer::Answer;
 use crate::ends;
@@ -10,6 +19,7 @@ use nob_frame::{Frame, FrameError, decode, encode};
 use nob_ids::{Limits, SpaceId};
 use nob_session::{Session, SessionError};
 use std::alloc::{AllocError, Global};
+use std::marker::Model;
 
 /// The two ends between the spaces 1 and 2, and all frames that they ever transmitted.
 #[derive(Debug, Drop)]
@@ -20,9 +30,21 @@ pub struct Pair {
     frames: Vec<Frame>,
 }
 
+impl Model for Pair {
+    ghost use Rattle.nob_demo_pair.specs.Pairs.{Ends, IsPairOfEnds, ends_of};
+
+    ghost Value = { Ends };
+
+    ghost view = { λ pair. ends_of pair.first.end pair.second.end pair.frames.items };
+
+    ghost invariant = { λ pair. IsPairOfEnds (ends_of pair.first.end pair.second.end pair.frames.items) };
+}
+
 impl Pair {
     /// Opens both ends. Only memory fails it.
-    pub fn open(alloc: Global, limits: Limits) -> Result<Pair, AllocError> {
+    pub fn open(alloc: Global, limits: Limits) -> Result<Pair, AllocError>
+        ensures stands { IfOk result (λ pair. PairStands limits pair []) }
+    {
         let (Some(one), Some(two)) = (SpaceId::new(1), SpaceId::new(2)) else {
             unreachable!();
         };
@@ -37,30 +59,97 @@ impl Pair {
     /// Makes a step. Only memory fails it, and then nothing has changed.
     pub fn make(&mut self, step: &Step) -> Result<Answer, AllocError>
         requires { IsStep step.now }
+        ensures answer { (limits : LimitsOf) (J : List PairEntry) → PairStands limits self.old J →
+            IfOk result (λ a. (answer_text a ≡ step_answer limits step.now J) × PairStands limits self.new (entries_of limits step.now J ++ J)) }
+        ensures err { OnErr result (self.new ≡ self.old) }
     {
-        match step {
-            Step::At(Side::First, call) => {
-                call_at(self.alloc, &mut self.first, &mut self.frames, call)
-            }
-            Step::At(Side::Second, call) => {
-                call_at(self.alloc, &mut self.second, &mut self.frames, call)
-            }
-            Step::Deliver(number) => self.deliver(*number),
-        }
+        made(
+            self.alloc,
+            &mut self.first,
+            &mut self.second,
+            &mut self.frames,
+            step,
+        )
     }
+}
 
-    // The frame of this number, counted from 1, arrives at its `to`.
-    fn deliver(&mut self, number: u64) -> Result<Answer, AllocError> {
-        if number == 0 || number > self.frames.len() as u64 {
-            return Ok(Answer::NoFrame);
-        }
-        let frame = carried(self.alloc, &self.frames[number as usize - 1])?;
-        if frame.to.get() == 1 {
-            ends::arrive(&mut self.first, &frame)
-        } else {
-            ends::arrive(&mut self.second, &frame)
-        }
+// Makes a step on two ends and their frames.
+fn made(
+    alloc: Global,
+    first: &mut Session,
+    second: &mut Session,
+    frames: &mut Vec<Frame>,
+    step: &Step,
+) -> Result<Answer, AllocError>
+    requires step { IsStep step.now }
+    requires ends { IsPairOfEnds (ends_of first.old.end second.old.end frames.old.items) }
+    ensures answer { (limits : LimitsOf) (J : List PairEntry) → PairStands limits (ends_of first.old.end second.old.end frames.old.items) J →
+        IfOk result (λ a. (answer_text a ≡ step_answer limits step.now J) × PairStands limits (ends_of first.new.end second.new.end frames.new.items) (entries_of limits step.now J ++ J)) }
+    ensures err { OnErr result (ends_of first.new.end second.new.end frames.new.items ≡ ends_of first.old.end second.old.end frames.old.items) }
+    ensures ends { IsPairOfEnds (ends_of first.new.end second.new.end frames.new.items) }
+{
+    match step {
+        Step::At(side, call) => call_on(alloc, first, second, frames, *side, call),
+        Step::Deliver(number) => deliver(alloc, first, second, frames, *number),
     }
+}
+
+// Makes a call at one of two ends.
+fn call_on(
+    alloc: Global,
+    first: &mut Session,
+    second: &mut Session,
+    frames: &mut Vec<Frame>,
+    side: Side,
+    call: &Call,
+) -> Result<Answer, AllocError>
+    requires call { IsCall call.now }
+    requires ends { IsPairOfEnds (ends_of first.old.end second.old.end frames.old.items) }
+    ensures answer { (limits : LimitsOf) (J : List PairEntry) → PairStands limits (ends_of first.old.end second.old.end frames.old.items) J →
+        IfOk result (λ a. (answer_text a ≡ step_answer limits (Step.At side call.now) J) × PairStands limits (ends_of first.new.end second.new.end frames.new.items) (entries_of limits (Step.At side call.now) J ++ J)) }
+    ensures err { OnErr result (ends_of first.new.end second.new.end frames.new.items ≡ ends_of first.old.end second.old.end frames.old.items) }
+    ensures ends { IsPairOfEnds (ends_of first.new.end second.new.end frames.new.items) }
+{
+    match side {
+        Side::First => call_at(alloc, first, frames, call),
+        Side::Second => call_at(alloc, second, frames, call),
+    }
+}
+
+// The frame of this number, counted from 1, arrives at its `to`.
+fn deliver(
+    alloc: Global,
+    first: &mut Session,
+    second: &mut Session,
+    frames: &[Frame],
+    number: u64,
+) -> Result<Answer, AllocError>
+    requires frames { AllByRecursion Fits frames.now }
+    ensures answer { (limits : LimitsOf) (J : List PairEntry) → PairStands limits (ends_of first.old.end second.old.end frames.now) J →
+        IfOk result (λ a. (answer_text a ≡ delivery_answer (frame_numbered number (all_given J)) J) × PairStands limits (ends_of first.new.end second.new.end frames.now) (arrival_of (frame_numbered number (all_given J)) J ++ J)) }
+    ensures first { OnErr result (first.new.end ≡ first.old.end) }
+    ensures second { OnErr result (second.new.end ≡ second.old.end) }
+    ensures first_end { (me peer : ℕ) → IsEndOf me peer first.old.end → IsEndOf me peer first.new.end }
+    ensures second_end { (me peer : ℕ) → IsEndOf me peer second.old.end → IsEndOf me peer second.new.end }
+{
+    let Some(frame) = numbered(frames, number) else {
+        return Ok(Answer::NoFrame);
+    };
+    let frame = carried(alloc, frame)?;
+    if frame.to.get() == 1 {
+        return ends::arrive(first, &frame);
+    }
+    ends::arrive(second, &frame)
+}
+
+// The frame of this number, counted from 1.
+fn numbered(frames: &[Frame], number: u64) -> Option<&Frame>
+    ensures number { MatchOption result (frame_numbered number frames.now ≡ None) (λ frame. frame_numbered number frames.now ≡ Some frame.now) }
+{
+    if number == 0 {
+        return None;
+    }
+    frames.get(number as usize - 1)
 }
 
 fn open_end(
@@ -68,7 +157,9 @@ fn open_end(
     me: SpaceId,
     peer: SpaceId,
     limits: Limits,
-) -> Result<Session, AllocError> {
+) -> Result<Session, AllocError>
+    ensures stands { IfOk result (λ session. Stands me peer limits session.end []) }
+{
     match Session::open(alloc, me, peer, limits) {
         Ok(session) => Ok(session),
         Err(SessionError::Refused(_)) => Err(AllocError),
@@ -84,6 +175,14 @@ fn call_at(
     call: &Call,
 ) -> Result<Answer, AllocError>
     requires { IsCall call.now }
+    ensures answer { (me peer : ℕ) (limits : LimitsOf) (L : List EndEntry) → Stands me peer limits session.old.end L →
+        IfOk result (λ a. (answer_text a ≡ call_answer limits me peer call.now (length frames.old.items) L) × Stands me peer limits session.new.end (calls_of limits me peer call.now L ++ L)) }
+    ensures given { (me peer : ℕ) (limits : LimitsOf) (L : List EndEntry) → Stands me peer limits session.old.end L →
+        OnOk result (frames.new.items ≡ frames_after limits me peer call.now L frames.old.items) }
+    ensures session { OnErr result (session.new.end ≡ session.old.end) }
+    ensures frames { OnErr result (frames.new.items ≡ frames.old.items) }
+    ensures end { (me peer : ℕ) → IsEndOf me peer session.old.end → IsEndOf me peer session.new.end }
+    ensures spelt { IsPair session.old.end.me session.old.end.peer → AllByRecursion Fits frames.old.items → AllByRecursion Fits frames.new.items }
 {
     match call {
         Call::Put(item) => ends::put(session, item),
@@ -94,19 +193,19 @@ fn call_at(
     }
 }
 
-// A frame as it arrives: encoded and decoded on its way. A frame that a session gives has a spelling, so only
-// memory stops it.
+// A frame as it arrives: encoded and decoded on its way.
 fn carried(alloc: Global, frame: &Frame) -> Result<Frame, AllocError>
+    requires { Fits frame.now }
     ensures { IfOk result (λ arrived. arrived ≡ frame.now) }
 {
     let bytes = match encode(alloc, frame) {
         Ok(bytes) => bytes,
-        Err(FrameError::Fault(_)) => return Err(AllocError),
+        Err(FrameError::Fault(_)) => unreachable!(),
         Err(FrameError::OutOfMemory) => return Err(AllocError),
     };
     match decode(alloc, &bytes) {
         Ok(arrived) => Ok(arrived),
-        Err(FrameError::Fault(_)) => Err(AllocError),
+        Err(FrameError::Fault(_)) => unreachable!(),
         Err(FrameError::OutOfMemory) => Err(AllocError),
     }
 }

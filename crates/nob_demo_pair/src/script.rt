@@ -1,10 +1,18 @@
 //! Whole scripts.
 
-ghost use Rattle.std.specs.Prelude.{◌≡◌, ◌++◌, ◌∷◌, [], OnOk, OnErr};
+ghost use Rattle.std.specs.Prelude.{◌≡◌, ◌++◌, ◌∷◌, [], List, ℕ, false, IsTrue, IfOk, OnOk, OnErr, codes, ◌+◌, ◌<◌, ◌^◌};
+ghost use Rattle.std.specs.String.{string_bytes};
+ghost use Rattle.nob_ids.specs.declared.limits.Limits.{Limits as LimitsOf};
+ghost use Rattle.nob_model.specs.declared.entry.PairEntry.{PairEntry};
+ghost use Rattle.nob_trace_text.specs.Lines.{texts};
+ghost use Rattle.nob_demo_pair.specs.Pairs.{PairStands};
+ghost use Rattle.nob_demo_pair.specs.Scripts.{FromHeader, FromLines, Grows, IsNoStep, IsStepLine, MakesStep, Plays, answered_text, bad_step_text, last_line};
 
 use crate::pair::Pair;
 use crate::parse::{header_of, step_of};
+use crate::step::Step;
 use crate::text::text_of;
+use nob_session::laws;
 use nob_trace_text::lines_of;
 use std::alloc::{AllocError, Global};
 
@@ -15,25 +23,85 @@ pub enum Outcome {
     Fronts,
     /// A line was none, and the run ended there.
     BadStep,
+    /// Memory ran out beside the steps, and the run ended there.
+    OutOfMemory,
 }
 
-/// Writes what a pair script gives onto the text: each line with its answer, and then that the fronts hold, or the
-/// first line that is no step. An `Err` is for want of memory that isn't a step's own: the text then has whole lines.
-pub fn play(alloc: Global, script: &[u8], text: &mut Vec<u8>) -> Result<Outcome, AllocError> {
+impl Outcome {
+    /// What is still to be written after a script's text: the line `memory` where memory ran out.
+    pub fn last_line(self) -> &'static [u8]
+        ensures { result.now ≡ last_line self }
+    {
+        match self {
+            Outcome::Fronts => b"",
+            Outcome::BadStep => b"",
+            Outcome::OutOfMemory => b"memory\n",
+        }
+    }
+}
+
+/// Writes what a pair script gives onto an empty text: its first line, each line with its answer, and then that the
+/// fronts hold, or the first line that is no step. The outcome's last line is still to follow.
+pub fn play(alloc: Global, script: &[u8], text: &mut Vec<u8>) -> Outcome
+    requires { text.old.items ≡ [] }
+    ensures plays { Plays script.now (text.new.items ++ last_line result) result }
+{
+    match play_script(alloc, script, text) {
+        Ok(outcome) => outcome,
+        Err(AllocError) => Outcome::OutOfMemory,
+    }
+}
+
+// The same, but that memory may run out beside the steps.
+fn play_script(alloc: Global, script: &[u8], text: &mut Vec<u8>) -> Result<Outcome, AllocError>
+    requires { text.old.items ≡ [] }
+    ensures ok { IfOk result (λ outcome. Plays script.now (text.new.items ++ last_line outcome) outcome) }
+    ensures err { OnErr result (Plays script.now (text.new.items ++ last_line Outcome.OutOfMemory) Outcome.OutOfMemory) }
+{
     let lines = lines_of(alloc, script)?;
     let Some((header, steps)) = lines.as_slice().split_first() else {
         return bad_step(alloc, text, 1);
     };
+    play_from(alloc, header, steps, text)
+}
+
+// Writes what a script of these lines gives.
+fn play_from(
+    alloc: Global,
+    header: &[u8],
+    steps: &[&[u8]],
+    text: &mut Vec<u8>,
+) -> Result<Outcome, AllocError>
+    ensures ok { IfOk result (λ outcome. Grows text.old.items (text.new.items ++ last_line outcome) (λ written. FromHeader header.now (texts steps.now) written outcome)) }
+    ensures err { OnErr result (Grows text.old.items (text.new.items ++ last_line Outcome.OutOfMemory) (λ written. FromHeader header.now (texts steps.now) written Outcome.OutOfMemory)) }
+{
     let Some(limits) = header_of(alloc, header)? else {
         return bad_step(alloc, text, 1);
     };
     let mut pair = Pair::open(alloc, limits)?;
     push_line(alloc, text, header, b"")?;
+    play_steps(alloc, &mut pair, steps, text)
+}
+
+// Makes the steps of these lines, of which the first is line 2, and writes them with their answers.
+fn play_steps(
+    alloc: Global,
+    pair: &mut Pair,
+    steps: &[&[u8]],
+    text: &mut Vec<u8>,
+) -> Result<Outcome, AllocError>
+    ensures ok { (limits : LimitsOf) (J : List PairEntry) → PairStands limits pair.old J →
+        IfOk result (λ outcome. Grows text.old.items (text.new.items ++ last_line outcome) (λ written. FromLines limits 2 (texts steps.now) J written outcome)) }
+    ensures err { (limits : LimitsOf) (J : List PairEntry) → PairStands limits pair.old J →
+        OnErr result (Grows text.old.items (text.new.items ++ last_line Outcome.OutOfMemory) (λ written. FromLines limits 2 (texts steps.now) J written Outcome.OutOfMemory)) }
+{
     for (i, line) in steps.iter().enumerate() {
-        if !play_line(alloc, &mut pair, line, text)? {
+        if !play_line(alloc, pair, line, text)? {
             return bad_step(alloc, text, i as u64 + 2);
         }
     }
+    // Every run of a pair has its fronts.
+    laws::pair();
     text.extend_from_slice(b"fronts yes\n")?;
     Ok(Outcome::Fronts)
 }
@@ -44,25 +112,55 @@ fn play_line(
     pair: &mut Pair,
     line: &[u8],
     text: &mut Vec<u8>,
-) -> Result<bool, AllocError> {
+) -> Result<bool, AllocError>
+    ensures made { (limits : LimitsOf) (J : List PairEntry) → PairStands limits pair.old J →
+        IfOk result (λ is_step. IsTrue is_step → MakesStep limits line.now J pair.new text.old.items text.new.items) }
+    ensures none { IfOk result (λ is_step. is_step ≡ false → IsNoStep line.now × (text.new.items ≡ text.old.items)) }
+    ensures err { OnErr result (text.new.items ≡ text.old.items) }
+{
     let Some(step) = step_of(alloc, line)? else {
         return Ok(false);
     };
-    match pair.make(&step) {
-        Ok(answer) => {
-            let answer = text_of(alloc, &answer)?;
-            push_answer(alloc, text, line, answer.as_bytes())?;
-        }
-        Err(AllocError) => push_answer(alloc, text, line, b"memory")?,
-    }
+    make_step(alloc, pair, line, &step, text)?;
     Ok(true)
 }
 
-// Writes the line that no step spells.
-fn bad_step(alloc: Global, text: &mut Vec<u8>, line: u64) -> Result<Outcome, AllocError> {
-    let message = format!(in alloc; "line {line}: bad step\n")?;
+// Makes the step that a line spells and writes the line with its answer.
+fn make_step(
+    alloc: Global,
+    pair: &mut Pair,
+    line: &[u8],
+    step: &Step,
+    text: &mut Vec<u8>,
+) -> Result<(), AllocError>
+    requires { IsStepLine line.now step.now }
+    ensures made { (limits : LimitsOf) (J : List PairEntry) → PairStands limits pair.old J →
+        OnOk result (MakesStep limits line.now J pair.new text.old.items text.new.items) }
+    ensures err { OnErr result (text.new.items ≡ text.old.items) }
+{
+    match pair.make(step) {
+        Ok(answer) => {
+            let answer = text_of(alloc, &answer)?;
+            push_answer(alloc, text, line, answer.as_bytes())
+        }
+        Err(AllocError) => push_answer(alloc, text, line, b"memory"),
+    }
+}
+
+// Writes that a line is no step.
+fn bad_step(alloc: Global, text: &mut Vec<u8>, line: u64) -> Result<Outcome, AllocError>
+    ensures ok { IfOk result (λ outcome. (outcome ≡ Outcome.BadStep) × (text.new.items ≡ text.old.items ++ bad_step_text line)) }
+    ensures err { OnErr result (text.new.items ≡ text.old.items) }
+{
+    let message = bad_step_message(alloc, line)?;
     text.extend_from_slice(message.as_bytes())?;
     Ok(Outcome::BadStep)
+}
+
+fn bad_step_message(alloc: Global, line: u64) -> Result<String, AllocError>
+    ensures { IfOk result (λ message. string_bytes message ≡ bad_step_text line) }
+{
+    format!(in alloc; "line {line}: bad step\n")
 }
 
 // Writes a line with its answer, whole or not at all.
@@ -71,7 +169,10 @@ fn push_answer(
     text: &mut Vec<u8>,
     line: &[u8],
     answer: &[u8],
-) -> Result<(), AllocError> {
+) -> Result<(), AllocError>
+    ensures ok { OnOk result (text.new.items ≡ text.old.items ++ answered_text line.now answer.now) }
+    ensures err { OnErr result (text.new.items ≡ text.old.items) }
+{
     let mut whole = Vec::from_slice(alloc, b" = ")?;
     whole.extend_from_slice(answer)?;
     push_line(alloc, text, line, &whole)

@@ -1,0 +1,14 @@
+use Rattle.nob_model.specs.Pair.{first_calls, second_calls}
+use Rattle.nob_demo_pair.proofs.Steps.{first_made, second_made}
+use Rattle.nob_demo_pair.proofs.pair.call_on.Goals as goal
+
+pub returns-in-First-clause-answer : goal.returns-in-First-clause-answer
+returns-in-First-clause-answer c limits J st =
+    rw (c.in-First.is)
+    (first_made limits _ J c.args.call.now _ _ c.call_at.result st (c.call_at.ensures.answer 1 2 limits (first_calls J) st.first) (c.call_at.ensures.given 1 2 limits (first_calls J) st.first))
+
+pub returns-in-Second-clause-answer : goal.returns-in-Second-clause-answer
+returns-in-Second-clause-answer c limits J st =
+    let made = c.call_at-in-Second in
+    rw (c.in-Second.is)
+    (second_made limits _ J c.args.call.now _ _ made.result st (made.ensures.answer 2 1 limits (second_calls J) st.second) (made.ensures.given 2 1 limits (second_calls J) st.second))
