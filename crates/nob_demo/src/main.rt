@@ -4,10 +4,12 @@
 mod fault;
 mod reading;
 mod run;
+mod streams;
 #[cfg(test)]
 mod tests;
 mod words;
 
+use crate::streams::{Sink, Source};
 use std::process::ExitCode;
 use std::{env, io};
 
@@ -17,9 +19,9 @@ fn main(rt: HostRuntime) -> io::Result<ExitCode> {
     let status = run::run(
         alloc,
         words.as_slice(),
-        &mut rt.stdin(),
-        &mut rt.stdout(),
-        &mut rt.stderr(),
+        &mut Source::new(rt.stdin()),
+        &mut Sink::new(rt.stdout()),
+        &mut Sink::new(rt.stderr()),
     );
     Ok(ExitCode::from(status))
 }

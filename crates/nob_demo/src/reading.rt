@@ -1,34 +1,56 @@
 //! The whole input.
 
+ghost use Rattle.std.specs.Prelude.{◌≡◌, ◌≤◌, ◌<◌, ◌+◌, ℕ, List, Option, Some, true, false, length, IfOk, OnOk, IfErr, IfSome};
+ghost use Rattle.std.specs.Io.KnownBytes.{Consumes};
+ghost use Rattle.nob_demo.specs.Program.{IsReadingFault, most_bytes, most_reads};
+
 use crate::fault::Fault;
+use crate::streams::{MOST_READS, Source};
 use std::alloc::Global;
 use std::io::Read;
-
-/// So many reads at most.
-const MOST_READS: u32 = 1 << 20;
 
 /// So many bytes of input at most.
 const MOST_BYTES: usize = 1 << 26;
 
 /// So many bytes a read asks for.
-const PIECE: usize = 1 << 16;
+const PIECE: usize = 4096;
 
 /// The whole input, by at most 2^20 reads and at most 2^26 bytes: a read that fails, or more than that, is a read
 /// fault.
-pub fn read_all<R: Read>(alloc: Global, reader: &mut R) -> Result<Vec<u8>, Fault> {
+pub fn read_all<R: Read>(alloc: Global, source: &mut Source<R>) -> Result<Vec<u8>, Fault>
+    requires { (source.old.reads ≡ 0) × (source.old.failed ≡ false) }
+    ensures whole { IfOk result (λ input. IfSome (R.remaining source.old.reader) (λ bytes. input.items ≡ bytes)) }
+    ensures fault { IfErr result (λ fault. IsReadingFault fault (R.remaining source.old.reader) source.new.reads source.new.failed) }
+{
     let mut input = Vec::new(alloc);
-    let mut piece = vec![in alloc; 0u8; PIECE]?;
     for _ in 0..MOST_READS {
-        let Ok(count) = reader.read(piece.as_mut_slice()) else {
-            return Err(Fault::Read);
-        };
-        if count == 0 {
+        if !read_some(source, &mut input)? {
             return Ok(input);
         }
-        if count > MOST_BYTES - input.len().min(MOST_BYTES) {
-            return Err(Fault::Read);
-        }
-        input.extend_from_slice(&piece[..count])?;
     }
     Err(Fault::Read)
+}
+
+// Reads some bytes onto the input: whether there were any.
+fn read_some<R: Read>(source: &mut Source<R>, input: &mut Vec<u8>) -> Result<bool, Fault>
+    requires reads { source.old.reads < most_reads }
+    requires few { length input.old.items ≤ most_bytes }
+    ensures more { IfOk result (λ more. more ≡ true → (all : Option (List ℕ)) → Consumes all (R.remaining source.old.reader) input.old.items → Consumes all (R.remaining source.new.reader) input.new.items) }
+    ensures end { IfOk result (λ more. more ≡ false → (all : Option (List ℕ)) → Consumes all (R.remaining source.old.reader) input.old.items → IfSome all (λ bytes. input.new.items ≡ bytes)) }
+    ensures few { OnOk result (length input.new.items ≤ most_bytes) }
+    ensures reads { source.new.reads ≡ source.old.reads + 1 }
+    ensures fault { IfErr result (λ fault. (all : Option (List ℕ)) → Consumes all (R.remaining source.old.reader) input.old.items → IsReadingFault fault all source.new.reads source.new.failed) }
+{
+    let mut piece = [0u8; PIECE];
+    let Ok(count) = source.read(piece.as_mut_slice()) else {
+        return Err(Fault::Read);
+    };
+    if count == 0 {
+        return Ok(false);
+    }
+    if count > MOST_BYTES - input.len() {
+        return Err(Fault::Read);
+    }
+    input.extend_from_slice(piece.as_slice().split_at(count).0)?;
+    Ok(true)
 }

@@ -1,7 +1,13 @@
 //! What the program does.
 
+ghost use Rattle.std.specs.Prelude.{◌≡◌, ℕ, true, false, map, not, IsOk, IsErr};
+ghost use Rattle.std.specs.Io.KnownBytes.{Appends};
+ghost use Rattle.nob_demo.specs.Words.{word_faults, takes_words};
+ghost use Rattle.nob_demo.specs.Program.{Ended, Goes, status_of};
+
 use crate::fault::Fault;
 use crate::reading::read_all;
+use crate::streams::{Sink, Source};
 use crate::words::judge;
 use nob_demo_pair::{Outcome, play};
 use std::alloc::Global;
@@ -14,13 +20,35 @@ use std::io::{Read, Write};
 pub fn run<S: AsStr, R: Read, W: Write, E: Write>(
     alloc: Global,
     words: &[S],
-    reader: &mut R,
-    out: &mut W,
-    err: &mut E,
-) -> u8 {
+    reader: &mut Source<R>,
+    out: &mut Sink<W>,
+    err: &mut Sink<E>,
+) -> u8
+    requires reader { (reader.old.reads ≡ 0) × (reader.old.failed ≡ false) }
+    requires out { out.old.failed ≡ false }
+    requires err { err.old.failed ≡ false }
+    ensures goes { Goes (record {
+      attempt = record {
+        taken = takes_words (word_faults (map S.text words.now));
+        input = R.remaining reader.old.reader;
+        reads = reader.new.reads;
+        read_failed = reader.new.failed;
+        out_before = W.contents out.old.writer;
+        out_after = W.contents out.new.writer;
+        out_failed = out.new.failed;
+      };
+      err_before = E.contents err.old.writer;
+      err_after = E.contents err.new.writer;
+      err_failed = err.new.failed;
+      status = result;
+    }) }
+{
     match attempt(alloc, words, reader, out) {
-        Ok(status) => status,
-        Err(fault) => report(&fault, out, err),
+        Ok(outcome) => status_of(outcome),
+        Err(Fault::Words(text)) => said(err, text.as_bytes(), 2),
+        Err(Fault::Read) => said(err, b"read fault\n", 1),
+        Err(Fault::Memory) => said(out, b"memory\n", 1),
+        Err(Fault::Write) => 1,
     }
 }
 
@@ -28,37 +56,53 @@ pub fn run<S: AsStr, R: Read, W: Write, E: Write>(
 fn attempt<S: AsStr, R: Read, W: Write>(
     alloc: Global,
     words: &[S],
-    reader: &mut R,
-    out: &mut W,
-) -> Result<u8, Fault> {
+    reader: &mut Source<R>,
+    out: &mut Sink<W>,
+) -> Result<Outcome, Fault>
+    requires reader { (reader.old.reads ≡ 0) × (reader.old.failed ≡ false) }
+    requires out { out.old.failed ≡ false }
+    ensures ended { Ended result (record {
+      taken = takes_words (word_faults (map S.text words.now));
+      input = R.remaining reader.old.reader;
+      reads = reader.new.reads;
+      read_failed = reader.new.failed;
+      out_before = W.contents out.old.writer;
+      out_after = W.contents out.new.writer;
+      out_failed = out.new.failed;
+    }) }
+{
     judge(alloc, words)?;
     let input = read_all(alloc, reader)?;
     let mut text = Vec::new(alloc);
     let outcome = play(alloc, &input, &mut text);
-    if out.write_all(&text).is_err() {
+    let Ok(()) = out.write_all(&text) else {
         return Err(Fault::Write);
-    }
-    match outcome? {
-        Outcome::Fronts => Ok(0),
-        Outcome::BadStep => Ok(1),
+    };
+    let Ok(()) = out.write_all(outcome.last_line()) else {
+        return Err(Fault::Write);
+    };
+    Ok(outcome)
+}
+
+// The status that a script's run ends with.
+fn status_of(outcome: Outcome) -> u8
+    ensures { result ≡ status_of outcome }
+{
+    match outcome {
+        Outcome::Fronts => 0,
+        Outcome::BadStep => 1,
+        Outcome::OutOfMemory => 1,
     }
 }
 
-// Tells a fault, and gives the status that it ends with. A write that fails now changes nothing of it.
-fn report<W: Write, E: Write>(fault: &Fault, out: &mut W, err: &mut E) -> u8 {
-    match fault {
-        Fault::Words(text) => {
-            let _told = err.write_all(text.as_bytes());
-            2
-        }
-        Fault::Read => {
-            let _told = err.write_all(b"read fault\n");
-            1
-        }
-        Fault::Memory => {
-            let _told = out.write_all(b"memory\n");
-            1
-        }
-        Fault::Write => 1,
+// Writes what is left to be said, and gives the status that the run ends with: this one, or 1 where the write fails.
+fn said<W: Write>(sink: &mut Sink<W>, text: &[u8], status: u8) -> u8
+    requires { sink.old.failed ≡ false }
+    ensures written { sink.new.failed ≡ false → Appends (W.contents sink.old.writer) (W.contents sink.new.writer) text.now × (result ≡ status) }
+    ensures failed { sink.new.failed ≡ true → result ≡ 1 }
+{
+    match sink.write_all(text) {
+        Ok(()) => status,
+        Err(_) => 1,
     }
 }

@@ -7,11 +7,11 @@ use std::test::Fail;
 
 // Runs a pair script: the status and what is written.
 fn pair(alloc: Global, script: &str) -> Result<(u8, Vec<u8>, Vec<u8>), Fail> {
-    let mut input = script.as_bytes();
-    let mut out = Vec::new(alloc);
-    let mut err = Vec::new(alloc);
+    let mut out = Sink::new(Vec::new(alloc));
+    let mut err = Sink::new(Vec::new(alloc));
+    let mut input = Source::new(script.as_bytes());
     let status = run(alloc, &["nobj", "pair"], &mut input, &mut out, &mut err);
-    Ok((status, out, err))
+    Ok((status, out.into_inner(), err.into_inner()))
 }
 
 // A script is the part before ` = ` of each line of a run, without its last line.

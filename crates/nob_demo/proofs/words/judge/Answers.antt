@@ -1,0 +1,9 @@
+use Rattle.std.proofs.Common.{inl, inr, ◌∙◌}
+use Rattle.nob_demo.proofs.Faults.{not_taken}
+use Rattle.nob_demo.proofs.words.judge.Goals as goal
+
+pub returns : goal.returns
+returns g c = record {
+  taken = tt;
+  fault = elim c.in-Err.ensures [ inl memory ↦ absurd (c.in_default.not-OutOfMemory (c.kind.ensures ∙ memory)) | inr among ↦ not_taken _ _ among ];
+}

@@ -1,0 +1,95 @@
+//! The program's reader and writers, which keep whether one of their calls failed.
+
+ghost use Rattle.std.specs.Prelude.{◌≡◌, ◌+◌, ◌<◌, ℕ, true, false, IfOk, OnOk, OnErr, List, length, take};
+ghost use Rattle.std.specs.Io.{ReadsAtMost};
+ghost use Rattle.std.specs.Io.KnownBytes.{Appends, Consumes, IsAtEnd};
+ghost use Rattle.nob_demo.specs.Program.{most_reads};
+
+use std::io::{Read, Write};
+
+/// So many reads at most.
+pub const MOST_READS: u32 = 1 << 20;
+
+/// A read failed.
+#[derive(Clone, Copy, Debug, PartialEq, Eq)]
+pub struct ReadFailed;
+
+/// A write failed.
+#[derive(Clone, Copy, Debug, PartialEq, Eq)]
+pub struct WriteFailed;
+
+/// A reader, how often it was read, and whether that failed.
+#[derive(Drop)]
+pub struct Source<R> {
+    reader: R,
+    reads: u32,
+    failed: bool,
+}
+
+impl<R: Read> Source<R> {
+    /// This reader, from which nothing was read.
+    pub fn new(reader: R) -> Source<R>
+        ensures reader { result.reader ≡ reader }
+        ensures new { (result.reads ≡ 0) × (result.failed ≡ false) }
+    {
+        Source {
+            reader,
+            reads: 0,
+            failed: false,
+        }
+    }
+
+    /// Reads some bytes; none only at the end, or where there is no room for one.
+    pub fn read(&mut self, piece: &mut [u8]) -> Result<usize, ReadFailed>
+        requires { self.old.reads < most_reads }
+        ensures bound { ReadsAtMost result piece.new }
+        ensures bytes { IfOk result (λ n. Consumes (R.remaining self.old.reader) (R.remaining self.new.reader) (take n piece.new) × (n ≡ 0 → 0 < length piece.new → IsAtEnd (R.remaining self.new.reader))) }
+        ensures reads { self.new.reads ≡ self.old.reads + 1 }
+        ensures ok { OnOk result (self.new.failed ≡ self.old.failed) }
+        ensures err { OnErr result (self.new.failed ≡ true) }
+    {
+        self.reads += 1;
+        match self.reader.read(piece) {
+            Ok(count) => Ok(count),
+            Err(_) => {
+                self.failed = true;
+                Err(ReadFailed)
+            }
+        }
+    }
+}
+
+/// A writer, and whether a write to it failed.
+#[derive(Drop)]
+pub struct Sink<W> {
+    writer: W,
+    failed: bool,
+}
+
+impl<W: Write> Sink<W> {
+    /// This writer, to which nothing was written.
+    pub fn new(writer: W) -> Sink<W>
+        ensures writer { result.writer ≡ writer }
+        ensures new { result.failed ≡ false }
+    {
+        Sink {
+            writer,
+            failed: false,
+        }
+    }
+
+    /// Writes all these bytes.
+    pub fn write_all(&mut self, bytes: &[u8]) -> Result<(), WriteFailed>
+        ensures ok { OnOk result (self.new.failed ≡ self.old.failed) }
+        ensures bytes { OnOk result (Appends (W.contents self.old.writer) (W.contents self.new.writer) bytes.now) }
+        ensures err { OnErr result (self.new.failed ≡ true) }
+    {
+        match self.writer.write_all(bytes) {
+            Ok(()) => Ok(()),
+            Err(_) => {
+                self.failed = true;
+                Err(WriteFailed)
+            }
+        }
+    }
+}
