@@ -10,18 +10,28 @@ mod tests;
 mod words;
 
 use crate::streams::{Sink, Source};
+use std::alloc::Global;
 use std::process::ExitCode;
 use std::{env, io};
 
-fn main(rt: HostRuntime) -> io::Result<ExitCode> {
+fn main(rt: HostRuntime) -> ExitCode {
     let alloc = rt.alloc();
-    let words: Vec<String> = env::args(&rt)?.collect(alloc)?;
+    let mut out = Sink::new(rt.stdout());
+    let Ok(words) = words_of(&rt, alloc) else {
+        let _told = out.write_all(b"memory\n");
+        return ExitCode::from(1);
+    };
     let status = run::run(
         alloc,
         words.as_slice(),
         &mut Source::new(rt.stdin()),
-        &mut Sink::new(rt.stdout()),
+        &mut out,
         &mut Sink::new(rt.stderr()),
     );
-    Ok(ExitCode::from(status))
+    ExitCode::from(status)
+}
+
+// The words of the command line. Only memory fails it.
+fn words_of(rt: &HostRuntime, alloc: Global) -> io::Result<Vec<String>> {
+    Ok(env::args(rt)?.collect(alloc)?)
 }
