@@ -1,17 +1,25 @@
 //! The program on the worked examples.
 
 use crate::run::run;
+use crate::streams::{Sink, Source};
 use std::alloc::Global;
+use std::io;
+use std::io::Read;
 use std::process::Abort;
 use std::test::Fail;
 
 // Runs a pair script: the status and what is written.
-fn pair(alloc: Global, script: &str) -> Result<(u8, Vec<u8>, Vec<u8>), Fail> {
-    let mut out = Sink::new(Vec::new(alloc));
-    let mut err = Sink::new(Vec::new(alloc));
-    let mut input = Source::new(script.as_bytes());
-    let status = run(alloc, &["nobj", "pair"], &mut input, &mut out, &mut err);
-    Ok((status, out.into_inner(), err.into_inner()))
+fn pair(alloc: Global, script: &[u8]) -> (u8, Vec<u8>, Vec<u8>) {
+    let mut out = Vec::new(alloc);
+    let mut err = Vec::new(alloc);
+    let status = run(
+        alloc,
+        &["nobj", "pair"],
+        &mut Source::new(script),
+        &mut Sink::new(&mut out),
+        &mut Sink::new(&mut err),
+    );
+    (status, out, err)
 }
 
 // A script is the part before ` = ` of each line of a run, without its last line.
@@ -22,7 +30,7 @@ fn check(
     wanted: &str,
     status: u8,
 ) -> Result<(), Fail> {
-    let (found, out, err) = pair(alloc, script)?;
+    let (found, out, err) = pair(alloc, script.as_bytes());
     assert!(rt; out.as_slice() == wanted.as_bytes(), "{script}");
     assert_eq!(rt; found, status);
     assert!(rt; err.is_empty());
@@ -107,7 +115,8 @@ fn bad_lines(rt: HostRuntime) -> Result<(), Fail> {
             "pair window 2 retry 4\ndeliver 18446744073709551615 = X2\ndeliver 0 = X2\nline 4: bad step\n",
         ),
     ] {
-        let (_status, out, err) = pair(rt.alloc(), script)?;
+        let (status, out, err) = pair(rt.alloc(), script.as_bytes());
+        assert_eq!(rt; status == 0, wanted.ends_with("yes\n"));
         assert!(rt; out.as_slice() == wanted.as_bytes(), "{script}");
         assert!(rt; err.is_empty());
     }
@@ -123,11 +132,132 @@ fn wrong_words(rt: HostRuntime) -> Result<(), Fail> {
         ["nobj", "--help"],
         ["nobj", "--version"],
     ] {
-        let mut input = b"".as_slice();
         let mut out = Vec::new(rt.alloc());
         let mut err = Vec::new(rt.alloc());
-        assert_eq!(rt; run(rt.alloc(), &words, &mut input, &mut out, &mut err), 2);
+        let status = run(
+            rt.alloc(),
+            &words,
+            &mut Source::new(b"".as_slice()),
+            &mut Sink::new(&mut out),
+            &mut Sink::new(&mut err),
+        );
+        assert_eq!(rt; status, 2);
         assert!(rt; out.is_empty() && !err.is_empty());
+    }
+    Ok(())
+}
+
+#[test]
+fn no_text_and_long_input(rt: HostRuntime) -> Result<(), Fail> {
+    let alloc = rt.alloc();
+    let header = b"pair window 2 retry 4\n";
+    let mut script = Vec::from_slice(alloc, header)?;
+    script.extend_from_slice(b"1 put \xff\xfe\n")?;
+    let (status, out, _err) = pair(alloc, &script);
+    assert_eq!(rt; status, 1);
+    assert!(rt; out.as_slice() == b"pair window 2 retry 4\nline 2: bad step\n".as_slice());
+    // Items of 16,384 and of 16,385 bytes.
+    for (bytes, wanted) in [
+        (16_384, b" = item 1\nfronts yes\n".as_slice()),
+        (16_385, b"line 2: bad step\n".as_slice()),
+    ] {
+        let mut script = Vec::from_slice(alloc, header)?;
+        script.extend_from_slice(b"1 put ")?;
+        for _ in 0..bytes {
+            script.extend_from_slice(b"a0")?;
+        }
+        let (_status, out, _err) = pair(alloc, &script);
+        assert!(rt; out.ends_with(wanted));
+    }
+    // 10,000 lines.
+    let mut script = Vec::from_slice(alloc, header)?;
+    for _ in 0..10_000 {
+        script.extend_from_slice(b"2 tick\n")?;
+    }
+    let (status, out, _err) = pair(alloc, &script);
+    assert_eq!(rt; status, 0);
+    assert_eq!(rt; out.len(), header.len() + 10_000 * 12 + 11);
+    Ok(())
+}
+
+// The worked example *first frame lost*.
+const FIRST_FRAME_LOST: &[u8] = b"pair window 2 retry 4\n1 put aa\n1 put bb\n1 put cc\n1 send\ndeliver 2\n1 send\ndeliver 3\ndeliver 4\n2 send\ndeliver 5\n1 send\ndeliver 6\n2 get\n2 get\n2 get\n2 get\n";
+
+#[test]
+fn cut_at_any_byte(rt: HostRuntime) -> Result<(), Fail> {
+    for len in 0..FIRST_FRAME_LOST.len() {
+        let (status, out, err) = pair(rt.alloc(), &FIRST_FRAME_LOST[..len]);
+        let is_whole = out.ends_with(b"fronts yes\n");
+        assert!(rt; is_whole || out.ends_with(b": bad step\n"), "{len}");
+        assert_eq!(rt; status == 0, is_whole);
+        assert!(rt; err.is_empty());
+    }
+    Ok(())
+}
+
+// A reader that gives three bytes a read, of which one fails, and a writer whose write of this number fails.
+#[derive(Drop)]
+struct Frail<'a> {
+    rest: &'a [u8],
+    before: u32,
+}
+
+impl<'a> Read for Frail<'a> {
+    fn read(&mut self, piece: &mut [u8]) -> io::Result<usize> {
+        if self.before == 0 {
+            return Err(io::Error::from(io::ErrorKind::Other));
+        }
+        self.before -= 1;
+        let count = piece.len().min(3).min(self.rest.len());
+        piece[..count].copy_from_slice(&self.rest[..count]);
+        self.rest = &self.rest[count..];
+        Ok(count)
+    }
+}
+
+#[test]
+fn each_read_fails(rt: HostRuntime) -> Result<(), Fail> {
+    for before in 0..70 {
+        let mut out = Vec::new(rt.alloc());
+        let mut err = Vec::new(rt.alloc());
+        let frail = Frail {
+            rest: FIRST_FRAME_LOST,
+            before,
+        };
+        let status = run(
+            rt.alloc(),
+            &["nobj"],
+            &mut Source::new(frail),
+            &mut Sink::new(&mut out),
+            &mut Sink::new(&mut err),
+        );
+        let reads = FIRST_FRAME_LOST.len() as u32 / 3 + 2;
+        if before >= reads {
+            assert_eq!(rt; status, 0);
+            assert!(rt; out.ends_with(b"fronts yes\n") && err.is_empty());
+        } else {
+            assert_eq!(rt; status, 1);
+            assert!(rt; out.is_empty() && err.as_slice() == b"read fault\n".as_slice());
+        }
+    }
+    Ok(())
+}
+
+#[test]
+fn a_write_fails(rt: HostRuntime) -> Result<(), Fail> {
+    // A slice takes as many bytes as it has, and then no more.
+    for len in [0, 1, 100, 300] {
+        let mut room = [0u8; 300];
+        let mut err = Vec::new(rt.alloc());
+        let status = run(
+            rt.alloc(),
+            &["nobj", "pair"],
+            &mut Source::new(FIRST_FRAME_LOST),
+            &mut Sink::new(&mut room[..len]),
+            &mut Sink::new(&mut err),
+        );
+        assert_eq!(rt; status, 1);
+        assert!(rt; err.is_empty());
     }
     Ok(())
 }
