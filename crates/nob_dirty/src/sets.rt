@@ -25,8 +25,8 @@ impl Listing {
     }
 }
 
-/// The dirty sets of a space: a set of pairs of an index and a client. Contracts see which client is listed at
-/// which index, and no order.
+/// The dirty sets of a space: a set of pairs of an index and a client, each kept once. Contracts see which client is
+/// listed at which index, and no order.
 #[derive(Debug, Drop)]
 pub struct DirtySets {
     listings: Vec<Listing>,
@@ -35,10 +35,13 @@ pub struct DirtySets {
 impl Model for DirtySets {
     ghost use Rattle.std.specs.Prelude.{List};
     ghost use Rattle.nob_dirty.specs.declared.sets.Listing.{Listing};
+    ghost use Rattle.nob_dirty.specs.Sets.{IsOnce};
 
     ghost Value = { List Listing };
 
     ghost view = { λ sets. sets.listings.items };
+
+    ghost invariant = { λ sets. IsOnce sets.listings.items };
 }
 
 impl DirtySets {
@@ -76,7 +79,6 @@ impl DirtySets {
         let alloc = *self.listings.allocator();
         let mut found = clients_at(alloc, &self.listings, index)?;
         found.sort_unstable();
-        found.dedup();
         Ok(found)
     }
 

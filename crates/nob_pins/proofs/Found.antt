@@ -1,14 +1,15 @@
--- What a search finds, and the count of a bundle's references.
-use Rattle.std.proofs.Common.{◌≡◌, ℕ, ◌+◌, ◌<◌, Bool, true, false, List, [], ◌∷◌, length, suc, filter, cond, Option, Some, None, MatchOption, position, ◌||◌, nat_lt, ◌++◌, is_ok, OnOk, Result, Ok, Err, if◌then◌else◌, subst, slice_index_or, not, arith, refl, sym, ap, ◌∙◌}
+-- What a search finds, the count of a bundle's references, and its pins.
+use Rattle.std.proofs.Common.{◌≡◌, ℕ, ◌+◌, ◌<◌, Bool, true, false, List, [], ◌∷◌, length, suc, filter, cond, Option, Some, None, MatchOption, position, map, ◌||◌, nat_lt, ◌++◌, is_ok, OnOk, Result, Ok, Err, if◌then◌else◌, subst, slice_index_or, not, arith, refl, sym, ap, ◌∙◌}
 use Rattle.std.proofs.lemmas.List.Quantifiers.{position-Some}
 use Rattle.std.proofs.lemmas.Bool.Decides.{Decides-eqb, Decides-and, nat_tests}
 use Rattle.std.proofs.lemmas.List.Sorted.{IsPermutation-sym, IsPermutation-to_front, IsPermutation-remove}
 use Rattle.std.specs.List.Sorted.{IsPermutation}
 use Rattle.std.specs.List.{HoldsAt, list_any, position_or_len, remove}
+use Rattle.std.proofs.lemmas.List.Elements.{All-head, All-tail}
 use Rattle.nob_ids.specs.declared.wire_rep.WireRep.{WireRep}
-use Rattle.nob_pins.specs.declared.pin.TransitPin.{TransitPin}
-use Rattle.nob_pins.specs.Evidence.{reps_of}
-use Rattle.nob_pins.specs.Bundles.{Pinned, is_of, bundle_of, Adds, TakesOut, is_same, times}
+use Rattle.nob_pins.specs.Evidence.{Pin, pin_of, AreOf, IsPinOf, reps_of}
+use Rattle.nob_pins.specs.Bundles.{Pinned, is_of, IsOnce, bundle_of, Adds, TakesOut, is_same, times}
+use Rattle.nob_pins.proofs.Once.{none_left}
 
 module _ {X : Type 0} (p : X → Bool) where
   lt_any : (xs : List X) → nat_lt (position_or_len p xs) (length xs) ≡ list_any p xs
@@ -31,13 +32,22 @@ module _ {X : Type 0} (p : X → Bool) where
   found_at xs None is = none_found xs (sym is)
   found_at xs (Some i) is = some_found xs i (sym is)
 
-pub times_pins : (rep : WireRep) (pins : List TransitPin) → length (filter (λ (pin : TransitPin). is_same pin.rep rep) pins) ≡ times rep (reps_of pins)
+pub times_pins : (rep : WireRep) (pins : List Pin) → length (filter (λ (pin : Pin). is_same pin.rep rep) pins) ≡ times rep (reps_of pins)
 times_pins rep [] = refl
 times_pins rep (pin ∷ pins) =
-    elim (is_same pin.rep rep) as (λ b. length (cond b (pin ∷ filter (λ (x : TransitPin). is_same x.rep rep) pins) (filter (λ (x : TransitPin). is_same x.rep rep) pins)) ≡ length (cond b (pin.rep ∷ filter (λ other. is_same other rep) (reps_of pins)) (filter (λ other. is_same other rep) (reps_of pins)))) [
+    elim (is_same pin.rep rep) as (λ b. length (cond b (pin ∷ filter (λ (x : Pin). is_same x.rep rep) pins) (filter (λ (x : Pin). is_same x.rep rep) pins)) ≡ length (cond b (pin.rep ∷ filter (λ other. is_same other rep) (reps_of pins)) (filter (λ other. is_same other rep) (reps_of pins)))) [
       | true ↦ ap (λ n. suc n) (times_pins rep pins)
       | false ↦ times_pins rep pins
     ]
+
+-- pins of a peer and item are those of their references
+pub pins_again : (peer item : ℕ) (pins : List Pin) → AreOf peer item pins → map (pin_of peer item) (reps_of pins) ≡ pins
+pins_again peer item [] all = refl
+pins_again peer item (pin ∷ pins) all =
+    let here : IsPinOf peer item pin = All-head (IsPinOf peer item) pin pins all in
+    let one : pin_of peer item pin.rep ≡ pin = λ i. record { rep = pin.rep; peer = sym here.0 i; item = sym here.1 i } in
+    let rest = pins_again peer item pins (All-tail (IsPinOf peer item) pin pins all) in
+    λ i. one i ∷ rest i
 
 -- one bundle more at the end
 pub added : {E : Type 0} (old new : List Pinned) (bundle : Pinned) (r : Result (Unit {0}) E) → new ≡ (if is_ok r then old ++ bundle ∷ [] else old) → OnOk r (Adds old new bundle)
@@ -51,8 +61,9 @@ of_them peer item bundle is =
     (sym parts.0, sym parts.1)
 
 -- the bundle that stood at a place is taken out
-pub taken : (peer item : ℕ) (bundles : List Pinned) (place : ℕ) (bundle : Pinned) → place < length bundles → bundle ≡ slice_index_or bundles place bundle → is_of peer item bundle ≡ true → TakesOut bundles (remove bundles place) peer item
-taken peer item bundles place bundle low at is =
+pub taken : (peer item : ℕ) (bundles : List Pinned) (place : ℕ) (bundle : Pinned) → IsOnce bundles → place < length bundles → bundle ≡ slice_index_or bundles place bundle → is_of peer item bundle ≡ true → TakesOut bundles (remove bundles place) peer item
+taken peer item bundles place bundle once low at is =
     let parts = of_them peer item bundle is in
+    let left : IsPermutation (bundle ∷ remove bundles place) bundles = IsPermutation-sym _ _ (IsPermutation-remove bundles place bundle low at) in
     let same : bundle ≡ bundle_of peer item bundle.reps = λ i. record { peer = sym parts.0 i; item = sym parts.1 i; reps = bundle.reps } in
-    (bundle.reps, subst (λ (b : Pinned). IsPermutation (b ∷ remove bundles place) bundles) same (IsPermutation-sym _ _ (IsPermutation-remove bundles place bundle low at)))
+    ((bundle.reps, subst (λ (b : Pinned). IsPermutation (b ∷ remove bundles place) bundles) same left), none_left peer item bundles (remove bundles place) bundle left once is)

@@ -1,2 +1,4 @@
+pub mod Once
 pub mod Found
 pub mod Kept
+pub mod Life

@@ -1,8 +1,9 @@
 -- Bundles as plain data: what is in transit to which peer in which item. No word tells their order.
-use Rattle.std.specs.Prelude.{ℕ, ◌==◌, ◌&&◌, Bool, not, nat_lt, List, ◌∷◌, filter, length}
-use Rattle.std.specs.List.{list_any, sum_by}
+use Rattle.std.specs.Prelude.{ℕ, ◌≡◌, ◌≤◌, ◌==◌, ◌&&◌, Bool, true, false, not, nat_lt, List, ◌∷◌, filter, length, map}
+use Rattle.std.specs.List.{list_any, sum_by, count_by}
 use Rattle.std.specs.List.Sorted.{IsPermutation}
 use Rattle.nob_ids.specs.declared.wire_rep.WireRep.{WireRep}
+use Rattle.nob_pins.specs.Evidence.{Pin, pin_of}
 
 -- these references are in transit to a peer in an item
 pub record Pinned : Type 0 where
@@ -15,9 +16,17 @@ pub record Table : Type 0 where
   pub bundles : List Pinned
   pub room : ℕ
 
--- whether a bundle of these references to this peer takes no memory: the room is any peer's and any references'
-abbrev pub has_room : Table → ℕ → List WireRep → Bool
+-- whether a bundle of these references to this peer takes no memory. Which room that is, callers don't see: in this form it is any peer's and any references'
+unfoldable pub has_room : Table → ℕ → List WireRep → Bool
 has_room table peer reps = nat_lt 0 table.room
+
+-- what had room in old has room in new
+abbrev pub KeepsRoom : Table → Table → Type 0
+KeepsRoom old new = (peer : ℕ) (reps : List WireRep) → has_room old peer reps ≡ true → has_room new peer reps ≡ true
+
+-- new has the bundles of old, and its room
+abbrev pub Unchanged : Table → Table → Type 0
+Unchanged old new = (new.bundles ≡ old.bundles) × KeepsRoom old new
 
 -- whether the bundle is of this peer and item
 abbrev pub is_of : ℕ → ℕ → Pinned → Bool
@@ -27,17 +36,25 @@ is_of peer item bundle = bundle.peer == peer && bundle.item == item
 abbrev pub has_bundle : List Pinned → ℕ → ℕ → Bool
 has_bundle bundles peer item = list_any (is_of peer item) bundles
 
+-- there is at most one bundle of each peer and item
+abbrev pub IsOnce : List Pinned → Type 0
+IsOnce bundles = (peer item : ℕ) → count_by (is_of peer item) bundles ≤ 1
+
 -- the bundle of these references
 abbrev pub bundle_of : ℕ → ℕ → List WireRep → Pinned
 bundle_of peer item reps = record { peer = peer; item = item; reps = reps }
+
+-- the pins of a bundle, a pin for each of its references, in their order
+abbrev pub pins_of : Pinned → List Pin
+pins_of bundle = map (pin_of bundle.peer bundle.item) bundle.reps
 
 -- new has this bundle, and those of old
 abbrev pub Adds : List Pinned → List Pinned → Pinned → Type 0
 Adds old new bundle = IsPermutation (bundle ∷ old) new
 
--- new has the bundles of old but one of this peer and item
+-- new has the bundles of old but one of this peer and item, and none of this peer and item is left
 abbrev pub TakesOut : List Pinned → List Pinned → ℕ → ℕ → Type 0
-TakesOut old new peer item = (reps : List WireRep) × Adds new old (bundle_of peer item reps)
+TakesOut old new peer item = ((reps : List WireRep) × Adds new old (bundle_of peer item reps)) × (has_bundle new peer item ≡ false)
 
 -- the bundles of other peers
 abbrev pub of_others : ℕ → List Pinned → List Pinned

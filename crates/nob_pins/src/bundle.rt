@@ -2,7 +2,7 @@
 
 ghost use Rattle.std.specs.Prelude.{◌≡◌, ◌&&◌, length, filter};
 ghost use Rattle.nob_pins.specs.Evidence.{AreOf, reps_of};
-ghost use Rattle.nob_pins.specs.Bundles.{is_of, is_same, times, bundle_of};
+ghost use Rattle.nob_pins.specs.Bundles.{is_of, is_same, times, bundle_of, pins_of};
 
 use crate::evidence::Settled;
 use crate::pin::TransitPin;
@@ -32,15 +32,15 @@ impl Bundle {
     // The bundle of these pins.
     pub(crate) fn new(peer: SpaceId, item: ItemNo, pins: Vec<TransitPin>) -> Bundle
         requires { AreOf peer item pins.items }
-        ensures { result ≡ bundle_of peer item (reps_of pins.items) }
+        ensures bundle { result ≡ bundle_of peer item (reps_of pins.items) }
+        ensures pins { pins_of result ≡ pins.items }
     {
         Bundle { peer, item, pins }
     }
 
     // The pins, where they can't be kept.
     pub(crate) fn into_pins(self) -> Vec<TransitPin>
-        ensures reps { reps_of result.items ≡ self.reps }
-        ensures pins { AreOf self.peer self.item result.items }
+        ensures { result.items ≡ pins_of self }
     {
         let Bundle {
             peer: _,

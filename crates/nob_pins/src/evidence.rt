@@ -5,13 +5,22 @@ ghost use Rattle.nob_pins.specs.Evidence.{settled_by};
 
 use nob_ids::{ItemNo, SpaceId};
 use nob_item::Item;
+use std::marker::Model;
 
 /// Evidence that a peer has dealt with the references that came with an item. Only a Settle makes one: it can be
-/// neither made nor copied elsewhere.
+/// neither made nor copied elsewhere. Contracts see the peer and the item.
 #[derive(Debug, Drop)]
 pub struct Settled {
     peer: SpaceId,
     item: ItemNo,
+}
+
+impl Model for Settled {
+    ghost use Rattle.nob_pins.specs.Evidence.{Settlement};
+
+    ghost Value = { Settlement };
+
+    ghost view = { λ settled. record { peer = settled.peer; item = settled.item } };
 }
 
 impl Settled {

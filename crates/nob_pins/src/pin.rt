@@ -1,25 +1,33 @@
 //! Pins.
 
 ghost use Rattle.std.specs.Prelude.{◌≡◌};
+ghost use Rattle.nob_pins.specs.Evidence.{pin_of};
 
 use crate::evidence::Settled;
 use nob_ids::{ItemNo, SpaceId, WireRep};
 use nob_session::Closed;
+use std::marker::Model;
 
 /// That a reference is in transit to a peer in an item. A pin can't be let go, copied or taken apart: it ends by
-/// `spend` or `give_up`.
+/// `spend` or `give_up`. Contracts see the reference, the peer and the item.
 pub struct TransitPin {
     rep: WireRep,
     to: SpaceId,
     item: ItemNo,
 }
 
+impl Model for TransitPin {
+    ghost use Rattle.nob_pins.specs.Evidence.{Pin};
+
+    ghost Value = { Pin };
+
+    ghost view = { λ pin. record { rep = pin.rep; peer = pin.to; item = pin.item } };
+}
+
 impl TransitPin {
     /// Pins a reference that goes to a space in an item.
     pub fn new(rep: WireRep, to: SpaceId, item: ItemNo) -> TransitPin
-        ensures rep { result.rep ≡ rep }
-        ensures to { result.to ≡ to }
-        ensures item { result.item ≡ item }
+        ensures { result ≡ pin_of to item rep }
     {
         TransitPin { rep, to, item }
     }
@@ -33,7 +41,7 @@ impl TransitPin {
 
     /// The space that it goes to.
     pub fn to(&self) -> SpaceId
-        ensures { result ≡ self.now.to }
+        ensures { result ≡ self.now.peer }
     {
         self.to
     }
@@ -47,7 +55,7 @@ impl TransitPin {
 
     /// Ends the pin: its peer has dealt with its item.
     pub fn spend(self, settled: &Settled)
-        requires peer { settled.now.peer ≡ self.to }
+        requires peer { settled.now.peer ≡ self.peer }
         requires item { settled.now.item ≡ self.item }
     {
         prove!(settled.peer() == self.to && settled.item() == self.item);
@@ -60,7 +68,7 @@ impl TransitPin {
 
     /// Ends the pin: the session with its peer has closed.
     pub fn give_up(self, closed: &Closed)
-        requires { closed.now.peer ≡ self.to }
+        requires { closed.now.peer ≡ self.peer }
     {
         prove!(closed.peer() == self.to);
         let TransitPin {

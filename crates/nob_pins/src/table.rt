@@ -4,7 +4,7 @@ ghost use Rattle.std.specs.Prelude.{◌≡◌, ◌≢◌, ◌<◌, ◌-◌, ◌^
 ghost use Rattle.std.specs.List.{HoldsAt, list_any, sum_by};
 ghost use Rattle.std.specs.Vec.{vec_capacity};
 ghost use Rattle.nob_pins.specs.Evidence.{AreOf, reps_of};
-ghost use Rattle.nob_pins.specs.Bundles.{has_room, is_of, has_bundle, bundle_of, Adds, TakesOut, TakesOutAll, of_others, times, count_of};
+ghost use Rattle.nob_pins.specs.Bundles.{has_room, KeepsRoom, Unchanged, is_of, has_bundle, IsOnce, bundle_of, Adds, TakesOut, TakesOutAll, of_others, times, count_of};
 
 use crate::bundle::Bundle;
 use crate::evidence::Settled;
@@ -15,8 +15,8 @@ use nob_session::Closed;
 use std::alloc::{AllocError, AllocFailed, Global};
 use std::marker::Model;
 
-/// The pins of a space, a bundle for each peer and item. Contracts see the bundles, in no order, and for which
-/// peer and references there is room. It can't be let go while it has any.
+/// The pins of a space, at most one bundle for each peer and item. Contracts see the bundles, in no order, and for
+/// which peer and references there is room, but not why. It can't be let go while it has any.
 pub struct PinTable {
     bundles: Vec<Bundle>,
 }
@@ -24,11 +24,13 @@ pub struct PinTable {
 impl Model for PinTable {
     ghost use Rattle.std.specs.Prelude.{◌-◌, vec_len};
     ghost use Rattle.std.specs.Vec.{vec_capacity};
-    ghost use Rattle.nob_pins.specs.Bundles.{Table};
+    ghost use Rattle.nob_pins.specs.Bundles.{Table, IsOnce};
 
     ghost Value = { Table };
 
     ghost view = { λ t. record { bundles = t.bundles.items; room = vec_capacity t.bundles - vec_len t.bundles } };
+
+    ghost invariant = { λ t. IsOnce t.bundles.items };
 }
 
 impl PinTable {
@@ -42,16 +44,19 @@ impl PinTable {
     }
 
     /// Makes room for one bundle: a `put` to this peer of pins on these references, right after it, takes no memory
-    /// and succeeds. Only memory fails it.
+    /// and succeeds. Only memory fails it. What had room before has it still, whatever the answer.
+    #[tactic(auto, unfolding(crate::specs::Bundles::has_room))]
     pub fn reserve(&mut self, peer: SpaceId, reps: &[WireRep]) -> Result<(), AllocError>
         ensures bundles { self.new.bundles ≡ self.old.bundles }
         ensures room { OnOk result (has_room self.new peer reps.now ≡ true) }
+        ensures kept { KeepsRoom self.old self.new }
     {
         self.bundles.reserve(1)
     }
 
     /// Takes a bundle of pins, all of this peer and item, of which the table has none yet. Only memory fails it, and
     /// not where there is room: the pins come back then.
+    #[tactic(auto, unfolding(crate::specs::Bundles::has_room))]
     pub fn put(
         &mut self,
         peer: SpaceId,
@@ -63,8 +68,8 @@ impl PinTable {
         requires new { has_bundle self.old.bundles peer item ≡ false }
         ensures adds { OnOk result (Adds self.old.bundles self.new.bundles (bundle_of peer item (reps_of pins.items))) }
         ensures reserved { has_room self.old peer (reps_of pins.items) ≡ true → IsOk result }
-        ensures err { OnErr result (self.new.bundles ≡ self.old.bundles) }
-        ensures returned { IfErr result (λ failed. (reps_of failed.value.items ≡ reps_of pins.items) × AreOf peer item failed.value.items) }
+        ensures err { OnErr result (Unchanged self.old self.new) }
+        ensures returned { IfErr result (λ failed. failed.value.items ≡ pins.items) }
     {
         match add(&mut self.bundles, Bundle::new(peer, item, pins)) {
             Ok(()) => Ok(()),
@@ -74,10 +79,10 @@ impl PinTable {
         }
     }
 
-    /// Ends the bundle of a peer and item that are settled. G1 where there is none. It takes no memory. Linear in the
-    /// bundles.
+    /// Ends the one bundle of a peer and item that are settled: the others stay, and none of the two is left. G1 where
+    /// there is none. It takes no memory. Linear in the bundles.
     pub fn settle(&mut self, settled: &Settled) -> Result<(), PinFault>
-        ensures answer { MatchResult result (λ _. TakesOut self.old.bundles self.new.bundles settled.now.peer settled.now.item) (λ fault. (fault ≡ PinFault.NoBundle) × (has_bundle self.old.bundles settled.now.peer settled.now.item ≡ false) × (self.new.bundles ≡ self.old.bundles)) }
+        ensures answer { MatchResult result (λ _. TakesOut self.old.bundles self.new.bundles settled.now.peer settled.now.item) (λ fault. (fault ≡ PinFault.NoBundle) × (has_bundle self.old.bundles settled.now.peer settled.now.item ≡ false) × Unchanged self.old self.new) }
     {
         let Some(place) = find(&self.bundles, settled.peer(), settled.item()) else {
             return Err(PinFault::NoBundle);
@@ -116,7 +121,9 @@ fn add(bundles: &mut Vec<Bundle>, bundle: Bundle) -> Result<(), AllocFailed<Bund
     ensures adds { OnOk result (Adds bundles.old.items bundles.new.items bundle) }
     ensures reserved { 0 < vec_capacity bundles.old - vec_len bundles.old → IsOk result }
     ensures err { OnErr result (bundles.new.items ≡ bundles.old.items) }
+    ensures full { OnErr result (vec_capacity bundles.old - vec_len bundles.old ≡ 0) }
     ensures returned { IfErr result (λ failed. failed.value ≡ bundle) }
+    ensures once { IsOnce bundles.old.items → has_bundle bundles.old.items bundle.peer bundle.item ≡ false → IsOnce bundles.new.items }
 {
     bundles.push(bundle)
 }
