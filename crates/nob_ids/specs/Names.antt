@@ -21,3 +21,7 @@ is_space space = nat_le 1 space && nat_le space most_spaces
 -- a reference is counted if its index isn't 0, that of its owner's agent
 abbrev pub is_counted : WireRep → Bool
 is_counted rep = not (rep.index == 0)
+
+-- whether two references are one: the same owner and the same index
+abbrev pub is_same : WireRep → WireRep → Bool
+is_same rep other = rep.owner == other.owner && rep.index == other.index

@@ -8,7 +8,8 @@ use Rattle.std.specs.List.{HoldsAt, list_any, position_or_len, remove}
 use Rattle.std.proofs.lemmas.List.Elements.{All-head, All-tail}
 use Rattle.nob_ids.specs.declared.wire_rep.WireRep.{WireRep}
 use Rattle.nob_pins.specs.Evidence.{Pin, pin_of, AreOf, IsPinOf, reps_of}
-use Rattle.nob_pins.specs.Bundles.{Pinned, is_of, IsOnce, bundle_of, Adds, TakesOut, is_same, times}
+use Rattle.nob_ids.specs.Names.{is_same}
+use Rattle.nob_pins.specs.Bundles.{Pinned, is_of, IsOnce, bundle_of, Adds, TakesOut, times}
 use Rattle.nob_pins.proofs.Once.{none_left}
 
 module _ {X : Type 0} (p : X → Bool) where

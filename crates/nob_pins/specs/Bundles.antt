@@ -2,6 +2,7 @@
 use Rattle.std.specs.Prelude.{ℕ, ◌≡◌, ◌≤◌, ◌==◌, ◌&&◌, Bool, true, false, not, nat_lt, List, ◌∷◌, filter, length, map}
 use Rattle.std.specs.List.{list_any, sum_by, count_by}
 use Rattle.std.specs.List.Sorted.{IsPermutation}
+use Rattle.nob_ids.specs.Names.{is_same}
 use Rattle.nob_ids.specs.declared.wire_rep.WireRep.{WireRep}
 use Rattle.nob_pins.specs.Evidence.{Pin, pin_of}
 
@@ -63,10 +64,6 @@ of_others peer bundles = filter (λ bundle. not (bundle.peer == peer)) bundles
 -- new has the bundles of old but those of this peer
 abbrev pub TakesOutAll : List Pinned → List Pinned → ℕ → Type 0
 TakesOutAll old new peer = IsPermutation (of_others peer old) new
-
--- whether two references are one
-abbrev pub is_same : WireRep → WireRep → Bool
-is_same rep other = rep.owner == other.owner && rep.index == other.index
 
 -- how often the reference stands among these
 abbrev pub times : WireRep → List WireRep → ℕ

@@ -1,2 +1,3 @@
+pub use Rattle.nob_ids.specs.Names
 pub mod Evidence
 pub mod Bundles

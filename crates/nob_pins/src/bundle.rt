@@ -2,7 +2,8 @@
 
 ghost use Rattle.std.specs.Prelude.{◌≡◌, ◌&&◌, length, filter};
 ghost use Rattle.nob_pins.specs.Evidence.{AreOf, reps_of};
-ghost use Rattle.nob_pins.specs.Bundles.{is_of, is_same, times, bundle_of, pins_of};
+ghost use Rattle.nob_ids.specs.Names.{is_same};
+ghost use Rattle.nob_pins.specs.Bundles.{is_of, times, bundle_of, pins_of};
 
 use crate::evidence::Settled;
 use crate::pin::TransitPin;
