@@ -1,5 +1,5 @@
 -- What a call answers, and the tests of numbers.
-use Rattle.std.specs.Prelude.{◌≡◌, ℕ, ◌^◌, ◌&&◌, Bool, nat_le, Result, Ok, Err}
+use Rattle.std.specs.Prelude.{◌≡◌, ℕ, ◌^◌, ◌&&◌, Bool, true, false, IsTrue, nat_le, Result, Ok, Err}
 use Rattle.nob_pickle.specs.declared.fault.PickleFault.{PickleFault}
 use Rattle.nob_pickle.specs.declared.fault.PickleError.{PickleError}
 use Rattle.nob_pickle.specs.declared.fault.PickleError.TheVariants as pickle_errors
@@ -14,12 +14,26 @@ abbrev pub ◌>>=◌ : {A B : Type 0} → Result A ItemFault → (A → Result B
 (Ok x) >>= f = f x
 (Err e) >>= f = Err e
 
--- this error is the one that was to come, unless memory ran out
+-- whether a fault is the value's: all others are judged without memory
+abbrev pub is_of_value : ItemFault → Bool
+is_of_value faults.Short = false
+is_of_value faults.Tag = false
+is_of_value (faults.Value fault) = true
+is_of_value faults.Number = false
+is_of_value faults.Status = false
+is_of_value faults.Trailing = false
+
+-- memory may run out where there is no fault, or where it is the value's: any other fault comes first
+abbrev pub MayRunOut : {Y : Type 0} → Result Y ItemFault → Type 0
+MayRunOut (Ok y) = Unit {0}
+MayRunOut (Err fault) = IsTrue (is_of_value fault)
+
+-- this error is the one that was to come, or memory ran out where it may
 abbrev pub Fails : {Y : Type 0} → ItemError → Result Y ItemFault → Type 0
-Fails errors.OutOfMemory wanted = Unit {0}
+Fails errors.OutOfMemory wanted = MayRunOut wanted
 Fails (errors.Fault fault) wanted = wanted ≡ Err fault
 
--- what was answered, seen by view, is what was to come, unless memory ran out
+-- what was answered, seen by view, is what was to come, or memory ran out where it may
 abbrev pub Gives : {X Y : Type 0} → (X → Y) → Result X ItemError → Result Y ItemFault → Type 0
 Gives view (Ok x) wanted = wanted ≡ Ok (view x)
 Gives view (Err e) wanted = Fails e wanted

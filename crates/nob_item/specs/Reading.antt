@@ -1,5 +1,5 @@
 -- Reading an item from its bytes, with the first fault that is met.
-use Rattle.std.specs.Prelude.{ℕ, ◌==◌, List, [], ◌∷◌, length, drop, nat_lt, Result, Ok, Err, if◌then◌else◌}
+use Rattle.std.specs.Prelude.{ℕ, ◌==◌, ◌||◌, Bool, false, List, [], ◌∷◌, length, drop, nat_lt, Result, Ok, Err, if◌then◌else◌}
 use Rattle.byteorder.specs.Endian.{big_number}
 use Rattle.nob_pickle.specs.Reading.{value_read}
 use Rattle.nob_item.specs.Judging.{◌>>=◌, of_value, is_call_number, is_item_number, is_status}
@@ -83,6 +83,15 @@ note_by first bs =
 -- an item by its first byte
 unfoldable pub item_by : ℕ → List ℕ → Result Item ItemFault
 item_by first bs = if first == 1 then call_at bs else if first == 2 then reply_at bs else note_by first bs
+
+-- whether an item with this first byte carries a value: a Call or a Reply
+abbrev pub is_valued : ℕ → Bool
+is_valued first = first == 1 || first == 2
+
+-- whether bytes begin as an item with a value does: no other wants memory
+abbrev pub wants_memory : List ℕ → Bool
+wants_memory [] = false
+wants_memory (first ∷ bs) = is_valued first
 
 -- the item that all of the bytes spell
 abbrev pub item_read : List ℕ → Result Item ItemFault

@@ -1,13 +1,14 @@
 //! From bytes to items.
 
-ghost use Rattle.std.specs.Prelude.{◌≡◌, ◌∷◌, IfOk, Ok};
+ghost use Rattle.std.specs.Prelude.{◌≡◌, ◌∷◌, IsTrue, IfOk, IfErr, Ok};
 ghost use Rattle.nob_pickle.specs.Limits.{Spelt as PickleSpelt};
 ghost use Rattle.nob_pickle.specs.Reading.{value_read};
 ghost use Rattle.nob_pickle.specs.declared.value.Value.{Value as ValueOf};
 ghost use Rattle.nob_item.specs.declared.item.Item.{Item as ItemOf};
+ghost use Rattle.nob_item.specs.declared.fault.ItemError.TheVariants.{OutOfMemory};
 ghost use Rattle.nob_item.specs.Spelling.{Spelt};
 ghost use Rattle.nob_item.specs.Judging.{Gives, Sees, of_value};
-ghost use Rattle.nob_item.specs.Reading.{number_at, call_number_at, item_number_at, status_at, call_front, call_at, reply_front, reply_at, settle_at, index_at, note_by, item_by, item_read};
+ghost use Rattle.nob_item.specs.Reading.{number_at, call_number_at, item_number_at, status_at, call_front, call_at, reply_front, reply_at, settle_at, index_at, note_by, item_by, is_valued, wants_memory, item_read};
 
 use crate::fault::{ItemError, ItemFault};
 use crate::item::Item;
@@ -37,14 +38,17 @@ struct ReplyFront<'a> {
 /// The item that all of the bytes spell: Ok exactly where they do. Else the first fault, from the front: I1
 /// for a missing byte before the value or in a note, I2 for a first byte that no item has, I4 for a number
 /// and I5 for a status out of range, as soon as it is read; then I3 for what the value is refused for, or I6
-/// for a byte after a note. It takes time linear in the bytes.
+/// for a byte after a note. Only a Call and a Reply take memory, for their value: I1, I2, I4, I5 and I6 are
+/// answered before want of it. It takes time linear in the bytes.
 pub fn decode(alloc: Global, bytes: &[u8]) -> Result<Item, ItemError>
     // What is read is spelled so.
     ensures found { IfOk result (λ item. Spelt bytes.now item) }
     // What is spelled so is read, unless memory runs out.
     ensures only { (item : ItemOf) → Spelt bytes.now item → Gives (λ x. x) result (Ok item) }
-    // Which fault it is.
+    // Which fault it is. A fault that isn't the value's comes before want of memory.
     ensures exact { Gives (λ x. x) result (item_read bytes.now) }
+    // Memory can run out for Calls and Replies alone.
+    ensures memory { IfErr result (λ e. e ≡ OutOfMemory → IsTrue (wants_memory bytes.now)) }
 {
     let [first, bytes @ ..] = bytes else {
         return Err(ItemError::Fault(ItemFault::Short));
@@ -58,6 +62,7 @@ fn item_of(alloc: Global, first: u8, bytes: &[u8]) -> Result<Item, ItemError>
     ensures found { IfOk result (λ item. Spelt (first ∷ bytes.now) item) }
     ensures only { (item : ItemOf) → Spelt (first ∷ bytes.now) item → Gives (λ x. x) result (Ok item) }
     ensures exact { Gives (λ x. x) result (item_by first bytes.now) }
+    ensures memory { IfErr result (λ e. e ≡ OutOfMemory → IsTrue (is_valued first)) }
 {
     match first {
         1 => call_of(alloc, bytes),

@@ -200,18 +200,24 @@ fn counted_references(rt: HostRuntime) -> Result<(), Fail> {
     Ok(())
 }
 
+/// Each fault's text begins with its own refusal, and that of a value goes on with the pickle's.
 #[test]
 fn printed_faults(rt: HostRuntime) -> Result<(), Fail> {
     let alloc = rt.alloc();
     for (fault, wanted) in [
-        (ItemFault::Trailing, "I6: bytes after the note"),
-        (
-            ItemFault::Value(PickleFault::Short),
-            "I3: P1: the input ends inside a value",
-        ),
+        (ItemFault::Short, "I1: "),
+        (ItemFault::Tag, "I2: "),
+        (ItemFault::Value(PickleFault::Short), "I3: P1: "),
+        (ItemFault::Value(PickleFault::TooBig), "I3: P8: "),
+        (ItemFault::Number, "I4: "),
+        (ItemFault::Status, "I5: "),
+        (ItemFault::Trailing, "I6: "),
     ] {
         let error = ItemError::Fault(fault);
-        assert_eq!(rt; format!(in alloc; "{error}")?.as_str(), wanted);
+        let text = format!(in alloc; "{error}")?;
+        assert!(rt; text.as_str().starts_with(wanted), "{wanted}{text}");
     }
+    let memory = ItemError::OutOfMemory;
+    assert_eq!(rt; format!(in alloc; "{memory}")?.as_str(), "out of memory");
     Ok(())
 }

@@ -17,7 +17,8 @@ use nob_pickle::Value;
 use std::alloc::{AllocError, Global};
 
 /// The one spelling of the item, or the first of I4, I5 and I3 that it is refused for: at most 16,384 bytes, as
-/// a Data frame carries. It takes time linear in the value, which may be as deep and long as memory allows.
+/// a Data frame carries. I4 and I5 are answered before want of memory. It takes time linear in the value, which
+/// may be as deep and long as memory allows.
 pub fn encode(alloc: Global, item: &Item) -> Result<Vec<u8>, ItemError>
     // What is written is the item's spelling.
     ensures found { IfOk result (λ bytes. Spelt bytes.items item.now) }
@@ -25,7 +26,7 @@ pub fn encode(alloc: Global, item: &Item) -> Result<Vec<u8>, ItemError>
     ensures short { IfOk result (λ bytes. length bytes.items ≤ 16384) }
     // What has a spelling is written, unless memory runs out.
     ensures only { Fits item.now → Gives (λ bytes. bytes.items) result (Ok (spelling item.now)) }
-    // Which fault it is.
+    // Which fault it is. A fault that isn't the value's comes before want of memory.
     ensures exact { Gives (λ bytes. bytes.items) result (bytes_of item.now) }
 {
     match item {

@@ -1,5 +1,5 @@
 -- Reading from the front, with the first fault that is met.
-use Rattle.std.specs.Prelude.{ℕ, zero, suc, ◌-◌, ◌==◌, List, [], ◌∷◌, length, take, drop, nat_lt, Result, Ok, Err, if◌then◌else◌, not}
+use Rattle.std.specs.Prelude.{ℕ, zero, suc, ◌-◌, ◌==◌, ◌||◌, Bool, false, List, [], ◌∷◌, length, take, drop, nat_lt, Result, Ok, Err, if◌then◌else◌, not}
 use Rattle.std.specs.Int.{w64, cast_signed}
 use Rattle.byteorder.specs.Endian.{big_number}
 use Rattle.nob_ids.specs.Names.{is_space}
@@ -67,6 +67,11 @@ tree_by tree_at left (first ∷ bs) =
 unfoldable pub tree_at : ℕ → ℕ → List ℕ → Front Tree
 tree_at zero left bs = Err faults.Depth
 tree_at (suc levels) left bs = tree_by (tree_at levels) left bs
+
+-- whether what stands in front is bytes or a list: reading anything else takes no memory
+abbrev pub wants_memory : List ℕ → Bool
+wants_memory [] = false
+wants_memory (first ∷ bs) = first == 2 || first == 3
 
 -- the value that all of the bytes spell: none of more than 16,000 bytes; 16 levels, 32 references, and no byte after it
 unfoldable pub value_read : List ℕ → Result Value PickleFault

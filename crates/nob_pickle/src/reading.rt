@@ -1,10 +1,11 @@
 //! Bytes to values.
 
-ghost use Rattle.std.specs.Prelude.{◌≡◌, ℕ, ◌≤◌, ◌^◌, length, IfOk, Ok};
+ghost use Rattle.std.specs.Prelude.{◌≡◌, ◌≢◌, ℕ, ◌≤◌, ◌^◌, length, IsTrue, IfOk, IfErr, Ok};
 ghost use Rattle.nob_pickle.specs.Shape.{tree, forest};
 ghost use Rattle.nob_pickle.specs.Limits.{Spelt};
 ghost use Rattle.nob_pickle.specs.Writing.{Gives};
-ghost use Rattle.nob_pickle.specs.Reading.{number_at, int_at, bytes_at, ref_at, list_at, trees_at, tree_by, tree_at, value_read};
+ghost use Rattle.nob_pickle.specs.Reading.{number_at, int_at, bytes_at, ref_at, list_at, trees_at, tree_by, tree_at, wants_memory, value_read};
+ghost use Rattle.nob_pickle.specs.declared.fault.PickleError.TheVariants.{OutOfMemory};
 ghost use Rattle.nob_pickle.specs.declared.value.Value.{Value as ValueOf};
 
 use crate::fault::{PickleError, PickleFault};
@@ -24,18 +25,22 @@ struct Rest<'a> {
 /// The value that all of the bytes spell: Ok exactly where they do. Else the first fault: P8 for more than
 /// 16,000 bytes; then, from the front, P5 for a value at depth 17, P1 for a missing byte, P2 for a first byte
 /// that no value has, P3 and P4 for a length or a count above its limit, P7 for an owner that is no space,
-/// P8 for the 33rd reference; then P6 for a byte after the value. It takes time linear in the bytes.
+/// P8 for the 33rd reference; then P6 for a byte after the value. Only bytes and lists take memory, and want of
+/// it may be answered in place of a fault that stands in or behind them. It takes time linear in the bytes.
 pub fn decode(alloc: Global, bytes: &[u8]) -> Result<Value, PickleError>
     ensures found { IfOk result (λ value. Spelt bytes.now value) }
     ensures only { (value : ValueOf) → Spelt bytes.now value → Gives (λ v. v) result (Ok value) }
     ensures exact { Gives (λ v. v) result (value_read bytes.now) }
+    // Memory can run out for bytes and lists alone, and never for more than 16,000 bytes.
+    ensures memory { IfErr result (λ e. e ≡ OutOfMemory → (length bytes.now ≤ 16000) × IsTrue (wants_memory bytes.now)) }
 {
     whole(alloc, bytes)
 }
 
 #[tactic(auto, unfolding(crate::specs::Reading::value_read))]
 fn whole(alloc: Global, bytes: &[u8]) -> Result<Value, PickleError>
-    ensures { Gives (λ v. v) result (value_read bytes.now) }
+    ensures exact { Gives (λ v. v) result (value_read bytes.now) }
+    ensures memory { IfErr result (λ e. e ≡ OutOfMemory → (length bytes.now ≤ 16000) × IsTrue (wants_memory bytes.now)) }
 {
     if bytes.len() > MOST_IN_ALL {
         return Err(PickleError::Fault(PickleFault::TooBig));
@@ -59,7 +64,8 @@ fn value_of<'a>(
     levels: u32,
     rest: Rest<'a>,
 ) -> Result<(Value, Rest<'a>), PickleError>
-    ensures { Gives (λ x. (tree x.0, x.1.references, x.1.bytes.now)) result (tree_at levels rest.entry.references rest.entry.bytes.now) }
+    ensures exact { Gives (λ x. (tree x.0, x.1.references, x.1.bytes.now)) result (tree_at levels rest.entry.references rest.entry.bytes.now) }
+    ensures memory { IfErr result (λ e. e ≡ OutOfMemory → IsTrue (wants_memory rest.entry.bytes.now)) }
 {
     if levels == 0 {
         return Err(PickleError::Fault(PickleFault::Depth));
@@ -75,7 +81,8 @@ fn value_by<'a>(
     levels: u32,
     rest: Rest<'a>,
 ) -> Result<(Value, Rest<'a>), PickleError>
-    ensures { Gives (λ x. (tree x.0, x.1.references, x.1.bytes.now)) result (tree_by (tree_at levels) rest.entry.references rest.entry.bytes.now) }
+    ensures exact { Gives (λ x. (tree x.0, x.1.references, x.1.bytes.now)) result (tree_by (tree_at levels) rest.entry.references rest.entry.bytes.now) }
+    ensures memory { IfErr result (λ e. e ≡ OutOfMemory → IsTrue (wants_memory rest.entry.bytes.now)) }
 {
     let [first, bytes @ ..] = rest.bytes else {
         return Err(PickleError::Fault(PickleFault::Short));
@@ -136,7 +143,8 @@ fn values_of<'a>(
 /// A whole number, behind its first byte.
 #[tactic(auto, unfolding(crate::specs::Reading::int_at))]
 fn int_of<'a>(rest: Rest<'a>) -> Result<(Value, Rest<'a>), PickleError>
-    ensures { Gives (λ x. (tree x.0, x.1.references, x.1.bytes.now)) result (int_at rest.entry.references rest.entry.bytes.now) }
+    ensures exact { Gives (λ x. (tree x.0, x.1.references, x.1.bytes.now)) result (int_at rest.entry.references rest.entry.bytes.now) }
+    ensures memory { IfErr result (λ e. e ≢ OutOfMemory) }
 {
     let (number, bytes) = u64_of(rest.bytes)?;
     let rest = Rest {
@@ -171,7 +179,8 @@ fn bytes_of<'a>(alloc: Global, rest: Rest<'a>) -> Result<(Value, Rest<'a>), Pick
 /// A reference, behind its first byte.
 #[tactic(auto, unfolding(crate::specs::Reading::ref_at))]
 fn reference_of<'a>(rest: Rest<'a>) -> Result<(Value, Rest<'a>), PickleError>
-    ensures { Gives (λ x. (tree x.0, x.1.references, x.1.bytes.now)) result (ref_at rest.entry.references rest.entry.bytes.now) }
+    ensures exact { Gives (λ x. (tree x.0, x.1.references, x.1.bytes.now)) result (ref_at rest.entry.references rest.entry.bytes.now) }
+    ensures memory { IfErr result (λ e. e ≢ OutOfMemory) }
 {
     let (owner, bytes) = u16_of(rest.bytes)?;
     let (index, bytes) = u64_of(bytes)?;
@@ -189,7 +198,8 @@ fn reference_of<'a>(rest: Rest<'a>) -> Result<(Value, Rest<'a>), PickleError>
 }
 
 fn u16_of(bytes: &[u8]) -> Result<(u16, &[u8]), PickleError>
-    ensures { Gives (λ x. (x.0, x.1.now)) result (number_at 2 bytes.now) }
+    ensures exact { Gives (λ x. (x.0, x.1.now)) result (number_at 2 bytes.now) }
+    ensures memory { IfErr result (λ e. e ≢ OutOfMemory) }
 {
     if bytes.len() < 2 {
         return Err(PickleError::Fault(PickleFault::Short));
@@ -198,7 +208,8 @@ fn u16_of(bytes: &[u8]) -> Result<(u16, &[u8]), PickleError>
 }
 
 fn u32_of(bytes: &[u8]) -> Result<(u32, &[u8]), PickleError>
-    ensures { Gives (λ x. (x.0, x.1.now)) result (number_at 4 bytes.now) }
+    ensures exact { Gives (λ x. (x.0, x.1.now)) result (number_at 4 bytes.now) }
+    ensures memory { IfErr result (λ e. e ≢ OutOfMemory) }
 {
     if bytes.len() < 4 {
         return Err(PickleError::Fault(PickleFault::Short));
@@ -207,7 +218,8 @@ fn u32_of(bytes: &[u8]) -> Result<(u32, &[u8]), PickleError>
 }
 
 fn u64_of(bytes: &[u8]) -> Result<(u64, &[u8]), PickleError>
-    ensures { Gives (λ x. (x.0, x.1.now)) result (number_at 8 bytes.now) }
+    ensures exact { Gives (λ x. (x.0, x.1.now)) result (number_at 8 bytes.now) }
+    ensures memory { IfErr result (λ e. e ≢ OutOfMemory) }
 {
     if bytes.len() < 8 {
         return Err(PickleError::Fault(PickleFault::Short));

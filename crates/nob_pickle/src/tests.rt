@@ -312,17 +312,25 @@ fn beyond_a_pickle(rt: HostRuntime) -> Result<(), Fail> {
     Ok(())
 }
 
+/// Each fault's text begins with its own refusal.
 #[test]
 fn printed_faults(rt: HostRuntime) -> Result<(), Fail> {
-    let short = PickleError::Fault(PickleFault::Short);
-    assert_eq!(rt;
-        format!(in rt.alloc(); "{short}")?.as_str(),
-        "P1: the input ends inside a value"
-    );
+    let alloc = rt.alloc();
+    for (fault, wanted) in [
+        (PickleFault::Short, "P1: "),
+        (PickleFault::Tag, "P2: "),
+        (PickleFault::Bytes, "P3: "),
+        (PickleFault::Count, "P4: "),
+        (PickleFault::Depth, "P5: "),
+        (PickleFault::Trailing, "P6: "),
+        (PickleFault::Space, "P7: "),
+        (PickleFault::TooBig, "P8: "),
+    ] {
+        let error = PickleError::Fault(fault);
+        let text = format!(in alloc; "{error}")?;
+        assert!(rt; text.as_str().starts_with(wanted), "{wanted}{text}");
+    }
     let memory = PickleError::OutOfMemory;
-    assert_eq!(rt;
-        format!(in rt.alloc(); "{memory}")?.as_str(),
-        "out of memory"
-    );
+    assert_eq!(rt; format!(in alloc; "{memory}")?.as_str(), "out of memory");
     Ok(())
 }

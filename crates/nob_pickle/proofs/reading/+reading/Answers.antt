@@ -6,7 +6,7 @@ use Rattle.nob_pickle.proofs.reading.+reading.Goals as goal
 pub values_of-loop-preserved : goal.values_of-loop-preserved
 values_of-loop-preserved t c =
     rw c.in_ok-push.ensures.items
-    (goes_on (tree_at c.args.levels) _ c.args.count c.loop.counter _ _ _ _ _ _ c.loop-test.true c.in_ok-value.ensures c.loop.invariant)
+    (goes_on (tree_at c.args.levels) _ c.args.count c.loop.counter _ _ _ _ _ _ c.loop-test.true c.in_ok-value.ensures.exact c.loop.invariant)
 
 pub values_of-returns : goal.values_of-returns
 values_of-returns t c =
