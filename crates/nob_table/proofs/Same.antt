@@ -8,7 +8,8 @@ use Rattle.std.specs.Cmp.{IsEquivalence}
 use Rattle.std.specs.List.{IsDistinct}
 use Rattle.std.specs.Map.{lookup, keys_of}
 use Rattle.nob_ids.specs.declared.wire_rep.WireRep.{WireRep}
-use Rattle.nob_table.specs.Rows.{is_same, keep_if, row_at}
+use Rattle.nob_ids.specs.Names.{is_same}
+use Rattle.nob_table.specs.Rows.{keep_if, row_at}
 use Rattle.nob_table.specs.Counts.{is_held}
 use Rattle.nob_table.specs.declared.counts.Counts.{Counts}
 

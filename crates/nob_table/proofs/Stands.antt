@@ -1,5 +1,7 @@
 -- What a change of the rows of another space's reference makes of how each reference stands.
-use Rattle.std.proofs.Common.{◌≡◌, ℕ, Bool, true, false, ◌==◌, ◌||◌, cond, List, [], ◌∷◌, Option, Some, None, IsSome, is_some, if◌then◌else◌, refl, sym, ap, ◌∙◌}
+use Rattle.std.proofs.Common.{◌≡◌, ℕ, Bool, true, false, ◌==◌, ◌||◌, cond, List, [], ◌∷◌, Option, Some, None, IsSome, IfSome, is_some, slice_get, rules, if◌then◌else◌, refl, sym, ap, ◌∙◌}
+use Rattle.std.proofs.lemmas.Cmp.{nat_eq_equiv}
+use Rattle.std.proofs.lemmas.Map.Keys.{any_passes_from_place}
 use Rattle.std.specs.List.{list_any}
 use Rattle.std.specs.Map.{lookup, keys_of}
 use Rattle.nob_ids.specs.declared.wire_rep.WireRep.{WireRep}
@@ -7,8 +9,9 @@ use Rattle.nob_table.specs.declared.counts.Counts.{Counts}
 use Rattle.nob_table.specs.declared.standing.Grant.{Grant}
 use Rattle.nob_table.specs.declared.standing.Grant.TheVariants.{Waits, Given, Denied}
 use Rattle.nob_table.specs.declared.standing.Standing.{Standing}
-use Rattle.nob_table.specs.Rows.{is_same, row_at, reps_of, Puts}
-use Rattle.nob_table.specs.Standings.{own_standing, far_standing, is_known, is_pending, is_surrogate, state_of, in_state, with_counts}
+use Rattle.nob_ids.specs.Names.{is_same}
+use Rattle.nob_table.specs.Rows.{row_at, reps_of, Puts}
+use Rattle.nob_table.specs.Standings.{own_standing, far_standing, is_known, is_live, is_pending, is_surrogate, state_of, in_state, with_counts}
 use Rattle.nob_table.specs.Table.{stands, was_given, IsTable}
 use Rattle.nob_table.proofs.Same.{same_refl, same_is}
 
@@ -59,6 +62,20 @@ placed_state false given row (Some Waits) (Some c) has far = refl
 placed_state false given row (Some Given) (Some c) has far = refl
 placed_state false given row (Some Denied) (Some c) has far = refl
 
+-- an own reference with counts is live, and no other
+live_state : (mine given : Bool) (row : Option Counts) (grant : Option Grant) (counts : Option Counts) → (IsSome row → mine ≡ true)
+    → is_some row ≡ is_live (if mine then own_standing given row else far_standing grant counts).state
+live_state true true None grant counts owned = refl
+live_state true false None grant counts owned = refl
+live_state true true (Some x) grant counts owned = refl
+live_state true false (Some x) grant counts owned = refl
+live_state false given (Some x) grant counts owned = let bad = owned refl in absurd (cc)
+live_state false given None grant None owned = refl
+live_state false given None None (Some c) owned = refl
+live_state false given None (Some Waits) (Some c) owned = refl
+live_state false given None (Some Given) (Some c) owned = refl
+live_state false given None (Some Denied) (Some c) owned = refl
+
 -- a key is among the keys where a look-up finds it
 any_key : {K X : Type 0} (test : K → Bool) (es : List (K × X)) → list_any test (keys_of es) ≡ is_some (lookup test es)
 any_key test [] = refl
@@ -107,3 +124,25 @@ module _ (me exported : ℕ) (objects counted : List (WireRep × Counts)) (surro
   placed table =
       any_key (is_same rep) surrogates
       ∙ placed_state (rep.owner == me) (was_given exported rep.index) (row_at objects rep) (row_at surrogates rep) (row_at counted rep) (table.counts rep) (table.far rep)
+
+  -- the live objects are those that stand in their order
+  pub live_placed : IsTable me exported objects counted surrogates → list_any (is_same rep) (reps_of objects) ≡ is_live (stands me exported objects counted surrogates rep).state
+  live_placed table =
+      any_key (is_same rep) objects
+      ∙ live_state (rep.owner == me) (was_given exported rep.index) (row_at objects rep) (row_at surrogates rep) (row_at counted rep)
+      (λ has. let owned : rep.owner ≡ me = (table.given rep has).0 in rw owned (nat_eq_equiv.refl me))
+
+  -- the object at a place of that order is the space's own, and live
+  live_there : IsTable me exported objects counted surrogates → (place : ℕ) → slice_get (reps_of objects) place ≡ Some rep
+      → (rep.owner ≡ me) × (is_live (stands me exported objects counted surrogates rep).state ≡ true)
+  live_there table place got =
+      let found = any_passes_from_place (is_same rep) (reps_of objects) place rep got (same_refl rep) in
+      let has : is_some (row_at objects rep) ≡ true = sym (any_key (is_same rep) objects) ∙ found in
+      ((table.given rep has).0, sym (live_placed table) ∙ found)
+
+-- what stands at a place of the live objects' order is the space's own, and live
+pub live_found : (me exported : ℕ) (objects counted : List (WireRep × Counts)) (surrogates : List (WireRep × Grant)) (place : ℕ) (found : Option WireRep)
+    → IsTable me exported objects counted surrogates → found ≡ slice_get (reps_of objects) place
+    → IfSome found (λ rep. (rep.owner ≡ me) × (is_live (stands me exported objects counted surrogates rep).state ≡ true))
+live_found me exported objects counted surrogates place None table is = search rules
+live_found me exported objects counted surrogates place (Some rep) table is = live_there me exported objects counted surrogates rep table place (sym is)

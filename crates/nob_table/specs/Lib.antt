@@ -1,3 +1,4 @@
+pub use Rattle.nob_ids.specs.Names
 pub mod Counts
 pub mod Rows
 pub mod Standings

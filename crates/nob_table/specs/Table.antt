@@ -11,7 +11,8 @@ use Rattle.nob_table.specs.declared.fault.TableError.{TableError}
 use Rattle.nob_table.specs.declared.fault.TableError.TheVariants.{Fault, OutOfMemory}
 use Rattle.nob_table.specs.Counts as counts
 use Rattle.nob_table.specs.Counts.{is_held}
-use Rattle.nob_table.specs.Rows.{is_same, row_at, reps_of}
+use Rattle.nob_ids.specs.Names.{is_same}
+use Rattle.nob_table.specs.Rows.{row_at, reps_of}
 use Rattle.nob_table.specs.Standings.{is_known, is_unknown, is_live, is_pending, is_granted, is_idle, own_standing, far_standing}
 
 -- the table of a space, with the room beside its items: how many more exports and surrogates fit without memory
@@ -66,6 +67,10 @@ order t = reps_of t.surrogates
 abbrev pub live : Table → ℕ
 live t = length t.objects
 
+-- the live objects, in the order in which they can be walked
+abbrev pub live_order : Table → List WireRep
+live_order t = reps_of t.objects
+
 -- the reference to an object of the table's space
 abbrev pub own : Table → ℕ → WireRep
 own t index = record { owner = t.me; index = index }
@@ -82,9 +87,9 @@ pub record Unchanged (old new : Table) : Type 0 where
 abbrev pub Becomes : Table → Table → WireRep → Standing → Type 0
 Becomes old new rep after = (other : WireRep) → standing new other ≡ (if is_same rep other then after else standing old other)
 
--- new is the table of the same space, with the same indexes given and as many live objects
+-- new is the table of the same space, with the same indexes given and the same live objects in the same order
 abbrev pub SameObjects : Table → Table → Type 0
-SameObjects old new = (new.me ≡ old.me) × (new.exported ≡ old.exported) × (live new ≡ live old)
+SameObjects old new = (new.me ≡ old.me) × (new.exported ≡ old.exported) × (live new ≡ live old) × (live_order new ≡ live_order old)
 
 -- new has the same surrogates in the same order
 abbrev pub SameOrder : Table → Table → Type 0
@@ -156,6 +161,8 @@ pub record IsTable (me exported : ℕ) (objects counted : List (WireRep × Count
   pub given : (rep : WireRep) → IsSome (row_at objects rep) → (rep.owner ≡ me) × (1 ≤ rep.index) × (rep.index ≤ exported)
   -- other spaces' references are other spaces'
   pub far : (rep : WireRep) → IsSome (row_at counted rep) → rep.owner == me ≡ false
+  -- none of them is to an agent
+  pub no_agent : (rep : WireRep) → IsSome (row_at counted rep) → rep.index == 0 ≡ false
   -- a surrogate has counts
   pub counts : (rep : WireRep) → IsSome (row_at surrogates rep) → IsSome (row_at counted rep)
   -- a lost reference is held

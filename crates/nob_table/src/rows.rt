@@ -3,7 +3,7 @@
 ghost use Rattle.std.specs.Prelude.{◌≡◌, ◌≢◌, ◌==◌, ◌||◌, ◌^◌, ◌+◌, ◌<◌, ◌≤◌, ◌++◌, ◌∷◌, [], length, IsSome, None, Some, OnOk, OnErr, IsOk, IfSome, slice_get, not, filter, if◌then◌else◌, is_some};
 ghost use Rattle.nob_ids.specs.declared.wire_rep.WireRep.{WireRep};
 ghost use Rattle.nob_table.specs.Counts.{is_held};
-ghost use Rattle.nob_table.specs.Rows.{RowList, row_at, reps_of, Puts, IsOnce, without, keep_if};
+ghost use Rattle.nob_table.specs.Rows.{RowList, row_at, reps_of, Puts, IsOnce, without, keep_if, swapped_out};
 
 use crate::counts::Counts;
 use crate::standing::Grant;
@@ -103,6 +103,7 @@ impl<X: Copy + Drop> Rows<X> {
     // Takes a row out. The last one takes its place.
     pub(crate) fn take(&mut self, rep: &WireRep)
         ensures puts { Puts self.old.rows self.new.rows rep.now None }
+        ensures reps { reps_of self.new.rows ≡ swapped_out rep.now (reps_of self.old.rows) }
         ensures len { length self.new.rows + (if is_some (row_at self.old.rows rep.now) then 1 else 0) ≡ length self.old.rows }
         ensures room { self.old.room ≤ self.new.room }
     {

@@ -1,12 +1,13 @@
 //! The table itself.
 
-ghost use Rattle.std.specs.Prelude.{◌≡◌, ◌+◌, ◌<◌, ◌≤◌, ◌≢◌, ◌==◌, ◌++◌, ◌∷◌, [], filter, not, length, slice_get, Option, None, Some, IsSome, IsTrue, IsOk, OnOk, OnErr, IfOk, IfErr, MatchOption, MatchResult, if◌then◌else◌};
+ghost use Rattle.std.specs.Prelude.{◌≡◌, ◌+◌, ◌<◌, ◌≤◌, ◌≢◌, ◌==◌, ◌++◌, ◌∷◌, [], filter, not, length, slice_get, Option, None, Some, IsSome, IfSome, IsTrue, IsOk, OnOk, OnErr, IfOk, IfErr, MatchOption, MatchResult, if◌then◌else◌};
 ghost use Rattle.nob_ids.specs.declared.wire_rep.WireRep.{WireRep};
 ghost use Rattle.nob_table.specs.Counts.{is_held};
-ghost use Rattle.nob_table.specs.Rows.{is_same, without, IsOnce};
+ghost use Rattle.nob_ids.specs.Names.{is_same};
+ghost use Rattle.nob_table.specs.Rows.{without, swapped_out, IsOnce};
 ghost use Rattle.std.specs.List.{list_any};
 ghost use Rattle.nob_table.specs.Standings.{unknown, is_known, is_live, is_lost, is_idle, is_surrogate, state_of, withdrawn, exported_standing, pending_standing, with_counts, in_state, after_hold, after_release, after_close};
-ghost use Rattle.nob_table.specs.Table.{Table, standing, order, live, own, export_fault, hold_fault, release_fault, pending_fault, answer_fault, remove_fault, withdraw_fault, Unchanged, Becomes, SameObjects, SameOrder, KeepsRoom, IsRefusal, NoneIdle, IsFirstIdle, is_of};
+ghost use Rattle.nob_table.specs.Table.{Table, standing, order, live, live_order, own, export_fault, hold_fault, release_fault, pending_fault, answer_fault, remove_fault, withdraw_fault, Unchanged, Becomes, SameObjects, SameOrder, KeepsRoom, IsRefusal, NoneIdle, IsFirstIdle, is_of};
 
 use crate::counts::{Counts, Part};
 use crate::fault::{TableError, TableFault};
@@ -70,6 +71,7 @@ impl ObjectTable {
         ensures stands { result ≡ standing self.now rep }
         ensures given { IsTrue (is_live result.state) → (1 ≤ rep.index) × (rep.index ≤ self.now.exported) }
         ensures held { IsTrue (is_lost result.state) → IsTrue (is_held result.counts) }
+        ensures agent { rep.index ≡ 0 → result ≡ unknown }
     {
         if rep.owner == self.me {
             return match self.objects.get(rep) {
@@ -102,9 +104,21 @@ impl ObjectTable {
     /// How many objects are live. Constant time.
     pub fn object_count(&self) -> usize
         ensures count { result ≡ live self.now }
+        ensures places { result ≡ length (live_order self.now) }
         ensures once { IsOnce self.now.objects }
+        ensures placed { (rep : WireRep) → list_any (is_same rep) (live_order self.now) ≡ is_live (standing self.now rep).state }
     {
         self.objects.len()
+    }
+
+    /// The live object at this place, for a walk over all of them: places count from 0 to `object_count`, and each
+    /// live object has one. An export takes the place behind the last, a withdrawal puts the last object into the
+    /// place that it leaves, and nothing else moves them. Constant time.
+    pub fn object_at(&self, place: usize) -> Option<WireRep>
+        ensures at { result ≡ slice_get (live_order self.now) place }
+        ensures live { IfSome result (λ rep. (rep.owner ≡ self.now.me) × IsTrue (is_live (standing self.now rep).state)) }
+    {
+        self.objects.rep_at(place)
     }
 
     /// How many surrogates there are on open sessions. Constant time.
@@ -184,12 +198,14 @@ impl ObjectTable {
         ensures exported { IfOk result (λ rep. Becomes self.old self.new rep exported_standing) }
         ensures next { OnOk result (self.new.exported ≡ self.old.exported + 1) }
         ensures live { OnOk result (live self.new ≡ live self.old + 1) }
+        ensures placed { IfOk result (λ rep. live_order self.new ≡ live_order self.old ++ rep ∷ []) }
         ensures me { self.new.me ≡ self.old.me }
         ensures order { SameOrder self.old self.new }
         ensures room { (self.old.export_room ≤ self.new.export_room + 1) × (self.old.surrogate_room ≤ self.new.surrogate_room) }
         ensures accepted { OnOk result (export_fault self.old ≡ None) }
         ensures err { IfErr result (IsRefusal (export_fault self.old)) }
         ensures unchanged { OnErr result (Unchanged self.old self.new) }
+        ensures room_kept { OnErr result (KeepsRoom self.old self.new) }
         ensures succeeds { 0 < self.old.export_room → export_fault self.old ≡ None → IsOk result }
     {
         if self.objects.len() >= ObjectTable::MOST_OBJECTS
@@ -213,6 +229,7 @@ impl ObjectTable {
         ensures answer { MatchResult result (λ _. withdraw_fault self.old index ≡ None) (λ fault. withdraw_fault self.old index ≡ Some fault) }
         ensures withdrawn { OnOk result (Becomes self.old self.new (own self.old index) withdrawn) }
         ensures live { OnOk result (live self.new + 1 ≡ live self.old) }
+        ensures places { OnOk result (live_order self.new ≡ swapped_out (own self.old index) (live_order self.old)) }
         ensures exported { self.new.exported ≡ self.old.exported }
         ensures me { self.new.me ≡ self.old.me }
         ensures order { SameOrder self.old self.new }
@@ -245,6 +262,7 @@ impl ObjectTable {
         ensures accepted { OnOk result (pending_fault self.old rep ≡ None) }
         ensures err { IfErr result (IsRefusal (pending_fault self.old rep)) }
         ensures unchanged { OnErr result (Unchanged self.old self.new) }
+        ensures room_kept { OnErr result (KeepsRoom self.old self.new) }
         ensures succeeds { 0 < self.old.surrogate_room → pending_fault self.old rep ≡ None → IsOk result }
     {
         if rep.owner == self.me || rep.index == 0 {

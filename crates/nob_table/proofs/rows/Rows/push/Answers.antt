@@ -1,6 +1,7 @@
 use Rattle.std.proofs.Common.{◌∙◌, ◌≡◌, None}
 use Rattle.indexmap.proofs.CallerLemmas.{insert_entry-new}
-use Rattle.nob_table.specs.Rows.{is_same, row_at}
+use Rattle.nob_ids.specs.Names.{is_same}
+use Rattle.nob_table.specs.Rows.{row_at}
 use Rattle.nob_table.proofs.rows.Rows.push.Goals as goal
 
 pub returns-clause-puts : goal.returns-clause-puts

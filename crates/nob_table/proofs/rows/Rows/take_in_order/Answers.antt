@@ -1,7 +1,7 @@
 use Rattle.std.proofs.Common.{ap, ◌∙◌}
 use Rattle.std.specs.Map.{keys_of}
 use Rattle.indexmap.proofs.CallerLemmas.{keys-shift_remove_entry}
-use Rattle.nob_table.specs.Rows.{is_same}
+use Rattle.nob_ids.specs.Names.{is_same}
 use Rattle.nob_table.proofs.rows.Rows.take_in_order.Goals as goal
 
 pub returns-clause-puts : goal.returns-clause-puts
