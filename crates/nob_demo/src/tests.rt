@@ -181,7 +181,8 @@ fn no_text_and_long_input(rt: HostRuntime) -> Result<(), Fail> {
 }
 
 // The worked example *first frame lost*.
-const FIRST_FRAME_LOST: &[u8] = b"pair window 2 retry 4\n1 put aa\n1 put bb\n1 put cc\n1 send\ndeliver 2\n1 send\ndeliver 3\ndeliver 4\n2 send\ndeliver 5\n1 send\ndeliver 6\n2 get\n2 get\n2 get\n2 get\n";
+const FIRST_FRAME_LOST: &[u8] =
+    b"pair window 2 retry 4\n1 put aa\n1 put bb\n1 put cc\n1 send\ndeliver 2\n1 send\ndeliver 3\ndeliver 4\n2 send\ndeliver 5\n1 send\ndeliver 6\n2 get\n2 get\n2 get\n2 get\n";
 
 #[test]
 fn cut_at_any_byte(rt: HostRuntime) -> Result<(), Fail> {

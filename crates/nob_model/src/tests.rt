@@ -216,3 +216,17 @@ fn retry_limit(rt: HostRuntime) -> Result<(), Fail> {
     }
     Ok(())
 }
+
+#[test]
+fn printed_refusals(rt: HostRuntime) -> Result<(), Fail> {
+    for (refusal, wanted) in [
+        (Refusal::Closed, "N1: "),
+        (Refusal::QueueFull, "N2: "),
+        (Refusal::SeqEnd, "N3: "),
+        (Refusal::Strange, "N4: "),
+    ] {
+        let text = format!(in rt.alloc(); "{refusal}")?;
+        assert!(rt; text.as_str().starts_with(wanted), "{wanted}{text}");
+    }
+    Ok(())
+}

@@ -7,6 +7,7 @@ ghost use Rattle.nob_model.specs.declared.entry.EndEntry.TheVariants.{Send, Tran
 ghost use Rattle.nob_model.specs.Texts.{front_text};
 ghost use Rattle.nob_model.specs.End.{greatest_seq};
 ghost use Rattle.nob_model.specs.Right as right;
+ghost use Rattle.nob_model.specs.declared.entry.Arrived.TheVariants.{Took};
 ghost use Rattle.nob_model.specs.Right.{IsRight};
 ghost use Rattle.std.specs.List.{AllByRecursion};
 ghost use Rattle.nob_frame.specs.Kinds.{is_data};
@@ -70,6 +71,7 @@ impl Session {
         limits: Limits,
     ) -> Result<Session, SessionError>
         ensures stands { IfOk result (λ session. Stands me peer limits session.end []) }
+        ensures memory { IsOkUnless result SessionError.OutOfMemory }
     {
         Ok(Session {
             alloc,
@@ -115,8 +117,11 @@ impl Session {
         ensures answer { (me peer : ℕ) (limits : LimitsOf) (L : List EndEntry) → Stands me peer limits self.old.end L →
             Answered (λ n. n) result (λ answer. IsRight me peer limits (Send payload.items kind answer) L × Stands me peer limits self.new.end (Send payload.items kind answer ∷ L)) }
         ensures err { OnErr result (self.new.end ≡ self.old.end) }
+        ensures memory_last { (me peer : ℕ) (limits : LimitsOf) (L : List EndEntry) → Stands me peer limits self.old.end L →
+            result ≡ Err SessionError.OutOfMemory → IsOk (right.right_send kind L) }
         ensures reserved { 0 < self.old.room → result ≢ Err SessionError.OutOfMemory }
         ensures room { self.old.room ≤ self.new.room + 1 }
+        ensures err_room { OnErr result (self.old.room ≤ self.new.room) }
     {
         if self.ending.is_some() {
             return Err(SessionError::Refused(Refusal::Closed));
@@ -232,6 +237,9 @@ impl Session {
             Answered arrived_of result (λ answer. IsRight me peer limits (Arrive frame.now answer) L × Stands me peer limits self.new.end (Arrive frame.now answer ∷ L)) }
         ensures err { OnErr result (self.new.end ≡ self.old.end) }
         ensures memory { is_data frame.now.kind ≡ false → result ≢ Err SessionError.OutOfMemory }
+        // Memory comes after each refusal, and only where the item would be accepted.
+        ensures memory_last { (me peer : ℕ) (limits : LimitsOf) (L : List EndEntry) → Stands me peer limits self.old.end L →
+            result ≡ Err SessionError.OutOfMemory → right.right_arrive me peer frame.now L ≡ Ok (Took 1) }
         ensures room { self.old.room ≤ self.new.room }
     {
         if frame.from != self.peer || frame.to != self.me {
