@@ -79,11 +79,11 @@ pub all_made : (steps : List (Bor (List ℕ))) (i : ℕ) → length steps ≤ i 
 all_made steps i le = drop-map now i steps ∙ ap (map now) (drop_all i steps le)
 
 -- the steps after the header
-pub header_done : (limits : Limits) (header : List ℕ) (steps : List (List ℕ)) (old text new : List ℕ) (o : Outcome) → header ≡ header_text limits.window limits.retry → text ≡ old ++ ((header ++ []) ++ 10 ∷ [])
+pub header_done : (limits : Limits) (header : List ℕ) (steps : List (List ℕ)) (old text new : List ℕ) (o : Outcome) → IsLimits limits.window limits.retry → header ≡ header_text limits.window limits.retry → text ≡ old ++ ((header ++ []) ++ 10 ∷ [])
     → Grows text new (λ w. FromLines limits 2 steps [] w o) → Grows old new (λ w. FromHeader header steps w o)
-header_done limits header steps old text new o is at g =
+header_done limits header steps old text new o fit is at g =
     let line : text ≡ old ++ line_text header = at ∙ ap (λ (xs : List ℕ). old ++ (xs ++ 10 ∷ [])) (append-nil header) in
-    (line_text header ++ g.0, g.1 ∙ ap (λ (xs : List ℕ). xs ++ g.0) line ∙ append_assoc old (line_text header) g.0, FromHeader.opened limits g.0 is refl g.2)
+    (line_text header ++ g.0, g.1 ∙ ap (λ (xs : List ℕ). xs ++ g.0) line ∙ append_assoc old (line_text header) g.0, FromHeader.opened limits g.0 fit is refl g.2)
 
 -- the whole script, of which these are the lines
 pub script_done : (script header : List ℕ) (steps lines : List (List ℕ)) (old new : List ℕ) (o : Outcome) → lines ≡ lines_of script → lines ≡ header ∷ steps → old ≡ []

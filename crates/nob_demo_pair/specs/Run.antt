@@ -1,5 +1,5 @@
 -- What the steps of a pair script add to a run of the pair, and what they answer.
-use Rattle.std.specs.Prelude.{ℕ, zero, suc, ◌+◌, List, [], ◌∷◌, ◌++◌, length, map, Option, Some, None, Result, Ok, Err, codes, slice_get, ◌==◌, if◌then◌else◌}
+use Rattle.std.specs.Prelude.{ℕ, zero, suc, ◌+◌, List, [], ◌∷◌, ◌++◌, length, map, Option, Some, None, Result, Ok, Err, codes, slice_get, is_some, is_ok, Bool, true, false, ◌==◌, ◌&&◌, if◌then◌else◌}
 use Rattle.std.specs.Fmt.{decimal}
 use Rattle.hex.specs.Hex.{encode_lower}
 use Rattle.nob_ids.specs.Reasons.{reason_number}
@@ -155,12 +155,28 @@ abbrev pub step_answer : Limits → Step → List PairEntry → List ℕ
 step_answer limits (At side call) J = call_answer limits (space_of side) (peer_of side) call (length (all_given J)) (calls_at side J)
 step_answer limits (Deliver k) J = delivery_answer (frame_numbered k (all_given J)) J
 
+-- ---- want of memory
+
+-- whether a call on an end takes memory: a put that the end accepts, a send, and a get where an item waits at an open end
+abbrev pub call_takes_memory : Call → List EndEntry → Bool
+call_takes_memory (Put item) L = is_ok (right_send Limited L)
+call_takes_memory Send L = true
+call_takes_memory Get L = is_open L && is_some (right_front L)
+call_takes_memory Tick L = false
+call_takes_memory Close L = false
+
+-- whether a step takes memory, after the run of the steps before it: a delivery does where the frame was transmitted
+abbrev pub takes_memory : Step → List PairEntry → Bool
+takes_memory (At side call) J = call_takes_memory call (calls_at side J)
+takes_memory (Deliver k) J = is_some (frame_numbered k (all_given J))
+
 -- ---- answers as the runner gives them
 
 -- the text of an answer
 abbrev pub answer_text : Answer → List ℕ
 answer_text (answer.Item n) = codes "item " ++ decimal n
 answer_text (answer.Sent sent) = sent_text sent.before sent.count
+answer_text answer.SentNothing = codes "frames none"
 answer_text (answer.Got n item) = codes "item " ++ decimal n ++ 32 ∷ encode_lower item
 answer_text answer.Nothing = codes "none"
 answer_text answer.Done = codes "ok"

@@ -1,5 +1,5 @@
 -- What is written for a pair script: a relation, since a step may be refused for want of memory.
-use Rattle.std.specs.Prelude.{◌≡◌, ◌≢◌, ℕ, ◌+◌, List, [], ◌∷◌, ◌++◌, codes}
+use Rattle.std.specs.Prelude.{◌≡◌, ◌≢◌, ℕ, ◌+◌, List, [], ◌∷◌, ◌++◌, IsTrue, codes}
 use Rattle.std.specs.Fmt.{decimal}
 use Rattle.nob_ids.specs.declared.limits.Limits.{Limits}
 use Rattle.nob_model.specs.declared.entry.PairEntry.{PairEntry}
@@ -9,7 +9,7 @@ use Rattle.nob_demo_pair.specs.declared.step.Step.{Step}
 use Rattle.nob_demo_pair.specs.declared.script.Outcome.{Outcome}
 use Rattle.nob_demo_pair.specs.declared.script.Outcome.TheVariants.{Fronts, BadStep, OutOfMemory}
 use Rattle.nob_demo_pair.specs.Grammar.{step_text, header_text, IsStep, IsLimits}
-use Rattle.nob_demo_pair.specs.Run.{step_answer, entries_of}
+use Rattle.nob_demo_pair.specs.Run.{step_answer, entries_of, takes_memory}
 use Rattle.nob_demo_pair.specs.Pairs.{Ends, PairStands}
 
 -- a line as it came
@@ -46,8 +46,8 @@ IsNoStep line = (step : Step) → IsStep step → line ≢ step_text step
 pub data StepMade (limits : Limits) (line : List ℕ) (J K : List PairEntry) (written : List ℕ) : Type 0 where
   -- the line with the step's answer, which is that of a run of the pair
   answered : (step : Step) → IsStepLine line step → written ≡ answered_text line (step_answer limits step J) → K ≡ entries_of limits step J ++ J → StepMade limits line J K written
-  -- the step is refused for want of memory, and changes nothing
-  refused : (step : Step) → IsStepLine line step → written ≡ answered_text line (codes "memory") → K ≡ J → StepMade limits line J K written
+  -- the step takes memory, is refused for want of it, and changes nothing
+  refused : (step : Step) → IsStepLine line step → IsTrue (takes_memory step J) → written ≡ answered_text line (codes "memory") → K ≡ J → StepMade limits line J K written
 
 -- a pair that stood for the run J stands for the run with a line's step, and a text grew by what is written for it
 abbrev pub MakesStep : Limits → List ℕ → List PairEntry → Ends → (old new : List ℕ) → Type 0
@@ -79,7 +79,7 @@ IsNoHeader line = (window retry : ℕ) → IsLimits window retry → line ≢ he
 -- what is written for a script whose first line is this one
 pub data FromHeader (header : List ℕ) (steps : List (List ℕ)) (text : List ℕ) (outcome : Outcome) : Type 0 where
   -- the header as it came, and then the steps from a new pair on
-  opened : (limits : Limits) (rest : List ℕ) → header ≡ header_text limits.window limits.retry → text ≡ line_text header ++ rest → FromLines limits 2 steps [] rest outcome → FromHeader header steps text outcome
+  opened : (limits : Limits) (rest : List ℕ) → IsLimits limits.window limits.retry → header ≡ header_text limits.window limits.retry → text ≡ line_text header ++ rest → FromLines limits 2 steps [] rest outcome → FromHeader header steps text outcome
   -- the first line is no header, and the run ends
   bad : IsNoHeader header → text ≡ bad_step_text 1 → outcome ≡ BadStep → FromHeader header steps text outcome
   -- memory runs out beside the steps, and the run ends

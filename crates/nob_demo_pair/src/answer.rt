@@ -1,18 +1,19 @@
 //! What steps answer.
 
-ghost use Rattle.std.specs.Prelude.{◌+◌, ◌<◌, ◌^◌};
+ghost use Rattle.std.specs.Prelude.{◌+◌, ◌<◌, ◌≤◌, ◌^◌};
 
 use nob_frame::Payload;
 use nob_ids::{ItemNo, Reason};
 use nob_session::Refusal;
 
-/// The frames that a `send` gave: those of so many numbers after the frames before.
+/// The frames that a `send` gave, one at least: those of so many numbers after the frames before.
 #[derive(Clone, Copy, Debug, PartialEq, Eq)]
 pub struct Sent {
     /// How many frames were transmitted before.
     pub before: u64,
     /// How many it gave.
     pub count: u64,
+    ghost some: { 1 ≤ count },
     ghost in_range: { before + count < 2 ^ 64 },
 }
 
@@ -23,6 +24,8 @@ pub enum Answer {
     Item(ItemNo),
     /// The frames that were transmitted.
     Sent(Sent),
+    /// A `send` that had nothing to transmit.
+    SentNothing,
     /// The number and the bytes of the item that was taken.
     Got(ItemNo, Payload),
     /// No item waits.

@@ -1,6 +1,6 @@
 //! The steps on one end.
 
-ghost use Rattle.std.specs.Prelude.{◌≡◌, ◌++◌, ◌∷◌, List, ℕ, length, IfOk, OnOk, OnErr};
+ghost use Rattle.std.specs.Prelude.{◌≡◌, ◌++◌, ◌∷◌, List, ℕ, length, IfOk, IsTrue, OnOk, OnErr, ◌≢◌, []};
 ghost use Rattle.nob_ids.specs.declared.limits.Limits.{Limits as LimitsOf};
 ghost use Rattle.nob_model.specs.declared.entry.EndEntry.{EndEntry};
 ghost use Rattle.std.specs.List.{AllByRecursion};
@@ -8,7 +8,7 @@ ghost use Rattle.nob_frame.specs.Spelling.{Fits};
 ghost use Rattle.nob_session.specs.Items.{IsItem, IsPair};
 ghost use Rattle.nob_session.specs.Stands.{Stands};
 ghost use Rattle.nob_demo_pair.specs.Fronts.{IsFront};
-ghost use Rattle.nob_demo_pair.specs.Run.{answer_text, arrive_text, call_answer, calls_of};
+ghost use Rattle.nob_demo_pair.specs.Run.{answer_text, arrive_text, call_answer, call_takes_memory, calls_of};
 ghost use Rattle.nob_model.specs.Right.{right_arrive, right_transmit};
 ghost use Rattle.nob_model.specs.declared.entry.EndEntry.TheVariants.{Arrive};
 
@@ -20,14 +20,15 @@ use nob_session::{Arrival, Kind, Refusal, Session, SessionError};
 use std::alloc::{AllocError, Global};
 
 // Hands an item.
-pub fn put(session: &mut Session, item: &Payload) -> Result<Answer, AllocError>
-    requires { IsItem item.now }
+pub fn put(session: &mut Session, item: Payload) -> Result<Answer, AllocError>
+    requires { IsItem item }
     ensures answer { (me peer before : ℕ) (limits : LimitsOf) (L : List EndEntry) → Stands me peer limits session.old.end L →
-        IfOk result (λ a. (answer_text a ≡ call_answer limits me peer (Call.Put item.now) before L) × Stands me peer limits session.new.end (calls_of limits me peer (Call.Put item.now) L ++ L)) }
+        IfOk result (λ a. (answer_text a ≡ call_answer limits me peer (Call.Put item) before L) × Stands me peer limits session.new.end (calls_of limits me peer (Call.Put item) L ++ L)) }
     ensures err { OnErr result (session.new.end ≡ session.old.end) }
+    ensures memory { (me peer : ℕ) (limits : LimitsOf) (L : List EndEntry) → Stands me peer limits session.old.end L →
+        OnErr result (IsTrue (call_takes_memory (Call.Put item) L)) }
 {
-    let payload = item.copy()?.into_vec();
-    match session.send(payload, Kind::Limited) {
+    match session.send(item.into_vec(), Kind::Limited) {
         Ok(number) => Ok(Answer::Item(number)),
         Err(SessionError::Refused(refusal)) => Ok(Answer::Refused(refusal)),
         Err(SessionError::OutOfMemory) => Err(AllocError),
@@ -39,6 +40,8 @@ pub fn get(alloc: Global, session: &mut Session) -> Result<Answer, AllocError>
     ensures answer { (me peer before : ℕ) (limits : LimitsOf) (L : List EndEntry) → Stands me peer limits session.old.end L →
         IfOk result (λ a. (answer_text a ≡ call_answer limits me peer Call.Get before L) × Stands me peer limits session.new.end (calls_of limits me peer Call.Get L ++ L)) }
     ensures err { OnErr result (session.new.end ≡ session.old.end) }
+    ensures memory { (me peer : ℕ) (limits : LimitsOf) (L : List EndEntry) → Stands me peer limits session.old.end L →
+        OnErr result (IsTrue (call_takes_memory Call.Get L)) }
 {
     if !session.is_open() {
         return Ok(Answer::Refused(Refusal::Closed));
@@ -75,7 +78,8 @@ pub fn close(session: &mut Session) -> Answer
 
 // The first item that waits, if there is one, as the answer that it is.
 fn front_of(alloc: Global, session: &Session) -> Result<Option<Answer>, AllocError>
-    ensures { IfOk result (λ front. IsFront front session.now.end) }
+    ensures front { IfOk result (λ front. IsFront front session.now.end) }
+    ensures memory { OnErr result (session.now.end.waiting ≢ []) }
 {
     match session.front() {
         None => Ok(None),
@@ -120,5 +124,8 @@ pub fn send(session: &mut Session, frames: &mut Vec<Frame>) -> Result<Answer, Al
     let Ok(()) = frames.append(&mut given) else {
         unreachable!();
     };
+    if count == 0 {
+        return Ok(Answer::SentNothing);
+    }
     Ok(Answer::Sent(Sent { before, count }))
 }

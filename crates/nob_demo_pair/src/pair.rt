@@ -1,6 +1,6 @@
 //! Two ends of one session, and the frames between them.
 
-ghost use Rattle.std.specs.Prelude.{◌≡◌, ◌++◌, ◌∷◌, [], List, ℕ, None, length, IfOk, OnOk, OnErr, MatchOption};
+ghost use Rattle.std.specs.Prelude.{◌≡◌, ◌++◌, ◌∷◌, [], List, ℕ, None, length, IfOk, IsSome, IsTrue, OnOk, OnErr, MatchOption};
 ghost use Rattle.std.specs.List.{AllByRecursion};
 ghost use Rattle.nob_ids.specs.declared.limits.Limits.{Limits as LimitsOf};
 ghost use Rattle.nob_frame.specs.Spelling.{Fits};
@@ -9,7 +9,7 @@ ghost use Rattle.nob_model.specs.declared.entry.PairEntry.{PairEntry};
 ghost use Rattle.nob_session.specs.Items.{IsPair};
 ghost use Rattle.nob_session.specs.Stands.{Stands};
 ghost use Rattle.nob_demo_pair.specs.Grammar.{IsStep, IsCall};
-ghost use Rattle.nob_demo_pair.specs.Run.{all_given, answer_text, arrival_of, call_answer, calls_of, delivery_answer, entries_of, frame_numbered, step_answer};
+ghost use Rattle.nob_demo_pair.specs.Run.{all_given, answer_text, arrival_of, call_answer, call_takes_memory, calls_of, delivery_answer, entries_of, frame_numbered, step_answer, takes_memory};
 ghost use Rattle.nob_demo_pair.specs.Pairs.{PairStands, IsEndOf, IsPairOfEnds, ends_of, frames_after};
 
 use crate::answer::Answer;
@@ -56,12 +56,13 @@ impl Pair {
         })
     }
 
-    /// Makes a step. Only memory fails it, and then nothing has changed.
-    pub fn make(&mut self, step: &Step) -> Result<Answer, AllocError>
-        requires { IsStep step.now }
+    /// Makes a step. Only memory fails it, where the step takes some, and then nothing has changed.
+    pub fn make(&mut self, step: Step) -> Result<Answer, AllocError>
+        requires { IsStep step }
         ensures answer { (limits : LimitsOf) (J : List PairEntry) → PairStands limits self.old J →
-            IfOk result (λ a. (answer_text a ≡ step_answer limits step.now J) × PairStands limits self.new (entries_of limits step.now J ++ J)) }
+            IfOk result (λ a. (answer_text a ≡ step_answer limits step J) × PairStands limits self.new (entries_of limits step J ++ J)) }
         ensures err { OnErr result (self.new ≡ self.old) }
+        ensures memory { (limits : LimitsOf) (J : List PairEntry) → PairStands limits self.old J → OnErr result (IsTrue (takes_memory step J)) }
     {
         made(
             self.alloc,
@@ -79,18 +80,20 @@ fn made(
     first: &mut Session,
     second: &mut Session,
     frames: &mut Vec<Frame>,
-    step: &Step,
+    step: Step,
 ) -> Result<Answer, AllocError>
-    requires step { IsStep step.now }
+    requires step { IsStep step }
     requires ends { IsPairOfEnds (ends_of first.old.end second.old.end frames.old.items) }
     ensures answer { (limits : LimitsOf) (J : List PairEntry) → PairStands limits (ends_of first.old.end second.old.end frames.old.items) J →
-        IfOk result (λ a. (answer_text a ≡ step_answer limits step.now J) × PairStands limits (ends_of first.new.end second.new.end frames.new.items) (entries_of limits step.now J ++ J)) }
+        IfOk result (λ a. (answer_text a ≡ step_answer limits step J) × PairStands limits (ends_of first.new.end second.new.end frames.new.items) (entries_of limits step J ++ J)) }
     ensures err { OnErr result (ends_of first.new.end second.new.end frames.new.items ≡ ends_of first.old.end second.old.end frames.old.items) }
+    ensures memory { (limits : LimitsOf) (J : List PairEntry) → PairStands limits (ends_of first.old.end second.old.end frames.old.items) J →
+        OnErr result (IsTrue (takes_memory step J)) }
     ensures ends { IsPairOfEnds (ends_of first.new.end second.new.end frames.new.items) }
 {
     match step {
-        Step::At(side, call) => call_on(alloc, first, second, frames, *side, call),
-        Step::Deliver(number) => deliver(alloc, first, second, frames, *number),
+        Step::At(side, call) => call_on(alloc, first, second, frames, side, call),
+        Step::Deliver(number) => deliver(alloc, first, second, frames, number),
     }
 }
 
@@ -101,13 +104,15 @@ fn call_on(
     second: &mut Session,
     frames: &mut Vec<Frame>,
     side: Side,
-    call: &Call,
+    call: Call,
 ) -> Result<Answer, AllocError>
-    requires call { IsCall call.now }
+    requires call { IsCall call }
     requires ends { IsPairOfEnds (ends_of first.old.end second.old.end frames.old.items) }
     ensures answer { (limits : LimitsOf) (J : List PairEntry) → PairStands limits (ends_of first.old.end second.old.end frames.old.items) J →
-        IfOk result (λ a. (answer_text a ≡ step_answer limits (Step.At side call.now) J) × PairStands limits (ends_of first.new.end second.new.end frames.new.items) (entries_of limits (Step.At side call.now) J ++ J)) }
+        IfOk result (λ a. (answer_text a ≡ step_answer limits (Step.At side call) J) × PairStands limits (ends_of first.new.end second.new.end frames.new.items) (entries_of limits (Step.At side call) J ++ J)) }
     ensures err { OnErr result (ends_of first.new.end second.new.end frames.new.items ≡ ends_of first.old.end second.old.end frames.old.items) }
+    ensures memory { (limits : LimitsOf) (J : List PairEntry) → PairStands limits (ends_of first.old.end second.old.end frames.old.items) J →
+        OnErr result (IsTrue (takes_memory (Step.At side call) J)) }
     ensures ends { IsPairOfEnds (ends_of first.new.end second.new.end frames.new.items) }
 {
     match side {
@@ -127,6 +132,7 @@ fn deliver(
     requires frames { AllByRecursion Fits frames.now }
     ensures answer { (limits : LimitsOf) (J : List PairEntry) → PairStands limits (ends_of first.old.end second.old.end frames.now) J →
         IfOk result (λ a. (answer_text a ≡ delivery_answer (frame_numbered number (all_given J)) J) × PairStands limits (ends_of first.new.end second.new.end frames.now) (arrival_of (frame_numbered number (all_given J)) J ++ J)) }
+    ensures memory { OnErr result (IsSome (frame_numbered number frames.now)) }
     ensures first { OnErr result (first.new.end ≡ first.old.end) }
     ensures second { OnErr result (second.new.end ≡ second.old.end) }
     ensures first_end { (me peer : ℕ) → IsEndOf me peer first.old.end → IsEndOf me peer first.new.end }
@@ -172,15 +178,17 @@ fn call_at(
     alloc: Global,
     session: &mut Session,
     frames: &mut Vec<Frame>,
-    call: &Call,
+    call: Call,
 ) -> Result<Answer, AllocError>
-    requires { IsCall call.now }
+    requires { IsCall call }
     ensures answer { (me peer : ℕ) (limits : LimitsOf) (L : List EndEntry) → Stands me peer limits session.old.end L →
-        IfOk result (λ a. (answer_text a ≡ call_answer limits me peer call.now (length frames.old.items) L) × Stands me peer limits session.new.end (calls_of limits me peer call.now L ++ L)) }
+        IfOk result (λ a. (answer_text a ≡ call_answer limits me peer call (length frames.old.items) L) × Stands me peer limits session.new.end (calls_of limits me peer call L ++ L)) }
     ensures given { (me peer : ℕ) (limits : LimitsOf) (L : List EndEntry) → Stands me peer limits session.old.end L →
-        OnOk result (frames.new.items ≡ frames_after limits me peer call.now L frames.old.items) }
+        OnOk result (frames.new.items ≡ frames_after limits me peer call L frames.old.items) }
     ensures session { OnErr result (session.new.end ≡ session.old.end) }
     ensures frames { OnErr result (frames.new.items ≡ frames.old.items) }
+    ensures memory { (me peer : ℕ) (limits : LimitsOf) (L : List EndEntry) → Stands me peer limits session.old.end L →
+        OnErr result (IsTrue (call_takes_memory call L)) }
     ensures end { (me peer : ℕ) → IsEndOf me peer session.old.end → IsEndOf me peer session.new.end }
     ensures spelt { IsPair session.old.end.me session.old.end.peer → AllByRecursion Fits frames.old.items → AllByRecursion Fits frames.new.items }
 {

@@ -80,7 +80,7 @@ fn put_of(alloc: Global, text: &[u8]) -> Result<Option<Call>, AllocError>
 
 /// The limits that a script's first line spells: `None` where it spells none. Only memory fails it.
 pub fn header_of(alloc: Global, line: &[u8]) -> Result<Option<Limits>, AllocError>
-    ensures found { IfOk result (λ r. IfSome r (λ limits. line.now ≡ header_text limits.window limits.retry)) }
+    ensures found { IfOk result (λ r. IfSome r (λ limits. IsLimits limits.window limits.retry × (line.now ≡ header_text limits.window limits.retry))) }
     ensures only { IfOk result (λ r. (window retry : ℕ) → IsLimits window retry → line.now ≡ header_text window retry → IsSome r) }
 {
     match line {
@@ -105,7 +105,7 @@ pub fn header_of(alloc: Global, line: &[u8]) -> Result<Option<Limits>, AllocErro
 
 // The limits that the rest of a first line spells.
 fn limits_of(alloc: Global, text: &[u8]) -> Result<Option<Limits>, AllocError>
-    ensures found { IfOk result (λ r. IfSome r (λ limits. text.now ≡ limits_text limits.window limits.retry)) }
+    ensures found { IfOk result (λ r. IfSome r (λ limits. IsLimits limits.window limits.retry × (text.now ≡ limits_text limits.window limits.retry))) }
     ensures only { IfOk result (λ r. (window retry : ℕ) → IsLimits window retry → text.now ≡ limits_text window retry → IsSome r) }
 {
     let (window, rest) = text.split_at(word_len(text));

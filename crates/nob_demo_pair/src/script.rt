@@ -121,7 +121,7 @@ fn play_line(
     let Some(step) = step_of(alloc, line)? else {
         return Ok(false);
     };
-    make_step(alloc, pair, line, &step, text)?;
+    make_step(alloc, pair, line, step, text)?;
     Ok(true)
 }
 
@@ -130,10 +130,10 @@ fn make_step(
     alloc: Global,
     pair: &mut Pair,
     line: &[u8],
-    step: &Step,
+    step: Step,
     text: &mut Vec<u8>,
 ) -> Result<(), AllocError>
-    requires { IsStepLine line.now step.now }
+    requires { IsStepLine line.now step }
     ensures made { (limits : LimitsOf) (J : List PairEntry) → PairStands limits pair.old J →
         OnOk result (MakesStep limits line.now J pair.new text.old.items text.new.items) }
     ensures err { OnErr result (text.new.items ≡ text.old.items) }

@@ -18,6 +18,7 @@ pub fn text_of(alloc: Global, answer: &Answer) -> Result<String, AllocError>
     match answer {
         Answer::Item(number) => item_text(alloc, *number),
         Answer::Sent(sent) => frames_text(alloc, *sent),
+        Answer::SentNothing => String::from_str(alloc, "frames none"),
         Answer::Got(number, item) => item_bytes_text(alloc, *number, item),
         Answer::Nothing => String::from_str(alloc, "none"),
         Answer::Done => String::from_str(alloc, "ok"),
@@ -71,9 +72,6 @@ fn frames_text(alloc: Global, sent: Sent) -> Result<String, AllocError>
     ensures { IfOk result (λ text. string_bytes text ≡ sent_text sent.before sent.count) }
 {
     let Sent { before, count } = sent;
-    if count == 0 {
-        return String::from_str(alloc, "frames none");
-    }
     let mut text = String::from_str(alloc, "frames")?;
     for i in 0..count {
         let number = number_text(alloc, before, i)?;

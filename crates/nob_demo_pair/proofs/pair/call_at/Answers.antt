@@ -33,3 +33,9 @@ returns-in-Close-clause-answer c me peer limits L st = rw (c.in-Close.is) (c.clo
 
 pub returns-in-Close-clause-end : goal.returns-in-Close-clause-end
 returns-in-Close-clause-end c me peer h = (h.0, calls_of h.0 me peer Close h.1 ++ h.1, (c.close.ensures.answer me peer 0 h.0 h.1 h.2).1)
+
+pub returns-in-Get-clause-memory : goal.returns-in-Get-clause-memory
+returns-in-Get-clause-memory c me peer limits L st = rw (c.in-Get.is) (c.get.ensures.memory me peer limits L st)
+
+pub returns-in-Put-clause-memory : goal.returns-in-Put-clause-memory
+returns-in-Put-clause-memory c me peer limits L st = rw (c.in-Put.is) (c.put.ensures.memory me peer limits L st)

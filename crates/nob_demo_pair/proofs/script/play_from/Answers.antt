@@ -2,7 +2,7 @@ use Rattle.std.proofs.Common.{◌≡◌, ◌++◌, [], Option, IfSome, codes, re
 use Rattle.std.proofs.lemmas.Result.{IfOk-weaker, on_err_weaker}
 use Rattle.nob_ids.specs.declared.limits.Limits.{Limits}
 use Rattle.nob_trace_text.specs.Lines.{texts}
-use Rattle.nob_demo_pair.specs.Grammar.{header_text}
+use Rattle.nob_demo_pair.specs.Grammar.{header_text, IsLimits}
 use Rattle.nob_demo_pair.specs.declared.script.Outcome.TheVariants.{OutOfMemory}
 use Rattle.nob_demo_pair.specs.Scripts.{FromHeader, bad_step_text, last_line}
 use Rattle.nob_demo_pair.proofs.Playing.{bad_ended, header_done, no_header}
@@ -16,13 +16,13 @@ returns-in_default-clause-ok c =
 pub returns-clause-ok : goal.returns-clause-ok
 returns-clause-ok c =
     let limits = c.in-Some.limits in
-    let is = subst (λ (r : Option Limits). IfSome r (λ l. c.args.header.now ≡ header_text l.window l.retry)) c.in-Some.is c.in_ok-limits.ensures.found in
-    IfOk-weaker c.play_steps.result _ _ (λ o g. header_done limits c.args.header.now (texts c.args.steps.now) c.args.text.now.items c.push_line.new.text.items (c.play_steps.new.text.items ++ last_line o) o is c.in_ok-push_line.ensures.ok g)
+    let is = subst (λ (r : Option Limits). IfSome r (λ l. IsLimits l.window l.retry × (c.args.header.now ≡ header_text l.window l.retry))) c.in-Some.is c.in_ok-limits.ensures.found in
+    IfOk-weaker c.play_steps.result _ _ (λ o g. header_done limits c.args.header.now (texts c.args.steps.now) c.args.text.now.items c.push_line.new.text.items (c.play_steps.new.text.items ++ last_line o) o is.0 is.1 c.in_ok-push_line.ensures.ok g)
     (c.play_steps.ensures.ok limits [] c.in_ok-pair.ensures.stands)
 
 pub returns-clause-err : goal.returns-clause-err
 returns-clause-err c =
     let limits = c.in-Some.limits in
-    let is = subst (λ (r : Option Limits). IfSome r (λ l. c.args.header.now ≡ header_text l.window l.retry)) c.in-Some.is c.in_ok-limits.ensures.found in
-    on_err_weaker c.play_steps.result (header_done limits c.args.header.now (texts c.args.steps.now) c.args.text.now.items c.push_line.new.text.items (c.play_steps.new.text.items ++ codes "memory\n") OutOfMemory is c.in_ok-push_line.ensures.ok)
+    let is = subst (λ (r : Option Limits). IfSome r (λ l. IsLimits l.window l.retry × (c.args.header.now ≡ header_text l.window l.retry))) c.in-Some.is c.in_ok-limits.ensures.found in
+    on_err_weaker c.play_steps.result (header_done limits c.args.header.now (texts c.args.steps.now) c.args.text.now.items c.push_line.new.text.items (c.play_steps.new.text.items ++ codes "memory\n") OutOfMemory is.0 is.1 c.in_ok-push_line.ensures.ok)
     (c.play_steps.ensures.err limits [] c.in_ok-pair.ensures.stands)
