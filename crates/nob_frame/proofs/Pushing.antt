@@ -1,6 +1,8 @@
 -- What a push leaves.
 use Rattle.std.proofs.Common.{◌≡◌, ℕ, ◌<◌, List, [], ◌++◌, length, Option, Some, None, Ok, Err, refl, sym, ap, subst, ◌∙◌, inl, inr}
-use Rattle.std.specs.Prelude.{IfOk}
+use Rattle.std.specs.Prelude.{IfOk, ◌==◌, true}
+use Rattle.std.proofs.lemmas.Bool.{eqb-true}
+use Rattle.std.proofs.lemmas.List.{append-nil, nil_from_length}
 use Rattle.nob_frame.specs.declared.fault.FrameFault.{FrameFault}
 use Rattle.nob_frame.specs.declared.fault.FrameFault.TheVariants as faults
 use Rattle.nob_frame.specs.declared.frame.Frame.{Frame}
@@ -26,6 +28,16 @@ waits_on old None kept piece next wanted frames is none sound next_is less empty
     let short : front_at next ≡ Err faults.Short = front_fault next faults.Short cut (λ h. cc) in
     let whole : Splits (kept ++ piece) [] next = record { whole = sym next_is; each = tt; none = begins_none next faults.Short short } in
     subst (λ (o : Kept). Pushes o piece (Ok frames) (Ok next)) is (subst (λ (fs : List Frame). Splits (kept ++ piece) fs next × IsCut next) (sym empty) (whole, cut))
+
+-- an empty piece completes nothing
+pub stays : (old : Kept) (fault : Option FrameFault) (kept piece : List ℕ) (wanted : ℕ) (frames : List Frame) → kept_of fault kept ≡ old → fault ≡ None → IsSound fault kept wanted
+    → true ≡ (length piece == 0) → frames ≡ [] → Pushes old piece (Ok frames) old
+stays old (Some fault) kept piece wanted frames is none sound empty no_frames = absurd cc
+stays old None kept piece wanted frames is none sound empty no_frames =
+    let short : front_at kept ≡ Err faults.Short = front_fault kept faults.Short sound.0 (λ h. cc) in
+    let alone : kept ++ piece ≡ kept = ap (λ (p : List ℕ). kept ++ p) (nil_from_length piece (eqb-true (length piece) 0 (sym empty))) ∙ append-nil kept in
+    let whole : Splits (kept ++ piece) [] kept = record { whole = alone; each = tt; none = begins_none kept faults.Short short } in
+    subst (λ (o : Kept). Pushes o piece (Ok frames) o) is (subst (λ (fs : List Frame). Splits (kept ++ piece) fs kept × IsCut kept) (sym no_frames) (whole, sound.0))
 
 -- a rest that is cut off waits for the bytes that it wants
 pub waits_again : (fault : Option FrameFault) (rest : List ℕ) (wanted : ℕ) → fault ≡ None → IsCut rest → wanted ≡ wanted_by rest → IsSound fault rest wanted

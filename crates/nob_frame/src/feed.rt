@@ -1,7 +1,7 @@
 //! A stream of frames that comes in pieces.
 
 ghost use Rattle.std.specs.Prelude.{◌≡◌, ◌≢◌, ◌≤◌, ◌<◌, ◌++◌, [], ℕ, List, length, drop, IfOk, IfErr, OnOk, Ok, Err};
-ghost use Rattle.nob_frame.specs.declared.fault.FrameError.TheVariants.{Fault};
+ghost use Rattle.nob_frame.specs.declared.fault.FrameError.TheVariants.{Fault, OutOfMemory};
 ghost use Rattle.nob_frame.specs.declared.fault.FrameFault.TheVariants.{Short, Trailing};
 ghost use Rattle.nob_frame.specs.declared.frame.Frame.{Frame};
 ghost use Rattle.nob_frame.specs.Streams.{Splits, Answers, Scanned};
@@ -49,7 +49,8 @@ impl Feed {
     }
 
     /// Takes the next piece of the stream, and gives the frames that are whole now. A fault, one of F2 to F10,
-    /// is answered from then on, to any piece, and no frame is given with it. Want of memory changes nothing.
+    /// is answered from then on, to any piece, and no frame is given with it. Want of memory changes nothing, and
+    /// an empty piece wants none.
     ///
     /// All pushes together cost time in proportion to the bytes of the stream, however it is cut: a byte is
     /// copied at most twice by pushes, and some more times where the buffer grows, and a header is judged at
@@ -62,12 +63,17 @@ impl Feed {
         ensures only { (kept : List ℕ) (frames : List Frame) (rest : List ℕ) → self.old ≡ Ok kept
             → Splits (kept ++ piece.now) frames rest → IfOk result (λ given. given.items ≡ frames) }
         ensures never { IfErr result (λ e. (e ≢ Fault Short) × (e ≢ Fault Trailing)) }
+        // An empty piece takes no memory.
+        ensures memory { IfErr result (λ e. e ≡ OutOfMemory → piece.now ≢ []) }
         ensures few { OnOk result (IfOk self.new (λ kept. length kept < 16412)) }
     {
         if let Some(fault) = self.fault {
             return Err(FrameError::Fault(fault));
         }
         let alloc = *self.kept.allocator();
+        if piece.is_empty() {
+            return Ok(Vec::new(alloc));
+        }
         let before = self.kept.len();
         self.kept.extend_from_slice(piece)?;
         if self.kept.len() < self.wanted {

@@ -2,6 +2,7 @@
 //! the reasons of a close, and the limits of a session. Each is in its range by construction.
 #![tactic(auto)]
 
+pub mod comparing;
 mod limits;
 mod numbers;
 mod reason;

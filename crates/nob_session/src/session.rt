@@ -149,6 +149,9 @@ impl Session {
         ensures few { IfOk result (λ frames. length frames.items ≤ 64) }
         ensures spelt { IsPair self.old.end.me self.old.end.peer → IfOk result (λ frames. AllByRecursion Fits frames.items) }
         ensures memory { IsOkUnless result SessionError.OutOfMemory }
+        // Memory is wanted only where there is something to give.
+        ensures memory_last { (me peer : ℕ) (limits : LimitsOf) (L : List EndEntry) → Stands me peer limits self.old.end L →
+            OnErr result (right.right_transmit me peer limits.window L ≢ []) }
         ensures room { self.old.room ≤ self.new.room }
     {
         if let Some(reason) = self.ending {
@@ -196,6 +199,7 @@ impl Session {
         ensures few { IfOk result (λ frames. length frames.items ≤ 64) }
         ensures spelt { IsPair self.now.end.me self.now.end.peer → IfOk result (λ frames. AllByRecursion Fits frames.items) }
         ensures frames { IfOk result (λ frames. frames.items ≡ right.open_frames self.now.end.me self.now.end.peer (self.now.end.accepted + 1) self.now.end.lowest self.now.end.data_arrived (take self.now.end.limits.window self.now.end.unacknowledged)) }
+        ensures memory { OnErr result (right.open_frames self.now.end.me self.now.end.peer (self.now.end.accepted + 1) self.now.end.lowest self.now.end.data_arrived (take self.now.end.limits.window self.now.end.unacknowledged) ≢ []) }
     {
         let given = self.given();
         let ack = self.accepted + 1;
@@ -213,6 +217,7 @@ impl Session {
         ensures few { IfOk result (λ frames. length frames.items ≤ 64) }
         ensures spelt { IsPair self.now.end.me self.now.end.peer → IfOk result (λ frames. AllByRecursion Fits frames.items) }
         ensures frames { IfOk result (λ frames. frames.items ≡ right.closed_frames self.now.end.me self.now.end.peer (self.now.end.accepted + 1) self.now.end.owes_close (Some reason)) }
+        ensures memory { OnErr result (right.closed_frames self.now.end.me self.now.end.peer (self.now.end.accepted + 1) self.now.end.owes_close (Some reason) ≢ []) }
     {
         if !self.owes_close {
             return Ok(Vec::new(self.alloc));

@@ -1,14 +1,20 @@
 use Rattle.std.proofs.Common.{ap, sym, subst, ◌∙◌, List, ℕ, ◌<◌, drop, length, Ok, arith}
 use Rattle.nob_frame.specs.Streams.{Splits, IsCut, Pushes, kept_of, wanted_by}
-use Rattle.nob_frame.proofs.Pushing.{still_waits, waits_on, waits_again, gives, only_those, little_kept}
+use Rattle.nob_frame.proofs.Pushing.{stays, still_waits, waits_on, waits_again, gives, only_those, little_kept}
 use Rattle.nob_frame.proofs.feed.Feed.push.Goals as goal
 
+-- nothing came
+stayed : (c : goal.After-new) → Pushes c.args.self.now c.args.piece.now (Ok c.new.result.items) c.args.self.now
+stayed c =
+    stays c.args.self.now c.self.inside.fault c.self.inside.kept.items c.args.piece.now c.self.inside.wanted c.new.result.items c.self.view_is c.in_default.is c.self.invariant
+    c.if-is_empty.ensures c.new.ensures.items
+
 -- the bytes kept before with the piece wait for more
-waited : (c : goal.After-new) → Pushes c.args.self.now c.args.piece.now (Ok c.new.result.items) (kept_of c.self.inside.fault c.extend_from_slice.new.self.items)
+waited : (c : goal.After-new-then-len-self) → Pushes c.args.self.now c.args.piece.now (Ok c.new-then-len-self.result.items) (kept_of c.self.inside.fault c.extend_from_slice.new.self.items)
 waited c =
     let less : length c.extend_from_slice.new.self.items < c.self.inside.wanted = omega arith in
-    waits_on c.args.self.now c.self.inside.fault c.self.inside.kept.items c.args.piece.now c.extend_from_slice.new.self.items c.self.inside.wanted c.new.result.items c.self.view_is c.in_default.is
-    c.self.invariant c.in_ok-extend_from_slice.ensures.ok less c.new.ensures.items
+    waits_on c.args.self.now c.self.inside.fault c.self.inside.kept.items c.args.piece.now c.extend_from_slice.new.self.items c.self.inside.wanted c.new-then-len-self.result.items c.self.view_is c.in_default.is
+    c.self.invariant c.in_ok-extend_from_slice.ensures.ok less c.new-then-len-self.ensures.items
 
 -- they have given frames
 gave : (c : goal.After-self-1) → Pushes c.args.self.now c.args.piece.now (Ok c.in-Ok.frames.items) (kept_of c.self.inside.fault c.advance.new.self.items)
@@ -44,3 +50,12 @@ returns-in-Ok-clause-only c = only_those _ _ _ _ (gave c)
 
 pub returns-in-Ok-clause-few : goal.returns-in-Ok-clause-few
 returns-in-Ok-clause-few c = little_kept _ _ _ _ (gave c)
+
+pub returns-then-is_empty-clause-answer : goal.returns-then-is_empty-clause-answer
+returns-then-is_empty-clause-answer c = stayed c
+
+pub returns-then-is_empty-clause-only : goal.returns-then-is_empty-clause-only
+returns-then-is_empty-clause-only c = only_those _ _ _ _ (stayed c)
+
+pub returns-then-is_empty-clause-few : goal.returns-then-is_empty-clause-few
+returns-then-is_empty-clause-few c = little_kept _ _ _ _ (stayed c)
