@@ -1,6 +1,7 @@
 -- What a reader has left, and what a writer holds, one call after the other.
-use Rattle.std.proofs.Common.{◌≡◌, ℕ, ◌+◌, ◌<◌, List, [], ◌++◌, length, Option, Some, None, IfSome, refl, sym, ap, subst, ◌∙◌, append_assoc, arith}
+use Rattle.std.proofs.Common.{◌≡◌, ℕ, ◌+◌, ◌<◌, ◌≤◌, List, [], ◌++◌, length, Option, Some, None, IfSome, refl, sym, ap, subst, ◌∙◌, append_assoc, arith}
 use Rattle.std.specs.Io.KnownBytes.{Appends, Consumes, IsAtEnd, Keeps}
+use Rattle.nob_demo.specs.Program.{IsFew, most_bytes}
 use Rattle.std.proofs.lemmas.List.{append-nil, length-append}
 
 pub consumes_more : (a b c : Option (List ℕ)) (xs ys : List ℕ) → Consumes a b xs → Consumes b c ys → Consumes a c (xs ++ ys)
@@ -18,6 +19,15 @@ pub consumed_many : (a b : Option (List ℕ)) (xs : List ℕ) (n : ℕ) → Cons
 consumed_many None b xs n h less = tt
 consumed_many (Some ws) None xs n h less = absurd h
 consumed_many (Some ws) (Some bs) xs n h less = let len : length ws ≡ length xs + length bs = ap length h ∙ length-append xs bs in omega (arith, len, less)
+
+pub consumed_few : (a b : Option (List ℕ)) (xs : List ℕ) → Consumes a b xs → length xs ≤ most_bytes → IsFew a b
+consumed_few None b xs h few = tt
+consumed_few (Some ws) None xs h few = absurd h
+consumed_few (Some ws) (Some bs) xs h few = let len : length ws ≡ length xs + length bs = ap length h ∙ length-append xs bs in omega (arith, len, few)
+
+pub few_same : (a : Option (List ℕ)) → IsFew a a
+few_same None = tt
+few_same (Some ws) = omega arith
 
 pub consumes_none : (a : Option (List ℕ)) → Consumes a a []
 consumes_none None = tt

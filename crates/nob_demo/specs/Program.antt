@@ -1,5 +1,5 @@
 -- What a run of the program does, where its reader and its writers tell their bytes.
-use Rattle.std.specs.Prelude.{◌≡◌, ℕ, ◌^◌, ◌<◌, Bool, true, false, List, length, Option, IfSome, Result, Ok, Err, codes}
+use Rattle.std.specs.Prelude.{◌≡◌, ℕ, ◌^◌, ◌<◌, ◌≤◌, ◌+◌, Bool, true, false, List, length, Option, IfSome, Result, Ok, Err, codes}
 use Rattle.std.specs.Io.KnownBytes.{Appends, Keeps}
 use Rattle.nob_demo_pair.specs.declared.script.Outcome.{Outcome}
 use Rattle.nob_demo_pair.specs.declared.script.Outcome.TheVariants.{Fronts, BadStep, OutOfMemory}
@@ -15,11 +15,31 @@ most_reads = 2 ^ 20
 abbrev pub most_bytes : ℕ
 most_bytes = 2 ^ 26
 
--- a read failed, or the input took more reads or has more bytes than the program takes
-pub data IsReadFault (input : Option (List ℕ)) (reads : ℕ) (failed : Bool) : Type 0 where
-  failed_read : failed ≡ true → IsReadFault input reads failed
-  many_reads : reads ≡ most_reads → IsReadFault input reads failed
-  many_bytes : IfSome input (λ bytes. most_bytes < length bytes) → IsReadFault input reads failed
+-- what was read: the bytes of the reader before the first read and after the last, how many reads were made, whether one failed, and whether one told the end
+pub record Reading : Type 0 where
+  pub input : Option (List ℕ)
+  pub rest : Option (List ℕ)
+  pub reads : ℕ
+  pub failed : Bool
+  pub ended : Bool
+
+-- the input was read whole: no read failed, one told the end, and there were no more of them than the program makes
+abbrev pub IsWhole : Reading → Type 0
+IsWhole r = (r.failed ≡ false) × (r.ended ≡ true) × (r.reads ≤ most_reads)
+
+-- what was read of these bytes, up to this rest of them, has no more bytes than the program takes
+abbrev pub IsFew : (input : Option (List ℕ)) → (rest : Option (List ℕ)) → Type 0
+IsFew input rest = IfSome input (λ all. IfSome rest (λ left. length all ≤ most_bytes + length left))
+
+-- a part of the input was read: no read failed or told the end, one more may be made, and there is no byte too many so far
+abbrev pub IsPart : Reading → Type 0
+IsPart r = (r.failed ≡ false) × (r.ended ≡ false) × (r.reads < most_reads) × IsFew r.input r.rest
+
+-- a read failed, or all reads that the program makes told no end, or the input has more bytes than the program takes
+pub data IsReadFault (r : Reading) : Type 0 where
+  failed_read : r.failed ≡ true → IsReadFault r
+  many_reads : r.reads ≡ most_reads → r.ended ≡ false → IsReadFault r
+  many_bytes : IfSome r.input (λ bytes. most_bytes < length bytes) → IsReadFault r
 
 -- why the words aren't taken: clap refuses them, or memory ran out
 abbrev pub IsWordsFault : Fault → (taken : Bool) → Type 0
@@ -28,12 +48,12 @@ IsWordsFault Read taken = ⊥
 IsWordsFault Memory taken = Unit {0}
 IsWordsFault Write taken = ⊥
 
--- why the input isn't there: it can't be read whole, or memory ran out
-abbrev pub IsReadingFault : Fault → Option (List ℕ) → ℕ → Bool → Type 0
-IsReadingFault (Words text) input reads failed = ⊥
-IsReadingFault Read input reads failed = IsReadFault input reads failed
-IsReadingFault Memory input reads failed = Unit {0}
-IsReadingFault Write input reads failed = ⊥
+-- why the input isn't there: it can't be read whole, or memory ran out on the way
+abbrev pub IsReadingFault : Fault → Reading → Type 0
+IsReadingFault (Words text) r = ⊥
+IsReadingFault Read r = IsReadFault r
+IsReadingFault Memory r = IsPart r
+IsReadingFault Write r = ⊥
 
 -- the status that a script's run ends with: 0 where the last line says yes
 abbrev pub status_of : Outcome → ℕ
@@ -41,12 +61,10 @@ status_of Fronts = 0
 status_of BadStep = 1
 status_of OutOfMemory = 1
 
--- what a run was given, and how far it came: whether clap took the words, the bytes of the reader, how many reads were made and whether one failed, the bytes of `out` before and after, and whether a write to it failed
+-- what a run was given, and how far it came: whether clap took the words, what was read, the bytes of `out` before and after, and whether a write to it failed
 pub record Attempt : Type 0 where
   pub taken : Bool
-  pub input : Option (List ℕ)
-  pub reads : ℕ
-  pub read_failed : Bool
+  pub reading : Reading
   pub out_before : Option (List ℕ)
   pub out_after : Option (List ℕ)
   pub out_failed : Bool
@@ -55,17 +73,29 @@ pub record Attempt : Type 0 where
 abbrev pub OutKept : Attempt → Type 0
 OutKept a = Keeps a.out_before a.out_after × (a.out_failed ≡ false)
 
--- what was written to `out` is what the script in the input gives
+-- what was written to `out` is what the script in the input gives, which has no more bytes than the program takes
 abbrev pub IsPlayed : Attempt → Outcome → Type 0
-IsPlayed a outcome = (text : List ℕ) × IfSome a.input (λ script. Plays script text outcome) × Appends a.out_before a.out_after text
+IsPlayed a outcome = (text : List ℕ) × IfSome a.reading.input (λ script. (length script ≤ most_bytes) × Plays script text outcome) × Appends a.out_before a.out_after text
+
+-- clap refuses the words, and nothing was read
+abbrev pub IsRefused : Attempt → Type 0
+IsRefused a = (a.taken ≡ false) × (a.reading.reads ≡ 0)
+
+-- clap takes the words, and the input can't be read whole
+abbrev pub IsUnread : Attempt → Type 0
+IsUnread a = (a.taken ≡ true) × IsReadFault a.reading
+
+-- memory may run out here: the input isn't read whole yet and can still be, and nothing was read where clap refuses the words
+abbrev pub MayStop : Attempt → Type 0
+MayStop a = IsPart a.reading × (a.taken ≡ false → a.reading.reads ≡ 0)
 
 -- how an attempt ends, fault by fault
 abbrev pub Ended : Result Outcome Fault → Attempt → Type 0
-Ended (Ok outcome) a = (a.taken ≡ true) × IsPlayed a outcome × (a.out_failed ≡ false)
-Ended (Err (Words text)) a = (a.taken ≡ false) × OutKept a
-Ended (Err Read) a = (a.taken ≡ true) × IsReadFault a.input a.reads a.read_failed × OutKept a
-Ended (Err Memory) a = OutKept a
-Ended (Err Write) a = a.out_failed ≡ true
+Ended (Ok outcome) a = (a.taken ≡ true) × IsWhole a.reading × IsPlayed a outcome × (a.out_failed ≡ false)
+Ended (Err (Words text)) a = IsRefused a × OutKept a
+Ended (Err Read) a = IsUnread a × OutKept a
+Ended (Err Memory) a = MayStop a × OutKept a
+Ended (Err Write) a = (a.taken ≡ true) × IsWhole a.reading × (a.out_failed ≡ true)
 
 -- a whole run of the program: an attempt, the bytes of `err` before and after, whether a write to it failed, and the exit status
 pub record Run : Type 0 where
@@ -81,15 +111,19 @@ ErrKept r = Keeps r.err_before r.err_after × (r.err_failed ≡ false)
 
 -- how a run goes
 pub data Goes (r : Run) : Type 0 where
-  -- clap takes the words, and what is written is what the script gives
-  played : (outcome : Outcome) → r.attempt.taken ≡ true → IsPlayed r.attempt outcome → r.attempt.out_failed ≡ false → ErrKept r → r.status ≡ status_of outcome → Goes r
-  -- clap refuses the words, and its text stands on `err`
-  refused : (text : List ℕ) → r.attempt.taken ≡ false → OutKept r.attempt → Appends r.err_before r.err_after text → r.err_failed ≡ false → r.status ≡ 2 → Goes r
+  -- clap takes the words, the input is read whole, and what is written is what the script gives
+  played : (outcome : Outcome) → r.attempt.taken ≡ true → IsWhole r.attempt.reading → IsPlayed r.attempt outcome → r.attempt.out_failed ≡ false → ErrKept r → r.status ≡ status_of outcome → Goes r
+  -- clap refuses the words, nothing is read, and its text stands on `err`
+  refused : (text : List ℕ) → IsRefused r.attempt → OutKept r.attempt → Appends r.err_before r.err_after text → r.err_failed ≡ false → r.status ≡ 2 → Goes r
   -- the input can't be read whole
-  unread : r.attempt.taken ≡ true → IsReadFault r.attempt.input r.attempt.reads r.attempt.read_failed → OutKept r.attempt → Appends r.err_before r.err_after (codes "read fault\n") → r.err_failed ≡ false → r.status ≡ 1 → Goes r
+  unread : IsUnread r.attempt → OutKept r.attempt → Appends r.err_before r.err_after (codes "read fault\n") → r.err_failed ≡ false → r.status ≡ 1 → Goes r
   -- memory runs out before the script's run
-  stopped : Appends r.attempt.out_before r.attempt.out_after (codes "memory\n") → r.attempt.out_failed ≡ false → ErrKept r → r.status ≡ 1 → Goes r
-  -- a write to `out` fails, and nothing is written to `err`
-  out_fails : r.attempt.out_failed ≡ true → ErrKept r → r.status ≡ 1 → Goes r
-  -- a write to `err` fails, and nothing is written to `out`
-  err_fails : r.err_failed ≡ true → OutKept r.attempt → r.status ≡ 1 → Goes r
+  stopped : MayStop r.attempt → Appends r.attempt.out_before r.attempt.out_after (codes "memory\n") → r.attempt.out_failed ≡ false → ErrKept r → r.status ≡ 1 → Goes r
+  -- clap takes the words, the input is read whole, a write to `out` fails, and nothing is written to `err`
+  played_unsaid : r.attempt.taken ≡ true → IsWhole r.attempt.reading → r.attempt.out_failed ≡ true → ErrKept r → r.status ≡ 1 → Goes r
+  -- memory runs out before the script's run, the write of that to `out` fails, and nothing is written to `err`
+  stopped_unsaid : MayStop r.attempt → r.attempt.out_failed ≡ true → ErrKept r → r.status ≡ 1 → Goes r
+  -- clap refuses the words, nothing is read, the write of its text to `err` fails, and nothing is written to `out`
+  refused_unsaid : IsRefused r.attempt → r.err_failed ≡ true → OutKept r.attempt → r.status ≡ 1 → Goes r
+  -- the input can't be read whole, the write of that to `err` fails, and nothing is written to `out`
+  unread_unsaid : IsUnread r.attempt → r.err_failed ≡ true → OutKept r.attempt → r.status ≡ 1 → Goes r

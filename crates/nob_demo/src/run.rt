@@ -24,15 +24,19 @@ pub fn run<S: AsStr, R: Read, W: Write, E: Write>(
     out: &mut Sink<W>,
     err: &mut Sink<E>,
 ) -> u8
-    requires reader { (reader.old.reads ≡ 0) × (reader.old.failed ≡ false) }
+    requires reader { (reader.old.reads ≡ 0) × (reader.old.failed ≡ false) × (reader.old.ended ≡ false) }
     requires out { out.old.failed ≡ false }
     requires err { err.old.failed ≡ false }
     ensures goes { Goes (record {
       attempt = record {
         taken = takes_words (word_faults (map S.text words.now));
-        input = R.remaining reader.old.reader;
-        reads = reader.new.reads;
-        read_failed = reader.new.failed;
+        reading = record {
+          input = R.remaining reader.old.reader;
+          rest = R.remaining reader.new.reader;
+          reads = reader.new.reads;
+          failed = reader.new.failed;
+          ended = reader.new.ended;
+        };
         out_before = W.contents out.old.writer;
         out_after = W.contents out.new.writer;
         out_failed = out.new.failed;
@@ -59,13 +63,17 @@ fn attempt<S: AsStr, R: Read, W: Write>(
     reader: &mut Source<R>,
     out: &mut Sink<W>,
 ) -> Result<Outcome, Fault>
-    requires reader { (reader.old.reads ≡ 0) × (reader.old.failed ≡ false) }
+    requires reader { (reader.old.reads ≡ 0) × (reader.old.failed ≡ false) × (reader.old.ended ≡ false) }
     requires out { out.old.failed ≡ false }
     ensures ended { Ended result (record {
       taken = takes_words (word_faults (map S.text words.now));
-      input = R.remaining reader.old.reader;
-      reads = reader.new.reads;
-      read_failed = reader.new.failed;
+      reading = record {
+        input = R.remaining reader.old.reader;
+        rest = R.remaining reader.new.reader;
+        reads = reader.new.reads;
+        failed = reader.new.failed;
+        ended = reader.new.ended;
+      };
       out_before = W.contents out.old.writer;
       out_after = W.contents out.new.writer;
       out_failed = out.new.failed;

@@ -1,6 +1,6 @@
 //! The program's reader and writers, which keep whether one of their calls failed.
 
-ghost use Rattle.std.specs.Prelude.{◌≡◌, ◌+◌, ◌<◌, ℕ, true, false, IfOk, OnOk, OnErr, List, length, take};
+ghost use Rattle.std.specs.Prelude.{◌≡◌, ◌+◌, ◌<◌, ◌≤◌, ℕ, true, false, IfOk, OnOk, OnErr, List, length, take};
 ghost use Rattle.std.specs.Io.{ReadsAtMost};
 ghost use Rattle.std.specs.Io.KnownBytes.{Appends, Consumes, IsAtEnd};
 ghost use Rattle.nob_demo.specs.Program.{most_reads};
@@ -18,39 +18,57 @@ pub struct ReadFailed;
 #[derive(Clone, Copy, Debug, PartialEq, Eq)]
 pub struct WriteFailed;
 
-/// A reader, how often it was read, and whether that failed.
+/// A reader, how often it was read, whether that failed, and whether a read told the end.
 #[derive(Drop)]
 pub struct Source<R> {
     reader: R,
     reads: u32,
     failed: bool,
+    ended: bool,
 }
 
 impl<R: Read> Source<R> {
     /// This reader, from which nothing was read.
     pub fn new(reader: R) -> Source<R>
         ensures reader { result.reader ≡ reader }
-        ensures new { (result.reads ≡ 0) × (result.failed ≡ false) }
+        ensures new { (result.reads ≡ 0) × (result.failed ≡ false) × (result.ended ≡ false) }
     {
         Source {
             reader,
             reads: 0,
             failed: false,
+            ended: false,
         }
     }
 
-    /// Reads some bytes; none only at the end, or where there is no room for one.
+    /// Whether a read is left to make.
+    pub fn may_read(&self) -> bool
+        ensures left { result ≡ true → self.now.reads < most_reads }
+        ensures none { result ≡ false → most_reads ≤ self.now.reads }
+    {
+        self.reads < MOST_READS
+    }
+
+    /// Reads some bytes into a piece with room for one; none only at the end. A reader that failed or told its end
+    /// is read no more.
     pub fn read(&mut self, piece: &mut [u8]) -> Result<usize, ReadFailed>
-        requires { self.old.reads < most_reads }
+        requires reads { self.old.reads < most_reads }
+        requires going { (self.old.failed ≡ false) × (self.old.ended ≡ false) }
+        requires room { 0 < length piece.old }
         ensures bound { ReadsAtMost result piece.new }
-        ensures bytes { IfOk result (λ n. Consumes (R.remaining self.old.reader) (R.remaining self.new.reader) (take n piece.new) × (n ≡ 0 → 0 < length piece.new → IsAtEnd (R.remaining self.new.reader))) }
+        ensures bytes { IfOk result (λ n. Consumes (R.remaining self.old.reader) (R.remaining self.new.reader) (take n piece.new)) }
+        ensures end { IfOk result (λ n. n ≡ 0 → IsAtEnd (R.remaining self.new.reader) × (self.new.ended ≡ true)) }
+        ensures more { IfOk result (λ n. 0 < n → self.new.ended ≡ false) }
         ensures reads { self.new.reads ≡ self.old.reads + 1 }
-        ensures ok { OnOk result (self.new.failed ≡ self.old.failed) }
-        ensures err { OnErr result (self.new.failed ≡ true) }
+        ensures ok { OnOk result (self.new.failed ≡ false) }
+        ensures err { OnErr result ((self.new.failed ≡ true) × (self.new.ended ≡ false)) }
     {
         self.reads += 1;
         match self.reader.read(piece) {
-            Ok(count) => Ok(count),
+            Ok(count) => {
+                self.ended = count == 0;
+                Ok(count)
+            }
             Err(_) => {
                 self.failed = true;
                 Err(ReadFailed)
@@ -78,9 +96,10 @@ impl<W: Write> Sink<W> {
         }
     }
 
-    /// Writes all these bytes.
+    /// Writes all these bytes. To a writer that failed nothing more is written.
     pub fn write_all(&mut self, bytes: &[u8]) -> Result<(), WriteFailed>
-        ensures ok { OnOk result (self.new.failed ≡ self.old.failed) }
+        requires { self.old.failed ≡ false }
+        ensures ok { OnOk result (self.new.failed ≡ false) }
         ensures bytes { OnOk result (Appends (W.contents self.old.writer) (W.contents self.new.writer) bytes.now) }
         ensures err { OnErr result (self.new.failed ≡ true) }
     {

@@ -4,7 +4,7 @@ use crate::run::run;
 use crate::streams::{Sink, Source};
 use std::alloc::Global;
 use std::io;
-use std::io::Read;
+use std::io::{Read, Write};
 use std::process::Abort;
 use std::test::Fail;
 
@@ -123,15 +123,30 @@ fn bad_lines(rt: HostRuntime) -> Result<(), Fail> {
     Ok(())
 }
 
+// Refused words and how clap's text on them begins.
+const REFUSED: [([&str; 2], &str); 5] = [
+    (
+        ["nobj", "script"],
+        "error: unrecognized subcommand 'script'\n",
+    ),
+    (
+        ["nobj", "check"],
+        "error: unrecognized subcommand 'check'\n",
+    ),
+    (
+        ["nobj", "--pair"],
+        "error: unexpected argument '--pair' found\n",
+    ),
+    (
+        ["nobj", "--help"],
+        "Network Objects, proved: `nobj` alone is `nobj pair`\n\nUsage: nobj [COMMAND]\n",
+    ),
+    (["nobj", "--version"], "nobj 0.1.0\n"),
+];
+
 #[test]
 fn wrong_words(rt: HostRuntime) -> Result<(), Fail> {
-    for words in [
-        ["nobj", "script"],
-        ["nobj", "check"],
-        ["nobj", "spaces"],
-        ["nobj", "--help"],
-        ["nobj", "--version"],
-    ] {
+    for (words, wanted) in REFUSED {
         let mut out = Vec::new(rt.alloc());
         let mut err = Vec::new(rt.alloc());
         let status = run(
@@ -142,7 +157,8 @@ fn wrong_words(rt: HostRuntime) -> Result<(), Fail> {
             &mut Sink::new(&mut err),
         );
         assert_eq!(rt; status, 2);
-        assert!(rt; out.is_empty() && !err.is_empty());
+        assert!(rt; out.is_empty());
+        assert!(rt; err.starts_with(wanted.as_bytes()), "{wanted}");
     }
     Ok(())
 }
@@ -196,7 +212,7 @@ fn cut_at_any_byte(rt: HostRuntime) -> Result<(), Fail> {
     Ok(())
 }
 
-// A reader that gives three bytes a read, of which one fails, and a writer whose write of this number fails.
+// A reader that gives three bytes a read. The read after so many others fails, and those after it go on.
 #[derive(Drop)]
 struct Frail<'a> {
     rest: &'a [u8],
@@ -206,6 +222,7 @@ struct Frail<'a> {
 impl<'a> Read for Frail<'a> {
     fn read(&mut self, piece: &mut [u8]) -> io::Result<usize> {
         if self.before == 0 {
+            self.before = u32::MAX;
             return Err(io::Error::from(io::ErrorKind::Other));
         }
         self.before -= 1;
@@ -259,6 +276,59 @@ fn a_write_fails(rt: HostRuntime) -> Result<(), Fail> {
         );
         assert_eq!(rt; status, 1);
         assert!(rt; err.is_empty());
+    }
+    Ok(())
+}
+
+// A writer that takes three bytes a write. The write after so many others fails, and those after it go on.
+#[derive(Drop)]
+struct FrailOut<'a> {
+    taken: &'a mut Vec<u8>,
+    before: u32,
+}
+
+impl<'a> Write for FrailOut<'a> {
+    fn write(&mut self, bytes: &[u8]) -> io::Result<usize> {
+        if self.before == 0 {
+            self.before = u32::MAX;
+            return Err(io::Error::from(io::ErrorKind::Other));
+        }
+        self.before -= 1;
+        let count = bytes.len().min(3);
+        self.taken.extend_from_slice(&bytes[..count])?;
+        Ok(count)
+    }
+
+    fn flush(&mut self) -> io::Result<()> {
+        Ok(())
+    }
+}
+
+#[test]
+fn one_write_fails(rt: HostRuntime) -> Result<(), Fail> {
+    let (_status, whole, _err) = pair(rt.alloc(), FIRST_FRAME_LOST);
+    for before in 0..120u32 {
+        let mut out = Vec::new(rt.alloc());
+        let mut err = Vec::new(rt.alloc());
+        let frail = FrailOut {
+            taken: &mut out,
+            before,
+        };
+        let status = run(
+            rt.alloc(),
+            &["nobj"],
+            &mut Source::new(FIRST_FRAME_LOST),
+            &mut Sink::new(frail),
+            &mut Sink::new(&mut err),
+        );
+        assert!(rt; err.is_empty());
+        if out.len() == whole.len() {
+            assert_eq!(rt; status, 0);
+        } else {
+            assert_eq!(rt; status, 1);
+            assert_eq!(rt; out.len(), before as usize * 3);
+        }
+        assert!(rt; whole.starts_with(&out));
     }
     Ok(())
 }

@@ -7,6 +7,7 @@ use Rattle.nob_demo.proofs.reading.read_all.Goals as goal
 pub loop-init : goal.loop-init
 loop-init g c = record {
   reads = c.requires.0;
+  going = (c.requires.1, c.requires.2);
   read = subst (λ (xs : List ℕ). Consumes (g.R.Read.remaining c.args.source.now.reader) (g.R.Read.remaining c.args.source.now.reader) xs) (sym c.new-input.ensures.items) (consumes_none (g.R.Read.remaining c.args.source.now.reader));
   few = subst (λ (xs : List ℕ). length xs ≤ most_bytes) (sym c.new-input.ensures.items) (omega arith);
 }

@@ -1,4 +1,4 @@
-use Rattle.std.proofs.Common.{◌≡◌, ◌≤◌, length}
+use Rattle.std.proofs.Common.{◌≡◌, ◌≤◌, false, length}
 use Rattle.std.specs.Io.KnownBytes.{Consumes}
 use Rattle.nob_demo.specs.Program.{most_bytes}
 use Rattle.nob_demo.proofs.reading.read_all.Given as goal
@@ -8,5 +8,6 @@ abbrev pub invariant-loop : goal.invariant-loop
 invariant-loop g l = record {
   reads : l.source.reads ≡ l.counter;
   read : Consumes (g.R.Read.remaining l.fn.source.reader) (g.R.Read.remaining l.source.reader) l.input.items;
+  going : (l.source.failed ≡ false) × (l.source.ended ≡ false);
   few : length l.input.items ≤ most_bytes;
 }

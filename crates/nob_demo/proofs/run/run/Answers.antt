@@ -7,15 +7,19 @@ use Rattle.nob_demo.proofs.Endings.{refused_goes, unread_goes, stopped_goes}
 use Rattle.nob_demo.proofs.run.run.Goals as goal
 
 pub returns-in-Ok : goal.returns-in-Ok
-returns-in-Ok g c = let e = c.in-Ok.ensures.ended in record { goes = Goes.played c.in-Ok.outcome e.0 e.1 e.2 (keeps_same _, c.requires.err) c.status_of.ensures }
+returns-in-Ok g c = let e = c.in-Ok.ensures.ended in record { goes = Goes.played c.in-Ok.outcome e.0 e.1 e.2 e.3 (keeps_same _, c.requires.err) c.status_of.ensures }
 
 pub returns-in-Err-Words : goal.returns-in-Err-Words
 returns-in-Err-Words g c =
     let a : Attempt = record {
       taken = takes_words (word_faults (map g.S.AsStr.text c.args.words.now));
-      input = g.R.Read.remaining c.args.reader.now.reader;
-      reads = c.attempt.new.reader.reads;
-      read_failed = c.attempt.new.reader.failed;
+      reading = record {
+        input = g.R.Read.remaining c.args.reader.now.reader;
+        rest = g.R.Read.remaining c.attempt.new.reader.reader;
+        reads = c.attempt.new.reader.reads;
+        failed = c.attempt.new.reader.failed;
+        ended = c.attempt.new.reader.ended;
+      };
       out_before = g.W.Write.contents c.args.out.now.writer;
       out_after = g.W.Write.contents c.attempt.new.out.writer;
       out_failed = c.attempt.new.out.failed;
@@ -27,27 +31,35 @@ pub returns-in-Err-Read : goal.returns-in-Err-Read
 returns-in-Err-Read g c =
     let a : Attempt = record {
       taken = takes_words (word_faults (map g.S.AsStr.text c.args.words.now));
-      input = g.R.Read.remaining c.args.reader.now.reader;
-      reads = c.attempt.new.reader.reads;
-      read_failed = c.attempt.new.reader.failed;
+      reading = record {
+        input = g.R.Read.remaining c.args.reader.now.reader;
+        rest = g.R.Read.remaining c.attempt.new.reader.reader;
+        reads = c.attempt.new.reader.reads;
+        failed = c.attempt.new.reader.failed;
+        ended = c.attempt.new.reader.ended;
+      };
       out_before = g.W.Write.contents c.args.out.now.writer;
       out_after = g.W.Write.contents c.attempt.new.out.writer;
       out_failed = c.attempt.new.out.failed;
     } in
     let e = subst (λ (f : Fault). Ended (Err f) a) c.in-Err-Read.field-0-is c.in-Err-Read.ensures.ended in
-    record { goes = unread_goes _ e.0 e.1 e.2 c.said-in-Err-Read.ensures.written c.said-in-Err-Read.ensures.failed }
+    record { goes = unread_goes _ e.0 e.1 c.said-in-Err-Read.ensures.written c.said-in-Err-Read.ensures.failed }
 
 pub returns-in-Err-Memory : goal.returns-in-Err-Memory
 returns-in-Err-Memory g c =
     let a : Attempt = record {
       taken = takes_words (word_faults (map g.S.AsStr.text c.args.words.now));
-      input = g.R.Read.remaining c.args.reader.now.reader;
-      reads = c.attempt.new.reader.reads;
-      read_failed = c.attempt.new.reader.failed;
+      reading = record {
+        input = g.R.Read.remaining c.args.reader.now.reader;
+        rest = g.R.Read.remaining c.attempt.new.reader.reader;
+        reads = c.attempt.new.reader.reads;
+        failed = c.attempt.new.reader.failed;
+        ended = c.attempt.new.reader.ended;
+      };
       out_before = g.W.Write.contents c.args.out.now.writer;
       out_after = g.W.Write.contents c.attempt.new.out.writer;
       out_failed = c.attempt.new.out.failed;
     } in
     let e = subst (λ (f : Fault). Ended (Err f) a) c.in-Err-Memory.field-0-is c.in-Err-Memory.ensures.ended in
     let written = c.said-in-Err-Memory.ensures.written in
-    record { goes = stopped_goes _ (keeps_same _, c.requires.err) (λ none. (kept_then_appends _ _ _ _ e.0 (written none).0, (written none).1)) c.said-in-Err-Memory.ensures.failed }
+    record { goes = stopped_goes _ e.0 (keeps_same _, c.requires.err) (λ none. (kept_then_appends _ _ _ _ e.1.0 (written none).0, (written none).1)) c.said-in-Err-Memory.ensures.failed }
