@@ -1,11 +1,130 @@
--- One place more without an idle surrogate.
-use Rattle.std.proofs.Common.{◌≡◌, ℕ, ◌+◌, ◌≤◌, ◌<◌, false, slice_get, Some, below_more}
+-- The first idle surrogate: of one part, of some parts, of all.
+use Rattle.std.proofs.Common.{◌≡◌, ℕ, ◌<◌, ◌≤◌, ◌+◌, ◌⊎◌, inl, inr, Bool, true, false, ◌==◌, List, length, Option, Some, None, IsSome, MatchOption, slice_get, get_or, nat_lt, nat_le, refl, sym, ap, subst, ◌∙◌, arith, if◌then◌else◌, eqb-true, true≢false}
+use Rattle.std.proofs.lemmas.Bool.Decides.{Decides-ltb, nat_tests}
+use Rattle.std.proofs.lemmas.Cmp.{nat_eq_equiv}
+use Rattle.std.proofs.lemmas.Map.Entries.{lookup_from_place, place_from_lookup}
+use Rattle.std.proofs.lemmas.Option.{same_Some, none-some, slice_get-map, slice_get-get_or, slice_get_within, get_or_from_slice_get}
+use Rattle.std.specs.List.Sorted.{IsPartitionedBy, IsPartitionPoint}
+use Rattle.std.specs.Option.{option_map}
 use Rattle.nob_ids.specs.declared.wire_rep.WireRep.{WireRep}
-use Rattle.nob_table.specs.Standings.{is_idle}
-use Rattle.nob_table.specs.Table.{Table, standing, order, NotIdleAt, NoneIdle}
+use Rattle.nob_ids.specs.Names.{is_same}
+use Rattle.nob_table.specs.declared.counts.Counts.{Counts}
+use Rattle.nob_table.specs.declared.peer.Peer.{Peer}
+use Rattle.nob_table.specs.declared.standing.Surrogate.{Surrogate}
+use Rattle.nob_table.specs.Order.{place_in, IsBefore, IsRising}
+use Rattle.nob_table.specs.Peers.{counted_of, surrogates_of, AreParts, is_idle_in, NeverIdleIn, NoneIdleIn, IsFirstIn, earlier_of}
+use Rattle.nob_table.specs.Rows.{row_at, reps_of, IsOnce}
+use Rattle.nob_table.specs.Standings.{is_idle, far_standing}
+use Rattle.nob_table.proofs.Rising.{rising_at}
+use Rattle.nob_table.proofs.Same.{same_laws, same_is}
 
-pub none_idle_more : (t : Table) (from at : ℕ) (rep : WireRep) → NoneIdle t from at → slice_get (order t) at ≡ Some rep → is_idle (standing t rep) ≡ false → NoneIdle t from (at + 1)
-none_idle_more t from at rep none got busy =
-    let here : from ≤ at → NotIdleAt t at = λ low. rw got busy in
-    let all : (k : ℕ) → k < at + 1 → from ≤ k → NotIdleAt t k = below_more (λ k. from ≤ k → NotIdleAt t k) at (λ k high low. none k low high) here in
-    λ k low high. all k high low
+-- none of the rows below this place in the list is idle, from a place in the order on
+abbrev pub NoneBelow : List (WireRep × Counts) → List (WireRep × Surrogate) → ℕ → ℕ → Type 0
+NoneBelow counted rows from at = (k : ℕ) (e : WireRep × Surrogate) → k < at → slice_get rows k ≡ Some e → from ≤ e.1.place → is_idle (far_standing (Some e.1) (row_at counted e.0)) ≡ false
+
+some_of : (o : Option Surrogate) (place : ℕ) → option_map (λ s. s.place) o ≡ Some place → (s : Surrogate) × (o ≡ Some s) × (s.place ≡ place)
+some_of None place is = absurd (none-some place is)
+some_of (Some s) place is = (s, refl, same_Some s.place place is)
+
+module _ (rows : List (WireRep × Surrogate)) (once : IsOnce rows) where
+  at_place : (i : ℕ) (e : WireRep × Surrogate) → slice_get rows i ≡ Some e → row_at rows e.0 ≡ Some e.1
+  at_place i e got = lookup_from_place same_laws rows i e.0 e.1 once got
+
+  place_at : (i : ℕ) (e : WireRep × Surrogate) → slice_get rows i ≡ Some e → place_in rows e.0 ≡ Some e.1.place
+  place_at i e got = ap (option_map (λ s. s.place)) (at_place i e got)
+
+  module _ (rising : IsRising (place_in rows) (reps_of rows)) where
+    rows_rise : (i j : ℕ) (e f : WireRep × Surrogate) → i < j → slice_get rows i ≡ Some e → slice_get rows j ≡ Some f → e.1.place < f.1.place
+    rows_rise i j e f less first second =
+        let reps : (k : ℕ) (g : WireRep × Surrogate) → slice_get rows k ≡ Some g → slice_get (reps_of rows) k ≡ Some g.0 =
+        λ k g got. slice_get-map (λ (w : WireRep × Surrogate). w.0) rows k ∙ ap (option_map (λ (w : WireRep × Surrogate). w.0)) got in
+        let before : IsBefore (place_in rows e.0) (place_in rows f.0) = rising_at (place_in rows) (reps_of rows) i j e.0 f.0 rising less (reps i e first) (reps j f second) in
+        subst (λ (o : Option ℕ). IsBefore (Some e.1.place) o) (place_at j f second) (subst (λ (o : Option ℕ). IsBefore o (place_in rows f.0)) (place_at i e first) before)
+
+    -- those with a place below another come first
+    pub partitioned : (n : ℕ) → IsPartitionedBy (λ (e : WireRep × Surrogate). nat_lt e.1.place n) rows
+    partitioned n i j d le within later =
+        let first : slice_get rows i ≡ Some (get_or rows i d) = slice_get-get_or rows i d (omega arith) in
+        let second : slice_get rows j ≡ Some (get_or rows j d) = slice_get-get_or rows j d within in
+        let less : (get_or rows j d).1.place < n = (Decides-ltb (get_or rows j d).1.place n).0 later in
+        elim (i == j) as (λ b. (i == j) ≡ b → nat_lt (get_or rows i d).1.place n ≡ true) [
+          | true ↦ λ t. subst (λ (k : ℕ). nat_lt (get_or rows k d).1.place n ≡ true) (sym (eqb-true i j t)) later
+          | false ↦ λ u.
+              let apart : i ≡ j → ⊥ = λ e. true≢false (sym (rw e (nat_eq_equiv.refl j)) ∙ u) in
+              let rise : (get_or rows i d).1.place < (get_or rows j d).1.place = rows_rise i j (get_or rows i d) (get_or rows j d) (omega arith) first second in
+              (Decides-ltb (get_or rows i d).1.place n).1 (omega (arith, rise, less))
+        ] refl
+
+    -- what the partition point says of a row
+    pub below_point : (n point at : ℕ) (e : WireRep × Surrogate) → IsPartitionPoint (λ (w : WireRep × Surrogate). nat_lt w.1.place n ≡ true) (λ (w : WireRep × Surrogate). nat_lt w.1.place n ≡ false) rows point
+        → slice_get rows at ≡ Some e → at < point → e.1.place < n
+    below_point n point at e parted got less =
+        let is : get_or rows at e ≡ e = get_or_from_slice_get rows at e e got in
+        (Decides-ltb e.1.place n).0 (subst (λ (w : WireRep × Surrogate). nat_lt w.1.place n ≡ true) is (parted.0 at e (omega arith) less))
+
+    pub from_point : (n point at : ℕ) (e : WireRep × Surrogate) → IsPartitionPoint (λ (w : WireRep × Surrogate). nat_lt w.1.place n ≡ true) (λ (w : WireRep × Surrogate). nat_lt w.1.place n ≡ false) rows point
+        → slice_get rows at ≡ Some e → point ≤ at → n ≤ e.1.place
+    from_point n point at e parted got le =
+        let is : get_or rows at e ≡ e = get_or_from_slice_get rows at e e got in
+        let no_less : nat_lt e.1.place n ≡ false = subst (λ (w : WireRep × Surrogate). nat_lt w.1.place n ≡ false) is (parted.1 at e le (slice_get_within rows at e got)) in
+        elim (nat_le n e.1.place) as (λ b. nat_le n e.1.place ≡ b → n ≤ e.1.place) [ true ↦ λ t. grind (arith, nat_tests) | false ↦ λ u. grind (arith, nat_tests) ] refl
+
+    -- a row with a lesser place stands before
+    rows_before : (i k : ℕ) (e f : WireRep × Surrogate) → slice_get rows i ≡ Some e → slice_get rows k ≡ Some f → f.1.place < e.1.place → k < i
+    rows_before i k e f got there less =
+        elim (nat_lt k i) as (λ b. nat_lt k i ≡ b → k < i) [
+          | true ↦ λ t. (Decides-ltb k i).0 t
+          | false ↦ λ u. elim (nat_lt i k) as (λ b. nat_lt i k ≡ b → k < i) [
+            | true ↦ λ t. let rise : e.1.place < f.1.place = rows_rise i k e f ((Decides-ltb i k).0 t) got there in absurd (omega (arith, rise, less))
+            | false ↦ λ v.
+                let same : i ≡ k = grind (arith, nat_tests) in
+                let one : e ≡ f = same_Some e f (sym got ∙ ap (λ (n : ℕ). slice_get rows n) same ∙ there) in
+                let places : e.1.place ≡ f.1.place = ap (λ (w : WireRep × Surrogate). w.1.place) one in absurd (omega (arith, places, less))
+          ] refl
+        ] refl
+
+    module _ (counted : List (WireRep × Counts)) (from : ℕ) where
+      row_of : (rep : WireRep) (place : ℕ) → place_in rows rep ≡ Some place → (k : ℕ) × (e : WireRep × Surrogate) × (slice_get rows k ≡ Some e) × (e.0 ≡ rep) × (e.1.place ≡ place)
+      row_of rep place is =
+          let s = some_of (row_at rows rep) place is in
+          let at = place_from_lookup (is_same rep) rows s.0 s.1 in
+          (at.0, (at.1, s.0), at.2, sym (same_is rep at.1 at.3), s.2)
+
+      idle_row : (e : WireRep × Surrogate) (k : ℕ) (rep : WireRep) → slice_get rows k ≡ Some e → e.0 ≡ rep → is_idle (far_standing (Some e.1) (row_at counted e.0)) ≡ is_idle_in counted rows rep
+      idle_row e k rep got is =
+          subst (λ (w : WireRep). is_idle (far_standing (Some e.1) (row_at counted e.0)) ≡ is_idle_in counted rows w) is
+          (ap (λ (o : Option Surrogate). is_idle (far_standing o (row_at counted e.0))) (sym (at_place k e got)))
+
+      -- the row at this place is the first idle one
+      pub first_found : (at : ℕ) (e : WireRep × Surrogate) → NoneBelow counted rows from at → slice_get rows at ≡ Some e → from ≤ e.1.place → is_idle (far_standing (Some e.1) (row_at counted e.0)) ≡ true
+          → IsFirstIn counted rows from e.1.place e.0
+      first_found at e none got low idle = (
+        low,
+        place_at at e got,
+        sym (idle_row e at e.0 got refl) ∙ idle,
+        λ rep place is from_low less.
+            let found = row_of rep place is in
+            let k : ℕ = found.0 in
+            let f : WireRep × Surrogate = found.1 in
+            let there : slice_get rows k ≡ Some f = found.2 in
+            let same : f.1.place ≡ place = found.4 in
+            sym (idle_row f k rep there found.3) ∙ none k f (rows_before at k e f got there (omega (arith, same))) there (omega (arith, same)),
+      )
+
+      -- no row is idle
+      pub none_found : NoneBelow counted rows from (length rows) → NeverIdleIn counted rows from
+      none_found none rep place is low =
+          let found = row_of rep place is in
+          let f : WireRep × Surrogate = found.1 in
+          let there : slice_get rows found.0 ≡ Some f = found.2 in
+          let same : f.1.place ≡ place = found.4 in
+          sym (idle_row f found.0 rep there found.3) ∙ none found.0 f (slice_get_within rows found.0 f there) there (omega (arith, same))
+
+module _ (parts : List Peer) (place : ℕ) where
+  -- what is found in the first few parts
+  abbrev pub IsFirstOf : ℕ → Option (ℕ × WireRep) → Type 0
+  IsFirstOf few first =
+      MatchOption first
+      ((k : ℕ) (p : Peer) → k < few → slice_get parts k ≡ Some p → NeverIdleIn p.counted.rows p.surrogates.rows place)
+      (λ found. ((k : ℕ) × (p : Peer) × (slice_get parts k ≡ Some p) × IsFirstIn p.counted.rows p.surrogates.rows place found.0 found.1)
+      × ((k : ℕ) (p : Peer) → k < few → slice_get parts k ≡ Some p → NoneIdleIn p.counted.rows p.surrogates.rows place found.0))

@@ -1,3 +1,11 @@
+pub mod Changed
+pub mod First
+pub mod Flat
+pub mod Grown
 pub mod Idle
+pub mod Ordered
+pub mod Parts
+pub mod Rising
 pub mod Same
 pub mod Stands
+pub mod Tables

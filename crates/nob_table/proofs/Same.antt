@@ -56,28 +56,9 @@ module _ {K X : Type 0} {eq : K → K → Bool} (laws : IsEquivalence eq) (q : K
         ]
       ] refl
 
--- a filter that lets all through
-keep_all : {X : Type 0} (o : Option X) → keep_if (λ _. true) o ≡ o
-keep_all None = refl
-keep_all (Some x) = refl
-
--- the rows that are left where an owner's rows go that nobody holds
-pub held_rows : (owner : ℕ) (es : List (WireRep × Counts)) → IsDistinct is_same (keys_of es) → (q : WireRep)
-    → row_at (filter (λ e. not (e.0.owner == owner) || is_held e.1) es) q ≡ (if q.owner == owner then keep_if is_held (row_at es q) else row_at es q)
-held_rows owner es distinct q =
-    lookup_filter same_laws q (λ e. not (e.0.owner == owner) || is_held e.1) (λ x. not (q.owner == owner) || is_held x)
-    (λ k x same. ap (λ (w : WireRep). not (w.owner == owner) || is_held x) (sym (same_is q k same))) es distinct
-    ∙ elim (q.owner == owner) as (λ b. keep_if (λ x. not b || is_held x) (row_at es q) ≡ (if b then keep_if is_held (row_at es q) else row_at es q)) [
-      | true ↦ refl
-      | false ↦ keep_all (row_at es q)
-    ]
-
--- the rows that are left where all rows of an owner go
-pub other_rows : {X : Type 0} (owner : ℕ) (es : List (WireRep × X)) (q : WireRep)
-    → row_at (filter (λ e. not (e.0.owner == owner)) es) q ≡ (if q.owner == owner then None else row_at es q)
-other_rows owner es q =
-    lookup-filter-keys (is_same q) (λ k. not (k.owner == owner)) (not (q.owner == owner)) (λ k same. ap (λ (w : WireRep). not (w.owner == owner)) (sym (same_is q k same))) es
-    ∙ elim (q.owner == owner) as (λ b. cond (not b) (row_at es q) None ≡ (if b then None else row_at es q)) [ true ↦ refl | false ↦ refl ]
+-- the rows that are left where the rows go that nobody holds
+pub held_rows : (es : List (WireRep × Counts)) → IsDistinct is_same (keys_of es) → (q : WireRep) → row_at (filter (λ e. is_held e.1) es) q ≡ keep_if is_held (row_at es q)
+held_rows es distinct q = lookup_filter same_laws q (λ e. is_held e.1) is_held (λ k x same. refl) es distinct
 
 -- the keys of the rows whose key passes are the keys that pass
 pub keys_of-filter : {K X : Type 0} (p : K → Bool) (es : List (K × X)) → keys_of (filter (λ e. p e.0) es) ≡ filter p (keys_of es)

@@ -3,15 +3,18 @@ use Rattle.std.proofs.Common.{◌≡◌, ℕ, Bool, true, false, ◌==◌, ◌||
 use Rattle.std.proofs.lemmas.Cmp.{nat_eq_equiv}
 use Rattle.std.proofs.lemmas.Map.Keys.{any_passes_from_place}
 use Rattle.std.specs.List.{list_any}
+use Rattle.std.specs.Option.{option_map}
 use Rattle.std.specs.Map.{lookup, keys_of}
 use Rattle.nob_ids.specs.declared.wire_rep.WireRep.{WireRep}
 use Rattle.nob_table.specs.declared.counts.Counts.{Counts}
 use Rattle.nob_table.specs.declared.standing.Grant.{Grant}
 use Rattle.nob_table.specs.declared.standing.Grant.TheVariants.{Waits, Given, Denied}
 use Rattle.nob_table.specs.declared.standing.Standing.{Standing}
+use Rattle.nob_table.specs.declared.standing.Surrogate.{Surrogate}
+use Rattle.nob_table.specs.Order.{place_in}
 use Rattle.nob_ids.specs.Names.{is_same}
 use Rattle.nob_table.specs.Rows.{row_at, reps_of, Puts}
-use Rattle.nob_table.specs.Standings.{own_standing, far_standing, is_known, is_live, is_pending, is_surrogate, state_of, in_state, with_counts}
+use Rattle.nob_table.specs.Standings.{own_standing, far_standing, is_known, is_live, is_pending, is_surrogate, state_of, in_state, with_counts, answered}
 use Rattle.nob_table.specs.Table.{stands, was_given, IsTable}
 use Rattle.nob_table.proofs.Same.{same_refl, same_is}
 
@@ -24,32 +27,38 @@ puts_same rows rep other =
     ] refl
 
 -- what is put at a reference stands there
-put_there : {X : Type 0} (old new : List (WireRep × X)) (rep : WireRep) (row : Option X) → Puts old new rep row → row_at new rep ≡ row
+pub put_there : {X : Type 0} (old new : List (WireRep × X)) (rep : WireRep) (row : Option X) → Puts old new rep row → row_at new rep ≡ row
 put_there old new rep row puts = puts rep ∙ (rw same_refl refl)
 
 -- only a surrogate is pending, and an answer changes its state alone
-answer_state : (mine given : Bool) (row : Option Counts) (old : Option Grant) (counts : Option Counts) (grant : Grant)
+answer_state : (mine given : Bool) (row : Option Counts) (old : Option Surrogate) (counts : Option Counts) (grant : Grant)
     → is_pending (if mine then own_standing given row else far_standing old counts).state ≡ true
-    → (mine ≡ false) × (far_standing (Some grant) counts ≡ in_state (state_of grant) (far_standing old counts))
+    → (mine ≡ false) × (IsSome old) × (far_standing (option_map (answered grant) old) counts ≡ in_state (state_of grant) (far_standing old counts))
 answer_state true true None old counts grant p = absurd (cc)
 answer_state true false None old counts grant p = absurd (cc)
 answer_state true true (Some x) old counts grant p = absurd (cc)
 answer_state true false (Some x) old counts grant p = absurd (cc)
 answer_state false given row old None grant p = absurd (cc)
 answer_state false given row None (Some c) grant p = absurd (cc)
-answer_state false given row (Some g) (Some c) grant p = (refl, refl)
+answer_state false given row (Some g) (Some c) grant p = (refl, refl, refl)
 
 -- counts change alone where there are some
-write_state : (old : Option Grant) (counts : Option Counts) (after : Counts) → is_known (far_standing old counts).state ≡ true
+write_state : (old : Option Surrogate) (counts : Option Counts) (after : Counts) → is_known (far_standing old counts).state ≡ true
     → far_standing old (Some after) ≡ with_counts after (far_standing old counts)
 write_state old None after p = absurd (cc)
 write_state None (Some c) after p = refl
 write_state (Some g) (Some c) after p = refl
 
--- a reference with an answer is a surrogate
-placed_state : (mine given : Bool) (row : Option Counts) (grant : Option Grant) (counts : Option Counts)
-    → (IsSome grant → IsSome counts) → (IsSome counts → mine ≡ false)
-    → is_some grant ≡ is_surrogate (if mine then own_standing given row else far_standing grant counts).state
+-- each answer makes a surrogate
+grant_state : (grant : Grant) → (is_surrogate (state_of grant) ≡ true) × (is_live (state_of grant) ≡ false)
+grant_state Waits = (refl, refl)
+grant_state Given = (refl, refl)
+grant_state Denied = (refl, refl)
+
+-- a reference with a place is a surrogate
+placed_state : (mine given : Bool) (row : Option Counts) (surrogate : Option Surrogate) (counts : Option Counts)
+    → (IsSome surrogate → IsSome counts) → (IsSome counts → mine ≡ false)
+    → is_some (option_map (λ s. s.place) surrogate) ≡ is_surrogate (if mine then own_standing given row else far_standing surrogate counts).state
 placed_state true given row (Some g) counts has far = let bad = far (has refl) in absurd (cc)
 placed_state true true None None counts has far = refl
 placed_state true false None None counts has far = refl
@@ -58,26 +67,22 @@ placed_state true false (Some x) None counts has far = refl
 placed_state false given row None None has far = refl
 placed_state false given row None (Some c) has far = refl
 placed_state false given row (Some g) None has far = let bad = has refl in absurd (cc)
-placed_state false given row (Some Waits) (Some c) has far = refl
-placed_state false given row (Some Given) (Some c) has far = refl
-placed_state false given row (Some Denied) (Some c) has far = refl
+placed_state false given row (Some g) (Some c) has far = sym (grant_state g.grant).0
 
 -- an own reference with counts is live, and no other
-live_state : (mine given : Bool) (row : Option Counts) (grant : Option Grant) (counts : Option Counts) → (IsSome row → mine ≡ true)
-    → is_some row ≡ is_live (if mine then own_standing given row else far_standing grant counts).state
-live_state true true None grant counts owned = refl
-live_state true false None grant counts owned = refl
-live_state true true (Some x) grant counts owned = refl
-live_state true false (Some x) grant counts owned = refl
-live_state false given (Some x) grant counts owned = let bad = owned refl in absurd (cc)
-live_state false given None grant None owned = refl
+live_state : (mine given : Bool) (row : Option Counts) (surrogate : Option Surrogate) (counts : Option Counts) → (IsSome row → mine ≡ true)
+    → is_some row ≡ is_live (if mine then own_standing given row else far_standing surrogate counts).state
+live_state true true None surrogate counts owned = refl
+live_state true false None surrogate counts owned = refl
+live_state true true (Some x) surrogate counts owned = refl
+live_state true false (Some x) surrogate counts owned = refl
+live_state false given (Some x) surrogate counts owned = let bad = owned refl in absurd (cc)
+live_state false given None surrogate None owned = refl
 live_state false given None None (Some c) owned = refl
-live_state false given None (Some Waits) (Some c) owned = refl
-live_state false given None (Some Given) (Some c) owned = refl
-live_state false given None (Some Denied) (Some c) owned = refl
+live_state false given None (Some g) (Some c) owned = sym (grant_state g.grant).1
 
 -- a key is among the keys where a look-up finds it
-any_key : {K X : Type 0} (test : K → Bool) (es : List (K × X)) → list_any test (keys_of es) ≡ is_some (lookup test es)
+pub any_key : {K X : Type 0} (test : K → Bool) (es : List (K × X)) → list_any test (keys_of es) ≡ is_some (lookup test es)
 any_key test [] = refl
 any_key test (e ∷ es) =
     elim (test e.0) as (λ b. (b || list_any test (keys_of es)) ≡ is_some (cond b (Some e.1) (lookup test es))) [
@@ -85,9 +90,9 @@ any_key test (e ∷ es) =
       | false ↦ any_key test es
     ]
 
-module _ (me exported : ℕ) (objects counted : List (WireRep × Counts)) (surrogates : List (WireRep × Grant)) (rep : WireRep) where
+module _ (me exported : ℕ) (objects counted : List (WireRep × Counts)) (surrogates : List (WireRep × Surrogate)) (rep : WireRep) where
   -- rows of another space's reference
-  far_put : (counted' : List (WireRep × Counts)) (surrogates' : List (WireRep × Grant)) (counts : Option Counts) (grant : Option Grant) → rep.owner == me ≡ false
+  far_put : (counted' : List (WireRep × Counts)) (surrogates' : List (WireRep × Surrogate)) (counts : Option Counts) (grant : Option Surrogate) → rep.owner == me ≡ false
       → Puts counted counted' rep counts → Puts surrogates surrogates' rep grant → (other : WireRep)
       → stands me exported objects counted' surrogates' other ≡ (if is_same rep other then far_standing grant counts else stands me exported objects counted surrogates other)
   far_put counted' surrogates' counts grant far puts puts' other =
@@ -100,14 +105,14 @@ module _ (me exported : ℕ) (objects counted : List (WireRep × Counts)) (surro
       ] refl
 
   -- the owner's answer to a pending reference
-  pub answered : (surrogates' : List (WireRep × Grant)) (grant : Grant) → is_pending (stands me exported objects counted surrogates rep).state ≡ true
-      → Puts surrogates surrogates' rep (Some grant) → (other : WireRep)
+  pub answered_one : (surrogates' : List (WireRep × Surrogate)) (grant : Grant) → is_pending (stands me exported objects counted surrogates rep).state ≡ true
+      → Puts surrogates surrogates' rep (option_map (answered grant) (row_at surrogates rep)) → (other : WireRep)
       → stands me exported objects counted surrogates' other ≡ (if is_same rep other then in_state (state_of grant) (stands me exported objects counted surrogates rep) else stands me exported objects counted surrogates other)
-  answered surrogates' grant pending puts other =
+  answered_one surrogates' grant pending puts other =
       let says = answer_state (rep.owner == me) (was_given exported rep.index) (row_at objects rep) (row_at surrogates rep) (row_at counted rep) grant pending in
       let is : stands me exported objects counted surrogates rep ≡ far_standing (row_at surrogates rep) (row_at counted rep) = rw says.0 refl in
-      far_put counted surrogates' (row_at counted rep) (Some grant) says.0 (puts_same counted rep) puts other
-      ∙ ap (λ (s : Standing). if is_same rep other then s else stands me exported objects counted surrogates other) (says.1 ∙ ap (in_state (state_of grant)) (sym is))
+      far_put counted surrogates' (row_at counted rep) (option_map (answered grant) (row_at surrogates rep)) says.0 (puts_same counted rep) puts other
+      ∙ ap (λ (s : Standing). if is_same rep other then s else stands me exported objects counted surrogates other) (says.2 ∙ ap (in_state (state_of grant)) (sym is))
 
   -- other counts of a reference that has some
   pub written : (counted' : List (WireRep × Counts)) (after : Counts) → rep.owner == me ≡ false → is_known (stands me exported objects counted surrogates rep).state ≡ true
@@ -119,30 +124,32 @@ module _ (me exported : ℕ) (objects counted : List (WireRep × Counts)) (surro
       ∙ ap (λ (s : Standing). if is_same rep other then s else stands me exported objects counted surrogates other)
       (write_state (row_at surrogates rep) (row_at counted rep) after (rw is at known) ∙ ap (with_counts after) (sym is))
 
-  -- the surrogates are those that stand in the order
-  pub placed : IsTable me exported objects counted surrogates → list_any (is_same rep) (reps_of surrogates) ≡ is_surrogate (stands me exported objects counted surrogates rep).state
-  placed table =
-      any_key (is_same rep) surrogates
-      ∙ placed_state (rep.owner == me) (was_given exported rep.index) (row_at objects rep) (row_at surrogates rep) (row_at counted rep) (table.counts rep) (table.far rep)
+  -- what is pending is a surrogate
+  pub pending_there : is_pending (stands me exported objects counted surrogates rep).state ≡ true → IsSome (row_at surrogates rep)
+  pending_there pending = (answer_state (rep.owner == me) (was_given exported rep.index) (row_at objects rep) (row_at surrogates rep) (row_at counted rep) Waits pending).1
+
+  -- the surrogates are those with a place
+  pub placed : (dirties : ℕ) → IsTable me exported dirties objects counted surrogates → is_some (place_in surrogates rep) ≡ is_surrogate (stands me exported objects counted surrogates rep).state
+  placed dirties table = placed_state (rep.owner == me) (was_given exported rep.index) (row_at objects rep) (row_at surrogates rep) (row_at counted rep) (table.counts rep) (table.far rep)
 
   -- the live objects are those that stand in their order
-  pub live_placed : IsTable me exported objects counted surrogates → list_any (is_same rep) (reps_of objects) ≡ is_live (stands me exported objects counted surrogates rep).state
-  live_placed table =
+  pub live_placed : (dirties : ℕ) → IsTable me exported dirties objects counted surrogates → list_any (is_same rep) (reps_of objects) ≡ is_live (stands me exported objects counted surrogates rep).state
+  live_placed dirties table =
       any_key (is_same rep) objects
       ∙ live_state (rep.owner == me) (was_given exported rep.index) (row_at objects rep) (row_at surrogates rep) (row_at counted rep)
       (λ has. let owned : rep.owner ≡ me = (table.given rep has).0 in rw owned (nat_eq_equiv.refl me))
 
   -- the object at a place of that order is the space's own, and live
-  live_there : IsTable me exported objects counted surrogates → (place : ℕ) → slice_get (reps_of objects) place ≡ Some rep
+  live_there : (dirties : ℕ) → IsTable me exported dirties objects counted surrogates → (place : ℕ) → slice_get (reps_of objects) place ≡ Some rep
       → (rep.owner ≡ me) × (is_live (stands me exported objects counted surrogates rep).state ≡ true)
-  live_there table place got =
+  live_there dirties table place got =
       let found = any_passes_from_place (is_same rep) (reps_of objects) place rep got (same_refl rep) in
       let has : is_some (row_at objects rep) ≡ true = sym (any_key (is_same rep) objects) ∙ found in
-      ((table.given rep has).0, sym (live_placed table) ∙ found)
+      ((table.given rep has).0, sym (live_placed dirties table) ∙ found)
 
 -- what stands at a place of the live objects' order is the space's own, and live
-pub live_found : (me exported : ℕ) (objects counted : List (WireRep × Counts)) (surrogates : List (WireRep × Grant)) (place : ℕ) (found : Option WireRep)
-    → IsTable me exported objects counted surrogates → found ≡ slice_get (reps_of objects) place
+pub live_found : (me exported dirties : ℕ) (objects counted : List (WireRep × Counts)) (surrogates : List (WireRep × Surrogate)) (place : ℕ) (found : Option WireRep)
+    → IsTable me exported dirties objects counted surrogates → found ≡ slice_get (reps_of objects) place
     → IfSome found (λ rep. (rep.owner ≡ me) × (is_live (stands me exported objects counted surrogates rep).state ≡ true))
-live_found me exported objects counted surrogates place None table is = search rules
-live_found me exported objects counted surrogates place (Some rep) table is = live_there me exported objects counted surrogates rep table place (sym is)
+live_found me exported dirties objects counted surrogates place None table is = search rules
+live_found me exported dirties objects counted surrogates place (Some rep) table is = live_there me exported objects counted surrogates rep dirties table place (sym is)

@@ -1,5 +1,7 @@
 pub use Rattle.nob_ids.specs.Names
 pub mod Counts
+pub mod Order
+pub mod Peers
 pub mod Rows
 pub mod Standings
 pub mod Table

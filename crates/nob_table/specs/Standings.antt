@@ -1,5 +1,5 @@
 -- How a reference stands: the words on a state, and what each change makes of a standing.
-use Rattle.std.specs.Prelude.{Bool, true, false, not, Option, Some, None, if◌then◌else◌}
+use Rattle.std.specs.Prelude.{ℕ, Bool, true, false, not, Option, Some, None, if◌then◌else◌}
 use Rattle.nob_table.specs.declared.counts.Counts.{Counts}
 use Rattle.nob_table.specs.declared.counts.Part.{Part}
 use Rattle.nob_table.specs.declared.standing.State.{State}
@@ -7,6 +7,7 @@ use Rattle.nob_table.specs.declared.standing.State.TheVariants.{Unknown, Live, W
 use Rattle.nob_table.specs.declared.standing.Standing.{Standing}
 use Rattle.nob_table.specs.declared.standing.Grant.{Grant}
 use Rattle.nob_table.specs.declared.standing.Grant.TheVariants.{Waits, Given, Denied}
+use Rattle.nob_table.specs.declared.standing.Surrogate.{Surrogate}
 use Rattle.nob_table.specs.Counts.{no_counts, is_held, more, fewer}
 
 -- the table has nothing of the reference
@@ -79,11 +80,19 @@ own_standing given (Some counts) = record { state = Live; counts = counts }
 own_standing true None = record { state = Withdrawn; counts = no_counts }
 own_standing false None = unknown
 
--- how a reference to another space's object stands: by the answer of its surrogate on an open session, and its counts
-abbrev pub far_standing : Option Grant → Option Counts → Standing
-far_standing grant None = unknown
+-- the surrogate of a Dirty that was just sent, at this place
+abbrev pub sent : ℕ → Surrogate
+sent place = record { grant = Waits; place = place }
+
+-- the surrogate with its owner's answer
+abbrev pub answered : Grant → Surrogate → Surrogate
+answered grant surrogate = record { grant = grant; place = surrogate.place }
+
+-- how a reference to another space's object stands: by its surrogate on an open session, and its counts
+abbrev pub far_standing : Option Surrogate → Option Counts → Standing
+far_standing surrogate None = unknown
 far_standing None (Some counts) = record { state = Lost; counts = counts }
-far_standing (Some grant) (Some counts) = record { state = state_of grant; counts = counts }
+far_standing (Some surrogate) (Some counts) = record { state = state_of surrogate.grant; counts = counts }
 
 -- the standing with other counts
 abbrev pub with_counts : Counts → Standing → Standing

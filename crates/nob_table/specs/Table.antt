@@ -1,9 +1,10 @@
 -- The table as plain data, its words, and what each call makes of it.
-use Rattle.std.specs.Prelude.{◌≡◌, ℕ, ◌<◌, ◌≤◌, ◌==◌, ◌&&◌, ◌||◌, Bool, true, false, not, nat_le, List, length, slice_get, Option, Some, None, IsSome, IfSome, if◌then◌else◌}
+use Rattle.std.specs.Prelude.{◌≡◌, ℕ, ◌<◌, ◌≤◌, ◌==◌, ◌&&◌, ◌||◌, Bool, true, false, not, nat_le, List, length, slice_get, Option, Some, None, IsSome, IfSome, is_some, if◌then◌else◌}
+use Rattle.std.specs.List.{list_any}
 use Rattle.nob_ids.specs.declared.wire_rep.WireRep.{WireRep}
 use Rattle.nob_table.specs.declared.counts.Counts.{Counts}
 use Rattle.nob_table.specs.declared.counts.Part.{Part}
-use Rattle.nob_table.specs.declared.standing.Grant.{Grant}
+use Rattle.nob_table.specs.declared.standing.Surrogate.{Surrogate}
 use Rattle.nob_table.specs.declared.standing.Standing.{Standing}
 use Rattle.nob_table.specs.declared.fault.TableFault.{TableFault}
 use Rattle.nob_table.specs.declared.fault.TableFault.TheVariants.{Absent, Limit, StillUsed}
@@ -12,6 +13,7 @@ use Rattle.nob_table.specs.declared.fault.TableError.TheVariants.{Fault, OutOfMe
 use Rattle.nob_table.specs.Counts as counts
 use Rattle.nob_table.specs.Counts.{is_held}
 use Rattle.nob_ids.specs.Names.{is_same}
+use Rattle.nob_table.specs.Order.{place_in, IsRising}
 use Rattle.nob_table.specs.Rows.{row_at, reps_of}
 use Rattle.nob_table.specs.Standings.{is_known, is_unknown, is_live, is_pending, is_granted, is_idle, own_standing, far_standing}
 
@@ -21,15 +23,17 @@ pub record Table : Type 0 where
   pub me : ℕ
   -- the indexes given so far are 1 to this one
   pub exported : ℕ
+  -- how many Dirties were sent: the place of the next one's surrogate
+  pub dirties : ℕ
   -- the space's live objects, with their counts, in no order
   pub objects : List (WireRep × Counts)
   -- the counts of other spaces' references: of surrogates, and of lost references, in no order
   pub counted : List (WireRep × Counts)
-  -- the surrogates on open sessions with their owners' answers, in the order of their last Dirties
-  pub surrogates : List (WireRep × Grant)
+  -- the surrogates on open sessions with their owners' answers and their places, in no order
+  pub surrogates : List (WireRep × Surrogate)
   -- how many more exports fit
   pub export_room : ℕ
-  -- how many more surrogates fit
+  -- how many more surrogates fit, whoever the owners are
   pub surrogate_room : ℕ
 
 -- how many objects are live at most
@@ -40,6 +44,10 @@ most_objects = 65536
 abbrev pub most_surrogates : ℕ
 most_surrogates = 65536
 
+-- how many Dirties are sent at most: as many as 64 bits can count
+abbrev pub most_dirties : ℕ
+most_dirties = 18446744073709551615
+
 -- the greatest index: 2^48
 abbrev pub most_index : ℕ
 most_index = 281474976710656
@@ -49,7 +57,7 @@ abbrev pub was_given : ℕ → ℕ → Bool
 was_given exported index = nat_le 1 index && nat_le index exported
 
 -- how a reference stands, by the tables of a space
-abbrev pub stands : ℕ → ℕ → List (WireRep × Counts) → List (WireRep × Counts) → List (WireRep × Grant) → WireRep → Standing
+abbrev pub stands : ℕ → ℕ → List (WireRep × Counts) → List (WireRep × Counts) → List (WireRep × Surrogate) → WireRep → Standing
 stands me exported objects counted surrogates rep =
     if rep.owner == me
     then own_standing (was_given exported rep.index) (row_at objects rep)
@@ -59,9 +67,21 @@ stands me exported objects counted surrogates rep =
 abbrev pub standing : Table → WireRep → Standing
 standing t rep = stands t.me t.exported t.objects t.counted t.surrogates rep
 
--- the surrogates on open sessions, in the order of their last Dirties
-abbrev pub order : Table → List WireRep
-order t = reps_of t.surrogates
+-- how many surrogates there are on open sessions
+abbrev pub surrogate_total : Table → ℕ
+surrogate_total t = length t.surrogates
+
+-- the surrogates on open sessions, in no order
+abbrev pub surrogate_reps : Table → List WireRep
+surrogate_reps t = reps_of t.surrogates
+
+-- the place of a surrogate in the order of last Dirties: how many Dirties were sent before its last one
+abbrev pub place_of : Table → WireRep → Option ℕ
+place_of t rep = place_in t.surrogates rep
+
+-- the list has the surrogates on open sessions, each once, in the order of their last Dirties
+abbrev pub IsOrder : Table → List WireRep → Type 0
+IsOrder t reps = IsRising (place_of t) reps × ((rep : WireRep) → list_any (is_same rep) reps ≡ is_some (place_of t rep))
 
 -- how many objects are live
 abbrev pub live : Table → ℕ
@@ -82,6 +102,7 @@ pub record Unchanged (old new : Table) : Type 0 where
   pub objects : new.objects ≡ old.objects
   pub counted : new.counted ≡ old.counted
   pub surrogates : new.surrogates ≡ old.surrogates
+  pub dirties : new.dirties ≡ old.dirties
 
 -- this reference stands so in new, and every other one as it stood in old
 abbrev pub Becomes : Table → Table → WireRep → Standing → Type 0
@@ -91,9 +112,13 @@ Becomes old new rep after = (other : WireRep) → standing new other ≡ (if is_
 abbrev pub SameObjects : Table → Table → Type 0
 SameObjects old new = (new.me ≡ old.me) × (new.exported ≡ old.exported) × (live new ≡ live old) × (live_order new ≡ live_order old)
 
--- new has the same surrogates in the same order
+-- new has the same surrogates at the same places, and as many Dirties were sent
 abbrev pub SameOrder : Table → Table → Type 0
-SameOrder old new = order new ≡ order old
+SameOrder old new = ((rep : WireRep) → place_of new rep ≡ place_of old rep) × (surrogate_total new ≡ surrogate_total old) × (new.dirties ≡ old.dirties)
+
+-- this reference has this place in new, and every other one the place that it has in old
+abbrev pub Places : Table → Table → WireRep → Option ℕ → Type 0
+Places old new rep place = (other : WireRep) → place_of new other ≡ (if is_same rep other then place else place_of old other)
 
 -- new has as much room as old at least
 abbrev pub KeepsRoom : Table → Table → Type 0
@@ -119,7 +144,7 @@ is_far t rep = not (rep.owner == t.me) && not (rep.index == 0)
 abbrev pub pending_fault : Table → WireRep → Option TableFault
 pending_fault t rep =
     if is_far t rep
-    then (if nat_le most_surrogates (length (order t)) then Some Limit else (if is_unknown (standing t rep).state then None else Some StillUsed))
+    then (if nat_le most_surrogates (surrogate_total t) || nat_le most_dirties t.dirties then Some Limit else (if is_unknown (standing t rep).state then None else Some StillUsed))
     else Some Absent
 
 -- the refusal of an owner's answer
@@ -139,24 +164,20 @@ abbrev pub IsRefusal : Option TableFault → TableError → Type 0
 IsRefusal None error = error ≡ OutOfMemory
 IsRefusal (Some fault) error = error ≡ Fault fault
 
--- the surrogate at this place isn't idle
-abbrev pub NotIdleAt : Table → ℕ → Type 0
-NotIdleAt t place = IfSome (slice_get (order t) place) (λ rep. is_idle (standing t rep) ≡ false)
-
--- no surrogate from one place on and before another is idle
+-- no surrogate with a place from one on and below another is idle
 abbrev pub NoneIdle : Table → ℕ → ℕ → Type 0
-NoneIdle t from to = (place : ℕ) → from ≤ place → place < to → NotIdleAt t place
+NoneIdle t from to = (rep : WireRep) (place : ℕ) → place_of t rep ≡ Some place → from ≤ place → place < to → is_idle (standing t rep) ≡ false
 
--- the idle surrogate at this place is the first from the other place on
+-- the surrogate has this place, is idle, and is the first such from the other place on
 abbrev pub IsFirstIdle : Table → ℕ → ℕ → WireRep → Type 0
-IsFirstIdle t from at rep = (from ≤ at) × (slice_get (order t) at ≡ Some rep) × (is_idle (standing t rep) ≡ true) × NoneIdle t from at
+IsFirstIdle t from place rep = (from ≤ place) × (place_of t rep ≡ Some place) × (is_idle (standing t rep) ≡ true) × NoneIdle t from place
 
 -- whether the reference is to an object of this owner, another space
 abbrev pub is_of : Table → ℕ → WireRep → Bool
 is_of t owner rep = rep.owner == owner && not (rep.owner == t.me)
 
 -- what holds of every table, said of its fields
-pub record IsTable (me exported : ℕ) (objects counted : List (WireRep × Counts)) (surrogates : List (WireRep × Grant)) : Type 0 where
+pub record IsTable (me exported dirties : ℕ) (objects counted : List (WireRep × Counts)) (surrogates : List (WireRep × Surrogate)) : Type 0 where
   -- a live object is the space's, and its index was given
   pub given : (rep : WireRep) → IsSome (row_at objects rep) → (rep.owner ≡ me) × (1 ≤ rep.index) × (rep.index ≤ exported)
   -- other spaces' references are other spaces'
@@ -167,3 +188,9 @@ pub record IsTable (me exported : ℕ) (objects counted : List (WireRep × Count
   pub counts : (rep : WireRep) → IsSome (row_at surrogates rep) → IsSome (row_at counted rep)
   -- a lost reference is held
   pub held : (rep : WireRep) → row_at surrogates rep ≡ None → IfSome (row_at counted rep) (λ counts. is_held counts ≡ true)
+  -- a surrogate's Dirty was sent
+  pub sent : (rep : WireRep) → IfSome (place_in surrogates rep) (λ place. place < dirties)
+  -- a place is one surrogate's
+  pub apart : (rep other : WireRep) → IsSome (place_in surrogates rep) → place_in surrogates rep ≡ place_in surrogates other → is_same rep other ≡ true
+  -- there are no more than may be
+  pub few : length surrogates ≤ most_surrogates

@@ -8,6 +8,8 @@
 
 mod counts;
 mod fault;
+mod peer;
+mod peers;
 mod rows;
 mod standing;
 mod table;

@@ -1,14 +1,15 @@
 //! Rows by reference.
 
-ghost use Rattle.std.specs.Prelude.{◌≡◌, ◌≢◌, ◌==◌, ◌||◌, ◌^◌, ◌+◌, ◌<◌, ◌≤◌, ◌++◌, ◌∷◌, [], length, IsSome, None, Some, OnOk, OnErr, IsOk, IfSome, slice_get, not, filter, if◌then◌else◌, is_some};
+ghost use Rattle.std.specs.Prelude.{◌≡◌, ℕ, ◌^◌, ◌+◌, ◌<◌, ◌≤◌, ◌++◌, ◌∷◌, [], length, nat_lt, IsSome, None, Some, OnOk, IsOk, slice_get, if◌then◌else◌, is_some};
 ghost use Rattle.nob_ids.specs.declared.wire_rep.WireRep.{WireRep};
 ghost use Rattle.nob_table.specs.Counts.{is_held};
+ghost use Rattle.nob_table.specs.Order.{place_in, IsRising};
 ghost use Rattle.nob_table.specs.Rows.{RowList, row_at, reps_of, Puts, IsOnce, without, keep_if, swapped_out};
 
 use crate::counts::Counts;
-use crate::standing::Grant;
+use crate::standing::Surrogate;
 use indexmap::IndexMap;
-use nob_ids::{SpaceId, WireRep};
+use nob_ids::WireRep;
 use std::alloc::{AllocError, Global};
 use std::marker::Model;
 
@@ -66,12 +67,21 @@ impl<X: Copy + Drop> Rows<X> {
         Some(*rep)
     }
 
+    // The row at a place.
+    pub(crate) fn row(&self, place: usize) -> Option<(WireRep, X)>
+        ensures { result ≡ slice_get self.now.rows place }
+    {
+        let (rep, row) = self.map.get_index(place)?;
+        Some((*rep, *row))
+    }
+
     // Writes what stands at a reference that has a row.
     pub(crate) fn set(&mut self, rep: &WireRep, row: X)
         requires { IsSome (row_at self.old.rows rep.now) }
         ensures rows { Puts self.old.rows self.new.rows rep.now (Some row) }
         ensures reps { reps_of self.new.rows ≡ reps_of self.old.rows }
         ensures len { length self.new.rows ≡ length self.old.rows }
+        ensures once { IsOnce self.new.rows }
         ensures room { self.new.room ≡ self.old.room }
     {
         if let Some(place) = self.map.get_mut(rep) {
@@ -95,6 +105,7 @@ impl<X: Copy + Drop> Rows<X> {
         requires room { 0 < self.old.room }
         ensures puts { Puts self.old.rows self.new.rows rep.now (Some row) }
         ensures rows { self.new.rows ≡ self.old.rows ++ (rep.now, row) ∷ [] }
+        ensures once { IsOnce self.new.rows }
         ensures room { self.old.room ≤ self.new.room + 1 }
     {
         let _absent = self.map.insert(*rep, row).unwrap();
@@ -104,6 +115,7 @@ impl<X: Copy + Drop> Rows<X> {
     pub(crate) fn take(&mut self, rep: &WireRep)
         ensures puts { Puts self.old.rows self.new.rows rep.now None }
         ensures reps { reps_of self.new.rows ≡ swapped_out rep.now (reps_of self.old.rows) }
+        ensures once { IsOnce self.new.rows }
         ensures len { length self.new.rows + (if is_some (row_at self.old.rows rep.now) then 1 else 0) ≡ length self.old.rows }
         ensures room { self.old.room ≤ self.new.room }
     {
@@ -114,37 +126,56 @@ impl<X: Copy + Drop> Rows<X> {
     pub(crate) fn take_in_order(&mut self, rep: &WireRep)
         ensures puts { Puts self.old.rows self.new.rows rep.now None }
         ensures reps { reps_of self.new.rows ≡ without rep.now (reps_of self.old.rows) }
+        ensures once { IsOnce self.new.rows }
+        ensures len { length self.new.rows + (if is_some (row_at self.old.rows rep.now) then 1 else 0) ≡ length self.old.rows }
         ensures room { self.old.room ≤ self.new.room }
     {
         let _row = self.map.shift_remove(rep);
     }
+
+    // Takes all rows out. Linear in the rows and the room beside them, and constant where there is no row.
+    pub(crate) fn clear(&mut self)
+        ensures rows { self.new.rows ≡ [] }
+        ensures once { IsOnce self.new.rows }
+        ensures room { self.old.room ≤ self.new.room }
+    {
+        if !self.map.is_empty() {
+            self.map.clear();
+        }
+    }
 }
 
 impl Rows<Counts> {
-    // Takes out the rows of this owner's references that nobody holds.
-    pub(crate) fn keep_held(&mut self, owner: SpaceId)
-        ensures rows { (rep : WireRep) → row_at self.new.rows rep ≡ (if rep.owner == owner then keep_if is_held (row_at self.old.rows rep) else row_at self.old.rows rep) }
+    // Takes out the rows of references that nobody holds. Linear in the rows and the room beside them, and constant where
+    // there is no row.
+    pub(crate) fn keep_held(&mut self)
+        ensures rows { (rep : WireRep) → row_at self.new.rows rep ≡ keep_if is_held (row_at self.old.rows rep) }
+        ensures once { IsOnce self.new.rows }
         ensures room { self.old.room ≤ self.new.room }
     {
+        if self.map.is_empty() {
+            return;
+        }
         self.map.retain(
-            |rep: &WireRep, counts: &mut Counts| -> bool
-                ensures { (result ≡ (not (rep.now.owner == owner) || is_held counts.old)) × (counts.new ≡ counts.old) }
-            { rep.owner != owner || counts.is_held() },
+            |_rep: &WireRep, counts: &mut Counts| -> bool
+                ensures { (result ≡ is_held counts.old) × (counts.new ≡ counts.old) }
+            { counts.is_held() },
         );
     }
 }
 
-impl Rows<Grant> {
-    // Takes out the rows of this owner's references. The others keep their order.
-    pub(crate) fn forget(&mut self, owner: SpaceId)
-        ensures rows { (rep : WireRep) → row_at self.new.rows rep ≡ (if rep.owner == owner then None else row_at self.old.rows rep) }
-        ensures reps { reps_of self.new.rows ≡ filter (λ rep. not (rep.owner == owner)) (reps_of self.old.rows) }
-        ensures room { self.old.room ≤ self.new.room }
+impl Rows<Surrogate> {
+    // How many rows have a place below this one: the first ones, where the places rise. Logarithmic in the rows.
+    pub(crate) fn count_below(&self, place: u64) -> usize
+        requires { IsRising (place_in self.now.rows) (reps_of self.now.rows) }
+        ensures bound { result ≤ length self.now.rows }
+        ensures below { (at : ℕ) (row : WireRep × Surrogate) → slice_get self.now.rows at ≡ Some row → at < result → row.1.place < place }
+        ensures from { (at : ℕ) (row : WireRep × Surrogate) → slice_get self.now.rows at ≡ Some row → result ≤ at → place ≤ row.1.place }
     {
-        self.map.retain(
-            |rep: &WireRep, grant: &mut Grant| -> bool
-                ensures { (result ≡ not (rep.now.owner == owner)) × (grant.new ≡ grant.old) }
-            { rep.owner != owner },
-        );
+        self.map.partition_point(
+            |_rep: &WireRep, surrogate: &Surrogate| -> bool
+                ensures { result ≡ nat_lt surrogate.now.place place }
+            { surrogate.place < place },
+        )
     }
 }

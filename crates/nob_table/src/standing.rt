@@ -1,7 +1,7 @@
 //! How a reference stands.
 
 ghost use Rattle.std.specs.Prelude.{◌≡◌};
-ghost use Rattle.nob_table.specs.Standings.{is_known, is_pending, is_granted, is_lost, is_idle, state_of};
+ghost use Rattle.nob_table.specs.Standings.{is_known, is_pending, is_granted, is_lost, is_idle, state_of, sent, answered};
 
 use crate::counts::Counts;
 
@@ -100,6 +100,37 @@ impl Grant {
             Grant::Waits => State::Pending,
             Grant::Given => State::Granted,
             Grant::Denied => State::Refused,
+        }
+    }
+}
+
+/// A surrogate on an open session: what its owner has answered, and where its last Dirty stands among all.
+#[derive(Clone, Copy, Debug, PartialEq, Eq)]
+pub(crate) struct Surrogate {
+    /// What the owner has answered to the last Dirty.
+    pub(crate) grant: Grant,
+    /// How many Dirties were sent before the last one of this reference.
+    pub(crate) place: u64,
+}
+
+impl Surrogate {
+    // The surrogate of a Dirty that was just sent.
+    pub(crate) fn sent(place: u64) -> Surrogate
+        ensures { result ≡ sent place }
+    {
+        Surrogate {
+            grant: Grant::Waits,
+            place,
+        }
+    }
+
+    // The same surrogate with an answer.
+    pub(crate) fn answered(self, grant: Grant) -> Surrogate
+        ensures { result ≡ answered grant self }
+    {
+        Surrogate {
+            grant,
+            place: self.place,
         }
     }
 }

@@ -1,31 +1,35 @@
 //! The table itself.
 
-ghost use Rattle.std.specs.Prelude.{◌≡◌, ◌+◌, ◌<◌, ◌≤◌, ◌≢◌, ◌==◌, ◌++◌, ◌∷◌, [], filter, not, length, slice_get, Option, None, Some, IsSome, IfSome, IsTrue, IsOk, OnOk, OnErr, IfOk, IfErr, MatchOption, MatchResult, if◌then◌else◌};
+ghost use Rattle.std.specs.Prelude.{◌≡◌, List, is_some, ◌+◌, ◌<◌, ◌≤◌, ◌≢◌, ◌==◌, ◌++◌, ◌∷◌, [], filter, not, length, slice_get, Option, None, Some, IsSome, IfSome, IsTrue, IsOk, OnOk, OnErr, IfOk, IfErr, MatchOption, MatchResult, if◌then◌else◌};
 ghost use Rattle.nob_ids.specs.declared.wire_rep.WireRep.{WireRep};
 ghost use Rattle.nob_table.specs.Counts.{is_held};
 ghost use Rattle.nob_ids.specs.Names.{is_same};
 ghost use Rattle.nob_table.specs.Rows.{without, swapped_out, IsOnce};
 ghost use Rattle.std.specs.List.{list_any};
 ghost use Rattle.nob_table.specs.Standings.{unknown, is_known, is_live, is_lost, is_idle, is_surrogate, state_of, withdrawn, exported_standing, pending_standing, with_counts, in_state, after_hold, after_release, after_close};
-ghost use Rattle.nob_table.specs.Table.{Table, standing, order, live, live_order, own, export_fault, hold_fault, release_fault, pending_fault, answer_fault, remove_fault, withdraw_fault, Unchanged, Becomes, SameObjects, SameOrder, KeepsRoom, IsRefusal, NoneIdle, IsFirstIdle, is_of};
+ghost use Rattle.nob_table.specs.Table.{Table, standing, surrogate_total, surrogate_reps, place_of, IsOrder, live, live_order, own, export_fault, hold_fault, release_fault, pending_fault, answer_fault, remove_fault, withdraw_fault, Unchanged, Becomes, SameObjects, SameOrder, Places, KeepsRoom, IsRefusal, NoneIdle, IsFirstIdle, is_of};
 
 use crate::counts::{Counts, Part};
 use crate::fault::{TableError, TableFault};
+use crate::peers::Peers;
 use crate::rows::Rows;
 use crate::standing::{Grant, Standing, State};
 use nob_ids::{SpaceId, WireRep};
 use std::alloc::{AllocError, Global};
 use std::marker::Model;
 
-/// The object table of one space. Contracts see it as plain data: how each reference stands, and the surrogates
-/// on open sessions in the order of their last Dirties.
+/// The object table of one space. Contracts see it as plain data: how each reference stands, and for each
+/// surrogate on an open session its place in the order of last Dirties.
+///
+/// A place is the number of the surrogate's last Dirty, counted from 0 over all Dirties that the table was told of. So
+/// places rise in the order of last Dirties, a surrogate keeps its place, and none is given twice.
 #[derive(Drop)]
 pub struct ObjectTable {
     me: SpaceId,
     exported: u64,
+    dirties: u64,
     objects: Rows<Counts>,
-    counted: Rows<Counts>,
-    surrogates: Rows<Grant>,
+    peers: Peers,
 }
 
 impl Model for ObjectTable {
@@ -33,12 +37,11 @@ impl Model for ObjectTable {
 
     ghost Value = { Table };
 
-    ghost use Rattle.std.specs.Prelude.{min};
     ghost use Rattle.nob_table.specs.Table.{IsTable};
 
-    ghost view = { λ a. record { me = a.me; exported = a.exported; objects = a.objects.rows; counted = a.counted.rows; surrogates = a.surrogates.rows; export_room = a.objects.room; surrogate_room = min a.counted.room a.surrogates.room } };
+    ghost view = { λ a. record { me = a.me; exported = a.exported; dirties = a.dirties; objects = a.objects.rows; counted = a.peers.counted; surrogates = a.peers.surrogates; export_room = a.objects.room; surrogate_room = a.peers.room } };
 
-    ghost invariant = { λ a. IsTable a.me a.exported a.objects.rows a.counted.rows a.surrogates.rows };
+    ghost invariant = { λ a. IsTable a.me a.exported a.dirties a.objects.rows a.peers.counted a.peers.surrogates };
 }
 
 impl ObjectTable {
@@ -54,15 +57,17 @@ impl ObjectTable {
         ensures me { result.me ≡ me }
         ensures exported { result.exported ≡ 0 }
         ensures live { live result ≡ 0 }
-        ensures order { order result ≡ [] }
+        ensures dirties { result.dirties ≡ 0 }
+        ensures surrogates { surrogate_total result ≡ 0 }
+        ensures order { IsOrder result [] }
         ensures nothing { (rep : WireRep) → standing result rep ≡ unknown }
     {
         ObjectTable {
             me,
             exported: 0,
+            dirties: 0,
             objects: Rows::new(alloc),
-            counted: Rows::new(alloc),
-            surrogates: Rows::new(alloc),
+            peers: Peers::new(alloc),
         }
     }
 
@@ -86,16 +91,16 @@ impl ObjectTable {
                 None => Standing::UNKNOWN,
             };
         }
-        let Some(counts) = self.counted.get(rep) else {
+        let Some(counts) = self.peers.counts(rep) else {
             return Standing::UNKNOWN;
         };
-        match self.surrogates.get(rep) {
+        match self.peers.surrogate(rep) {
             None => Standing {
                 state: State::Lost,
                 counts,
             },
-            Some(grant) => Standing {
-                state: grant.state(),
+            Some(surrogate) => Standing {
+                state: surrogate.grant.state(),
                 counts,
             },
         }
@@ -123,11 +128,13 @@ impl ObjectTable {
 
     /// How many surrogates there are on open sessions. Constant time.
     pub fn surrogate_count(&self) -> usize
-        ensures count { result ≡ length (order self.now) }
+        ensures count { result ≡ surrogate_total self.now }
         ensures once { IsOnce self.now.surrogates }
-        ensures placed { (rep : WireRep) → list_any (is_same rep) (order self.now) ≡ is_surrogate (standing self.now rep).state }
+        ensures placed { (rep : WireRep) → is_some (place_of self.now rep) ≡ is_surrogate (standing self.now rep).state }
+        ensures sent { (rep : WireRep) → IfSome (place_of self.now rep) (λ place. place < self.now.dirties) }
+        ensures apart { (rep other : WireRep) → IsSome (place_of self.now rep) → place_of self.now rep ≡ place_of self.now other → IsTrue (is_same rep other) }
     {
-        self.surrogates.len()
+        self.peers.len()
     }
 
     /// One hold more on the reference, in this part: a live object's, a surrogate's, or a lost reference's that is
@@ -176,8 +183,8 @@ impl ObjectTable {
         Ok(())
     }
 
-    /// Makes room: after it so many exports and so many surrogates can't run out of memory. Linear in the
-    /// references where the room has to grow.
+    /// Makes room: after it so many exports and so many surrogates can't run out of memory, whoever the surrogates'
+    /// owners are. Constant where there is as much room, else linear in the references where the room has to grow.
     pub fn reserve(&mut self, exports: usize, surrogates: usize) -> Result<(), AllocError>
         ensures items { Unchanged self.old self.new }
         ensures room { KeepsRoom self.old self.new }
@@ -186,8 +193,7 @@ impl ObjectTable {
         ensures succeeds { exports ≤ self.old.export_room → surrogates ≤ self.old.surrogate_room → IsOk result }
     {
         self.objects.reserve(exports)?;
-        self.counted.reserve(surrogates)?;
-        self.surrogates.reserve(surrogates)
+        self.peers.reserve(surrogates)
     }
 
     /// A new object: the reference to it, with the next index, live and once in hand. B3 where 65,536 objects are
@@ -252,11 +258,14 @@ impl ObjectTable {
 
     /// A Dirty for the reference is sent: it is a pending surrogate, the last in order. B1 where the space can't
     /// have a surrogate of it, since it is its own or an agent's; B3 where there are 65,536 surrogates on open
-    /// sessions; B4 where it is a surrogate already, or lost and still held. Constant time on average, save where
-    /// the room has to grow.
+    /// sessions or 2^64 - 1 Dirties were sent; B4 where it is a surrogate already, or lost and still held. Constant
+    /// time on average, save where the room has to grow.
     pub fn pending(&mut self, rep: WireRep) -> Result<(), TableError>
         ensures pending { OnOk result (Becomes self.old self.new rep pending_standing) }
-        ensures order { OnOk result (order self.new ≡ order self.old ++ rep ∷ []) }
+        ensures place { OnOk result (Places self.old self.new rep (Some self.old.dirties)) }
+        ensures dirties { OnOk result (self.new.dirties ≡ self.old.dirties + 1) }
+        ensures count { OnOk result (surrogate_total self.new ≡ surrogate_total self.old + 1) }
+        ensures order { OnOk result ((reps : List WireRep) → IsOrder self.old reps → IsOrder self.new (reps ++ rep ∷ [])) }
         ensures objects { SameObjects self.old self.new }
         ensures room { (self.old.export_room ≤ self.new.export_room) × (self.old.surrogate_room ≤ self.new.surrogate_room + 1) }
         ensures accepted { OnOk result (pending_fault self.old rep ≡ None) }
@@ -268,16 +277,14 @@ impl ObjectTable {
         if rep.owner == self.me || rep.index == 0 {
             return Err(TableError::Fault(TableFault::Absent));
         }
-        if self.surrogates.len() >= ObjectTable::MOST_SURROGATES {
+        if self.peers.len() >= ObjectTable::MOST_SURROGATES || self.dirties == u64::MAX {
             return Err(TableError::Fault(TableFault::Limit));
         }
-        if self.counted.get(rep).is_some() {
+        if self.peers.counts(rep).is_some() {
             return Err(TableError::Fault(TableFault::StillUsed));
         }
-        self.counted.reserve(1)?;
-        self.surrogates.reserve(1)?;
-        self.counted.push(&rep, Counts::NONE);
-        self.surrogates.push(&rep, Grant::Waits);
+        self.peers.push(&rep, self.dirties)?;
+        self.dirties += 1;
         Ok(())
     }
 
@@ -305,26 +312,23 @@ impl ObjectTable {
         self.answer(rep, Grant::Denied)
     }
 
-    /// The first surrogate, from this place on in the order of the last Dirties, that is granted and without
-    /// holds, with its place. Places count from 0. Linear in the surrogates that it passes.
-    pub fn first_idle(&self, place: usize) -> Option<(usize, WireRep)>
-        ensures { MatchOption result (NoneIdle self.now place (length (order self.now))) (λ found. IsFirstIdle self.now place found.0 found.1) }
+    /// The first surrogate in the order of the last Dirties, from this place on, that is granted and without holds, with
+    /// its place. Linear in the surrogates that it passes: of each owner those from the place on, up to the first such one.
+    pub fn first_idle(&self, place: u64) -> Option<(u64, WireRep)>
+        ensures { MatchOption result (NoneIdle self.now place self.now.dirties) (λ found. IsFirstIdle self.now place found.0 found.1) }
     {
-        for at in place..self.surrogates.len() {
-            let rep = self.surrogates.rep_at(at)?;
-            if self.is_idle(&rep) {
-                return Some((at, rep));
-            }
-        }
-        None
+        self.peers.first_idle(place)
     }
 
-    /// A Clean for the surrogate is sent: the table forgets it, and the others keep their order. B1 where it
-    /// isn't granted, B4 where it is held. Linear in the surrogates behind it.
+    /// A Clean for the surrogate is sent: the table forgets it, and the others keep their places. B1 where it
+    /// isn't granted, B4 where it is held. Linear in the surrogates of the same owner behind it.
     pub fn remove(&mut self, rep: WireRep) -> Result<(), TableFault>
         ensures answer { MatchResult result (λ _. remove_fault self.old rep ≡ None) (λ fault. remove_fault self.old rep ≡ Some fault) }
         ensures removed { OnOk result (Becomes self.old self.new rep unknown) }
-        ensures order { OnOk result (order self.new ≡ without rep (order self.old)) }
+        ensures place { OnOk result (Places self.old self.new rep None) }
+        ensures count { OnOk result (surrogate_total self.new + 1 ≡ surrogate_total self.old) }
+        ensures order { OnOk result ((reps : List WireRep) → IsOrder self.old reps → IsOrder self.new (filter (λ other. not (is_same rep other)) reps)) }
+        ensures dirties { self.new.dirties ≡ self.old.dirties }
         ensures objects { SameObjects self.old self.new }
         ensures room { KeepsRoom self.old self.new }
         ensures err { OnErr result (Unchanged self.old self.new) }
@@ -337,29 +341,22 @@ impl ObjectTable {
         if standing.counts.is_held() {
             return Err(TableFault::StillUsed);
         }
-        self.counted.take(&rep);
-        self.surrogates.take_in_order(&rep);
+        self.peers.remove(&rep);
         Ok(())
     }
 
     /// The session with the owner has closed: each of its surrogates is lost, and forgotten where nothing holds
-    /// it. The others keep their order. Linear in the surrogates and the lost references of all owners.
+    /// it. The others keep their places. Linear in the references of this owner (and in the room made for them).
     pub fn close(&mut self, owner: SpaceId)
         ensures closed { (rep : WireRep) → standing self.new rep ≡ (if is_of self.old owner rep then after_close (standing self.old rep) else standing self.old rep) }
-        ensures order { order self.new ≡ filter (λ rep. not (rep.owner == owner)) (order self.old) }
+        ensures places { (rep : WireRep) → place_of self.new rep ≡ (if rep.owner == owner then None else place_of self.old rep) }
+        ensures count { surrogate_total self.new ≡ length (filter (λ rep. not (rep.owner == owner)) (surrogate_reps self.old)) }
+        ensures order { (reps : List WireRep) → IsOrder self.old reps → IsOrder self.new (filter (λ rep. not (rep.owner == owner)) reps) }
+        ensures dirties { self.new.dirties ≡ self.old.dirties }
         ensures objects { SameObjects self.old self.new }
         ensures room { KeepsRoom self.old self.new }
     {
-        self.surrogates.forget(owner);
-        self.counted.keep_held(owner);
-    }
-
-    // Whether the reference is granted and nothing holds it.
-    fn is_idle(&self, rep: &WireRep) -> bool
-        ensures { result ≡ is_idle (standing self.now rep.now) }
-    {
-        let standing = self.state(*rep);
-        standing.is_idle()
+        self.peers.close(owner);
     }
 
     // Writes the owner's answer to a pending reference.
@@ -376,7 +373,7 @@ impl ObjectTable {
         if !state.is_pending() {
             return Err(TableFault::Absent);
         }
-        self.surrogates.set(&rep, grant);
+        self.peers.set_answer(&rep, grant);
         Ok(())
     }
 
@@ -392,7 +389,7 @@ impl ObjectTable {
         if rep.owner == self.me {
             self.objects.set(rep, counts);
         } else {
-            self.counted.set(rep, counts);
+            self.peers.set_counts(rep, counts);
         }
     }
 
@@ -404,6 +401,6 @@ impl ObjectTable {
         ensures order { SameOrder self.old self.new }
         ensures room { KeepsRoom self.old self.new }
     {
-        self.counted.take(&rep);
+        self.peers.forget(&rep);
     }
 }

@@ -73,5 +73,10 @@ fn surrogate_from_dirty_to_lost(rt: HostRuntime) -> Result<(), Fail> {
     table.release(held, Part::Lent)?;
     assert_eq!(rt; table.state(held).state, State::Unknown);
     assert_eq!(rt; table.surrogate_count(), 0);
+    table.reserve(0, 1)?;
+    table.pending(idle)?;
+    table.grant(idle)?;
+    assert_eq!(rt; table.first_idle(0), Some((2, idle)));
+    assert_eq!(rt; table.first_idle(3), None);
     Ok(())
 }

@@ -1,4 +1,4 @@
-use Rattle.std.proofs.Common.{rules, ◌∙◌, ap, not, ◌==◌, ◌||◌, List}
+use Rattle.std.proofs.Common.{rules, ◌∙◌, ap, List}
 use Rattle.indexmap.proofs.CallerLemmas.{filter-RetainsPairs}
 use Rattle.nob_ids.specs.declared.wire_rep.WireRep.{WireRep}
 use Rattle.nob_table.specs.declared.counts.Counts.{Counts}
@@ -9,5 +9,5 @@ use Rattle.nob_table.proofs.rows.Rows+Counts.keep_held.Goals as goal
 
 pub returns-clause-rows : goal.returns-clause-rows
 returns-clause-rows c =
-    let left = filter-RetainsPairs _ (λ (e : WireRep × Counts). not (e.0.owner == c.args.owner) || is_held e.1) _ (λ k v b w g call. search rules) _ _ c.retain.ensures.filtered in
-    rw (← c.self.view_is) (λ rep. ap (λ (es : List (WireRep × Counts)). row_at es rep) left ∙ held_rows c.args.owner c.self.inside.map.entries c.self.invariant rep)
+    let left = filter-RetainsPairs _ (λ (e : WireRep × Counts). is_held e.1) _ (λ k v b w g call. search rules) _ _ c.retain.ensures.filtered in
+    rw (← c.self.view_is) (λ rep. ap (λ (es : List (WireRep × Counts)). row_at es rep) left ∙ held_rows c.self.inside.map.entries c.self.invariant rep)

@@ -1,8 +1,17 @@
-use Rattle.std.proofs.Common.{sym}
-use Rattle.nob_table.proofs.Idle.{none_idle_more}
+use Rattle.nob_table.specs.Table.{Table}
+use Rattle.nob_table.proofs.Tables.{first_of_table}
 use Rattle.nob_table.proofs.table.ObjectTable.first_idle.Goals as goal
 
-pub loop-at-preserved : goal.loop-at-preserved
-loop-at-preserved c =
-    none_idle_more c.args.self.now c.args.place c.loop-at.at c.in_ok-rep.rep c.loop-at.invariant
-    (rw (← c.self.view_is) (sym c.in_ok-rep.ensures)) (sym c.if-is_idle.ensures)
+pub returns : goal.returns
+returns c =
+    let t : Table = record {
+      me = c.self.inside.me;
+      exported = c.self.inside.exported;
+      dirties = c.self.inside.dirties;
+      objects = c.self.inside.objects.rows;
+      counted = c.self.inside.peers.counted;
+      surrogates = c.self.inside.peers.surrogates;
+      export_room = c.self.inside.objects.room;
+      surrogate_room = c.self.inside.peers.room;
+    } in
+    rw (← c.self.view_is) (first_of_table t c.self.invariant c.args.place c.first_idle.result c.first_idle.ensures)

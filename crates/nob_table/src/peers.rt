@@ -1,0 +1,264 @@
+//! What the table has of all other spaces.
+
+ghost use Rattle.std.specs.Prelude.{◌≡◌, ◌≢◌, ◌==◌, ◌+◌, ◌<◌, ◌≤◌, ◌^◌, ℕ, [], length, not, filter, slice_get, None, Some, IsSome, IfSome, IsOk, OnOk, OnErr, MatchOption, if◌then◌else◌};
+ghost use Rattle.std.specs.Option.{option_map};
+ghost use Rattle.nob_ids.specs.declared.wire_rep.WireRep.{WireRep};
+ghost use Rattle.nob_table.specs.Counts.{no_counts, is_held};
+ghost use Rattle.nob_table.specs.Order.{place_in};
+ghost use Rattle.nob_table.specs.Peers.{most_parts, counted_of, surrogates_of, AreParts, NeverIdleIn, IsFirstIn, earlier_of, AllGrow, HaveRoom};
+ghost use Rattle.nob_table.specs.Rows.{row_at, reps_of, Puts, IsOnce, keep_if};
+ghost use Rattle.nob_table.specs.Standings.{sent, answered};
+
+use crate::counts::Counts;
+use crate::peer::Peer;
+use crate::standing::{Grant, Surrogate};
+use nob_ids::{SpaceId, WireRep};
+use std::alloc::{AllocError, Global};
+use std::marker::Model;
+
+// What the table has of all other spaces: a part for each, at the place of the space's number (at 0 and at the own
+// number there is nothing). The parts are made when room is first wanted.
+#[derive(Drop)]
+pub(crate) struct Peers {
+    alloc: Global,
+    parts: Vec<Peer>,
+    // How many surrogates there are in all parts.
+    count: usize,
+    // How many more surrogates fit, whoever the owners are: each part has room for as many.
+    room: usize,
+}
+
+impl Model for Peers {
+    ghost use Rattle.nob_table.specs.Peers.{Far};
+
+    ghost Value = { Far };
+
+    ghost use Rattle.nob_table.specs.Peers.{IsPeers, counted_of, surrogates_of};
+
+    ghost view = { λ a. record { counted = counted_of a.parts.items; surrogates = surrogates_of a.parts.items; room = a.room } };
+
+    ghost invariant = { λ a. IsPeers a.parts.items a.count a.room };
+}
+
+// A space's number: the place of its part.
+fn number_of(owner: SpaceId) -> usize
+    ensures value { result ≡ owner }
+    ensures small { result < most_parts }
+{
+    usize::from(owner.get())
+}
+
+// The part of a space, if it is made.
+fn part(parts: &[Peer], owner: SpaceId) -> Option<&Peer>
+    ensures { MatchOption result (slice_get parts.now owner ≡ None) (λ part. slice_get parts.now owner ≡ Some part.now) }
+{
+    parts.get(number_of(owner))
+}
+
+// How many parts there are once all are made.
+const MOST_PARTS: usize = SpaceId::MOST as usize + 1;
+
+impl Peers {
+    // Nothing of any space.
+    pub(crate) fn new(alloc: Global) -> Peers
+        ensures counted { result.counted ≡ [] }
+        ensures surrogates { result.surrogates ≡ [] }
+    {
+        Peers {
+            alloc,
+            parts: Vec::new(alloc),
+            count: 0,
+            room: 0,
+        }
+    }
+
+    // How many surrogates there are.
+    pub(crate) fn len(&self) -> usize
+        ensures len { result ≡ length self.now.surrogates }
+        ensures once { IsOnce self.now.surrogates }
+    {
+        self.count
+    }
+
+    // The counts of a reference.
+    pub(crate) fn counts(&self, rep: WireRep) -> Option<Counts>
+        ensures { result ≡ row_at self.now.counted rep }
+    {
+        let part = part(&self.parts, rep.owner)?;
+        part.counted.get(rep)
+    }
+
+    // The surrogate of a reference.
+    pub(crate) fn surrogate(&self, rep: WireRep) -> Option<Surrogate>
+        ensures { result ≡ row_at self.now.surrogates rep }
+    {
+        let part = part(&self.parts, rep.owner)?;
+        part.surrogates.get(rep)
+    }
+
+    // The surrogate with the least place from this one on that is granted and has no holds, with its place. Linear in
+    // the surrogates that it passes.
+    pub(crate) fn first_idle(&self, place: u64) -> Option<(u64, WireRep)>
+        ensures { MatchOption result (NeverIdleIn self.now.counted self.now.surrogates place) (λ found. IsFirstIn self.now.counted self.now.surrogates place found.0 found.1) }
+    {
+        first_idle_of(&self.parts, place)
+    }
+
+    // Makes room for so many more surrogates in each part. Constant where there is as much, else linear in the references
+    // of the parts that have to grow.
+    pub(crate) fn reserve(&mut self, surrogates: usize) -> Result<(), AllocError>
+        ensures counted { self.new.counted ≡ self.old.counted }
+        ensures surrogates { self.new.surrogates ≡ self.old.surrogates }
+        ensures ok { OnOk result (surrogates ≤ self.new.room) }
+        ensures succeeds { surrogates ≤ self.old.room → IsOk result }
+        ensures room { self.old.room ≤ self.new.room }
+    {
+        if surrogates <= self.room {
+            return Ok(());
+        }
+        fill(&mut self.parts, self.alloc)?;
+        reserve_all(&mut self.parts, surrogates)?;
+        self.room = surrogates;
+        Ok(())
+    }
+
+    // A surrogate whose Dirty was just sent, at a place above all.
+    pub(crate) fn push(&mut self, rep: &WireRep, place: u64) -> Result<(), AllocError>
+        requires new { row_at self.old.counted rep.now ≡ None }
+        requires sent { row_at self.old.surrogates rep.now ≡ None }
+        requires last { (other : WireRep) → IfSome (place_in self.old.surrogates other) (λ earlier. earlier < place) }
+        requires few { length self.old.surrogates < 2 ^ 32 }
+        ensures counted { OnOk result (Puts self.old.counted self.new.counted rep.now (Some no_counts)) }
+        ensures surrogates { OnOk result (Puts self.old.surrogates self.new.surrogates rep.now (Some (sent place))) }
+        ensures len { OnOk result (length self.new.surrogates ≡ length self.old.surrogates + 1) }
+        ensures counted_kept { OnErr result (self.new.counted ≡ self.old.counted) }
+        ensures surrogates_kept { OnErr result (self.new.surrogates ≡ self.old.surrogates) }
+        ensures succeeds { 0 < self.old.room → IsOk result }
+        ensures room { self.old.room ≤ self.new.room + 1 }
+        ensures room_kept { OnErr result (self.old.room ≤ self.new.room) }
+    {
+        fill(&mut self.parts, self.alloc)?;
+        let at = number_of(rep.owner);
+        self.parts[at].push(rep, place)?;
+        self.count += 1;
+        self.room = self.room.saturating_sub(1);
+        Ok(())
+    }
+
+    // Writes the counts of a reference that has some.
+    pub(crate) fn set_counts(&mut self, rep: &WireRep, counts: Counts)
+        requires { IsSome (row_at self.old.counted rep.now) }
+        ensures counted { Puts self.old.counted self.new.counted rep.now (Some counts) }
+        ensures surrogates { self.new.surrogates ≡ self.old.surrogates }
+        ensures room { self.old.room ≤ self.new.room }
+    {
+        let at = number_of(rep.owner);
+        if at < self.parts.len() {
+            self.parts[at].set_counts(rep, counts);
+        }
+    }
+
+    // Writes the owner's answer to a surrogate.
+    pub(crate) fn set_answer(&mut self, rep: &WireRep, grant: Grant)
+        requires { IsSome (row_at self.old.surrogates rep.now) }
+        ensures counted { self.new.counted ≡ self.old.counted }
+        ensures surrogates { Puts self.old.surrogates self.new.surrogates rep.now (option_map (answered grant) (row_at self.old.surrogates rep.now)) }
+        ensures len { length self.new.surrogates ≡ length self.old.surrogates }
+        ensures room { self.old.room ≤ self.new.room }
+    {
+        let at = number_of(rep.owner);
+        if at < self.parts.len() {
+            self.parts[at].set_answer(rep, grant);
+        }
+    }
+
+    // Forgets a reference that is lost.
+    pub(crate) fn forget(&mut self, rep: &WireRep)
+        ensures counted { Puts self.old.counted self.new.counted rep.now None }
+        ensures surrogates { self.new.surrogates ≡ self.old.surrogates }
+        ensures room { self.old.room ≤ self.new.room }
+    {
+        let at = number_of(rep.owner);
+        if at < self.parts.len() {
+            self.parts[at].forget(rep);
+        }
+    }
+
+    // Forgets a surrogate. The others keep their order.
+    pub(crate) fn remove(&mut self, rep: &WireRep)
+        requires { IsSome (row_at self.old.surrogates rep.now) }
+        ensures counted { Puts self.old.counted self.new.counted rep.now None }
+        ensures surrogates { Puts self.old.surrogates self.new.surrogates rep.now None }
+        ensures len { length self.new.surrogates + 1 ≡ length self.old.surrogates }
+        ensures room { self.old.room ≤ self.new.room }
+    {
+        let at = number_of(rep.owner);
+        if at < self.parts.len() {
+            self.parts[at].remove(rep);
+            self.count -= 1;
+        }
+    }
+
+    // Forgets the surrogates of this space, and the counts of its references that nobody holds. Linear in the
+    // references of this space.
+    pub(crate) fn close(&mut self, owner: SpaceId)
+        ensures counted { (rep : WireRep) → row_at self.new.counted rep ≡ (if rep.owner == owner then keep_if is_held (row_at self.old.counted rep) else row_at self.old.counted rep) }
+        ensures surrogates { (rep : WireRep) → row_at self.new.surrogates rep ≡ (if rep.owner == owner then None else row_at self.old.surrogates rep) }
+        ensures len { length self.new.surrogates ≡ length (filter (λ rep. not (rep.owner == owner)) (reps_of self.old.surrogates)) }
+        ensures room { self.old.room ≤ self.new.room }
+    {
+        let at = number_of(owner);
+        if at < self.parts.len() {
+            self.count -= self.parts[at].close();
+        }
+    }
+}
+
+// Makes the parts that aren't made yet.
+fn fill(parts: &mut Vec<Peer>, alloc: Global) -> Result<(), AllocError>
+    ensures parts { AreParts parts.old.items → AreParts parts.new.items }
+    ensures counted { counted_of parts.new.items ≡ counted_of parts.old.items }
+    ensures surrogates { surrogates_of parts.new.items ≡ surrogates_of parts.old.items }
+    ensures made { OnOk result (most_parts ≤ length parts.new.items) }
+    ensures same { most_parts ≤ length parts.old.items → parts.new.items ≡ parts.old.items }
+    ensures succeeds { most_parts ≤ length parts.old.items → IsOk result }
+{
+    while parts.len() < MOST_PARTS {
+        parts.push(Peer::new(alloc))?;
+    }
+    Ok(())
+}
+
+// Makes room in each part.
+fn reserve_all(parts: &mut [Peer], surrogates: usize) -> Result<(), AllocError>
+    ensures grow { AllGrow parts.old parts.new }
+    ensures room { OnOk result (HaveRoom surrogates parts.new) }
+{
+    for part in parts {
+        part.reserve(surrogates)?;
+    }
+    Ok(())
+}
+
+// The first idle surrogate of these parts from this place on.
+fn first_idle_of(parts: &[Peer], place: u64) -> Option<(u64, WireRep)>
+    requires { AreParts parts.now }
+    ensures { MatchOption result (NeverIdleIn (counted_of parts.now) (surrogates_of parts.now) place) (λ found. IsFirstIn (counted_of parts.now) (surrogates_of parts.now) place found.0 found.1) }
+{
+    let mut first = None;
+    for part in parts {
+        first = earlier(first, part.first_idle(place));
+    }
+    first
+}
+
+// The one with the lesser place.
+fn earlier(one: Option<(u64, WireRep)>, other: Option<(u64, WireRep)>) -> Option<(u64, WireRep)>
+    ensures { result ≡ earlier_of one other }
+{
+    match (one, other) {
+        (None, _) => other,
+        (Some(first), Some(second)) if second.0 < first.0 => other,
+        (Some(_), _) => one,
+    }
+}
