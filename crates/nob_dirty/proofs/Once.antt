@@ -1,35 +1,14 @@
 -- No pair twice: what keeps that so, and that the clients found at an index are then distinct.
-use Rattle.std.proofs.Common.{◌≡◌, ℕ, ◌+◌, ◌≤◌, ◌==◌, Bool, true, false, not, List, [], ◌∷◌, ◌++◌, map, filter, cond, ◌||◌, refl, sym, ◌∙◌, subst, arith}
+use Rattle.std.proofs.Common.{◌≡◌, ℕ, ◌+◌, ◌≤◌, ◌==◌, Bool, true, false, List, [], ◌∷◌, ◌++◌, map, filter, cond, ◌||◌, refl, ◌∙◌, subst, arith}
 use Rattle.std.specs.List.{list_any, count_by, IsDistinct, AllByRecursion}
 use Rattle.std.proofs.lemmas.Map.Keys.{IsDistinct-cons}
 use Rattle.std.proofs.lemmas.Bool.Decides.{Decides-eqb, Decides-and}
 use Rattle.std.proofs.lemmas.Cmp.{nat_eq_equiv}
 use Rattle.std.proofs.lemmas.List.Sums.{sum_by-cons, sum_by_push}
-use Rattle.std.proofs.lemmas.List.Filters.{sum_by-filter_both}
+use Rattle.nob_ids.proofs.Counting.{count_none, none_counted, count_filter}
 use Rattle.nob_dirty.specs.declared.sets.Listing.{Listing}
 use Rattle.nob_dirty.specs.Sets.{is_of, has_index, lists, IsOnce}
 use Rattle.nob_dirty.proofs.Membership.{found_there}
-
-module _ {X : Type 0} (p : X → Bool) where
-  -- none passes where none counts, and the other way round
-  count_none : (xs : List X) → list_any p xs ≡ false → count_by p xs ≡ 0
-  count_none [] none = refl
-  count_none (x ∷ xs) none =
-      sum_by-cons (λ y. cond (p y) 1 0) x xs
-      ∙ elim (p x) as (λ b. (b || list_any p xs) ≡ false → cond b 1 0 + count_by p xs ≡ 0) [ true ↦ λ e. cc | false ↦ λ e. let rest = count_none xs e in omega arith ] none
-
-  none_counted : (xs : List X) → count_by p xs ≡ 0 → list_any p xs ≡ false
-  none_counted [] none = refl
-  none_counted (x ∷ xs) none =
-      let here : cond (p x) 1 0 + count_by p xs ≡ 0 = sym (sum_by-cons (λ y. cond (p y) 1 0) x xs) ∙ none in
-      elim (p x) as (λ b. cond b 1 0 + count_by p xs ≡ 0 → (b || list_any p xs) ≡ false) [
-        | true ↦ λ e. absurd (omega arith)
-        | false ↦ λ e. none_counted xs (omega arith)
-      ] here
-
-  -- a filter leaves no more that count
-  count_filter : (q : X → Bool) (xs : List X) → count_by p (filter q xs) ≤ count_by p xs
-  count_filter q xs = omega (arith, sum_by-filter_both q (λ x. not (q x)) (λ _. refl) (λ y. cond (p y) 1 0) xs)
 
 -- one pair more, that wasn't there
 pub once_pushed : (set : List Listing) (listing : Listing) → IsOnce set → lists set listing.index listing.client ≡ false → IsOnce (set ++ listing ∷ [])

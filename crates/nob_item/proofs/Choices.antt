@@ -1,5 +1,6 @@
 -- What an answer tells of the choices before it.
-use Rattle.std.proofs.Common.{◌≡◌, Bool, true, false, cond, Result, Ok, Err, refl, ◌⊎◌, inl, inr}
+use Rattle.std.proofs.Common.{◌≡◌, Result, Ok, Err, refl}
+pub use Rattle.nob_pickle.proofs.Choices.{guard_ok, ended_ok, choice}
 use Rattle.nob_item.specs.declared.fault.ItemFault.{ItemFault}
 use Rattle.nob_item.specs.declared.fault.ItemError.{ItemError}
 use Rattle.nob_item.specs.declared.fault.ItemError.TheVariants as errors
@@ -9,21 +10,6 @@ use Rattle.nob_item.specs.Judging.{◌>>=◌, Fails}
 pub bind_ok : {A B : Type 0} (r : Result A ItemFault) (f : A → Result B ItemFault) (y : B) → (r >>= f) ≡ Ok y → (x : A) × (r ≡ Ok x) × (f x ≡ Ok y)
 bind_ok (Ok x) f y e = (x, refl, e)
 bind_ok (Err d) f y e = absurd cc
-
--- a test that did not fail
-pub guard_ok : {A : Type 0} (b : Bool) (d : ItemFault) (r : Result A ItemFault) (y : A) → cond b (Err d) r ≡ Ok y → (b ≡ false) × (r ≡ Ok y)
-guard_ok true d r y e = absurd cc
-guard_ok false d r y e = (refl, e)
-
--- a test that had to hold
-pub ended_ok : {A : Type 0} (b : Bool) (d : ItemFault) (x y : A) → cond b (Ok x) (Err d) ≡ Ok y → (b ≡ true) × (x ≡ y)
-ended_ok true d x y e = (refl, cc)
-ended_ok false d x y e = absurd cc
-
--- which of two it was
-pub choice : {A : Type 0} (b : Bool) (r s : Result A ItemFault) (y : A) → cond b r s ≡ Ok y → ((b ≡ true) × (r ≡ Ok y)) ⊎ (s ≡ Ok y)
-choice true r s y e = inl (refl, e)
-choice false r s y e = inr e
 
 abbrev pub done : {A : Type 0} → A → Result A ItemFault
 done x = Ok x

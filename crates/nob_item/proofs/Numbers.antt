@@ -1,45 +1,17 @@
 -- Numbers as they are read and written.
-use Rattle.std.proofs.Common.{true, cond, ◌≡◌, ℕ, ◌+◌, ◌^◌, ◌<◌, ◌≤◌, false, ltb, List, ◌++◌, length, get_or, take, drop, Ok, Err, refl, sym, ap, subst, ◌∙◌, arith, inl, inr}
-use Rattle.std.proofs.lemmas.Bool.{cases_lt, ltb-false, le-ltb}
-use Rattle.std.proofs.lemmas.List.{drop_at, take-append-drop, length-append, length-take, get_or-drop, get_or-take, get_or_past}
-use Rattle.std.proofs.lemmas.Nat.{be_bytes_2, be_bytes_8}
+use Rattle.std.proofs.Common.{true, cond, ◌≡◌, ℕ, ◌^◌, ◌<◌, ◌≤◌, false, ltb, List, ◌++◌, length, take, drop, Ok, Err, refl, sym, ap, subst, ◌∙◌, arith}
+use Rattle.std.proofs.lemmas.Bool.{ltb-false, le-ltb}
+use Rattle.std.proofs.lemmas.List.{drop_at, take-append-drop, length-append, length-take}
 use Rattle.byteorder.specs.Endian.{big_bytes, big_number}
 use Rattle.byteorder.specs.Numbers.{big_from-take, big_from-lt, big_number-reads_back, length-bytes_high_first}
+use Rattle.nob_ids.proofs.Bytes.{IsBytes, IsBytes-drop, IsBytes-take}
+use Rattle.nob_pickle.proofs.Numbers.{ReadsBack, back_8, Takes}
 use Rattle.nob_item.specs.declared.fault.ItemFault.TheVariants.{Short, Number}
 use Rattle.std.proofs.lemmas.Bool.Decides.{nat_tests}
 use Rattle.nob_item.specs.Spelling.{IsCallNumber, IsItemNumber, IsStatus}
 use Rattle.nob_item.specs.Judging.{is_call_number, is_item_number, is_status}
 use Rattle.nob_item.specs.Reading.{number_at, call_number_at, item_number_at}
 use Rattle.nob_item.proofs.Choices.{bind_ok, ended_ok, ok_is, guard_ok}
-
--- each is a byte
-abbrev pub IsBytes : List ℕ → Type 0
-IsBytes bytes = (i : ℕ) → get_or bytes i 0 < 256
-
-pub IsBytes-drop : (n : ℕ) (bytes : List ℕ) → IsBytes bytes → IsBytes (drop n bytes)
-IsBytes-drop n bytes h i = rw get_or-drop (h (n + i))
-
-pub IsBytes-take : (n : ℕ) (bytes : List ℕ) → IsBytes bytes → IsBytes (take n bytes)
-IsBytes-take n bytes h i =
-    elim (cases_lt i n) [
-      | inl lt ↦ rw (get_or-take n bytes i 0 lt) (h i)
-      | inr le ↦ rw (get_or_past (take n bytes) i 0 (omega (arith, length-take n bytes))) (omega arith)
-    ]
-
--- the bytes of the number that bytes are, are these bytes
-abbrev pub ReadsBack : ℕ → Type 0
-ReadsBack size = (bytes : List ℕ) → length bytes ≡ size → IsBytes bytes → big_bytes size (big_number size bytes) ≡ bytes
-
-pub back_2 : ReadsBack 2
-back_2 bytes len fits = be_bytes_2 bytes (big_number 2 bytes) len fits (omega arith)
-
-pub back_8 : ReadsBack 8
-back_8 bytes len fits = be_bytes_8 bytes (big_number 8 bytes) len fits (omega arith)
-
--- what was taken from the front
-pub record Takes (bytes text rest : List ℕ) : Type 0 where
-  pub parts : bytes ≡ text ++ rest
-  pub rest_fits : IsBytes rest
 
 pub number_takes : (size : ℕ) (bytes : List ℕ) (n : ℕ) (rest : List ℕ) → ReadsBack size → IsBytes bytes → number_at size bytes ≡ Ok (n, rest) → Takes bytes (big_bytes size n) rest × (n < 256 ^ size)
 number_takes size bytes n rest back fits e =

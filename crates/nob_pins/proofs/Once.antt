@@ -5,28 +5,8 @@ use Rattle.std.proofs.lemmas.Bool.Decides.{Decides-eqb, Decides-and}
 use Rattle.std.proofs.lemmas.List.Sums.{sum_by-cons}
 use Rattle.std.proofs.lemmas.List.Sorted.{sum_by_pushed, IsPermutation-sym, IsPermutation-to_front, IsPermutation-remove}
 use Rattle.std.proofs.lemmas.List.Filters.{sum_by-filter_both}
+use Rattle.nob_ids.proofs.Counting.{count_none, none_counted, count_filter}
 use Rattle.nob_pins.specs.Bundles.{Pinned, is_of, has_bundle, IsOnce, Adds, of_others}
-
-module _ {X : Type 0} (p : X → Bool) where
-  -- none passes where none counts, and the other way round
-  count_none : (xs : List X) → list_any p xs ≡ false → count_by p xs ≡ 0
-  count_none [] none = refl
-  count_none (x ∷ xs) none =
-      sum_by-cons (λ y. cond (p y) 1 0) x xs
-      ∙ elim (p x) as (λ b. (b || list_any p xs) ≡ false → cond b 1 0 + count_by p xs ≡ 0) [ true ↦ λ e. cc | false ↦ λ e. let rest = count_none xs e in omega arith ] none
-
-  none_counted : (xs : List X) → count_by p xs ≡ 0 → list_any p xs ≡ false
-  none_counted [] none = refl
-  none_counted (x ∷ xs) none =
-      let here : cond (p x) 1 0 + count_by p xs ≡ 0 = sym (sum_by-cons (λ y. cond (p y) 1 0) x xs) ∙ none in
-      elim (p x) as (λ b. cond b 1 0 + count_by p xs ≡ 0 → (b || list_any p xs) ≡ false) [
-        | true ↦ λ e. absurd (omega arith)
-        | false ↦ λ e. none_counted xs (omega arith)
-      ] here
-
-  -- a filter leaves no more that count
-  count_filter : (q : X → Bool) (xs : List X) → count_by p (filter q xs) ≤ count_by p xs
-  count_filter q xs = omega (arith, sum_by-filter_both q (λ x. not (q x)) (λ _. refl) (λ y. cond (p y) 1 0) xs)
 
 -- a bundle counts with the others
 counted : (old new : List Pinned) (bundle : Pinned) (peer item : ℕ) → Adds old new bundle → count_by (is_of peer item) new ≡ cond (is_of peer item bundle) 1 0 + count_by (is_of peer item) old

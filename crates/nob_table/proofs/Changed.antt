@@ -1,9 +1,9 @@
 -- Another part in place of one: what it makes of all parts.
-use Rattle.std.proofs.Common.{◌≡◌, ℕ, ◌<◌, ◌≤◌, ◌+◌, Bool, true, false, ◌==◌, not, List, [], ◌∷◌, length, filter, Option, Some, None, IsSome, IfSome, is_some, slice_get, refl, sym, ap, subst, ◌∙◌, arith, if◌then◌else◌, eqb-true, true≢false}
+use Rattle.std.proofs.Common.{◌≡◌, ℕ, ◌≤◌, ◌+◌, true, false, ◌==◌, not, List, [], ◌∷◌, length, filter, Option, Some, None, IfSome, is_some, slice_get, refl, sym, ap, subst, ◌∙◌, arith, if◌then◌else◌, eqb-true, true≢false}
 use Prim.Native.Nat.{zero, suc}
 use lib.ListN.{set}
 use Rattle.std.proofs.lemmas.Cmp.{nat_eq_equiv}
-use Rattle.std.proofs.lemmas.Option.{same_Some, slice_get_past, slice_get_within}
+use Rattle.std.proofs.lemmas.Option.{same_Some}
 use Rattle.std.specs.Option.{option_map}
 use Rattle.nob_table.specs.Order.{place_in}
 use Rattle.nob_table.proofs.Stands.{any_key}
@@ -13,10 +13,10 @@ use Rattle.nob_table.specs.declared.counts.Counts.{Counts}
 use Rattle.nob_table.specs.declared.peer.Peer.{Peer}
 use Rattle.nob_table.specs.declared.standing.Surrogate.{Surrogate}
 use Rattle.nob_table.specs.Counts.{is_held}
-use Rattle.nob_table.specs.Peers.{counted_of, surrogates_of, AreParts, HaveRoom, IsPart, IsPeers, PartKeepsRoom, most_parts}
+use Rattle.nob_table.specs.Peers.{counted_of, surrogates_of, AreParts, IsPart, IsPeers, PartKeepsRoom, most_parts}
 use Rattle.nob_table.specs.Rows.{row_at, reps_of, Puts, IsOnce, keep_if}
-use Rattle.nob_table.proofs.Flat.{Owned, filter_all, not_equal, get_set_same, get_set_other, flat_row, flat_once, flat_same, flat_length, flat_puts, flat_here, flat_there, flat_emptied}
-use Rattle.nob_table.proofs.Same.{same_refl, same_is}
+use Rattle.nob_table.proofs.Flat.{Owned, filter_all, not_equal, get_set_same, get_set_other, flat_row, flat_once, flat_length, flat_puts, flat_here, flat_there, flat_emptied}
+use Rattle.nob_table.proofs.Same.{same_is}
 
 length_set_of : {A : Type 0} (xs : List A) (i : ℕ) (y : A) → length (set xs i y) ≡ length xs
 length_set_of [] i y = refl

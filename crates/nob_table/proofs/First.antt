@@ -1,5 +1,5 @@
 -- The first idle surrogate of some parts, and of all.
-use Rattle.std.proofs.Common.{◌≡◌, ℕ, ◌<◌, ◌≤◌, ◌+◌, ◌⊎◌, inl, inr, true, false, List, length, Option, Some, None, IsSome, MatchOption, slice_get, nat_lt, refl, sym, ap, subst, ◌∙◌, arith, if◌then◌else◌, is_some}
+use Rattle.std.proofs.Common.{◌≡◌, ℕ, ◌<◌, ◌≤◌, ◌+◌, ◌⊎◌, inl, inr, true, false, List, length, Option, Some, None, IsSome, MatchOption, slice_get, nat_lt, refl, sym, ap, subst, ◌∙◌, arith, if◌then◌else◌}
 use Rattle.std.proofs.lemmas.Bool.Decides.{Decides-ltb, nat_tests}
 use Rattle.std.proofs.lemmas.Option.{same_Some, none-some, slice_get_within}
 use Rattle.std.specs.Option.{option_map}
@@ -10,7 +10,6 @@ use Rattle.nob_table.specs.declared.standing.Surrogate.{Surrogate}
 use Rattle.nob_table.specs.Order.{place_in}
 use Rattle.nob_table.specs.Peers.{counted_of, surrogates_of, AreParts, is_idle_in, NeverIdleIn, NoneIdleIn, IsFirstIn, earlier_of}
 use Rattle.nob_table.specs.Rows.{row_at}
-use Rattle.nob_table.specs.Standings.{is_idle, far_standing}
 use Rattle.nob_table.proofs.Changed.{counted_at, surrogates_at, surrogates_past}
 use Rattle.nob_table.proofs.Idle.{IsFirstOf}
 

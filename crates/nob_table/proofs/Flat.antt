@@ -1,18 +1,16 @@
 -- The rows of all parts, one part's after another's: what a look-up finds there, and what another part at a place makes of them.
-use Rattle.std.proofs.Common.{◌≡◌, ℕ, ◌<◌, ◌≤◌, ◌+◌, Bool, true, false, ◌||◌, ◌==◌, cond, not, List, [], ◌∷◌, ◌++◌, length, map, filter, Option, Some, None, IsSome, slice_get, refl, sym, ap, subst, ◌∙◌, arith, is_some, if◌then◌else◌, eqb-true, true≢false}
+use Rattle.std.proofs.Common.{◌≡◌, ℕ, ◌<◌, ◌≤◌, ◌+◌, Bool, true, false, ◌||◌, ◌==◌, cond, not, List, [], ◌∷◌, ◌++◌, length, filter, Option, Some, None, IsSome, slice_get, refl, sym, ap, subst, ◌∙◌, arith, is_some, if◌then◌else◌, eqb-true, true≢false}
 use Prim.Native.Nat.{zero, suc}
 use lib.ListN.{set}
 use Rattle.std.proofs.lemmas.Cmp.{nat_eq_equiv}
 use Rattle.std.proofs.lemmas.Option.{none-some, same_Some}
-use Rattle.std.specs.List.{list_any, AllByRecursion, IsDistinct, flat_map, AllZip}
-use Rattle.std.specs.Map.{keys_of}
+use Rattle.std.specs.List.{list_any, AllByRecursion, IsDistinct, flat_map}
 use Rattle.std.specs.Option.{option_and_then}
 use Rattle.nob_ids.specs.declared.wire_rep.WireRep.{WireRep}
 use Rattle.nob_ids.specs.Names.{is_same}
 use Rattle.nob_table.specs.declared.peer.Peer.{Peer}
 use Rattle.nob_table.specs.Rows.{row_at, reps_of, Puts, IsOnce}
-use Rattle.nob_table.proofs.Same.{same_refl, same_is}
-use Rattle.nob_table.proofs.Rising.{in_head, in_tail, all_members}
+use Rattle.nob_table.proofs.Rising.{in_head, in_tail}
 use Rattle.nob_table.proofs.Stands.{any_key}
 
 -- ---- another element at a place

@@ -1,10 +1,10 @@
 -- Parts that are made, and parts that get more room: the rows stay.
-use Rattle.std.proofs.Common.{◌≡◌, ℕ, ◌<◌, ◌≤◌, ◌+◌, Bool, true, false, List, [], ◌∷◌, ◌++◌, length, Option, Some, None, slice_get, nat_lt, refl, sym, ap, subst, ◌∙◌, arith, true≢false}
+use Rattle.std.proofs.Common.{◌≡◌, ℕ, ◌<◌, ◌≤◌, ◌+◌, true, false, List, [], ◌∷◌, ◌++◌, length, Some, slice_get, nat_lt, refl, sym, ap, subst, ◌∙◌, arith, true≢false}
 use Prim.Native.Nat.{zero, suc}
 use lib.ListN.{set, take, drop}
 use Rattle.std.proofs.lemmas.Bool.Decides.{Decides-ltb, nat_tests}
 use Rattle.std.proofs.lemmas.Option.{none-some, same_Some}
-use Rattle.std.specs.List.{flat_map, AllZip, IsDistinct}
+use Rattle.std.specs.List.{flat_map, IsDistinct}
 use Rattle.nob_ids.specs.declared.wire_rep.WireRep.{WireRep}
 use Rattle.nob_table.proofs.Flat.{get_set_same, get_set_other}
 use Rattle.nob_table.specs.declared.counts.Counts.{Counts}

@@ -1,5 +1,5 @@
 -- The first idle surrogate: of one part, of some parts, of all.
-use Rattle.std.proofs.Common.{◌≡◌, ℕ, ◌<◌, ◌≤◌, ◌+◌, ◌⊎◌, inl, inr, Bool, true, false, ◌==◌, List, length, Option, Some, None, IsSome, MatchOption, slice_get, get_or, nat_lt, nat_le, refl, sym, ap, subst, ◌∙◌, arith, if◌then◌else◌, eqb-true, true≢false}
+use Rattle.std.proofs.Common.{◌≡◌, ℕ, ◌<◌, ◌≤◌, true, false, ◌==◌, List, length, Option, Some, None, MatchOption, slice_get, get_or, nat_lt, nat_le, refl, sym, ap, subst, ◌∙◌, arith, eqb-true, true≢false}
 use Rattle.std.proofs.lemmas.Bool.Decides.{Decides-ltb, nat_tests}
 use Rattle.std.proofs.lemmas.Cmp.{nat_eq_equiv}
 use Rattle.std.proofs.lemmas.Map.Entries.{lookup_from_place, place_from_lookup}
@@ -12,7 +12,7 @@ use Rattle.nob_table.specs.declared.counts.Counts.{Counts}
 use Rattle.nob_table.specs.declared.peer.Peer.{Peer}
 use Rattle.nob_table.specs.declared.standing.Surrogate.{Surrogate}
 use Rattle.nob_table.specs.Order.{place_in, IsBefore, IsRising}
-use Rattle.nob_table.specs.Peers.{counted_of, surrogates_of, AreParts, is_idle_in, NeverIdleIn, NoneIdleIn, IsFirstIn, earlier_of}
+use Rattle.nob_table.specs.Peers.{is_idle_in, NeverIdleIn, NoneIdleIn, IsFirstIn}
 use Rattle.nob_table.specs.Rows.{row_at, reps_of, IsOnce}
 use Rattle.nob_table.specs.Standings.{is_idle, far_standing}
 use Rattle.nob_table.proofs.Rising.{rising_at}

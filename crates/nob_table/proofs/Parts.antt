@@ -1,5 +1,5 @@
 -- What keeps a part its owner's, and what keeps all parts so.
-use Rattle.std.proofs.Common.{◌≡◌, ℕ, ◌<◌, ◌≤◌, ◌+◌, Bool, true, false, ◌||◌, ◌==◌, cond, not, List, [], ◌∷◌, ◌++◌, length, filter, Option, Some, None, IsSome, IfSome, slice_get, refl, sym, ap, subst, ◌∙◌, arith, rules, is_some, if◌then◌else◌, true≢false}
+use Rattle.std.proofs.Common.{◌≡◌, ℕ, ◌<◌, Bool, true, false, List, [], ◌∷◌, ◌++◌, Option, Some, None, IsSome, IfSome, refl, sym, ap, subst, ◌∙◌, is_some, true≢false}
 use Rattle.std.specs.List.{list_any, AllByRecursion, IsDistinct}
 use Rattle.std.specs.Option.{option_map}
 use Rattle.nob_ids.specs.declared.wire_rep.WireRep.{WireRep}
@@ -12,7 +12,7 @@ use Rattle.nob_table.specs.Order.{place_in, IsBefore, IsRising}
 use Rattle.nob_table.specs.Peers.{IsPart}
 use Rattle.nob_table.specs.Rows.{row_at, reps_of, Puts, IsOnce, without, keep_if}
 use Rattle.nob_table.specs.Standings.{sent, answered}
-use Rattle.nob_table.proofs.Same.{same_refl, same_is}
+use Rattle.nob_table.proofs.Same.{same_is}
 use Rattle.nob_table.proofs.Rising.{all_members, rising_same, rising_push, rising_without}
 use Rattle.nob_table.proofs.Stands.{any_key, put_there}
 

@@ -1,5 +1,5 @@
 -- What holds of every table: after a close, and of its surrogates.
-use Rattle.std.proofs.Common.{◌≡◌, ℕ, ◌<◌, ◌≤◌, Bool, true, false, ◌==◌, cond, not, List, [], ◌∷◌, length, filter, Option, Some, None, IsSome, IfSome, MatchOption, refl, sym, ap, subst, ◌∙◌, arith, is_some, if◌then◌else◌, true≢false}
+use Rattle.std.proofs.Common.{◌≡◌, ℕ, ◌<◌, ◌≤◌, Bool, true, false, ◌==◌, cond, List, [], ◌∷◌, length, filter, Option, Some, None, IsSome, IfSome, MatchOption, refl, sym, ap, subst, ◌∙◌, arith, is_some, if◌then◌else◌, true≢false}
 use Rattle.std.proofs.lemmas.Option.{none-some}
 use Rattle.std.specs.Option.{option_map}
 use Rattle.nob_ids.specs.declared.wire_rep.WireRep.{WireRep}
@@ -8,10 +8,10 @@ use Rattle.nob_table.specs.declared.counts.Counts.{Counts}
 use Rattle.nob_table.specs.declared.standing.Surrogate.{Surrogate}
 use Rattle.nob_table.specs.Counts.{is_held}
 use Rattle.nob_table.specs.Order.{place_in}
-use Rattle.nob_table.specs.Peers.{is_idle_in, NeverIdleIn, NoneIdleIn, IsFirstIn}
+use Rattle.nob_table.specs.Peers.{is_idle_in, NeverIdleIn, IsFirstIn}
 use Rattle.nob_table.specs.Rows.{row_at, Puts, keep_if}
 use Rattle.nob_table.specs.Standings.{far_standing, is_idle}
-use Rattle.nob_table.specs.Table.{Table, IsTable, standing, stands, NoneIdle, IsFirstIdle}
+use Rattle.nob_table.specs.Table.{Table, IsTable, standing, NoneIdle, IsFirstIdle}
 use Rattle.nob_table.proofs.Parts.{kept_some}
 
 -- a filter is no longer

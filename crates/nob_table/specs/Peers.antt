@@ -1,6 +1,7 @@
 -- What the table has of the other spaces: a part for each space's number.
-use Rattle.std.specs.Prelude.{◌≡◌, ℕ, ◌<◌, ◌≤◌, Bool, true, false, List, length, slice_get, nat_lt, Option, IsSome, Some, None, if◌then◌else◌}
+use Rattle.std.specs.Prelude.{◌≡◌, ℕ, ◌+◌, ◌<◌, ◌≤◌, Bool, true, false, List, length, slice_get, nat_lt, Option, IsSome, Some, None, if◌then◌else◌}
 use Rattle.std.specs.List.{flat_map, AllZip}
+use Rattle.nob_ids.specs.Names.{most_spaces}
 use Rattle.nob_ids.specs.declared.wire_rep.WireRep.{WireRep}
 use Rattle.nob_table.specs.declared.counts.Counts.{Counts}
 use Rattle.nob_table.specs.declared.standing.Surrogate.{Surrogate}
@@ -20,7 +21,7 @@ pub record Far : Type 0 where
 
 -- how many parts there are once all are made: one for each number up to the greatest space's
 abbrev pub most_parts : ℕ
-most_parts = 33
+most_parts = most_spaces + 1
 
 -- the counts of all parts
 abbrev pub counted_of : List Peer → List (WireRep × Counts)

@@ -1,5 +1,5 @@
 -- The table as plain data, its words, and what each call makes of it.
-use Rattle.std.specs.Prelude.{◌≡◌, ℕ, ◌<◌, ◌≤◌, ◌==◌, ◌&&◌, ◌||◌, Bool, true, false, not, nat_le, List, length, slice_get, Option, Some, None, IsSome, IfSome, is_some, if◌then◌else◌}
+use Rattle.std.specs.Prelude.{◌≡◌, ℕ, ◌<◌, ◌≤◌, ◌==◌, ◌&&◌, ◌||◌, Bool, true, false, not, nat_le, List, length, Option, Some, None, IsSome, IfSome, is_some, if◌then◌else◌}
 use Rattle.std.specs.List.{list_any}
 use Rattle.nob_ids.specs.declared.wire_rep.WireRep.{WireRep}
 use Rattle.nob_table.specs.declared.counts.Counts.{Counts}

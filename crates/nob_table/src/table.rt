@@ -4,7 +4,7 @@ ghost use Rattle.std.specs.Prelude.{◌≡◌, List, is_some, ◌+◌, ◌<◌, 
 ghost use Rattle.nob_ids.specs.declared.wire_rep.WireRep.{WireRep};
 ghost use Rattle.nob_table.specs.Counts.{is_held};
 ghost use Rattle.nob_ids.specs.Names.{is_same};
-ghost use Rattle.nob_table.specs.Rows.{without, swapped_out, IsOnce};
+ghost use Rattle.nob_table.specs.Rows.{swapped_out, IsOnce};
 ghost use Rattle.std.specs.List.{list_any};
 ghost use Rattle.nob_table.specs.Standings.{unknown, is_known, is_live, is_lost, is_idle, is_surrogate, state_of, withdrawn, exported_standing, pending_standing, with_counts, in_state, after_hold, after_release, after_close};
 ghost use Rattle.nob_table.specs.Table.{Table, standing, surrogate_total, surrogate_reps, place_of, IsOrder, live, live_order, own, export_fault, hold_fault, release_fault, pending_fault, answer_fault, remove_fault, withdraw_fault, Unchanged, Becomes, SameObjects, SameOrder, Places, KeepsRoom, IsRefusal, NoneIdle, IsFirstIdle, is_of};

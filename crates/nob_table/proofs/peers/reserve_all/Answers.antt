@@ -1,4 +1,4 @@
-use Rattle.std.proofs.Common.{◌≡◌, Some, slice_get, get_or, arith, refl}
+use Rattle.std.proofs.Common.{◌≡◌, Some, slice_get, get_or, arith}
 use Rattle.std.proofs.lemmas.Option.{slice_get-get_or, slice_get_within}
 use Rattle.nob_table.proofs.Grown.{grow_all, grow_set, room_more}
 use Rattle.nob_table.proofs.peers.reserve_all.Goals as goal

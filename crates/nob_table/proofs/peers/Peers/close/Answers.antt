@@ -1,8 +1,8 @@
-use Rattle.std.proofs.Common.{◌≡◌, None, Some, slice_get, sym, ap, ◌∙◌, subst, arith, length, List}
+use Rattle.std.proofs.Common.{◌≡◌, None, Some, slice_get, sym, ap, ◌∙◌, arith, length}
 use Rattle.std.proofs.lemmas.Map.Entries.{length-keys_of}
 use Rattle.std.proofs.lemmas.Option.{slice_get_read, slice_get_past}
 use Rattle.nob_table.specs.declared.peer.Peer.{Peer}
-use Rattle.nob_table.specs.Peers.{IsPart, counted_of, surrogates_of}
+use Rattle.nob_table.specs.Peers.{IsPart}
 use Rattle.nob_table.proofs.Changed.{peers_set, counted_closed, surrogates_closed, surrogates_left, counted_unclosed, surrogates_unclosed, surrogates_unleft}
 use Rattle.nob_table.proofs.Flat.{part_length}
 use Rattle.nob_table.proofs.peers.Peers.close.Goals as goal

@@ -1,4 +1,4 @@
-use Rattle.std.proofs.Common.{◌≡◌, None, Some, slice_get, sym, ap, ◌∙◌, arith, length}
+use Rattle.std.proofs.Common.{◌≡◌, None, Some, slice_get, sym, ap, arith, length}
 use Rattle.std.proofs.lemmas.Option.{slice_get_read, slice_get_past}
 use Rattle.nob_table.specs.declared.peer.Peer.{Peer}
 use Rattle.nob_table.specs.Peers.{IsPart}

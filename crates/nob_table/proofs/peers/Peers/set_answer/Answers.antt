@@ -1,13 +1,11 @@
-use Rattle.std.proofs.Common.{◌≡◌, None, Some, IsSome, slice_get, sym, ap, ◌∙◌, subst, arith, length, is_some, true≢false, Option}
+use Rattle.std.proofs.Common.{◌≡◌, None, Some, IsSome, slice_get, sym, ap, ◌∙◌, subst, arith, is_some, true≢false, Option}
 use Rattle.std.proofs.lemmas.Option.{slice_get_read, slice_get_past}
 use Rattle.std.specs.Option.{option_map}
-use Rattle.nob_table.specs.declared.counts.Counts.{Counts}
 use Rattle.nob_table.specs.declared.peer.Peer.{Peer}
 use Rattle.nob_table.specs.declared.standing.Surrogate.{Surrogate}
-use Rattle.nob_table.specs.Peers.{IsPart, counted_of, surrogates_of}
-use Rattle.nob_table.specs.Rows.{row_at, reps_of, Puts}
-use Rattle.nob_table.specs.Standings.{answered, sent}
-use Rattle.nob_table.specs.Counts.{no_counts}
+use Rattle.nob_table.specs.Peers.{IsPart, surrogates_of}
+use Rattle.nob_table.specs.Rows.{row_at, Puts}
+use Rattle.nob_table.specs.Standings.{answered}
 use Rattle.nob_table.proofs.Changed.{peers_changed, surrogates_puts, surrogates_at, surrogates_past}
 use Rattle.nob_table.proofs.Flat.{flat_same, flat_length}
 use Rattle.nob_table.proofs.peers.Peers.set_answer.Goals as goal
