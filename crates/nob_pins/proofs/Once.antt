@@ -1,10 +1,8 @@
 -- At most one bundle of each peer and item: what keeps that so, and what it says where one is taken out.
-use Rattle.std.proofs.Common.{◌≡◌, ℕ, ◌+◌, ◌≤◌, ◌<◌, ◌==◌, Bool, true, false, not, List, [], ◌∷◌, ◌++◌, filter, length, slice_index_or, Result, Ok, Err, is_ok, if◌then◌else◌, cond, ◌||◌, refl, sym, ◌∙◌, subst, arith}
-use Rattle.std.specs.List.{list_any, count_by, remove}
+use Rattle.std.proofs.Common.{◌≡◌, ℕ, ◌+◌, ◌≤◌, ◌<◌, ◌==◌, Bool, true, false, not, List, [], ◌∷◌, ◌++◌, length, slice_index_or, Result, Ok, Err, is_ok, if◌then◌else◌, cond, refl, subst, arith}
+use Rattle.std.specs.List.{count_by, remove}
 use Rattle.std.proofs.lemmas.Bool.Decides.{Decides-eqb, Decides-and}
-use Rattle.std.proofs.lemmas.List.Sums.{sum_by-cons}
 use Rattle.std.proofs.lemmas.List.Sorted.{sum_by_pushed, IsPermutation-sym, IsPermutation-to_front, IsPermutation-remove}
-use Rattle.std.proofs.lemmas.List.Filters.{sum_by-filter_both}
 use Rattle.nob_ids.proofs.Counting.{count_none, none_counted, count_filter}
 use Rattle.nob_pins.specs.Bundles.{Pinned, is_of, has_bundle, IsOnce, Adds, of_others}
 
