@@ -1,6 +1,6 @@
 //! How often a reference is held.
 
-ghost use Rattle.std.specs.Prelude.{◌≡◌, ◌==◌, Option, Some, None, MatchResult};
+ghost use Rattle.std.specs.Prelude.{◌≡◌, Some, None, MatchResult};
 ghost use Rattle.nob_table.specs.Counts.{hold_limit, release_fault, more, fewer, is_held};
 
 use crate::fault::TableFault;

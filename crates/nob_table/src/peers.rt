@@ -1,6 +1,6 @@
 //! What the table has of all other spaces.
 
-ghost use Rattle.std.specs.Prelude.{◌≡◌, ◌≢◌, ◌==◌, ◌+◌, ◌<◌, ◌≤◌, ◌^◌, ℕ, [], length, not, filter, slice_get, None, Some, IsSome, IfSome, IsOk, OnOk, OnErr, MatchOption, if◌then◌else◌};
+ghost use Rattle.std.specs.Prelude.{◌≡◌, ◌==◌, ◌+◌, ◌<◌, ◌≤◌, ◌^◌, [], length, not, filter, slice_get, None, Some, IsSome, IfSome, IsOk, OnOk, OnErr, MatchOption, if◌then◌else◌};
 ghost use Rattle.std.specs.Option.{option_map};
 ghost use Rattle.nob_ids.specs.declared.wire_rep.WireRep.{WireRep};
 ghost use Rattle.nob_table.specs.Counts.{no_counts, is_held};

@@ -1,13 +1,13 @@
 //! The table itself.
 
-ghost use Rattle.std.specs.Prelude.{◌≡◌, List, is_some, ◌+◌, ◌<◌, ◌≤◌, ◌≢◌, ◌==◌, ◌++◌, ◌∷◌, [], filter, not, length, slice_get, Option, None, Some, IsSome, IfSome, IsTrue, IsOk, OnOk, OnErr, IfOk, IfErr, MatchOption, MatchResult, if◌then◌else◌};
+ghost use Rattle.std.specs.Prelude.{◌≡◌, List, is_some, ◌+◌, ◌<◌, ◌≤◌, ◌==◌, ◌++◌, ◌∷◌, [], filter, not, length, slice_get, None, Some, IsSome, IfSome, IsTrue, IsOk, OnOk, OnErr, IfOk, IfErr, MatchOption, MatchResult, if◌then◌else◌};
 ghost use Rattle.nob_ids.specs.declared.wire_rep.WireRep.{WireRep};
 ghost use Rattle.nob_table.specs.Counts.{is_held};
 ghost use Rattle.nob_ids.specs.Names.{is_same};
 ghost use Rattle.nob_table.specs.Rows.{swapped_out, IsOnce};
 ghost use Rattle.std.specs.List.{list_any};
-ghost use Rattle.nob_table.specs.Standings.{unknown, is_known, is_live, is_lost, is_idle, is_surrogate, state_of, withdrawn, exported_standing, pending_standing, with_counts, in_state, after_hold, after_release, after_close};
-ghost use Rattle.nob_table.specs.Table.{Table, standing, surrogate_total, surrogate_reps, place_of, IsOrder, live, live_order, own, export_fault, hold_fault, release_fault, pending_fault, answer_fault, remove_fault, withdraw_fault, Unchanged, Becomes, SameObjects, SameOrder, Places, KeepsRoom, IsRefusal, NoneIdle, IsFirstIdle, is_of};
+ghost use Rattle.nob_table.specs.Standings.{unknown, is_known, is_live, is_lost, is_surrogate, state_of, withdrawn, exported_standing, pending_standing, with_counts, in_state, after_hold, after_release, after_close};
+ghost use Rattle.nob_table.specs.Table.{Table, standing, surrogate_total, most_surrogates, surrogate_reps, place_of, IsOrder, live, live_order, own, export_fault, hold_fault, release_fault, pending_fault, answer_fault, remove_fault, withdraw_fault, Unchanged, Becomes, SameObjects, SameOrder, Places, KeepsRoom, IsRefusal, NoneIdle, IsFirstIdle, is_of};
 
 use crate::counts::{Counts, Part};
 use crate::fault::{TableError, TableFault};
@@ -129,6 +129,7 @@ impl ObjectTable {
     /// How many surrogates there are on open sessions. Constant time.
     pub fn surrogate_count(&self) -> usize
         ensures count { result ≡ surrogate_total self.now }
+        ensures few { surrogate_total self.now ≤ most_surrogates }
         ensures once { IsOnce self.now.surrogates }
         ensures placed { (rep : WireRep) → is_some (place_of self.now rep) ≡ is_surrogate (standing self.now rep).state }
         ensures sent { (rep : WireRep) → IfSome (place_of self.now rep) (λ place. place < self.now.dirties) }

@@ -40,8 +40,8 @@ fn refusals_have_texts(rt: HostRuntime) -> Result<(), Fail> {
 #[test]
 fn object_from_export_to_withdrawal(rt: HostRuntime) -> Result<(), Fail> {
     let mut table = ObjectTable::new(rt.alloc(), SpaceId::new(1).ok_or("no space")?);
-    table.reserve(2, 0)?;
     assert_eq!(rt; table.export()?, rep(1, 1)?);
+    table.reserve(1, 0)?;
     assert_eq!(rt; table.export()?, rep(1, 2)?);
     assert_eq!(rt; table.withdraw(1), Err(TableFault::StillUsed));
     table.release(rep(1, 1)?, Part::Hand)?;
