@@ -103,6 +103,8 @@ module _ (me exported dirties : ℕ) (objects counted : List (WireRep × Counts)
           let at' = same_place other has' in
           table.apart rep other (sym (ap is_some at) ∙ has) (sym at ∙ same ∙ at');
       few = omega (arith, fewer, table.few);
+      few_objects = table.few_objects;
+      low = table.low;
     }
 
 -- a surrogate stands by its rows

@@ -25,7 +25,7 @@ pub record Table : Type 0 where
   pub exported : ℕ
   -- how many Dirties were sent: the place of the next one's surrogate
   pub dirties : ℕ
-  -- the space's live objects, with their counts, in no order
+  -- the space's live objects, with their counts, in the order in which they can be walked
   pub objects : List (WireRep × Counts)
   -- the counts of other spaces' references: of surrogates, and of lost references, in no order
   pub counted : List (WireRep × Counts)
@@ -192,5 +192,9 @@ pub record IsTable (me exported dirties : ℕ) (objects counted : List (WireRep 
   pub sent : (rep : WireRep) → IfSome (place_in surrogates rep) (λ place. place < dirties)
   -- a place is one surrogate's
   pub apart : (rep other : WireRep) → IsSome (place_in surrogates rep) → place_in surrogates rep ≡ place_in surrogates other → is_same rep other ≡ true
-  -- there are no more than may be
+  -- there are no more of them than may be
   pub few : length surrogates ≤ most_surrogates
+  -- there are no more live objects than may be
+  pub few_objects : length objects ≤ most_objects
+  -- no index was given that is above the greatest
+  pub low : exported ≤ most_index

@@ -200,7 +200,7 @@ impl Peers {
     }
 
     // Forgets the surrogates of this space, and the counts of its references that nobody holds. Linear in the
-    // references of this space.
+    // references of this space and in the room made for them.
     pub(crate) fn close(&mut self, owner: SpaceId)
         ensures counted { (rep : WireRep) → row_at self.new.counted rep ≡ (if rep.owner == owner then keep_if is_held (row_at self.old.counted rep) else row_at self.old.counted rep) }
         ensures surrogates { (rep : WireRep) → row_at self.new.surrogates rep ≡ (if rep.owner == owner then None else row_at self.old.surrogates rep) }

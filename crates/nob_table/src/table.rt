@@ -7,7 +7,7 @@ ghost use Rattle.nob_ids.specs.Names.{is_same};
 ghost use Rattle.nob_table.specs.Rows.{swapped_out, IsOnce};
 ghost use Rattle.std.specs.List.{list_any};
 ghost use Rattle.nob_table.specs.Standings.{unknown, is_known, is_live, is_lost, is_surrogate, state_of, withdrawn, exported_standing, pending_standing, with_counts, in_state, after_hold, after_release, after_close};
-ghost use Rattle.nob_table.specs.Table.{Table, standing, surrogate_total, most_surrogates, surrogate_reps, place_of, IsOrder, live, live_order, own, export_fault, hold_fault, release_fault, pending_fault, answer_fault, remove_fault, withdraw_fault, Unchanged, Becomes, SameObjects, SameOrder, Places, KeepsRoom, IsRefusal, NoneIdle, IsFirstIdle, is_of};
+ghost use Rattle.nob_table.specs.Table.{Table, standing, surrogate_total, most_objects, most_surrogates, most_index, surrogate_reps, place_of, IsOrder, live, live_order, own, export_fault, hold_fault, release_fault, pending_fault, answer_fault, remove_fault, withdraw_fault, Unchanged, Becomes, SameObjects, SameOrder, Places, KeepsRoom, IsRefusal, NoneIdle, IsFirstIdle, is_of};
 
 use crate::counts::{Counts, Part};
 use crate::fault::{TableError, TableFault};
@@ -75,6 +75,7 @@ impl ObjectTable {
     pub fn state(&self, rep: WireRep) -> Standing
         ensures stands { result ≡ standing self.now rep }
         ensures given { IsTrue (is_live result.state) → (1 ≤ rep.index) × (rep.index ≤ self.now.exported) }
+        ensures low { IsTrue (is_live result.state) → rep.index ≤ most_index }
         ensures held { IsTrue (is_lost result.state) → IsTrue (is_held result.counts) }
         ensures agent { rep.index ≡ 0 → result ≡ unknown }
     {
@@ -109,6 +110,7 @@ impl ObjectTable {
     /// How many objects are live. Constant time.
     pub fn object_count(&self) -> usize
         ensures count { result ≡ live self.now }
+        ensures few { live self.now ≤ most_objects }
         ensures places { result ≡ length (live_order self.now) }
         ensures once { IsOnce self.now.objects }
         ensures placed { (rep : WireRep) → list_any (is_same rep) (live_order self.now) ≡ is_live (standing self.now rep).state }
