@@ -39,6 +39,10 @@ appends_more (Some ws) None c xs ys h k = absurd h
 appends_more (Some ws) (Some bs) None xs ys h k = absurd k
 appends_more (Some ws) (Some bs) (Some cs) xs ys h k = k ∙ ap (λ (zs : List ℕ). zs ++ ys) h ∙ append_assoc ws xs ys
 
+pub appends_none : (a : Option (List ℕ)) (xs : List ℕ) → xs ≡ [] → Appends a a xs
+appends_none None xs e = tt
+appends_none (Some ws) xs e = subst (λ (ys : List ℕ). ws ≡ ws ++ ys) (sym e) (sym (append-nil ws))
+
 pub keeps_same : (a : Option (List ℕ)) → Keeps a a
 keeps_same None = tt
 keeps_same (Some ws) = refl

@@ -15,6 +15,10 @@ most_reads = 2 ^ 20
 abbrev pub most_bytes : ℕ
 most_bytes = 2 ^ 26
 
+-- a read has room for so many bytes at least, so that as many reads as the program makes can give more bytes than it takes
+abbrev pub least_room : ℕ
+least_room = 2 ^ 12
+
 -- what was read: the bytes of the reader before the first read and after the last, how many reads were made, whether one failed, and whether one told the end
 pub record Reading : Type 0 where
   pub input : Option (List ℕ)

@@ -14,24 +14,31 @@ use std::alloc::Global;
 use std::process::ExitCode;
 use std::{env, io};
 
+// What is said of a word that is no text.
+const NO_TEXT: &[u8] = b"error: invalid UTF-8 was detected in one or more arguments\n";
+
 fn main(rt: HostRuntime) -> ExitCode {
     let alloc = rt.alloc();
     let mut out = Sink::new(rt.stdout());
-    let Ok(words) = words_of(&rt, alloc) else {
-        let _told = out.write_all(b"memory\n");
-        return ExitCode::from(1);
+    let mut err = Sink::new(rt.stderr());
+    let words = match words_of(&rt, alloc) {
+        Ok(words) => words,
+        Err(error) if error.kind() == io::ErrorKind::InvalidData => {
+            return ExitCode::from(run::said(&mut err, NO_TEXT, 2));
+        }
+        Err(_) => return ExitCode::from(run::said(&mut out, b"memory\n", 1)),
     };
     let status = run::run(
         alloc,
         words.as_slice(),
         &mut Source::new(rt.stdin()),
         &mut out,
-        &mut Sink::new(rt.stderr()),
+        &mut err,
     );
     ExitCode::from(status)
 }
 
-// The words of the command line. Only memory fails it.
+// The words of the command line. Memory fails it, and a word that is no text.
 fn words_of(rt: &HostRuntime, alloc: Global) -> io::Result<Vec<String>> {
     Ok(env::args(rt)?.collect(alloc)?)
 }

@@ -103,8 +103,8 @@ fn status_of(outcome: Outcome) -> u8
     }
 }
 
-// Writes what is left to be said, and gives the status that the run ends with: this one, or 1 where the write fails.
-fn said<W: Write>(sink: &mut Sink<W>, text: &[u8], status: u8) -> u8
+/// Writes what is left to be said, and gives the status that the run ends with: this one, or 1 where the write fails.
+pub fn said<W: Write>(sink: &mut Sink<W>, text: &[u8], status: u8) -> u8
     requires { sink.old.failed ≡ false }
     ensures written { sink.new.failed ≡ false → Appends (W.contents sink.old.writer) (W.contents sink.new.writer) text.now × (result ≡ status) }
     ensures failed { sink.new.failed ≡ true → result ≡ 1 }

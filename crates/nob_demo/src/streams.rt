@@ -1,9 +1,9 @@
 //! The program's reader and writers, which keep whether one of their calls failed.
 
-ghost use Rattle.std.specs.Prelude.{◌≡◌, ◌+◌, ◌<◌, ◌≤◌, ℕ, true, false, IfOk, OnOk, OnErr, List, length, take};
+ghost use Rattle.std.specs.Prelude.{◌≡◌, ◌+◌, ◌<◌, ◌≤◌, ℕ, true, false, IfOk, OnOk, OnErr, IsOk, List, [], length, take};
 ghost use Rattle.std.specs.Io.{ReadsAtMost};
 ghost use Rattle.std.specs.Io.KnownBytes.{Appends, Consumes, IsAtEnd};
-ghost use Rattle.nob_demo.specs.Program.{most_reads};
+ghost use Rattle.nob_demo.specs.Program.{most_reads, least_room};
 
 use std::io::{Read, Write};
 
@@ -49,12 +49,12 @@ impl<R: Read> Source<R> {
         self.reads < MOST_READS
     }
 
-    /// Reads some bytes into a piece with room for one; none only at the end. A reader that failed or told its end
+    /// Reads some bytes into a piece with room for 4,096; none only at the end. A reader that failed or told its end
     /// is read no more.
     pub fn read(&mut self, piece: &mut [u8]) -> Result<usize, ReadFailed>
         requires reads { self.old.reads < most_reads }
         requires going { (self.old.failed ≡ false) × (self.old.ended ≡ false) }
-        requires room { 0 < length piece.old }
+        requires room { least_room ≤ length piece.old }
         ensures bound { ReadsAtMost result piece.new }
         ensures bytes { IfOk result (λ n. Consumes (R.remaining self.old.reader) (R.remaining self.new.reader) (take n piece.new)) }
         ensures end { IfOk result (λ n. n ≡ 0 → IsAtEnd (R.remaining self.new.reader) × (self.new.ended ≡ true)) }
@@ -96,13 +96,18 @@ impl<W: Write> Sink<W> {
         }
     }
 
-    /// Writes all these bytes. To a writer that failed nothing more is written.
+    /// Writes all these bytes, by no call where there are none. To a writer that failed nothing more is written.
+    #[tactic(auto, using(crate::proofs::Known::appends_none))]
     pub fn write_all(&mut self, bytes: &[u8]) -> Result<(), WriteFailed>
         requires { self.old.failed ≡ false }
         ensures ok { OnOk result (self.new.failed ≡ false) }
         ensures bytes { OnOk result (Appends (W.contents self.old.writer) (W.contents self.new.writer) bytes.now) }
         ensures err { OnErr result (self.new.failed ≡ true) }
+        ensures none { bytes.now ≡ [] → IsOk result }
     {
+        if bytes.is_empty() {
+            return Ok(());
+        }
         match self.writer.write_all(bytes) {
             Ok(()) => Ok(()),
             Err(_) => {

@@ -144,22 +144,43 @@ const REFUSED: [([&str; 2], &str); 5] = [
     (["nobj", "--version"], "nobj 0.1.0\n"),
 ];
 
+// What stands on `err` after words that are refused.
+fn refusal(rt: &impl Abort, alloc: Global, words: &[&str]) -> Vec<u8> {
+    let mut out = Vec::new(alloc);
+    let mut err = Vec::new(alloc);
+    let status = run(
+        alloc,
+        words,
+        &mut Source::new(b"".as_slice()),
+        &mut Sink::new(&mut out),
+        &mut Sink::new(&mut err),
+    );
+    assert_eq!(rt; status, 2);
+    assert!(rt; out.is_empty());
+    err
+}
+
 #[test]
 fn wrong_words(rt: HostRuntime) -> Result<(), Fail> {
     for (words, wanted) in REFUSED {
-        let mut out = Vec::new(rt.alloc());
-        let mut err = Vec::new(rt.alloc());
-        let status = run(
-            rt.alloc(),
-            &words,
-            &mut Source::new(b"".as_slice()),
-            &mut Sink::new(&mut out),
-            &mut Sink::new(&mut err),
-        );
-        assert_eq!(rt; status, 2);
-        assert!(rt; out.is_empty());
+        let err = refusal(&rt, rt.alloc(), &words);
         assert!(rt; err.starts_with(wanted.as_bytes()), "{wanted}");
     }
+    Ok(())
+}
+
+#[test]
+fn help_shows_an_example(rt: HostRuntime) -> Result<(), Fail> {
+    let example = b"\n\nExample: nobj pair < examples/first-frame-lost.pair\n".as_slice();
+    let whole = refusal(&rt, rt.alloc(), &["nobj", "--help"]);
+    assert!(rt; whole.ends_with(example));
+    let of_pair = refusal(&rt, rt.alloc(), &["nobj", "pair", "--help"]);
+    assert!(rt;
+        of_pair.starts_with(
+            b"Runs a script of two session ends, read from standard input\n".as_slice()
+        )
+    );
+    assert!(rt; of_pair.ends_with(example));
     Ok(())
 }
 
