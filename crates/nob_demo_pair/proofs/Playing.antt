@@ -6,8 +6,8 @@ use Rattle.std.proofs.lemmas.List.{append-nil, drop-map, drop_more, drop_all}
 use Rattle.nob_demo_pair.specs.Grammar.{header_text, IsLimits}
 use Rattle.nob_trace_text.specs.Lines.{texts, lines_of}
 use Rattle.nob_ids.specs.declared.limits.Limits.{Limits}
-use Rattle.nob_model.specs.declared.entry.PairEntry.{PairEntry}
-use Rattle.nob_model.specs.Pair.{PairFronts}
+use Rattle.nob_model_end.specs.declared.entry.PairEntry.{PairEntry}
+use Rattle.nob_model_end.specs.Pair.{PairFronts}
 use Rattle.nob_demo_pair.specs.declared.script.Outcome.{Outcome}
 use Rattle.nob_demo_pair.specs.declared.script.Outcome.TheVariants.{Fronts, BadStep, OutOfMemory}
 use Rattle.nob_demo_pair.specs.Scripts.{FromLines, FromLine, FromHeader, FromScript, AtEnd, FromNothing, StepMade, Grows, IsNoStep, IsNoHeader, Plays, bad_step_text, last_line, line_text}

@@ -7,19 +7,19 @@ use Rattle.nob_ids.specs.declared.limits.Limits.{Limits}
 use Rattle.nob_ids.specs.declared.reason.Reason.{Reason}
 use Rattle.nob_ids.specs.declared.reason.Reason.TheVariants.{Asked}
 use Rattle.nob_frame.specs.declared.frame.Frame.{Frame}
-use Rattle.nob_model.specs.declared.refusal.Refusal.{Refusal}
-use Rattle.nob_model.specs.declared.refusal.Refusal.TheVariants as refusal
-use Rattle.nob_model.specs.declared.entry.Kind.TheVariants.{Limited}
-use Rattle.nob_model.specs.declared.entry.Ending.{Ending}
-use Rattle.nob_model.specs.declared.entry.Arrived.{Arrived}
-use Rattle.nob_model.specs.declared.entry.Arrived.TheVariants as arrived
-use Rattle.nob_model.specs.declared.entry.EndEntry.{EndEntry}
-use Rattle.nob_model.specs.declared.entry.EndEntry.TheVariants as entry
-use Rattle.nob_model.specs.declared.entry.PairEntry.{PairEntry}
-use Rattle.nob_model.specs.declared.entry.PairEntry.TheVariants as pair
-use Rattle.nob_model.specs.End.{is_open}
-use Rattle.nob_model.specs.Right.{right_send, right_transmit, right_arrive, right_front, right_tick, right_close}
-use Rattle.nob_model.specs.Pair.{first_calls, second_calls}
+use Rattle.nob_model_end.specs.declared.refusal.EndRefusal.{EndRefusal}
+use Rattle.nob_model_end.specs.declared.refusal.EndRefusal.TheVariants as refusal
+use Rattle.nob_model_end.specs.declared.entry.Kind.TheVariants.{Limited}
+use Rattle.nob_model_end.specs.declared.entry.Ending.{Ending}
+use Rattle.nob_model_end.specs.declared.entry.Arrived.{Arrived}
+use Rattle.nob_model_end.specs.declared.entry.Arrived.TheVariants as arrived
+use Rattle.nob_model_end.specs.declared.entry.EndEntry.{EndEntry}
+use Rattle.nob_model_end.specs.declared.entry.EndEntry.TheVariants as entry
+use Rattle.nob_model_end.specs.declared.entry.PairEntry.{PairEntry}
+use Rattle.nob_model_end.specs.declared.entry.PairEntry.TheVariants as pair
+use Rattle.nob_model_end.specs.End.{is_open}
+use Rattle.nob_model_end.specs.Right.{right_send, right_transmit, right_arrive, right_front, right_tick, right_close}
+use Rattle.nob_model_end.specs.Pair.{first_calls, second_calls}
 use Rattle.nob_demo_pair.specs.declared.answer.Answer.{Answer}
 use Rattle.nob_demo_pair.specs.declared.answer.Answer.TheVariants as answer
 use Rattle.nob_demo_pair.specs.declared.step.Side.{Side}
@@ -90,7 +90,7 @@ entries_of limits (Deliver k) J = arrival_of (frame_numbered k (all_given J)) J
 
 -- ---- texts of answers
 
-abbrev pub refusal_text : Refusal → List ℕ
+abbrev pub refusal_text : EndRefusal → List ℕ
 refusal_text refusal.Closed = codes "N1"
 refusal_text refusal.QueueFull = codes "N2"
 refusal_text refusal.SeqEnd = codes "N3"
@@ -101,7 +101,7 @@ abbrev pub closed_text : Reason → List ℕ
 closed_text reason = codes "closed " ++ decimal (reason_number reason)
 
 -- the number that a put item got
-abbrev pub put_text : Result ℕ Refusal → List ℕ
+abbrev pub put_text : Result ℕ EndRefusal → List ℕ
 put_text (Ok n) = codes "item " ++ decimal n
 put_text (Err r) = refusal_text r
 
@@ -121,18 +121,18 @@ got_text None = codes "none"
 got_text (Some item) = codes "item " ++ decimal item.0 ++ 32 ∷ encode_lower item.1
 
 -- what a tick did
-abbrev pub tick_text : Result (Option Ending) Refusal → List ℕ
+abbrev pub tick_text : Result (Option Ending) EndRefusal → List ℕ
 tick_text (Ok None) = codes "ok"
 tick_text (Ok (Some e)) = closed_text e.reason
 tick_text (Err r) = refusal_text r
 
 -- what a close did
-abbrev pub close_text : Result Ending Refusal → List ℕ
+abbrev pub close_text : Result Ending EndRefusal → List ℕ
 close_text (Ok e) = closed_text e.reason
 close_text (Err r) = refusal_text r
 
 -- what an arriving frame did
-abbrev pub arrive_text : Result Arrived Refusal → List ℕ
+abbrev pub arrive_text : Result Arrived EndRefusal → List ℕ
 arrive_text (Ok (arrived.Took n)) = codes "took " ++ decimal n
 arrive_text (Ok (arrived.Closed e)) = closed_text e.reason
 arrive_text (Err r) = refusal_text r

@@ -2,8 +2,8 @@
 use Rattle.std.specs.Prelude.{◌≡◌, ◌≢◌, ℕ, ◌+◌, List, [], ◌∷◌, ◌++◌, IsTrue, codes}
 use Rattle.std.specs.Fmt.{decimal}
 use Rattle.nob_ids.specs.declared.limits.Limits.{Limits}
-use Rattle.nob_model.specs.declared.entry.PairEntry.{PairEntry}
-use Rattle.nob_model.specs.Pair.{PairFronts}
+use Rattle.nob_model_end.specs.declared.entry.PairEntry.{PairEntry}
+use Rattle.nob_model_end.specs.Pair.{PairFronts}
 use Rattle.nob_trace_text.specs.Lines.{lines_of}
 use Rattle.nob_demo_pair.specs.declared.step.Step.{Step}
 use Rattle.nob_demo_pair.specs.declared.script.Outcome.{Outcome}

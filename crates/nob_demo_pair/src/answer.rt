@@ -4,7 +4,7 @@ ghost use Rattle.std.specs.Prelude.{◌+◌, ◌<◌, ◌≤◌, ◌^◌};
 
 use nob_frame::Payload;
 use nob_ids::{ItemNo, Reason};
-use nob_session::Refusal;
+use nob_session::EndRefusal;
 
 /// The frames that a `send` gave, one at least: those of so many numbers after the frames before.
 #[derive(Clone, Copy, Debug, PartialEq, Eq)]
@@ -37,7 +37,7 @@ pub enum Answer {
     /// The end closed for this reason.
     Closed(Reason),
     /// The session refuses the call.
-    Refused(Refusal),
+    Refused(EndRefusal),
     /// X2: no such frame was transmitted.
     NoFrame,
 }

@@ -2,21 +2,21 @@
 
 ghost use Rattle.std.specs.Prelude.{◌≡◌, ◌++◌, ◌∷◌, List, ℕ, length, IfOk, IsTrue, OnOk, OnErr, ◌≢◌, []};
 ghost use Rattle.nob_ids.specs.declared.limits.Limits.{Limits as LimitsOf};
-ghost use Rattle.nob_model.specs.declared.entry.EndEntry.{EndEntry};
+ghost use Rattle.nob_model_end.specs.declared.entry.EndEntry.{EndEntry};
 ghost use Rattle.std.specs.List.{AllByRecursion};
 ghost use Rattle.nob_frame.specs.Spelling.{Fits};
 ghost use Rattle.nob_session.specs.Items.{IsItem, IsPair};
 ghost use Rattle.nob_session.specs.Stands.{Stands};
 ghost use Rattle.nob_demo_pair.specs.Fronts.{IsFront};
 ghost use Rattle.nob_demo_pair.specs.Run.{answer_text, arrive_text, call_answer, call_takes_memory, calls_of};
-ghost use Rattle.nob_model.specs.Right.{right_arrive, right_transmit};
-ghost use Rattle.nob_model.specs.declared.entry.EndEntry.TheVariants.{Arrive};
+ghost use Rattle.nob_model_end.specs.Right.{right_arrive, right_transmit};
+ghost use Rattle.nob_model_end.specs.declared.entry.EndEntry.TheVariants.{Arrive};
 
 use crate::answer::{Answer, Sent};
 use crate::step::Call;
 use nob_frame::{Frame, Payload};
 use nob_ids::Reason;
-use nob_session::{Arrival, Kind, Refusal, Session, SessionError};
+use nob_session::{Arrival, Kind, EndRefusal, Session, SessionError};
 use std::alloc::{AllocError, Global};
 
 // Hands an item.
@@ -44,7 +44,7 @@ pub fn get(alloc: Global, session: &mut Session) -> Result<Answer, AllocError>
         OnErr result (IsTrue (call_takes_memory Call.Get L)) }
 {
     if !session.is_open() {
-        return Ok(Answer::Refused(Refusal::Closed));
+        return Ok(Answer::Refused(EndRefusal::Closed));
     }
     let Some(answer) = front_of(alloc, session)? else {
         return Ok(Answer::Nothing);

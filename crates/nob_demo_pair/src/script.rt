@@ -3,7 +3,7 @@
 ghost use Rattle.std.specs.Prelude.{◌≡◌, ◌++◌, ◌∷◌, [], List, ℕ, false, IsTrue, IfOk, OnOk, OnErr, codes, ◌+◌, ◌<◌, ◌^◌};
 ghost use Rattle.std.specs.String.{string_bytes};
 ghost use Rattle.nob_ids.specs.declared.limits.Limits.{Limits as LimitsOf};
-ghost use Rattle.nob_model.specs.declared.entry.PairEntry.{PairEntry};
+ghost use Rattle.nob_model_end.specs.declared.entry.PairEntry.{PairEntry};
 ghost use Rattle.nob_trace_text.specs.Lines.{texts};
 ghost use Rattle.nob_demo_pair.specs.Pairs.{PairStands};
 ghost use Rattle.nob_demo_pair.specs.Scripts.{FromHeader, FromLines, Grows, IsNoStep, IsStepLine, MakesStep, Plays, answered_text, bad_step_text, last_line};

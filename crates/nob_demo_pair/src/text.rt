@@ -8,7 +8,7 @@ ghost use Rattle.nob_demo_pair.specs.Run.{answer_text, refusal_text, numbers_tex
 use crate::answer::{Answer, Sent};
 use nob_frame::Payload;
 use nob_ids::{ItemNo, Reason};
-use nob_session::Refusal;
+use nob_session::EndRefusal;
 use std::alloc::{AllocError, Global};
 
 /// The text of an answer. Only memory fails it.
@@ -57,14 +57,14 @@ fn closed_text(alloc: Global, reason: Reason) -> Result<String, AllocError>
     format!(in alloc; "closed {number}")
 }
 
-fn refused_text(alloc: Global, refusal: Refusal) -> Result<String, AllocError>
+fn refused_text(alloc: Global, refusal: EndRefusal) -> Result<String, AllocError>
     ensures { IfOk result (λ text. string_bytes text ≡ refusal_text refusal) }
 {
     match refusal {
-        Refusal::Closed => String::from_str(alloc, "N1"),
-        Refusal::QueueFull => String::from_str(alloc, "N2"),
-        Refusal::SeqEnd => String::from_str(alloc, "N3"),
-        Refusal::Strange => String::from_str(alloc, "N4"),
+        EndRefusal::Closed => String::from_str(alloc, "N1"),
+        EndRefusal::QueueFull => String::from_str(alloc, "N2"),
+        EndRefusal::SeqEnd => String::from_str(alloc, "N3"),
+        EndRefusal::Strange => String::from_str(alloc, "N4"),
     }
 }
 

@@ -8,20 +8,20 @@ use Rattle.std.proofs.lemmas.List.Elements.{All-from_recursion, All-contains, Al
 use Rattle.nob_ids.specs.declared.limits.Limits.{Limits}
 use Rattle.nob_ids.specs.declared.reason.Reason.{Reason}
 use Rattle.nob_ids.specs.declared.reason.Reason.TheVariants as reason
-use Rattle.nob_model.specs.declared.entry.Ending.{Ending}
+use Rattle.nob_model_end.specs.declared.entry.Ending.{Ending}
 use Rattle.nob_frame.specs.declared.frame.Frame.{Frame}
 use Rattle.nob_frame.specs.Kinds.{is_data, is_close}
-use Rattle.nob_model.specs.declared.refusal.Refusal.{Refusal}
-use Rattle.nob_model.specs.declared.refusal.Refusal.TheVariants as refusal
-use Rattle.nob_model.specs.declared.entry.Arrived.{Arrived}
-use Rattle.nob_model.specs.declared.entry.Arrived.TheVariants as arrived
-use Rattle.nob_model.specs.declared.entry.EndEntry.{EndEntry}
-use Rattle.nob_model.specs.declared.entry.EndEntry.TheVariants.{Send, Transmit, Arrive, Front, Take, IsOpen, Tick, Close}
-use Rattle.nob_model.specs.declared.entry.PairEntry.{PairEntry}
-use Rattle.nob_model.specs.declared.entry.PairEntry.TheVariants.{First, Second}
-use Rattle.nob_model.specs.End.{is_open, ending, handed, lowest, accepted, takes, waiting, transmitted, data_arrived, owes_close}
-use Rattle.nob_model.specs.Right.{data_frames, open_frames, closed_frames, right_transmit, right_arrive, right_front, first_of, is_of_pair, is_accepted, last_item, inbox_limit, IsRight}
-use Rattle.nob_model.specs.Pair.{first_calls, second_calls, given, ArrivesFrom, PairRun, taken, numbered, IsBeginning, TakesWhileOpen, PairFronts, PairLaw}
+use Rattle.nob_model_end.specs.declared.refusal.EndRefusal.{EndRefusal}
+use Rattle.nob_model_end.specs.declared.refusal.EndRefusal.TheVariants as refusal
+use Rattle.nob_model_end.specs.declared.entry.Arrived.{Arrived}
+use Rattle.nob_model_end.specs.declared.entry.Arrived.TheVariants as arrived
+use Rattle.nob_model_end.specs.declared.entry.EndEntry.{EndEntry}
+use Rattle.nob_model_end.specs.declared.entry.EndEntry.TheVariants.{Send, Transmit, Arrive, Front, Take, IsOpen, Tick, Close}
+use Rattle.nob_model_end.specs.declared.entry.PairEntry.{PairEntry}
+use Rattle.nob_model_end.specs.declared.entry.PairEntry.TheVariants.{First, Second}
+use Rattle.nob_model_end.specs.End.{is_open, ending, handed, lowest, accepted, takes, waiting, transmitted, data_arrived, owes_close}
+use Rattle.nob_model_end.specs.Right.{data_frames, open_frames, closed_frames, right_transmit, right_arrive, right_front, first_of, is_of_pair, is_accepted, last_item, inbox_limit, IsRight}
+use Rattle.nob_model_end.specs.Pair.{first_calls, second_calls, given, ArrivesFrom, PairRun, taken, numbered, IsBeginning, TakesWhileOpen, PairFronts, PairLaw}
 
 -- the payload of this number
 pub record Placed (payloads : List (List ℕ)) (n : ℕ) (payload : List ℕ) : Type 0 where

@@ -1,7 +1,7 @@
 -- The highest number among the frames that a transmit gives.
 use Rattle.std.proofs.Common.{◌≡◌, ℕ, ◌+◌, ◌-◌, ◌≤◌, max, Bool, true, false, List, [], ◌∷◌, length, arith, sym, ap, ◌∙◌}
-use Rattle.nob_model.specs.End.{greatest_seq}
-use Rattle.nob_model.specs.Right.{data_frames, open_frames}
+use Rattle.nob_model_end.specs.End.{greatest_seq}
+use Rattle.nob_model_end.specs.Right.{data_frames, open_frames}
 
 -- the last of the frames has the greatest number
 greatest_given : (me peer ack n : ℕ) (payload : List ℕ) (payloads : List (List ℕ)) → greatest_seq (data_frames me peer ack n (payload ∷ payloads)) ≡ n + length payloads

@@ -1,8 +1,8 @@
 -- Answers of a session as those of which the definitions speak.
 use Rattle.std.specs.Prelude.{Result, Ok, Err}
-use Rattle.nob_model.specs.declared.refusal.Refusal.{Refusal}
-use Rattle.nob_model.specs.declared.entry.Arrived.{Arrived}
-use Rattle.nob_model.specs.declared.entry.Arrived.TheVariants as arrived
+use Rattle.nob_model_end.specs.declared.refusal.EndRefusal.{EndRefusal}
+use Rattle.nob_model_end.specs.declared.entry.Arrived.{Arrived}
+use Rattle.nob_model_end.specs.declared.entry.Arrived.TheVariants as arrived
 use Rattle.nob_session.specs.declared.error.SessionError.{SessionError}
 use Rattle.nob_session.specs.declared.error.SessionError.TheVariants.{Refused, OutOfMemory}
 use Rattle.nob_session.specs.declared.closed.Arrival.{Arrival}
@@ -14,7 +14,7 @@ arrived_of (arrival.Took n) = arrived.Took n
 arrived_of (arrival.Closed ending) = arrived.Closed ending
 
 -- P of the answer, seen by view, unless memory ran out
-abbrev pub Answered : {A B : Type 0} → (A → B) → Result A SessionError → (Result B Refusal → Type 0) → Type 0
+abbrev pub Answered : {A B : Type 0} → (A → B) → Result A SessionError → (Result B EndRefusal → Type 0) → Type 0
 Answered view (Ok x) P = P (Ok (view x))
 Answered view (Err (Refused refusal)) P = P (Err refusal)
 Answered view (Err OutOfMemory) P = Unit {0}

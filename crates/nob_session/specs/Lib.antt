@@ -2,10 +2,10 @@ pub use Rattle.nob_ids.specs.Names
 pub use Rattle.nob_ids.specs.Reasons
 pub use Rattle.nob_frame.specs.Kinds
 pub use Rattle.nob_frame.specs.Spelling
-pub use Rattle.nob_model.specs.Texts
-pub use Rattle.nob_model.specs.End
-pub use Rattle.nob_model.specs.Right
-pub use Rattle.nob_model.specs.Pair
+pub use Rattle.nob_model_end.specs.Texts
+pub use Rattle.nob_model_end.specs.End
+pub use Rattle.nob_model_end.specs.Right
+pub use Rattle.nob_model_end.specs.Pair
 pub mod Items
 pub mod Stands
 pub mod Answers

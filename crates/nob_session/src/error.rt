@@ -3,7 +3,7 @@
 ghost use Rattle.std.specs.Prelude.{◌≡◌};
 ghost use Rattle.nob_session.specs.declared.error.SessionError.TheVariants.{Refused, OutOfMemory};
 
-use nob_model::Refusal;
+use nob_model_end::EndRefusal;
 use std::alloc::{AllocError, AllocFailed};
 use thiserror::Error;
 
@@ -12,16 +12,16 @@ use thiserror::Error;
 pub enum SessionError {
     /// The session refuses the call.
     #[error("{0}")]
-    Refused(Refusal),
+    Refused(EndRefusal),
     /// Memory ran out.
     #[error("out of memory")]
     OutOfMemory,
 }
 
-impl From<Refusal> for SessionError {
+impl From<EndRefusal> for SessionError {
     ghost from_gives = { λ refusal e. e ≡ Refused refusal };
 
-    fn from(refusal: Refusal) -> SessionError {
+    fn from(refusal: EndRefusal) -> SessionError {
         SessionError::Refused(refusal)
     }
 }

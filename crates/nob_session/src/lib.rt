@@ -9,7 +9,7 @@ mod session;
 
 pub use closed::{Arrival, Closed};
 pub use error::SessionError;
-pub use nob_model::{Kind, Refusal};
+pub use nob_model_end::{Kind, EndRefusal};
 pub use session::Session;
 
 #[cfg(test)]

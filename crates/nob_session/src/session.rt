@@ -2,13 +2,13 @@
 
 ghost use Rattle.std.specs.Prelude.{◌≡◌, ◌≢◌, ◌+◌, ◌<◌, ◌≤◌, ◌^◌, List, ℕ, Ok, Err, Some, None, Bool, false, ◌&&◌, ◌==◌, nat_le, nat_lt, max, IfOk, OnOk, OnErr, IsOk, IsOkUnless, length, take, vec_len, [], ◌∷◌};
 ghost use Rattle.nob_ids.specs.declared.limits.Limits.{Limits as LimitsOf};
-ghost use Rattle.nob_model.specs.declared.entry.EndEntry.{EndEntry};
-ghost use Rattle.nob_model.specs.declared.entry.EndEntry.TheVariants.{Send, Transmit, Arrive, Front, Take, IsOpen, Tick, Close};
-ghost use Rattle.nob_model.specs.Texts.{front_text};
-ghost use Rattle.nob_model.specs.End.{greatest_seq};
-ghost use Rattle.nob_model.specs.Right as right;
-ghost use Rattle.nob_model.specs.declared.entry.Arrived.TheVariants.{Took};
-ghost use Rattle.nob_model.specs.Right.{IsRight};
+ghost use Rattle.nob_model_end.specs.declared.entry.EndEntry.{EndEntry};
+ghost use Rattle.nob_model_end.specs.declared.entry.EndEntry.TheVariants.{Send, Transmit, Arrive, Front, Take, IsOpen, Tick, Close};
+ghost use Rattle.nob_model_end.specs.Texts.{front_text};
+ghost use Rattle.nob_model_end.specs.End.{greatest_seq};
+ghost use Rattle.nob_model_end.specs.Right as right;
+ghost use Rattle.nob_model_end.specs.declared.entry.Arrived.TheVariants.{Took};
+ghost use Rattle.nob_model_end.specs.Right.{IsRight};
 ghost use Rattle.std.specs.List.{AllByRecursion};
 ghost use Rattle.nob_frame.specs.Kinds.{is_data};
 ghost use Rattle.nob_frame.specs.Spelling.{Fits};
@@ -20,8 +20,8 @@ use crate::closed::{Arrival, Closed};
 use crate::error::SessionError;
 use nob_frame::{Frame, FrameKind, Payload};
 use nob_ids::{ItemNo, Limits, Reason, SpaceId};
-use nob_model::right::{INBOX_LIMIT, LAST_ITEM, QUEUE_LIMIT};
-use nob_model::{Kind, Refusal};
+use nob_model_end::right::{INBOX_LIMIT, LAST_ITEM, QUEUE_LIMIT};
+use nob_model_end::{Kind, EndRefusal};
 use std::alloc::{AllocError, Global};
 use std::marker::Model;
 
@@ -124,14 +124,14 @@ impl Session {
         ensures err_room { OnErr result (self.old.room ≤ self.new.room) }
     {
         if self.ending.is_some() {
-            return Err(SessionError::Refused(Refusal::Closed));
+            return Err(SessionError::Refused(EndRefusal::Closed));
         }
         let unacknowledged = self.handed + 1 - self.lowest;
         if kind.is_limited() && unacknowledged >= QUEUE_LIMIT as u64 {
-            return Err(SessionError::Refused(Refusal::QueueFull));
+            return Err(SessionError::Refused(EndRefusal::QueueFull));
         }
         if self.handed >= LAST_ITEM {
-            return Err(SessionError::Refused(Refusal::SeqEnd));
+            return Err(SessionError::Refused(EndRefusal::SeqEnd));
         }
         self.sent.push(Payload::from_vec(payload))?;
         self.handed += 1;
@@ -248,7 +248,7 @@ impl Session {
         ensures room { self.old.room ≤ self.new.room }
     {
         if frame.from != self.peer || frame.to != self.me {
-            return Err(SessionError::Refused(Refusal::Strange));
+            return Err(SessionError::Refused(EndRefusal::Strange));
         }
         if self.ending.is_some() {
             self.owes_close = self.owes_close || !frame.kind.is_close();
@@ -318,14 +318,14 @@ impl Session {
 
     /// Counts a tick if something is transmitted and unacknowledged; the tick that makes the count reach the retry
     /// limit closes the end (reason 3). N1 at a closed end.
-    pub fn tick(&mut self) -> Result<Option<Closed>, Refusal>
+    pub fn tick(&mut self) -> Result<Option<Closed>, EndRefusal>
         ensures answer { (me peer : ℕ) (limits : LimitsOf) (L : List EndEntry) → Stands me peer limits self.old.end L →
             IsRight me peer limits (Tick result) L × Stands me peer limits self.new.end (Tick result ∷ L) }
         ensures err { OnErr result (self.new.end ≡ self.old.end) }
         ensures room { self.old.room ≤ self.new.room }
     {
         if self.ending.is_some() {
-            return Err(Refusal::Closed);
+            return Err(EndRefusal::Closed);
         }
         if self.lowest > self.transmitted {
             return Ok(None);
@@ -338,14 +338,14 @@ impl Session {
     }
 
     /// Closes this end for a reason. N1 at a closed end.
-    pub fn close(&mut self, reason: Reason) -> Result<Closed, Refusal>
+    pub fn close(&mut self, reason: Reason) -> Result<Closed, EndRefusal>
         ensures answer { (me peer : ℕ) (limits : LimitsOf) (L : List EndEntry) → Stands me peer limits self.old.end L →
             IsRight me peer limits (Close reason result) L × Stands me peer limits self.new.end (Close reason result ∷ L) }
         ensures err { OnErr result (self.new.end ≡ self.old.end) }
         ensures room { self.old.room ≤ self.new.room }
     {
         if self.ending.is_some() {
-            return Err(Refusal::Closed);
+            return Err(EndRefusal::Closed);
         }
         Ok(self.end(reason))
     }

@@ -5,7 +5,7 @@ use crate::error::SessionError;
 use crate::session::Session;
 use nob_frame::{Frame, FrameKind, Payload};
 use nob_ids::{Limits, Reason, SpaceId};
-use nob_model::{Arrived, EndEntry, Ending, Frames, Kind, Refusal, right, words};
+use nob_model_end::{Arrived, EndEntry, Ending, Frames, Kind, EndRefusal, right, words};
 use std::alloc::{AllocError, Global};
 use std::process::Abort;
 use std::test::Fail;
@@ -353,7 +353,7 @@ fn frames_of_strangers(rt: HostRuntime) -> Result<(), Fail> {
             payload: Payload::from_vec(Vec::new(rt.alloc())),
         };
         let answer = end.session.arrive(&frame);
-        assert!(rt; matches!(answer, Err(SessionError::Refused(Refusal::Strange))));
+        assert!(rt; matches!(answer, Err(SessionError::Refused(EndRefusal::Strange))));
         end.arrive(&rt, frame)?;
     }
     assert!(rt; end.session.reserve(3).is_ok());

@@ -1,6 +1,6 @@
 use Rattle.std.proofs.Common.{List, ◌+◌, drop}
 use Rattle.nob_ids.specs.declared.limits.Limits.{Limits}
-use Rattle.nob_model.specs.declared.entry.PairEntry.{PairEntry}
+use Rattle.nob_model_end.specs.declared.entry.PairEntry.{PairEntry}
 use Rattle.nob_trace_text.specs.Lines.{texts}
 use Rattle.nob_demo_pair.specs.Pairs.{PairStands}
 use Rattle.nob_demo_pair.proofs.Playing.{Completes}
