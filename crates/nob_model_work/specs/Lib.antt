@@ -5,5 +5,7 @@ pub use Rattle.nob_model_words.specs.Objects
 pub use Rattle.nob_model_words.specs.Turns
 pub mod Same
 pub mod Messages
+pub mod Work
+
 
 

@@ -5,6 +5,8 @@
 
 pub mod message;
 mod same;
+pub mod work;
 
 pub use message::{Loan, Message, Messages, RefCopies, RefCopy};
 pub use same::same_value;
+pub use work::{OwnCall, OwnCalls, Run, Runs, Stage, Work};
