@@ -116,8 +116,8 @@ impl Turns {
     }
 }
 
-// Whether a reference gets a Dirty when an item that carries it is acted on.
-fn wants_dirty(here: Here, rep: WireRep, deeds: &[Deed], before: Turns) -> bool
+/// Whether a reference gets a Dirty when an item that carries it is acted on.
+pub fn wants_dirty(here: Here, rep: WireRep, deeds: &[Deed], before: Turns) -> bool
     ensures { result ≡ words.wants_dirty here.space here.n rep deeds.now before }
 {
     here.is_peer(rep.owner) && !sessions::closed(rep.owner, deeds) && !before.is_standing()

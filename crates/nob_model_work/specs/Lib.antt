@@ -6,6 +6,7 @@ pub use Rattle.nob_model_words.specs.Turns
 pub mod Same
 pub mod Messages
 pub mod Work
+pub mod Gifts
 
 
 

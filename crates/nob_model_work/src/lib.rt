@@ -3,10 +3,12 @@
 //! deed gave to the peers. In `specs/` are the definitions; the functions here compute them plainly and slowly.
 #![tactic(auto)]
 
+pub mod gifts;
 pub mod message;
 mod same;
 pub mod work;
 
+pub use gifts::{Past, Sending, Sendings};
 pub use message::{Loan, Message, Messages, RefCopies, RefCopy};
 pub use same::same_value;
 pub use work::{OwnCall, OwnCalls, Run, Runs, Stage, Work};
