@@ -51,7 +51,7 @@ impl Peer {
     }
 
     // A surrogate whose Dirty was just sent, at a place above all.
-    pub(crate) fn push(&mut self, rep: &WireRep, place: u64) -> Result<(), AllocError>
+    pub(crate) fn push(&mut self, rep: &WireRep, place: u128) -> Result<(), AllocError>
         requires new { row_at self.old.counted.rows rep.now ≡ None }
         requires sent { row_at self.old.surrogates.rows rep.now ≡ None }
         requires last { (other : WireRep) → IfSome (place_in self.old.surrogates.rows other) (λ earlier. earlier < place) }
@@ -136,12 +136,12 @@ impl Peer {
 
     // The surrogate with the least place from this one on that is granted and has no holds, with its place. Linear in
     // the surrogates that it passes.
-    pub(crate) fn first_idle(&self, place: u64) -> Option<(u64, WireRep)>
+    pub(crate) fn first_idle(&self, place: u128) -> Option<(u128, WireRep)>
         requires once { IsOnce self.now.surrogates.rows }
         requires rising { IsRising (place_in self.now.surrogates.rows) (reps_of self.now.surrogates.rows) }
         ensures { MatchOption result (NeverIdleIn self.now.counted.rows self.now.surrogates.rows place) (λ found. IsFirstIn self.now.counted.rows self.now.surrogates.rows place found.0 found.1) }
     {
-        let start = self.surrogates.count_below(place);
+        let start = self.surrogates.count_before(place);
         let end = self.surrogates.len();
         for at in start..end {
             let row = self.surrogates.row(at)?;

@@ -98,7 +98,7 @@ impl Peers {
 
     // The surrogate with the least place from this one on that is granted and has no holds, with its place. Linear in
     // the surrogates that it passes.
-    pub(crate) fn first_idle(&self, place: u64) -> Option<(u64, WireRep)>
+    pub(crate) fn first_idle(&self, place: u128) -> Option<(u128, WireRep)>
         ensures { MatchOption result (NeverIdleIn self.now.counted self.now.surrogates place) (λ found. IsFirstIn self.now.counted self.now.surrogates place found.0 found.1) }
     {
         first_idle_of(&self.parts, place)
@@ -123,7 +123,7 @@ impl Peers {
     }
 
     // A surrogate whose Dirty was just sent, at a place above all.
-    pub(crate) fn push(&mut self, rep: &WireRep, place: u64) -> Result<(), AllocError>
+    pub(crate) fn push(&mut self, rep: &WireRep, place: u128) -> Result<(), AllocError>
         requires new { row_at self.old.counted rep.now ≡ None }
         requires sent { row_at self.old.surrogates rep.now ≡ None }
         requires last { (other : WireRep) → IfSome (place_in self.old.surrogates other) (λ earlier. earlier < place) }
@@ -241,7 +241,7 @@ fn reserve_all(parts: &mut [Peer], surrogates: usize) -> Result<(), AllocError>
 }
 
 // The first idle surrogate of these parts from this place on.
-fn first_idle_of(parts: &[Peer], place: u64) -> Option<(u64, WireRep)>
+fn first_idle_of(parts: &[Peer], place: u128) -> Option<(u128, WireRep)>
     requires { AreParts parts.now }
     ensures { MatchOption result (NeverIdleIn (counted_of parts.now) (surrogates_of parts.now) place) (λ found. IsFirstIn (counted_of parts.now) (surrogates_of parts.now) place found.0 found.1) }
 {
@@ -253,7 +253,7 @@ fn first_idle_of(parts: &[Peer], place: u64) -> Option<(u64, WireRep)>
 }
 
 // The one with the lesser place.
-fn earlier(one: Option<(u64, WireRep)>, other: Option<(u64, WireRep)>) -> Option<(u64, WireRep)>
+fn earlier(one: Option<(u128, WireRep)>, other: Option<(u128, WireRep)>) -> Option<(u128, WireRep)>
     ensures { result ≡ earlier_of one other }
 {
     match (one, other) {

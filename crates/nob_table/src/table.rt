@@ -1,13 +1,15 @@
 //! The table itself.
 
-ghost use Rattle.std.specs.Prelude.{◌≡◌, List, is_some, ◌+◌, ◌<◌, ◌≤◌, ◌==◌, ◌++◌, ◌∷◌, [], filter, not, length, slice_get, None, Some, IsSome, IfSome, IsTrue, IsOk, OnOk, OnErr, IfOk, IfErr, MatchOption, MatchResult, if◌then◌else◌};
+ghost use Rattle.std.specs.Prelude.{◌≡◌, List, is_some, ◌+◌, ◌^◌, ◌<◌, ◌≤◌, ◌==◌, ◌++◌, ◌∷◌, [], filter, not, length, slice_get, None, Some, IsSome, IfSome, IsTrue, IsOk, OnOk, OnErr, IfOk, IfErr, MatchOption, MatchResult, if◌then◌else◌};
 ghost use Rattle.nob_ids.specs.declared.wire_rep.WireRep.{WireRep};
 ghost use Rattle.nob_table.specs.Counts.{is_held};
 ghost use Rattle.nob_ids.specs.Names.{is_same};
-ghost use Rattle.nob_table.specs.Rows.{swapped_out, IsOnce};
+ghost use Rattle.nob_table.specs.Objects.{AreAllHeld, IsFirstRow};
+ghost use Rattle.nob_table.specs.Order.{IsByIndex};
+ghost use Rattle.nob_table.specs.Rows.{reps_of, IsOnce};
 ghost use Rattle.std.specs.List.{list_any};
 ghost use Rattle.nob_table.specs.Standings.{unknown, is_known, is_live, is_lost, is_surrogate, state_of, withdrawn, exported_standing, pending_standing, with_counts, in_state, after_hold, after_release, after_close};
-ghost use Rattle.nob_table.specs.Table.{Table, standing, surrogate_total, most_objects, most_surrogates, most_index, surrogate_reps, place_of, IsOrder, live, live_order, own, export_fault, hold_fault, release_fault, pending_fault, answer_fault, remove_fault, withdraw_fault, Unchanged, Becomes, SameObjects, SameOrder, Places, KeepsRoom, IsRefusal, NoneIdle, IsFirstIdle, is_of};
+ghost use Rattle.nob_table.specs.Table.{Table, standing, surrogate_total, most_objects, most_surrogates, most_index, surrogate_reps, place_of, IsOrder, live, live_reps, own, export_fault, hold_fault, release_fault, pending_fault, answer_fault, remove_fault, withdraw_fault, Unchanged, Becomes, SameObjects, SameOrder, Places, KeepsRoom, IsRefusal, NoneIdle, IsFirstIdle, NeverUnheld, IsFirstUnheld, is_of};
 
 use crate::counts::{Counts, Part};
 use crate::fault::{TableError, TableFault};
@@ -27,7 +29,7 @@ use std::marker::Model;
 pub struct ObjectTable {
     me: SpaceId,
     exported: u64,
-    dirties: u64,
+    dirties: u128,
     objects: Rows<Counts>,
     peers: Peers,
 }
@@ -111,21 +113,20 @@ impl ObjectTable {
     pub fn object_count(&self) -> usize
         ensures count { result ≡ live self.now }
         ensures few { live self.now ≤ most_objects }
-        ensures places { result ≡ length (live_order self.now) }
         ensures once { IsOnce self.now.objects }
-        ensures placed { (rep : WireRep) → list_any (is_same rep) (live_order self.now) ≡ is_live (standing self.now rep).state }
+        ensures live { (rep : WireRep) → list_any (is_same rep) (live_reps self.now) ≡ is_live (standing self.now rep).state }
     {
         self.objects.len()
     }
 
-    /// The live object at this place, for a walk over all of them: places count from 0 to `object_count`, and each
-    /// live object has one. An export takes the place behind the last, a withdrawal puts the last object into the
-    /// place that it leaves, and nothing else moves them. Constant time.
-    pub fn object_at(&self, place: usize) -> Option<WireRep>
-        ensures at { result ≡ slice_get (live_order self.now) place }
-        ensures live { IfSome result (λ rep. (rep.owner ≡ self.now.me) × IsTrue (is_live (standing self.now rep).state)) }
+    /// The least index from this one on of a live object that nothing holds. Logarithmic in the live objects, and
+    /// linear in those that it passes: the held ones between this index and the one found. So a walk over all such
+    /// objects, each time from the index behind the last one found, passes each live object once.
+    pub fn first_unheld(&self, index: u64) -> Option<u64>
+        ensures first { MatchOption result (NeverUnheld self.now index) (λ found. IsFirstUnheld self.now index found) }
+        ensures given { IfSome result (λ found. (1 ≤ found) × (found ≤ self.now.exported)) }
     {
-        self.objects.rep_at(place)
+        first_unheld_of(&self.objects, index)
     }
 
     /// How many surrogates there are on open sessions. Constant time.
@@ -207,7 +208,6 @@ impl ObjectTable {
         ensures exported { IfOk result (λ rep. Becomes self.old self.new rep exported_standing) }
         ensures next { OnOk result (self.new.exported ≡ self.old.exported + 1) }
         ensures live { OnOk result (live self.new ≡ live self.old + 1) }
-        ensures placed { IfOk result (λ rep. live_order self.new ≡ live_order self.old ++ rep ∷ []) }
         ensures me { self.new.me ≡ self.old.me }
         ensures order { SameOrder self.old self.new }
         ensures room { (self.old.export_room ≤ self.new.export_room + 1) × (self.old.surrogate_room ≤ self.new.surrogate_room) }
@@ -233,12 +233,11 @@ impl ObjectTable {
     }
 
     /// Withdraws a live object that nothing holds. B1 where no live object has the index, B4 where it is held.
-    /// Constant time on average.
+    /// Linear in the live objects of greater indexes.
     pub fn withdraw(&mut self, index: u64) -> Result<(), TableFault>
         ensures answer { MatchResult result (λ _. withdraw_fault self.old index ≡ None) (λ fault. withdraw_fault self.old index ≡ Some fault) }
         ensures withdrawn { OnOk result (Becomes self.old self.new (own self.old index) withdrawn) }
         ensures live { OnOk result (live self.new + 1 ≡ live self.old) }
-        ensures places { OnOk result (live_order self.new ≡ swapped_out (own self.old index) (live_order self.old)) }
         ensures exported { self.new.exported ≡ self.old.exported }
         ensures me { self.new.me ≡ self.old.me }
         ensures order { SameOrder self.old self.new }
@@ -255,15 +254,16 @@ impl ObjectTable {
         if counts.is_held() {
             return Err(TableFault::StillUsed);
         }
-        self.objects.take(&rep);
+        self.objects.take_in_order(&rep);
         Ok(())
     }
 
     /// A Dirty for the reference is sent: it is a pending surrogate, the last in order. B1 where the space can't
     /// have a surrogate of it, since it is its own or an agent's; B3 where there are 65,536 surrogates on open
-    /// sessions or 2^64 - 1 Dirties were sent; B4 where it is a surrogate already, or lost and still held. Constant
-    /// time on average, save where the room has to grow.
+    /// sessions; B4 where it is a surrogate already, or lost and still held. Constant time on average, save where the
+    /// room has to grow. The caller's condition: the Dirties sent can be counted in 128 bits.
     pub fn pending(&mut self, rep: WireRep) -> Result<(), TableError>
+        requires { self.old.dirties + 1 < 2 ^ 128 }
         ensures pending { OnOk result (Becomes self.old self.new rep pending_standing) }
         ensures place { OnOk result (Places self.old self.new rep (Some self.old.dirties)) }
         ensures dirties { OnOk result (self.new.dirties ≡ self.old.dirties + 1) }
@@ -280,7 +280,7 @@ impl ObjectTable {
         if rep.owner == self.me || rep.index == 0 {
             return Err(TableError::Fault(TableFault::Absent));
         }
-        if self.peers.len() >= ObjectTable::MOST_SURROGATES || self.dirties == u64::MAX {
+        if self.peers.len() >= ObjectTable::MOST_SURROGATES {
             return Err(TableError::Fault(TableFault::Limit));
         }
         if self.peers.counts(rep).is_some() {
@@ -317,8 +317,9 @@ impl ObjectTable {
 
     /// The first surrogate in the order of the last Dirties, from this place on, that is granted and without holds, with
     /// its place. Linear in the surrogates that it passes: of each owner those from the place on, up to the first such one.
-    pub fn first_idle(&self, place: u64) -> Option<(u64, WireRep)>
-        ensures { MatchOption result (NoneIdle self.now place self.now.dirties) (λ found. IsFirstIdle self.now place found.0 found.1) }
+    pub fn first_idle(&self, place: u128) -> Option<(u128, WireRep)>
+        ensures first { MatchOption result (NoneIdle self.now place self.now.dirties) (λ found. IsFirstIdle self.now place found.0 found.1) }
+        ensures sent { IfSome result (λ found. found.0 < self.now.dirties) }
     {
         self.peers.first_idle(place)
     }
@@ -406,4 +407,21 @@ impl ObjectTable {
     {
         self.peers.forget(&rep);
     }
+}
+
+// The least index from this one on of an object that nothing holds.
+fn first_unheld_of(objects: &Rows<Counts>, index: u64) -> Option<u64>
+    requires { IsByIndex (reps_of objects.now.rows) }
+    ensures once { IsOnce objects.now.rows }
+    ensures first { MatchOption result (AreAllHeld objects.now.rows index) (λ found. IsFirstRow objects.now.rows index found) }
+{
+    let start = objects.count_below(index);
+    let end = objects.len();
+    for at in start..end {
+        let row = objects.row(at)?;
+        if !row.1.is_held() {
+            return Some(row.0.index);
+        }
+    }
+    None
 }
