@@ -13,7 +13,7 @@ use Rattle.nob_pickle.specs.declared.value.Value.{Value}
 use Rattle.nob_pickle.proofs.Forests.{forest-append, spelled_all-joined, count_forest}
 
 -- the values ahead begin with this one
-first_ahead : (vs : List Value) (i : ℕ) (v : Value) → i < length vs → v ≡ get_or vs i v → drop i vs ≡ v ∷ drop (i + 1) vs
+pub first_ahead : (vs : List Value) (i : ℕ) (v : Value) → i < length vs → v ≡ get_or vs i v → drop i vs ≡ v ∷ drop (i + 1) vs
 first_ahead vs i v lt same =
     let step : drop i vs ≡ get_or vs i v ∷ drop (suc i) vs = drop-cons vs i v lt in
     rw (add-one i) (step ∙ ap (λ (w : Value). w ∷ drop (suc i) vs) (sym same))

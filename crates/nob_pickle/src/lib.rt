@@ -2,14 +2,18 @@
 #![tactic(auto)]
 
 mod fault;
+mod judging;
 pub mod laws;
 mod limits;
+mod looking;
 mod reading;
 mod value;
 mod walking;
 mod writing;
 
 pub use fault::{PickleError, PickleFault};
+pub use judging::fits;
+pub use looking::counted_ref;
 pub use reading::decode;
 pub use value::{Bytes, Value, Values};
 pub use walking::refs_of;
