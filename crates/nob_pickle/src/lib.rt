@@ -14,8 +14,9 @@ mod writing;
 pub use fault::{PickleError, PickleFault};
 pub use judging::fits;
 pub use looking::counted_ref;
+pub use nob_bytes::Bytes;
 pub use reading::decode;
-pub use value::{Bytes, Value, Values};
+pub use value::{Value, Values};
 pub use walking::refs_of;
 pub use writing::encode;
 

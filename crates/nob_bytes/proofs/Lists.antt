@@ -1,4 +1,4 @@
--- Lists of bytes. The names don't need it: it stands here for the codecs above.
+-- Lists of bytes.
 use Rattle.std.proofs.Common.{ℕ, ◌+◌, ◌<◌, List, get_or, take, drop, arith, inl, inr}
 use Rattle.std.proofs.lemmas.Bool.{cases_lt}
 use Rattle.std.proofs.lemmas.List.{length-take, get_or-drop, get_or-take, get_or_past}
