@@ -11,7 +11,8 @@ mod writing;
 
 pub use fault::{FrameError, FrameFault};
 pub use feed::Feed;
-pub use frame::{Frame, FrameKind, Payload};
+pub use frame::{Frame, FrameKind};
+pub use nob_bytes::Bytes as Payload;
 pub use reading::decode;
 pub use writing::encode;
 

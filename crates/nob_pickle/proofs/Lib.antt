@@ -2,7 +2,7 @@ pub mod Forests
 pub mod Parts
 pub mod Loop
 pub mod Counted
-pub mod Rooms
+pub mod Ahead
 pub mod Written
 pub mod Choices
 pub mod Numbers

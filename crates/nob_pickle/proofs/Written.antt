@@ -32,13 +32,6 @@ left_goes_on vs i v levels left left' total lt same one so_far =
     ap (λ (r : Result ℕ PickleFault). r >>= left_after_all (forest (drop (i + 1) vs)) levels) one in
     sym (split ∙ next) ∙ so_far
 
-pub left_stops : (vs : List Value) (i : ℕ) (v : Value) (levels left : ℕ) (fault : PickleFault) (total : Result ℕ PickleFault) → i < length vs → v ≡ get_or vs i v → references_left (tree v) levels left ≡ Err fault
-    → left_after_all (forest (drop i vs)) levels left ≡ total → total ≡ Err fault
-left_stops vs i v levels left fault total lt same one so_far =
-    sym so_far
-    ∙ ap (λ (us : List Value). left_after_all (forest us) levels left) (first_ahead vs i v lt same)
-    ∙ ap (λ (r : Result ℕ PickleFault). r >>= left_after_all (forest (drop (i + 1) vs)) levels) one
-
 pub written_goes_on : (vs : List Value) (i : ℕ) (v : Value) (old now next : List ℕ) → i < length vs → v ≡ get_or vs i v → now ≡ old ++ spelled_all (forest (take i vs)) → next ≡ now ++ spelled (tree v)
     → next ≡ old ++ spelled_all (forest (take (i + 1) vs))
 written_goes_on vs i v old now next lt same so_far one =

@@ -1,7 +1,7 @@
 use Rattle.std.proofs.Common.{◌<◌, arith, sym}
 use Rattle.nob_pickle.specs.Trees.{weight, weight_all}
 use Rattle.nob_pickle.specs.Shape.{tree, forest}
-use Rattle.nob_pickle.proofs.Rooms.{weight_at}
+use Rattle.nob_pickle.proofs.Ahead.{weight_at}
 use Rattle.nob_pickle.proofs.Written.{left_goes_on, typed_goes_on}
 use Rattle.nob_pickle.proofs.judging.+judging.Goals as goal
 

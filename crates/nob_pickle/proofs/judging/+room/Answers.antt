@@ -1,7 +1,7 @@
 use Rattle.std.proofs.Common.{◌<◌, arith}
 use Rattle.nob_pickle.specs.Trees.{weight, weight_all}
 use Rattle.nob_pickle.specs.Shape.{tree, forest}
-use Rattle.nob_pickle.proofs.Rooms.{weight_at}
+use Rattle.nob_pickle.proofs.Ahead.{weight_at}
 use Rattle.nob_pickle.proofs.judging.+room.Goals as goal
 
 pub room_after_all-room_after-requires : goal.room_after_all-room_after-requires

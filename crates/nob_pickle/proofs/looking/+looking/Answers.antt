@@ -2,7 +2,7 @@ use Rattle.std.proofs.Common.{◌<◌, arith}
 use Rattle.nob_pickle.specs.Trees.{weight, weight_all}
 use Rattle.nob_pickle.specs.Shape.{tree, forest}
 use Rattle.nob_pickle.proofs.Counted.{found_here, found_later, left_later}
-use Rattle.nob_pickle.proofs.Rooms.{weight_at}
+use Rattle.nob_pickle.proofs.Ahead.{weight_at}
 use Rattle.nob_pickle.proofs.looking.+looking.Goals as goal
 
 pub look_among-look-requires : goal.look_among-look-requires

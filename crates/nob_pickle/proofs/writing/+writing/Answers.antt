@@ -1,7 +1,7 @@
 use Rattle.std.proofs.Common.{◌<◌, arith}
 use Rattle.nob_pickle.specs.Trees.{weight, weight_all}
 use Rattle.nob_pickle.specs.Shape.{tree, forest}
-use Rattle.nob_pickle.proofs.Rooms.{weight_at, short_bytes_ahead, short_lists_ahead}
+use Rattle.nob_pickle.proofs.Ahead.{weight_at, short_bytes_ahead, short_lists_ahead}
 use Rattle.nob_pickle.proofs.Written.{written_goes_on}
 use Rattle.nob_pickle.proofs.writing.+writing.Goals as goal
 

@@ -1,4 +1,4 @@
--- Values that are passed one after another: how much room is left, what they weigh, and that each is short.
+-- Values that are passed one after another: what each weighs, and that each is short.
 use Rattle.std.proofs.Common.{◌≡◌, ℕ, ◌+◌, ◌<◌, ◌≤◌, true, List, [], ◌∷◌, length, drop, get_or, sym, ap, ◌∙◌, length-append, arith}
 use Prim.Native.Nat.{zero, suc}
 use Rattle.std.proofs.lemmas.Bool.{and_parts}
@@ -27,25 +27,10 @@ weight_at [] i v lt same = absurd (omega arith)
 weight_at (x ∷ vs) zero v lt same = let is : weight (tree v) ≡ weight (tree x) = ap (λ (w : Value). weight (tree w)) same in omega (arith, is, some_weight_all (forest vs))
 weight_at (x ∷ vs) (suc i) v lt same = omega (arith, weight_at vs i v (omega arith) same, some_weight (tree x))
 
--- the spelling of values ahead
-spelled_ahead : (vs : List Value) (i : ℕ) (v : Value) → i < length vs → v ≡ get_or vs i v → length (spelled_all (forest (drop i vs))) ≡ length (spelling v) + length (spelled_all (forest (drop (i + 1) vs)))
-spelled_ahead vs i v lt same = ap (λ (us : List Value). length (spelled_all (forest us))) (first_ahead vs i v lt same) ∙ length-append (spelling v) (spelled_all (forest (drop (i + 1) vs)))
-
 module _ (vs : List Value) (i : ℕ) (v : Value) (lt : i < length vs) (same : v ≡ get_or vs i v) where
-  pub room_goes_on : (room left left' : ℕ) → left' + length (spelling v) ≡ left → length (spelled_all (forest vs)) + left ≡ room + length (spelled_all (forest (drop i vs)))
-      → length (spelled_all (forest vs)) + left' ≡ room + length (spelled_all (forest (drop (i + 1) vs)))
-  room_goes_on room left left' here so_far = omega (arith, here, so_far, spelled_ahead vs i v lt same)
-
-  pub room_ends : (room left : ℕ) → left < length (spelling v) → length (spelled_all (forest vs)) + left ≡ room + length (spelled_all (forest (drop i vs))) → room < length (spelled_all (forest vs))
-  room_ends room left here so_far = omega (arith, here, so_far, spelled_ahead vs i v lt same)
-
   -- each value ahead is short
   pub short_bytes_ahead : have_short_bytes (forest (drop i vs)) ≡ true → (has_short_bytes (tree v) ≡ true) × (have_short_bytes (forest (drop (i + 1) vs)) ≡ true)
   short_bytes_ahead all = and_parts _ _ (sym (ap (λ (us : List Value). have_short_bytes (forest us)) (first_ahead vs i v lt same)) ∙ all)
 
   pub short_lists_ahead : have_short_lists (forest (drop i vs)) ≡ true → (has_short_lists (tree v) ≡ true) × (have_short_lists (forest (drop (i + 1) vs)) ≡ true)
   short_lists_ahead all = and_parts _ _ (sym (ap (λ (us : List Value). have_short_lists (forest us)) (first_ahead vs i v lt same)) ∙ all)
-
--- a value has its head, and behind it its elements
-pub head_and_elements : (ts : Trees) → length (spelled (list ts)) ≡ head_length (list ts) + length (spelled_all ts)
-head_and_elements ts = omega arith
