@@ -1,6 +1,7 @@
 //! Frames and their one spelling in bytes.
 #![tactic(auto)]
 
+pub mod comparing;
 mod fault;
 mod feed;
 mod frame;

@@ -1,6 +1,7 @@
 //! Items: what two spaces send each other, and their one spelling in bytes.
 #![tactic(auto)]
 
+pub mod comparing;
 mod counted;
 mod fault;
 mod item;
