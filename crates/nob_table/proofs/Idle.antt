@@ -1,10 +1,7 @@
--- The first idle surrogate: of one part, of some parts, of all.
-use Rattle.std.proofs.Common.{◌≡◌, ℕ, ◌<◌, ◌≤◌, true, false, ◌==◌, List, length, Option, Some, None, MatchOption, slice_get, get_or, nat_lt, nat_le, refl, sym, ap, subst, ◌∙◌, arith, eqb-true, true≢false}
-use Rattle.std.proofs.lemmas.Bool.Decides.{Decides-ltb, nat_tests}
-use Rattle.std.proofs.lemmas.Cmp.{nat_eq_equiv}
+-- The first idle surrogate: of one peer, of some peers, of all.
+use Rattle.std.proofs.Common.{◌≡◌, ℕ, ◌<◌, ◌≤◌, true, false, List, length, Option, Some, None, MatchOption, slice_get, refl, sym, ap, subst, ◌∙◌, arith}
 use Rattle.std.proofs.lemmas.Map.Entries.{lookup_from_place, place_from_lookup}
-use Rattle.std.proofs.lemmas.Option.{same_Some, none-some, slice_get-map, slice_get-get_or, slice_get_within, get_or_from_slice_get}
-use Rattle.std.specs.List.Sorted.{IsPartitionedBy, IsPartitionPoint}
+use Rattle.std.proofs.lemmas.Option.{same_Some, none-some, slice_get-map, slice_get_within}
 use Rattle.std.specs.Option.{option_map}
 use Rattle.nob_ids.specs.declared.wire_rep.WireRep.{WireRep}
 use Rattle.nob_ids.specs.Names.{is_same}
@@ -79,11 +76,11 @@ module _ (rows : List (WireRep × Surrogate)) (once : IsOnce rows) where
           let same : f.1.place ≡ place = found.4 in
           sym (idle_row f found.0 rep there found.3) ∙ none found.0 f (slice_get_within rows found.0 f there) there (omega (arith, same))
 
-module _ (parts : List Peer) (place : ℕ) where
-  -- what is found in the first few parts
+module _ (peers : List Peer) (place : ℕ) where
+  -- what is found in the first few peers
   abbrev pub IsFirstOf : ℕ → Option (ℕ × WireRep) → Type 0
   IsFirstOf few first =
       MatchOption first
-      ((k : ℕ) (p : Peer) → k < few → slice_get parts k ≡ Some p → NeverIdleIn p.counted.rows p.surrogates.rows place)
-      (λ found. ((k : ℕ) × (p : Peer) × (slice_get parts k ≡ Some p) × IsFirstIn p.counted.rows p.surrogates.rows place found.0 found.1)
-      × ((k : ℕ) (p : Peer) → k < few → slice_get parts k ≡ Some p → NoneIdleIn p.counted.rows p.surrogates.rows place found.0))
+      ((k : ℕ) (p : Peer) → k < few → slice_get peers k ≡ Some p → NeverIdleIn p.counted.rows p.surrogates.rows place)
+      (λ found. ((k : ℕ) × (p : Peer) × (slice_get peers k ≡ Some p) × IsFirstIn p.counted.rows p.surrogates.rows place found.0 found.1)
+      × ((k : ℕ) (p : Peer) → k < few → slice_get peers k ≡ Some p → NoneIdleIn p.counted.rows p.surrogates.rows place found.0))

@@ -4,8 +4,8 @@ pub mod Flat
 pub mod Grown
 pub mod Idle
 pub mod Ordered
+pub mod Owned
 pub mod Parted
-pub mod Parts
 pub mod Rising
 pub mod Same
 pub mod Stands

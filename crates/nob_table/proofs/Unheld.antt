@@ -1,5 +1,5 @@
 -- The first live object that nothing holds: among the rows, and in the table.
-use Rattle.std.proofs.Common.{◌≡◌, ℕ, ◌<◌, ◌≤◌, Bool, true, false, not, ◌==◌, List, [], ◌∷◌, ◌++◌, length, Option, Some, None, IsSome, IfSome, MatchOption, slice_get, refl, sym, ap, subst, ◌∙◌, arith, rules, is_some, if◌then◌else◌}
+use Rattle.std.proofs.Common.{◌≡◌, ℕ, ◌<◌, ◌≤◌, Bool, true, false, not, List, [], ◌∷◌, ◌++◌, length, Option, Some, None, IsSome, IfSome, MatchOption, slice_get, refl, sym, ap, subst, ◌∙◌, arith, rules, is_some}
 use Rattle.std.proofs.lemmas.Cmp.{nat_eq_equiv}
 use Rattle.std.proofs.lemmas.Map.Entries.{lookup_from_place, place_from_lookup}
 use Rattle.std.proofs.lemmas.Option.{slice_get-map, slice_get_within}
@@ -9,7 +9,7 @@ use Rattle.nob_ids.specs.declared.wire_rep.WireRep.{WireRep}
 use Rattle.nob_ids.specs.Names.{is_same}
 use Rattle.nob_table.specs.declared.counts.Counts.{Counts}
 use Rattle.nob_table.specs.Counts.{is_held}
-use Rattle.nob_table.specs.Objects.{AreHeld, AreAllHeld, IsFirstRow}
+use Rattle.nob_table.specs.Objects.{AreAllHeld, IsFirstRow}
 use Rattle.nob_table.specs.Order.{IsByIndex, IsBefore, index_of}
 use Rattle.nob_table.specs.Rows.{row_at, reps_of, IsOnce, without}
 use Rattle.nob_table.specs.Standings.{own_standing, is_unheld}

@@ -104,21 +104,52 @@ pub record Unchanged (old new : Table) : Type 0 where
 abbrev pub Becomes : Table → Table → WireRep → Standing → Type 0
 Becomes old new rep after = (other : WireRep) → standing new other ≡ (if is_same rep other then after else standing old other)
 
--- new is the table of the same space, with the same indexes given and as many live objects
-abbrev pub SameObjects : Table → Table → Type 0
-SameObjects old new = (new.me ≡ old.me) × (new.exported ≡ old.exported) × (live new ≡ live old)
+-- new has the same surrogates at the same places, as many Dirties were sent, and it has as much room for surrogates at least
+pub record SameSurrogates (old new : Table) : Type 0 where
+  pub places : (rep : WireRep) → place_of new rep ≡ place_of old rep
+  pub total : surrogate_total new ≡ surrogate_total old
+  pub dirties : new.dirties ≡ old.dirties
+  pub room : old.surrogate_room ≤ new.surrogate_room
 
--- new has the same surrogates at the same places, and as many Dirties were sent
-abbrev pub SameOrder : Table → Table → Type 0
-SameOrder old new = ((rep : WireRep) → place_of new rep ≡ place_of old rep) × (surrogate_total new ≡ surrogate_total old) × (new.dirties ≡ old.dirties)
+-- new is the table of the same space, with the same indexes given, as many live objects, and as much room for exports at least
+pub record SameObjects (old new : Table) : Type 0 where
+  pub me : new.me ≡ old.me
+  pub exported : new.exported ≡ old.exported
+  pub live : live new ≡ live old
+  pub room : old.export_room ≤ new.export_room
+
+-- what an export leaves: the space, and all of the surrogates
+pub record ExportLeaves (old new : Table) : Type 0 where
+  pub me : new.me ≡ old.me
+  pub surrogates : SameSurrogates old new
+
+-- what a withdrawal leaves: the space, the indexes given, the room, and all of the surrogates
+pub record WithdrawalLeaves (old new : Table) : Type 0 where
+  pub me : new.me ≡ old.me
+  pub exported : new.exported ≡ old.exported
+  pub room : old.export_room ≤ new.export_room
+  pub surrogates : SameSurrogates old new
+
+-- what a change of one standing leaves: how many objects and surrogates there are, the places, and the room
+pub record ChangeLeaves (old new : Table) : Type 0 where
+  pub objects : SameObjects old new
+  pub surrogates : SameSurrogates old new
+
+-- what is left where surrogates are taken out: the objects, the Dirties sent, and the room
+pub record RemovalLeaves (old new : Table) : Type 0 where
+  pub objects : SameObjects old new
+  pub dirties : new.dirties ≡ old.dirties
+  pub room : old.surrogate_room ≤ new.surrogate_room
+
+-- nothing has changed, and there is as much room at least
+pub record Stays (old new : Table) : Type 0 where
+  pub items : Unchanged old new
+  pub export_room : old.export_room ≤ new.export_room
+  pub surrogate_room : old.surrogate_room ≤ new.surrogate_room
 
 -- this reference has this place in new, and every other one the place that it has in old
 abbrev pub Places : Table → Table → WireRep → Option ℕ → Type 0
 Places old new rep place = (other : WireRep) → place_of new other ≡ (if is_same rep other then place else place_of old other)
-
--- new has as much room as old at least
-abbrev pub KeepsRoom : Table → Table → Type 0
-KeepsRoom old new = (old.export_room ≤ new.export_room) × (old.surrogate_room ≤ new.surrogate_room)
 
 -- the first refusal of an export: as many live objects as there may be, or no index left
 abbrev pub export_fault : Table → Option TableFault

@@ -9,7 +9,7 @@ ghost use Rattle.nob_table.specs.Order.{IsByIndex};
 ghost use Rattle.nob_table.specs.Rows.{reps_of, IsOnce};
 ghost use Rattle.std.specs.List.{list_any};
 ghost use Rattle.nob_table.specs.Standings.{unknown, is_known, is_live, is_lost, is_surrogate, state_of, withdrawn, exported_standing, pending_standing, with_counts, in_state, after_hold, after_release, after_close};
-ghost use Rattle.nob_table.specs.Table.{Table, standing, surrogate_total, most_objects, most_surrogates, most_index, surrogate_reps, place_of, IsOrder, live, live_reps, own, export_fault, hold_fault, release_fault, pending_fault, answer_fault, remove_fault, withdraw_fault, Unchanged, Becomes, SameObjects, SameOrder, Places, KeepsRoom, IsRefusal, NoneIdle, IsFirstIdle, NeverUnheld, IsFirstUnheld, is_of};
+ghost use Rattle.nob_table.specs.Table.{Table, standing, surrogate_total, most_objects, most_surrogates, most_index, surrogate_reps, place_of, IsOrder, live, live_reps, own, export_fault, hold_fault, release_fault, pending_fault, answer_fault, remove_fault, withdraw_fault, Becomes, SameObjects, ExportLeaves, WithdrawalLeaves, ChangeLeaves, RemovalLeaves, Stays, Places, IsRefusal, NoneIdle, IsFirstIdle, NeverUnheld, IsFirstUnheld, is_of};
 
 use crate::counts::{Counts, Part};
 use crate::fault::{TableError, TableFault};
@@ -146,10 +146,8 @@ impl ObjectTable {
     pub fn hold(&mut self, rep: WireRep, part: Part) -> Result<(), TableFault>
         ensures answer { MatchResult result (λ _. hold_fault self.old rep part ≡ None) (λ fault. hold_fault self.old rep part ≡ Some fault) }
         ensures held { OnOk result (Becomes self.old self.new rep (after_hold part (standing self.old rep))) }
-        ensures objects { SameObjects self.old self.new }
-        ensures order { SameOrder self.old self.new }
-        ensures room { KeepsRoom self.old self.new }
-        ensures err { OnErr result (Unchanged self.old self.new) }
+        ensures left { ChangeLeaves self.old self.new }
+        ensures err { OnErr result (Stays self.old self.new) }
     {
         let standing = self.state(rep);
         let state = standing.state;
@@ -167,10 +165,8 @@ impl ObjectTable {
     pub fn release(&mut self, rep: WireRep, part: Part) -> Result<(), TableFault>
         ensures answer { MatchResult result (λ _. release_fault self.old rep part ≡ None) (λ fault. release_fault self.old rep part ≡ Some fault) }
         ensures released { OnOk result (Becomes self.old self.new rep (after_release part (standing self.old rep))) }
-        ensures objects { SameObjects self.old self.new }
-        ensures order { SameOrder self.old self.new }
-        ensures room { KeepsRoom self.old self.new }
-        ensures err { OnErr result (Unchanged self.old self.new) }
+        ensures left { ChangeLeaves self.old self.new }
+        ensures err { OnErr result (Stays self.old self.new) }
     {
         let standing = self.state(rep);
         let state = standing.state;
@@ -190,8 +186,7 @@ impl ObjectTable {
     /// Makes room: after it so many exports and so many surrogates can't run out of memory, whoever the surrogates'
     /// owners are. Constant where there is as much room, else linear in the references where the room has to grow.
     pub fn reserve(&mut self, exports: usize, surrogates: usize) -> Result<(), AllocError>
-        ensures items { Unchanged self.old self.new }
-        ensures room { KeepsRoom self.old self.new }
+        ensures left { Stays self.old self.new }
         ensures exports { OnOk result (exports ≤ self.new.export_room) }
         ensures surrogates { OnOk result (surrogates ≤ self.new.surrogate_room) }
         ensures succeeds { exports ≤ self.old.export_room → surrogates ≤ self.old.surrogate_room → IsOk result }
@@ -208,13 +203,11 @@ impl ObjectTable {
         ensures exported { IfOk result (λ rep. Becomes self.old self.new rep exported_standing) }
         ensures next { OnOk result (self.new.exported ≡ self.old.exported + 1) }
         ensures live { OnOk result (live self.new ≡ live self.old + 1) }
-        ensures me { self.new.me ≡ self.old.me }
-        ensures order { SameOrder self.old self.new }
-        ensures room { (self.old.export_room ≤ self.new.export_room + 1) × (self.old.surrogate_room ≤ self.new.surrogate_room) }
+        ensures room { self.old.export_room ≤ self.new.export_room + 1 }
+        ensures left { ExportLeaves self.old self.new }
         ensures accepted { OnOk result (export_fault self.old ≡ None) }
-        ensures err { IfErr result (IsRefusal (export_fault self.old)) }
-        ensures unchanged { OnErr result (Unchanged self.old self.new) }
-        ensures room_kept { OnErr result (KeepsRoom self.old self.new) }
+        ensures refused { IfErr result (IsRefusal (export_fault self.old)) }
+        ensures err { OnErr result (Stays self.old self.new) }
         ensures succeeds { 0 < self.old.export_room → export_fault self.old ≡ None → IsOk result }
     {
         if self.objects.len() >= ObjectTable::MOST_OBJECTS
@@ -238,11 +231,8 @@ impl ObjectTable {
         ensures answer { MatchResult result (λ _. withdraw_fault self.old index ≡ None) (λ fault. withdraw_fault self.old index ≡ Some fault) }
         ensures withdrawn { OnOk result (Becomes self.old self.new (own self.old index) withdrawn) }
         ensures live { OnOk result (live self.new + 1 ≡ live self.old) }
-        ensures exported { self.new.exported ≡ self.old.exported }
-        ensures me { self.new.me ≡ self.old.me }
-        ensures order { SameOrder self.old self.new }
-        ensures room { KeepsRoom self.old self.new }
-        ensures err { OnErr result (Unchanged self.old self.new) }
+        ensures left { WithdrawalLeaves self.old self.new }
+        ensures err { OnErr result (Stays self.old self.new) }
     {
         let rep = WireRep {
             owner: self.me,
@@ -269,12 +259,11 @@ impl ObjectTable {
         ensures dirties { OnOk result (self.new.dirties ≡ self.old.dirties + 1) }
         ensures count { OnOk result (surrogate_total self.new ≡ surrogate_total self.old + 1) }
         ensures order { OnOk result ((reps : List WireRep) → IsOrder self.old reps → IsOrder self.new (reps ++ rep ∷ [])) }
-        ensures objects { SameObjects self.old self.new }
-        ensures room { (self.old.export_room ≤ self.new.export_room) × (self.old.surrogate_room ≤ self.new.surrogate_room + 1) }
+        ensures room { self.old.surrogate_room ≤ self.new.surrogate_room + 1 }
+        ensures left { SameObjects self.old self.new }
         ensures accepted { OnOk result (pending_fault self.old rep ≡ None) }
-        ensures err { IfErr result (IsRefusal (pending_fault self.old rep)) }
-        ensures unchanged { OnErr result (Unchanged self.old self.new) }
-        ensures room_kept { OnErr result (KeepsRoom self.old self.new) }
+        ensures refused { IfErr result (IsRefusal (pending_fault self.old rep)) }
+        ensures err { OnErr result (Stays self.old self.new) }
         ensures succeeds { 0 < self.old.surrogate_room → pending_fault self.old rep ≡ None → IsOk result }
     {
         if rep.owner == self.me || rep.index == 0 {
@@ -295,10 +284,8 @@ impl ObjectTable {
     pub fn grant(&mut self, rep: WireRep) -> Result<(), TableFault>
         ensures answer { MatchResult result (λ _. answer_fault self.old rep ≡ None) (λ fault. answer_fault self.old rep ≡ Some fault) }
         ensures granted { OnOk result (Becomes self.old self.new rep (in_state State.Granted (standing self.old rep))) }
-        ensures objects { SameObjects self.old self.new }
-        ensures order { SameOrder self.old self.new }
-        ensures room { KeepsRoom self.old self.new }
-        ensures err { OnErr result (Unchanged self.old self.new) }
+        ensures left { ChangeLeaves self.old self.new }
+        ensures err { OnErr result (Stays self.old self.new) }
     {
         self.answer(rep, Grant::Given)
     }
@@ -307,10 +294,8 @@ impl ObjectTable {
     pub fn refuse(&mut self, rep: WireRep) -> Result<(), TableFault>
         ensures answer { MatchResult result (λ _. answer_fault self.old rep ≡ None) (λ fault. answer_fault self.old rep ≡ Some fault) }
         ensures refused { OnOk result (Becomes self.old self.new rep (in_state State.Refused (standing self.old rep))) }
-        ensures objects { SameObjects self.old self.new }
-        ensures order { SameOrder self.old self.new }
-        ensures room { KeepsRoom self.old self.new }
-        ensures err { OnErr result (Unchanged self.old self.new) }
+        ensures left { ChangeLeaves self.old self.new }
+        ensures err { OnErr result (Stays self.old self.new) }
     {
         self.answer(rep, Grant::Denied)
     }
@@ -332,10 +317,8 @@ impl ObjectTable {
         ensures place { OnOk result (Places self.old self.new rep None) }
         ensures count { OnOk result (surrogate_total self.new + 1 ≡ surrogate_total self.old) }
         ensures order { OnOk result ((reps : List WireRep) → IsOrder self.old reps → IsOrder self.new (filter (λ other. not (is_same rep other)) reps)) }
-        ensures dirties { self.new.dirties ≡ self.old.dirties }
-        ensures objects { SameObjects self.old self.new }
-        ensures room { KeepsRoom self.old self.new }
-        ensures err { OnErr result (Unchanged self.old self.new) }
+        ensures left { RemovalLeaves self.old self.new }
+        ensures err { OnErr result (Stays self.old self.new) }
     {
         let standing = self.state(rep);
         let state = standing.state;
@@ -356,9 +339,7 @@ impl ObjectTable {
         ensures places { (rep : WireRep) → place_of self.new rep ≡ (if rep.owner == owner then None else place_of self.old rep) }
         ensures count { surrogate_total self.new ≡ length (filter (λ rep. not (rep.owner == owner)) (surrogate_reps self.old)) }
         ensures order { (reps : List WireRep) → IsOrder self.old reps → IsOrder self.new (filter (λ rep. not (rep.owner == owner)) reps) }
-        ensures dirties { self.new.dirties ≡ self.old.dirties }
-        ensures objects { SameObjects self.old self.new }
-        ensures room { KeepsRoom self.old self.new }
+        ensures left { RemovalLeaves self.old self.new }
     {
         self.peers.close(owner);
     }
@@ -367,10 +348,8 @@ impl ObjectTable {
     fn answer(&mut self, rep: WireRep, grant: Grant) -> Result<(), TableFault>
         ensures answer { MatchResult result (λ _. answer_fault self.old rep ≡ None) (λ fault. answer_fault self.old rep ≡ Some fault) }
         ensures answered { OnOk result (Becomes self.old self.new rep (in_state (state_of grant) (standing self.old rep))) }
-        ensures objects { SameObjects self.old self.new }
-        ensures order { SameOrder self.old self.new }
-        ensures room { KeepsRoom self.old self.new }
-        ensures err { OnErr result (Unchanged self.old self.new) }
+        ensures left { ChangeLeaves self.old self.new }
+        ensures err { OnErr result (Stays self.old self.new) }
     {
         let standing = self.state(rep);
         let state = standing.state;
@@ -386,9 +365,7 @@ impl ObjectTable {
         requires known { IsTrue (is_known (standing self.old rep.now).state) }
         requires held { IsTrue (is_lost (standing self.old rep.now).state) → IsTrue (is_held counts) }
         ensures written { Becomes self.old self.new rep.now (with_counts counts (standing self.old rep.now)) }
-        ensures objects { SameObjects self.old self.new }
-        ensures order { SameOrder self.old self.new }
-        ensures room { KeepsRoom self.old self.new }
+        ensures left { ChangeLeaves self.old self.new }
     {
         if rep.owner == self.me {
             self.objects.set(rep, counts);
@@ -401,9 +378,7 @@ impl ObjectTable {
     fn forget_lost(&mut self, rep: WireRep)
         requires { IsTrue (is_lost (standing self.old rep).state) }
         ensures forgotten { Becomes self.old self.new rep unknown }
-        ensures objects { SameObjects self.old self.new }
-        ensures order { SameOrder self.old self.new }
-        ensures room { KeepsRoom self.old self.new }
+        ensures left { ChangeLeaves self.old self.new }
     {
         self.peers.forget(&rep);
     }

@@ -1,4 +1,4 @@
--- What keeps a part its owner's, and what keeps all parts so.
+-- What keeps a peer its owner's, and what keeps all peers so.
 use Rattle.std.proofs.Common.{◌≡◌, ℕ, ◌<◌, Bool, true, false, List, [], ◌∷◌, ◌++◌, Option, Some, None, IsSome, IfSome, refl, sym, ap, subst, ◌∙◌, is_some, true≢false}
 use Rattle.std.specs.List.{list_any, AllByRecursion, IsDistinct}
 use Rattle.std.specs.Option.{option_map}
@@ -9,7 +9,7 @@ use Rattle.nob_table.specs.declared.standing.Grant.{Grant}
 use Rattle.nob_table.specs.declared.standing.Surrogate.{Surrogate}
 use Rattle.nob_table.specs.Counts.{is_held}
 use Rattle.nob_table.specs.Order.{place_in, IsBefore, IsRising}
-use Rattle.nob_table.specs.Peers.{IsPart}
+use Rattle.nob_table.specs.Peers.{IsPeer}
 use Rattle.nob_table.specs.Rows.{row_at, reps_of, Puts, IsOnce, without, keep_if}
 use Rattle.nob_table.specs.Standings.{sent, answered}
 use Rattle.nob_table.proofs.Same.{same_is}
@@ -40,13 +40,13 @@ before_last : (place : Option Surrogate) (last : ℕ) → IsSome place → IfSom
 before_last None last has less = absurd (true≢false (sym has))
 before_last (Some s) last has less = less
 
-module _ (owner : ℕ) (counted counted' : List (WireRep × Counts)) (surrogates surrogates' : List (WireRep × Surrogate)) (rep : WireRep) (part : IsPart owner counted surrogates)
+module _ (owner : ℕ) (counted counted' : List (WireRep × Counts)) (surrogates surrogates' : List (WireRep × Surrogate)) (rep : WireRep) (peer : IsPeer owner counted surrogates)
     (once : IsOnce counted') (once' : IsOnce surrogates') where
   -- one surrogate more
-  pub part_push : (counts : Counts) (place : ℕ) → rep.owner ≡ owner → Puts counted counted' rep (Some counts) → Puts surrogates surrogates' rep (Some (sent place))
+  pub peer_push : (counts : Counts) (place : ℕ) → rep.owner ≡ owner → Puts counted counted' rep (Some counts) → Puts surrogates surrogates' rep (Some (sent place))
       → reps_of surrogates' ≡ reps_of surrogates ++ rep ∷ [] → row_at surrogates rep ≡ None → ((other : WireRep) → IfSome (place_in surrogates other) (λ earlier. earlier < place))
-      → IsPart owner counted' surrogates'
-  part_push counts place is puts puts' reps none last =
+      → IsPeer owner counted' surrogates'
+  peer_push counts place is puts puts' reps none last =
       let apart : (other : WireRep) → list_any (is_same other) (reps_of surrogates) ≡ true → is_same rep other ≡ false = λ other h.
       elim (is_same rep other) as (λ b. is_same rep other ≡ b → b ≡ false) [
         | true ↦ λ t. absurd (true≢false (sym (placed_some surrogates other h) ∙ ap (λ (w : WireRep). is_some (row_at surrogates w)) (sym (same_is rep other t)) ∙ ap is_some none))
@@ -59,27 +59,27 @@ module _ (owner : ℕ) (counted counted' : List (WireRep × Counts)) (surrogates
       all_members (λ o. IsBefore (place_in surrogates' o) (place_in surrogates' rep)) (reps_of surrogates) (λ other h.
       rw (kept other h, here) (before_last (row_at surrogates other) place (placed_some surrogates other h) (last other))) in
       record {
-        counted_owned = puts_owned owner counted counted' rep (Some counts) puts part.counted_owned (λ _. is);
-        surrogates_owned = puts_owned owner surrogates surrogates' rep (Some (sent place)) puts' part.surrogates_owned (λ _. is);
+        counted_owned = puts_owned owner counted counted' rep (Some counts) puts peer.counted_owned (λ _. is);
+        surrogates_owned = puts_owned owner surrogates surrogates' rep (Some (sent place)) puts' peer.surrogates_owned (λ _. is);
         counted_once = once;
         surrogates_once = once';
-        rising = subst (IsRising (place_in surrogates')) (sym reps) (rising_push (place_in surrogates') (reps_of surrogates) rep (rising_same (place_in surrogates) (place_in surrogates') (reps_of surrogates) kept part.rising) before);
+        rising = subst (IsRising (place_in surrogates')) (sym reps) (rising_push (place_in surrogates') (reps_of surrogates) rep (rising_same (place_in surrogates) (place_in surrogates') (reps_of surrogates) kept peer.rising) before);
       }
 
   -- one surrogate fewer
-  pub part_remove : Puts counted counted' rep None → Puts surrogates surrogates' rep None → reps_of surrogates' ≡ without rep (reps_of surrogates) → IsPart owner counted' surrogates'
-  part_remove puts puts' reps =
+  pub peer_remove : Puts counted counted' rep None → Puts surrogates surrogates' rep None → reps_of surrogates' ≡ without rep (reps_of surrogates) → IsPeer owner counted' surrogates'
+  peer_remove puts puts' reps =
       let kept : (other : WireRep) → list_any (is_same other) (reps_of surrogates') ≡ true → place_in surrogates' other ≡ place_in surrogates other = λ other h.
       place_kept surrogates surrogates' rep other None puts' (elim (is_same rep other) as (λ b. is_same rep other ≡ b → b ≡ false) [
         | true ↦ λ t. let gone : row_at surrogates' other ≡ None = puts' other ∙ rw t refl in absurd (true≢false (sym (placed_some surrogates' other h) ∙ ap is_some gone))
         | false ↦ λ u. refl
       ] refl) in
       record {
-        counted_owned = puts_owned owner counted counted' rep None puts part.counted_owned (λ has. absurd (true≢false (sym has)));
-        surrogates_owned = puts_owned owner surrogates surrogates' rep None puts' part.surrogates_owned (λ has. absurd (true≢false (sym has)));
+        counted_owned = puts_owned owner counted counted' rep None puts peer.counted_owned (λ has. absurd (true≢false (sym has)));
+        surrogates_owned = puts_owned owner surrogates surrogates' rep None puts' peer.surrogates_owned (λ has. absurd (true≢false (sym has)));
         counted_once = once;
         surrogates_once = once';
-        rising = rising_same (place_in surrogates) (place_in surrogates') (reps_of surrogates') kept (subst (IsRising (place_in surrogates)) (sym reps) (rising_without (place_in surrogates) rep (reps_of surrogates) part.rising));
+        rising = rising_same (place_in surrogates) (place_in surrogates') (reps_of surrogates') kept (subst (IsRising (place_in surrogates)) (sym reps) (rising_without (place_in surrogates) rep (reps_of surrogates) peer.rising));
       }
 
 -- the place stays where the answer comes
@@ -101,39 +101,39 @@ places_answered old new rep grant puts other =
       | false ↦ λ u. place_kept old new rep other (option_map (answered grant) (row_at old rep)) puts u
     ] refl
 
--- an answer in a part
-pub part_answer : (owner : ℕ) (counted : List (WireRep × Counts)) (surrogates surrogates' : List (WireRep × Surrogate)) (rep : WireRep) (grant : Grant) → IsPart owner counted surrogates → IsOnce surrogates'
-    → Puts surrogates surrogates' rep (option_map (answered grant) (row_at surrogates rep)) → reps_of surrogates' ≡ reps_of surrogates → IsPart owner counted surrogates'
-part_answer owner counted surrogates surrogates' rep grant part once puts reps = record {
-  counted_owned = part.counted_owned;
-  surrogates_owned = puts_owned owner surrogates surrogates' rep (option_map (answered grant) (row_at surrogates rep)) puts part.surrogates_owned
-      (λ has. part.surrogates_owned rep (sym (answered_some (row_at surrogates rep) grant) ∙ has));
-  counted_once = part.counted_once;
+-- an answer in a peer
+pub peer_answer : (owner : ℕ) (counted : List (WireRep × Counts)) (surrogates surrogates' : List (WireRep × Surrogate)) (rep : WireRep) (grant : Grant) → IsPeer owner counted surrogates → IsOnce surrogates'
+    → Puts surrogates surrogates' rep (option_map (answered grant) (row_at surrogates rep)) → reps_of surrogates' ≡ reps_of surrogates → IsPeer owner counted surrogates'
+peer_answer owner counted surrogates surrogates' rep grant peer once puts reps = record {
+  counted_owned = peer.counted_owned;
+  surrogates_owned = puts_owned owner surrogates surrogates' rep (option_map (answered grant) (row_at surrogates rep)) puts peer.surrogates_owned
+      (λ has. peer.surrogates_owned rep (sym (answered_some (row_at surrogates rep) grant) ∙ has));
+  counted_once = peer.counted_once;
   surrogates_once = once;
-  rising = subst (IsRising (place_in surrogates')) (sym reps) (rising_same (place_in surrogates) (place_in surrogates') (reps_of surrogates) (λ other h. places_answered surrogates surrogates' rep grant puts other) part.rising);
+  rising = subst (IsRising (place_in surrogates')) (sym reps) (rising_same (place_in surrogates) (place_in surrogates') (reps_of surrogates) (λ other h. places_answered surrogates surrogates' rep grant puts other) peer.rising);
 }
 
--- other counts in a part, of a reference that has some, or none for it
-pub part_count : (owner : ℕ) (counted counted' : List (WireRep × Counts)) (surrogates : List (WireRep × Surrogate)) (rep : WireRep) (row : Option Counts) → IsPart owner counted surrogates → IsOnce counted'
-    → Puts counted counted' rep row → (IsSome row → IsSome (row_at counted rep)) → IsPart owner counted' surrogates
-part_count owner counted counted' surrogates rep row part once puts has = record {
-  counted_owned = puts_owned owner counted counted' rep row puts part.counted_owned (λ h. part.counted_owned rep (has h));
-  surrogates_owned = part.surrogates_owned;
+-- other counts in a peer, of a reference that has some, or none for it
+pub peer_count : (owner : ℕ) (counted counted' : List (WireRep × Counts)) (surrogates : List (WireRep × Surrogate)) (rep : WireRep) (row : Option Counts) → IsPeer owner counted surrogates → IsOnce counted'
+    → Puts counted counted' rep row → (IsSome row → IsSome (row_at counted rep)) → IsPeer owner counted' surrogates
+peer_count owner counted counted' surrogates rep row peer once puts has = record {
+  counted_owned = puts_owned owner counted counted' rep row puts peer.counted_owned (λ h. peer.counted_owned rep (has h));
+  surrogates_owned = peer.surrogates_owned;
   counted_once = once;
-  surrogates_once = part.surrogates_once;
-  rising = part.rising;
+  surrogates_once = peer.surrogates_once;
+  rising = peer.rising;
 }
 
 pub kept_some : (test : Counts → Bool) (o : Option Counts) → IsSome (keep_if test o) → IsSome o
 kept_some test None has = absurd (true≢false (sym has))
 kept_some test (Some x) has = refl
 
--- a part whose session has closed
-pub part_close : (owner : ℕ) (counted counted' : List (WireRep × Counts)) (surrogates : List (WireRep × Surrogate)) → IsPart owner counted surrogates → IsOnce counted'
-    → ((rep : WireRep) → row_at counted' rep ≡ keep_if is_held (row_at counted rep)) → IsPart owner counted' []
+-- a peer whose session has closed
+pub peer_close : (owner : ℕ) (counted counted' : List (WireRep × Counts)) (surrogates : List (WireRep × Surrogate)) → IsPeer owner counted surrogates → IsOnce counted'
+    → ((rep : WireRep) → row_at counted' rep ≡ keep_if is_held (row_at counted rep)) → IsPeer owner counted' []
 unfolding IsDistinct
-part_close owner counted counted' surrogates part once left = record {
-  counted_owned = λ rep has. part.counted_owned rep (kept_some is_held (row_at counted rep) (sym (ap is_some (left rep)) ∙ has));
+peer_close owner counted counted' surrogates peer once left = record {
+  counted_owned = λ rep has. peer.counted_owned rep (kept_some is_held (row_at counted rep) (sym (ap is_some (left rep)) ∙ has));
   surrogates_owned = λ rep has. absurd (true≢false (sym has));
   counted_once = once;
   surrogates_once = tt;
