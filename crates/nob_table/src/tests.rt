@@ -49,6 +49,10 @@ fn object_from_export_to_withdrawal(rt: HostRuntime) -> Result<(), Fail> {
     assert_eq!(rt; table.state(rep(1, 1)?).state, State::Withdrawn);
     assert_eq!(rt; table.export()?, rep(1, 3)?);
     assert_eq!(rt; table.object_count(), 2);
+    assert_eq!(rt; table.first_unheld(1), None);
+    table.release(rep(1, 3)?, Part::Hand)?;
+    assert_eq!(rt; table.first_unheld(1), Some(3));
+    assert_eq!(rt; table.first_unheld(4), None);
     Ok(())
 }
 
