@@ -1,26 +1,26 @@
 //! What cases answer.
 
-use nob_frame::{Frame, FrameFault};
+use nob_frame::{Frame, FrameError, FrameFault};
 use nob_ids::{ItemNo, Reason, SpaceId, WireRep};
-use nob_item::{Item, ItemFault};
-use nob_pickle::{PickleFault, Value};
+use nob_item::{Item, ItemError};
+use nob_pickle::{PickleError, Value};
 use nob_pins::PinFault;
-use nob_session::EndRefusal;
-use nob_table::{Standing, TableFault};
+use nob_session::SessionError;
+use nob_table::{Standing, TableError};
 
 /// A refusal of one of the crates.
 #[derive(Clone, Copy)]
 pub enum Refusal {
     /// P1 to P8.
-    Pickle(PickleFault),
+    Pickle(PickleError),
     /// I1 to I6.
-    Item(ItemFault),
+    Item(ItemError),
     /// F1 to F11.
-    Frame(FrameFault),
+    Frame(FrameError),
     /// N1 to N4.
-    End(EndRefusal),
+    End(SessionError),
     /// B1 to B4.
-    Table(TableFault),
+    Table(TableError),
     /// G1.
     Pins(PinFault),
 }

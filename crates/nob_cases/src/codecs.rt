@@ -69,8 +69,8 @@ fn write_value(alloc: Global, value: &Value) -> Result<Answer, AllocError> {
 
 fn refused_value(error: PickleError) -> Result<Answer, AllocError> {
     match error {
-        PickleError::Fault(fault) => Ok(Answer::Refused(Refusal::Pickle(fault))),
         PickleError::OutOfMemory => Err(AllocError),
+        PickleError::Fault(_) => Ok(Answer::Refused(Refusal::Pickle(error))),
     }
 }
 
@@ -90,8 +90,8 @@ fn write_item(alloc: Global, item: &Item) -> Result<Answer, AllocError> {
 
 fn refused_item(error: ItemError) -> Result<Answer, AllocError> {
     match error {
-        ItemError::Fault(fault) => Ok(Answer::Refused(Refusal::Item(fault))),
         ItemError::OutOfMemory => Err(AllocError),
+        ItemError::Fault(_) => Ok(Answer::Refused(Refusal::Item(error))),
     }
 }
 
@@ -116,8 +116,8 @@ fn write_frame(alloc: Global, frame: &Frame) -> Result<Answer, AllocError> {
 /// A refusal of a frame as an answer.
 pub fn refused_frame(error: FrameError) -> Result<Answer, AllocError> {
     match error {
-        FrameError::Fault(fault) => Ok(Answer::Refused(Refusal::Frame(fault))),
         FrameError::OutOfMemory => Err(AllocError),
+        FrameError::Fault(_) => Ok(Answer::Refused(Refusal::Frame(error))),
     }
 }
 
@@ -149,7 +149,9 @@ fn feed_each(alloc: Global, count: u64, bytes: &[u8]) -> Result<Answer, AllocErr
         for byte in bytes {
             match push(&mut feed, &[*byte])? {
                 Push::Frames(given) => frames = frames.saturating_add(given.len() as u64),
-                Push::Refused(fault) => return Ok(Answer::Refused(Refusal::Frame(fault))),
+                Push::Refused(fault) => return Ok(Answer::Refused(Refusal::Frame(FrameError::Fault(
+                    fault,
+                )))),
             }
         }
     }

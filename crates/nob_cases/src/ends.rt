@@ -84,8 +84,8 @@ fn send(session: &mut Session, kind: Kind, payload: Vec<u8>) -> Result<Answer, A
 
 fn refused(error: SessionError) -> Result<Answer, AllocError> {
     match error {
-        SessionError::Refused(refusal) => Ok(Answer::Refused(Refusal::End(refusal))),
         SessionError::OutOfMemory => Err(AllocError),
+        SessionError::Refused(_) => Ok(Answer::Refused(Refusal::End(error))),
     }
 }
 
@@ -120,13 +120,13 @@ fn tick(session: &mut Session) -> Answer {
     match session.tick() {
         Ok(None) => Answer::Word("ok"),
         Ok(Some(closed)) => Answer::Closed(closed.reason()),
-        Err(refusal) => Answer::Refused(Refusal::End(refusal)),
+        Err(refusal) => Answer::Refused(Refusal::End(SessionError::Refused(refusal))),
     }
 }
 
 fn close(session: &mut Session, reason: Reason) -> Answer {
     match session.close(reason) {
         Ok(closed) => Answer::Closed(closed.reason()),
-        Err(refusal) => Answer::Refused(Refusal::End(refusal)),
+        Err(refusal) => Answer::Refused(Refusal::End(SessionError::Refused(refusal))),
     }
 }

@@ -82,7 +82,7 @@ fn call(table: &mut ObjectTable, case: &TableCase) -> Result<Answer, AllocError>
 fn done(outcome: Result<(), TableFault>) -> Answer {
     match outcome {
         Ok(()) => Answer::Word("ok"),
-        Err(fault) => Answer::Refused(Refusal::Table(fault)),
+        Err(fault) => Answer::Refused(Refusal::Table(TableError::Fault(fault))),
     }
 }
 
@@ -102,8 +102,8 @@ fn pending(table: &mut ObjectTable, rep: WireRep) -> Result<Answer, AllocError> 
 
 fn refused(error: TableError) -> Result<Answer, AllocError> {
     match error {
-        TableError::Fault(fault) => Ok(Answer::Refused(Refusal::Table(fault))),
         TableError::OutOfMemory => Err(AllocError),
+        TableError::Fault(_) => Ok(Answer::Refused(Refusal::Table(error))),
     }
 }
 

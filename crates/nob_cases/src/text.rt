@@ -2,7 +2,7 @@
 
 use crate::answer::{Answer, Push, Refusal};
 use crate::value_text::{push_bytes, push_reference, push_value};
-use nob_frame::{Frame, FrameKind};
+use nob_frame::{Frame, FrameError, FrameKind};
 use nob_ids::{SpaceId, WireRep};
 use nob_item::Item;
 use nob_table::{Standing, State};
@@ -62,11 +62,11 @@ fn text_of_call(alloc: Global, answer: &Answer) -> Result<String, AllocError> {
 // Writes the name that the printed text of a refusal begins with, and in brackets that of the refusal within it.
 fn push_refusal(alloc: Global, text: &mut String, refusal: Refusal) -> Result<(), AllocError> {
     let printed = match refusal {
-        Refusal::Pickle(fault) => format!(in alloc; "{fault}")?,
-        Refusal::Item(fault) => format!(in alloc; "{fault}")?,
-        Refusal::Frame(fault) => format!(in alloc; "{fault}")?,
-        Refusal::End(refusal) => format!(in alloc; "{refusal}")?,
-        Refusal::Table(fault) => format!(in alloc; "{fault}")?,
+        Refusal::Pickle(error) => format!(in alloc; "{error}")?,
+        Refusal::Item(error) => format!(in alloc; "{error}")?,
+        Refusal::Frame(error) => format!(in alloc; "{error}")?,
+        Refusal::End(error) => format!(in alloc; "{error}")?,
+        Refusal::Table(error) => format!(in alloc; "{error}")?,
         Refusal::Pins(fault) => format!(in alloc; "{fault}")?,
     };
     let Some((name, rest)) = printed.as_str().split_once(": ") else {
@@ -150,7 +150,11 @@ fn push_pushes(alloc: Global, text: &mut String, pushes: &[Push]) -> Result<(), 
         }
         match push {
             Push::Frames(frames) => push_frames(alloc, text, frames)?,
-            Push::Refused(fault) => push_refusal(alloc, text, Refusal::Frame(*fault))?,
+            Push::Refused(fault) => push_refusal(
+                alloc,
+                text,
+                Refusal::Frame(FrameError::Fault(*fault)),
+            )?,
         }
     }
     Ok(())
