@@ -14,6 +14,3 @@ pub use reading::decode;
 pub use value::{Bytes, Value, Values};
 pub use walking::refs_of;
 pub use writing::encode;
-
-#[cfg(test)]
-mod tests;
