@@ -14,6 +14,3 @@ pub use fault::{ItemError, ItemFault};
 pub use item::Item;
 pub use reading::decode;
 pub use writing::encode;
-
-#[cfg(test)]
-mod tests;
