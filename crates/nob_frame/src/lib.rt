@@ -14,8 +14,3 @@ pub use feed::Feed;
 pub use frame::{Frame, FrameKind, Payload};
 pub use reading::decode;
 pub use writing::encode;
-
-#[cfg(test)]
-mod stream_tests;
-#[cfg(test)]
-mod tests;
