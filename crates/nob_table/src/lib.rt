@@ -18,6 +18,3 @@ pub use counts::{Counts, Part};
 pub use fault::{TableError, TableFault};
 pub use standing::{Standing, State};
 pub use table::ObjectTable;
-
-#[cfg(test)]
-mod tests;
