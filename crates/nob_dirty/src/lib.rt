@@ -6,6 +6,3 @@
 mod sets;
 
 pub use sets::DirtySets;
-
-#[cfg(test)]
-mod tests;

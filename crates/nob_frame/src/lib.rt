@@ -16,8 +16,3 @@ pub use frame::{Frame, FrameKind};
 pub use nob_bytes::Bytes as Payload;
 pub use reading::decode;
 pub use writing::encode;
-
-#[cfg(test)]
-mod stream_tests;
-#[cfg(test)]
-mod tests;

@@ -15,6 +15,3 @@ pub use fault::{ItemError, ItemFault};
 pub use item::Item;
 pub use reading::decode;
 pub use writing::{encode, encode_call, encode_reply};
-
-#[cfg(test)]
-mod tests;

@@ -20,6 +20,3 @@ pub use reading::decode;
 pub use value::{Value, Values};
 pub use walking::refs_of;
 pub use writing::encode;
-
-#[cfg(test)]
-mod tests;

@@ -21,7 +21,7 @@ use crate::error::SessionError;
 use nob_frame::{Frame, FrameKind, Payload};
 use nob_ids::{ItemNo, Limits, Reason, SpaceId};
 use nob_model_end::right::{INBOX_LIMIT, LAST_ITEM, QUEUE_LIMIT};
-use nob_model_end::{Kind, EndRefusal};
+use nob_model_end::{EndRefusal, Kind};
 use std::alloc::{AllocError, Global};
 use std::marker::Model;
 

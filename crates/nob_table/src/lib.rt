@@ -19,6 +19,3 @@ pub use counts::{Counts, Part};
 pub use fault::{TableError, TableFault};
 pub use standing::{Standing, State};
 pub use table::ObjectTable;
-
-#[cfg(test)]
-mod tests;

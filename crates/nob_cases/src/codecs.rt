@@ -1,0 +1,159 @@
+//! Cases of the formats: values, items, frames and streams of frames.
+
+use crate::answer::{Answer, Push, Refusal};
+use nob_frame::{Feed, Frame, FrameError};
+use nob_item::{Item, ItemError};
+use nob_pickle::{PickleError, Value};
+use std::alloc::{AllocError, Global};
+
+/// A case of the formats.
+#[derive(Drop)]
+pub enum CodecCase {
+    /// The value that bytes spell.
+    ReadValue(Vec<u8>),
+    /// The bytes that spell a value.
+    WriteValue(Value),
+    /// The references in a value.
+    References(Value),
+    /// The item that bytes spell.
+    ReadItem(Vec<u8>),
+    /// The bytes that spell an item.
+    WriteItem(Item),
+    /// The counted references of an item.
+    Counted(Item),
+    /// Whether an item is a note.
+    IsNote(Item),
+    /// The frame that bytes spell.
+    ReadFrame(Vec<u8>),
+    /// The bytes that spell a frame.
+    WriteFrame(Frame),
+    /// What a new Feed answers to these pieces.
+    Feed(Vec<Vec<u8>>),
+    /// How many frames a new Feed gives for the bytes, so often, each byte a piece.
+    FeedEach(u64, Vec<u8>),
+}
+
+/// What a case answers. Only memory fails it.
+pub fn answer(alloc: Global, case: &CodecCase) -> Result<Answer, AllocError> {
+    match case {
+        CodecCase::ReadValue(bytes) => read_value(alloc, bytes),
+        CodecCase::WriteValue(value) => write_value(alloc, value),
+        CodecCase::References(value) => {
+            Ok(Answer::References(nob_pickle::refs_of(alloc, value)?))
+        }
+        CodecCase::ReadItem(bytes) => read_item(alloc, bytes),
+        CodecCase::WriteItem(item) => write_item(alloc, item),
+        CodecCase::Counted(item) => Ok(Answer::References(nob_item::counted_refs(alloc, item)?)),
+        CodecCase::IsNote(item) => Ok(Answer::of_test(item.is_note())),
+        CodecCase::ReadFrame(bytes) => read_frame(alloc, bytes),
+        CodecCase::WriteFrame(frame) => write_frame(alloc, frame),
+        CodecCase::Feed(pieces) => feed(alloc, pieces),
+        CodecCase::FeedEach(count, bytes) => feed_each(alloc, *count, bytes),
+    }
+}
+
+// The answer is a copy of what was read.
+fn read_value(alloc: Global, bytes: &[u8]) -> Result<Answer, AllocError> {
+    match nob_pickle::decode(alloc, bytes) {
+        Ok(value) => Ok(Answer::Value(value.copy()?)),
+        Err(error) => refused_value(error),
+    }
+}
+
+fn write_value(alloc: Global, value: &Value) -> Result<Answer, AllocError> {
+    match nob_pickle::encode(alloc, value) {
+        Ok(bytes) => Ok(Answer::Bytes(bytes)),
+        Err(error) => refused_value(error),
+    }
+}
+
+fn refused_value(error: PickleError) -> Result<Answer, AllocError> {
+    match error {
+        PickleError::OutOfMemory => Err(AllocError),
+        PickleError::Fault(_) => Ok(Answer::Refused(Refusal::Pickle(error))),
+    }
+}
+
+fn read_item(alloc: Global, bytes: &[u8]) -> Result<Answer, AllocError> {
+    match nob_item::decode(alloc, bytes) {
+        Ok(item) => Ok(Answer::Item(item.copy()?)),
+        Err(error) => refused_item(error),
+    }
+}
+
+fn write_item(alloc: Global, item: &Item) -> Result<Answer, AllocError> {
+    match nob_item::encode(alloc, item) {
+        Ok(bytes) => Ok(Answer::Bytes(bytes)),
+        Err(error) => refused_item(error),
+    }
+}
+
+fn refused_item(error: ItemError) -> Result<Answer, AllocError> {
+    match error {
+        ItemError::OutOfMemory => Err(AllocError),
+        ItemError::Fault(_) => Ok(Answer::Refused(Refusal::Item(error))),
+    }
+}
+
+fn read_frame(alloc: Global, bytes: &[u8]) -> Result<Answer, AllocError> {
+    match nob_frame::decode(alloc, bytes) {
+        Ok(frame) => {
+            let mut frames = Vec::new(alloc);
+            frames.push(frame.copy()?)?;
+            Ok(Answer::Frames(frames))
+        }
+        Err(error) => refused_frame(error),
+    }
+}
+
+fn write_frame(alloc: Global, frame: &Frame) -> Result<Answer, AllocError> {
+    match nob_frame::encode(alloc, frame) {
+        Ok(bytes) => Ok(Answer::Bytes(bytes)),
+        Err(error) => refused_frame(error),
+    }
+}
+
+/// A refusal of a frame as an answer.
+pub fn refused_frame(error: FrameError) -> Result<Answer, AllocError> {
+    match error {
+        FrameError::OutOfMemory => Err(AllocError),
+        FrameError::Fault(_) => Ok(Answer::Refused(Refusal::Frame(error))),
+    }
+}
+
+fn feed(alloc: Global, pieces: &[Vec<u8>]) -> Result<Answer, AllocError> {
+    let mut feed = Feed::new(alloc);
+    let mut pushes = Vec::new(alloc);
+    for piece in pieces {
+        pushes.push(push(&mut feed, piece)?)?;
+    }
+    Ok(Answer::Pushes(pushes))
+}
+
+// Pushes a piece, and where memory was refused once more: nothing has changed then.
+fn push(feed: &mut Feed, piece: &[u8]) -> Result<Push, AllocError> {
+    for _ in 0..2 {
+        match feed.push(piece) {
+            Ok(frames) => return Ok(Push::Frames(frames)),
+            Err(FrameError::Fault(fault)) => return Ok(Push::Refused(fault)),
+            Err(FrameError::OutOfMemory) => {}
+        }
+    }
+    Err(AllocError)
+}
+
+fn feed_each(alloc: Global, count: u64, bytes: &[u8]) -> Result<Answer, AllocError> {
+    let mut feed = Feed::new(alloc);
+    let mut frames: u64 = 0;
+    for _ in 0..count {
+        for byte in bytes {
+            match push(&mut feed, &[*byte])? {
+                Push::Frames(given) => frames = frames.saturating_add(given.len() as u64),
+                Push::Refused(fault) => return Ok(Answer::Refused(Refusal::Frame(FrameError::Fault(
+                    fault,
+                )))),
+            }
+        }
+    }
+    Ok(Answer::Number(frames))
+}

@@ -1,0 +1,71 @@
+//! What the lines so far have left.
+
+use crate::answer::Answer;
+use crate::case::{Case, case_of};
+use crate::text::text_of;
+use crate::unanswered::Unanswered;
+use crate::{codecs, ends, sets, tables};
+use nob_dirty::DirtySets;
+use nob_session::Session;
+use nob_table::ObjectTable;
+use std::alloc::{AllocError, Global};
+
+/// The end, the table and the sets on which the next cases are made.
+#[derive(Drop)]
+pub struct Stage {
+    alloc: Global,
+    end: Option<Session>,
+    table: Option<ObjectTable>,
+    sets: DirtySets,
+}
+
+impl Stage {
+    /// Neither an end nor a table, and sets that list nobody.
+    pub fn new(alloc: Global) -> Stage {
+        Stage {
+            alloc,
+            end: None,
+            table: None,
+            sets: DirtySets::new(alloc),
+        }
+    }
+
+    /// The line with its answer: `memory` where memory ran out in it, and then nothing has changed. Memory for the
+    /// text of the answer fails it.
+    pub fn answered(&mut self, line: &str) -> Result<String, AllocError> {
+        let alloc = self.alloc;
+        if line.is_empty() || line.starts_with('#') {
+            return String::from_str(alloc, line);
+        }
+        match case_of(alloc, line) {
+            Ok((case, count)) => self.answered_case(line, &case, count),
+            Err(Unanswered::NoCase) => format!(in alloc; "{line} = no case"),
+            Err(Unanswered::Memory) => format!(in alloc; "{line} = memory"),
+        }
+    }
+
+    // A case that is made several times answers what it answers the last time, and memory fails it.
+    fn answered_case(&mut self, line: &str, case: &Case, count: u64) -> Result<String, AllocError> {
+        let alloc = self.alloc;
+        for _ in 1..count {
+            let _ = self.make(case)?;
+        }
+        match self.make(case) {
+            Ok(answer) => {
+                let answer = text_of(alloc, &answer)?;
+                format!(in alloc; "{line} = {answer}")
+            }
+            Err(AllocError) if count == 1 => format!(in alloc; "{line} = memory"),
+            Err(AllocError) => Err(AllocError),
+        }
+    }
+
+    fn make(&mut self, case: &Case) -> Result<Answer, AllocError> {
+        match case {
+            Case::Codec(case) => codecs::answer(self.alloc, case),
+            Case::End(case) => ends::make(self.alloc, &mut self.end, case),
+            Case::Table(case) => tables::make(self.alloc, &mut self.table, case),
+            Case::Set(case) => sets::make(self.alloc, &mut self.sets, case),
+        }
+    }
+}

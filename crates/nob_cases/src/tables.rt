@@ -1,0 +1,115 @@
+//! Cases of an object table.
+
+use crate::answer::{Answer, Refusal};
+use nob_ids::{SpaceId, WireRep};
+use nob_table::{ObjectTable, Part, TableError, TableFault};
+use std::alloc::{AllocError, Global};
+
+/// A call on the object table, or a new table in its place.
+#[derive(Drop)]
+pub enum TableCase {
+    /// The new table of this space.
+    New(SpaceId),
+    /// Makes room for so many exports and so many surrogates.
+    Reserve(usize, usize),
+    /// A new object.
+    Export,
+    /// Withdraws the object of this index.
+    Withdraw(u64),
+    /// One hold more.
+    Hold(WireRep, Part),
+    /// One hold less.
+    Release(WireRep, Part),
+    /// A Dirty is sent.
+    Pending(WireRep),
+    /// The owner has granted the reference.
+    Grant(WireRep),
+    /// The owner has refused the reference.
+    Refuse(WireRep),
+    /// A Clean is sent.
+    Remove(WireRep),
+    /// The session with this owner has closed.
+    Close(SpaceId),
+    /// How a reference stands.
+    State(WireRep),
+    /// The first idle surrogate from this place on.
+    Idle(u64),
+    /// How many objects and surrogates there are.
+    Counts,
+}
+
+/// Makes a case on the table that was made last. Only memory fails it, and then nothing has changed.
+pub fn make(
+    alloc: Global,
+    table: &mut Option<ObjectTable>,
+    case: &TableCase,
+) -> Result<Answer, AllocError> {
+    if let TableCase::New(me) = case {
+        *table = Some(ObjectTable::new(alloc, *me));
+        return Ok(Answer::Word("ok"));
+    }
+    match table {
+        Some(table) => call(table, case),
+        None => Ok(Answer::Word("no table")),
+    }
+}
+
+fn call(table: &mut ObjectTable, case: &TableCase) -> Result<Answer, AllocError> {
+    match case {
+        TableCase::New(_) => Ok(Answer::Word("ok")),
+        TableCase::Reserve(exports, surrogates) => {
+            table.reserve(*exports, *surrogates)?;
+            Ok(Answer::Word("ok"))
+        }
+        TableCase::Export => export(table),
+        TableCase::Withdraw(index) => Ok(done(table.withdraw(*index))),
+        TableCase::Hold(rep, part) => Ok(done(table.hold(*rep, *part))),
+        TableCase::Release(rep, part) => Ok(done(table.release(*rep, *part))),
+        TableCase::Pending(rep) => pending(table, *rep),
+        TableCase::Grant(rep) => Ok(done(table.grant(*rep))),
+        TableCase::Refuse(rep) => Ok(done(table.refuse(*rep))),
+        TableCase::Remove(rep) => Ok(done(table.remove(*rep))),
+        TableCase::Close(owner) => {
+            table.close(*owner);
+            Ok(Answer::Word("ok"))
+        }
+        TableCase::State(rep) => Ok(Answer::Stands(table.state(*rep))),
+        TableCase::Idle(place) => Ok(idle(table, *place)),
+        TableCase::Counts => Ok(Answer::Counts(table.object_count(), table.surrogate_count())),
+    }
+}
+
+fn done(outcome: Result<(), TableFault>) -> Answer {
+    match outcome {
+        Ok(()) => Answer::Word("ok"),
+        Err(fault) => Answer::Refused(Refusal::Table(TableError::Fault(fault))),
+    }
+}
+
+fn export(table: &mut ObjectTable) -> Result<Answer, AllocError> {
+    match table.export() {
+        Ok(rep) => Ok(Answer::Exported(rep)),
+        Err(error) => refused(error),
+    }
+}
+
+fn pending(table: &mut ObjectTable, rep: WireRep) -> Result<Answer, AllocError> {
+    match table.pending(rep) {
+        Ok(()) => Ok(Answer::Word("ok")),
+        Err(error) => refused(error),
+    }
+}
+
+fn refused(error: TableError) -> Result<Answer, AllocError> {
+    match error {
+        TableError::OutOfMemory => Err(AllocError),
+        TableError::Fault(_) => Ok(Answer::Refused(Refusal::Table(error))),
+    }
+}
+
+fn idle(table: &ObjectTable, place: u64) -> Answer {
+    match table.first_idle(place) {
+        Some((place, rep)) => Answer::Idle(u128::from(place), rep),
+        None => Answer::Word("none"),
+    }
+}

@@ -1,0 +1,203 @@
+//! The texts of answers.
+
+use crate::answer::{Answer, Push, Refusal};
+use crate::value_text::{push_bytes, push_reference, push_value};
+use nob_frame::{Frame, FrameError, FrameKind};
+use nob_ids::{SpaceId, WireRep};
+use nob_item::Item;
+use nob_table::{Standing, State};
+use std::alloc::{AllocError, Global};
+
+/// The text of an answer. Only memory fails it.
+pub fn text_of(alloc: Global, answer: &Answer) -> Result<String, AllocError> {
+    let mut text = String::new(alloc);
+    match answer {
+        Answer::Word(word) => text.push_str(word)?,
+        Answer::Refused(refusal) => push_refusal(alloc, &mut text, *refusal)?,
+        Answer::Number(number) => text = format!(in alloc; "{number}")?,
+        Answer::Value(value) => push_value(alloc, &mut text, value)?,
+        Answer::Item(item) => push_item(alloc, &mut text, item)?,
+        Answer::Frames(frames) => push_frames(alloc, &mut text, frames)?,
+        Answer::Bytes(bytes) => push_bytes(alloc, &mut text, bytes)?,
+        Answer::References(reps) => push_references(alloc, &mut text, reps)?,
+        Answer::Spaces(spaces) => push_spaces(alloc, &mut text, spaces)?,
+        Answer::Pushes(pushes) => push_pushes(alloc, &mut text, pushes)?,
+        _ => return text_of_call(alloc, answer),
+    }
+    Ok(text)
+}
+
+// The text of what an end or a table answers.
+fn text_of_call(alloc: Global, answer: &Answer) -> Result<String, AllocError> {
+    let mut text = String::new(alloc);
+    match answer {
+        Answer::Sent(number) => {
+            let number = number.get();
+            text = format!(in alloc; "item {number}")?;
+        }
+        Answer::Waits(number, bytes) => {
+            let number = number.get();
+            text = format!(in alloc; "item {number} ")?;
+            push_bytes(alloc, &mut text, bytes)?;
+        }
+        Answer::Took(count) => text = format!(in alloc; "took {count}")?,
+        Answer::Closed(reason) => {
+            let reason = reason.number();
+            text = format!(in alloc; "closed {reason}")?;
+        }
+        Answer::Exported(rep) => push_reference(alloc, &mut text, *rep)?,
+        Answer::Stands(standing) => text = standing_text(alloc, *standing)?,
+        Answer::Idle(place, rep) => {
+            text = format!(in alloc; "place {place} ")?;
+            push_reference(alloc, &mut text, *rep)?;
+        }
+        Answer::Counts(objects, surrogates) => {
+            text = format!(in alloc; "objects {objects} surrogates {surrogates}")?;
+        }
+        _ => {}
+    }
+    Ok(text)
+}
+
+// Writes the name that the printed text of a refusal begins with, and in brackets that of the refusal within it.
+fn push_refusal(alloc: Global, text: &mut String, refusal: Refusal) -> Result<(), AllocError> {
+    let printed = match refusal {
+        Refusal::Pickle(error) => format!(in alloc; "{error}")?,
+        Refusal::Item(error) => format!(in alloc; "{error}")?,
+        Refusal::Frame(error) => format!(in alloc; "{error}")?,
+        Refusal::End(error) => format!(in alloc; "{error}")?,
+        Refusal::Table(error) => format!(in alloc; "{error}")?,
+        Refusal::Pins(fault) => format!(in alloc; "{fault}")?,
+    };
+    let Some((name, rest)) = printed.as_str().split_once(": ") else {
+        return text.push_str(printed.as_str());
+    };
+    text.push_str(name)?;
+    let Some((inner, _)) = rest.split_once(": ") else {
+        return Ok(());
+    };
+    text.push_str(format!(in alloc; "({inner})")?.as_str())
+}
+
+/// Writes an item.
+fn push_item(alloc: Global, text: &mut String, item: &Item) -> Result<(), AllocError> {
+    match item {
+        Item::Call {
+            call,
+            target,
+            method,
+            value,
+        } => {
+            let call = call.get();
+            let head = format!(in alloc; "call {call} on {target} method {method} ")?;
+            text.push_str(head.as_str())?;
+            push_value(alloc, text, value)
+        }
+        Item::Reply {
+            call,
+            status,
+            value,
+        } => {
+            let call = call.get();
+            let head = format!(in alloc; "reply {call} status {status} ")?;
+            text.push_str(head.as_str())?;
+            push_value(alloc, text, value)
+        }
+        Item::Settle(item) => push_note(alloc, text, "settle", item.get()),
+        Item::Dirty(index) => push_note(alloc, text, "dirty", *index),
+        Item::DirtyOk(index) => push_note(alloc, text, "dirtyok", *index),
+        Item::DirtyNo(index) => push_note(alloc, text, "dirtyno", *index),
+        Item::Clean(index) => push_note(alloc, text, "clean", *index),
+    }
+}
+
+fn push_note(alloc: Global, text: &mut String, name: &str, number: u64) -> Result<(), AllocError> {
+    text.push_str(format!(in alloc; "{name} {number}")?.as_str())
+}
+
+/// Writes a frame.
+fn push_frame(alloc: Global, text: &mut String, frame: &Frame) -> Result<(), AllocError> {
+    let kind = match frame.kind {
+        FrameKind::Data => "data",
+        FrameKind::Ack => "ack",
+        FrameKind::Close => "close",
+    };
+    let from = frame.from.get();
+    let to = frame.to.get();
+    let seq = frame.seq;
+    let ack = frame.ack;
+    let head = format!(in alloc; "{kind} {from} to {to} seq {seq} ack {ack} ")?;
+    text.push_str(head.as_str())?;
+    push_bytes(alloc, text, frame.payload.as_slice())
+}
+
+// Writes frames, parted by bars.
+fn push_frames(alloc: Global, text: &mut String, frames: &[Frame]) -> Result<(), AllocError> {
+    for (i, frame) in frames.iter().enumerate() {
+        if i > 0 {
+            text.push_str(" | ")?;
+        }
+        push_frame(alloc, text, frame)?;
+    }
+    push_none(text, frames.is_empty())
+}
+
+// Writes what the pushes to a Feed answer, parted by semicolons.
+fn push_pushes(alloc: Global, text: &mut String, pushes: &[Push]) -> Result<(), AllocError> {
+    for (i, push) in pushes.iter().enumerate() {
+        if i > 0 {
+            text.push_str("; ")?;
+        }
+        match push {
+            Push::Frames(frames) => push_frames(alloc, text, frames)?,
+            Push::Refused(fault) => push_refusal(
+                alloc,
+                text,
+                Refusal::Frame(FrameError::Fault(*fault)),
+            )?,
+        }
+    }
+    Ok(())
+}
+
+fn push_references(alloc: Global, text: &mut String, reps: &[WireRep]) -> Result<(), AllocError> {
+    for (i, rep) in reps.iter().enumerate() {
+        if i > 0 {
+            text.push(' ')?;
+        }
+        push_reference(alloc, text, *rep)?;
+    }
+    push_none(text, reps.is_empty())
+}
+
+fn push_spaces(alloc: Global, text: &mut String, spaces: &[SpaceId]) -> Result<(), AllocError> {
+    for (i, space) in spaces.iter().enumerate() {
+        if i > 0 {
+            text.push(' ')?;
+        }
+        text.push_str(format!(in alloc; "{space}")?.as_str())?;
+    }
+    push_none(text, spaces.is_empty())
+}
+
+fn push_none(text: &mut String, is_empty: bool) -> Result<(), AllocError> {
+    if is_empty {
+        text.push_str("none")?;
+    }
+    Ok(())
+}
+
+fn standing_text(alloc: Global, standing: Standing) -> Result<String, AllocError> {
+    let state = match standing.state {
+        State::Unknown => "unknown",
+        State::Live => "live",
+        State::Withdrawn => "withdrawn",
+        State::Pending => "pending",
+        State::Granted => "granted",
+        State::Refused => "refused",
+        State::Lost => "lost",
+    };
+    let hand = standing.counts.hand;
+    let lent = standing.counts.lent;
+    format!(in alloc; "{state} hand {hand} lent {lent}")
+}
