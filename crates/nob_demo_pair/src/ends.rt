@@ -16,7 +16,7 @@ use crate::answer::{Answer, Sent};
 use crate::step::Call;
 use nob_frame::{Frame, Payload};
 use nob_ids::Reason;
-use nob_session::{Arrival, Kind, EndRefusal, Session, SessionError};
+use nob_session::{Arrival, EndRefusal, Kind, Session, SessionError};
 use std::alloc::{AllocError, Global};
 
 // Hands an item.

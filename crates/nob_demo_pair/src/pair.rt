@@ -17,7 +17,7 @@ use crate::ends;
 use crate::step::{Call, Side, Step};
 use nob_frame::{Frame, FrameError, decode, encode};
 use nob_ids::{Limits, SpaceId};
-use nob_session::{Session, SessionError};
+use nob_session::Session;
 use std::alloc::{AllocError, Global};
 use std::marker::Model;
 
@@ -50,8 +50,8 @@ impl Pair {
         };
         Ok(Pair {
             alloc,
-            first: open_end(alloc, one, two, limits)?,
-            second: open_end(alloc, two, one, limits)?,
+            first: Session::open(alloc, one, two, limits)?,
+            second: Session::open(alloc, two, one, limits)?,
             frames: Vec::new(alloc),
         })
     }
@@ -156,21 +156,6 @@ fn numbered(frames: &[Frame], number: u64) -> Option<&Frame>
         return None;
     }
     frames.get(number as usize - 1)
-}
-
-fn open_end(
-    alloc: Global,
-    me: SpaceId,
-    peer: SpaceId,
-    limits: Limits,
-) -> Result<Session, AllocError>
-    ensures stands { IfOk result (λ session. Stands me peer limits session.end []) }
-{
-    match Session::open(alloc, me, peer, limits) {
-        Ok(session) => Ok(session),
-        Err(SessionError::Refused(_)) => Err(AllocError),
-        Err(SessionError::OutOfMemory) => Err(AllocError),
-    }
 }
 
 // Makes a call at an end.

@@ -8,5 +8,6 @@ pub use Rattle.nob_model_end.specs.Right
 pub use Rattle.nob_model_end.specs.Pair
 pub mod Items
 pub mod Stands
+pub mod Calls
 pub mod Answers
 pub mod Sound

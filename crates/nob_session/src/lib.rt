@@ -9,7 +9,7 @@ mod session;
 
 pub use closed::{Arrival, Closed};
 pub use error::SessionError;
-pub use nob_model_end::{Kind, EndRefusal};
+pub use nob_model_end::{EndRefusal, Kind};
 pub use session::Session;
 
 #[cfg(test)]
