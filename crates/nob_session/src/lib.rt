@@ -6,6 +6,7 @@ mod closed;
 mod error;
 pub mod laws;
 mod session;
+pub mod wire;
 
 pub use closed::{Arrival, Closed};
 pub use error::SessionError;
