@@ -17,7 +17,7 @@ use nob_trace_text::first_line;
 use std::alloc::{AllocError, Global};
 
 /// How a script ended.
-#[derive(Clone, Copy, Debug, PartialEq, Eq)]
+#[derive(Clone, Copy, Debug)]
 pub enum Outcome {
     /// Every line was a step, and the fronts hold.
     Fronts,

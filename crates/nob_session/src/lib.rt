@@ -3,6 +3,7 @@
 #![tactic(auto)]
 
 mod closed;
+pub mod comparing;
 mod error;
 pub mod laws;
 mod session;
