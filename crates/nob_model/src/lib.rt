@@ -3,6 +3,7 @@
 //! from the whole list, for every list.
 #![tactic(auto)]
 
+pub mod ends;
 mod history;
 mod transit;
 
