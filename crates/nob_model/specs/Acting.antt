@@ -56,7 +56,7 @@ abbrev pub awaits_answer : (s n p index : ℕ) → History → Bool
 awaits_answer s n p index h = is_pending (turns s n (record { owner = p; index = index }) h.deeds)
 
 -- the first fault of an item from p
-abbrev pub fault_of : (s n p : ℕ) → Item → History → Option Reason
+unfoldable pub fault_of : (s n p : ℕ) → Item → History → Option Reason
 fault_of s n p (items.Call call target method value) h = first_fault (fault_if (not (target == 0) && not (is_live s target h.deeds)) BadReference) (fault_if (names_gone s (items.Call call target method value) h) BadReference)
 fault_of s n p (items.Reply call status value) h = first_fault (fault_if (not (list_any (awaits_reply p call) h.work.calls)) OutOfPlace) (fault_if (names_gone s (items.Reply call status value) h) BadReference)
 fault_of s n p (items.Settle item) h = fault_if (not (has_bundle p item h)) OutOfPlace
@@ -82,7 +82,7 @@ abbrev pub new_dirties : (s n : ℕ) → Item → History → List Sending
 new_dirties s n item h = dirties_for s n h.deeds (counted_in item)
 
 -- whether one message more, or the surrogates that it wants, would pass a limit
-abbrev pub is_too_much : (s n : ℕ) → Item → History → Bool
+unfoldable pub is_too_much : (s n : ℕ) → Item → History → Bool
 is_too_much s n item h = nat_le most_messages (messages h.work) || nat_lt most_surrogates (length (surrogates s n h) + length (new_dirties s n item h))
 
 -- whether each peer among some gifts has free numbers for those to it
@@ -91,11 +91,11 @@ all_have_numbers gifts [] h = true
 all_have_numbers gifts (gift ∷ rest) h = has_numbers gift.to (length (items_to gift.to gifts)) h && all_have_numbers gifts rest h
 
 -- why a Call or a Reply without a fault stays in the inbox: a limit, then free numbers
-abbrev pub message_kept : (s n : ℕ) → Item → History → Option Refusal
+unfoldable pub message_kept : (s n : ℕ) → Item → History → Option Refusal
 message_kept s n item h = if is_too_much s n item h then Some refusals.Limit else if not (all_have_numbers (new_dirties s n item h) (new_dirties s n item h) h) then Some refusals.SeqEnd else None
 
 -- why an item from p without a fault stays in the inbox
-abbrev pub kept_by : (s n p : ℕ) → Item → History → Option Refusal
+unfoldable pub kept_by : (s n p : ℕ) → Item → History → Option Refusal
 kept_by s n p (items.Call call target method value) h = message_kept s n (items.Call call target method value) h
 kept_by s n p (items.Reply call status value) h = message_kept s n (items.Reply call status value) h
 kept_by s n p (items.Settle item) h = None
@@ -111,6 +111,6 @@ acted_as k None (Some refusal) = Err refusal
 acted_as k None None = Ok (answers.Acted k)
 
 -- what is answered to acting on item k from p, if it can be read
-abbrev pub act_on : (s n p k : ℕ) → Option Item → History → Result Answer Refusal
+unfoldable pub act_on : (s n p k : ℕ) → Option Item → History → Result Answer Refusal
 act_on s n p k None h = Ok (answers.Closed BadItem)
 act_on s n p k (Some item) h = acted_as k (fault_of s n p item h) (kept_by s n p item h)

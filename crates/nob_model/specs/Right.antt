@@ -68,7 +68,7 @@ abbrev pub most_in_hand : ℕ
 most_in_hand = 2 ^ 32 - 1
 
 -- Export: the next index
-abbrev pub right_export : ℕ → History → Result Answer Refusal
+unfoldable pub right_export : ℕ → History → Result Answer Refusal
 right_export s h = unless (refuse_if (nat_le most_objects (length (live s h.deeds)) || nat_le last_number (length (exports h.deeds))) refusals.Limit) (answers.Exported (record { owner = s; index = length (exports h.deeds) + 1 }))
 
 -- whether a reference names an own object, not the agent, that isn't live
@@ -76,11 +76,11 @@ abbrev pub is_gone : ℕ → WireRep → History → Bool
 is_gone s rep h = is_counted rep && is_own_and_gone s rep h
 
 -- Dup
-abbrev pub right_dup : ℕ → WireRep → History → Result Answer Refusal
+unfoldable pub right_dup : ℕ → WireRep → History → Result Answer Refusal
 right_dup s rep h = unless (refuse_if (is_gone s rep h) refusals.NoObject or_else refuse_if (not (is_counted rep) || not (is_held s rep h)) refusals.NotHeld or_else refuse_if (not (is_own s rep) && closed rep.owner h.deeds) refusals.Closed or_else refuse_if (nat_le most_in_hand (hand rep h.deeds)) refusals.Limit) answers.Done
 
 -- Release
-abbrev pub right_release : ℕ → WireRep → History → Result Answer Refusal
+unfoldable pub right_release : ℕ → WireRep → History → Result Answer Refusal
 right_release s rep h = unless (refuse_if (is_gone s rep h) refusals.NoObject or_else refuse_if (not (is_counted rep) || hand rep h.deeds == 0) refusals.NotHeld) answers.Done
 
 -- how many calls were made
@@ -94,7 +94,7 @@ abbrev pub is_last_call : History → Bool
 is_last_call h = nat_le most_calls (length h.work.calls) || nat_le last_number (calls_made h.deeds)
 
 -- Call: the number of the call
-abbrev pub right_call : (s n : ℕ) → WireRep → Value → History → Result Answer Refusal
+unfoldable pub right_call : (s n : ℕ) → WireRep → Value → History → Result Answer Refusal
 right_call s n target value h = unless (refuse_if (not (is_peer s n target.owner)) refusals.NoPeer or_else refuse_if (closed target.owner h.deeds) refusals.Closed or_else refuse_if (is_counted target && not (is_held s target h)) refusals.NotHeld or_else value_refused s h value or_else refuse_if (is_last_call h) refusals.Limit or_else send_refused target.owner Limited h) (answers.Called (calls_made h.deeds + 1))
 
 -- whether a hand would pass its limit by the references in a value that is taken
@@ -102,7 +102,7 @@ abbrev pub is_handful : Value → History → Bool
 is_handful value h = list_any (λ rep. nat_lt most_in_hand (hand rep h.deeds + times rep (filter is_counted (refs_in value)))) (filter is_counted (refs_in value))
 
 -- what is answered where this item is the ready reply
-abbrev pub reply_taken : Item → History → Result Answer Refusal
+unfoldable pub reply_taken : Item → History → Result Answer Refusal
 reply_taken (items.Reply call status value) h = unless (refuse_if (is_handful value h) refusals.Limit) (answers.Replied status value)
 reply_taken (items.Call call target method value) h = Err refusals.NotReady
 reply_taken (items.Settle item) h = Err refusals.NotReady
@@ -118,17 +118,17 @@ stage_taken stages.Answered = Err refusals.NotReady
 stage_taken stages.Ended = Ok answers.Ended
 
 -- what is answered for a call, by its ready reply if there is one
-abbrev pub call_taken : OwnCall → Option Message → History → Result Answer Refusal
+unfoldable pub call_taken : OwnCall → Option Message → History → Result Answer Refusal
 call_taken own (Some message) h = reply_taken message.item h
 call_taken own None h = stage_taken own.stage
 
 -- what is answered for a call, if there is one
-abbrev pub own_call_taken : ℕ → Option OwnCall → History → Result Answer Refusal
+unfoldable pub own_call_taken : ℕ → Option OwnCall → History → Result Answer Refusal
 own_call_taken k None h = Err refusals.NoCall
 own_call_taken k (Some own) h = call_taken own (find (λ message. replies_to k message.item) h.work.replies) h
 
 -- TakeReply
-abbrev pub right_take_reply : ℕ → History → Result Answer Refusal
+unfoldable pub right_take_reply : ℕ → History → Result Answer Refusal
 right_take_reply k h = own_call_taken k (find (is_call k) h.work.calls) h
 
 -- how many jobs were claimed
@@ -152,7 +152,7 @@ abbrev pub is_free : Work → Message → Bool
 is_free W message = not (list_any (λ run. target_of run.message.item == target_of message.item) W.running)
 
 -- the job of this number that an item from p is
-abbrev pub job_of : (j p : ℕ) → Item → Result Answer Refusal
+unfoldable pub job_of : (j p : ℕ) → Item → Result Answer Refusal
 job_of j p (items.Call call target method value) = Ok (answers.Job (record { job = j; client = p; call = call; target = target; method = method; value = value }))
 job_of j p (items.Reply call status value) = Err refusals.Nothing
 job_of j p (items.Settle item) = Err refusals.Nothing
@@ -162,30 +162,30 @@ job_of j p (items.DirtyNo index) = Err refusals.Nothing
 job_of j p (items.Clean index) = Err refusals.Nothing
 
 -- what is answered where this is the message to claim, if there is one
-abbrev pub claim_of : ℕ → Option Message → Result Answer Refusal
+unfoldable pub claim_of : ℕ → Option Message → Result Answer Refusal
 claim_of made None = Err refusals.Nothing
 claim_of made (Some message) = if nat_le last_number made then Err refusals.Limit else job_of (made + 1) message.from message.item
 
 -- Claim: the first ready job whose target isn't running
-abbrev pub right_claim : History → Result Answer Refusal
+unfoldable pub right_claim : History → Result Answer Refusal
 right_claim h = claim_of (jobs_made h.deeds) (find (is_free h.work) h.work.ready)
 
 -- what is answered to the end of a job, if it runs
-abbrev pub finish_of : ℕ → Outcome → Option Run → History → Result Answer Refusal
+unfoldable pub finish_of : ℕ → Outcome → Option Run → History → Result Answer Refusal
 finish_of s outcome None h = Err refusals.NoJob
 finish_of s outcome (Some run) h = if closed run.message.from h.deeds then Ok answers.Dropped else unless (value_refused s h (value_of outcome) or_else send_refused run.message.from Limited h) answers.Finished
 
 -- Finish
-abbrev pub right_finish : (s job : ℕ) → Outcome → History → Result Answer Refusal
+unfoldable pub right_finish : (s job : ℕ) → Outcome → History → Result Answer Refusal
 right_finish s job outcome h = finish_of s outcome (find (is_run job) h.work.running) h
 
 -- what is answered where this is the front of the inbox, if there is one
-abbrev pub act_of : (s n p : ℕ) → Option (ℕ × List ℕ) → History → Result Answer Refusal
+unfoldable pub act_of : (s n p : ℕ) → Option (ℕ × List ℕ) → History → Result Answer Refusal
 act_of s n p None h = Err refusals.Nothing
 act_of s n p (Some front) h = act_on s n p front.0 (item_spelt front.1) h
 
 -- Act
-abbrev pub right_act : (s n p : ℕ) → History → Result Answer Refusal
+unfoldable pub right_act : (s n p : ℕ) → History → Result Answer Refusal
 right_act s n p h = if not (is_peer s n p) then Err refusals.NoPeer else if closed p h.deeds then Err refusals.Closed else act_of s n p (right_front (calls_at p h)) h
 
 -- whether all references of a message are resolved
@@ -203,21 +203,21 @@ settle_count s n message (items.DirtyNo index) h = 1
 settle_count s n message (items.Clean index) h = 1
 
 -- what is answered where this is the message to settle, if there is one
-abbrev pub settle_of : (s n : ℕ) → Option Message → History → Result Answer Refusal
+unfoldable pub settle_of : (s n : ℕ) → Option Message → History → Result Answer Refusal
 settle_of s n None h = Err refusals.Nothing
 settle_of s n (Some message) h = if has_numbers message.from (settle_count s n message message.item h) h then Ok (answers.Settled message.from message.number) else Err refusals.SeqEnd
 
 -- Settle: the first message, in order of acting, whose references are all resolved
-abbrev pub right_settle : (s n : ℕ) → History → Result Answer Refusal
+unfoldable pub right_settle : (s n : ℕ) → History → Result Answer Refusal
 right_settle s n h = settle_of s n (find (is_all_resolved s n h) h.work.waiting) h
 
 -- what is answered where this is the reference to clean, if there is one
-abbrev pub clean_of : Option WireRep → History → Result Answer Refusal
+unfoldable pub clean_of : Option WireRep → History → Result Answer Refusal
 clean_of None h = Err refusals.Nothing
 clean_of (Some rep) h = if has_numbers rep.owner 1 h then Ok (answers.Cleaned rep) else Err refusals.SeqEnd
 
 -- Clean: the first surrogate that can be given up
-abbrev pub right_clean : (s n : ℕ) → History → Result Answer Refusal
+unfoldable pub right_clean : (s n : ℕ) → History → Result Answer Refusal
 right_clean s n h = clean_of (first_idle s n h) h
 
 -- the reference to an own object
@@ -225,11 +225,11 @@ abbrev pub own_ref : (s index : ℕ) → WireRep
 own_ref s index = record { owner = s; index = index }
 
 -- Withdraw: exactly if it isn't the agent, is live, has no holds, no pins, and nobody is listed
-abbrev pub right_withdraw : (s index : ℕ) → History → Result Answer Refusal
+unfoldable pub right_withdraw : (s index : ℕ) → History → Result Answer Refusal
 right_withdraw s index h = unless (refuse_if (index == 0) (refusals.StillUsed uses.Agent) or_else refuse_if (not (is_live s index h.deeds)) refusals.NoObject or_else refuse_if (is_held s (own_ref s index) h) (refusals.StillUsed uses.Held) or_else refuse_if (not (pins (own_ref s index) h == 0)) (refusals.StillUsed uses.InTransit) or_else refuse_if (is_any_listed s index h.deeds) (refusals.StillUsed uses.Listed)) answers.Withdrawn
 
 -- Transmit
-abbrev pub right_frames : (s n p window : ℕ) → History → Result Answer Refusal
+unfoldable pub right_frames : (s n p window : ℕ) → History → Result Answer Refusal
 right_frames s n p window h = if not (is_peer s n p) then Err refusals.NoPeer else Ok (answers.Frames (right_transmit s p window (calls_at p h)))
 
 -- what an arriving frame did, as the space's answer
@@ -239,7 +239,7 @@ arrival_of (Ok (arrived.Closed ending)) = Ok (answers.Closed ending.reason)
 arrival_of (Err refusal) = Err refusals.NoPeer
 
 -- Arrive: a frame that isn't for this space, or from no peer, is refused
-abbrev pub right_arrival : (s n : ℕ) → Frame → History → Result Answer Refusal
+unfoldable pub right_arrival : (s n : ℕ) → Frame → History → Result Answer Refusal
 right_arrival s n frame h = if not (frame.to == s) || not (is_peer s n frame.from) then Err refusals.NoPeer else arrival_of (right_arrive s frame.from frame (calls_at frame.from h))
 
 -- what a tick did, as the space's answer
@@ -249,15 +249,15 @@ tick_of (Ok (Some ending)) = Ok (answers.Closed ending.reason)
 tick_of (Err refusal) = Err refusals.Closed
 
 -- Tick
-abbrev pub right_ticks : (s n p retry : ℕ) → History → Result Answer Refusal
+unfoldable pub right_ticks : (s n p retry : ℕ) → History → Result Answer Refusal
 right_ticks s n p retry h = if not (is_peer s n p) then Err refusals.NoPeer else tick_of (right_tick p retry (calls_at p h))
 
 -- Close
-abbrev pub right_closing : (s n p : ℕ) → History → Result Answer Refusal
+unfoldable pub right_closing : (s n p : ℕ) → History → Result Answer Refusal
 right_closing s n p h = if not (is_peer s n p) then Err refusals.NoPeer else if closed p h.deeds then Err refusals.Closed else Ok (answers.Closed Asked)
 
 -- the one right answer of space s among n, with these limits, after a history
-abbrev pub right_after : (s n : ℕ) → Limits → History → Event → Result Answer Refusal
+unfoldable pub right_after : (s n : ℕ) → Limits → History → Event → Result Answer Refusal
 right_after s n limits h events.Export = right_export s h
 right_after s n limits h (events.Dup rep) = right_dup s rep h
 right_after s n limits h (events.Release rep) = right_release s rep h

@@ -102,11 +102,7 @@ fn with_call(call: EndEntry, mut calls: Vec<EndEntry>) -> Result<Vec<EndEntry>, 
 }
 
 // The calls with the one that a deed itself is, if it is one.
-fn own_calls(
-    peer: SpaceId,
-    deed: &Deed,
-    calls: Vec<EndEntry>,
-) -> Result<Vec<EndEntry>, AllocError>
+fn own_calls(peer: SpaceId, deed: &Deed, calls: Vec<EndEntry>) -> Result<Vec<EndEntry>, AllocError>
     ensures { IfOk result (λ more. more.items ≡ words.own_calls peer deed.now calls.items) }
 {
     match deed {

@@ -156,11 +156,7 @@ impl Deed {
     }
 
     // What Finish with this answer did.
-    fn of_finish(
-        job: JobNo,
-        outcome: &Outcome,
-        answer: &Answer,
-    ) -> Result<Option<Deed>, AllocError>
+    fn of_finish(job: JobNo, outcome: &Outcome, answer: &Answer) -> Result<Option<Deed>, AllocError>
         ensures { IfOk result (λ deed. deed ≡ deed_of (Event.Finish job outcome.now) answer.now) }
     {
         match answer {

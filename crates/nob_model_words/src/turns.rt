@@ -200,7 +200,12 @@ fn after_clean(rep: WireRep, cleaned: &WireRep, before: Turns) -> Turns
 }
 
 /// The turns of a space for a reference.
-pub fn turns_of(alloc: Global, here: &Here, rep: &WireRep, deeds: &[Deed]) -> Result<Turns, AllocError>
+pub fn turns_of(
+    alloc: Global,
+    here: &Here,
+    rep: &WireRep,
+    deeds: &[Deed],
+) -> Result<Turns, AllocError>
     ensures value { IfOk result (λ turns. turns ≡ words.turns here.now.space here.now.n rep.now deeds.now) }
     ensures bound { IfOk result (λ turns. turns.dirties + turns.answers ≤ length deeds.now) }
 {
@@ -233,12 +238,7 @@ pub fn is_usable(
 
 /// Whether a reference is lost: not own, and its owner is no peer, or the session with it has closed here, or it
 /// refused.
-pub fn is_lost(
-    alloc: Global,
-    here: Here,
-    rep: WireRep,
-    deeds: &[Deed],
-) -> Result<bool, AllocError>
+pub fn is_lost(alloc: Global, here: Here, rep: WireRep, deeds: &[Deed]) -> Result<bool, AllocError>
     ensures { IfOk result (λ answer. answer ≡ words.is_lost here.space here.n rep deeds.now) }
 {
     if rep.owner == here.space {

@@ -7,6 +7,3 @@ pub mod Same
 pub mod Messages
 pub mod Work
 pub mod Gifts
-
-
-

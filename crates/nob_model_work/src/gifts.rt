@@ -135,9 +135,9 @@ fn dirties_of(
     }
 }
 
-// The Dirties for the references of an item.
+/// The Dirties for the references of an item.
 #[tactic(auto, unfolding(crate::specs::Gifts::dirties_for))]
-fn dirties_for(
+pub fn dirties_for(
     alloc: Global,
     here: &Here,
     deeds: &[Deed],

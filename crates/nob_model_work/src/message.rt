@@ -123,12 +123,7 @@ impl Messages {
 
 // A reference as it comes in a message.
 #[tactic(auto, unfolding(crate::specs::Messages::new_copy))]
-fn new_copy(
-    alloc: Global,
-    here: Here,
-    deeds: &[Deed],
-    rep: &WireRep,
-) -> Result<RefCopy, AllocError>
+fn new_copy(alloc: Global, here: Here, deeds: &[Deed], rep: &WireRep) -> Result<RefCopy, AllocError>
     ensures { IfOk result (λ copy. copy ≡ words.new_copy here.space here.n deeds.now rep.now) }
 {
     if turns::is_lost(alloc, here, *rep, deeds)? {

@@ -175,27 +175,63 @@ fn with_message(messages: Messages, message: Message) -> Result<Messages, AllocE
 fn wait(message: Message, work: Work) -> Result<Work, AllocError>
     ensures { IfOk result (λ after. after ≡ words.wait message work) }
 {
-    let Work { waiting, ready, running, replies, calls } = work;
+    let Work {
+        waiting,
+        ready,
+        running,
+        replies,
+        calls,
+    } = work;
     let waiting = with_message(waiting, message)?;
-    Ok(Work { waiting, ready, running, replies, calls })
+    Ok(Work {
+        waiting,
+        ready,
+        running,
+        replies,
+        calls,
+    })
 }
 
 // One ready job more.
 fn make_ready(message: Message, work: Work) -> Result<Work, AllocError>
     ensures { IfOk result (λ after. after ≡ words.make_ready message work) }
 {
-    let Work { waiting, ready, running, replies, calls } = work;
+    let Work {
+        waiting,
+        ready,
+        running,
+        replies,
+        calls,
+    } = work;
     let ready = with_message(ready, message)?;
-    Ok(Work { waiting, ready, running, replies, calls })
+    Ok(Work {
+        waiting,
+        ready,
+        running,
+        replies,
+        calls,
+    })
 }
 
 // One ready reply more.
 fn make_reply(message: Message, work: Work) -> Result<Work, AllocError>
     ensures { IfOk result (λ after. after ≡ words.make_reply message work) }
 {
-    let Work { waiting, ready, running, replies, calls } = work;
+    let Work {
+        waiting,
+        ready,
+        running,
+        replies,
+        calls,
+    } = work;
     let replies = with_message(replies, message)?;
-    Ok(Work { waiting, ready, running, replies, calls })
+    Ok(Work {
+        waiting,
+        ready,
+        running,
+        replies,
+        calls,
+    })
 }
 
 // A call after a Reply to a call of a peer's was acted on.
@@ -208,7 +244,11 @@ fn call_answered(peer: SpaceId, call: CallNo, own: &OwnCall) -> OwnCall
         Stage::Sent => {
             if answered {
                 let stage = Stage::Answered;
-                return OwnCall { call: own.call, to: own.to, stage };
+                return OwnCall {
+                    call: own.call,
+                    to: own.to,
+                    stage,
+                };
             }
             *own
         }
@@ -268,9 +308,21 @@ fn place_reply(message: Message, work: Work) -> Result<Work, AllocError>
 fn answer_call(alloc: Global, peer: SpaceId, call: CallNo, work: Work) -> Result<Work, AllocError>
     ensures { IfOk result (λ after. after ≡ words.with_calls (words.call_answered peer call) work) }
 {
-    let Work { waiting, ready, running, replies, calls } = work;
+    let Work {
+        waiting,
+        ready,
+        running,
+        replies,
+        calls,
+    } = work;
     let calls = OwnCalls::from_vec(calls_answered(alloc, peer, call, calls.as_slice())?);
-    Ok(Work { waiting, ready, running, replies, calls })
+    Ok(Work {
+        waiting,
+        ready,
+        running,
+        replies,
+        calls,
+    })
 }
 
 // A Reply to a call that was acted on.
@@ -394,10 +446,22 @@ fn after_settle(
 ) -> Result<Work, AllocError>
     ensures { IfOk result (λ after. after ≡ words.after_settle here.space here.n peer number deeds.now (find (message_words.is_of peer number) work.waiting) work) }
 {
-    let Work { waiting, ready, running, replies, calls } = work;
+    let Work {
+        waiting,
+        ready,
+        running,
+        replies,
+        calls,
+    } = work;
     let (found, rest) = take_waiting(peer, number, waiting.into_vec())?;
     let waiting = Messages::from_vec(rest);
-    let others = Work { waiting, ready, running, replies, calls };
+    let others = Work {
+        waiting,
+        ready,
+        running,
+        replies,
+        calls,
+    };
     match found {
         None => Ok(others),
         Some(message) => {
@@ -411,11 +475,23 @@ fn after_settle(
 fn start(job: JobNo, message: Message, work: Work) -> Result<Work, AllocError>
     ensures { IfOk result (λ after. after ≡ words.start job message work) }
 {
-    let Work { waiting, ready, running, replies, calls } = work;
+    let Work {
+        waiting,
+        ready,
+        running,
+        replies,
+        calls,
+    } = work;
     let mut runs = running.into_vec();
     runs.insert(0, Run { job, message })?;
     let running = Runs::from_vec(runs);
-    Ok(Work { waiting, ready, running, replies, calls })
+    Ok(Work {
+        waiting,
+        ready,
+        running,
+        replies,
+        calls,
+    })
 }
 
 // What is in hand after Claim of a job.
@@ -423,10 +499,22 @@ fn start(job: JobNo, message: Message, work: Work) -> Result<Work, AllocError>
 fn after_claim(job: &Job, work: Work) -> Result<Work, AllocError>
     ensures { IfOk result (λ after. after ≡ words.after_claim job.now (find (message_words.is_job job.now) work.ready) work) }
 {
-    let Work { waiting, ready, running, replies, calls } = work;
+    let Work {
+        waiting,
+        ready,
+        running,
+        replies,
+        calls,
+    } = work;
     let (found, rest) = take_job(job, ready.into_vec())?;
     let ready = Messages::from_vec(rest);
-    let others = Work { waiting, ready, running, replies, calls };
+    let others = Work {
+        waiting,
+        ready,
+        running,
+        replies,
+        calls,
+    };
     match found {
         None => Ok(others),
         Some(message) => start(job.job, message, others),
@@ -438,11 +526,23 @@ fn after_claim(job: &Job, work: Work) -> Result<Work, AllocError>
 fn after_finish(job: JobNo, work: Work) -> Work
     ensures { result ≡ words.after_finish job work }
 {
-    let Work { waiting, ready, running, replies, calls } = work;
+    let Work {
+        waiting,
+        ready,
+        running,
+        replies,
+        calls,
+    } = work;
     let mut runs = running.into_vec();
     runs.retain(|run| run.job != job);
     let running = Runs::from_vec(runs);
-    Work { waiting, ready, running, replies, calls }
+    Work {
+        waiting,
+        ready,
+        running,
+        replies,
+        calls,
+    }
 }
 
 // All messages but the Replies to a call.
@@ -468,11 +568,23 @@ fn without_call(call: CallNo, calls: OwnCalls) -> OwnCalls
 fn after_take(call: CallNo, work: Work) -> Work
     ensures { result ≡ words.after_take call work }
 {
-    let Work { waiting, ready, running, replies, calls } = work;
+    let Work {
+        waiting,
+        ready,
+        running,
+        replies,
+        calls,
+    } = work;
     let waiting = without_replies(call, waiting);
     let replies = without_replies(call, replies);
     let calls = without_call(call, calls);
-    Work { waiting, ready, running, replies, calls }
+    Work {
+        waiting,
+        ready,
+        running,
+        replies,
+        calls,
+    }
 }
 
 // What is in hand after it was told that there will be no reply to a call.
@@ -480,9 +592,21 @@ fn after_take(call: CallNo, work: Work) -> Work
 fn after_end(call: CallNo, work: Work) -> Work
     ensures { result ≡ words.after_end call work }
 {
-    let Work { waiting, ready, running, replies, calls } = work;
+    let Work {
+        waiting,
+        ready,
+        running,
+        replies,
+        calls,
+    } = work;
     let calls = without_call(call, calls);
-    Work { waiting, ready, running, replies, calls }
+    Work {
+        waiting,
+        ready,
+        running,
+        replies,
+        calls,
+    }
 }
 
 // What is in hand after a call was made.
@@ -490,12 +614,24 @@ fn after_end(call: CallNo, work: Work) -> Work
 fn after_call(to: SpaceId, call: CallNo, work: Work) -> Result<Work, AllocError>
     ensures { IfOk result (λ after. after ≡ words.after_call to call work) }
 {
-    let Work { waiting, ready, running, replies, calls } = work;
+    let Work {
+        waiting,
+        ready,
+        running,
+        replies,
+        calls,
+    } = work;
     let mut items = calls.into_vec();
     let stage = Stage::Sent;
     items.push(OwnCall { call, to, stage })?;
     let calls = OwnCalls::from_vec(items);
-    Ok(Work { waiting, ready, running, replies, calls })
+    Ok(Work {
+        waiting,
+        ready,
+        running,
+        replies,
+        calls,
+    })
 }
 
 // All messages but those from a peer.
@@ -511,9 +647,7 @@ fn without_peer(peer: SpaceId, messages: Messages) -> Messages
 fn is_replied(peer: SpaceId, call: CallNo, replies: &[Message]) -> bool
     ensures { result ≡ list_any (words.is_reply_from peer call) replies.now }
 {
-    replies
-        .iter()
-        .any(|message| message.from == peer && replies_to(call, &message.item))
+    replies.iter().any(|message| message.from == peer && replies_to(call, &message.item))
 }
 
 // A call after the session with a peer closed.
@@ -523,7 +657,11 @@ fn call_closed(peer: SpaceId, replies: &[Message], own: &OwnCall) -> OwnCall
 {
     if own.to == peer && !is_replied(peer, own.call, replies) {
         let stage = Stage::Ended;
-        return OwnCall { call: own.call, to: own.to, stage };
+        return OwnCall {
+            call: own.call,
+            to: own.to,
+            stage,
+        };
     }
     *own
 }
@@ -553,11 +691,28 @@ fn calls_closed(
 fn after_close(alloc: Global, peer: SpaceId, work: Work) -> Result<Work, AllocError>
     ensures { IfOk result (λ after. after ≡ words.after_close peer work) }
 {
-    let Work { waiting, ready, running, replies, calls } = work;
+    let Work {
+        waiting,
+        ready,
+        running,
+        replies,
+        calls,
+    } = work;
     let waiting = without_peer(peer, waiting);
     let ready = without_peer(peer, ready);
-    let calls = OwnCalls::from_vec(calls_closed(alloc, peer, replies.as_slice(), calls.as_slice())?);
-    Ok(Work { waiting, ready, running, replies, calls })
+    let calls = OwnCalls::from_vec(calls_closed(
+        alloc,
+        peer,
+        replies.as_slice(),
+        calls.as_slice(),
+    )?);
+    Ok(Work {
+        waiting,
+        ready,
+        running,
+        replies,
+        calls,
+    })
 }
 
 // What is in hand after a deed, the loans aside.
@@ -628,12 +783,7 @@ fn message_loans(
 }
 
 // Jobs that run with the loans made that can be made now.
-fn run_loans(
-    alloc: Global,
-    here: &Here,
-    deeds: &[Deed],
-    runs: Runs,
-) -> Result<Runs, AllocError>
+fn run_loans(alloc: Global, here: &Here, deeds: &[Deed], runs: Runs) -> Result<Runs, AllocError>
     ensures { IfOk result (λ after. after ≡ map (λ run. words.run_after here.now.space here.now.n deeds.now run) runs) }
 {
     let after = runs_after(alloc, here, deeds, runs.into_vec())?;
@@ -645,12 +795,24 @@ fn run_loans(
 fn with_loans(alloc: Global, here: &Here, deeds: &[Deed], work: Work) -> Result<Work, AllocError>
     ensures { IfOk result (λ after. after ≡ words.with_loans here.now.space here.now.n deeds.now work) }
 {
-    let Work { waiting, ready, running, replies, calls } = work;
+    let Work {
+        waiting,
+        ready,
+        running,
+        replies,
+        calls,
+    } = work;
     let waiting = message_loans(alloc, here, deeds, waiting)?;
     let ready = message_loans(alloc, here, deeds, ready)?;
     let running = run_loans(alloc, here, deeds, running)?;
     let replies = message_loans(alloc, here, deeds, replies)?;
-    Ok(Work { waiting, ready, running, replies, calls })
+    Ok(Work {
+        waiting,
+        ready,
+        running,
+        replies,
+        calls,
+    })
 }
 
 /// What a space has in hand after a deed, the first of these, by what it had in hand before.

@@ -1,0 +1,793 @@
+//! The one right answer to each event, computed plainly from the whole history of the space.
+
+ghost use Rattle.std.specs.Prelude.{◌≡◌, ◌≤◌, ◌+◌, ◌==◌, nat_lt, IfOk, Some, None, find, length};
+ghost use Rattle.std.specs.List.{list_any, list_all};
+ghost use Rattle.std.specs.Option.{option_map};
+ghost use Rattle.nob_model_work.specs.Messages.{replies_to as replies_to_word};
+ghost use Rattle.nob_model_work.specs.Work.{is_call, is_run};
+ghost use Rattle.nob_model_work.specs.Gifts.{value_of};
+ghost use Rattle.nob_model.specs.Holds.{times as times_word, hand as hand_word};
+ghost use Rattle.nob_model.specs.Sending.{value_refused as value_refused_word};
+ghost use Rattle.nob_model_end.specs.Texts.{texts};
+ghost use Rattle.nob_model_end.specs.Right.{right_front, first_of};
+ghost use Rattle.nob_model_words.specs.Turns.{is_resolved as is_resolved_word};
+ghost use Rattle.nob_model.specs.Ends.{calls_at as calls_word};
+ghost use Rattle.nob_model.specs.Right as words;
+
+use crate::acting::act_on;
+use crate::ends::calls_at;
+use crate::history::{History, make_history};
+use crate::holds::{hand, is_held, times};
+use crate::listing::is_any_listed;
+use crate::sending::{counted, has_numbers, is_own_and_gone, send_refused, value_refused};
+use crate::transit::{first_idle, pins};
+use nob_frame::Frame;
+use nob_ids::{CallNo, ItemNo, JobNo, Limits, Reason, SpaceId, WireRep};
+use nob_item::Item;
+use nob_model_end::{Arrived, EndRefusal, Ending, Frames, Kind, right as end, words as end_words};
+use nob_model_types::{Answer, Entry, Event, Job, Outcome, Refusal, Use};
+use nob_model_words::{Deed, Here, objects, sessions, turns};
+use nob_model_work::message::{is_lost_message, replies_to};
+use nob_model_work::{Message, OwnCall, RefCopy, Run, Stage, Work};
+use nob_pickle::Value;
+use std::alloc::{AllocError, Global};
+
+/// So many live objects and no more.
+pub const MOST_OBJECTS: usize = 1 << 16;
+
+/// The greatest index, and the greatest number of a call and of a job.
+pub const LAST_NUMBER: u64 = 1 << 48;
+
+/// So many calls that aren't taken and no more.
+pub const MOST_CALLS: usize = 4096;
+
+/// The greatest hand.
+pub const MOST_IN_HAND: u64 = (1 << 32) - 1;
+
+// What is answered, in whatever memory there is.
+type Answered = Result<Result<Answer, Refusal>, AllocError>;
+
+/// Export.
+#[tactic(auto, unfolding(crate::specs::Right::right_export))]
+pub fn export(alloc: Global, space: SpaceId, history: &History) -> Answered
+    ensures { IfOk result (λ answer. answer ≡ words.right_export space history.now) }
+{
+    let deeds = history.deeds.as_slice();
+    let count = objects::exports(alloc, deeds)?.len() as u64;
+    if objects::live(alloc, space, deeds)?.len() >= MOST_OBJECTS || count >= LAST_NUMBER {
+        return Ok(Err(Refusal::Limit));
+    }
+    let owner = space;
+    let index = count + 1;
+    Ok(Ok(Answer::Exported(WireRep { owner, index })))
+}
+
+// Whether a reference names an own object, not the agent, that isn't live.
+fn is_gone(
+    alloc: Global,
+    space: SpaceId,
+    rep: &WireRep,
+    history: &History,
+) -> Result<bool, AllocError>
+    ensures { IfOk result (λ gone. gone ≡ words.is_gone space rep.now history.now) }
+{
+    if !rep.is_counted() {
+        return Ok(false);
+    }
+    is_own_and_gone(alloc, space, rep, history)
+}
+
+/// Dup of a reference.
+#[tactic(auto, unfolding(crate::specs::Right::right_dup))]
+pub fn dup(alloc: Global, space: SpaceId, rep: &WireRep, history: &History) -> Answered
+    ensures { IfOk result (λ answer. answer ≡ words.right_dup space rep.now history.now) }
+{
+    if is_gone(alloc, space, rep, history)? {
+        return Ok(Err(Refusal::NoObject));
+    }
+    if !rep.is_counted() || !is_held(alloc, space, rep, history)? {
+        return Ok(Err(Refusal::NotHeld));
+    }
+    if rep.owner != space && sessions::closed(rep.owner, history.deeds.as_slice()) {
+        return Ok(Err(Refusal::Closed));
+    }
+    if hand(alloc, rep, history.deeds.as_slice())? as u64 >= MOST_IN_HAND {
+        return Ok(Err(Refusal::Limit));
+    }
+    Ok(Ok(Answer::Done))
+}
+
+/// Release of a reference.
+#[tactic(auto, unfolding(crate::specs::Right::right_release))]
+pub fn release(alloc: Global, space: SpaceId, rep: &WireRep, history: &History) -> Answered
+    ensures { IfOk result (λ answer. answer ≡ words.right_release space rep.now history.now) }
+{
+    if is_gone(alloc, space, rep, history)? {
+        return Ok(Err(Refusal::NoObject));
+    }
+    if !rep.is_counted() || hand(alloc, rep, history.deeds.as_slice())? == 0 {
+        return Ok(Err(Refusal::NotHeld));
+    }
+    Ok(Ok(Answer::Done))
+}
+
+// How many calls were made.
+fn calls_made(deeds: &[Deed]) -> usize
+    ensures value { result ≡ words.calls_made deeds.now }
+    ensures bound { result ≤ length deeds.now }
+{
+    match deeds {
+        [] => 0,
+        [Deed::Call { .. }, older @ ..] => calls_made(older) + 1,
+        [_, older @ ..] => calls_made(older),
+    }
+}
+
+// Whether one call more would pass a limit.
+fn is_last_call(history: &History) -> bool
+    ensures { result ≡ words.is_last_call history.now }
+{
+    history.work.calls.as_slice().len() >= MOST_CALLS
+        || calls_made(history.deeds.as_slice()) as u64 >= LAST_NUMBER
+}
+
+/// Call of a method with a value.
+#[tactic(auto, unfolding(crate::specs::Right::right_call))]
+pub fn call(
+    alloc: Global,
+    here: &Here,
+    target: &WireRep,
+    value: &Value,
+    history: &History,
+) -> Answered
+    ensures { IfOk result (λ answer. answer ≡ words.right_call here.now.space here.now.n target.now value.now history.now) }
+{
+    if !here.is_peer(target.owner) {
+        return Ok(Err(Refusal::NoPeer));
+    }
+    if sessions::closed(target.owner, history.deeds.as_slice()) {
+        return Ok(Err(Refusal::Closed));
+    }
+    if target.is_counted() && !is_held(alloc, here.space, target, history)? {
+        return Ok(Err(Refusal::NotHeld));
+    }
+    if let Some(refusal) = value_refused(alloc, here.space, value, history)? {
+        return Ok(Err(refusal));
+    }
+    if is_last_call(history) {
+        return Ok(Err(Refusal::Limit));
+    }
+    if let Some(refusal) = send_refused(alloc, target.owner, Kind::Limited, history)? {
+        return Ok(Err(refusal));
+    }
+    let number = calls_made(history.deeds.as_slice()) as u64 + 1;
+    Ok(Ok(Answer::Called(CallNo::new(number))))
+}
+
+// Whether a hand would pass its limit by one of these references of a value.
+fn is_any_full(
+    alloc: Global,
+    reps: &[WireRep],
+    all: &[WireRep],
+    deeds: &[Deed],
+) -> Result<bool, AllocError>
+    ensures { IfOk result (λ full. full ≡ list_any (λ rep. nat_lt words.most_in_hand (hand_word rep deeds.now + times_word rep all.now)) reps.now) }
+{
+    match reps {
+        [] => Ok(false),
+        [rep, others @ ..] => {
+            let before = hand(alloc, rep, deeds)?;
+            if before as u64 + times(rep, all) as u64 > MOST_IN_HAND {
+                return Ok(true);
+            }
+            is_any_full(alloc, others, all, deeds)
+        }
+    }
+}
+
+// Whether a hand would pass its limit by the references in a value that is taken.
+fn is_handful(alloc: Global, value: &Value, history: &History) -> Result<bool, AllocError>
+    ensures { IfOk result (λ full. full ≡ words.is_handful value.now history.now) }
+{
+    let reps = counted(alloc, value)?;
+    is_any_full(
+        alloc,
+        reps.as_slice(),
+        reps.as_slice(),
+        history.deeds.as_slice(),
+    )
+}
+
+// What is answered where this item is the ready reply.
+#[tactic(auto, unfolding(crate::specs::Right::reply_taken))]
+fn reply_taken(alloc: Global, item: &Item, history: &History) -> Answered
+    ensures { IfOk result (λ answer. answer ≡ words.reply_taken item.now history.now) }
+{
+    match item {
+        Item::Reply { status, value, .. } => {
+            if is_handful(alloc, value, history)? {
+                return Ok(Err(Refusal::Limit));
+            }
+            Ok(Ok(Answer::Replied(*status, value.copy()?)))
+        }
+        _ => Ok(Err(Refusal::NotReady)),
+    }
+}
+
+// The ready reply to a call.
+fn find_reply(call: CallNo, replies: &[Message]) -> Option<&Message>
+    ensures { option_map (λ message. message.now) result ≡ find (λ message. replies_to_word call message.item) replies.now }
+{
+    match replies {
+        [] => None,
+        [message, others @ ..] => {
+            if replies_to(call, &message.item) {
+                return Some(message);
+            }
+            find_reply(call, others)
+        }
+    }
+}
+
+// A call whose reply isn't taken.
+fn find_call(call: CallNo, calls: &[OwnCall]) -> Option<OwnCall>
+    ensures { result ≡ find (is_call call) calls.now }
+{
+    match calls {
+        [] => None,
+        [own, others @ ..] => {
+            if own.call == call {
+                return Some(*own);
+            }
+            find_call(call, others)
+        }
+    }
+}
+
+// What is answered where no reply is ready.
+fn stage_taken(stage: Stage) -> Result<Answer, Refusal>
+    ensures { result ≡ words.stage_taken stage }
+{
+    match stage {
+        Stage::Sent => Err(Refusal::NotReady),
+        Stage::Answered => Err(Refusal::NotReady),
+        Stage::Ended => Ok(Answer::Ended),
+    }
+}
+
+// What is answered for a call.
+#[tactic(auto, unfolding(crate::specs::Right::call_taken))]
+fn call_taken(alloc: Global, call: CallNo, own: &OwnCall, history: &History) -> Answered
+    ensures { IfOk result (λ answer. answer ≡ words.call_taken own.now (find (λ message. replies_to_word call message.item) history.now.work.replies) history.now) }
+{
+    match find_reply(call, history.work.replies.as_slice()) {
+        Some(message) => reply_taken(alloc, &message.item, history),
+        None => Ok(stage_taken(own.stage)),
+    }
+}
+
+/// TakeReply of a call.
+#[tactic(auto, unfolding(crate::specs::Right::right_take_reply, crate::specs::Right::own_call_taken))]
+pub fn take_reply(alloc: Global, call: CallNo, history: &History) -> Answered
+    ensures { IfOk result (λ answer. answer ≡ words.right_take_reply call history.now) }
+{
+    match find_call(call, history.work.calls.as_slice()) {
+        Some(own) => call_taken(alloc, call, &own, history),
+        None => Ok(Err(Refusal::NoCall)),
+    }
+}
+
+// How many jobs were claimed.
+fn jobs_made(deeds: &[Deed]) -> usize
+    ensures value { result ≡ words.jobs_made deeds.now }
+    ensures bound { result ≤ length deeds.now }
+{
+    match deeds {
+        [] => 0,
+        [Deed::Claim(_), older @ ..] => jobs_made(older) + 1,
+        [_, older @ ..] => jobs_made(older),
+    }
+}
+
+// The index that an item calls.
+fn target_of(item: &Item) -> u64
+    ensures { result ≡ words.target_of item.now }
+{
+    match item {
+        Item::Call { target, .. } => *target,
+        _ => 0,
+    }
+}
+
+// Whether one of these jobs has a target.
+fn is_running(target: u64, runs: &[Run]) -> bool
+    ensures { result ≡ list_any (λ run. words.target_of run.message.item == target) runs.now }
+{
+    runs.iter()
+        .any(|run| target_of(&run.message.item) == target)
+}
+
+// Whether no job that runs has the target of a message.
+fn is_free(work: &Work, message: &Message) -> bool
+    ensures { result ≡ words.is_free work.now message.now }
+{
+    !is_running(target_of(&message.item), work.running.as_slice())
+}
+
+// The first of some messages whose target isn't running.
+fn find_free<'a>(work: &Work, messages: &'a [Message]) -> Option<&'a Message>
+    ensures { option_map (λ message. message.now) result ≡ find (words.is_free work.now) messages.now }
+{
+    match messages {
+        [] => None,
+        [message, others @ ..] => {
+            if is_free(work, message) {
+                return Some(message);
+            }
+            find_free(work, others)
+        }
+    }
+}
+
+// The job of a number that an item is.
+#[tactic(auto, unfolding(crate::specs::Right::job_of))]
+fn job_of(job: JobNo, client: SpaceId, item: &Item) -> Answered
+    ensures { IfOk result (λ answer. answer ≡ words.job_of job client item.now) }
+{
+    match item {
+        Item::Call {
+            call,
+            target,
+            method,
+            value,
+        } => {
+            let value = value.copy()?;
+            Ok(Ok(Answer::Job(Job {
+                job,
+                client,
+                call: *call,
+                target: *target,
+                method: *method,
+                value,
+            })))
+        }
+        _ => Ok(Err(Refusal::Nothing)),
+    }
+}
+
+// What is answered where this is the message to claim.
+#[tactic(auto, unfolding(crate::specs::Right::claim_of))]
+fn claim_of(made: usize, message: &Message) -> Answered
+    ensures { IfOk result (λ answer. answer ≡ words.claim_of made (Some message.now)) }
+{
+    if made as u64 >= LAST_NUMBER {
+        return Ok(Err(Refusal::Limit));
+    }
+    job_of(JobNo::new(made as u64 + 1), message.from, &message.item)
+}
+
+/// Claim.
+#[tactic(auto, unfolding(crate::specs::Right::right_claim, crate::specs::Right::claim_of))]
+pub fn claim(history: &History) -> Answered
+    ensures { IfOk result (λ answer. answer ≡ words.right_claim history.now) }
+{
+    let made = jobs_made(history.deeds.as_slice());
+    match find_free(&history.work, history.work.ready.as_slice()) {
+        Some(message) => claim_of(made, message),
+        None => Ok(Err(Refusal::Nothing)),
+    }
+}
+
+// The value of an outcome, where it has one.
+fn outcome_refused(
+    alloc: Global,
+    space: SpaceId,
+    outcome: &Outcome,
+    history: &History,
+) -> Result<Option<Refusal>, AllocError>
+    ensures { IfOk result (λ refused. refused ≡ value_refused_word space history.now (value_of outcome.now)) }
+{
+    match outcome {
+        Outcome::Answer(value) => value_refused(alloc, space, value, history),
+        Outcome::Fault(value) => value_refused(alloc, space, value, history),
+        Outcome::NoMethod => value_refused(alloc, space, &Value::Unit, history),
+    }
+}
+
+// The newest job of this number that runs.
+fn find_run(job: JobNo, runs: &[Run]) -> Option<&Run>
+    ensures { option_map (λ run. run.now) result ≡ find (is_run job) runs.now }
+{
+    match runs {
+        [] => None,
+        [run, others @ ..] => {
+            if run.job == job {
+                return Some(run);
+            }
+            find_run(job, others)
+        }
+    }
+}
+
+// What is answered to the end of a job that runs.
+#[tactic(auto, unfolding(crate::specs::Right::finish_of))]
+fn finish_of(
+    alloc: Global,
+    space: SpaceId,
+    outcome: &Outcome,
+    run: &Run,
+    history: &History,
+) -> Answered
+    ensures { IfOk result (λ answer. answer ≡ words.finish_of space outcome.now (Some run.now) history.now) }
+{
+    let client = run.message.from;
+    if sessions::closed(client, history.deeds.as_slice()) {
+        return Ok(Ok(Answer::Dropped));
+    }
+    if let Some(refusal) = outcome_refused(alloc, space, outcome, history)? {
+        return Ok(Err(refusal));
+    }
+    if let Some(refusal) = send_refused(alloc, client, Kind::Limited, history)? {
+        return Ok(Err(refusal));
+    }
+    Ok(Ok(Answer::Finished))
+}
+
+/// Finish of a job.
+#[tactic(auto, unfolding(crate::specs::Right::right_finish, crate::specs::Right::finish_of))]
+pub fn finish(
+    alloc: Global,
+    space: SpaceId,
+    job: JobNo,
+    outcome: &Outcome,
+    history: &History,
+) -> Answered
+    ensures { IfOk result (λ answer. answer ≡ words.right_finish space job outcome.now history.now) }
+{
+    match find_run(job, history.work.running.as_slice()) {
+        Some(run) => finish_of(alloc, space, outcome, run, history),
+        None => Ok(Err(Refusal::NoJob)),
+    }
+}
+
+// What is answered where this is the front of the inbox.
+#[tactic(auto, unfolding(crate::specs::Right::act_of))]
+fn act_of(
+    alloc: Global,
+    here: &Here,
+    peer: SpaceId,
+    number: ItemNo,
+    payload: &[u8],
+    history: &History,
+) -> Answered
+    ensures { IfOk result (λ answer. answer ≡ words.act_of here.now.space here.now.n peer (Some (number, payload.now)) history.now) }
+{
+    let item = sessions::item_spelt(alloc, payload)?;
+    act_on(alloc, here, peer, number, &item, history)
+}
+
+// What is answered to acting on the first of the payloads that wait.
+#[tactic(auto, unfolding(crate::specs::Right::act_of))]
+fn act_on_first(
+    alloc: Global,
+    here: &Here,
+    peer: SpaceId,
+    number: ItemNo,
+    waiting: &[&[u8]],
+    history: &History,
+) -> Answered
+    ensures { IfOk result (λ answer. answer ≡ words.act_of here.now.space here.now.n peer (first_of number (texts waiting.now)) history.now) }
+{
+    match waiting {
+        [] => Ok(Err(Refusal::Nothing)),
+        [payload, ..] => act_of(alloc, here, peer, number, payload, history),
+    }
+}
+
+// What is answered to acting on the front of an open session's inbox.
+fn act_on_front(alloc: Global, here: &Here, peer: SpaceId, history: &History) -> Answered
+    ensures { IfOk result (λ answer. answer ≡ words.act_of here.now.space here.now.n peer (right_front (calls_word peer history.now)) history.now) }
+{
+    let calls = calls_at(alloc, peer, history)?;
+    let waiting = end_words::waiting(alloc, calls.as_slice())?;
+    let number = ItemNo::new(end_words::takes(calls.as_slice()) as u64 + 1);
+    act_on_first(alloc, here, peer, number, waiting.as_slice(), history)
+}
+
+/// Act on the next item from a peer.
+#[tactic(auto, unfolding(crate::specs::Right::right_act))]
+pub fn act(alloc: Global, here: &Here, peer: SpaceId, history: &History) -> Answered
+    ensures { IfOk result (λ answer. answer ≡ words.right_act here.now.space here.now.n peer history.now) }
+{
+    if !here.is_peer(peer) {
+        return Ok(Err(Refusal::NoPeer));
+    }
+    if sessions::closed(peer, history.deeds.as_slice()) {
+        return Ok(Err(Refusal::Closed));
+    }
+    act_on_front(alloc, here, peer, history)
+}
+
+// Whether a reference is resolved.
+fn is_resolved(
+    alloc: Global,
+    here: &Here,
+    deeds: &[Deed],
+    rep: &WireRep,
+) -> Result<bool, AllocError>
+    ensures { IfOk result (λ resolved. resolved ≡ is_resolved_word here.now.space here.now.n rep.now deeds.now) }
+{
+    if rep.owner == here.space {
+        return Ok(true);
+    }
+    if turns::is_usable(alloc, *here, *rep, deeds)? {
+        return Ok(true);
+    }
+    turns::is_lost(alloc, *here, *rep, deeds)
+}
+
+// Whether the references of all these copies are resolved.
+fn is_all_resolved(
+    alloc: Global,
+    here: &Here,
+    deeds: &[Deed],
+    copies: &[RefCopy],
+) -> Result<bool, AllocError>
+    ensures { IfOk result (λ resolved. resolved ≡ list_all (λ copy. is_resolved_word here.now.space here.now.n copy.rep deeds.now) copies.now) }
+{
+    match copies {
+        [] => Ok(true),
+        [copy, others @ ..] => {
+            if !is_resolved(alloc, here, deeds, &copy.rep)? {
+                return Ok(false);
+            }
+            is_all_resolved(alloc, here, deeds, others)
+        }
+    }
+}
+
+// Whether the references of a message are all resolved.
+fn is_ready(
+    alloc: Global,
+    here: &Here,
+    history: &History,
+    message: &Message,
+) -> Result<bool, AllocError>
+    ensures { IfOk result (λ ready. ready ≡ words.is_all_resolved here.now.space here.now.n history.now message.now) }
+{
+    is_all_resolved(
+        alloc,
+        here,
+        history.deeds.as_slice(),
+        message.copies.as_slice(),
+    )
+}
+
+// The first of some messages whose references are all resolved.
+fn find_resolved<'a>(
+    alloc: Global,
+    here: &Here,
+    history: &History,
+    messages: &'a [Message],
+) -> Result<Option<&'a Message>, AllocError>
+    ensures { IfOk result (λ found. option_map (λ message. message.now) found ≡ find (words.is_all_resolved here.now.space here.now.n history.now) messages.now) }
+{
+    match messages {
+        [] => Ok(None),
+        [message, others @ ..] => {
+            if is_ready(alloc, here, history, message)? {
+                return Ok(Some(message));
+            }
+            find_resolved(alloc, here, history, others)
+        }
+    }
+}
+
+// How many items settling a message gives.
+fn settle_count(
+    alloc: Global,
+    here: &Here,
+    message: &Message,
+    history: &History,
+) -> Result<usize, AllocError>
+    ensures value { IfOk result (λ count. count ≡ words.settle_count here.now.space here.now.n message.now message.now.item history.now) }
+    ensures bound { IfOk result (λ count. count ≤ 2) }
+{
+    match &message.item {
+        Item::Call { .. } => {
+            if is_lost_message(alloc, *here, history.deeds.as_slice(), message)? {
+                return Ok(2);
+            }
+            Ok(1)
+        }
+        _ => Ok(1),
+    }
+}
+
+// What is answered where this is the message to settle.
+#[tactic(auto, unfolding(crate::specs::Right::settle_of))]
+fn settle_of(alloc: Global, here: &Here, message: &Message, history: &History) -> Answered
+    ensures { IfOk result (λ answer. answer ≡ words.settle_of here.now.space here.now.n (Some message.now) history.now) }
+{
+    let count = settle_count(alloc, here, message, history)?;
+    if has_numbers(alloc, message.from, count, history)? {
+        return Ok(Ok(Answer::Settled(message.from, message.number)));
+    }
+    Ok(Err(Refusal::SeqEnd))
+}
+
+/// Settle.
+#[tactic(auto, unfolding(crate::specs::Right::right_settle, crate::specs::Right::settle_of))]
+pub fn settle(alloc: Global, here: &Here, history: &History) -> Answered
+    ensures { IfOk result (λ answer. answer ≡ words.right_settle here.now.space here.now.n history.now) }
+{
+    match find_resolved(alloc, here, history, history.work.waiting.as_slice())? {
+        Some(message) => settle_of(alloc, here, message, history),
+        None => Ok(Err(Refusal::Nothing)),
+    }
+}
+
+/// Clean.
+#[tactic(auto, unfolding(crate::specs::Right::right_clean, crate::specs::Right::clean_of))]
+pub fn clean(alloc: Global, here: &Here, history: &History) -> Answered
+    ensures { IfOk result (λ answer. answer ≡ words.right_clean here.now.space here.now.n history.now) }
+{
+    match first_idle(alloc, here, history)? {
+        Some(rep) => {
+            if has_numbers(alloc, rep.owner, 1, history)? {
+                return Ok(Ok(Answer::Cleaned(rep)));
+            }
+            Ok(Err(Refusal::SeqEnd))
+        }
+        None => Ok(Err(Refusal::Nothing)),
+    }
+}
+
+/// Withdraw of the object of an index.
+#[tactic(auto, unfolding(crate::specs::Right::right_withdraw))]
+pub fn withdraw(alloc: Global, space: SpaceId, index: u64, history: &History) -> Answered
+    ensures { IfOk result (λ answer. answer ≡ words.right_withdraw space index history.now) }
+{
+    if index == 0 {
+        return Ok(Err(Refusal::StillUsed(Use::Agent)));
+    }
+    let owner = space;
+    let rep = WireRep { owner, index };
+    if !objects::is_live(alloc, space, index, history.deeds.as_slice())? {
+        return Ok(Err(Refusal::NoObject));
+    }
+    if is_held(alloc, space, &rep, history)? {
+        return Ok(Err(Refusal::StillUsed(Use::Held)));
+    }
+    if pins(alloc, &rep, history)? != 0 {
+        return Ok(Err(Refusal::StillUsed(Use::InTransit)));
+    }
+    if is_any_listed(alloc, space, index, history.deeds.as_slice())? {
+        return Ok(Err(Refusal::StillUsed(Use::Listed)));
+    }
+    Ok(Ok(Answer::Withdrawn))
+}
+
+/// Transmit to a peer.
+#[tactic(auto, unfolding(crate::specs::Right::right_frames))]
+pub fn transmit(
+    alloc: Global,
+    here: &Here,
+    peer: SpaceId,
+    window: u64,
+    history: &History,
+) -> Answered
+    ensures { IfOk result (λ answer. answer ≡ words.right_frames here.now.space here.now.n peer window history.now) }
+{
+    if !here.is_peer(peer) {
+        return Ok(Err(Refusal::NoPeer));
+    }
+    let calls = calls_at(alloc, peer, history)?;
+    let frames = end::transmit(alloc, here.space, peer, window, calls.as_slice())?;
+    Ok(Ok(Answer::Frames(Frames::from_vec(frames))))
+}
+
+// What an arriving frame did, as the space's answer.
+fn arrival_of(arrived: Result<Arrived, EndRefusal>) -> Result<Answer, Refusal>
+    ensures { result ≡ words.arrival_of arrived }
+{
+    match arrived {
+        Ok(Arrived::Took(count)) => Ok(Answer::Took(count)),
+        Ok(Arrived::Closed(ending)) => Ok(Answer::Closed(ending.reason)),
+        Err(_) => Err(Refusal::NoPeer),
+    }
+}
+
+/// Arrive of a frame.
+#[tactic(auto, unfolding(crate::specs::Right::right_arrival))]
+pub fn arrive(alloc: Global, here: &Here, frame: &Frame, history: &History) -> Answered
+    ensures { IfOk result (λ answer. answer ≡ words.right_arrival here.now.space here.now.n frame.now history.now) }
+{
+    if frame.to != here.space || !here.is_peer(frame.from) {
+        return Ok(Err(Refusal::NoPeer));
+    }
+    let calls = calls_at(alloc, frame.from, history)?;
+    let arrived = end::arrive(alloc, here.space, frame.from, frame, calls.as_slice())?;
+    Ok(arrival_of(arrived))
+}
+
+// What a tick did, as the space's answer.
+fn tick_of(ticked: Result<Option<Ending>, EndRefusal>) -> Result<Answer, Refusal>
+    ensures { result ≡ words.tick_of ticked }
+{
+    match ticked {
+        Ok(None) => Ok(Answer::Done),
+        Ok(Some(ending)) => Ok(Answer::Closed(ending.reason)),
+        Err(_) => Err(Refusal::Closed),
+    }
+}
+
+/// Tick of the session with a peer.
+#[tactic(auto, unfolding(crate::specs::Right::right_ticks))]
+pub fn tick(alloc: Global, here: &Here, peer: SpaceId, retry: u64, history: &History) -> Answered
+    ensures { IfOk result (λ answer. answer ≡ words.right_ticks here.now.space here.now.n peer retry history.now) }
+{
+    if !here.is_peer(peer) {
+        return Ok(Err(Refusal::NoPeer));
+    }
+    let calls = calls_at(alloc, peer, history)?;
+    Ok(tick_of(end::tick(peer, retry, calls.as_slice())))
+}
+
+/// Close of the session with a peer.
+#[tactic(auto, unfolding(crate::specs::Right::right_closing))]
+pub fn close(here: &Here, peer: SpaceId, history: &History) -> Result<Answer, Refusal>
+    ensures { result ≡ words.right_closing here.now.space here.now.n peer history.now }
+{
+    if !here.is_peer(peer) {
+        return Err(Refusal::NoPeer);
+    }
+    if sessions::closed(peer, history.deeds.as_slice()) {
+        return Err(Refusal::Closed);
+    }
+    Ok(Answer::Closed(Reason::Asked))
+}
+
+/// The one right answer to an event after a history.
+#[tactic(auto, unfolding(crate::specs::Right::right_after))]
+pub fn after(
+    alloc: Global,
+    here: &Here,
+    limits: &Limits,
+    event: &Event,
+    history: &History,
+) -> Answered
+    ensures { IfOk result (λ answer. answer ≡ words.right_after here.now.space here.now.n limits.now history.now event.now) }
+{
+    match event {
+        Event::Export => export(alloc, here.space, history),
+        Event::Dup(rep) => dup(alloc, here.space, rep, history),
+        Event::Release(rep) => release(alloc, here.space, rep, history),
+        Event::Call { target, value, .. } => call(alloc, here, target, value, history),
+        Event::TakeReply(call) => take_reply(alloc, *call, history),
+        Event::Claim => claim(history),
+        Event::Finish(job, outcome) => finish(alloc, here.space, *job, outcome, history),
+        Event::Act(peer) => act(alloc, here, *peer, history),
+        Event::Settle => settle(alloc, here, history),
+        Event::Clean => clean(alloc, here, history),
+        Event::Withdraw(index) => withdraw(alloc, here.space, *index, history),
+        Event::Transmit(peer) => transmit(alloc, here, *peer, limits.window, history),
+        Event::Arrive(frame) => arrive(alloc, here, frame, history),
+        Event::Tick(peer) => tick(alloc, here, *peer, limits.retry, history),
+        Event::Close(peer) => Ok(close(here, *peer, history)),
+    }
+}
+
+/// The one right answer to an event after the entries of a space's list, the newest first.
+pub fn right(
+    alloc: Global,
+    here: &Here,
+    limits: &Limits,
+    entries: &[Entry],
+    event: &Event,
+) -> Answered
+    ensures { IfOk result (λ answer. answer ≡ words.right here.now.space here.now.n limits.now entries.now event.now) }
+{
+    let history = make_history(alloc, here, entries)?;
+    after(alloc, here, limits, event, &history)
+}
