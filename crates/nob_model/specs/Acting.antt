@@ -19,9 +19,9 @@ use Rattle.nob_model_work.specs.declared.work.OwnCall.{OwnCall}
 use Rattle.nob_model_work.specs.declared.work.Work.{Work}
 use Rattle.nob_model_work.specs.declared.gifts.Sending.{Sending}
 use Rattle.nob_model_work.specs.Gifts.{dirties_for}
-use Rattle.nob_model.specs.declared.history.History.{History}
-use Rattle.nob_model.specs.Ends.{items_to}
-use Rattle.nob_model.specs.Transit.{has_bundle, surrogates}
+use Rattle.nob_model_history.specs.declared.history.History.{History}
+use Rattle.nob_model_history.specs.Ends.{items_to}
+use Rattle.nob_model_history.specs.Transit.{has_bundle, surrogates}
 use Rattle.nob_model.specs.Sending.{is_own_and_gone, has_numbers}
 
 -- a fault where a test holds

@@ -33,21 +33,21 @@ use Rattle.nob_model_words.specs.Deeds.{deeds}
 use Rattle.nob_model_words.specs.Sessions.{is_peer, closed, item_spelt}
 use Rattle.nob_model_words.specs.Objects.{exports, is_live, live}
 use Rattle.nob_model_words.specs.Turns.{is_own, is_resolved}
-use Rattle.nob_model_work.specs.declared.message.Message.{Message}
+use Rattle.nob_model_words.specs.declared.message.Message.{Message}
 use Rattle.nob_model_work.specs.declared.work.Run.{Run}
 use Rattle.nob_model_work.specs.declared.work.Stage.{Stage}
 use Rattle.nob_model_work.specs.declared.work.Stage.TheVariants as stages
 use Rattle.nob_model_work.specs.declared.work.OwnCall.{OwnCall}
 use Rattle.nob_model_work.specs.declared.work.Work.{Work}
-use Rattle.nob_model_work.specs.Messages.{is_lost_message, replies_to}
+use Rattle.nob_model_words.specs.Messages.{is_lost_message, replies_to}
 use Rattle.nob_model_work.specs.Work.{is_call, is_run}
 use Rattle.nob_model_work.specs.Gifts.{value_of}
-use Rattle.nob_model.specs.declared.history.History.{History}
-use Rattle.nob_model.specs.Histories.{history}
-use Rattle.nob_model.specs.Ends.{calls_at}
-use Rattle.nob_model.specs.Holds.{times, hand, is_held}
-use Rattle.nob_model.specs.Transit.{pins, first_idle}
-use Rattle.nob_model.specs.Listing.{is_any_listed}
+use Rattle.nob_model_history.specs.declared.history.History.{History}
+use Rattle.nob_model_history.specs.Histories.{history}
+use Rattle.nob_model_history.specs.Ends.{calls_at}
+use Rattle.nob_model_history.specs.Holds.{times, hand, is_held}
+use Rattle.nob_model_history.specs.Transit.{pins, first_idle}
+use Rattle.nob_model_history.specs.Listing.{is_any_listed}
 use Rattle.nob_model.specs.Sending.{◌or_else◌, refuse_if, is_own_and_gone, value_refused, send_refused, has_numbers, unless}
 use Rattle.nob_model.specs.Acting.{act_on}
 

@@ -16,9 +16,9 @@ use Rattle.nob_model_types.specs.declared.refusal.Refusal.TheVariants as refusal
 use Rattle.nob_model_words.specs.Sessions.{closed}
 use Rattle.nob_model_words.specs.Objects.{is_live}
 use Rattle.nob_model_words.specs.Turns.{is_own}
-use Rattle.nob_model.specs.declared.history.History.{History}
-use Rattle.nob_model.specs.Ends.{calls_at}
-use Rattle.nob_model.specs.Holds.{is_held}
+use Rattle.nob_model_history.specs.declared.history.History.{History}
+use Rattle.nob_model_history.specs.Ends.{calls_at}
+use Rattle.nob_model_history.specs.Holds.{is_held}
 
 -- the first of two refusals
 infixr 20 ◌or_else◌

@@ -2,16 +2,16 @@
 
 ghost use Rattle.std.specs.Prelude.{◌≡◌, ◌≤◌, ◌&&◌, ◌==◌, not, IfOk, length};
 ghost use Rattle.std.specs.List.{list_any};
-ghost use Rattle.nob_model.specs.Ends.{items_to};
+ghost use Rattle.nob_model_history.specs.Ends.{items_to};
 ghost use Rattle.nob_model_words.specs.Objects.{is_live};
 ghost use Rattle.nob_model.specs.Sending.{is_own_and_gone as is_gone};
 ghost use Rattle.nob_model.specs.Acting as words;
 
-use crate::history::History;
 use crate::sending::{has_numbers, is_own_and_gone};
-use crate::transit::{has_bundle, surrogates};
 use nob_ids::{CallNo, ItemNo, Reason, SpaceId, WireRep};
 use nob_item::Item;
+use nob_model_history::History;
+use nob_model_history::transit::{has_bundle, surrogates};
 use nob_model_types::{Answer, Refusal};
 use nob_model_words::{Here, objects, turns};
 use nob_model_work::gifts::dirties_for;

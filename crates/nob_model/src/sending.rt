@@ -6,12 +6,12 @@ ghost use Rattle.nob_pickle.specs.Spelling.{refs_in};
 ghost use Rattle.nob_pickle.specs.Writing.{pickle_of};
 ghost use Rattle.nob_model.specs.Sending as words;
 
-use crate::ends::calls_at;
-use crate::history::History;
-use crate::holds::is_held;
 use nob_ids::{SpaceId, WireRep};
 use nob_model_end::right::LAST_ITEM;
 use nob_model_end::{EndRefusal, Kind, right, words as end_words};
+use nob_model_history::History;
+use nob_model_history::ends::calls_at;
+use nob_model_history::holds::is_held;
 use nob_model_types::Refusal;
 use nob_model_words::{objects, sessions};
 use nob_pickle::Value;

@@ -4,3 +4,5 @@ pub mod Deeds
 pub mod Sessions
 pub mod Objects
 pub mod Turns
+pub mod Same
+pub mod Messages

@@ -14,11 +14,11 @@ use Rattle.nob_model_words.specs.declared.deed.Deed.TheVariants.{Call, Finish, A
 use Rattle.nob_model_words.specs.Sessions.{is_peer, item_at}
 use Rattle.nob_model_words.specs.Objects.{is_exported, is_live}
 use Rattle.nob_model_words.specs.Turns.{wants_dirty, turns}
-use Rattle.nob_model_work.specs.declared.message.Message.{Message}
+use Rattle.nob_model_words.specs.declared.message.Message.{Message}
 use Rattle.nob_model_work.specs.declared.work.Run.{Run}
 use Rattle.nob_model_work.specs.declared.work.Work.{Work}
 use Rattle.nob_model_work.specs.declared.gifts.Sending.{Sending}
-use Rattle.nob_model_work.specs.Messages.{is_of, is_lost_message}
+use Rattle.nob_model_words.specs.Messages.{is_of, is_lost_message}
 use Rattle.nob_model_work.specs.Work.{is_run, work}
 
 -- each reference once, where it stands first

@@ -10,13 +10,13 @@ use Rattle.nob_model_types.specs.declared.answer.Job.{Job}
 use Rattle.nob_model_words.specs.declared.deed.Deed.{Deed}
 use Rattle.nob_model_words.specs.declared.deed.Deed.TheVariants.{Call, TakeReply, TakeEnd, Claim, Finish, DropReply, Act, Settle, Close}
 use Rattle.nob_model_words.specs.Sessions.{item_at}
-use Rattle.nob_model_work.specs.declared.message.Message.{Message}
+use Rattle.nob_model_words.specs.declared.message.Message.{Message}
 use Rattle.nob_model_work.specs.declared.work.Stage.{Stage}
 use Rattle.nob_model_work.specs.declared.work.Stage.TheVariants as stages
 use Rattle.nob_model_work.specs.declared.work.OwnCall.{OwnCall}
 use Rattle.nob_model_work.specs.declared.work.Run.{Run}
 use Rattle.nob_model_work.specs.declared.work.Work.{Work}
-use Rattle.nob_model_work.specs.Messages.{new_message, message_after, is_of, is_not_from, replies_to, is_job, is_lost_message}
+use Rattle.nob_model_words.specs.Messages.{new_message, message_after, is_of, is_not_from, replies_to, is_job, is_lost_message}
 
 -- a space that has done nothing has nothing in hand
 abbrev pub no_work : Work

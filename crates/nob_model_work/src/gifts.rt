@@ -7,15 +7,15 @@ ghost use Rattle.nob_item.specs.Kinds.{counted_in};
 ghost use Rattle.nob_item.specs.declared.item.Item.TheVariants as items;
 ghost use Rattle.nob_model_words.specs.Sessions.{is_peer, item_at};
 ghost use Rattle.nob_model_words.specs.Turns.{wants_dirty as is_wanted, turns as turns_word};
-ghost use Rattle.nob_model_work.specs.Messages.{is_of};
+ghost use Rattle.nob_model_words.specs.Messages.{is_of};
 ghost use Rattle.nob_model_work.specs.Work.{is_run, work as work_word};
 ghost use Rattle.nob_model_work.specs.Gifts as words;
 
-use crate::message::{self, Message, is_lost_message};
 use crate::work::{self, Run, Work};
 use nob_ids::{CallNo, ItemNo, JobNo, SpaceId, WireRep};
 use nob_item::Item;
 use nob_model_types::Outcome;
+use nob_model_words::message::{self, Message, is_lost_message};
 use nob_model_words::{Deed, Here, objects, sessions, turns};
 use nob_pickle::Value;
 use std::alloc::{AllocError, Global};

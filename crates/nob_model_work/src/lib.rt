@@ -4,11 +4,7 @@
 #![tactic(auto)]
 
 pub mod gifts;
-pub mod message;
-mod same;
 pub mod work;
 
 pub use gifts::{Past, Sending, Sendings};
-pub use message::{Loan, Message, Messages, RefCopies, RefCopy};
-pub use same::same_value;
 pub use work::{OwnCall, OwnCalls, Run, Runs, Stage, Work};

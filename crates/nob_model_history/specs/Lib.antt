@@ -1,0 +1,12 @@
+pub use Rattle.nob_model_end.specs.End
+pub use Rattle.nob_model_words.specs.Sessions
+pub use Rattle.nob_model_words.specs.Objects
+pub use Rattle.nob_model_words.specs.Turns
+pub use Rattle.nob_model_words.specs.Messages
+pub use Rattle.nob_model_work.specs.Work
+pub use Rattle.nob_model_work.specs.Gifts
+pub mod Histories
+pub mod Ends
+pub mod Holds
+pub mod Transit
+pub mod Listing

@@ -1,0 +1,381 @@
+//! What was sent, which of it is in transit, and the order of the Dirties.
+
+ghost use Rattle.std.specs.Prelude.{◌≡◌, ◌<◌, ◌≤◌, [], ◌∷◌, ◌++◌, ◌+◌, ◌&&◌, ◌==◌, not, IfOk, IfSome, Some, None, filter, find, flat_map, filter_map, length};
+ghost use Rattle.std.specs.List.{list_any};
+ghost use Rattle.nob_ids.specs.Names.{is_same};
+ghost use Rattle.nob_item.specs.Kinds.{counted_in};
+ghost use Rattle.nob_model_words.specs.Sessions.{closed};
+ghost use Rattle.nob_model_words.specs.Turns.{turns as turns_word, is_standing};
+ghost use Rattle.nob_model_history.specs.Transit as words;
+
+use crate::history::History;
+use crate::holds::{is_held, times};
+use nob_ids::{ItemNo, SpaceId, WireRep};
+use nob_item::Item;
+use nob_model_words::{Deed, Here, sessions, turns};
+use nob_model_work::{Sending, Sendings};
+use std::alloc::{AllocError, Global};
+
+/// An item that was sent to a peer, with its number.
+#[derive(Debug, Drop)]
+pub struct Parcel {
+    /// The peer.
+    pub to: SpaceId,
+    /// The number of the item.
+    pub number: ItemNo,
+    /// The item.
+    pub item: Item,
+}
+
+// How many items were sent to a peer.
+fn count_to(peer: SpaceId, parcels: &[Parcel]) -> usize
+    ensures value { result ≡ words.count_to peer parcels.now }
+    ensures bound { result ≤ length parcels.now }
+{
+    parcels.iter().filter(|parcel| parcel.to == peer).count()
+}
+
+// What was sent with one gift more.
+fn with_gift(gift: &Sending, mut parcels: Vec<Parcel>) -> Result<Vec<Parcel>, AllocError>
+    ensures { IfOk result (λ more. more.items ≡ parcels.items ++ record { to = gift.now.to; number = words.count_to gift.now.to parcels.items + 1; item = gift.now.item } ∷ []) }
+{
+    let to = gift.to;
+    let number = ItemNo::new(count_to(to, parcels.as_slice()) as u64 + 1);
+    let item = gift.item.copy()?;
+    parcels.push(Parcel { to, number, item })?;
+    Ok(parcels)
+}
+
+// What was sent with some gifts more.
+fn with_gifts(gifts: &[Sending], parcels: Vec<Parcel>) -> Result<Vec<Parcel>, AllocError>
+    ensures { IfOk result (λ more. more.items ≡ words.with_gifts parcels.items gifts.now) }
+{
+    match gifts {
+        [] => Ok(parcels),
+        [gift, rest @ ..] => {
+            let more = with_gift(gift, parcels)?;
+            with_gifts(rest, more)
+        }
+    }
+}
+
+// All that was sent, by what each deed gave.
+fn sent_of(alloc: Global, given: &[Sendings]) -> Result<Vec<Parcel>, AllocError>
+    ensures { IfOk result (λ parcels. parcels.items ≡ words.sent_of given.now) }
+{
+    match given {
+        [] => Ok(Vec::new(alloc)),
+        [gifts, before @ ..] => {
+            let parcels = sent_of(alloc, before)?;
+            with_gifts(gifts.as_slice(), parcels)
+        }
+    }
+}
+
+/// All that was sent, to all peers, the first first.
+pub fn sent(alloc: Global, history: &History) -> Result<Vec<Parcel>, AllocError>
+    ensures { IfOk result (λ parcels. parcels.items ≡ words.sent history.now) }
+{
+    sent_of(alloc, history.given.as_slice())
+}
+
+// Whether an item is the Settle of a number.
+fn is_settle_of(number: ItemNo, item: &Option<Item>) -> bool
+    ensures { result ≡ words.is_settle_of number item.now }
+{
+    match item {
+        Some(Item::Settle(settled)) => *settled == number,
+        _ => false,
+    }
+}
+
+/// Whether the Settle of an item from a peer was acted on.
+pub fn is_settled(
+    alloc: Global,
+    peer: SpaceId,
+    number: ItemNo,
+    deeds: &[Deed],
+) -> Result<bool, AllocError>
+    ensures { IfOk result (λ answer. answer ≡ words.is_settled peer number deeds.now) }
+{
+    match deeds {
+        [] => Ok(false),
+        [Deed::Act(from, item), older @ ..] => {
+            let came = sessions::item_at(alloc, *from, *item, older)?;
+            if *from == peer && is_settle_of(number, &came) {
+                return Ok(true);
+            }
+            is_settled(alloc, peer, number, older)
+        }
+        [_, older @ ..] => is_settled(alloc, peer, number, older),
+    }
+}
+
+// Whether what was sent has pins.
+fn is_pinned(alloc: Global, deeds: &[Deed], parcel: &Parcel) -> Result<bool, AllocError>
+    ensures { IfOk result (λ answer. answer ≡ words.is_pinned deeds.now parcel.now) }
+{
+    let reps = nob_item::counted_refs(alloc, &parcel.item)?;
+    if reps.as_slice().is_empty() {
+        return Ok(false);
+    }
+    if is_settled(alloc, parcel.to, parcel.number, deeds)? {
+        return Ok(false);
+    }
+    Ok(!sessions::closed(parcel.to, deeds))
+}
+
+// What was sent and has pins, of these.
+fn pinned_of(
+    alloc: Global,
+    deeds: &[Deed],
+    mut parcels: Vec<Parcel>,
+) -> Result<Vec<Parcel>, AllocError>
+    ensures { IfOk result (λ pinned. pinned.items ≡ filter (words.is_pinned deeds.now) parcels.items) }
+{
+    if parcels.is_empty() {
+        return Ok(parcels);
+    }
+    let first = parcels.remove(0);
+    let mut pinned = pinned_of(alloc, deeds, parcels)?;
+    if is_pinned(alloc, deeds, &first)? {
+        pinned.insert(0, first)?;
+    }
+    Ok(pinned)
+}
+
+/// The bundles of pins.
+pub fn bundles(alloc: Global, history: &History) -> Result<Vec<Parcel>, AllocError>
+    ensures { IfOk result (λ bundles. bundles.items ≡ words.bundles history.now) }
+{
+    let parcels = sent(alloc, history)?;
+    pinned_of(alloc, history.deeds.as_slice(), parcels)
+}
+
+/// Whether there is a bundle of an item to a peer.
+pub fn has_bundle(
+    alloc: Global,
+    peer: SpaceId,
+    number: ItemNo,
+    history: &History,
+) -> Result<bool, AllocError>
+    ensures { IfOk result (λ answer. answer ≡ words.has_bundle peer number history.now) }
+{
+    let bundles = bundles(alloc, history)?;
+    Ok(is_among(peer, number, bundles.as_slice()))
+}
+
+// Whether there is a parcel with an item to a peer among these.
+fn is_among(peer: SpaceId, number: ItemNo, parcels: &[Parcel]) -> bool
+    ensures { result ≡ words.is_some_of (filter (λ parcel. parcel.to == peer && parcel.number == number) parcels.now) }
+{
+    match parcels {
+        [] => false,
+        [parcel, others @ ..] => {
+            if parcel.to == peer && parcel.number == number {
+                return true;
+            }
+            is_among(peer, number, others)
+        }
+    }
+}
+
+// The counted references of parcels.
+fn refs_in_all(alloc: Global, parcels: &[Parcel]) -> Result<Vec<WireRep>, AllocError>
+    ensures { IfOk result (λ reps. reps.items ≡ flat_map (λ parcel. counted_in parcel.item) parcels.now) }
+{
+    match parcels {
+        [] => Ok(Vec::new(alloc)),
+        [parcel, others @ ..] => {
+            let mut rest = refs_in_all(alloc, others)?;
+            let mut reps = nob_item::counted_refs(alloc, &parcel.item)?;
+            reps.append(&mut rest)?;
+            Ok(reps)
+        }
+    }
+}
+
+/// How many pins a reference has.
+pub fn pins(alloc: Global, rep: &WireRep, history: &History) -> Result<usize, AllocError>
+    ensures { IfOk result (λ pins. pins ≡ words.pins rep.now history.now) }
+{
+    let bundles = bundles(alloc, history)?;
+    let reps = refs_in_all(alloc, bundles.as_slice())?;
+    Ok(times(rep, reps.as_slice()))
+}
+
+// The references of the Dirties among parcels.
+fn dirties_in(alloc: Global, parcels: &[Parcel]) -> Result<Vec<WireRep>, AllocError>
+    ensures { IfOk result (λ reps. reps.items ≡ filter_map (λ parcel. words.asks_for parcel.to parcel.item) parcels.now) }
+{
+    match parcels {
+        [] => Ok(Vec::new(alloc)),
+        [parcel, others @ ..] => {
+            let mut reps = dirties_in(alloc, others)?;
+            match &parcel.item {
+                Item::Dirty(index) => {
+                    let owner = parcel.to;
+                    let index = *index;
+                    reps.insert(0, WireRep { owner, index })?;
+                    Ok(reps)
+                }
+                _ => Ok(reps),
+            }
+        }
+    }
+}
+
+/// The references of all Dirties that were sent, the first first.
+pub fn dirties(alloc: Global, history: &History) -> Result<Vec<WireRep>, AllocError>
+    ensures { IfOk result (λ reps. reps.items ≡ words.dirties history.now) }
+{
+    let parcels = sent(alloc, history)?;
+    dirties_in(alloc, parcels.as_slice())
+}
+
+// Each reference once, where it stands last.
+fn once_last(alloc: Global, reps: &[WireRep]) -> Result<Vec<WireRep>, AllocError>
+    ensures { IfOk result (λ once. once.items ≡ words.once_last reps.now) }
+{
+    match reps {
+        [] => Ok(Vec::new(alloc)),
+        [rep, others @ ..] => {
+            let mut once = once_last(alloc, others)?;
+            if is_in(rep, others) {
+                return Ok(once);
+            }
+            once.insert(0, *rep)?;
+            Ok(once)
+        }
+    }
+}
+
+// Whether a reference is among others.
+fn is_in(rep: &WireRep, others: &[WireRep]) -> bool
+    ensures { result ≡ list_any (is_same rep.now) others.now }
+{
+    others.iter().any(|other| *rep == *other)
+}
+
+/// The references that were ever asked for, in order of their last Dirties.
+pub fn by_last_dirty(alloc: Global, history: &History) -> Result<Vec<WireRep>, AllocError>
+    ensures { IfOk result (λ reps. reps.items ≡ words.by_last_dirty history.now) }
+{
+    let asked = dirties(alloc, history)?;
+    once_last(alloc, asked.as_slice())
+}
+
+/// The place of a reference: how many Dirties were sent before its last one.
+pub fn place(alloc: Global, rep: &WireRep, history: &History) -> Result<Option<usize>, AllocError>
+    ensures { IfOk result (λ place. place ≡ words.place rep.now history.now) }
+{
+    let asked = dirties(alloc, history)?;
+    Ok(last_place(rep, asked.as_slice()))
+}
+
+// The place of the last of some references that is one.
+fn last_place(rep: &WireRep, reps: &[WireRep]) -> Option<usize>
+    ensures place { result ≡ words.last_place rep.now reps.now }
+    ensures bound { IfSome result (λ place. place < length reps.now) }
+{
+    match reps {
+        [] => None,
+        [other, others @ ..] => match last_place(rep, others) {
+            Some(place) => Some(place + 1),
+            None => {
+                if *rep == *other {
+                    return Some(0);
+                }
+                None
+            }
+        },
+    }
+}
+
+// Whether a reference has a surrogate on a session that is open here.
+fn is_surrogate(
+    alloc: Global,
+    here: &Here,
+    deeds: &[Deed],
+    rep: &WireRep,
+) -> Result<bool, AllocError>
+    ensures { IfOk result (λ answer. answer ≡ (is_standing (turns_word here.now.space here.now.n rep.now deeds.now) && not (closed rep.now.owner deeds.now))) }
+{
+    let turns = turns::turns_of(alloc, here, rep, deeds)?;
+    Ok(turns.is_standing() && !sessions::closed(rep.owner, deeds))
+}
+
+// The surrogates among some references.
+fn surrogates_of(
+    alloc: Global,
+    here: &Here,
+    deeds: &[Deed],
+    reps: &[WireRep],
+) -> Result<Vec<WireRep>, AllocError>
+    ensures { IfOk result (λ found. found.items ≡ filter (λ rep. is_standing (turns_word here.now.space here.now.n rep deeds.now) && not (closed rep.owner deeds.now)) reps.now) }
+{
+    match reps {
+        [] => Ok(Vec::new(alloc)),
+        [rep, others @ ..] => {
+            let mut found = surrogates_of(alloc, here, deeds, others)?;
+            if !is_surrogate(alloc, here, deeds, rep)? {
+                return Ok(found);
+            }
+            found.insert(0, *rep)?;
+            Ok(found)
+        }
+    }
+}
+
+/// The surrogates on sessions that are open here.
+pub fn surrogates(alloc: Global, here: &Here, history: &History) -> Result<Vec<WireRep>, AllocError>
+    ensures { IfOk result (λ reps. reps.items ≡ words.surrogates here.now.space here.now.n history.now) }
+{
+    let reps = by_last_dirty(alloc, history)?;
+    surrogates_of(alloc, here, history.deeds.as_slice(), reps.as_slice())
+}
+
+// Whether a surrogate can be given up.
+fn is_idle(alloc: Global, here: &Here, history: &History, rep: &WireRep) -> Result<bool, AllocError>
+    ensures { IfOk result (λ answer. answer ≡ words.is_idle here.now.space here.now.n history.now rep.now) }
+{
+    if !turns::is_usable(alloc, *here, *rep, history.deeds.as_slice())? {
+        return Ok(false);
+    }
+    if is_held(alloc, here.space, rep, history)? {
+        return Ok(false);
+    }
+    Ok(pins(alloc, rep, history)? == 0)
+}
+
+// The first of some references that can be given up.
+fn first_idle_of(
+    alloc: Global,
+    here: &Here,
+    history: &History,
+    reps: &[WireRep],
+) -> Result<Option<WireRep>, AllocError>
+    ensures { IfOk result (λ found. found ≡ find (words.is_idle here.now.space here.now.n history.now) reps.now) }
+{
+    match reps {
+        [] => Ok(None),
+        [rep, others @ ..] => {
+            if is_idle(alloc, here, history, rep)? {
+                return Ok(Some(*rep));
+            }
+            first_idle_of(alloc, here, history, others)
+        }
+    }
+}
+
+/// The first surrogate, in order of last Dirties, that can be given up.
+pub fn first_idle(
+    alloc: Global,
+    here: &Here,
+    history: &History,
+) -> Result<Option<WireRep>, AllocError>
+    ensures { IfOk result (λ found. found ≡ words.first_idle here.now.space here.now.n history.now) }
+{
+    let reps = by_last_dirty(alloc, history)?;
+    first_idle_of(alloc, here, history, reps.as_slice())
+}
