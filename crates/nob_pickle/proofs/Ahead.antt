@@ -1,10 +1,10 @@
 -- Values that are passed one after another: what each weighs, and that each is short.
-use Rattle.std.proofs.Common.{◌≡◌, ℕ, ◌+◌, ◌<◌, ◌≤◌, true, List, [], ◌∷◌, length, drop, get_or, sym, ap, ◌∙◌, length-append, arith}
+use Rattle.std.proofs.Common.{◌≡◌, ℕ, ◌+◌, ◌<◌, ◌≤◌, true, List, [], ◌∷◌, length, drop, get_or, refl, sym, ap, ◌∙◌, length-append, arith}
 use Prim.Native.Nat.{zero, suc}
 use Rattle.std.proofs.lemmas.Bool.{and_parts}
-use Rattle.nob_pickle.specs.Trees.{Tree, unit, int, bytes, list, ref, Trees, none, more, weight, weight_all}
+use Rattle.nob_pickle.specs.Trees.{Tree, unit, int, bytes, list, ref, Trees, none, more, weight, weight_all, elements_of}
 use Rattle.nob_pickle.specs.Shape.{tree, forest}
-use Rattle.nob_pickle.specs.Spelling.{spelling, spelled, spelled_all, head_length}
+use Rattle.nob_pickle.specs.Spelling.{spelled, spelled_all, head_length}
 use Rattle.nob_pickle.specs.Limits.{has_short_bytes, have_short_bytes, has_short_lists, have_short_lists}
 use Rattle.nob_pickle.specs.declared.value.Value.{Value}
 use Rattle.nob_pickle.proofs.Written.{first_ahead}
@@ -34,3 +34,19 @@ module _ (vs : List Value) (i : ℕ) (v : Value) (lt : i < length vs) (same : v 
 
   pub short_lists_ahead : have_short_lists (forest (drop i vs)) ≡ true → (has_short_lists (tree v) ≡ true) × (have_short_lists (forest (drop (i + 1) vs)) ≡ true)
   short_lists_ahead all = and_parts _ _ (sym (ap (λ (us : List Value). have_short_lists (forest us)) (first_ahead vs i v lt same)) ∙ all)
+
+-- a spelling is a head and the spellings of the elements
+pub head_and_elements : (t : Tree) → length (spelled t) ≡ head_length t + length (spelled_all (elements_of t))
+head_and_elements unit = refl
+head_and_elements (int n) = refl
+head_and_elements (bytes bs) = omega (arith, length-append (spelled (bytes [])) bs)
+head_and_elements (list ts) = omega arith
+head_and_elements (ref r) = refl
+
+-- elements weigh no more than their list
+pub elements_lighter : (t : Tree) → weight_all (elements_of t) ≤ weight t
+elements_lighter unit = omega arith
+elements_lighter (int n) = omega arith
+elements_lighter (bytes bs) = omega arith
+elements_lighter (list ts) = omega arith
+elements_lighter (ref r) = omega arith

@@ -1,5 +1,5 @@
 -- Values written so far, and those that are left.
-use Rattle.std.proofs.Common.{◌≡◌, ℕ, suc, ◌+◌, ◌<◌, List, [], ◌∷◌, ◌++◌, length, take, drop, get_or, Result, Ok, Err, sym, ap, ◌∙◌, append_assoc, drop-cons, add-one, subst}
+use Rattle.std.proofs.Common.{◌≡◌, ℕ, suc, ◌+◌, ◌<◌, List, [], ◌∷◌, ◌++◌, length, take, drop, get_or, Result, Ok, sym, ap, ◌∙◌, append_assoc, drop-cons, add-one, subst}
 use Rattle.std.proofs.lemmas.List.{take_more, append-nil}
 use Rattle.byteorder.specs.Endian.{big_bytes}
 use Rattle.nob_pickle.specs.Trees.{Tree, Trees, none, more, list}

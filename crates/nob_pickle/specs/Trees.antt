@@ -15,6 +15,14 @@ mutual
     none : Trees
     more : Tree → Trees → Trees
 
+-- the elements of a list: a tree that is none has none
+abbrev pub elements_of : Tree → Trees
+elements_of unit = none
+elements_of (int n) = none
+elements_of (bytes bs) = none
+elements_of (list ts) = ts
+elements_of (ref r) = none
+
 -- how many there are
 abbrev pub count : Trees → ℕ
 count none = 0

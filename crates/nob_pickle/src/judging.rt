@@ -10,6 +10,7 @@ ghost use Rattle.nob_pickle.specs.Writing.{references_left, list_left, left_afte
 use crate::fault::PickleFault;
 use crate::limits::{MOST_BYTES, MOST_ELEMENTS, MOST_IN_ALL, MOST_LEVELS, MOST_REFERENCES};
 use crate::value::Value;
+use crate::walking::elements;
 use nob_ids::WireRep;
 
 /// Whether the value has a pickle, or why it has none: P8 where the pickle would have more than 16,000 bytes; else
@@ -50,26 +51,13 @@ fn judged(value: &Value) -> Result<usize, PickleFault>
 }
 
 /// What is left of so much room behind the spelling of the value: None where the spelling is longer.
-#[cycle(room)]
+#[tactic(auto, using(crate::proofs::Ahead::head_and_elements))]
 fn room_after(value: &Value, room: usize) -> Option<usize>
     ensures { MatchOption result (room < length (spelling value.now)) (λ left. left + length (spelling value.now) ≡ room) }
 {
-    let left = room.checked_sub(head_len(value))?;
-    match value {
-        Value::List(values) => room_after_all(values.as_slice(), left),
-        Value::Unit | Value::Int(_) | Value::Bytes(_) | Value::Ref(_) => Some(left),
-    }
-}
-
-/// The same of values, one after another.
-#[cycle(room)]
-#[inline(always)]
-fn room_after_all(values: &[Value], room: usize) -> Option<usize>
-    ensures { MatchOption result (room < length (spelled_all (forest values.now))) (λ left. left + length (spelled_all (forest values.now)) ≡ room) }
-{
-    let mut left = room;
-    for value in values {
-        left = room_after(value, left)?;
+    let mut left = room.checked_sub(head_len(value))?;
+    for element in elements(value) {
+        left = room_after(element, left)?;
     }
     Some(left)
 }

@@ -4,6 +4,7 @@ ghost use Rattle.std.specs.Prelude.{◌≡◌, ◌∷◌, [], IfOk, MatchOption}
 ghost use Rattle.nob_pickle.specs.Shape.{tree, forest};
 ghost use Rattle.nob_pickle.specs.Spelling.{refs_in};
 ghost use Rattle.nob_pickle.specs.Parts.{parts, all_parts, parts_ahead};
+ghost use Rattle.nob_pickle.specs.Trees.{elements_of};
 
 use crate::value::Value;
 use nob_ids::WireRep;
@@ -52,8 +53,9 @@ fn next_part<'a>(ahead: &mut Vec<&'a [Value]>) -> Result<Option<&'a Value>, Allo
 }
 
 /// The elements of a list; none of another value.
-fn elements(value: &Value) -> &[Value]
-    ensures { parts (tree value.now) ≡ tree value.now ∷ all_parts (forest result.now) }
+pub(crate) fn elements(value: &Value) -> &[Value]
+    ensures inside { forest result.now ≡ elements_of (tree value.now) }
+    ensures parts { parts (tree value.now) ≡ tree value.now ∷ all_parts (forest result.now) }
 {
     match value {
         Value::List(inner) => inner.as_slice(),
