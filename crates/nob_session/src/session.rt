@@ -1,6 +1,6 @@
 //! One end of a session.
 
-ghost use Rattle.std.specs.Prelude.{◌≡◌, ◌≢◌, ◌+◌, ◌-◌, ◌<◌, ◌≤◌, ◌^◌, List, ℕ, Ok, Err, Some, None, Bool, true, false, ◌&&◌, ◌==◌, is_ok, nat_le, nat_lt, max, IfOk, IfErr, OnOk, OnErr, IsOk, IsOkUnless, length, take, vec_len, [], ◌∷◌};
+ghost use Rattle.std.specs.Prelude.{◌≡◌, ◌≢◌, ◌+◌, ◌-◌, ◌<◌, ◌≤◌, ◌^◌, List, ℕ, Ok, Err, Some, None, Bool, true, false, ◌&&◌, ◌==◌, is_ok, nat_le, nat_lt, max, IfOk, IfErr, IfSome, OnOk, OnErr, IsOk, IsOkUnless, length, take, vec_len, [], ◌∷◌};
 ghost use Rattle.nob_ids.specs.declared.limits.Limits.{Limits as LimitsOf};
 ghost use Rattle.nob_model_end.specs.declared.entry.EndEntry.{EndEntry};
 ghost use Rattle.nob_model_end.specs.declared.entry.EndEntry.TheVariants.{Send, Transmit, Arrive, Front, Take, IsOpen, Tick, Close};
@@ -373,6 +373,8 @@ impl Session {
         ensures open { is_ok result ≡ is_open_end self.old.end }
         ensures same { SameHanded self.old.end self.new.end }
         ensures ends { IfOk result (λ closed. EndsBy self.old.end self.new.end closed) }
+        ensures reason { IfOk result (λ closed. IfSome closed (λ ending. ending.reason ≡ Reason.RetriesUsedUp)) }
+        ensures refused { IfErr result (λ refusal. refusal ≡ EndRefusal.Closed) }
         ensures err { OnErr result (self.new.end ≡ self.old.end) }
         ensures room { KeepsRoom self.old self.new }
     {
@@ -397,6 +399,7 @@ impl Session {
         ensures same { SameHanded self.old.end self.new.end }
         ensures ends { IfOk result (λ closed. EndsBy self.old.end self.new.end (Some closed)) }
         ensures reason { IfOk result (λ closed. closed.reason ≡ reason) }
+        ensures refused { IfErr result (λ refusal. refusal ≡ EndRefusal.Closed) }
         ensures err { OnErr result (self.new.end ≡ self.old.end) }
         ensures room { KeepsRoom self.old self.new }
     {
