@@ -5,3 +5,4 @@ pub mod Runs
 pub mod Steps
 pub mod Keeping
 pub mod Playing
+pub mod Logs

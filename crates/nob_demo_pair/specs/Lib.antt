@@ -4,5 +4,6 @@ pub use Rattle.nob_frame.specs.Spelling
 pub mod Grammar
 pub mod Fronts
 pub mod Run
+pub mod Log
 pub mod Pairs
 pub mod Scripts

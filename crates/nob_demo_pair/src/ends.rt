@@ -1,6 +1,6 @@
 //! The steps on one end.
 
-ghost use Rattle.std.specs.Prelude.{◌≡◌, ◌++◌, ◌∷◌, List, ℕ, length, IfOk, IsTrue, OnOk, OnErr, ◌≢◌, []};
+ghost use Rattle.std.specs.Prelude.{◌≡◌, ◌++◌, ◌∷◌, List, ℕ, length, IfOk, IsTrue, IsOk, OnOk, OnErr, ◌≢◌, []};
 ghost use Rattle.nob_ids.specs.declared.limits.Limits.{Limits as LimitsOf};
 ghost use Rattle.nob_model_end.specs.declared.entry.EndEntry.{EndEntry};
 ghost use Rattle.std.specs.List.{AllByRecursion};
@@ -9,31 +9,64 @@ ghost use Rattle.nob_frame.specs.Spelling.{Fits, Spelt};
 ghost use Rattle.nob_session.specs.Items.{IsItem, IsPair};
 ghost use Rattle.nob_session.specs.Stands.{Stands};
 ghost use Rattle.nob_session.specs.Wire.{IsSpelling};
+ghost use Rattle.nob_session.specs.Calls.{next_of};
+ghost use Rattle.nob_model_end.specs.declared.entry.Kind.TheVariants.{Limited};
 ghost use Rattle.nob_demo_pair.specs.Fronts.{IsFront};
 ghost use Rattle.nob_demo_pair.specs.Run.{answer_text, arrive_text, call_answer, call_takes_memory, calls_of};
 ghost use Rattle.nob_model_end.specs.Right.{right_arrive, right_transmit};
 ghost use Rattle.nob_model_end.specs.declared.entry.EndEntry.TheVariants.{Arrive};
 
 use crate::answer::{Answer, Sent};
-use crate::step::Call;
+use crate::log::FrameLog;
+use crate::step::{Call, Side};
 use nob_frame::{Frame, Payload};
 use nob_ids::Reason;
 use nob_session::{Arrival, EndRefusal, Kind, Session, SessionError, wire};
 use std::alloc::{AllocError, Global};
 
-// Hands an item.
-pub fn put(session: &mut Session, item: Payload) -> Result<Answer, AllocError>
+// Hands an item, and keeps it for the frames that will carry it.
+pub fn put(
+    session: &mut Session,
+    frames: &mut FrameLog,
+    side: Side,
+    item: Payload,
+) -> Result<Answer, AllocError>
     requires { IsItem item }
     ensures answer { (me peer before : ℕ) (limits : LimitsOf) (L : List EndEntry) → Stands me peer limits session.old.end L →
         IfOk result (λ a. (answer_text a ≡ call_answer limits me peer (Call.Put item) before L) × Stands me peer limits session.new.end (calls_of limits me peer (Call.Put item) L ++ L)) }
     ensures err { OnErr result (session.new.end ≡ session.old.end) }
+    ensures frames { frames.new.frames ≡ frames.old.frames }
     ensures memory { (me peer : ℕ) (limits : LimitsOf) (L : List EndEntry) → Stands me peer limits session.old.end L →
         OnErr result (IsTrue (call_takes_memory (Call.Put item) L)) }
 {
+    match session.next(Kind::Limited) {
+        Ok(_) => hand(session, frames, side, item),
+        Err(refusal) => Ok(Answer::Refused(refusal)),
+    }
+}
+
+// Hands an item that the end will take, and keeps it. All growth comes first.
+fn hand(
+    session: &mut Session,
+    frames: &mut FrameLog,
+    side: Side,
+    item: Payload,
+) -> Result<Answer, AllocError>
+    requires item { IsItem item }
+    requires taken { IsOk (next_of Limited session.old.end) }
+    ensures answer { (me peer before : ℕ) (limits : LimitsOf) (L : List EndEntry) → Stands me peer limits session.old.end L →
+        IfOk result (λ a. (answer_text a ≡ call_answer limits me peer (Call.Put item) before L) × Stands me peer limits session.new.end (calls_of limits me peer (Call.Put item) L ++ L)) }
+    ensures err { OnErr result (session.new.end ≡ session.old.end) }
+    ensures frames { frames.new.frames ≡ frames.old.frames }
+{
+    let Ok(()) = session.reserve(1) else {
+        return Err(AllocError);
+    };
+    frames.add_item(side, &item)?;
     match session.send(item.into_vec(), Kind::Limited) {
         Ok(number) => Ok(Answer::Item(number)),
-        Err(SessionError::Refused(refusal)) => Ok(Answer::Refused(refusal)),
-        Err(SessionError::OutOfMemory) => Err(AllocError),
+        Err(SessionError::Refused(_)) => unreachable!(),
+        Err(SessionError::OutOfMemory) => unreachable!(),
     }
 }
 
@@ -117,28 +150,26 @@ fn hear(session: &mut Session, frame: &Frame) -> Result<Answer, AllocError>
     }
 }
 
-// Transmits onto the list of all frames. A transmit gives 64 frames at most, for which there is room first.
-pub fn send(session: &mut Session, frames: &mut Vec<Frame>) -> Result<Answer, AllocError>
+// Transmits onto the log of all frames. A transmit gives 64 frames at most, for which there is room first.
+pub fn send(session: &mut Session, frames: &mut FrameLog) -> Result<Answer, AllocError>
     ensures answer { (me peer : ℕ) (limits : LimitsOf) (L : List EndEntry) → Stands me peer limits session.old.end L →
-        IfOk result (λ a. (answer_text a ≡ call_answer limits me peer Call.Send (length frames.old.items) L) × Stands me peer limits session.new.end (calls_of limits me peer Call.Send L ++ L)) }
+        IfOk result (λ a. (answer_text a ≡ call_answer limits me peer Call.Send (length frames.old.frames) L) × Stands me peer limits session.new.end (calls_of limits me peer Call.Send L ++ L)) }
     ensures given { (me peer : ℕ) (limits : LimitsOf) (L : List EndEntry) → Stands me peer limits session.old.end L →
-        OnOk result (frames.new.items ≡ frames.old.items ++ right_transmit me peer limits.window L) }
+        OnOk result (frames.new.frames ≡ frames.old.frames ++ right_transmit me peer limits.window L) }
     ensures session { OnErr result (session.new.end ≡ session.old.end) }
-    ensures frames { OnErr result (frames.new.items ≡ frames.old.items) }
-    ensures spelt { IsPair session.old.end.me session.old.end.peer → AllByRecursion Fits frames.old.items → AllByRecursion Fits frames.new.items }
+    ensures frames { OnErr result (frames.new.frames ≡ frames.old.frames) }
+    ensures spelt { IsPair session.old.end.me session.old.end.peer → AllByRecursion Fits frames.old.frames → AllByRecursion Fits frames.new.frames }
 {
     frames.reserve(64)?;
-    let mut given = match session.transmit() {
+    let given = match session.transmit() {
         Ok(given) => given,
         Err(_) => return Err(AllocError),
     };
-    let before = frames.len() as u64;
+    let before = frames.len();
     let count = given.len() as u64;
-    let Ok(()) = frames.append(&mut given) else {
-        unreachable!();
-    };
     if count == 0 {
         return Ok(Answer::SentNothing);
     }
+    frames.add(given);
     Ok(Answer::Sent(Sent { before, count }))
 }

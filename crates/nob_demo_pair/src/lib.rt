@@ -2,7 +2,9 @@
 #![tactic(auto)]
 
 mod answer;
+mod batch;
 mod ends;
+mod log;
 mod pair;
 mod parse;
 mod script;

@@ -14,8 +14,8 @@ ghost use Rattle.nob_demo_pair.specs.Pairs.{PairStands, IsEndOf, IsPairOfEnds, e
 
 use crate::answer::Answer;
 use crate::ends;
+use crate::log::FrameLog;
 use crate::step::{Call, Side, Step};
-use nob_frame::Frame;
 use nob_ids::{Limits, SpaceId};
 use nob_session::{Session, wire};
 use std::alloc::{AllocError, Global};
@@ -27,7 +27,7 @@ pub struct Pair {
     alloc: Global,
     first: Session,
     second: Session,
-    frames: Vec<Frame>,
+    frames: FrameLog,
 }
 
 impl Model for Pair {
@@ -35,9 +35,9 @@ impl Model for Pair {
 
     ghost Value = { Ends };
 
-    ghost view = { λ pair. ends_of pair.first.end pair.second.end pair.frames.items };
+    ghost view = { λ pair. ends_of pair.first.end pair.second.end pair.frames.frames };
 
-    ghost invariant = { λ pair. IsPairOfEnds (ends_of pair.first.end pair.second.end pair.frames.items) };
+    ghost invariant = { λ pair. IsPairOfEnds (ends_of pair.first.end pair.second.end pair.frames.frames) };
 }
 
 impl Pair {
@@ -52,7 +52,7 @@ impl Pair {
             alloc,
             first: Session::open(alloc, one, two, limits)?,
             second: Session::open(alloc, two, one, limits)?,
-            frames: Vec::new(alloc),
+            frames: FrameLog::new(alloc),
         })
     }
 
@@ -89,22 +89,22 @@ fn call_on(
     alloc: Global,
     first: &mut Session,
     second: &mut Session,
-    frames: &mut Vec<Frame>,
+    frames: &mut FrameLog,
     side: Side,
     call: Call,
 ) -> Result<Answer, AllocError>
     requires call { IsCall call }
-    requires ends { IsPairOfEnds (ends_of first.old.end second.old.end frames.old.items) }
-    ensures answer { (limits : LimitsOf) (J : List PairEntry) → PairStands limits (ends_of first.old.end second.old.end frames.old.items) J →
-        IfOk result (λ a. (answer_text a ≡ step_answer limits (Step.At side call) J) × PairStands limits (ends_of first.new.end second.new.end frames.new.items) (entries_of limits (Step.At side call) J ++ J)) }
-    ensures err { OnErr result (ends_of first.new.end second.new.end frames.new.items ≡ ends_of first.old.end second.old.end frames.old.items) }
-    ensures memory { (limits : LimitsOf) (J : List PairEntry) → PairStands limits (ends_of first.old.end second.old.end frames.old.items) J →
+    requires ends { IsPairOfEnds (ends_of first.old.end second.old.end frames.old.frames) }
+    ensures answer { (limits : LimitsOf) (J : List PairEntry) → PairStands limits (ends_of first.old.end second.old.end frames.old.frames) J →
+        IfOk result (λ a. (answer_text a ≡ step_answer limits (Step.At side call) J) × PairStands limits (ends_of first.new.end second.new.end frames.new.frames) (entries_of limits (Step.At side call) J ++ J)) }
+    ensures err { OnErr result (ends_of first.new.end second.new.end frames.new.frames ≡ ends_of first.old.end second.old.end frames.old.frames) }
+    ensures memory { (limits : LimitsOf) (J : List PairEntry) → PairStands limits (ends_of first.old.end second.old.end frames.old.frames) J →
         OnErr result (IsTrue (takes_memory (Step.At side call) J)) }
-    ensures ends { IsPairOfEnds (ends_of first.new.end second.new.end frames.new.items) }
+    ensures ends { IsPairOfEnds (ends_of first.new.end second.new.end frames.new.frames) }
 {
     match side {
-        Side::First => call_at(alloc, first, frames, call),
-        Side::Second => call_at(alloc, second, frames, call),
+        Side::First => call_at(alloc, first, frames, side, call),
+        Side::Second => call_at(alloc, second, frames, side, call),
     }
 }
 
@@ -113,59 +113,50 @@ fn deliver(
     alloc: Global,
     first: &mut Session,
     second: &mut Session,
-    frames: &[Frame],
+    frames: &FrameLog,
     number: u64,
 ) -> Result<Answer, AllocError>
-    requires frames { AllByRecursion Fits frames.now }
-    ensures answer { (limits : LimitsOf) (J : List PairEntry) → PairStands limits (ends_of first.old.end second.old.end frames.now) J →
-        IfOk result (λ a. (answer_text a ≡ delivery_answer (frame_numbered number (all_given J)) J) × PairStands limits (ends_of first.new.end second.new.end frames.now) (arrival_of (frame_numbered number (all_given J)) J ++ J)) }
-    ensures memory { OnErr result (IsSome (frame_numbered number frames.now)) }
+    requires frames { AllByRecursion Fits frames.now.frames }
+    ensures answer { (limits : LimitsOf) (J : List PairEntry) → PairStands limits (ends_of first.old.end second.old.end frames.now.frames) J →
+        IfOk result (λ a. (answer_text a ≡ delivery_answer (frame_numbered number (all_given J)) J) × PairStands limits (ends_of first.new.end second.new.end frames.now.frames) (arrival_of (frame_numbered number (all_given J)) J ++ J)) }
+    ensures memory { OnErr result (IsSome (frame_numbered number frames.now.frames)) }
     ensures first { OnErr result (first.new.end ≡ first.old.end) }
     ensures second { OnErr result (second.new.end ≡ second.old.end) }
     ensures first_end { (me peer : ℕ) → IsEndOf me peer first.old.end → IsEndOf me peer first.new.end }
     ensures second_end { (me peer : ℕ) → IsEndOf me peer second.old.end → IsEndOf me peer second.new.end }
 {
-    let Some(frame) = numbered(frames, number) else {
+    let Some(frame) = frames.frame(number)? else {
         return Ok(Answer::NoFrame);
     };
-    let bytes = wire::to_bytes(alloc, frame)?;
+    let bytes = wire::to_bytes(alloc, &frame)?;
     if frame.to.get() == 1 {
         return ends::arrive(alloc, first, &bytes);
     }
     ends::arrive(alloc, second, &bytes)
 }
 
-// The frame of this number, counted from 1.
-fn numbered(frames: &[Frame], number: u64) -> Option<&Frame>
-    ensures number { MatchOption result (frame_numbered number frames.now ≡ None) (λ frame. frame_numbered number frames.now ≡ Some frame.now) }
-{
-    if number == 0 {
-        return None;
-    }
-    frames.get(number as usize - 1)
-}
-
 // Makes a call at an end.
 fn call_at(
     alloc: Global,
     session: &mut Session,
-    frames: &mut Vec<Frame>,
+    frames: &mut FrameLog,
+    side: Side,
     call: Call,
 ) -> Result<Answer, AllocError>
     requires { IsCall call }
     ensures answer { (me peer : ℕ) (limits : LimitsOf) (L : List EndEntry) → Stands me peer limits session.old.end L →
-        IfOk result (λ a. (answer_text a ≡ call_answer limits me peer call (length frames.old.items) L) × Stands me peer limits session.new.end (calls_of limits me peer call L ++ L)) }
+        IfOk result (λ a. (answer_text a ≡ call_answer limits me peer call (length frames.old.frames) L) × Stands me peer limits session.new.end (calls_of limits me peer call L ++ L)) }
     ensures given { (me peer : ℕ) (limits : LimitsOf) (L : List EndEntry) → Stands me peer limits session.old.end L →
-        OnOk result (frames.new.items ≡ frames_after limits me peer call L frames.old.items) }
+        OnOk result (frames.new.frames ≡ frames_after limits me peer call L frames.old.frames) }
     ensures session { OnErr result (session.new.end ≡ session.old.end) }
-    ensures frames { OnErr result (frames.new.items ≡ frames.old.items) }
+    ensures frames { OnErr result (frames.new.frames ≡ frames.old.frames) }
     ensures memory { (me peer : ℕ) (limits : LimitsOf) (L : List EndEntry) → Stands me peer limits session.old.end L →
         OnErr result (IsTrue (call_takes_memory call L)) }
     ensures end { (me peer : ℕ) → IsEndOf me peer session.old.end → IsEndOf me peer session.new.end }
-    ensures spelt { IsPair session.old.end.me session.old.end.peer → AllByRecursion Fits frames.old.items → AllByRecursion Fits frames.new.items }
+    ensures spelt { IsPair session.old.end.me session.old.end.peer → AllByRecursion Fits frames.old.frames → AllByRecursion Fits frames.new.frames }
 {
     match call {
-        Call::Put(item) => ends::put(session, item),
+        Call::Put(item) => ends::put(session, frames, side, item),
         Call::Send => ends::send(session, frames),
         Call::Get => ends::get(alloc, session),
         Call::Tick => Ok(ends::tick(session)),

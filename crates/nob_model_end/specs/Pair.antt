@@ -7,7 +7,7 @@ use Rattle.nob_model_end.specs.declared.entry.EndEntry.{EndEntry}
 use Rattle.nob_model_end.specs.declared.entry.EndEntry.TheVariants.{Send, Transmit, Arrive, Front, Take}
 use Rattle.nob_model_end.specs.declared.entry.PairEntry.{PairEntry}
 use Rattle.nob_model_end.specs.declared.entry.PairEntry.TheVariants.{First, Second}
-use Rattle.nob_model_end.specs.End.{is_open, handed, accepted, transmitted}
+use Rattle.nob_model_end.specs.End.{is_open, handed, lowest, accepted, transmitted}
 use Rattle.nob_model_end.specs.Right.{right_front, IsRight}
 
 -- the calls on the first end
@@ -86,9 +86,10 @@ pub record PairFronts (J : List PairEntry) : Type 0 where
 abbrev pub PairLaw : Type 0
 PairLaw = (a b : ℕ) (at_a at_b : Limits) (J : List PairEntry) → PairRun a b at_a at_b J → PairFronts J
 
--- how far the items of one end came: those that the other accepted are a beginning of those that were handed, and the highest number that was transmitted lies between
+-- how far the items of one end came: those that the other accepted are a beginning of those that were handed, the highest number that was transmitted lies between, and what is acknowledged was accepted
 pub record Reaches (sender receiver : List EndEntry) : Type 0 where
   pub front : IsBeginning (accepted receiver) (handed sender)
+  pub acknowledged_accepted : lowest sender ≤ length (accepted receiver) + 1
   pub accepted_transmitted : length (accepted receiver) ≤ transmitted sender
   pub transmitted_handed : transmitted sender ≤ length (handed sender)
 

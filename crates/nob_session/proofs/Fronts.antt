@@ -129,6 +129,35 @@ all_below : (t : ℕ) (frames : List Frame) → greatest_seq frames ≤ t → Al
 all_below t [] low = tt
 all_below t (frame ∷ frames) low = (λ d. omega (arith, low, seq_at frame (is_data frame.kind) d), all_below t frames (omega (arith, low)))
 
+-- ---- what a transmit's frames acknowledge
+
+-- a frame acknowledges what is accepted of at most n items
+abbrev pub Acks : ℕ → Frame → Type 0
+Acks n frame = frame.ack ≤ n + 1
+
+data_acks : (me peer ack n m : ℕ) (ps : List (List ℕ)) → ack ≤ m + 1 → AllByRecursion (Acks m) (data_frames me peer ack n ps)
+data_acks me peer ack n m [] low = tt
+data_acks me peer ack n m (p ∷ ps) low = (low, data_acks me peer ack (n + 1) m ps low)
+
+open_acks : (me peer ack n m : ℕ) (due : Bool) (ps : List (List ℕ)) → ack ≤ m + 1 → AllByRecursion (Acks m) (open_frames me peer ack n due ps)
+open_acks me peer ack n m true [] low = (low, tt)
+open_acks me peer ack n m false [] low = tt
+open_acks me peer ack n m due (p ∷ ps) low = data_acks me peer ack n m (p ∷ ps) low
+
+closed_acks : (me peer ack m : ℕ) (owes : Bool) (reason : Option Reason) → ack ≤ m + 1 → AllByRecursion (Acks m) (closed_frames me peer ack owes reason)
+closed_acks me peer ack m owes None low = tt
+closed_acks me peer ack m true (Some reason) low = (low, tt)
+closed_acks me peer ack m false (Some reason) low = tt
+
+either_acks : (b : Bool) (me peer ack n m : ℕ) (due owes : Bool) (reason : Option Reason) (ps : List (List ℕ)) → ack ≤ m + 1
+    → AllByRecursion (Acks m) (cond b (open_frames me peer ack n due ps) (closed_frames me peer ack owes reason))
+either_acks true me peer ack n m due owes reason ps low = open_acks me peer ack n m due ps low
+either_acks false me peer ack n m due owes reason ps low = closed_acks me peer ack m owes reason low
+
+transmit_acks : (me peer w : ℕ) (L : List EndEntry) → All (Acks (length (accepted L))) (right_transmit me peer w L)
+transmit_acks me peer w L = All-from_recursion (Acks (length (accepted L))) (right_transmit me peer w L)
+    (either_acks (is_open L) me peer (length (accepted L) + 1) (lowest L) (length (accepted L)) (data_arrived L) (owes_close L) (ending L) (take w (unacknowledged L)) (omega arith))
+
 -- ---- the invariant of one direction, from the calls of the sender to those of the receiver
 
 pub record Inv (sender receiver : List EndEntry) : Type 0 where
@@ -142,6 +171,9 @@ pub record Inv (sender receiver : List EndEntry) : Type 0 where
   pub rest : List (List ℕ)
   pub front : accepted receiver ++ rest ≡ handed sender
   pub low : length (accepted receiver) ≤ transmitted sender
+  -- what the receiver's frames acknowledge was accepted, and so was what the sender heard
+  pub acks : All (Acks (length (accepted receiver))) (given receiver)
+  pub heard : lowest sender ≤ length (accepted receiver) + 1
   -- what `front` told last is the first that waits
   pub looked : is_open receiver ≡ true → (item : ℕ × List ℕ) → told receiver ≡ Some item → right_front receiver ≡ Some item
   -- what was taken is a beginning of what was accepted, with its numbers
@@ -175,6 +207,8 @@ send_step kind payload n S R right i =
       rest = i.rest ++ payload ∷ [];
       front = sym (append_assoc (accepted R) i.rest (payload ∷ [])) ∙ ap (λ (hs : List (List ℕ)). hs ++ payload ∷ []) i.front;
       low = i.low;
+      acks = i.acks;
+      heard = i.heard;
       looked = i.looked;
       few = i.few;
       taken_is = i.taken_is;
@@ -194,17 +228,25 @@ transmit_step me peer window frames S R right i =
       rest = i.rest;
       front = i.front;
       low = omega (arith, i.low);
+      acks = i.acks;
+      heard = i.heard;
       looked = i.looked;
       few = i.few;
       taken_is = i.taken_is;
       while_open = i.while_open;
     }
 
+heard_low : (b : Bool) (m n k : ℕ) → m ≤ k + 1 → n ≤ k + 1 → cond b (max m n) m ≤ k + 1
+heard_low true m n k low more = omega arith
+heard_low false m n k low more = low
+
 -- a call of the sender keeps it
-sender_step : (me peer : ℕ) (limits : Limits) (e : EndEntry) (S R : List EndEntry) → IsRight me peer limits e S → Inv S R → Inv (e ∷ S) R
-sender_step me peer limits (Send payload kind (Ok n)) S R right i = send_step kind payload n S R right i
-sender_step me peer limits (Transmit frames) S R right i = transmit_step me peer limits.window frames S R right i
-sender_step me peer limits (_) S R right i = record { carried = i.carried; below = i.below; high = i.high; numbers = i.numbers; rest = i.rest; front = i.front; low = i.low; looked = i.looked; few = i.few; taken_is = i.taken_is; while_open = i.while_open }
+sender_step : (me peer : ℕ) (limits : Limits) (e : EndEntry) (S R : List EndEntry) → IsRight me peer limits e S → ArrivesFrom (given R) e → Inv S R → Inv (e ∷ S) R
+sender_step me peer limits (Send payload kind (Ok n)) S R right from i = send_step kind payload n S R right i
+sender_step me peer limits (Transmit frames) S R right from i = transmit_step me peer limits.window frames S R right i
+sender_step me peer limits (Arrive frame (Ok (arrived.Took k))) S R right from i =
+    record { carried = i.carried; below = i.below; high = i.high; numbers = i.numbers; rest = i.rest; front = i.front; low = i.low; acks = i.acks; heard = heard_low (is_open S && not (is_close frame.kind)) (lowest S) frame.ack (length (accepted R)) i.heard (All-contains (Acks (length (accepted R))) (given R) frame i.acks from); looked = i.looked; few = i.few; taken_is = i.taken_is; while_open = i.while_open }
+sender_step me peer limits (_) S R right from i = record { carried = i.carried; below = i.below; high = i.high; numbers = i.numbers; rest = i.rest; front = i.front; low = i.low; acks = i.acks; heard = i.heard; looked = i.looked; few = i.few; taken_is = i.taken_is; while_open = i.while_open }
 
 -- ---- a call of the receiver keeps it
 
@@ -284,6 +326,8 @@ arrive_step me peer limits frame k S R right from i =
       rest = placed.rest;
       front = same_front (accepted R) placed.front frame.payload i.rest placed.rest len (i.front ∙ sym placed.whole) ∙ i.front;
       low = omega (arith, next.1, given_before, length-append (accepted R) (frame.payload ∷ []));
+      acks = All-weaker (Acks (length (accepted R))) (Acks (length (accepted R ++ frame.payload ∷ []))) (λ f a. omega (arith, a, length-append (accepted R) (frame.payload ∷ []))) (given R) i.acks;
+      heard = omega (arith, i.heard, length-append (accepted R) (frame.payload ∷ []));
       looked = λ opened item e. front_stays (is_open R) (takes R) (accepted R) (frame.payload ∷ []) item i.few opened (i.looked opened item e);
       few = omega (arith, i.few, length-append (accepted R) (frame.payload ∷ []));
       taken_is = i.taken_is ∙ ap (numbered 1) (sym (take-append-le (takes R) (accepted R) (frame.payload ∷ []) i.few));
@@ -310,6 +354,8 @@ take_step S R right i =
       rest = i.rest;
       front = i.front;
       low = i.low;
+      acks = i.acks;
+      heard = i.heard;
       looked = λ o item none. absurd cc;
       few = omega (arith, next.1);
       taken_is =
@@ -323,14 +369,32 @@ take_step S R right i =
       while_open = (opened.0, i.while_open);
     }
 
+-- a transmit keeps it: its frames acknowledge what was accepted
+given_step : (me peer window : ℕ) (frames : List Frame) (S R : List EndEntry) → frames ≡ right_transmit me peer window R → Inv S R → Inv S (Transmit frames ∷ R)
+given_step me peer window frames S R right i = record {
+  carried = i.carried;
+  below = i.below;
+  high = i.high;
+  numbers = i.numbers;
+  rest = i.rest;
+  front = i.front;
+  low = i.low;
+  acks = All-append (Acks (length (accepted R))) (given R) frames i.acks (subst (λ (fs : List Frame). All (Acks (length (accepted R))) fs) (sym right) (transmit_acks me peer window R));
+  heard = i.heard;
+  looked = i.looked;
+  few = i.few;
+  taken_is = i.taken_is;
+  while_open = i.while_open;
+}
+
 -- a look keeps it: what it tells is the first that waits
 front_step : (answer : Option (ℕ × List ℕ)) (S R : List EndEntry) → answer ≡ right_front R → Inv S R → Inv S (Front answer ∷ R)
 front_step answer S R right i =
-    record { carried = i.carried; below = i.below; high = i.high; numbers = i.numbers; rest = i.rest; front = i.front; low = i.low; looked = λ opened item e. sym right ∙ e; few = i.few; taken_is = i.taken_is; while_open = i.while_open }
+    record { carried = i.carried; below = i.below; high = i.high; numbers = i.numbers; rest = i.rest; front = i.front; low = i.low; acks = i.acks; heard = i.heard; looked = λ opened item e. sym right ∙ e; few = i.few; taken_is = i.taken_is; while_open = i.while_open }
 
 -- so does a call that closes: nothing waits then
-closing_step : (e : EndEntry) (S R : List EndEntry) → accepted (e ∷ R) ≡ accepted R → takes (e ∷ R) ≡ takes R → taken (e ∷ R) ≡ taken R → is_open (e ∷ R) ≡ false → TakesWhileOpen (e ∷ R) → Inv S R → Inv S (e ∷ R)
-closing_step e S R same_accepted same_takes same_taken closed while_open i = record {
+closing_step : (e : EndEntry) (S R : List EndEntry) → accepted (e ∷ R) ≡ accepted R → given (e ∷ R) ≡ given R → takes (e ∷ R) ≡ takes R → taken (e ∷ R) ≡ taken R → is_open (e ∷ R) ≡ false → TakesWhileOpen (e ∷ R) → Inv S R → Inv S (e ∷ R)
+closing_step e S R same_accepted same_given same_takes same_taken closed while_open i = record {
   carried = i.carried;
   below = i.below;
   high = i.high;
@@ -338,6 +402,8 @@ closing_step e S R same_accepted same_takes same_taken closed while_open i = rec
   rest = i.rest;
   front = subst (λ (xs : List (List ℕ)). xs ++ i.rest ≡ handed S) (sym same_accepted) i.front;
   low = subst (λ (xs : List (List ℕ)). length xs ≤ transmitted S) (sym same_accepted) i.low;
+  acks = subst (λ (fs : List Frame). All (Acks (length (accepted (e ∷ R)))) fs) (sym same_given) (subst (λ (xs : List (List ℕ)). All (Acks (length xs)) (given R)) (sym same_accepted) i.acks);
+  heard = subst (λ (xs : List (List ℕ)). lowest S ≤ length xs + 1) (sym same_accepted) i.heard;
   looked = λ opened item told_it. let no : true ≡ false = sym opened ∙ closed in absurd cc;
   few = subst (λ (n : ℕ). n ≤ length (accepted (e ∷ R))) (sym same_takes) (subst (λ (xs : List (List ℕ)). takes R ≤ length xs) (sym same_accepted) i.few);
   taken_is = same_taken ∙ i.taken_is ∙ ap (λ (n : ℕ). numbered 1 (take n (accepted R))) (sym same_takes) ∙ ap (λ (xs : List (List ℕ)). numbered 1 (take (takes (e ∷ R)) xs)) (sym same_accepted);
@@ -348,15 +414,16 @@ receiver_step : (me peer : ℕ) (limits : Limits) (e : EndEntry) (S R : List End
 receiver_step me peer limits (Arrive frame (Ok (arrived.Took (suc k)))) S R right from i = arrive_step me peer limits frame k S R right from i
 receiver_step me peer limits Take S R right from i = take_step S R right i
 receiver_step me peer limits (Front answer) S R right from i = front_step answer S R right i
-receiver_step me peer limits (Arrive frame (Ok (arrived.Closed ending))) S R right from i = closing_step (Arrive frame (Ok (arrived.Closed ending))) S R refl refl refl refl i.while_open i
-receiver_step me peer limits (Tick (Ok (Some ending))) S R right from i = closing_step (Tick (Ok (Some ending))) S R refl refl refl refl i.while_open i
-receiver_step me peer limits (Close why (Ok ending)) S R right from i = closing_step (Close why (Ok ending)) S R refl refl refl refl i.while_open i
-receiver_step me peer limits (_) S R right from i = record { carried = i.carried; below = i.below; high = i.high; numbers = i.numbers; rest = i.rest; front = i.front; low = i.low; looked = i.looked; few = i.few; taken_is = i.taken_is; while_open = i.while_open }
+receiver_step me peer limits (Transmit frames) S R right from i = given_step me peer limits.window frames S R right i
+receiver_step me peer limits (Arrive frame (Ok (arrived.Closed ending))) S R right from i = closing_step (Arrive frame (Ok (arrived.Closed ending))) S R refl refl refl refl refl i.while_open i
+receiver_step me peer limits (Tick (Ok (Some ending))) S R right from i = closing_step (Tick (Ok (Some ending))) S R refl refl refl refl refl i.while_open i
+receiver_step me peer limits (Close why (Ok ending)) S R right from i = closing_step (Close why (Ok ending)) S R refl refl refl refl refl i.while_open i
+receiver_step me peer limits (_) S R right from i = record { carried = i.carried; below = i.below; high = i.high; numbers = i.numbers; rest = i.rest; front = i.front; low = i.low; acks = i.acks; heard = i.heard; looked = i.looked; few = i.few; taken_is = i.taken_is; while_open = i.while_open }
 
 -- ---- both directions, over whole runs
 
 none : Inv [] []
-none = record { carried = All-nil (Carries []); below = All-nil (Below 0); high = omega arith; numbers = refl; rest = []; front = refl; low = omega arith; looked = λ opened item e. absurd cc; few = omega arith; taken_is = refl; while_open = tt }
+none = record { carried = All-nil (Carries []); below = All-nil (Below 0); high = omega arith; numbers = refl; rest = []; front = refl; low = omega arith; acks = All-nil (Acks 0); heard = omega arith; looked = λ opened item e. absurd cc; few = omega arith; taken_is = refl; while_open = tt }
 
 fronts_of : (S R : List EndEntry) → Inv S R → IsBeginning (taken R) (sent S)
 fronts_of S R i =
@@ -368,16 +435,16 @@ fronts_of S R i =
     )
 
 reach_of : (S R : List EndEntry) → Inv S R → Reaches S R
-reach_of S R i = record { front = (i.rest, i.front); accepted_transmitted = i.low; transmitted_handed = i.high }
+reach_of S R i = record { front = (i.rest, i.front); acknowledged_accepted = i.heard; accepted_transmitted = i.low; transmitted_handed = i.high }
 
 both : (a b : ℕ) (at_a at_b : Limits) (J : List PairEntry) → PairRun a b at_a at_b J → Inv (first_calls J) (second_calls J) × Inv (second_calls J) (first_calls J)
 both a b at_a at_b [] run = (none, none)
 both a b at_a at_b (First e ∷ J) run =
     let i = both a b at_a at_b J run.0 in
-    (sender_step a b at_a e (first_calls J) (second_calls J) run.1 i.0, receiver_step a b at_a e (second_calls J) (first_calls J) run.1 run.2 i.1)
+    (sender_step a b at_a e (first_calls J) (second_calls J) run.1 run.2 i.0, receiver_step a b at_a e (second_calls J) (first_calls J) run.1 run.2 i.1)
 both a b at_a at_b (Second e ∷ J) run =
     let i = both a b at_a at_b J run.0 in
-    (receiver_step b a at_b e (first_calls J) (second_calls J) run.1 run.2 i.0, sender_step b a at_b e (second_calls J) (first_calls J) run.1 i.1)
+    (receiver_step b a at_b e (first_calls J) (second_calls J) run.1 run.2 i.0, sender_step b a at_b e (second_calls J) (first_calls J) run.1 run.2 i.1)
 
 -- the pair law
 pub pair_law : PairLaw

@@ -9,8 +9,8 @@ pub fn pair()
     ensures { PairLaw }
 {}
 
-/// For every such list, what one end accepted is a beginning of what was handed to the other, and the highest number
-/// that was transmitted lies between.
+/// For every such list, what one end accepted is a beginning of what was handed to the other, the highest number that
+/// was transmitted lies between, and what is acknowledged was accepted.
 pub fn accepted()
     ensures { AcceptedLaw }
 {}

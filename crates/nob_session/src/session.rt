@@ -1,6 +1,6 @@
 //! One end of a session.
 
-ghost use Rattle.std.specs.Prelude.{◌≡◌, ◌≢◌, ◌+◌, ◌-◌, ◌<◌, ◌≤◌, ◌^◌, List, ℕ, Ok, Err, Some, None, Bool, true, false, ◌&&◌, ◌==◌, is_ok, nat_le, nat_lt, max, IfOk, IfErr, OnOk, OnErr, IsOk, IsOkUnless, length, take, vec_len, [], ◌∷◌};
+ghost use Rattle.std.specs.Prelude.{◌≡◌, ◌≢◌, ◌+◌, ◌-◌, ◌<◌, ◌≤◌, ◌^◌, List, ℕ, Ok, Err, Some, None, Bool, true, false, ◌&&◌, ◌==◌, is_ok, nat_le, nat_lt, max, IfOk, IfErr, IfSome, OnOk, OnErr, IsOk, IsOkUnless, length, take, vec_len, [], ◌∷◌};
 ghost use Rattle.nob_ids.specs.declared.limits.Limits.{Limits as LimitsOf};
 ghost use Rattle.nob_model_end.specs.declared.entry.EndEntry.{EndEntry};
 ghost use Rattle.nob_model_end.specs.declared.entry.EndEntry.TheVariants.{Send, Transmit, Arrive, Front, Take, IsOpen, Tick, Close};
@@ -149,8 +149,7 @@ impl Session {
         ensures next { Answered (λ n. n) result (λ answer. answer ≡ next_of kind self.old.end) }
         ensures handed { OnOk result (self.new.end ≡ with_item self.old.end payload.items) }
         ensures err { OnErr result (self.new.end ≡ self.old.end) }
-        ensures memory_last { (me peer : ℕ) (limits : LimitsOf) (L : List EndEntry) → Stands me peer limits self.old.end L →
-            result ≡ Err SessionError.OutOfMemory → IsOk (right.right_send kind L) }
+        ensures memory_last { result ≡ Err SessionError.OutOfMemory → IsOk (next_of kind self.old.end) }
         ensures reserved { 0 < self.old.room → result ≢ Err SessionError.OutOfMemory }
         ensures room { self.old.room ≤ self.new.room + 1 }
         ensures err_room { OnErr result (self.old.room ≤ self.new.room) }
@@ -199,8 +198,7 @@ impl Session {
         ensures spelt { IsPair self.old.end.me self.old.end.peer → IfOk result (λ frames. AllByRecursion Fits frames.items) }
         ensures memory { IsOkUnless result SessionError.OutOfMemory }
         // Memory is wanted only where there is something to give.
-        ensures memory_last { (me peer : ℕ) (limits : LimitsOf) (L : List EndEntry) → Stands me peer limits self.old.end L →
-            OnErr result (right.right_transmit me peer limits.window L ≢ []) }
+        ensures memory_last { OnErr result (frames_of self.old.end ≢ []) }
         ensures room { self.old.room ≤ self.new.room }
     {
         let frames = self.frames()?;
@@ -373,6 +371,8 @@ impl Session {
         ensures open { is_ok result ≡ is_open_end self.old.end }
         ensures same { SameHanded self.old.end self.new.end }
         ensures ends { IfOk result (λ closed. EndsBy self.old.end self.new.end closed) }
+        ensures reason { IfOk result (λ closed. IfSome closed (λ ending. ending.reason ≡ Reason.RetriesUsedUp)) }
+        ensures refused { IfErr result (λ refusal. refusal ≡ EndRefusal.Closed) }
         ensures err { OnErr result (self.new.end ≡ self.old.end) }
         ensures room { KeepsRoom self.old self.new }
     {
@@ -397,6 +397,7 @@ impl Session {
         ensures same { SameHanded self.old.end self.new.end }
         ensures ends { IfOk result (λ closed. EndsBy self.old.end self.new.end (Some closed)) }
         ensures reason { IfOk result (λ closed. closed.reason ≡ reason) }
+        ensures refused { IfErr result (λ refusal. refusal ≡ EndRefusal.Closed) }
         ensures err { OnErr result (self.new.end ≡ self.old.end) }
         ensures room { KeepsRoom self.old self.new }
     {

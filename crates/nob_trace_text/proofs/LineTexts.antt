@@ -1,10 +1,10 @@
 -- The first line of a text.
-use Rattle.std.proofs.Common.{◌≡◌, ℕ, zero, suc, ◌+◌, ◌<◌, ◌≤◌, Bool, true, false, cond, List, [], ◌∷◌, not, ltb, length, take, drop, Option, Some, None, refl, sym, ap, subst, ◌∙◌, arith}
-use Rattle.std.specs.List.{slice_split, onto_first, position, position_or_len, count_by}
+use Rattle.std.proofs.Common.{◌≡◌, ℕ, ◌+◌, ◌<◌, ◌≤◌, Bool, true, false, cond, List, [], ◌∷◌, not, ltb, length, take, drop, Some, None, refl, sym, ap, subst, ◌∙◌, arith}
+use Rattle.std.specs.List.{slice_split, onto_first, position, position_or_len}
 use Rattle.std.proofs.lemmas.Bool.{ltb-true, ltb-false}
 use Rattle.std.proofs.lemmas.List.{take_all, drop_all}
-use Rattle.std.proofs.lemmas.List.Splits.{slice_split_first, slice_split-cons_no, length-slice_split}
-use Rattle.nob_trace_text.specs.Lines.{is_newline, last_line, without_empty_end, lines_of}
+use Rattle.std.proofs.lemmas.List.Splits.{slice_split_first, length-slice_split}
+use Rattle.nob_trace_text.specs.Lines.{is_newline, unless_empty, without_empty_end, lines_of}
 
 -- a line before others stays
 line_before : (line : List ℕ) (lines : List (List ℕ)) → 0 < length lines → without_empty_end (line ∷ lines) ≡ line ∷ without_empty_end lines
@@ -31,9 +31,9 @@ one_part : (text : List ℕ) → length text ≤ position_or_len is_newline text
 one_part [] few = refl
 one_part (x ∷ xs) few = step (is_newline x) x xs (position_or_len is_newline xs) (slice_split is_newline xs) few (one_part xs)
 
-last_some : (text : List ℕ) → 0 < length text → last_line text ≡ text ∷ []
-last_some [] some = absurd (omega (arith, some))
-last_some (byte ∷ bytes) some = refl
+some_kept : (text : List ℕ) → 0 < length text → unless_empty text ≡ text ∷ []
+some_kept [] some = absurd (omega (arith, some))
+some_kept (byte ∷ bytes) some = refl
 
 -- the first line ends at the first newline
 pub newline_first : (text : List ℕ) (end : ℕ) → position is_newline text ≡ Some end → lines_of text ≡ take end text ∷ lines_of (drop (end + 1) text)
@@ -47,5 +47,5 @@ newline_first text end is =
 pub newline_none : (text front rest : List ℕ) → 0 < length text → position is_newline text ≡ None → front ≡ take (length text) text → rest ≡ drop (length text) text → lines_of text ≡ front ∷ lines_of rest
 newline_none text front rest some is at_front at_rest =
     let few : length text ≤ position_or_len is_newline text = ltb-false _ _ (none (ltb (position_or_len is_newline text) (length text)) (position_or_len is_newline text) is) in
-    let all : lines_of text ≡ text ∷ [] = ap without_empty_end (one_part text few) ∙ last_some text some in
+    let all : lines_of text ≡ text ∷ [] = ap without_empty_end (one_part text few) ∙ some_kept text some in
     all ∙ ap (λ (line : List ℕ). line ∷ []) (sym (at_front ∙ take_all (length text) text (omega arith))) ∙ ap (λ (left : List ℕ). front ∷ lines_of left) (sym (at_rest ∙ drop_all (length text) text (omega arith)))

@@ -11,5 +11,5 @@ invariant_of-result c =
     record {
       first = (c.args.limits, [], subst (λ (n : ℕ). Stands n 2 c.args.limits c.in_ok-open.field-0.end []) one (subst (λ (n : ℕ). Stands c.in-Some-Some.one n c.args.limits c.in_ok-open.field-0.end []) two c.in_ok-open.ensures));
       second = (c.args.limits, [], subst (λ (n : ℕ). Stands n 1 c.args.limits c.in_ok-open-2.field-0.end []) two (subst (λ (n : ℕ). Stands c.in-Some-Some.two n c.args.limits c.in_ok-open-2.field-0.end []) one c.in_ok-open-2.ensures));
-      frames = subst (AllByRecursion Fits) (sym c.new-3.ensures.items) tt;
+      frames = subst (AllByRecursion Fits) (sym c.new-3.ensures) tt;
     }
