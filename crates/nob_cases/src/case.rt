@@ -18,6 +18,8 @@ pub enum Case {
     Codec(CodecCase),
     /// A call on an end of a session.
     End(EndCase),
+    /// A call on an end of a session by the plain program of the definitions.
+    Plain(EndCase),
     /// A call on an object table.
     Table(TableCase),
     /// A call on dirty sets.
@@ -36,6 +38,7 @@ pub fn case_of(alloc: Global, line: &str) -> Result<(Case, u64), Unanswered> {
 fn lone_case(alloc: Global, words: &[&str]) -> Result<Case, Unanswered> {
     match words {
         ["session", words @ ..] => Ok(Case::End(end_case(alloc, words)?)),
+        ["plain", words @ ..] => Ok(Case::Plain(end_case(alloc, words)?)),
         ["table", words @ ..] => Ok(Case::Table(table_case(alloc, words)?)),
         ["dirty", words @ ..] => Ok(Case::Set(set_case(alloc, words)?)),
         ["encode", words @ ..] => Ok(Case::Codec(writing_case(alloc, words)?)),

@@ -9,6 +9,7 @@ mod case;
 mod codecs;
 mod ends;
 mod items;
+mod plain;
 mod sets;
 mod stage;
 mod tables;
