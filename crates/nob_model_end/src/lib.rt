@@ -10,6 +10,3 @@ pub mod words;
 
 pub use entry::{Arrived, EndEntry, Ending, Frames, Kind, PairEntry};
 pub use refusal::EndRefusal;
-
-#[cfg(test)]
-mod tests;
