@@ -4,9 +4,11 @@ use crate::codecs::CodecCase;
 use crate::ends::EndCase;
 use crate::sets::SetCase;
 use crate::tables::TableCase;
+use crate::transit::PinCase;
 use crate::unanswered::Unanswered;
 use crate::values::{deep_value, value};
 use crate::{items, words};
+use nob_ids::ItemNo;
 use nob_session::Kind;
 use nob_table::Part;
 use std::alloc::Global;
@@ -24,10 +26,15 @@ pub enum Case {
     Table(TableCase),
     /// A call on dirty sets.
     Set(SetCase),
+    /// The calls on a pin table from its beginning to its end.
+    Pins(Vec<PinCase>),
 }
 
 /// The case that a line spells, and how often it is to be made: once where the line doesn't say it.
 pub fn case_of(alloc: Global, line: &str) -> Result<(Case, u64), Unanswered> {
+    if let Some(calls) = line.strip_prefix("pins ") {
+        return Ok((Case::Pins(pin_cases(alloc, calls)?), 1));
+    }
     let words: Vec<&str> = line.split(' ').collect(alloc)?;
     match words.as_slice() {
         ["times", count, words @ ..] => Ok((lone_case(alloc, words)?, words::times(alloc, count)?)),
@@ -176,6 +183,33 @@ fn listing_case(call: &str, index: u64, client: nob_ids::SpaceId) -> Result<SetC
         "dirty" => Ok(SetCase::Dirty(index, client)),
         "clean" => Ok(SetCase::Clean(index, client)),
         "lists" => Ok(SetCase::Lists(index, client)),
+        _ => Err(Unanswered::NoCase),
+    }
+}
+
+// The calls on a pin table, parted by semicolons.
+fn pin_cases(alloc: Global, calls: &str) -> Result<Vec<PinCase>, Unanswered> {
+    let mut cases = Vec::new(alloc);
+    for call in calls.split(';') {
+        let words: Vec<&str> = call.trim().split(' ').collect(alloc)?;
+        cases.push(pin_case(alloc, &words)?)?;
+    }
+    Ok(cases)
+}
+
+fn pin_case(alloc: Global, words: &[&str]) -> Result<PinCase, Unanswered> {
+    match words {
+        ["put", peer, item, reps @ ..] => Ok(PinCase::Put(
+            words::space(alloc, peer)?,
+            ItemNo::new(words::number(alloc, item)?),
+            words::references(alloc, reps)?,
+        )),
+        ["settle", peer, item] => Ok(PinCase::Settle(
+            words::space(alloc, peer)?,
+            ItemNo::new(words::number(alloc, item)?),
+        )),
+        ["close", peer] => Ok(PinCase::Close(words::space(alloc, peer)?)),
+        ["count", rep] => Ok(PinCase::Count(words::reference(alloc, rep)?)),
         _ => Err(Unanswered::NoCase),
     }
 }

@@ -14,6 +14,7 @@ mod sets;
 mod stage;
 mod tables;
 mod text;
+mod transit;
 mod unanswered;
 mod value_text;
 mod values;

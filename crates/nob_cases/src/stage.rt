@@ -5,7 +5,7 @@ use crate::case::{Case, case_of};
 use crate::plain::Plain;
 use crate::text::text_of;
 use crate::unanswered::Unanswered;
-use crate::{codecs, ends, plain, sets, tables};
+use crate::{codecs, ends, plain, sets, tables, transit};
 use nob_dirty::DirtySets;
 use nob_session::Session;
 use nob_table::ObjectTable;
@@ -69,6 +69,7 @@ impl Stage {
             Case::End(case) => ends::make(self.alloc, &mut self.end, case),
             Case::Plain(case) => plain::make(self.alloc, &mut self.plain, case),
             Case::Table(case) => tables::make(self.alloc, &mut self.table, case),
+            Case::Pins(cases) => transit::answer(self.alloc, cases),
             Case::Set(case) => sets::make(self.alloc, &mut self.sets, case),
         }
     }
