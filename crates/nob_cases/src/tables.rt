@@ -108,8 +108,8 @@ fn refused(error: TableError) -> Result<Answer, AllocError> {
 }
 
 fn idle(table: &ObjectTable, place: u64) -> Answer {
-    match table.first_idle(place) {
-        Some((place, rep)) => Answer::Idle(u128::from(place), rep),
+    match table.first_idle(u128::from(place)) {
+        Some((place, rep)) => Answer::Idle(place, rep),
         None => Answer::Word("none"),
     }
 }

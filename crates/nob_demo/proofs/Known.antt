@@ -1,7 +1,6 @@
 -- What a reader has left, and what a writer holds, one call after the other.
-use Rattle.std.proofs.Common.{◌≡◌, ℕ, ◌+◌, ◌<◌, ◌≤◌, List, [], ◌++◌, length, Option, Some, None, IfSome, refl, sym, ap, subst, ◌∙◌, append_assoc, arith}
+use Rattle.std.proofs.Common.{◌≡◌, ℕ, ◌+◌, ◌<◌, List, [], ◌++◌, length, Option, Some, None, IfSome, refl, sym, ap, subst, ◌∙◌, append_assoc, arith}
 use Rattle.std.specs.Io.KnownBytes.{Appends, Consumes, IsAtEnd, Keeps}
-use Rattle.nob_demo.specs.Program.{IsFew, most_bytes}
 use Rattle.std.proofs.lemmas.List.{append-nil, length-append}
 
 pub consumes_more : (a b c : Option (List ℕ)) (xs ys : List ℕ) → Consumes a b xs → Consumes b c ys → Consumes a c (xs ++ ys)
@@ -20,14 +19,14 @@ consumed_many None b xs n h less = tt
 consumed_many (Some ws) None xs n h less = absurd h
 consumed_many (Some ws) (Some bs) xs n h less = let len : length ws ≡ length xs + length bs = ap length h ∙ length-append xs bs in omega (arith, len, less)
 
-pub consumed_few : (a b : Option (List ℕ)) (xs : List ℕ) → Consumes a b xs → length xs ≤ most_bytes → IsFew a b
-consumed_few None b xs h few = tt
-consumed_few (Some ws) None xs h few = absurd h
-consumed_few (Some ws) (Some bs) xs h few = let len : length ws ≡ length xs + length bs = ap length h ∙ length-append xs bs in omega (arith, len, few)
+pub consumed_count : (a b : Option (List ℕ)) (xs : List ℕ) (n : ℕ) → Consumes a b xs → length xs ≡ n → IfSome a (λ all. IfSome b (λ left. length all ≡ n + length left))
+consumed_count None b xs n h count = tt
+consumed_count (Some ws) None xs n h count = absurd h
+consumed_count (Some ws) (Some bs) xs n h count = let len : length ws ≡ length xs + length bs = ap length h ∙ length-append xs bs in omega (arith, len, count)
 
-pub few_same : (a : Option (List ℕ)) → IsFew a a
-few_same None = tt
-few_same (Some ws) = omega arith
+pub none_counted : (a : Option (List ℕ)) (n : ℕ) → n ≡ 0 → IfSome a (λ all. IfSome a (λ left. length all ≡ n + length left))
+none_counted None n e = tt
+none_counted (Some ws) n e = omega (arith, e)
 
 pub consumes_none : (a : Option (List ℕ)) → Consumes a a []
 consumes_none None = tt
@@ -46,10 +45,6 @@ appends_none (Some ws) xs e = subst (λ (ys : List ℕ). ws ≡ ws ++ ys) (sym e
 pub keeps_same : (a : Option (List ℕ)) → Keeps a a
 keeps_same None = tt
 keeps_same (Some ws) = refl
-
-pub known_too : (P : List ℕ → Type 0) (a : Option (List ℕ)) (xs : List ℕ) → IfSome a (λ bytes. xs ≡ bytes) → P xs → IfSome a P
-known_too P None xs is p = tt
-known_too P (Some ws) xs is p = subst P is p
 
 pub kept_then_appends : (a b c : Option (List ℕ)) (xs : List ℕ) → Keeps a b → Appends b c xs → Appends a c xs
 kept_then_appends None b c xs h k = tt

@@ -19,31 +19,32 @@ most_bytes = 2 ^ 26
 abbrev pub least_room : ℕ
 least_room = 2 ^ 12
 
--- what was read: the bytes of the reader before the first read and after the last, how many reads were made, whether one failed, and whether one told the end
+-- what was read: the bytes of the reader before the first read and after the last, how many reads were made, how many bytes they gave, whether one failed, and whether one told the end
 pub record Reading : Type 0 where
   pub input : Option (List ℕ)
   pub rest : Option (List ℕ)
   pub reads : ℕ
+  pub bytes : ℕ
   pub failed : Bool
   pub ended : Bool
 
--- the input was read whole: no read failed, one told the end, and there were no more of them than the program makes
-abbrev pub IsWhole : Reading → Type 0
-IsWhole r = (r.failed ≡ false) × (r.ended ≡ true) × (r.reads ≤ most_reads)
+-- the reads gave so many bytes: where the reader tells its bytes, these are the bytes that it had and has no more
+abbrev pub IsCounted : Reading → Type 0
+IsCounted r = IfSome r.input (λ all. IfSome r.rest (λ left. length all ≡ r.bytes + length left))
 
--- what was read of these bytes, up to this rest of them, has no more bytes than the program takes
-abbrev pub IsFew : (input : Option (List ℕ)) → (rest : Option (List ℕ)) → Type 0
-IsFew input rest = IfSome input (λ all. IfSome rest (λ left. length all ≤ most_bytes + length left))
+-- the input was read whole: no read failed, one told the end, there were no more of them than the program makes, and they gave no more bytes than it takes
+abbrev pub IsWhole : Reading → Type 0
+IsWhole r = (r.failed ≡ false) × (r.ended ≡ true) × (r.reads ≤ most_reads) × (r.bytes ≤ most_bytes)
 
 -- a part of the input was read: no read failed or told the end, one more may be made, and there is no byte too many so far
 abbrev pub IsPart : Reading → Type 0
-IsPart r = (r.failed ≡ false) × (r.ended ≡ false) × (r.reads < most_reads) × IsFew r.input r.rest
+IsPart r = (r.failed ≡ false) × (r.ended ≡ false) × (r.reads < most_reads) × (r.bytes ≤ most_bytes) × IsCounted r
 
--- a read failed, or all reads that the program makes told no end, or the input has more bytes than the program takes
+-- a read failed, or all reads that the program makes told no end, or they gave more bytes than the program takes
 pub data IsReadFault (r : Reading) : Type 0 where
   failed_read : r.failed ≡ true → IsReadFault r
   many_reads : r.reads ≡ most_reads → r.ended ≡ false → IsReadFault r
-  many_bytes : IfSome r.input (λ bytes. most_bytes < length bytes) → IsReadFault r
+  many_bytes : most_bytes < r.bytes → IsCounted r → IsReadFault r
 
 -- why the words aren't taken: clap refuses them, or memory ran out
 abbrev pub IsWordsFault : Fault → (taken : Bool) → Type 0
@@ -77,9 +78,9 @@ pub record Attempt : Type 0 where
 abbrev pub OutKept : Attempt → Type 0
 OutKept a = Keeps a.out_before a.out_after × (a.out_failed ≡ false)
 
--- what was written to `out` is what the script in the input gives, which has no more bytes than the program takes
+-- what was written to `out` is what a script gives that has as many bytes as were read: the input, where the reader tells it
 abbrev pub IsPlayed : Attempt → Outcome → Type 0
-IsPlayed a outcome = (text : List ℕ) × IfSome a.reading.input (λ script. (length script ≤ most_bytes) × Plays script text outcome) × Appends a.out_before a.out_after text
+IsPlayed a outcome = (script text : List ℕ) × (length script ≡ a.reading.bytes) × IfSome a.reading.input (λ input. script ≡ input) × Plays script text outcome × Appends a.out_before a.out_after text
 
 -- clap refuses the words, and nothing was read
 abbrev pub IsRefused : Attempt → Type 0

@@ -24,7 +24,7 @@ pub fn run<S: AsStr, R: Read, W: Write, E: Write>(
     out: &mut Sink<W>,
     err: &mut Sink<E>,
 ) -> u8
-    requires reader { (reader.old.reads ≡ 0) × (reader.old.failed ≡ false) × (reader.old.ended ≡ false) }
+    requires reader { (reader.old.reads ≡ 0) × (reader.old.bytes ≡ 0) × (reader.old.failed ≡ false) × (reader.old.ended ≡ false) }
     requires out { out.old.failed ≡ false }
     requires err { err.old.failed ≡ false }
     ensures goes { Goes (record {
@@ -34,6 +34,7 @@ pub fn run<S: AsStr, R: Read, W: Write, E: Write>(
           input = R.remaining reader.old.reader;
           rest = R.remaining reader.new.reader;
           reads = reader.new.reads;
+          bytes = reader.new.bytes;
           failed = reader.new.failed;
           ended = reader.new.ended;
         };
@@ -63,7 +64,7 @@ fn attempt<S: AsStr, R: Read, W: Write>(
     reader: &mut Source<R>,
     out: &mut Sink<W>,
 ) -> Result<Outcome, Fault>
-    requires reader { (reader.old.reads ≡ 0) × (reader.old.failed ≡ false) × (reader.old.ended ≡ false) }
+    requires reader { (reader.old.reads ≡ 0) × (reader.old.bytes ≡ 0) × (reader.old.failed ≡ false) × (reader.old.ended ≡ false) }
     requires out { out.old.failed ≡ false }
     ensures ended { Ended result (record {
       taken = takes_words (word_faults (map S.text words.now));
@@ -71,6 +72,7 @@ fn attempt<S: AsStr, R: Read, W: Write>(
         input = R.remaining reader.old.reader;
         rest = R.remaining reader.new.reader;
         reads = reader.new.reads;
+        bytes = reader.new.bytes;
         failed = reader.new.failed;
         ended = reader.new.ended;
       };

@@ -46,5 +46,6 @@ fn command<'a>(alloc: Global) -> Result<Command<'a>, AllocError>
         .about("Network Objects, proved: `nobj` alone is `nobj pair`")
         .version("0.1.0")
         .after_help(PAIR_EXAMPLE)
+        .bin_name("nobj")?
         .subcommand(pair)
 }

@@ -1,10 +1,9 @@
 -- What is written so far, and what completes it.
-use Rattle.std.proofs.Common.{◌≡◌, ℕ, ◌+◌, List, [], ◌∷◌, ◌++◌, Result, Ok, Err, IfOk, OnErr, ◌<◌, ◌≤◌, Option, None, IsSome, length, drop, map, get_or, refl, sym, ap, subst, ◌∙◌, codes, append_assoc}
-use Rattle.std.specs.Borrow.{Bor}
+use Rattle.std.proofs.Common.{◌≡◌, ℕ, ◌+◌, List, [], ◌∷◌, ◌++◌, Result, Ok, Err, IfOk, OnErr, Option, None, IsSome, refl, sym, ap, subst, ◌∙◌, codes, append_assoc}
 use Rattle.std.specs.declared.alloc.AllocError.{AllocError}
-use Rattle.std.proofs.lemmas.List.{append-nil, drop-map, drop_more, drop_all}
+use Rattle.std.proofs.lemmas.List.{append-nil}
 use Rattle.nob_demo_pair.specs.Grammar.{header_text, IsLimits}
-use Rattle.nob_trace_text.specs.Lines.{texts, lines_of}
+use Rattle.nob_trace_text.specs.Lines.{lines_of}
 use Rattle.nob_ids.specs.declared.limits.Limits.{Limits}
 use Rattle.nob_model_end.specs.declared.entry.PairEntry.{PairEntry}
 use Rattle.nob_model_end.specs.Pair.{PairFronts}
@@ -68,28 +67,18 @@ pub memory_ended : (r : Result Outcome AllocError) (old text new : List ℕ) (P 
 memory_ended (Ok o) old text new P h g = tt
 memory_ended (Err e) old text new P h g = grown old (new ++ codes "memory\n") (text ++ codes "memory\n") P (ap (λ (xs : List ℕ). xs ++ codes "memory\n") h) g
 
-abbrev now : Bor (List ℕ) → List ℕ
-now s = s.now
-
--- the next line, of those that are left
-pub next_line : (steps : List (Bor (List ℕ))) (i : ℕ) (d : Bor (List ℕ)) → i < length steps → drop i (texts steps) ≡ (get_or steps i d).now ∷ drop (i + 1) (texts steps)
-next_line steps i d less = drop-map now i steps ∙ ap (map now) (drop_more steps i d less) ∙ ap (λ (xs : List (List ℕ)). (get_or steps i d).now ∷ xs) (sym (drop-map now (i + 1) steps))
-
-pub all_made : (steps : List (Bor (List ℕ))) (i : ℕ) → length steps ≤ i → drop i (texts steps) ≡ []
-all_made steps i le = drop-map now i steps ∙ ap (map now) (drop_all i steps le)
-
 -- the steps after the header
-pub header_done : (limits : Limits) (header : List ℕ) (steps : List (List ℕ)) (old text new : List ℕ) (o : Outcome) → IsLimits limits.window limits.retry → header ≡ header_text limits.window limits.retry → text ≡ old ++ ((header ++ []) ++ 10 ∷ [])
+pub header_done : (limits : Limits) (header : List ℕ) (steps : List (List ℕ)) (old text new : List ℕ) (o : Outcome) → IsLimits limits.window limits.retry → header ≡ header_text limits.window limits.retry → text ≡ old ++ (((header ++ []) ++ []) ++ 10 ∷ [])
     → Grows text new (λ w. FromLines limits 2 steps [] w o) → Grows old new (λ w. FromHeader header steps w o)
 header_done limits header steps old text new o fit is at g =
-    let line : text ≡ old ++ line_text header = at ∙ ap (λ (xs : List ℕ). old ++ (xs ++ 10 ∷ [])) (append-nil header) in
+    let line : text ≡ old ++ line_text header = at ∙ ap (λ (xs : List ℕ). old ++ (xs ++ 10 ∷ [])) (append-nil (header ++ []) ∙ append-nil header) in
     (line_text header ++ g.0, g.1 ∙ ap (λ (xs : List ℕ). xs ++ g.0) line ∙ append_assoc old (line_text header) g.0, FromHeader.opened limits g.0 fit is refl g.2)
 
--- the whole script, of which these are the lines
-pub script_done : (script header : List ℕ) (steps lines : List (List ℕ)) (old new : List ℕ) (o : Outcome) → lines ≡ lines_of script → lines ≡ header ∷ steps → old ≡ []
+-- the whole script, of which this is the first line
+pub script_done : (script header : List ℕ) (steps : List (List ℕ)) (old new : List ℕ) (o : Outcome) → lines_of script ≡ header ∷ steps → old ≡ []
     → Grows old new (λ w. FromHeader header steps w o) → Plays script new o
-script_done script header steps lines old new o are split empty g =
-    subst (λ (ls : List (List ℕ)). FromScript ls new o) (sym split ∙ are) (subst (λ (xs : List ℕ). FromHeader header steps xs o) (sym (g.1 ∙ ap (λ (xs : List ℕ). xs ++ g.0) empty)) g.2)
+script_done script header steps old new o split empty g =
+    subst (λ (ls : List (List ℕ)). FromScript ls new o) (sym split) (subst (λ (xs : List ℕ). FromHeader header steps xs o) (sym (g.1 ∙ ap (λ (xs : List ℕ). xs ++ g.0) empty)) g.2)
 
 pub no_header : (line : List ℕ) (r : Option Limits) → r ≡ None → ((window retry : ℕ) → IsLimits window retry → line ≡ header_text window retry → IsSome r) → IsNoHeader line
 no_header line r none only window retry fits spelt = let some = subst (λ (x : Option Limits). IsSome x) none (only window retry fits spelt) in absurd (cc some)

@@ -3,7 +3,7 @@ use Rattle.std.specs.Prelude.{◌≡◌, ◌≢◌, ℕ, ◌+◌, List, [], ◌�
 use Rattle.std.specs.Fmt.{decimal}
 use Rattle.nob_ids.specs.declared.limits.Limits.{Limits}
 use Rattle.nob_model_end.specs.declared.entry.PairEntry.{PairEntry}
-use Rattle.nob_model_end.specs.Pair.{PairFronts}
+use Rattle.nob_model_end.specs.Pair.{PairFronts, PairRun}
 use Rattle.nob_trace_text.specs.Lines.{lines_of}
 use Rattle.nob_demo_pair.specs.declared.step.Step.{Step}
 use Rattle.nob_demo_pair.specs.declared.script.Outcome.{Outcome}
@@ -44,8 +44,8 @@ IsNoStep line = (step : Step) → IsStep step → line ≢ step_text step
 
 -- what is written for a step's line after a run J, which is the run K then
 pub data StepMade (limits : Limits) (line : List ℕ) (J K : List PairEntry) (written : List ℕ) : Type 0 where
-  -- the line with the step's answer, which is that of a run of the pair
-  answered : (step : Step) → IsStepLine line step → written ≡ answered_text line (step_answer limits step J) → K ≡ entries_of limits step J ++ J → StepMade limits line J K written
+  -- the line with the step's answer: the calls of the step and those before are a run of the pair, and the answer is that of the step's calls
+  answered : (step : Step) → IsStepLine line step → written ≡ answered_text line (step_answer limits step J) → K ≡ entries_of limits step J ++ J → PairRun 1 2 limits limits K → StepMade limits line J K written
   -- the step takes memory, is refused for want of it, and changes nothing
   refused : (step : Step) → IsStepLine line step → IsTrue (takes_memory step J) → written ≡ answered_text line (codes "memory") → K ≡ J → StepMade limits line J K written
 

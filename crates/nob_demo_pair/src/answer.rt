@@ -7,7 +7,7 @@ use nob_ids::{ItemNo, Reason};
 use nob_session::EndRefusal;
 
 /// The frames that a `send` gave, one at least: those of so many numbers after the frames before.
-#[derive(Clone, Copy, Debug, PartialEq, Eq)]
+#[derive(Clone, Copy, Debug)]
 pub struct Sent {
     /// How many frames were transmitted before.
     pub before: u64,

@@ -4,9 +4,11 @@ ghost use Rattle.std.specs.Prelude.{◌≡◌, ◌++◌, ◌∷◌, List, ℕ, l
 ghost use Rattle.nob_ids.specs.declared.limits.Limits.{Limits as LimitsOf};
 ghost use Rattle.nob_model_end.specs.declared.entry.EndEntry.{EndEntry};
 ghost use Rattle.std.specs.List.{AllByRecursion};
-ghost use Rattle.nob_frame.specs.Spelling.{Fits};
+ghost use Rattle.nob_frame.specs.declared.frame.Frame.{Frame as FrameOf};
+ghost use Rattle.nob_frame.specs.Spelling.{Fits, Spelt};
 ghost use Rattle.nob_session.specs.Items.{IsItem, IsPair};
 ghost use Rattle.nob_session.specs.Stands.{Stands};
+ghost use Rattle.nob_session.specs.Wire.{IsSpelling};
 ghost use Rattle.nob_demo_pair.specs.Fronts.{IsFront};
 ghost use Rattle.nob_demo_pair.specs.Run.{answer_text, arrive_text, call_answer, call_takes_memory, calls_of};
 ghost use Rattle.nob_model_end.specs.Right.{right_arrive, right_transmit};
@@ -16,7 +18,7 @@ use crate::answer::{Answer, Sent};
 use crate::step::Call;
 use nob_frame::{Frame, Payload};
 use nob_ids::Reason;
-use nob_session::{Arrival, Kind, EndRefusal, Session, SessionError};
+use nob_session::{Arrival, EndRefusal, Kind, Session, SessionError, wire};
 use std::alloc::{AllocError, Global};
 
 // Hands an item.
@@ -90,8 +92,19 @@ fn front_of(alloc: Global, session: &Session) -> Result<Option<Answer>, AllocErr
     }
 }
 
+// Gives to the end the frame that these bytes spell: it sees the bytes alone.
+pub fn arrive(alloc: Global, session: &mut Session, bytes: &[u8]) -> Result<Answer, AllocError>
+    requires { IsSpelling bytes.now }
+    ensures answer { (frame : FrameOf) (me peer : ℕ) (limits : LimitsOf) (L : List EndEntry) → Spelt bytes.now frame → Stands me peer limits session.old.end L →
+        IfOk result (λ a. (answer_text a ≡ arrive_text (right_arrive me peer frame L)) × Stands me peer limits session.new.end (Arrive frame (right_arrive me peer frame L) ∷ L)) }
+    ensures err { OnErr result (session.new.end ≡ session.old.end) }
+{
+    let frame = wire::from_bytes(alloc, bytes)?;
+    hear(session, &frame)
+}
+
 // Gives a frame to the end.
-pub fn arrive(session: &mut Session, frame: &Frame) -> Result<Answer, AllocError>
+fn hear(session: &mut Session, frame: &Frame) -> Result<Answer, AllocError>
     ensures answer { (me peer : ℕ) (limits : LimitsOf) (L : List EndEntry) → Stands me peer limits session.old.end L →
         IfOk result (λ a. (answer_text a ≡ arrive_text (right_arrive me peer frame.now L)) × Stands me peer limits session.new.end (Arrive frame.now (right_arrive me peer frame.now L) ∷ L)) }
     ensures err { OnErr result (session.new.end ≡ session.old.end) }

@@ -15,9 +15,9 @@ ghost use Rattle.nob_demo_pair.specs.Pairs.{PairStands, IsEndOf, IsPairOfEnds, e
 use crate::answer::Answer;
 use crate::ends;
 use crate::step::{Call, Side, Step};
-use nob_frame::{Frame, FrameError, decode, encode};
+use nob_frame::Frame;
 use nob_ids::{Limits, SpaceId};
-use nob_session::{Session, SessionError};
+use nob_session::{Session, wire};
 use std::alloc::{AllocError, Global};
 use std::marker::Model;
 
@@ -50,8 +50,8 @@ impl Pair {
         };
         Ok(Pair {
             alloc,
-            first: open_end(alloc, one, two, limits)?,
-            second: open_end(alloc, two, one, limits)?,
+            first: Session::open(alloc, one, two, limits)?,
+            second: Session::open(alloc, two, one, limits)?,
             frames: Vec::new(alloc),
         })
     }
@@ -64,36 +64,23 @@ impl Pair {
         ensures err { OnErr result (self.new ≡ self.old) }
         ensures memory { (limits : LimitsOf) (J : List PairEntry) → PairStands limits self.old J → OnErr result (IsTrue (takes_memory step J)) }
     {
-        made(
-            self.alloc,
-            &mut self.first,
-            &mut self.second,
-            &mut self.frames,
-            step,
-        )
-    }
-}
-
-// Makes a step on two ends and their frames.
-fn made(
-    alloc: Global,
-    first: &mut Session,
-    second: &mut Session,
-    frames: &mut Vec<Frame>,
-    step: Step,
-) -> Result<Answer, AllocError>
-    requires step { IsStep step }
-    requires ends { IsPairOfEnds (ends_of first.old.end second.old.end frames.old.items) }
-    ensures answer { (limits : LimitsOf) (J : List PairEntry) → PairStands limits (ends_of first.old.end second.old.end frames.old.items) J →
-        IfOk result (λ a. (answer_text a ≡ step_answer limits step J) × PairStands limits (ends_of first.new.end second.new.end frames.new.items) (entries_of limits step J ++ J)) }
-    ensures err { OnErr result (ends_of first.new.end second.new.end frames.new.items ≡ ends_of first.old.end second.old.end frames.old.items) }
-    ensures memory { (limits : LimitsOf) (J : List PairEntry) → PairStands limits (ends_of first.old.end second.old.end frames.old.items) J →
-        OnErr result (IsTrue (takes_memory step J)) }
-    ensures ends { IsPairOfEnds (ends_of first.new.end second.new.end frames.new.items) }
-{
-    match step {
-        Step::At(side, call) => call_on(alloc, first, second, frames, side, call),
-        Step::Deliver(number) => deliver(alloc, first, second, frames, number),
+        match step {
+            Step::At(side, call) => call_on(
+                self.alloc,
+                &mut self.first,
+                &mut self.second,
+                &mut self.frames,
+                side,
+                call,
+            ),
+            Step::Deliver(number) => deliver(
+                self.alloc,
+                &mut self.first,
+                &mut self.second,
+                &self.frames,
+                number,
+            ),
+        }
     }
 }
 
@@ -121,7 +108,7 @@ fn call_on(
     }
 }
 
-// The frame of this number, counted from 1, arrives at its `to`.
+// The frame of this number, counted from 1, arrives as bytes at its `to`.
 fn deliver(
     alloc: Global,
     first: &mut Session,
@@ -141,11 +128,11 @@ fn deliver(
     let Some(frame) = numbered(frames, number) else {
         return Ok(Answer::NoFrame);
     };
-    let frame = carried(alloc, frame)?;
+    let bytes = wire::to_bytes(alloc, frame)?;
     if frame.to.get() == 1 {
-        return ends::arrive(first, &frame);
+        return ends::arrive(alloc, first, &bytes);
     }
-    ends::arrive(second, &frame)
+    ends::arrive(alloc, second, &bytes)
 }
 
 // The frame of this number, counted from 1.
@@ -156,21 +143,6 @@ fn numbered(frames: &[Frame], number: u64) -> Option<&Frame>
         return None;
     }
     frames.get(number as usize - 1)
-}
-
-fn open_end(
-    alloc: Global,
-    me: SpaceId,
-    peer: SpaceId,
-    limits: Limits,
-) -> Result<Session, AllocError>
-    ensures stands { IfOk result (λ session. Stands me peer limits session.end []) }
-{
-    match Session::open(alloc, me, peer, limits) {
-        Ok(session) => Ok(session),
-        Err(SessionError::Refused(_)) => Err(AllocError),
-        Err(SessionError::OutOfMemory) => Err(AllocError),
-    }
 }
 
 // Makes a call at an end.
@@ -198,22 +170,5 @@ fn call_at(
         Call::Get => ends::get(alloc, session),
         Call::Tick => Ok(ends::tick(session)),
         Call::Close => Ok(ends::close(session)),
-    }
-}
-
-// A frame as it arrives: encoded and decoded on its way.
-fn carried(alloc: Global, frame: &Frame) -> Result<Frame, AllocError>
-    requires { Fits frame.now }
-    ensures { IfOk result (λ arrived. arrived ≡ frame.now) }
-{
-    let bytes = match encode(alloc, frame) {
-        Ok(bytes) => bytes,
-        Err(FrameError::Fault(_)) => unreachable!(),
-        Err(FrameError::OutOfMemory) => return Err(AllocError),
-    };
-    match decode(alloc, &bytes) {
-        Ok(arrived) => Ok(arrived),
-        Err(FrameError::Fault(_)) => unreachable!(),
-        Err(FrameError::OutOfMemory) => Err(AllocError),
     }
 }

@@ -1,10 +1,10 @@
 //! Whole scripts.
 
-ghost use Rattle.std.specs.Prelude.{◌≡◌, ◌++◌, ◌∷◌, [], List, ℕ, false, IsTrue, IfOk, OnOk, OnErr, codes, ◌+◌, ◌<◌, ◌^◌};
+ghost use Rattle.std.specs.Prelude.{◌≡◌, ◌++◌, ◌∷◌, [], List, ℕ, false, IsTrue, IfOk, OnOk, OnErr, codes, ◌+◌, ◌<◌, ◌≤◌, ◌^◌, length};
 ghost use Rattle.std.specs.String.{string_bytes};
 ghost use Rattle.nob_ids.specs.declared.limits.Limits.{Limits as LimitsOf};
 ghost use Rattle.nob_model_end.specs.declared.entry.PairEntry.{PairEntry};
-ghost use Rattle.nob_trace_text.specs.Lines.{texts};
+ghost use Rattle.nob_trace_text.specs.Lines.{lines_of};
 ghost use Rattle.nob_demo_pair.specs.Pairs.{PairStands};
 ghost use Rattle.nob_demo_pair.specs.Scripts.{FromHeader, FromLines, Grows, IsNoStep, IsStepLine, MakesStep, Plays, answered_text, bad_step_text, last_line};
 
@@ -13,11 +13,11 @@ use crate::parse::{header_of, step_of};
 use crate::step::Step;
 use crate::text::text_of;
 use nob_session::laws;
-use nob_trace_text::lines_of;
+use nob_trace_text::first_line;
 use std::alloc::{AllocError, Global};
 
 /// How a script ended.
-#[derive(Clone, Copy, Debug, PartialEq, Eq)]
+#[derive(Clone, Copy, Debug)]
 pub enum Outcome {
     /// Every line was a step, and the fronts hold.
     Fronts,
@@ -58,28 +58,27 @@ fn play_script(alloc: Global, script: &[u8], text: &mut Vec<u8>) -> Result<Outco
     ensures ok { IfOk result (λ outcome. Plays script.now (text.new.items ++ last_line outcome) outcome) }
     ensures err { OnErr result (Plays script.now (text.new.items ++ last_line Outcome.OutOfMemory) Outcome.OutOfMemory) }
 {
-    let lines = lines_of(alloc, script)?;
-    let Some((header, steps)) = lines.as_slice().split_first() else {
+    let Some((header, steps)) = first_line(script) else {
         return bad_step(alloc, text, 1);
     };
     play_from(alloc, header, steps, text)
 }
 
-// Writes what a script of these lines gives.
+// Writes what a script gives that has this first line and these further ones.
 fn play_from(
     alloc: Global,
     header: &[u8],
-    steps: &[&[u8]],
+    steps: &[u8],
     text: &mut Vec<u8>,
 ) -> Result<Outcome, AllocError>
-    ensures ok { IfOk result (λ outcome. Grows text.old.items (text.new.items ++ last_line outcome) (λ written. FromHeader header.now (texts steps.now) written outcome)) }
-    ensures err { OnErr result (Grows text.old.items (text.new.items ++ last_line Outcome.OutOfMemory) (λ written. FromHeader header.now (texts steps.now) written Outcome.OutOfMemory)) }
+    ensures ok { IfOk result (λ outcome. Grows text.old.items (text.new.items ++ last_line outcome) (λ written. FromHeader header.now (lines_of steps.now) written outcome)) }
+    ensures err { OnErr result (Grows text.old.items (text.new.items ++ last_line Outcome.OutOfMemory) (λ written. FromHeader header.now (lines_of steps.now) written Outcome.OutOfMemory)) }
 {
     let Some(limits) = header_of(alloc, header)? else {
         return bad_step(alloc, text, 1);
     };
     let mut pair = Pair::open(alloc, limits)?;
-    push_line(alloc, text, header, b"")?;
+    push_line(text, header, b"", b"")?;
     play_steps(alloc, &mut pair, steps, text)
 }
 
@@ -87,18 +86,22 @@ fn play_from(
 fn play_steps(
     alloc: Global,
     pair: &mut Pair,
-    steps: &[&[u8]],
+    steps: &[u8],
     text: &mut Vec<u8>,
 ) -> Result<Outcome, AllocError>
     ensures ok { (limits : LimitsOf) (J : List PairEntry) → PairStands limits pair.old J →
-        IfOk result (λ outcome. Grows text.old.items (text.new.items ++ last_line outcome) (λ written. FromLines limits 2 (texts steps.now) J written outcome)) }
+        IfOk result (λ outcome. Grows text.old.items (text.new.items ++ last_line outcome) (λ written. FromLines limits 2 (lines_of steps.now) J written outcome)) }
     ensures err { (limits : LimitsOf) (J : List PairEntry) → PairStands limits pair.old J →
-        OnErr result (Grows text.old.items (text.new.items ++ last_line Outcome.OutOfMemory) (λ written. FromLines limits 2 (texts steps.now) J written Outcome.OutOfMemory)) }
+        OnErr result (Grows text.old.items (text.new.items ++ last_line Outcome.OutOfMemory) (λ written. FromLines limits 2 (lines_of steps.now) J written Outcome.OutOfMemory)) }
 {
-    for (i, line) in steps.iter().enumerate() {
+    let mut left = steps;
+    let mut number: u64 = 2;
+    while let Some((line, rest)) = first_line(left) {
         if !play_line(alloc, pair, line, text)? {
-            return bad_step(alloc, text, i as u64 + 2);
+            return bad_step(alloc, text, number);
         }
+        left = rest;
+        number += 1;
     }
     // Every run of a pair has its fronts.
     laws::pair();
@@ -141,9 +144,9 @@ fn make_step(
     match pair.make(step) {
         Ok(answer) => {
             let answer = text_of(alloc, &answer)?;
-            push_answer(alloc, text, line, answer.as_bytes())
+            push_line(text, line, b" = ", answer.as_bytes())
         }
-        Err(AllocError) => push_answer(alloc, text, line, b"memory"),
+        Err(AllocError) => push_line(text, line, b" = ", b"memory"),
     }
 }
 
@@ -163,28 +166,16 @@ fn bad_step_message(alloc: Global, line: u64) -> Result<String, AllocError>
     format!(in alloc; "line {line}: bad step\n")
 }
 
-// Writes a line with its answer, whole or not at all.
-fn push_answer(
-    alloc: Global,
-    text: &mut Vec<u8>,
-    line: &[u8],
-    answer: &[u8],
-) -> Result<(), AllocError>
-    ensures ok { OnOk result (text.new.items ≡ text.old.items ++ answered_text line.now answer.now) }
+// Writes a line of a script with what follows it, whole or not at all.
+fn push_line(text: &mut Vec<u8>, line: &[u8], mark: &[u8], answer: &[u8]) -> Result<(), AllocError>
+    requires { length mark.now ≤ 3 }
+    ensures ok { OnOk result (text.new.items ≡ text.old.items ++ ((line.now ++ mark.now ++ answer.now) ++ 10 ∷ [])) }
     ensures err { OnErr result (text.new.items ≡ text.old.items) }
 {
-    let mut whole = Vec::from_slice(alloc, b" = ")?;
-    whole.extend_from_slice(answer)?;
-    push_line(alloc, text, line, &whole)
-}
-
-// Writes a line with what follows it, whole or not at all.
-fn push_line(alloc: Global, text: &mut Vec<u8>, line: &[u8], rest: &[u8]) -> Result<(), AllocError>
-    ensures ok { OnOk result (text.new.items ≡ text.old.items ++ ((line.now ++ rest.now) ++ 10 ∷ [])) }
-    ensures err { OnErr result (text.new.items ≡ text.old.items) }
-{
-    let mut whole = Vec::from_slice(alloc, line)?;
-    whole.extend_from_slice(rest)?;
-    whole.push(b'\n')?;
-    text.extend_from_slice(&whole)
+    text.reserve(line.len().saturating_add(answer.len()).saturating_add(4))?;
+    text.extend_from_slice(line)?;
+    text.extend_from_slice(mark)?;
+    text.extend_from_slice(answer)?;
+    text.push(b'\n')?;
+    Ok(())
 }

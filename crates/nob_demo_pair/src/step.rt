@@ -3,7 +3,7 @@
 use nob_frame::Payload;
 
 /// One of the two ends.
-#[derive(Clone, Copy, Debug, PartialEq, Eq)]
+#[derive(Clone, Copy, Debug)]
 pub enum Side {
     /// Space 1's end.
     First,

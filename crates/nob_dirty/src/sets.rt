@@ -70,13 +70,17 @@ impl DirtySets {
         !has_clients(&self.listings, index)
     }
 
-    /// The clients that are listed at the index, rising, each once. Only memory fails it. Linear in the pairs, and
-    /// a sort of the clients found.
+    /// The clients that are listed at the index, rising, each once. Only memory fails it, and nobody takes none. Linear in
+    /// the pairs, and a sort of the clients found.
     pub fn clients(&self, index: u64) -> Result<Vec<SpaceId>, AllocError>
         ensures clients { IfOk result (λ found. AreClients self.now index found.items) }
         ensures rising { IfOk result (λ found. IsStrictlyIncreasing found.items) }
+        ensures nobody { IsEmptyAt self.now index → IsOk result }
     {
         let alloc = *self.listings.allocator();
+        if self.is_empty(index) {
+            return Ok(Vec::new(alloc));
+        }
         let mut found = clients_at(alloc, &self.listings, index)?;
         found.sort_unstable();
         Ok(found)

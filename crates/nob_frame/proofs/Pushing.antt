@@ -63,9 +63,17 @@ only_those (Ok had) (Ok left) piece given p kept frames rest is s =
 only_those (Ok had) (Err fault) piece given p kept frames rest is s = absurd p
 only_those (Err fault) new piece given p kept frames rest is s = absurd p
 
--- and little is kept
+-- a rest that is cut off is short
+pub cut_short : (rest : List ℕ) → IsCut rest → length rest < 16412
+cut_short rest cut = elim (front_stands rest faults.Short (front_fault rest faults.Short cut (λ h. cc))) [ inl inner ↦ absurd (inner.0 refl) | inr short ↦ short.1 ]
+
+-- little is kept
+pub few_kept : (now : Kept) (fault : Option FrameFault) (kept : List ℕ) (wanted : ℕ) → kept_of fault kept ≡ now → IsSound fault kept wanted → IfOk now (λ k. length k < 16412)
+few_kept now None kept wanted is sound = subst (λ (k : Kept). IfOk k (λ few. length few < 16412)) is (cut_short kept sound.0)
+few_kept now (Some fault) kept wanted is sound = subst (λ (k : Kept). IfOk k (λ few. length few < 16412)) is tt
+
+-- and little is left
 pub little_kept : (old new : Kept) (piece : List ℕ) (given : List Frame) → Pushes old piece (Ok given) new → IfOk new (λ kept. length kept < 16412)
-little_kept (Ok had) (Ok left) piece given p =
-    elim (front_stands left faults.Short (front_fault left faults.Short p.1 (λ h. cc))) [ inl inner ↦ absurd (inner.0 refl) | inr short ↦ short.1 ]
+little_kept (Ok had) (Ok left) piece given p = cut_short left p.1
 little_kept (Ok had) (Err fault) piece given p = absurd p
 little_kept (Err fault) new piece given p = absurd p

@@ -62,10 +62,10 @@ abbrev pub kept_of : Option FrameFault → List ℕ → Kept
 kept_of None kept = Ok kept
 kept_of (Some fault) kept = Err fault
 
--- what is true of a Feed: it keeps a rest that is cut off, and knows how many bytes that wants; or it met a fault that no more bytes mend
+-- what is true of a Feed: it keeps a rest that is cut off, and knows how many bytes that wants; or it met a fault that no more bytes mend, and keeps nothing
 abbrev pub IsSound : Option FrameFault → List ℕ → ℕ → Type 0
 IsSound None kept wanted = IsCut kept × (wanted ≡ wanted_by kept)
-IsSound (Some fault) kept wanted = (fault ≢ faults.Short) × (fault ≢ faults.Trailing)
+IsSound (Some fault) kept wanted = (fault ≢ faults.Short) × (fault ≢ faults.Trailing) × (kept ≡ [])
 
 -- ---- whole runs
 

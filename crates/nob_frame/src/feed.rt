@@ -54,7 +54,8 @@ impl Feed {
     ///
     /// All pushes together cost time in proportion to the bytes of the stream, however it is cut: a byte is
     /// copied at most twice by pushes, and some more times where the buffer grows, and a header is judged at
-    /// most twice. A Feed keeps fewer than 16,412 bytes between two pushes, and the piece as well during one.
+    /// most twice. A Feed keeps fewer than 16,412 bytes between two pushes, none once it has met a fault, and the
+    /// piece as well during one.
     pub fn push(&mut self, piece: &[u8]) -> Result<Vec<Frame>, FrameError>
         // It gives the frames that are whole now and keeps the rest, or meets the rest's fault, or goes on
         // answering the fault that it has met, or is as it was for want of memory.
@@ -65,7 +66,7 @@ impl Feed {
         ensures never { IfErr result (λ e. (e ≢ Fault Short) × (e ≢ Fault Trailing)) }
         // An empty piece takes no memory.
         ensures memory { IfErr result (λ e. e ≡ OutOfMemory → piece.now ≢ []) }
-        ensures few { OnOk result (IfOk self.new (λ kept. length kept < 16412)) }
+        ensures few { IfOk self.new (λ kept. length kept < 16412) }
     {
         if let Some(fault) = self.fault {
             return Err(FrameError::Fault(fault));

@@ -1,10 +1,10 @@
 //! Frames: what travels between the two ends of a session.
 
-ghost use Rattle.std.specs.Prelude.{◌≡◌, ◌≤◌, IfOk, length};
+ghost use Rattle.std.specs.Prelude.{◌≡◌, ◌<◌, IfOk, OnErr, length};
 
+use nob_bytes::Bytes;
 use nob_ids::SpaceId;
 use std::alloc::AllocError;
-use std::marker::Model;
 
 /// What a frame is for.
 #[derive(Clone, Copy, Debug, PartialEq, Eq)]
@@ -65,61 +65,6 @@ impl FrameKind {
     }
 }
 
-/// The bytes that a frame carries: an item in a Data frame, a reason's number in a Close frame. Contracts see
-/// the list of bytes.
-#[derive(Debug, Drop)]
-pub struct Payload {
-    bytes: Vec<u8>,
-}
-
-impl Model for Payload {
-    ghost use Rattle.std.specs.Prelude.{List, ℕ};
-
-    ghost Value = { List ℕ };
-
-    ghost view = { λ payload. payload.bytes.items };
-}
-
-impl Payload {
-    /// A payload of these bytes. It takes no memory.
-    pub fn from_vec(bytes: Vec<u8>) -> Payload
-        ensures { result ≡ bytes.items }
-    {
-        Payload { bytes }
-    }
-
-    /// The payload's bytes. It takes no memory.
-    pub fn into_vec(self) -> Vec<u8>
-        ensures { result.items ≡ self }
-    {
-        let Payload { bytes } = self;
-        bytes
-    }
-
-    /// The payload's bytes.
-    pub fn as_slice(&self) -> &[u8]
-        ensures { result.now ≡ self.now }
-    {
-        self.bytes.as_slice()
-    }
-
-    /// How many bytes it has.
-    pub fn len(&self) -> usize
-        ensures { result ≡ length self.now }
-    {
-        self.bytes.len()
-    }
-
-    /// The same bytes once more. Only memory fails it.
-    pub fn copy(&self) -> Result<Payload, AllocError>
-        ensures { IfOk result (λ payload. payload ≡ self.now) }
-    {
-        Ok(Payload {
-            bytes: self.bytes.clone()?,
-        })
-    }
-}
-
 /// A frame, whatever stands in its fields: `encode` says whether it has a spelling.
 #[derive(Debug, Drop)]
 pub struct Frame {
@@ -133,14 +78,15 @@ pub struct Frame {
     pub seq: u64,
     /// The number of the next item that its sender hasn't accepted yet.
     pub ack: u64,
-    /// What it carries.
-    pub payload: Payload,
+    /// The bytes that it carries: an item in a Data frame, a reason's number in a Close frame.
+    pub payload: Bytes,
 }
 
 impl Frame {
-    /// An equal frame. Only memory fails it.
+    /// An equal frame. Only memory fails it, and a frame that carries nothing takes none.
     pub fn copy(&self) -> Result<Frame, AllocError>
-        ensures { IfOk result (λ frame. frame ≡ self.now) }
+        ensures same { IfOk result (λ frame. frame ≡ self.now) }
+        ensures memory { OnErr result (0 < length self.now.payload) }
     {
         Ok(Frame {
             kind: self.kind,

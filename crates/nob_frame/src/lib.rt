@@ -1,6 +1,7 @@
 //! Frames and their one spelling in bytes.
 #![tactic(auto)]
 
+pub mod comparing;
 mod fault;
 mod feed;
 mod frame;
@@ -11,6 +12,7 @@ mod writing;
 
 pub use fault::{FrameError, FrameFault};
 pub use feed::Feed;
-pub use frame::{Frame, FrameKind, Payload};
+pub use frame::{Frame, FrameKind};
+pub use nob_bytes::Bytes as Payload;
 pub use reading::decode;
 pub use writing::encode;

@@ -1,13 +1,15 @@
 //! From bytes to frames.
 
-ghost use Rattle.std.specs.Prelude.{◌≡◌, ◌≤◌, ◌+◌, length, take, drop, IfOk, OnOk, Ok};
+ghost use Rattle.std.specs.Prelude.{◌≡◌, ◌≤◌, ◌+◌, ◌<◌, length, take, drop, IfOk, IfErr, OnOk, OnErr, Ok};
+ghost use Rattle.nob_frame.specs.declared.fault.FrameError.TheVariants.{OutOfMemory};
 ghost use Rattle.nob_frame.specs.declared.frame.Frame.{Frame};
 ghost use Rattle.nob_frame.specs.Spelling.{Spelt};
 ghost use Rattle.nob_frame.specs.Reading.{Gives, Sees, is_payload, payload_at, framed, front_of, front_at, frame_at};
 
 use crate::fault::{FrameError, FrameFault};
-use crate::frame::{Frame, FrameKind, Payload};
+use crate::frame::{Frame, FrameKind};
 use crate::header::{HEADER_LEN, Header, header_from};
+use nob_bytes::Bytes;
 use nob_ids::Reason;
 use std::alloc::{AllocError, Global};
 
@@ -51,11 +53,12 @@ pub(crate) fn front_from(bytes: &[u8]) -> Result<Header, FrameFault>
     Ok(header)
 }
 
-/// The frame of a header and a payload. Only memory fails it.
+/// The frame of a header and a payload. Only memory fails it, and no payload takes none.
 pub(crate) fn frame_of(alloc: Global, header: Header, payload: &[u8]) -> Result<Frame, AllocError>
-    ensures { IfOk result (λ frame. frame ≡ framed header payload.now) }
+    ensures frame { IfOk result (λ frame. frame ≡ framed header payload.now) }
+    ensures memory { OnErr result (0 < length payload.now) }
 {
-    let payload = Payload::from_vec(Vec::from_slice(alloc, payload)?);
+    let payload = Bytes::from_slice(alloc, payload)?;
     Ok(Frame {
         kind: header.kind,
         from: header.from,
@@ -69,7 +72,8 @@ pub(crate) fn frame_of(alloc: Global, header: Header, payload: &[u8]) -> Result<
 /// The frame that all of the bytes are, or the first of F1 to F11.
 #[tactic(auto, unfolding(crate::specs::Reading::frame_at))]
 fn frame_from(alloc: Global, bytes: &[u8]) -> Result<Frame, FrameError>
-    ensures { Gives (λ read. read) result (frame_at bytes.now) }
+    ensures exact { Gives (λ read. read) result (frame_at bytes.now) }
+    ensures memory { IfErr result (λ e. e ≡ OutOfMemory → 28 < length bytes.now) }
 {
     let header = front_from(bytes)?;
     let (payload, after) = bytes.split_at(HEADER_LEN).1.split_at(header.length);
@@ -89,6 +93,8 @@ pub fn decode(alloc: Global, bytes: &[u8]) -> Result<Frame, FrameError>
         → Gives (λ read. read) result (Ok frame) }
     // Which fault it is.
     ensures exact { Gives (λ read. read) result (frame_at bytes.now) }
+    // A frame that carries nothing takes no memory.
+    ensures memory { IfErr result (λ e. e ≡ OutOfMemory → 28 < length bytes.now) }
 {
     frame_from(alloc, bytes)
 }

@@ -11,8 +11,8 @@ use Rattle.nob_item.specs.Spelling.{IsCallNumber, IsStatus, Spelt}
 use Rattle.nob_item.specs.Judging.{◌>>=◌, is_status}
 use Rattle.nob_item.specs.Reading.{number_at, call_number_at, status_at, call_front, reply_front}
 use Rattle.nob_item.proofs.Choices.{bind_ok, ended_ok, ok_is}
-use Rattle.nob_ids.proofs.Bytes.{IsBytes}
-use Rattle.nob_pickle.proofs.Numbers.{back_2, back_8}
+use Rattle.nob_bytes.proofs.Lists.{IsBytes}
+use Rattle.nob_bytes.proofs.Numbers.{back_2, back_8}
 use Rattle.nob_item.proofs.Numbers.{number_takes, number_again, call_number_takes, call_number_again, status_is, status_passes}
 
 -- two lists that are one begin alike and go on alike

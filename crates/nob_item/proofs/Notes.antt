@@ -11,8 +11,8 @@ use Rattle.nob_item.specs.Spelling.{IsItemNumber, Spelt}
 use Rattle.nob_item.specs.Judging.{◌>>=◌}
 use Rattle.nob_item.specs.Reading.{number_at, item_number_at, alone, settle_at, index_at, note_by}
 use Rattle.nob_item.proofs.Choices.{bind_ok, ended_ok, choice, ok_is}
-use Rattle.nob_ids.proofs.Bytes.{IsBytes}
-use Rattle.nob_pickle.proofs.Numbers.{Takes, back_8}
+use Rattle.nob_bytes.proofs.Lists.{IsBytes}
+use Rattle.nob_bytes.proofs.Numbers.{Takes, back_8}
 use Rattle.nob_item.proofs.Numbers.{number_takes, number_again, item_number_takes, item_number_again}
 use Rattle.nob_item.proofs.Fronts.{first_is, rest_is}
 

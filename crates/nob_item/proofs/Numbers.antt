@@ -1,37 +1,21 @@
 -- Numbers as they are read and written.
-use Rattle.std.proofs.Common.{true, cond, ◌≡◌, ℕ, ◌^◌, ◌<◌, ◌≤◌, false, ltb, List, ◌++◌, length, take, drop, Ok, Err, refl, sym, ap, subst, ◌∙◌, arith}
-use Rattle.std.proofs.lemmas.Bool.{ltb-false, le-ltb}
-use Rattle.std.proofs.lemmas.List.{drop_at, take-append-drop, length-append, length-take}
-use Rattle.byteorder.specs.Endian.{big_bytes, big_number}
-use Rattle.byteorder.specs.Numbers.{big_from-take, big_from-lt, big_number-reads_back, length-bytes_high_first}
-use Rattle.nob_ids.proofs.Bytes.{IsBytes, IsBytes-drop, IsBytes-take}
-use Rattle.nob_pickle.proofs.Numbers.{ReadsBack, back_8, Takes}
+use Rattle.std.proofs.Common.{true, cond, ◌≡◌, ℕ, ◌^◌, ◌<◌, List, ◌++◌, Ok, Err, refl, subst, arith}
+use Rattle.byteorder.specs.Endian.{big_bytes}
+use Rattle.nob_bytes.proofs.Lists.{IsBytes}
+use Rattle.nob_bytes.proofs.Numbers as numbers
+use Rattle.nob_bytes.proofs.Numbers.{ReadsBack, back_8, Takes}
 use Rattle.nob_item.specs.declared.fault.ItemFault.TheVariants.{Short, Number}
 use Rattle.std.proofs.lemmas.Bool.Decides.{nat_tests}
 use Rattle.nob_item.specs.Spelling.{IsCallNumber, IsItemNumber, IsStatus}
 use Rattle.nob_item.specs.Judging.{is_call_number, is_item_number, is_status}
 use Rattle.nob_item.specs.Reading.{number_at, call_number_at, item_number_at}
-use Rattle.nob_item.proofs.Choices.{bind_ok, ended_ok, ok_is, guard_ok}
+use Rattle.nob_item.proofs.Choices.{bind_ok, ended_ok}
 
 pub number_takes : (size : ℕ) (bytes : List ℕ) (n : ℕ) (rest : List ℕ) → ReadsBack size → IsBytes bytes → number_at size bytes ≡ Ok (n, rest) → Takes bytes (big_bytes size n) rest × (n < 256 ^ size)
-number_takes size bytes n rest back fits e =
-    let g = guard_ok (ltb (length bytes) size) Short (Ok (big_number size bytes, drop size bytes)) (n, rest) e in
-    let pair : (big_number size bytes, drop size bytes) ≡ (n, rest) = ok_is (big_number size bytes, drop size bytes) (n, rest) g.1 in
-    let long : size ≤ length bytes = ltb-false _ _ g.0 in
-    let n-is : big_number size bytes ≡ n = ap (λ (p : ℕ × List ℕ). p.0) pair in
-    let rest-is : drop size bytes ≡ rest = ap (λ (p : ℕ × List ℕ). p.1) pair in
-    let same : big_number size (take size bytes) ≡ big_number size bytes = big_from-take 0 size size bytes (omega arith) in
-    let front : big_bytes size n ≡ take size bytes =
-    ap (big_bytes size) (sym n-is ∙ sym same) ∙ back (take size bytes) (omega (arith, length-take size bytes)) (IsBytes-take size bytes fits) in (
-      record { parts = sym (take-append-drop size bytes) ∙ ap (λ (x : List ℕ). x ++ drop size bytes) (sym front) ∙ ap (λ (x : List ℕ). big_bytes size n ++ x) rest-is; rest_fits = rw (← rest-is) (IsBytes-drop size bytes fits) },
-      rw (← n-is) (big_from-lt 0 size bytes fits),
-    )
+number_takes size bytes n rest back fits e = numbers.number_takes Short size bytes (n, rest) back fits e
 
 pub number_again : (size n : ℕ) (rest : List ℕ) → n < 256 ^ size → number_at size (big_bytes size n ++ rest) ≡ Ok (n, rest)
-number_again size n rest lt =
-    let len = length-bytes_high_first size n in
-    let long : ltb (length (big_bytes size n ++ rest)) size ≡ false = le-ltb _ _ (omega (arith, len, length-append (big_bytes size n) rest)) in
-    rw (long, big_number-reads_back size n rest lt, drop_at (big_bytes size n) rest size len) refl
+number_again size n rest lt = numbers.number_again Short size n rest lt
 
 -- ---- the tests
 

@@ -2,6 +2,7 @@
 use Rattle.std.specs.Prelude.{Bool, true, false, Option, Some, None, List, [], filter}
 use Rattle.nob_ids.specs.Names.{is_counted}
 use Rattle.nob_ids.specs.declared.wire_rep.WireRep.{WireRep}
+use Rattle.nob_pickle.specs.Shape.{has_inside}
 use Rattle.nob_pickle.specs.Spelling.{refs_in}
 use Rattle.nob_pickle.specs.declared.value.Value.{Value}
 use Rattle.nob_item.specs.declared.item.Item.{Item}
@@ -16,6 +17,16 @@ is_note (items.Dirty index) = true
 is_note (items.DirtyOk index) = true
 is_note (items.DirtyNo index) = true
 is_note (items.Clean index) = true
+
+-- whether there is anything in the value that an item carries: a note carries none
+abbrev pub has_value_inside : Item → Bool
+has_value_inside (items.Call call target method value) = has_inside value
+has_value_inside (items.Reply call status value) = has_inside value
+has_value_inside (items.Settle item) = false
+has_value_inside (items.Dirty index) = false
+has_value_inside (items.DirtyOk index) = false
+has_value_inside (items.DirtyNo index) = false
+has_value_inside (items.Clean index) = false
 
 -- the value that an item carries: a note carries none
 abbrev pub value_in : Item → Option Value

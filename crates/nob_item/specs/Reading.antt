@@ -1,6 +1,6 @@
 -- Reading an item from its bytes, with the first fault that is met.
-use Rattle.std.specs.Prelude.{ℕ, ◌==◌, ◌||◌, Bool, false, List, [], ◌∷◌, length, drop, nat_lt, Result, Ok, Err, if◌then◌else◌}
-use Rattle.byteorder.specs.Endian.{big_number}
+use Rattle.std.specs.Prelude.{ℕ, ◌==◌, ◌||◌, Bool, false, List, [], ◌∷◌, length, Result, Ok, Err, if◌then◌else◌}
+use Rattle.nob_bytes.specs.Numbers as numbers
 use Rattle.nob_pickle.specs.Reading.{value_read}
 use Rattle.nob_item.specs.Judging.{◌>>=◌, of_value, is_call_number, is_item_number, is_status}
 use Rattle.nob_item.specs.declared.item.Item.{Item}
@@ -10,7 +10,7 @@ use Rattle.nob_item.specs.declared.fault.ItemFault.TheVariants as faults
 
 -- a number of so many bytes, and the bytes after it
 abbrev pub number_at : ℕ → List ℕ → Result (ℕ × List ℕ) ItemFault
-number_at size bs = if nat_lt (length bs) size then Err faults.Short else Ok (big_number size bs, drop size bs)
+number_at size bs = numbers.number_at faults.Short size bs
 
 -- a call's number, judged as soon as it is read
 unfoldable pub call_number_at : List ℕ → Result (ℕ × List ℕ) ItemFault

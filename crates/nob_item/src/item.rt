@@ -1,7 +1,7 @@
 //! What an item is.
 
-ghost use Rattle.std.specs.Prelude.{◌≡◌, IfOk};
-ghost use Rattle.nob_item.specs.Kinds.{is_note};
+ghost use Rattle.std.specs.Prelude.{◌≡◌, IsTrue, IfOk, OnErr};
+ghost use Rattle.nob_item.specs.Kinds.{is_note, has_value_inside};
 
 use nob_ids::{CallNo, ItemNo};
 use nob_pickle::Value;
@@ -44,9 +44,11 @@ pub enum Item {
 }
 
 impl Item {
-    /// An equal item. Only memory fails it. It recurses once for each level of the value.
+    /// An equal item. Only memory fails it, and a note takes none, nor does an item whose value has nothing in it. It
+    /// recurses once for each level of the value.
     pub fn copy(&self) -> Result<Item, AllocError>
-        ensures { IfOk result (λ item. item ≡ self.now) }
+        ensures same { IfOk result (λ item. item ≡ self.now) }
+        ensures memory { OnErr result (IsTrue (has_value_inside self.now)) }
     {
         match self {
             Item::Call {

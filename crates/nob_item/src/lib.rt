@@ -1,6 +1,7 @@
 //! Items: what two spaces send each other, and their one spelling in bytes.
 #![tactic(auto)]
 
+pub mod comparing;
 mod counted;
 mod fault;
 mod item;
@@ -9,8 +10,8 @@ mod limits;
 mod reading;
 mod writing;
 
-pub use counted::counted_refs;
+pub use counted::{counted_ref, counted_refs};
 pub use fault::{ItemError, ItemFault};
 pub use item::Item;
 pub use reading::decode;
-pub use writing::encode;
+pub use writing::{encode, encode_call, encode_reply};

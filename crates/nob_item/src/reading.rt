@@ -8,12 +8,12 @@ ghost use Rattle.nob_item.specs.declared.item.Item.{Item as ItemOf};
 ghost use Rattle.nob_item.specs.declared.fault.ItemError.TheVariants.{OutOfMemory};
 ghost use Rattle.nob_item.specs.Spelling.{Spelt};
 ghost use Rattle.nob_item.specs.Judging.{Gives, Sees, of_value};
-ghost use Rattle.nob_item.specs.Reading.{number_at, call_number_at, item_number_at, status_at, call_front, call_at, reply_front, reply_at, settle_at, index_at, note_by, item_by, is_valued, wants_memory, item_read};
+ghost use Rattle.nob_item.specs.Reading.{call_number_at, item_number_at, status_at, call_front, call_at, reply_front, reply_at, settle_at, index_at, note_by, item_by, is_valued, wants_memory, item_read};
 
 use crate::fault::{ItemError, ItemFault};
 use crate::item::Item;
 use crate::limits::{is_call_number, is_item_number, is_status};
-use byteorder::{BigEndian, ByteOrder};
+use nob_bytes::{take_u16, take_u64};
 use nob_ids::{CallNo, ItemNo};
 use nob_pickle::Value;
 use std::alloc::Global;
@@ -119,8 +119,8 @@ fn call_front_of<'a>(bytes: &'a [u8]) -> Result<CallFront<'a>, ItemFault>
     ensures { Sees (λ x. (x.call, x.target, x.method, x.pickle.now)) result (call_front bytes.now) }
 {
     let (call, bytes) = call_number_of(bytes)?;
-    let (target, bytes) = u64_of(bytes)?;
-    let (method, pickle) = u16_of(bytes)?;
+    let (target, bytes) = take_u64(bytes, ItemFault::Short)?;
+    let (method, pickle) = take_u16(bytes, ItemFault::Short)?;
     Ok(CallFront {
         call,
         target,
@@ -163,7 +163,7 @@ fn note_of(first: u8, bytes: &[u8]) -> Result<Item, ItemFault>
 fn settled_of(bytes: &[u8]) -> Result<ItemNo, ItemFault>
     ensures { result ≡ settle_at bytes.now }
 {
-    let (number, after) = u64_of(bytes)?;
+    let (number, after) = take_u64(bytes, ItemFault::Short)?;
     let item = ItemNo::new(number);
     if !is_item_number(item) {
         return Err(ItemFault::Number);
@@ -179,7 +179,7 @@ fn settled_of(bytes: &[u8]) -> Result<ItemNo, ItemFault>
 fn index_of(bytes: &[u8]) -> Result<u64, ItemFault>
     ensures { result ≡ index_at bytes.now }
 {
-    let (index, bytes) = u64_of(bytes)?;
+    let (index, bytes) = take_u64(bytes, ItemFault::Short)?;
     if !bytes.is_empty() {
         return Err(ItemFault::Trailing);
     }
@@ -191,7 +191,7 @@ fn index_of(bytes: &[u8]) -> Result<u64, ItemFault>
 fn call_number_of(bytes: &[u8]) -> Result<(u64, &[u8]), ItemFault>
     ensures { Sees (λ x. (x.0, x.1.now)) result (call_number_at bytes.now) }
 {
-    let (number, bytes) = u64_of(bytes)?;
+    let (number, bytes) = take_u64(bytes, ItemFault::Short)?;
     if !is_call_number(CallNo::new(number)) {
         return Err(ItemFault::Number);
     }
@@ -210,22 +210,4 @@ fn status_of(bytes: &[u8]) -> Result<(u8, &[u8]), ItemFault>
         return Err(ItemFault::Status);
     }
     Ok((*status, bytes))
-}
-
-fn u16_of(bytes: &[u8]) -> Result<(u16, &[u8]), ItemFault>
-    ensures { Sees (λ x. (x.0, x.1.now)) result (number_at 2 bytes.now) }
-{
-    if bytes.len() < 2 {
-        return Err(ItemFault::Short);
-    }
-    Ok((BigEndian::read_u16(bytes), bytes.split_at(2).1))
-}
-
-fn u64_of(bytes: &[u8]) -> Result<(u64, &[u8]), ItemFault>
-    ensures { Sees (λ x. (x.0, x.1.now)) result (number_at 8 bytes.now) }
-{
-    if bytes.len() < 8 {
-        return Err(ItemFault::Short);
-    }
-    Ok((BigEndian::read_u64(bytes), bytes.split_at(8).1))
 }

@@ -1,12 +1,13 @@
 -- Two ends of one session: the runs of a pair, and what becomes of their items. The newest call stands first.
-use Rattle.std.specs.Prelude.{◌≡◌, ℕ, ◌+◌, IsTrue, List, [], ◌∷◌, ◌++◌, option_to_list, Contains}
+use Rattle.std.specs.Prelude.{◌≡◌, ℕ, ◌+◌, ◌≤◌, IsTrue, List, [], ◌∷◌, ◌++◌, length, Option, Some, None, Ok, option_to_list, Contains}
+use Rattle.std.specs.Option.{option_or}
 use Rattle.nob_ids.specs.declared.limits.Limits.{Limits}
 use Rattle.nob_frame.specs.declared.frame.Frame.{Frame}
 use Rattle.nob_model_end.specs.declared.entry.EndEntry.{EndEntry}
-use Rattle.nob_model_end.specs.declared.entry.EndEntry.TheVariants.{Transmit, Arrive, Take}
+use Rattle.nob_model_end.specs.declared.entry.EndEntry.TheVariants.{Send, Transmit, Arrive, Front, Take}
 use Rattle.nob_model_end.specs.declared.entry.PairEntry.{PairEntry}
 use Rattle.nob_model_end.specs.declared.entry.PairEntry.TheVariants.{First, Second}
-use Rattle.nob_model_end.specs.End.{is_open, handed}
+use Rattle.nob_model_end.specs.End.{is_open, handed, accepted, transmitted}
 use Rattle.nob_model_end.specs.Right.{right_front, IsRight}
 
 -- the calls on the first end
@@ -38,10 +39,23 @@ PairRun a b at_a at_b [] = Unit {0}
 PairRun a b at_a at_b (First entry ∷ J) = PairRun a b at_a at_b J × IsRight a b at_a entry (first_calls J) × ArrivesFrom (given (second_calls J)) entry
 PairRun a b at_a at_b (Second entry ∷ J) = PairRun a b at_a at_b J × IsRight b a at_b entry (second_calls J) × ArrivesFrom (given (first_calls J)) entry
 
--- the items that were taken at an end, with their numbers, the first first
+-- the items that `send` took, each with the number that it told, the first first
+abbrev pub sent : List EndEntry → List (ℕ × List ℕ)
+sent [] = []
+sent (Send payload kind (Ok n) ∷ L) = sent L ++ (n, payload) ∷ []
+sent (_ ∷ L) = sent L
+
+-- the item that `front` told last, with its number, if nothing was taken since
+abbrev pub told : List EndEntry → Option (ℕ × List ℕ)
+told [] = None
+told (Front answer ∷ L) = answer
+told (Take ∷ L) = None
+told (_ ∷ L) = told L
+
+-- the items that were taken at an end, each with the number that `front` told before, the first first. Where `front` told none, it is the first that waits
 abbrev pub taken : List EndEntry → List (ℕ × List ℕ)
 taken [] = []
-taken (Take ∷ L) = taken L ++ option_to_list (right_front L)
+taken (Take ∷ L) = taken L ++ option_to_list (option_or (told L) (right_front L))
 taken (_ ∷ L) = taken L
 
 -- payloads with their numbers, from n on
@@ -59,13 +73,25 @@ TakesWhileOpen [] = Unit {0}
 TakesWhileOpen (Take ∷ L) = IsTrue (is_open L) × TakesWhileOpen L
 TakesWhileOpen (_ ∷ L) = TakesWhileOpen L
 
--- the fronts of a pair: what was taken at each end, with its numbers, is a beginning of what `send` of the other end took, every item once and in order, and nothing is taken after that end closed
+-- the fronts of a pair: what was taken at each end, with the numbers that `front` told, is a beginning of what `send` of the other end took, with the numbers that it told, every item once and in order; these numbers are 1, 2, ..; and nothing is taken after that end closed
 pub record PairFronts (J : List PairEntry) : Type 0 where
-  pub at_second : IsBeginning (taken (second_calls J)) (numbered 1 (handed (first_calls J)))
-  pub at_first : IsBeginning (taken (first_calls J)) (numbered 1 (handed (second_calls J)))
+  pub at_second : IsBeginning (taken (second_calls J)) (sent (first_calls J))
+  pub at_first : IsBeginning (taken (first_calls J)) (sent (second_calls J))
+  pub first_numbers : sent (first_calls J) ≡ numbered 1 (handed (first_calls J))
+  pub second_numbers : sent (second_calls J) ≡ numbered 1 (handed (second_calls J))
   pub second_while_open : TakesWhileOpen (second_calls J)
   pub first_while_open : TakesWhileOpen (first_calls J)
 
 -- the pair law: every run of a pair has its fronts
 abbrev pub PairLaw : Type 0
 PairLaw = (a b : ℕ) (at_a at_b : Limits) (J : List PairEntry) → PairRun a b at_a at_b J → PairFronts J
+
+-- how far the items of one end came: those that the other accepted are a beginning of those that were handed, and the highest number that was transmitted lies between
+pub record Reaches (sender receiver : List EndEntry) : Type 0 where
+  pub front : IsBeginning (accepted receiver) (handed sender)
+  pub accepted_transmitted : length (accepted receiver) ≤ transmitted sender
+  pub transmitted_handed : transmitted sender ≤ length (handed sender)
+
+-- in every run of a pair the items of each end came so far
+abbrev pub AcceptedLaw : Type 0
+AcceptedLaw = (a b : ℕ) (at_a at_b : Limits) (J : List PairEntry) → PairRun a b at_a at_b J → Reaches (first_calls J) (second_calls J) × Reaches (second_calls J) (first_calls J)

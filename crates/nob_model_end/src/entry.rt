@@ -1,10 +1,11 @@
 //! The calls on one end of a session, with their answers, as plain data.
 
-ghost use Rattle.std.specs.Prelude.{◌≡◌, length};
+ghost use Rattle.std.specs.Prelude.{◌≡◌, IfOk, length};
 
 use crate::refusal::EndRefusal;
 use nob_frame::{Frame, Payload};
 use nob_ids::{ItemNo, Reason, SpaceId};
+use std::alloc::AllocError;
 use std::marker::Model;
 
 /// How an item counts: whether `send` refuses it while too many are unacknowledged.
@@ -73,6 +74,17 @@ impl Frames {
         ensures { result.now ≡ self.now }
     {
         self.items.as_slice()
+    }
+
+    /// Equal frames. Only memory fails it.
+    pub fn copy(&self) -> Result<Frames, AllocError>
+        ensures { IfOk result (λ frames. frames ≡ self.now) }
+    {
+        let mut items = Vec::with_capacity(*self.items.allocator(), self.items.len())?;
+        for frame in &self.items {
+            items.push(frame.copy()?)?;
+        }
+        Ok(Frames { items })
     }
 }
 

@@ -3,6 +3,7 @@
 //! list of calls; each has its definition as its contract, and faster bodies are compared with them in tests.
 #![tactic(auto)]
 
+pub mod comparing;
 mod entry;
 mod refusal;
 pub mod right;

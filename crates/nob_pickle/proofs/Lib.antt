@@ -1,6 +1,8 @@
 pub mod Forests
 pub mod Parts
 pub mod Loop
+pub mod Counted
+pub mod Ahead
 pub mod Written
 pub mod Choices
 pub mod Numbers

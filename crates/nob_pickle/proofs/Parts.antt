@@ -1,11 +1,11 @@
 -- What the parts of a value tell of the value.
-use Rattle.std.proofs.Common.{◌≡◌, ◌+◌, List, [], ◌∷◌, ◌++◌, length, refl, sym, ap, ◌∙◌, append_assoc, length-append, arith, Bor}
+use Rattle.std.proofs.Common.{◌≡◌, List, [], ◌∷◌, ◌++◌, length, refl, sym, ap, ◌∙◌, append_assoc, Bor}
 use Rattle.std.proofs.lemmas.List.{append-nil, nil_from_length}
 use Rattle.nob_ids.specs.declared.wire_rep.WireRep.{WireRep}
 use Rattle.nob_pickle.specs.Trees.{Tree, unit, int, bytes, list, ref, Trees, none, more}
 use Rattle.nob_pickle.specs.Shape.{tree, forest}
-use Rattle.nob_pickle.specs.Spelling.{spelled, spelled_all, refs, all_refs}
-use Rattle.nob_pickle.specs.Parts.{parts, all_parts, refs_among, heads_length, parts_ahead}
+use Rattle.nob_pickle.specs.Spelling.{refs, all_refs}
+use Rattle.nob_pickle.specs.Parts.{parts, all_parts, refs_among, parts_ahead}
 use Rattle.nob_pickle.specs.declared.value.Value.{Value}
 
 -- a slice that is put last is met first
@@ -37,24 +37,6 @@ mutual
       refs_among-append (parts t) (all_parts ts)
       ∙ ap (λ (rs : List WireRep). rs ++ refs_among (all_parts ts)) (refs_among_parts t)
       ∙ ap (λ (rs : List WireRep). refs t ++ rs) (refs_among-all_parts ts)
-
-heads_length-append : (ts us : List Tree) → heads_length (ts ++ us) ≡ heads_length ts + heads_length us
-heads_length-append [] us = omega arith
-heads_length-append (t ∷ ts) us = omega (arith, heads_length-append ts us)
-
-mutual
-  -- the parts of a tree are as long as its spelling
-  pub heads_length_parts : (t : Tree) → heads_length (parts t) ≡ length (spelled t)
-  heads_length_parts unit = refl
-  heads_length_parts (int n) = refl
-  heads_length_parts (bytes bs) = omega (arith, length-append (spelled (bytes [])) bs)
-  heads_length_parts (list ts) = omega (arith, heads_length-all_parts ts)
-  heads_length_parts (ref r) = refl
-
-  heads_length-all_parts : (ts : Trees) → heads_length (all_parts ts) ≡ length (spelled_all ts)
-  heads_length-all_parts none = refl
-  heads_length-all_parts (more t ts) =
-      omega (arith, heads_length-append (parts t) (all_parts ts), heads_length_parts t, heads_length-all_parts ts, length-append (spelled t) (spelled_all ts))
 
 -- a slice with nothing in it is nothing to meet
 pub parts_ahead-empty : (ss : List (Bor (List Value))) (s : Bor (List Value)) → length s.now ≡ 0 → parts_ahead (ss ++ s ∷ []) ≡ parts_ahead ss

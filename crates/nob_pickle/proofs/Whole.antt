@@ -1,6 +1,6 @@
 -- A pickle as a whole: what is read of it, what is written, and that no spelling begins another.
-use Rattle.std.proofs.Common.{◌≡◌, ℕ, ◌-◌, ◌≤◌, true, false, cond, ltb, eqb, List, [], ◌++◌, length, Result, Ok, Err, refl, sym, ap, subst, ◌∙◌, arith, Vec, Global}
-use Rattle.std.specs.Prelude.{IfOk, OnOk, nat_le}
+use Rattle.std.proofs.Common.{◌≡◌, ℕ, ◌-◌, ◌≤◌, true, false, cond, ltb, eqb, List, [], ◌++◌, length, Result, Ok, Err, refl, sym, ap, subst, ◌∙◌, arith}
+use Rattle.std.specs.Prelude.{IfOk, OnOk, MatchResult, nat_le}
 use Rattle.std.proofs.lemmas.Bool.{ltb-false, le-ltb, le-leb, leb-true, eqb-true, and_from, and_parts}
 use Rattle.std.proofs.lemmas.List.{append-nil, nil_from_length}
 use Rattle.nob_pickle.specs.Trees.{Tree}
@@ -85,27 +85,28 @@ pickle_spelt v p typed e =
     let b = bind_ok (references_left (tree v) 16 32) (λ left. Ok (spelling v)) p g.1 in
     record { fits = record { typed = typed; in_limits = limits_from v b.0 b.1 (ltb-false _ _ g.0) }; is_spelling = sym (ok_is (spelling v) p b.2) }
 
-fits_pickle : (v : Value) → Fits v → pickle_of v ≡ Ok (spelling v)
+pub fits_pickle : (v : Value) → Fits v → pickle_of v ≡ Ok (spelling v)
 unfolding pickle_of
 fits_pickle v fits =
     let j = judged_from v fits.in_limits in
     let short : ltb 16000 (length (spelling v)) ≡ false = le-ltb _ _ j.1 in
     rw (short, j.0) refl
 
-pub spelt_by : (r : Result (Vec ℕ Global) PickleError) (v : Value) → OnOk r (IsTyped (tree v)) → Gives (λ p. p.items) r (pickle_of v) → IfOk r (λ p. Spelt p.items v)
-spelt_by (Ok p) v typed e = pickle_spelt v p.items typed e
-spelt_by (Err e) v typed h = tt
+-- what was judged fits
+pub judged_fits : (v : Value) → IsTyped (tree v) → pickle_of v ≡ Ok (spelling v) → Fits v
+judged_fits v typed e = (pickle_spelt v (spelling v) typed e).fits
 
-pub short_by : (r : Result (Vec ℕ Global) PickleError) (v : Value) → Gives (λ p. p.items) r (pickle_of v) → IfOk r (λ p. length p.items ≤ 16000)
-unfolding pickle_of
-short_by (Ok p) v e =
-    let g = guard_ok (ltb 16000 (length (spelling v))) faults.TooBig (references_left (tree v) 16 32 >>= λ left. Ok (spelling v)) p.items e in
-    let b = bind_ok (references_left (tree v) 16 32) (λ left. Ok (spelling v)) p.items g.1 in
-    subst (λ (bs : List ℕ). length bs ≤ 16000) (ok_is (spelling v) p.items b.2) (ltb-false _ _ g.0)
-short_by (Err e) v h = tt
+pub judged_by : (v : Value) (r : Result ℕ PickleFault) → MatchResult r (λ len. pickle_of v ≡ Ok (spelling v)) (λ fault. pickle_of v ≡ Err fault) → OnOk r (IsTyped (tree v)) → OnOk r (Fits v)
+judged_by v (Ok len) exact typed = judged_fits v typed exact
+judged_by v (Err fault) exact typed = tt
 
-pub written_by : (r : Result (Vec ℕ Global) PickleError) (v : Value) → Fits v → Gives (λ p. p.items) r (pickle_of v) → Gives (λ p. p.items) r (Ok (spelling v))
-written_by r v fits h = subst (λ (w : Result (List ℕ) PickleFault). Gives (λ p. p.items) r w) (fits_pickle v fits) h
+-- what has a fault doesn't fit
+pub faulty : (v : Value) (fault : PickleFault) → pickle_of v ≡ Err fault → Fits v → ⊥
+faulty v fault e fits = let well = fits_pickle v fits in cc
+
+-- a pickle isn't long
+pub pickle_short : (v : Value) → Fits v → length (spelling v) ≤ 16000
+pickle_short v fits = (judged_from v fits.in_limits).1
 
 -- ---- the law
 

@@ -13,7 +13,7 @@ use Rattle.nob_pickle.specs.declared.value.Value.{Value}
 use Rattle.nob_pickle.proofs.Forests.{forest-append, spelled_all-joined, count_forest}
 
 -- the values ahead begin with this one
-first_ahead : (vs : List Value) (i : ℕ) (v : Value) → i < length vs → v ≡ get_or vs i v → drop i vs ≡ v ∷ drop (i + 1) vs
+pub first_ahead : (vs : List Value) (i : ℕ) (v : Value) → i < length vs → v ≡ get_or vs i v → drop i vs ≡ v ∷ drop (i + 1) vs
 first_ahead vs i v lt same =
     let step : drop i vs ≡ get_or vs i v ∷ drop (suc i) vs = drop-cons vs i v lt in
     rw (add-one i) (step ∙ ap (λ (w : Value). w ∷ drop (suc i) vs) (sym same))
@@ -31,13 +31,6 @@ left_goes_on vs i v levels left left' total lt same one so_far =
     let next : (references_left (tree v) levels left >>= left_after_all (forest (drop (i + 1) vs)) levels) ≡ left_after_all (forest (drop (i + 1) vs)) levels left' =
     ap (λ (r : Result ℕ PickleFault). r >>= left_after_all (forest (drop (i + 1) vs)) levels) one in
     sym (split ∙ next) ∙ so_far
-
-pub left_stops : (vs : List Value) (i : ℕ) (v : Value) (levels left : ℕ) (fault : PickleFault) (total : Result ℕ PickleFault) → i < length vs → v ≡ get_or vs i v → references_left (tree v) levels left ≡ Err fault
-    → left_after_all (forest (drop i vs)) levels left ≡ total → total ≡ Err fault
-left_stops vs i v levels left fault total lt same one so_far =
-    sym so_far
-    ∙ ap (λ (us : List Value). left_after_all (forest us) levels left) (first_ahead vs i v lt same)
-    ∙ ap (λ (r : Result ℕ PickleFault). r >>= left_after_all (forest (drop (i + 1) vs)) levels) one
 
 pub written_goes_on : (vs : List Value) (i : ℕ) (v : Value) (old now next : List ℕ) → i < length vs → v ≡ get_or vs i v → now ≡ old ++ spelled_all (forest (take i vs)) → next ≡ now ++ spelled (tree v)
     → next ≡ old ++ spelled_all (forest (take (i + 1) vs))

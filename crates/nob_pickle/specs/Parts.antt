@@ -1,10 +1,9 @@
 -- The parts of a value in reading order: how a walk without recursion sees it.
-use Rattle.std.specs.Prelude.{ℕ, ◌+◌, List, [], ◌∷◌, ◌++◌}
+use Rattle.std.specs.Prelude.{List, [], ◌∷◌, ◌++◌}
 use denote.Ref.{Bor}
 use Rattle.nob_ids.specs.declared.wire_rep.WireRep.{WireRep}
 use Rattle.nob_pickle.specs.Trees.{Tree, unit, int, bytes, list, ref, Trees, none, more}
 use Rattle.nob_pickle.specs.Shape.{forest}
-use Rattle.nob_pickle.specs.Spelling.{head_length}
 use Rattle.nob_pickle.specs.declared.value.Value.{Value}
 
 abbrev mutual
@@ -29,11 +28,6 @@ refs_among (int n ∷ ts) = refs_among ts
 refs_among (bytes bs ∷ ts) = refs_among ts
 refs_among (list us ∷ ts) = refs_among ts
 refs_among (ref r ∷ ts) = r ∷ refs_among ts
-
--- how long the spellings of parts are, each part's elements aside
-abbrev pub heads_length : List Tree → ℕ
-heads_length [] = 0
-heads_length (t ∷ ts) = head_length t + heads_length ts
 
 -- the parts that a walk has ahead of it, which keeps slices of values, the next one last
 abbrev pub parts_ahead : List (Bor (List Value)) → List Tree

@@ -1,7 +1,8 @@
 -- Reading from the front, with the first fault that is met.
-use Rattle.std.specs.Prelude.{ℕ, zero, suc, ◌-◌, ◌==◌, ◌||◌, Bool, false, List, [], ◌∷◌, length, take, drop, nat_lt, Result, Ok, Err, if◌then◌else◌, not}
+use Rattle.std.specs.Prelude.{ℕ, zero, suc, ◌-◌, ◌==◌, ◌&&◌, ◌||◌, Bool, false, List, [], ◌∷◌, length, take, drop, nat_lt, Result, Ok, Err, if◌then◌else◌, not}
 use Rattle.std.specs.Int.{w64, cast_signed}
 use Rattle.byteorder.specs.Endian.{big_number}
+use Rattle.nob_bytes.specs.Numbers as numbers
 use Rattle.nob_ids.specs.Names.{is_space}
 use Rattle.nob_pickle.specs.Trees.{Tree, unit, int, bytes, list, ref, Trees, none, more}
 use Rattle.nob_pickle.specs.Shape.{value}
@@ -17,7 +18,7 @@ Front T = Result (T × ℕ × List ℕ) PickleFault
 
 -- a number of so many bytes, and the bytes after it
 abbrev pub number_at : ℕ → List ℕ → Result (ℕ × List ℕ) PickleFault
-number_at size bs = if nat_lt (length bs) size then Err faults.Short else Ok (big_number size bs, drop size bs)
+number_at size bs = numbers.number_at faults.Short size bs
 
 -- a whole number, behind its first byte
 unfoldable pub int_at : ℕ → List ℕ → Front Tree
@@ -68,10 +69,22 @@ unfoldable pub tree_at : ℕ → ℕ → List ℕ → Front Tree
 tree_at zero left bs = Err faults.Depth
 tree_at (suc levels) left bs = tree_by (tree_at levels) left bs
 
--- whether what stands in front is bytes or a list: reading anything else takes no memory
+-- whether a number is at least 1 and at most another
+abbrev pub is_some_of : ℕ → ℕ → Bool
+is_some_of most n = nat_lt 0 n && not (nat_lt most n)
+
+-- whether bytes, behind their first byte, are at least one and not too many, and all there
+abbrev pub has_bytes : List ℕ → Bool
+has_bytes bs = not (nat_lt (length bs) 4) && (is_some_of most_bytes (big_number 4 bs) && not (nat_lt (length (drop 4 bs)) (big_number 4 bs)))
+
+-- whether a list, behind its first byte, has at least one element and not too many
+abbrev pub has_elements : List ℕ → Bool
+has_elements bs = not (nat_lt (length bs) 2) && is_some_of most_elements (big_number 2 bs)
+
+-- whether what stands in front is such bytes or such a list: reading anything else takes no memory
 abbrev pub wants_memory : List ℕ → Bool
 wants_memory [] = false
-wants_memory (first ∷ bs) = first == 2 || first == 3
+wants_memory (first ∷ bs) = (first == 2 && has_bytes bs) || (first == 3 && has_elements bs)
 
 -- the value that all of the bytes spell: none of more than 16,000 bytes; 16 levels, 32 references, and no byte after it
 unfoldable pub value_read : List ℕ → Result Value PickleFault

@@ -1,6 +1,6 @@
 -- The tree that a value is.
-use Rattle.std.specs.Prelude.{List, [], ◌∷◌}
-use Rattle.nob_pickle.specs.Trees.{Tree, Trees, none, more}
+use Rattle.std.specs.Prelude.{Bool, false, List, [], ◌∷◌, length, nat_lt}
+use Rattle.nob_pickle.specs.Trees.{Tree, Trees, none, more, count}
 use Rattle.nob_pickle.specs.Trees as trees
 use Rattle.nob_pickle.specs.declared.value.Value.{Value}
 use Rattle.nob_pickle.specs.declared.value.Value.TheVariants as values
@@ -25,3 +25,11 @@ value (trees.ref r) = values.Ref r
 abbrev pub forest : List Value → Trees
 forest [] = none
 forest (v ∷ vs) = more (tree v) (forest vs)
+
+-- whether there is anything in a value: a byte or an element
+abbrev pub has_inside : Value → Bool
+has_inside values.Unit = false
+has_inside (values.Int n) = false
+has_inside (values.Bytes bs) = nat_lt 0 (length bs)
+has_inside (values.List ts) = nat_lt 0 (count ts)
+has_inside (values.Ref r) = false

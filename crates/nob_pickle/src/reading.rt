@@ -1,17 +1,17 @@
 //! Bytes to values.
 
-ghost use Rattle.std.specs.Prelude.{◌≡◌, ◌≢◌, ℕ, ◌≤◌, ◌^◌, length, IsTrue, IfOk, IfErr, Ok};
+ghost use Rattle.std.specs.Prelude.{◌≡◌, ◌≢◌, ℕ, ◌<◌, ◌≤◌, length, IsTrue, IfOk, IfErr, Ok};
 ghost use Rattle.nob_pickle.specs.Shape.{tree, forest};
 ghost use Rattle.nob_pickle.specs.Limits.{Spelt};
 ghost use Rattle.nob_pickle.specs.Writing.{Gives};
-ghost use Rattle.nob_pickle.specs.Reading.{number_at, int_at, bytes_at, ref_at, list_at, trees_at, tree_by, tree_at, wants_memory, value_read};
+ghost use Rattle.nob_pickle.specs.Reading.{int_at, bytes_at, ref_at, list_at, trees_at, tree_by, tree_at, has_bytes, has_elements, wants_memory, value_read};
 ghost use Rattle.nob_pickle.specs.declared.fault.PickleError.TheVariants.{OutOfMemory};
 ghost use Rattle.nob_pickle.specs.declared.value.Value.{Value as ValueOf};
 
 use crate::fault::{PickleError, PickleFault};
 use crate::limits::{MOST_BYTES, MOST_ELEMENTS, MOST_IN_ALL, MOST_LEVELS, MOST_REFERENCES};
-use crate::value::{Bytes, Value, Values};
-use byteorder::{BigEndian, ByteOrder};
+use crate::value::{Value, Values};
+use nob_bytes::{Bytes, take_u16, take_u32, take_u64};
 use nob_ids::{SpaceId, WireRep};
 use std::alloc::Global;
 
@@ -25,13 +25,15 @@ struct Rest<'a> {
 /// The value that all of the bytes spell: Ok exactly where they do. Else the first fault: P8 for more than
 /// 16,000 bytes; then, from the front, P5 for a value at depth 17, P1 for a missing byte, P2 for a first byte
 /// that no value has, P3 and P4 for a length or a count above its limit, P7 for an owner that is no space,
-/// P8 for the 33rd reference; then P6 for a byte after the value. Only bytes and lists take memory, and want of
-/// it may be answered in place of a fault that stands in or behind them. It takes time linear in the bytes.
+/// P8 for the 33rd reference; then P6 for a byte after the value. Only bytes and lists with something in them take
+/// memory, and want of it may be answered in place of a fault that stands in or behind them. It takes time linear in the
+/// bytes.
 pub fn decode(alloc: Global, bytes: &[u8]) -> Result<Value, PickleError>
     ensures found { IfOk result (λ value. Spelt bytes.now value) }
     ensures only { (value : ValueOf) → Spelt bytes.now value → Gives (λ v. v) result (Ok value) }
     ensures exact { Gives (λ v. v) result (value_read bytes.now) }
-    // Memory can run out for bytes and lists alone, and never for more than 16,000 bytes.
+    // Memory can run out for bytes and lists alone that are in their limits and not empty, and never for more than
+    // 16,000 bytes.
     ensures memory { IfErr result (λ e. e ≡ OutOfMemory → (length bytes.now ≤ 16000) × IsTrue (wants_memory bytes.now)) }
 {
     whole(alloc, bytes)
@@ -105,9 +107,10 @@ fn value_by<'a>(
 #[cycle(reading)]
 #[tactic(auto, unfolding(crate::specs::Reading::list_at))]
 fn list_of<'a>(alloc: Global, levels: u32, rest: Rest<'a>) -> Result<(Value, Rest<'a>), PickleError>
-    ensures { Gives (λ x. (tree x.0, x.1.references, x.1.bytes.now)) result (list_at (tree_at levels) rest.entry.references rest.entry.bytes.now) }
+    ensures exact { Gives (λ x. (tree x.0, x.1.references, x.1.bytes.now)) result (list_at (tree_at levels) rest.entry.references rest.entry.bytes.now) }
+    ensures memory { IfErr result (λ e. e ≡ OutOfMemory → IsTrue (has_elements rest.entry.bytes.now)) }
 {
-    let (count, bytes) = u16_of(rest.bytes)?;
+    let (count, bytes) = take_u16(rest.bytes, PickleFault::Short)?;
     if count as usize > MOST_ELEMENTS {
         return Err(PickleError::Fault(PickleFault::Count));
     }
@@ -128,7 +131,8 @@ fn values_of<'a>(
     count: u16,
     rest: Rest<'a>,
 ) -> Result<(Values, Rest<'a>), PickleError>
-    ensures { Gives (λ x. (x.0, x.1.references, x.1.bytes.now)) result (trees_at (tree_at levels) count rest.entry.references rest.entry.bytes.now) }
+    ensures exact { Gives (λ x. (x.0, x.1.references, x.1.bytes.now)) result (trees_at (tree_at levels) count rest.entry.references rest.entry.bytes.now) }
+    ensures memory { IfErr result (λ e. e ≡ OutOfMemory → 0 < count) }
 {
     let mut rest = rest;
     let mut items = Vec::new(alloc);
@@ -146,7 +150,7 @@ fn int_of<'a>(rest: Rest<'a>) -> Result<(Value, Rest<'a>), PickleError>
     ensures exact { Gives (λ x. (tree x.0, x.1.references, x.1.bytes.now)) result (int_at rest.entry.references rest.entry.bytes.now) }
     ensures memory { IfErr result (λ e. e ≢ OutOfMemory) }
 {
-    let (number, bytes) = u64_of(rest.bytes)?;
+    let (number, bytes) = take_u64(rest.bytes, PickleFault::Short)?;
     let rest = Rest {
         bytes,
         references: rest.references,
@@ -157,9 +161,10 @@ fn int_of<'a>(rest: Rest<'a>) -> Result<(Value, Rest<'a>), PickleError>
 /// Bytes, behind their first byte.
 #[tactic(auto, unfolding(crate::specs::Reading::bytes_at))]
 fn bytes_of<'a>(alloc: Global, rest: Rest<'a>) -> Result<(Value, Rest<'a>), PickleError>
-    ensures { Gives (λ x. (tree x.0, x.1.references, x.1.bytes.now)) result (bytes_at rest.entry.references rest.entry.bytes.now) }
+    ensures exact { Gives (λ x. (tree x.0, x.1.references, x.1.bytes.now)) result (bytes_at rest.entry.references rest.entry.bytes.now) }
+    ensures memory { IfErr result (λ e. e ≡ OutOfMemory → IsTrue (has_bytes rest.entry.bytes.now)) }
 {
-    let (len, bytes) = u32_of(rest.bytes)?;
+    let (len, bytes) = take_u32(rest.bytes, PickleFault::Short)?;
     let len = len as usize;
     if len > MOST_BYTES {
         return Err(PickleError::Fault(PickleFault::Bytes));
@@ -168,7 +173,7 @@ fn bytes_of<'a>(alloc: Global, rest: Rest<'a>) -> Result<(Value, Rest<'a>), Pick
         return Err(PickleError::Fault(PickleFault::Short));
     }
     let (items, bytes) = bytes.split_at(len);
-    let items = Bytes::from_vec(Vec::from_slice(alloc, items)?);
+    let items = Bytes::from_slice(alloc, items)?;
     let rest = Rest {
         bytes,
         references: rest.references,
@@ -182,8 +187,8 @@ fn reference_of<'a>(rest: Rest<'a>) -> Result<(Value, Rest<'a>), PickleError>
     ensures exact { Gives (λ x. (tree x.0, x.1.references, x.1.bytes.now)) result (ref_at rest.entry.references rest.entry.bytes.now) }
     ensures memory { IfErr result (λ e. e ≢ OutOfMemory) }
 {
-    let (owner, bytes) = u16_of(rest.bytes)?;
-    let (index, bytes) = u64_of(bytes)?;
+    let (owner, bytes) = take_u16(rest.bytes, PickleFault::Short)?;
+    let (index, bytes) = take_u64(bytes, PickleFault::Short)?;
     let Some(owner) = SpaceId::new(owner) else {
         return Err(PickleError::Fault(PickleFault::Space));
     };
@@ -195,34 +200,4 @@ fn reference_of<'a>(rest: Rest<'a>) -> Result<(Value, Rest<'a>), PickleError>
         references: rest.references - 1,
     };
     Ok((Value::Ref(WireRep { owner, index }), rest))
-}
-
-fn u16_of(bytes: &[u8]) -> Result<(u16, &[u8]), PickleError>
-    ensures exact { Gives (λ x. (x.0, x.1.now)) result (number_at 2 bytes.now) }
-    ensures memory { IfErr result (λ e. e ≢ OutOfMemory) }
-{
-    if bytes.len() < 2 {
-        return Err(PickleError::Fault(PickleFault::Short));
-    }
-    Ok((BigEndian::read_u16(bytes), bytes.split_at(2).1))
-}
-
-fn u32_of(bytes: &[u8]) -> Result<(u32, &[u8]), PickleError>
-    ensures exact { Gives (λ x. (x.0, x.1.now)) result (number_at 4 bytes.now) }
-    ensures memory { IfErr result (λ e. e ≢ OutOfMemory) }
-{
-    if bytes.len() < 4 {
-        return Err(PickleError::Fault(PickleFault::Short));
-    }
-    Ok((BigEndian::read_u32(bytes), bytes.split_at(4).1))
-}
-
-fn u64_of(bytes: &[u8]) -> Result<(u64, &[u8]), PickleError>
-    ensures exact { Gives (λ x. (x.0, x.1.now)) result (number_at 8 bytes.now) }
-    ensures memory { IfErr result (λ e. e ≢ OutOfMemory) }
-{
-    if bytes.len() < 8 {
-        return Err(PickleError::Fault(PickleFault::Short));
-    }
-    Ok((BigEndian::read_u64(bytes), bytes.split_at(8).1))
 }

@@ -1,8 +1,10 @@
 //! Values: what calls and replies carry.
 
-ghost use Rattle.std.specs.Prelude.{◌≡◌, IfOk, length};
-ghost use Rattle.nob_pickle.specs.Shape.{tree, forest};
+ghost use Rattle.std.specs.Prelude.{◌≡◌, ◌<◌, IsTrue, IfOk, OnErr};
+ghost use Rattle.nob_pickle.specs.Shape.{forest, has_inside};
+ghost use Rattle.nob_pickle.specs.Trees.{count};
 
+use nob_bytes::Bytes;
 use nob_ids::WireRep;
 use std::alloc::AllocError;
 use std::marker::Model;
@@ -24,10 +26,12 @@ pub enum Value {
 }
 
 impl Value {
-    /// An equal value. Only memory fails it. It recurses once for each level of the value.
+    /// An equal value. Only memory fails it, and a value with nothing in it takes none: no bytes and no elements. It
+    /// recurses once for each level of the value.
     #[cycle(copy)]
     pub fn copy(&self) -> Result<Value, AllocError>
-        ensures { IfOk result (λ value. value ≡ self.now) }
+        ensures same { IfOk result (λ value. value ≡ self.now) }
+        ensures memory { OnErr result (IsTrue (has_inside self.now)) }
     {
         match self {
             Value::Unit => Ok(Value::Unit),
@@ -37,20 +41,6 @@ impl Value {
             Value::Ref(rep) => Ok(Value::Ref(*rep)),
         }
     }
-}
-
-/// The bytes of a value. Contracts see their list.
-#[derive(Debug, Drop)]
-pub struct Bytes {
-    bytes: Vec<u8>,
-}
-
-impl Model for Bytes {
-    ghost use Rattle.std.specs.Prelude.{List, ℕ};
-
-    ghost Value = { List ℕ };
-
-    ghost view = { λ a. a.bytes.items };
 }
 
 /// The values in a list. Contracts see them as trees, one after another.
@@ -79,39 +69,6 @@ impl Model for Values {
     ghost size_decreases = { λ a h. deep_le a.values.items };
 }
 
-impl Bytes {
-    /// These bytes. It takes no memory.
-    pub fn from_vec(bytes: Vec<u8>) -> Bytes
-        ensures { result ≡ bytes.items }
-    {
-        Bytes { bytes }
-    }
-
-    /// The bytes as a vector. It takes no memory.
-    pub fn into_vec(self) -> Vec<u8>
-        ensures { result.items ≡ self }
-    {
-        let Bytes { bytes } = self;
-        bytes
-    }
-
-    /// The bytes.
-    pub fn as_slice(&self) -> &[u8]
-        ensures { result.now ≡ self.now }
-    {
-        self.bytes.as_slice()
-    }
-
-    /// The same bytes once more. Only memory fails it.
-    pub fn copy(&self) -> Result<Bytes, AllocError>
-        ensures { IfOk result (λ bytes. bytes ≡ self.now) }
-    {
-        Ok(Bytes {
-            bytes: self.bytes.clone()?,
-        })
-    }
-}
-
 impl Values {
     /// These values. It takes no memory.
     pub fn from_vec(values: Vec<Value>) -> Values
@@ -135,11 +92,18 @@ impl Values {
         self.values.as_slice()
     }
 
-    /// Equal values. Only memory fails it. It recurses once for each level of the values.
+    /// Equal values. Only memory fails it, and no values take none. It recurses once for each level of the values.
     #[cycle(copy)]
+    #[tactic(auto, using(crate::proofs::Forests::count_forest))]
     pub fn copy(&self) -> Result<Values, AllocError>
-        ensures { IfOk result (λ values. values ≡ self.now) }
+        ensures same { IfOk result (λ values. values ≡ self.now) }
+        ensures memory { OnErr result (0 < count self.now) }
     {
+        if self.values.is_empty() {
+            return Ok(Values {
+                values: Vec::new(*self.values.allocator()),
+            });
+        }
         let mut copies = Vec::with_capacity(*self.values.allocator(), self.values.len())?;
         for value in &self.values {
             copies.push(value.copy()?)?;

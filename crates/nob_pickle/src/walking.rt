@@ -1,8 +1,8 @@
 //! What stands in a value, however deep: found without recursion.
 
-ghost use Rattle.std.specs.Prelude.{◌≡◌, ◌<◌, ◌≤◌, ◌∷◌, [], length, IfOk, MatchOption};
+ghost use Rattle.std.specs.Prelude.{◌≡◌, ◌∷◌, [], IfOk, MatchOption};
 ghost use Rattle.nob_pickle.specs.Shape.{tree, forest};
-ghost use Rattle.nob_pickle.specs.Spelling.{refs_in, spelling, head_length};
+ghost use Rattle.nob_pickle.specs.Spelling.{refs_in};
 ghost use Rattle.nob_pickle.specs.Parts.{parts, all_parts, parts_ahead};
 
 use crate::value::Value;
@@ -24,23 +24,6 @@ pub fn refs_of(alloc: Global, value: &Value) -> Result<Vec<WireRep>, AllocError>
         }
     }
     Ok(refs)
-}
-
-/// How many bytes the value's spelling has: None where there are more than `most`. It looks at no more values
-/// than `most`, and doesn't recurse. Only memory fails it.
-#[tactic(auto, using(crate::proofs::Parts::heads_length_parts))]
-pub fn spelled_len(alloc: Global, value: &Value, most: usize) -> Result<Option<usize>, AllocError>
-    ensures { IfOk result (λ len. MatchOption len (most < length (spelling value.now)) (λ n. (n ≡ length (spelling value.now)) × (n ≤ most))) }
-{
-    let mut room = most;
-    let mut ahead = whole(alloc, value)?;
-    while let Some(part) = next_part(&mut ahead)? {
-        let Some(left) = room.checked_sub(head_len(part)) else {
-            return Ok(None);
-        };
-        room = left;
-    }
-    Ok(Some(most - room))
 }
 
 /// What a walk over the value has ahead of it at first.
@@ -75,18 +58,5 @@ fn elements(value: &Value) -> &[Value]
     match value {
         Value::List(inner) => inner.as_slice(),
         Value::Unit | Value::Int(_) | Value::Bytes(_) | Value::Ref(_) => &[],
-    }
-}
-
-/// How many bytes the value's spelling has, those of its elements aside.
-fn head_len(value: &Value) -> usize
-    ensures { result ≡ head_length (tree value.now) }
-{
-    match value {
-        Value::Unit => 1,
-        Value::Int(_) => 9,
-        Value::Bytes(bytes) => 5 + bytes.as_slice().len(),
-        Value::List(_) => 3,
-        Value::Ref(_) => 11,
     }
 }

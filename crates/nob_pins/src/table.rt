@@ -44,11 +44,13 @@ impl PinTable {
     }
 
     /// Makes room for one bundle: a `put` to this peer of pins on these references, right after it, takes no memory
-    /// and succeeds. Only memory fails it. What had room before has it still, whatever the answer.
+    /// and succeeds. Only memory fails it, and not where there is room. What had room before has it still, whatever
+    /// the answer.
     #[tactic(auto, unfolding(crate::specs::Bundles::has_room))]
     pub fn reserve(&mut self, peer: SpaceId, reps: &[WireRep]) -> Result<(), AllocError>
         ensures bundles { self.new.bundles ≡ self.old.bundles }
         ensures room { OnOk result (has_room self.new peer reps.now ≡ true) }
+        ensures there { has_room self.old peer reps.now ≡ true → IsOk result }
         ensures kept { KeepsRoom self.old self.new }
     {
         self.bundles.reserve(1)

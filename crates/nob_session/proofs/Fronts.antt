@@ -1,9 +1,10 @@
 -- The pair law: an invariant of both directions of a pair, kept by each call.
 use Rattle.std.proofs.Common.{◌≡◌, ℕ, zero, suc, ◌+◌, ◌-◌, ◌<◌, ◌≤◌, ◌&&◌, Bool, true, false, cond, eqb, ltb, leb, List, [], ◌∷◌, ◌++◌, length, take, drop, Option, Some, None, Result, Ok, Err, refl, sym, ap, subst, ◌∙◌, append_assoc, arith, All, max, not}
 use Rattle.std.specs.Prelude.{option_to_list, is_some}
+use Rattle.std.specs.Option.{option_or}
 use Rattle.std.specs.List.{AllByRecursion, Contains}
 use Rattle.std.proofs.lemmas.Bool.{eqb-true}
-use Rattle.std.proofs.lemmas.List.{append-nil, length-append, length-take, length-drop, take-append-drop, take-append-le}
+use Rattle.std.proofs.lemmas.List.{append-nil, length-append, length-take, length-drop, take-append-drop, take-append-le, drop-append-le}
 use Rattle.std.proofs.lemmas.List.Elements.{All-from_recursion, All-contains, All-append, All-nil}
 use Rattle.nob_ids.specs.declared.limits.Limits.{Limits}
 use Rattle.nob_ids.specs.declared.reason.Reason.{Reason}
@@ -13,15 +14,16 @@ use Rattle.nob_frame.specs.declared.frame.Frame.{Frame}
 use Rattle.nob_frame.specs.Kinds.{is_data, is_close}
 use Rattle.nob_model_end.specs.declared.refusal.EndRefusal.{EndRefusal}
 use Rattle.nob_model_end.specs.declared.refusal.EndRefusal.TheVariants as refusal
+use Rattle.nob_model_end.specs.declared.entry.Kind.{Kind}
 use Rattle.nob_model_end.specs.declared.entry.Arrived.{Arrived}
 use Rattle.nob_model_end.specs.declared.entry.Arrived.TheVariants as arrived
 use Rattle.nob_model_end.specs.declared.entry.EndEntry.{EndEntry}
 use Rattle.nob_model_end.specs.declared.entry.EndEntry.TheVariants.{Send, Transmit, Arrive, Front, Take, IsOpen, Tick, Close}
 use Rattle.nob_model_end.specs.declared.entry.PairEntry.{PairEntry}
 use Rattle.nob_model_end.specs.declared.entry.PairEntry.TheVariants.{First, Second}
-use Rattle.nob_model_end.specs.End.{is_open, ending, handed, lowest, accepted, takes, waiting, transmitted, data_arrived, owes_close}
-use Rattle.nob_model_end.specs.Right.{data_frames, open_frames, closed_frames, right_transmit, right_arrive, right_front, first_of, is_of_pair, is_accepted, last_item, inbox_limit, IsRight}
-use Rattle.nob_model_end.specs.Pair.{first_calls, second_calls, given, ArrivesFrom, PairRun, taken, numbered, IsBeginning, TakesWhileOpen, PairFronts, PairLaw}
+use Rattle.nob_model_end.specs.End.{is_open, ending, handed, lowest, unacknowledged, greatest_seq, accepted, takes, waiting, transmitted, data_arrived, owes_close}
+use Rattle.nob_model_end.specs.Right.{data_frames, open_frames, closed_frames, right_send, right_transmit, right_arrive, right_front, first_of, is_limited, queue_limit, is_of_pair, is_accepted, last_item, inbox_limit, IsRight}
+use Rattle.nob_model_end.specs.Pair.{first_calls, second_calls, given, ArrivesFrom, PairRun, sent, told, taken, numbered, IsBeginning, TakesWhileOpen, PairFronts, PairLaw, Reaches, AcceptedLaw}
 
 -- the payload of this number
 pub record Placed (payloads : List (List ℕ)) (n : ℕ) (payload : List ℕ) : Type 0 where
@@ -96,14 +98,52 @@ transmit_carries : (me peer w : ℕ) (L : List EndEntry) → All (Carries (hande
 transmit_carries me peer w L = All-from_recursion (Carries (handed L)) (right_transmit me peer w L)
     (frames_carry (is_open L) me peer (length (accepted L) + 1) (lowest L) w (data_arrived L) (owes_close L) (ending L) (handed L) (lowest_positive L))
 
+-- ---- the numbers of what a transmit gives
+
+-- the number of a payload is no greater than there are payloads
+placed_low : (hs : List (List ℕ)) (n : ℕ) (p : List ℕ) → Placed hs n p → n ≤ length hs
+placed_low hs n p h =
+    let len : length h.front + suc (length h.rest) ≡ length hs = sym (length-append h.front (p ∷ h.rest)) ∙ ap length h.whole in
+    omega (arith, len, h.place)
+
+seq_low : (hs : List (List ℕ)) (frame : Frame) (b : Bool) → (b ≡ true → Placed hs frame.seq frame.payload) → cond b frame.seq 0 ≤ length hs
+seq_low hs frame true carries = placed_low hs frame.seq frame.payload (carries refl)
+seq_low hs frame false carries = omega arith
+
+greatest_low : (hs : List (List ℕ)) (frames : List Frame) → AllByRecursion (Carries hs) frames → greatest_seq frames ≤ length hs
+greatest_low hs [] all = omega arith
+greatest_low hs (frame ∷ frames) all = omega (arith, seq_low hs frame (is_data frame.kind) all.0, greatest_low hs frames all.1)
+
+transmit_low : (me peer w : ℕ) (L : List EndEntry) → greatest_seq (right_transmit me peer w L) ≤ length (handed L)
+transmit_low me peer w L = greatest_low (handed L) (right_transmit me peer w L) (frames_carry (is_open L) me peer (length (accepted L) + 1) (lowest L) w (data_arrived L) (owes_close L) (ending L) (handed L) (lowest_positive L))
+
+-- a Data frame's number is at most t
+abbrev pub Below : ℕ → Frame → Type 0
+Below t frame = is_data frame.kind ≡ true → frame.seq ≤ t
+
+seq_at : (frame : Frame) (b : Bool) → b ≡ true → frame.seq ≤ cond b frame.seq 0
+seq_at frame true e = omega arith
+seq_at frame false e = absurd cc
+
+all_below : (t : ℕ) (frames : List Frame) → greatest_seq frames ≤ t → AllByRecursion (Below t) frames
+all_below t [] low = tt
+all_below t (frame ∷ frames) low = (λ d. omega (arith, low, seq_at frame (is_data frame.kind) d), all_below t frames (omega (arith, low)))
+
 -- ---- the invariant of one direction, from the calls of the sender to those of the receiver
 
 pub record Inv (sender receiver : List EndEntry) : Type 0 where
-  -- each Data frame that was given carries the payload of its number
+  -- each Data frame that was given carries the payload of its number, and that was transmitted
   pub carried : All (Carries (handed sender)) (given sender)
-  -- what was accepted is a beginning of what was handed
+  pub below : All (Below (transmitted sender)) (given sender)
+  pub high : transmitted sender ≤ length (handed sender)
+  -- the numbers that `send` told are 1, 2, ..
+  pub numbers : sent sender ≡ numbered 1 (handed sender)
+  -- what was accepted is a beginning of what was handed, and was transmitted
   pub rest : List (List ℕ)
   pub front : accepted receiver ++ rest ≡ handed sender
+  pub low : length (accepted receiver) ≤ transmitted sender
+  -- what `front` told last is the first that waits
+  pub looked : is_open receiver ≡ true → (item : ℕ × List ℕ) → told receiver ≡ Some item → right_front receiver ≡ Some item
   -- what was taken is a beginning of what was accepted, with its numbers
   pub few : takes receiver ≤ length (accepted receiver)
   pub taken_is : taken receiver ≡ numbered 1 (take (takes receiver) (accepted receiver))
@@ -112,25 +152,59 @@ pub record Inv (sender receiver : List EndEntry) : Type 0 where
 All-weaker : (P Q : Frame → Type 0) → ((f : Frame) → P f → Q f) → (fs : List Frame) → All P fs → All Q fs
 All-weaker P Q w fs h = λ k d lt. w _ (h k d lt)
 
+numbered-append : (n : ℕ) (xs ys : List (List ℕ)) → numbered n (xs ++ ys) ≡ numbered n xs ++ numbered (n + length xs) ys
+numbered-append n [] ys = ap (λ (m : ℕ). numbered m ys) (omega arith)
+numbered-append n (x ∷ xs) ys = ap (λ (zs : List (ℕ × List ℕ)). (n, x) ∷ zs) (numbered-append (n + 1) xs ys ∙ ap (λ (m : ℕ). numbered (n + 1) xs ++ numbered m ys) (omega arith))
+
+-- the number that `send` tells is the next
+number_by : (n count : ℕ) (closed full over : Bool) → Ok n ≡ cond closed (Err refusal.Closed) (cond full (Err refusal.QueueFull) (cond over (Err refusal.SeqEnd) (Ok (count + 1)))) → n ≡ count + 1
+number_by n count true full over e = absurd cc
+number_by n count false true over e = absurd cc
+number_by n count false false true e = absurd cc
+number_by n count false false false e = cc
+
+send_step : (kind : Kind) (payload : List ℕ) (n : ℕ) (S R : List EndEntry) → Ok n ≡ right_send kind S → Inv S R → Inv (Send payload kind (Ok n) ∷ S) R
+send_step kind payload n S R right i =
+    let next : n ≡ length (handed S) + 1 = number_by n (length (handed S)) (not (is_open S)) (is_limited kind && leb queue_limit (length (unacknowledged S))) (leb last_item (length (handed S))) right in
+    let number : n ≡ 1 + length (handed S) = omega (arith, next) in
+    record {
+      carried = All-weaker (Carries (handed S)) (Carries (handed S ++ payload ∷ [])) (λ f c d. Placed-append (handed S) (payload ∷ []) f.seq f.payload (c d)) (given S) i.carried;
+      below = i.below;
+      high = omega (arith, i.high, length-append (handed S) (payload ∷ []));
+      numbers = ap (λ (xs : List (ℕ × List ℕ)). xs ++ (n, payload) ∷ []) i.numbers ∙ ap (λ (m : ℕ). numbered 1 (handed S) ++ (m, payload) ∷ []) number ∙ sym (numbered-append 1 (handed S) (payload ∷ []));
+      rest = i.rest ++ payload ∷ [];
+      front = sym (append_assoc (accepted R) i.rest (payload ∷ [])) ∙ ap (λ (hs : List (List ℕ)). hs ++ payload ∷ []) i.front;
+      low = i.low;
+      looked = i.looked;
+      few = i.few;
+      taken_is = i.taken_is;
+      while_open = i.while_open;
+    }
+
+transmit_step : (me peer window : ℕ) (frames : List Frame) (S R : List EndEntry) → frames ≡ right_transmit me peer window S → Inv S R → Inv (Transmit frames ∷ S) R
+transmit_step me peer window frames S R right i =
+    let most : greatest_seq frames ≤ length (handed S) = subst (λ (fs : List Frame). greatest_seq fs ≤ length (handed S)) (sym right) (transmit_low me peer window S) in
+    record {
+      carried = All-append (Carries (handed S)) (given S) frames i.carried (subst (λ (fs : List Frame). All (Carries (handed S)) fs) (sym right) (transmit_carries me peer window S));
+      below = All-append (Below (max (transmitted S) (greatest_seq frames))) (given S) frames
+          (All-weaker (Below (transmitted S)) (Below (max (transmitted S) (greatest_seq frames))) (λ f low d. omega (arith, low d)) (given S) i.below)
+          (All-from_recursion (Below (max (transmitted S) (greatest_seq frames))) frames (all_below (max (transmitted S) (greatest_seq frames)) frames (omega arith)));
+      high = omega (arith, i.high, most);
+      numbers = i.numbers;
+      rest = i.rest;
+      front = i.front;
+      low = omega (arith, i.low);
+      looked = i.looked;
+      few = i.few;
+      taken_is = i.taken_is;
+      while_open = i.while_open;
+    }
+
 -- a call of the sender keeps it
 sender_step : (me peer : ℕ) (limits : Limits) (e : EndEntry) (S R : List EndEntry) → IsRight me peer limits e S → Inv S R → Inv (e ∷ S) R
-sender_step me peer limits (Send payload kind (Ok n)) S R right i = record {
-  carried = All-weaker (Carries (handed S)) (Carries (handed S ++ payload ∷ [])) (λ f c d. Placed-append (handed S) (payload ∷ []) f.seq f.payload (c d)) (given S) i.carried;
-  rest = i.rest ++ payload ∷ [];
-  front = sym (append_assoc (accepted R) i.rest (payload ∷ [])) ∙ ap (λ (hs : List (List ℕ)). hs ++ payload ∷ []) i.front;
-  few = i.few;
-  taken_is = i.taken_is;
-  while_open = i.while_open;
-}
-sender_step me peer limits (Transmit frames) S R right i = record {
-  carried = All-append (Carries (handed S)) (given S) frames i.carried (subst (λ (fs : List Frame). All (Carries (handed S)) fs) (sym right) (transmit_carries me peer limits.window S));
-  rest = i.rest;
-  front = i.front;
-  few = i.few;
-  taken_is = i.taken_is;
-  while_open = i.while_open;
-}
-sender_step me peer limits (_) S R right i = record { carried = i.carried; rest = i.rest; front = i.front; few = i.few; taken_is = i.taken_is; while_open = i.while_open }
+sender_step me peer limits (Send payload kind (Ok n)) S R right i = send_step kind payload n S R right i
+sender_step me peer limits (Transmit frames) S R right i = transmit_step me peer limits.window frames S R right i
+sender_step me peer limits (_) S R right i = record { carried = i.carried; below = i.below; high = i.high; numbers = i.numbers; rest = i.rest; front = i.front; low = i.low; looked = i.looked; few = i.few; taken_is = i.taken_is; while_open = i.while_open }
 
 -- ---- a call of the receiver keeps it
 
@@ -178,10 +252,6 @@ take_next zero (x ∷ xs) p ps e = let same : x ≡ p = cc in (ap (λ (y : List 
 take_next (suc k) [] p ps e = absurd cc
 take_next (suc k) (x ∷ xs) p ps e = let h = take_next k xs p ps e in (ap (λ (zs : List (List ℕ)). x ∷ zs) h.0, omega (arith, h.1))
 
-numbered-append : (n : ℕ) (xs ys : List (List ℕ)) → numbered n (xs ++ ys) ≡ numbered n xs ++ numbered (n + length xs) ys
-numbered-append n [] ys = ap (λ (m : ℕ). numbered m ys) (omega arith)
-numbered-append n (x ∷ xs) ys = ap (λ (zs : List (ℕ × List ℕ)). (n, x) ∷ zs) (numbered-append (n + 1) xs ys ∙ ap (λ (m : ℕ). numbered (n + 1) xs ++ numbered m ys) (omega arith))
-
 -- where something waits first, it is the first
 first_waits : (n : ℕ) (xs : List (List ℕ)) → is_some (first_of n xs) ≡ true → (p : List ℕ) × (ps : List (List ℕ)) × (xs ≡ p ∷ ps)
 first_waits n [] e = absurd cc
@@ -191,19 +261,39 @@ waits_open : (b : Bool) (xs : List (List ℕ)) (p : List ℕ) (ps : List (List �
 waits_open true xs p ps e = (refl, e)
 waits_open false xs p ps e = absurd cc
 
+-- what waits first waits first also once more waits
+first_stays : (n : ℕ) (xs ys : List (List ℕ)) (item : ℕ × List ℕ) → first_of n xs ≡ Some item → first_of n (xs ++ ys) ≡ Some item
+first_stays n [] ys item e = absurd cc
+first_stays n (x ∷ xs) ys item e = e
+
+front_stays : (b : Bool) (k : ℕ) (xs ys : List (List ℕ)) (item : ℕ × List ℕ) → k ≤ length xs → b ≡ true → first_of (k + 1) (cond b (drop k xs) []) ≡ Some item → first_of (k + 1) (cond b (drop k (xs ++ ys)) []) ≡ Some item
+front_stays false k xs ys item few opened e = absurd cc
+front_stays true k xs ys item few opened e = subst (λ (zs : List (List ℕ)). first_of (k + 1) zs ≡ Some item) (sym (drop-append-le k xs ys few)) (first_stays (k + 1) (drop k xs) ys item e)
+
 arrive_step : (me peer : ℕ) (limits : Limits) (frame : Frame) (k : ℕ) (S R : List EndEntry) → IsRight me peer limits (Arrive frame (Ok (arrived.Took (suc k)))) R → Contains (given S) frame → Inv S R → Inv S (Arrive frame (Ok (arrived.Took (suc k))) ∷ R)
 arrive_step me peer limits frame k S R right from i =
     let next = accepted_seq frame R (accepted_is me peer frame R k right) in
     let placed : Placed (handed S) frame.seq frame.payload = All-contains (Carries (handed S)) (given S) frame i.carried from next.0 in
+    let given_before : frame.seq ≤ transmitted S = All-contains (Below (transmitted S)) (given S) frame i.below from next.0 in
     let len : length (accepted R) ≡ length placed.front = omega (arith, next.1, placed.place) in
     record {
       carried = i.carried;
+      below = i.below;
+      high = i.high;
+      numbers = i.numbers;
       rest = placed.rest;
       front = same_front (accepted R) placed.front frame.payload i.rest placed.rest len (i.front ∙ sym placed.whole) ∙ i.front;
+      low = omega (arith, next.1, given_before, length-append (accepted R) (frame.payload ∷ []));
+      looked = λ opened item e. front_stays (is_open R) (takes R) (accepted R) (frame.payload ∷ []) item i.few opened (i.looked opened item e);
       few = omega (arith, i.few, length-append (accepted R) (frame.payload ∷ []));
       taken_is = i.taken_is ∙ ap (numbered 1) (sym (take-append-le (takes R) (accepted R) (frame.payload ∷ []) i.few));
       while_open = i.while_open;
     }
+
+-- what `front` told is what a take takes
+same_look : (t r : Option (ℕ × List ℕ)) → ((item : ℕ × List ℕ) → t ≡ Some item → r ≡ Some item) → option_or t r ≡ r
+same_look None r h = refl
+same_look (Some item) r h = sym (h item refl)
 
 take_step : (S R : List EndEntry) → is_some (right_front R) ≡ true → Inv S R → Inv S (Take ∷ R)
 take_step S R right i =
@@ -214,11 +304,17 @@ take_step S R right i =
     let more : takes R + 1 ≡ suc (takes R) = omega arith in
     record {
       carried = i.carried;
+      below = i.below;
+      high = i.high;
+      numbers = i.numbers;
       rest = i.rest;
       front = i.front;
+      low = i.low;
+      looked = λ o item none. absurd cc;
       few = omega (arith, next.1);
       taken_is =
-          ap (λ (w : List (List ℕ)). taken R ++ option_to_list (first_of (takes R + 1) w)) first.2
+          ap (λ (o : Option (ℕ × List ℕ)). taken R ++ option_to_list o) (same_look (told R) (right_front R) (i.looked opened.0))
+          ∙ ap (λ (w : List (List ℕ)). taken R ++ option_to_list (first_of (takes R + 1) w)) first.2
           ∙ ap (λ (xs : List (ℕ × List ℕ)). xs ++ (takes R + 1, first.0) ∷ []) i.taken_is
           ∙ ap (λ (m : ℕ). numbered 1 (take (takes R) (accepted R)) ++ (m, first.0) ∷ []) (sym len)
           ∙ sym (numbered-append 1 (take (takes R) (accepted R)) (first.0 ∷ []))
@@ -227,24 +323,52 @@ take_step S R right i =
       while_open = (opened.0, i.while_open);
     }
 
+-- a look keeps it: what it tells is the first that waits
+front_step : (answer : Option (ℕ × List ℕ)) (S R : List EndEntry) → answer ≡ right_front R → Inv S R → Inv S (Front answer ∷ R)
+front_step answer S R right i =
+    record { carried = i.carried; below = i.below; high = i.high; numbers = i.numbers; rest = i.rest; front = i.front; low = i.low; looked = λ opened item e. sym right ∙ e; few = i.few; taken_is = i.taken_is; while_open = i.while_open }
+
+-- so does a call that closes: nothing waits then
+closing_step : (e : EndEntry) (S R : List EndEntry) → accepted (e ∷ R) ≡ accepted R → takes (e ∷ R) ≡ takes R → taken (e ∷ R) ≡ taken R → is_open (e ∷ R) ≡ false → TakesWhileOpen (e ∷ R) → Inv S R → Inv S (e ∷ R)
+closing_step e S R same_accepted same_takes same_taken closed while_open i = record {
+  carried = i.carried;
+  below = i.below;
+  high = i.high;
+  numbers = i.numbers;
+  rest = i.rest;
+  front = subst (λ (xs : List (List ℕ)). xs ++ i.rest ≡ handed S) (sym same_accepted) i.front;
+  low = subst (λ (xs : List (List ℕ)). length xs ≤ transmitted S) (sym same_accepted) i.low;
+  looked = λ opened item told_it. let no : true ≡ false = sym opened ∙ closed in absurd cc;
+  few = subst (λ (n : ℕ). n ≤ length (accepted (e ∷ R))) (sym same_takes) (subst (λ (xs : List (List ℕ)). takes R ≤ length xs) (sym same_accepted) i.few);
+  taken_is = same_taken ∙ i.taken_is ∙ ap (λ (n : ℕ). numbered 1 (take n (accepted R))) (sym same_takes) ∙ ap (λ (xs : List (List ℕ)). numbered 1 (take (takes (e ∷ R)) xs)) (sym same_accepted);
+  while_open = while_open;
+}
+
 receiver_step : (me peer : ℕ) (limits : Limits) (e : EndEntry) (S R : List EndEntry) → IsRight me peer limits e R → ArrivesFrom (given S) e → Inv S R → Inv S (e ∷ R)
 receiver_step me peer limits (Arrive frame (Ok (arrived.Took (suc k)))) S R right from i = arrive_step me peer limits frame k S R right from i
 receiver_step me peer limits Take S R right from i = take_step S R right i
-receiver_step me peer limits (_) S R right from i = record { carried = i.carried; rest = i.rest; front = i.front; few = i.few; taken_is = i.taken_is; while_open = i.while_open }
+receiver_step me peer limits (Front answer) S R right from i = front_step answer S R right i
+receiver_step me peer limits (Arrive frame (Ok (arrived.Closed ending))) S R right from i = closing_step (Arrive frame (Ok (arrived.Closed ending))) S R refl refl refl refl i.while_open i
+receiver_step me peer limits (Tick (Ok (Some ending))) S R right from i = closing_step (Tick (Ok (Some ending))) S R refl refl refl refl i.while_open i
+receiver_step me peer limits (Close why (Ok ending)) S R right from i = closing_step (Close why (Ok ending)) S R refl refl refl refl i.while_open i
+receiver_step me peer limits (_) S R right from i = record { carried = i.carried; below = i.below; high = i.high; numbers = i.numbers; rest = i.rest; front = i.front; low = i.low; looked = i.looked; few = i.few; taken_is = i.taken_is; while_open = i.while_open }
 
 -- ---- both directions, over whole runs
 
 none : Inv [] []
-none = record { carried = All-nil (Carries []); rest = []; front = refl; few = omega arith; taken_is = refl; while_open = tt }
+none = record { carried = All-nil (Carries []); below = All-nil (Below 0); high = omega arith; numbers = refl; rest = []; front = refl; low = omega arith; looked = λ opened item e. absurd cc; few = omega arith; taken_is = refl; while_open = tt }
 
-fronts_of : (S R : List EndEntry) → Inv S R → IsBeginning (taken R) (numbered 1 (handed S))
+fronts_of : (S R : List EndEntry) → Inv S R → IsBeginning (taken R) (sent S)
 fronts_of S R i =
     let k = takes R in
     let all : take k (accepted R) ++ (drop k (accepted R) ++ i.rest) ≡ handed S = sym (append_assoc (take k (accepted R)) (drop k (accepted R)) i.rest) ∙ ap (λ (xs : List (List ℕ)). xs ++ i.rest) (take-append-drop k (accepted R)) ∙ i.front in (
       numbered (1 + length (take k (accepted R))) (drop k (accepted R) ++ i.rest),
       ap (λ (xs : List (ℕ × List ℕ)). xs ++ numbered (1 + length (take k (accepted R))) (drop k (accepted R) ++ i.rest)) i.taken_is
-          ∙ sym (numbered-append 1 (take k (accepted R)) (drop k (accepted R) ++ i.rest)) ∙ ap (numbered 1) all,
+          ∙ sym (numbered-append 1 (take k (accepted R)) (drop k (accepted R) ++ i.rest)) ∙ ap (numbered 1) all ∙ sym i.numbers,
     )
+
+reach_of : (S R : List EndEntry) → Inv S R → Reaches S R
+reach_of S R i = record { front = (i.rest, i.front); accepted_transmitted = i.low; transmitted_handed = i.high }
 
 both : (a b : ℕ) (at_a at_b : Limits) (J : List PairEntry) → PairRun a b at_a at_b J → Inv (first_calls J) (second_calls J) × Inv (second_calls J) (first_calls J)
 both a b at_a at_b [] run = (none, none)
@@ -262,6 +386,14 @@ pair_law a b at_a at_b J run =
     record {
       at_second = fronts_of (first_calls J) (second_calls J) i.0;
       at_first = fronts_of (second_calls J) (first_calls J) i.1;
+      first_numbers = i.0.numbers;
+      second_numbers = i.1.numbers;
       second_while_open = i.0.while_open;
       first_while_open = i.1.while_open;
     }
+
+-- how far items come
+pub accepted_law : AcceptedLaw
+accepted_law a b at_a at_b J run =
+    let i = both a b at_a at_b J run in
+    (reach_of (first_calls J) (second_calls J) i.0, reach_of (second_calls J) (first_calls J) i.1)

@@ -7,6 +7,8 @@ pub use Rattle.nob_model_end.specs.End
 pub use Rattle.nob_model_end.specs.Right
 pub use Rattle.nob_model_end.specs.Pair
 pub mod Items
+pub mod Wire
 pub mod Stands
+pub mod Calls
 pub mod Answers
 pub mod Sound

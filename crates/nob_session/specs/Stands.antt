@@ -1,5 +1,5 @@
 -- What a caller may know of an end of a session, and for which lists of calls an end stands.
-use Rattle.std.specs.Prelude.{◌≡◌, ℕ, Bool, ◌-◌, ◌||◌, max, nat_lt, if◌then◌else◌, List, [], length, drop, Option, Some}
+use Rattle.std.specs.Prelude.{◌≡◌, ℕ, ◌≤◌, Bool, true, ◌-◌, ◌||◌, max, nat_lt, if◌then◌else◌, List, [], length, drop, Option, Some, is_none}
 use Rattle.nob_frame.specs.declared.frame.Frame.{Frame}
 use Rattle.nob_frame.specs.Kinds.{is_data}
 use Rattle.nob_ids.specs.declared.limits.Limits.{Limits}
@@ -28,6 +28,14 @@ pub record End : Type 0 where
 pub record Roomy : Type 0 where
   pub end : End
   pub room : ℕ
+
+-- whether an end is open
+abbrev pub is_open_end : End → Bool
+is_open_end e = is_none e.ending
+
+-- an end that is still open has the room that it had: one that closes may free it
+abbrev pub KeepsRoom : Roomy → Roomy → Type 0
+KeepsRoom old new = is_open_end new.end ≡ true → old.room ≤ new.room
 
 -- the end that these calls, the newest first, leave
 abbrev pub end_of : (me peer : ℕ) → Limits → List EndEntry → End

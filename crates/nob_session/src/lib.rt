@@ -3,9 +3,11 @@
 #![tactic(auto)]
 
 mod closed;
+pub mod comparing;
 mod error;
 pub mod laws;
 mod session;
+pub mod wire;
 
 pub use closed::{Arrival, Closed};
 pub use error::SessionError;

@@ -1,6 +1,6 @@
 //! One end of a session.
 
-ghost use Rattle.std.specs.Prelude.{◌≡◌, ◌≢◌, ◌+◌, ◌<◌, ◌≤◌, ◌^◌, List, ℕ, Ok, Err, Some, None, Bool, false, ◌&&◌, ◌==◌, nat_le, nat_lt, max, IfOk, OnOk, OnErr, IsOk, IsOkUnless, length, take, vec_len, [], ◌∷◌};
+ghost use Rattle.std.specs.Prelude.{◌≡◌, ◌≢◌, ◌+◌, ◌-◌, ◌<◌, ◌≤◌, ◌^◌, List, ℕ, Ok, Err, Some, None, Bool, true, false, ◌&&◌, ◌==◌, is_ok, nat_le, nat_lt, max, IfOk, IfErr, OnOk, OnErr, IsOk, IsOkUnless, length, take, vec_len, [], ◌∷◌};
 ghost use Rattle.nob_ids.specs.declared.limits.Limits.{Limits as LimitsOf};
 ghost use Rattle.nob_model_end.specs.declared.entry.EndEntry.{EndEntry};
 ghost use Rattle.nob_model_end.specs.declared.entry.EndEntry.TheVariants.{Send, Transmit, Arrive, Front, Take, IsOpen, Tick, Close};
@@ -13,7 +13,8 @@ ghost use Rattle.std.specs.List.{AllByRecursion};
 ghost use Rattle.nob_frame.specs.Kinds.{is_data};
 ghost use Rattle.nob_frame.specs.Spelling.{Fits};
 ghost use Rattle.nob_session.specs.Items.{IsItem, IsPair};
-ghost use Rattle.nob_session.specs.Stands.{Stands, ended, heard};
+ghost use Rattle.nob_session.specs.Stands.{KeepsRoom, Stands, ended, heard, is_open_end};
+ghost use Rattle.nob_session.specs.Calls.{EndsBy, SameHanded, after_transmit, evidence_of, frames_of, next_of, with_item, without_front};
 ghost use Rattle.nob_session.specs.Answers.{Answered, arrived_of};
 
 use crate::closed::{Arrival, Closed};
@@ -69,9 +70,8 @@ impl Session {
         me: SpaceId,
         peer: SpaceId,
         limits: Limits,
-    ) -> Result<Session, SessionError>
-        ensures stands { IfOk result (λ session. Stands me peer limits session.end []) }
-        ensures memory { IsOkUnless result SessionError.OutOfMemory }
+    ) -> Result<Session, AllocError>
+        ensures { IfOk result (λ session. Stands me peer limits session.end []) }
     {
         Ok(Session {
             alloc,
@@ -95,27 +95,59 @@ impl Session {
     /// Whether this end is open.
     pub fn is_open(&self) -> bool
         ensures answer { (me peer : ℕ) (limits : LimitsOf) (L : List EndEntry) → Stands me peer limits self.now.end L → IsRight me peer limits (IsOpen result) L }
+        ensures open { result ≡ is_open_end self.now.end }
     {
         self.ending.is_none()
     }
 
-    /// Makes room for so many sends: they can't run out of memory then. Only memory fails it.
+    /// What `send` would answer to an item of this kind, had it memory: the item's number, or N1, N2, N3, in this
+    /// order. It takes no memory.
+    pub fn next(&self, kind: Kind) -> Result<ItemNo, EndRefusal>
+        ensures next { result ≡ next_of kind self.now.end }
+        ensures open { OnOk result (self.now.end.ending ≡ None) }
+        ensures low { IfOk result (λ number. number ≤ right.last_item) }
+    {
+        if self.ending.is_some() {
+            return Err(EndRefusal::Closed);
+        }
+        let unacknowledged = self.handed + 1 - self.lowest;
+        if kind.is_limited() && unacknowledged >= QUEUE_LIMIT as u64 {
+            return Err(EndRefusal::QueueFull);
+        }
+        if self.handed >= LAST_ITEM {
+            return Err(EndRefusal::SeqEnd);
+        }
+        Ok(ItemNo::new(self.handed + 1))
+    }
+
+    /// How many numbers are free for items. It takes no memory.
+    pub fn free_numbers(&self) -> u64
+        ensures { result ≡ right.last_item - self.now.end.handed }
+    {
+        LAST_ITEM - self.handed
+    }
+
+    /// Makes room for so many sends: they can't run out of memory then. Only memory fails it, and not where the room
+    /// is there.
     pub fn reserve(&mut self, count: usize) -> Result<(), SessionError>
         ensures same { self.new.end ≡ self.old.end }
         ensures room { OnOk result (count ≤ self.new.room) }
         ensures kept { self.old.room ≤ self.new.room }
+        ensures there { count ≤ self.old.room → IsOk result }
         ensures memory { IsOkUnless result SessionError.OutOfMemory }
     {
         self.sent.reserve(count)?;
         Ok(())
     }
 
-    /// Takes an item to be sent, of 1 to 16,384 bytes: its number. N1, N2, N3, in this order, and then memory, which
-    /// doesn't come while there is room from `reserve`; a send uses up one place of it.
+    /// Takes an item to be sent, of 1 to 16,384 bytes: its number. It answers what `next` does, and then memory, which
+    /// isn't wanted while there is room from `reserve`; a send uses up one place of it.
     pub fn send(&mut self, payload: Vec<u8>, kind: Kind) -> Result<ItemNo, SessionError>
         requires { (0 < vec_len payload) × (vec_len payload ≤ 16384) }
         ensures answer { (me peer : ℕ) (limits : LimitsOf) (L : List EndEntry) → Stands me peer limits self.old.end L →
             Answered (λ n. n) result (λ answer. IsRight me peer limits (Send payload.items kind answer) L × Stands me peer limits self.new.end (Send payload.items kind answer ∷ L)) }
+        ensures next { Answered (λ n. n) result (λ answer. answer ≡ next_of kind self.old.end) }
+        ensures handed { OnOk result (self.new.end ≡ with_item self.old.end payload.items) }
         ensures err { OnErr result (self.new.end ≡ self.old.end) }
         ensures memory_last { (me peer : ℕ) (limits : LimitsOf) (L : List EndEntry) → Stands me peer limits self.old.end L →
             result ≡ Err SessionError.OutOfMemory → IsOk (right.right_send kind L) }
@@ -123,27 +155,44 @@ impl Session {
         ensures room { self.old.room ≤ self.new.room + 1 }
         ensures err_room { OnErr result (self.old.room ≤ self.new.room) }
     {
-        if self.ending.is_some() {
-            return Err(SessionError::Refused(EndRefusal::Closed));
-        }
-        let unacknowledged = self.handed + 1 - self.lowest;
-        if kind.is_limited() && unacknowledged >= QUEUE_LIMIT as u64 {
-            return Err(SessionError::Refused(EndRefusal::QueueFull));
-        }
-        if self.handed >= LAST_ITEM {
-            return Err(SessionError::Refused(EndRefusal::SeqEnd));
-        }
+        let number = self.next(kind)?;
         self.sent.push(Payload::from_vec(payload))?;
         self.handed += 1;
-        Ok(ItemNo::new(self.handed))
+        Ok(number)
     }
 
-    /// The frames to be sent now. An open end gives its unacknowledged items again, from the lowest on and at most a
-    /// window of them, or else an Ack if a Data frame arrived since the last transmit; a closed end gives the Close
-    /// that it owes, once. Only memory fails it.
+    /// Whether a transmit would give a frame. It takes no memory.
+    pub fn has_frames(&self) -> bool
+        ensures some { result ≡ true → frames_of self.now.end ≢ [] }
+        ensures none { result ≡ false → frames_of self.now.end ≡ [] }
+    {
+        if self.ending.is_some() {
+            return self.owes_close;
+        }
+        !self.given().is_empty() || self.data_arrived
+    }
+
+    /// The frames that a transmit would give now. Only memory fails it.
+    pub fn frames(&self) -> Result<Vec<Frame>, AllocError>
+        ensures frames { IfOk result (λ frames. frames.items ≡ frames_of self.now.end) }
+        ensures few { IfOk result (λ frames. length frames.items ≤ 64) }
+        ensures spelt { IsPair self.now.end.me self.now.end.peer → IfOk result (λ frames. AllByRecursion Fits frames.items) }
+        ensures memory { OnErr result (frames_of self.now.end ≢ []) }
+    {
+        match self.ending {
+            Some(reason) => self.closed_frames(reason),
+            None => self.open_frames(),
+        }
+    }
+
+    /// Gives the frames to be sent now. An open end gives its unacknowledged items again, from the lowest on and at
+    /// most a window of them, or else an Ack if a Data frame arrived since the last transmit; a closed end gives the
+    /// Close that it owes, once. Only memory fails it.
     pub fn transmit(&mut self) -> Result<Vec<Frame>, SessionError>
         ensures answer { (me peer : ℕ) (limits : LimitsOf) (L : List EndEntry) → Stands me peer limits self.old.end L →
             IfOk result (λ frames. IsRight me peer limits (Transmit frames.items) L × Stands me peer limits self.new.end (Transmit frames.items ∷ L)) }
+        ensures frames { IfOk result (λ frames. frames.items ≡ frames_of self.old.end) }
+        ensures given { OnOk result (self.new.end ≡ after_transmit self.old.end) }
         ensures err { OnErr result (self.new.end ≡ self.old.end) }
         // Each frame has a spelling.
         ensures few { IfOk result (λ frames. length frames.items ≤ 64) }
@@ -154,15 +203,10 @@ impl Session {
             OnErr result (right.right_transmit me peer limits.window L ≢ []) }
         ensures room { self.old.room ≤ self.new.room }
     {
-        if let Some(reason) = self.ending {
-            let frames = self.closed_frames(reason)?;
-            self.data_arrived = false;
-            self.owes_close = false;
-            return Ok(frames);
-        }
-        let frames = self.open_frames()?;
+        let frames = self.frames()?;
         self.transmitted = self.highest();
         self.data_arrived = false;
+        self.owes_close = false;
         Ok(frames)
     }
 
@@ -182,13 +226,15 @@ impl Session {
         unacknowledged.split_at(window).0
     }
 
-    // The highest number that is transmitted after a transmit of the open end.
+    // The highest number that is transmitted after a transmit.
     #[tactic(auto, using(crate::proofs::Given::highest_given))]
     fn highest(&self) -> u64
-        requires { self.now.end.ending ≡ None }
-        ensures value { result ≡ max self.now.end.transmitted (greatest_seq (right.open_frames self.now.end.me self.now.end.peer (self.now.end.accepted + 1) self.now.end.lowest self.now.end.data_arrived (take self.now.end.limits.window self.now.end.unacknowledged))) }
+        ensures value { result ≡ max self.now.end.transmitted (greatest_seq (frames_of self.now.end)) }
         ensures bound { (self.now.end.lowest ≤ result + 1) × (result ≤ self.now.end.handed) }
     {
+        if self.ending.is_some() {
+            return self.transmitted;
+        }
         let last = self.lowest - 1 + self.given().len() as u64;
         self.transmitted.max(last)
     }
@@ -245,7 +291,9 @@ impl Session {
         // Memory comes after each refusal, and only where the item would be accepted.
         ensures memory_last { (me peer : ℕ) (limits : LimitsOf) (L : List EndEntry) → Stands me peer limits self.old.end L →
             result ≡ Err SessionError.OutOfMemory → right.right_arrive me peer frame.now L ≡ Ok (Took 1) }
-        ensures room { self.old.room ≤ self.new.room }
+        ensures same { SameHanded self.old.end self.new.end }
+        ensures ends { IfOk result (λ arrival. EndsBy self.old.end self.new.end (evidence_of arrival)) }
+        ensures room { KeepsRoom self.old self.new }
     {
         if frame.from != self.peer || frame.to != self.me {
             return Err(SessionError::Refused(EndRefusal::Strange));
@@ -311,6 +359,7 @@ impl Session {
         requires { 0 < length self.old.end.waiting }
         ensures answer { (me peer : ℕ) (limits : LimitsOf) (L : List EndEntry) → Stands me peer limits self.old.end L →
             IsRight me peer limits Take L × Stands me peer limits self.new.end (Take ∷ L) }
+        ensures taken { self.new.end ≡ without_front self.old.end }
         ensures room { self.old.room ≤ self.new.room }
     {
         self.taken += 1;
@@ -321,8 +370,11 @@ impl Session {
     pub fn tick(&mut self) -> Result<Option<Closed>, EndRefusal>
         ensures answer { (me peer : ℕ) (limits : LimitsOf) (L : List EndEntry) → Stands me peer limits self.old.end L →
             IsRight me peer limits (Tick result) L × Stands me peer limits self.new.end (Tick result ∷ L) }
+        ensures open { is_ok result ≡ is_open_end self.old.end }
+        ensures same { SameHanded self.old.end self.new.end }
+        ensures ends { IfOk result (λ closed. EndsBy self.old.end self.new.end closed) }
         ensures err { OnErr result (self.new.end ≡ self.old.end) }
-        ensures room { self.old.room ≤ self.new.room }
+        ensures room { KeepsRoom self.old self.new }
     {
         if self.ending.is_some() {
             return Err(EndRefusal::Closed);
@@ -341,8 +393,12 @@ impl Session {
     pub fn close(&mut self, reason: Reason) -> Result<Closed, EndRefusal>
         ensures answer { (me peer : ℕ) (limits : LimitsOf) (L : List EndEntry) → Stands me peer limits self.old.end L →
             IsRight me peer limits (Close reason result) L × Stands me peer limits self.new.end (Close reason result ∷ L) }
+        ensures open { is_ok result ≡ is_open_end self.old.end }
+        ensures same { SameHanded self.old.end self.new.end }
+        ensures ends { IfOk result (λ closed. EndsBy self.old.end self.new.end (Some closed)) }
+        ensures reason { IfOk result (λ closed. closed.reason ≡ reason) }
         ensures err { OnErr result (self.new.end ≡ self.old.end) }
-        ensures room { self.old.room ≤ self.new.room }
+        ensures room { KeepsRoom self.old self.new }
     {
         if self.ending.is_some() {
             return Err(EndRefusal::Closed);
@@ -355,7 +411,6 @@ impl Session {
         requires { self.old.end.ending ≡ None }
         ensures closed { (result.peer ≡ self.old.end.peer) × (result.reason ≡ reason) }
         ensures thrown_away { self.new.end ≡ ended self.old.end reason }
-        ensures room { self.old.room ≤ self.new.room }
     {
         self.sent.clear();
         self.received.clear();

@@ -1,4 +1,4 @@
--- The rows of all parts, one part's after another's: what a look-up finds there, and what another part at a place makes of them.
+-- The rows of all peers, one peer's after another's: what a look-up finds there, and what another peer at a place makes of them.
 use Rattle.std.proofs.Common.{◌≡◌, ℕ, ◌<◌, ◌≤◌, ◌+◌, Bool, true, false, ◌||◌, ◌==◌, cond, not, List, [], ◌∷◌, ◌++◌, length, filter, Option, Some, None, IsSome, slice_get, refl, sym, ap, subst, ◌∙◌, arith, is_some, if◌then◌else◌, eqb-true, true≢false}
 use Prim.Native.Nat.{zero, suc}
 use lib.ListN.{set}
@@ -92,15 +92,15 @@ length_append [] ys = omega arith
 length_append (x ∷ xs) ys = omega (arith, length_append xs ys)
 
 module _ {X : Type 0} (rows : Peer → List (WireRep × X)) where
-  -- from this number on, each part has its owner's references alone
+  -- from this number on, each peer has its owner's references alone
   abbrev pub Owned : ℕ → List Peer → Type 0
-  Owned n parts = (k : ℕ) (part : Peer) → slice_get parts k ≡ Some part → (rep : WireRep) → IsSome (row_at (rows part) rep) → rep.owner ≡ n + k
+  Owned n peers = (k : ℕ) (peer : Peer) → slice_get peers k ≡ Some peer → (rep : WireRep) → IsSome (row_at (rows peer) rep) → rep.owner ≡ n + k
 
   owned_tail : (n : ℕ) (p : Peer) (ps : List Peer) → Owned n (p ∷ ps) → Owned (n + 1) ps
-  owned_tail n p ps owned k part got rep has = omega (arith, owned (suc k) part got rep has)
+  owned_tail n p ps owned k peer got rep has = omega (arith, owned (suc k) peer got rep has)
 
   -- no reference of a lesser owner
-  none_below : (n : ℕ) (parts : List Peer) → Owned n parts → (rep : WireRep) → rep.owner < n → row_at (flat_map rows parts) rep ≡ None
+  none_below : (n : ℕ) (peers : List Peer) → Owned n peers → (rep : WireRep) → rep.owner < n → row_at (flat_map rows peers) rep ≡ None
   unfolding first_of
   none_below n [] owned rep less = refl
   none_below n (p ∷ ps) owned rep less =
@@ -108,8 +108,8 @@ module _ {X : Type 0} (rows : Peer → List (WireRep × X)) where
       let rest : row_at (flat_map rows ps) rep ≡ None = none_below (n + 1) ps (owned_tail n p ps owned) rep (omega arith) in
       row_append (rows p) (flat_map rows ps) rep ∙ rw (here, rest) refl
 
-  flat_row_from : (n : ℕ) (parts : List Peer) → Owned n parts → (rep : WireRep) (j : ℕ) → rep.owner ≡ n + j
-      → row_at (flat_map rows parts) rep ≡ option_and_then (λ part. row_at (rows part) rep) (slice_get parts j)
+  flat_row_from : (n : ℕ) (peers : List Peer) → Owned n peers → (rep : WireRep) (j : ℕ) → rep.owner ≡ n + j
+      → row_at (flat_map rows peers) rep ≡ option_and_then (λ peer. row_at (rows peer) rep) (slice_get peers j)
   unfolding first_of
   flat_row_from n [] owned rep j is = refl
   flat_row_from n (p ∷ ps) owned rep zero is =
@@ -119,28 +119,28 @@ module _ {X : Type 0} (rows : Peer → List (WireRep × X)) where
       let here : row_at (rows p) rep ≡ None = none_from (row_at (rows p) rep) (λ has. let e = owned zero p refl rep has in absurd (omega (arith, e))) in
       row_append (rows p) (flat_map rows ps) rep ∙ rw here (flat_row_from (n + 1) ps (owned_tail n p ps owned) rep j (omega arith))
 
-  -- what stands at a reference stands in its owner's part
-  pub flat_row : (parts : List Peer) → Owned 0 parts → (rep : WireRep) → row_at (flat_map rows parts) rep ≡ option_and_then (λ part. row_at (rows part) rep) (slice_get parts rep.owner)
-  flat_row parts owned rep = flat_row_from 0 parts owned rep rep.owner (omega arith)
+  -- what stands at a reference stands in its owner's peer
+  pub flat_row : (peers : List Peer) → Owned 0 peers → (rep : WireRep) → row_at (flat_map rows peers) rep ≡ option_and_then (λ peer. row_at (rows peer) rep) (slice_get peers rep.owner)
+  flat_row peers owned rep = flat_row_from 0 peers owned rep rep.owner (omega arith)
 
-  -- where no reference stands twice in a part, none stands twice
-  flat_once_from : (n : ℕ) (parts : List Peer) → Owned n parts → ((k : ℕ) (part : Peer) → slice_get parts k ≡ Some part → IsOnce (rows part)) → IsOnce (flat_map rows parts)
+  -- where no reference stands twice in a peer, none stands twice
+  flat_once_from : (n : ℕ) (peers : List Peer) → Owned n peers → ((k : ℕ) (peer : Peer) → slice_get peers k ≡ Some peer → IsOnce (rows peer)) → IsOnce (flat_map rows peers)
   unfolding IsDistinct
   flat_once_from n [] owned once = tt
   flat_once_from n (p ∷ ps) owned once =
-      let rest = flat_once_from (n + 1) ps (owned_tail n p ps owned) (λ k part got. once (suc k) part got) in
+      let rest = flat_once_from (n + 1) ps (owned_tail n p ps owned) (λ k peer got. once (suc k) peer got) in
       let apart : (rep : WireRep) → list_any (is_same rep) (reps_of (rows p)) ≡ true → list_any (is_same rep) (reps_of (flat_map rows ps)) ≡ false =
       λ rep h.
       let e = owned zero p refl rep (sym (any_key (is_same rep) (rows p)) ∙ h) in
       any_key (is_same rep) (flat_map rows ps) ∙ ap is_some (none_below (n + 1) ps (owned_tail n p ps owned) rep (omega (arith, e))) in
       subst (λ (ks : List WireRep). IsDistinct is_same ks) (sym (reps_append (rows p) (flat_map rows ps))) (distinct_append (reps_of (rows p)) (reps_of (flat_map rows ps)) (once zero p refl) rest apart)
 
-  pub flat_once : (parts : List Peer) → Owned 0 parts → ((k : ℕ) (part : Peer) → slice_get parts k ≡ Some part → IsOnce (rows part)) → IsOnce (flat_map rows parts)
-  flat_once parts owned once = flat_once_from 0 parts owned once
+  pub flat_once : (peers : List Peer) → Owned 0 peers → ((k : ℕ) (peer : Peer) → slice_get peers k ≡ Some peer → IsOnce (rows peer)) → IsOnce (flat_map rows peers)
+  flat_once peers owned once = flat_once_from 0 peers owned once
 
-  -- the part of an owner is emptied
-  flat_emptied_from : (n i : ℕ) (parts : List Peer) → Owned n parts → (j : ℕ) (p q : Peer) → i ≡ n + j → slice_get parts j ≡ Some p → rows q ≡ []
-      → reps_of (flat_map rows (set parts j q)) ≡ filter (λ rep. not (rep.owner == i)) (reps_of (flat_map rows parts))
+  -- the peer of an owner is emptied
+  flat_emptied_from : (n i : ℕ) (peers : List Peer) → Owned n peers → (j : ℕ) (p q : Peer) → i ≡ n + j → slice_get peers j ≡ Some p → rows q ≡ []
+      → reps_of (flat_map rows (set peers j q)) ≡ filter (λ rep. not (rep.owner == i)) (reps_of (flat_map rows peers))
   flat_emptied_from n i [] owned j p q is got empty = absurd (none-some p got)
   flat_emptied_from n i (a ∷ ps) owned zero p q is got empty =
       let test : WireRep → Bool = λ rep. not (rep.owner == i) in
@@ -161,43 +161,43 @@ module _ {X : Type 0} (rows : Peer → List (WireRep × X)) where
       reps_append (rows a) (flat_map rows (set ps j q)) ∙ ap (λ (r : List WireRep). reps_of (rows a) ++ r) rest
       ∙ sym (ap (filter test) (reps_append (rows a) (flat_map rows ps)) ∙ filter_append test (reps_of (rows a)) (reps_of (flat_map rows ps)) ∙ rw kept refl)
 
-  pub flat_emptied : (parts : List Peer) → Owned 0 parts → (i : ℕ) (p q : Peer) → slice_get parts i ≡ Some p → rows q ≡ []
-      → reps_of (flat_map rows (set parts i q)) ≡ filter (λ rep. not (rep.owner == i)) (reps_of (flat_map rows parts))
-  flat_emptied parts owned i p q got empty = flat_emptied_from 0 i parts owned i p q (omega arith) got empty
+  pub flat_emptied : (peers : List Peer) → Owned 0 peers → (i : ℕ) (p q : Peer) → slice_get peers i ≡ Some p → rows q ≡ []
+      → reps_of (flat_map rows (set peers i q)) ≡ filter (λ rep. not (rep.owner == i)) (reps_of (flat_map rows peers))
+  flat_emptied peers owned i p q got empty = flat_emptied_from 0 i peers owned i p q (omega arith) got empty
 
-  pub flat_same : (parts : List Peer) (i : ℕ) (p q : Peer) → slice_get parts i ≡ Some p → rows q ≡ rows p → flat_map rows (set parts i q) ≡ flat_map rows parts
+  pub flat_same : (peers : List Peer) (i : ℕ) (p q : Peer) → slice_get peers i ≡ Some p → rows q ≡ rows p → flat_map rows (set peers i q) ≡ flat_map rows peers
   flat_same [] i p q got same = absurd (none-some p got)
   flat_same (a ∷ ps) zero p q got same = ap (λ (r : List (WireRep × X)). r ++ flat_map rows ps) (same ∙ ap rows (sym (same_Some a p got)))
   flat_same (a ∷ ps) (suc i) p q got same = ap (λ (r : List (WireRep × X)). rows a ++ r) (flat_same ps i p q got same)
 
-  -- a part has no more rows than all
-  pub part_length : (parts : List Peer) (i : ℕ) (p : Peer) → slice_get parts i ≡ Some p → length (rows p) ≤ length (flat_map rows parts)
-  part_length [] i p got = absurd (none-some p got)
-  part_length (a ∷ ps) zero p got =
+  -- a peer has no more rows than all
+  pub peer_length : (peers : List Peer) (i : ℕ) (p : Peer) → slice_get peers i ≡ Some p → length (rows p) ≤ length (flat_map rows peers)
+  peer_length [] i p got = absurd (none-some p got)
+  peer_length (a ∷ ps) zero p got =
       let e : length (rows a) ≡ length (rows p) = ap (λ (w : Peer). length (rows w)) (same_Some a p got) in
       omega (arith, length_append (rows a) (flat_map rows ps), e)
-  part_length (a ∷ ps) (suc i) p got = omega (arith, length_append (rows a) (flat_map rows ps), part_length ps i p got)
+  peer_length (a ∷ ps) (suc i) p got = omega (arith, length_append (rows a) (flat_map rows ps), peer_length ps i p got)
 
-  pub flat_length : (parts : List Peer) (i : ℕ) (p q : Peer) → slice_get parts i ≡ Some p → length (flat_map rows (set parts i q)) + length (rows p) ≡ length (flat_map rows parts) + length (rows q)
+  pub flat_length : (peers : List Peer) (i : ℕ) (p q : Peer) → slice_get peers i ≡ Some p → length (flat_map rows (set peers i q)) + length (rows p) ≡ length (flat_map rows peers) + length (rows q)
   flat_length [] i p q got = absurd (none-some p got)
   flat_length (a ∷ ps) zero p q got =
       let e : length (rows a) ≡ length (rows p) = ap (λ (w : Peer). length (rows w)) (same_Some a p got) in
       omega (arith, length_append (rows q) (flat_map rows ps), length_append (rows a) (flat_map rows ps), e)
   flat_length (a ∷ ps) (suc i) p q got = omega (arith, length_append (rows a) (flat_map rows (set ps i q)), length_append (rows a) (flat_map rows ps), flat_length ps i p q got)
 
-  module _ (parts : List Peer) (i : ℕ) (p q : Peer) (got : slice_get parts i ≡ Some p) (owned : Owned 0 parts) (owned' : Owned 0 (set parts i q)) where
-    pub flat_here : (rep : WireRep) → rep.owner ≡ i → (row_at (flat_map rows parts) rep ≡ row_at (rows p) rep) × (row_at (flat_map rows (set parts i q)) rep ≡ row_at (rows q) rep)
+  module _ (peers : List Peer) (i : ℕ) (p q : Peer) (got : slice_get peers i ≡ Some p) (owned : Owned 0 peers) (owned' : Owned 0 (set peers i q)) where
+    pub flat_here : (rep : WireRep) → rep.owner ≡ i → (row_at (flat_map rows peers) rep ≡ row_at (rows p) rep) × (row_at (flat_map rows (set peers i q)) rep ≡ row_at (rows q) rep)
     flat_here rep is =
-        (flat_row parts owned rep ∙ rw (is, got) refl, flat_row (set parts i q) owned' rep ∙ rw (is, get_set_same parts i p q got) refl)
+        (flat_row peers owned rep ∙ rw (is, got) refl, flat_row (set peers i q) owned' rep ∙ rw (is, get_set_same peers i p q got) refl)
 
-    pub flat_there : (rep : WireRep) → (rep.owner ≡ i → ⊥) → row_at (flat_map rows (set parts i q)) rep ≡ row_at (flat_map rows parts) rep
+    pub flat_there : (rep : WireRep) → (rep.owner ≡ i → ⊥) → row_at (flat_map rows (set peers i q)) rep ≡ row_at (flat_map rows peers) rep
     flat_there rep other =
-        flat_row (set parts i q) owned' rep ∙ rw (get_set_other parts i rep.owner q other) refl ∙ sym (flat_row parts owned rep)
+        flat_row (set peers i q) owned' rep ∙ rw (get_set_other peers i rep.owner q other) refl ∙ sym (flat_row peers owned rep)
 
-    -- a change of one row of a part is that of the rows of all
-    pub flat_puts : (rep : WireRep) (row : Option X) → rep.owner ≡ i → Puts (rows p) (rows q) rep row → Puts (flat_map rows parts) (flat_map rows (set parts i q)) rep row
+    -- a change of one row of a peer is that of the rows of all
+    pub flat_puts : (rep : WireRep) (row : Option X) → rep.owner ≡ i → Puts (rows p) (rows q) rep row → Puts (flat_map rows peers) (flat_map rows (set peers i q)) rep row
     flat_puts rep row is puts other =
-        elim (other.owner == i) as (λ b. (other.owner == i) ≡ b → row_at (flat_map rows (set parts i q)) other ≡ (if is_same rep other then row else row_at (flat_map rows parts) other)) [
+        elim (other.owner == i) as (λ b. (other.owner == i) ≡ b → row_at (flat_map rows (set peers i q)) other ≡ (if is_same rep other then row else row_at (flat_map rows peers) other)) [
           | true ↦ λ t. let at = flat_here other (eqb-true other.owner i t) in at.1 ∙ puts other ∙ rw at.0 refl
           | false ↦ λ u. let apart : is_same rep other ≡ false = rw (is, nat_eq_equiv.symm i other.owner, u) refl in
               flat_there other (λ e. true≢false (sym (rw e (nat_eq_equiv.refl i)) ∙ u)) ∙ rw apart refl

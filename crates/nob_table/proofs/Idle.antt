@@ -1,10 +1,7 @@
--- The first idle surrogate: of one part, of some parts, of all.
-use Rattle.std.proofs.Common.{◌≡◌, ℕ, ◌<◌, ◌≤◌, true, false, ◌==◌, List, length, Option, Some, None, MatchOption, slice_get, get_or, nat_lt, nat_le, refl, sym, ap, subst, ◌∙◌, arith, eqb-true, true≢false}
-use Rattle.std.proofs.lemmas.Bool.Decides.{Decides-ltb, nat_tests}
-use Rattle.std.proofs.lemmas.Cmp.{nat_eq_equiv}
+-- The first idle surrogate: of one peer, of some peers, of all.
+use Rattle.std.proofs.Common.{◌≡◌, ℕ, ◌<◌, ◌≤◌, true, false, List, length, Option, Some, None, MatchOption, slice_get, refl, sym, ap, subst, ◌∙◌, arith}
 use Rattle.std.proofs.lemmas.Map.Entries.{lookup_from_place, place_from_lookup}
-use Rattle.std.proofs.lemmas.Option.{same_Some, none-some, slice_get-map, slice_get-get_or, slice_get_within, get_or_from_slice_get}
-use Rattle.std.specs.List.Sorted.{IsPartitionedBy, IsPartitionPoint}
+use Rattle.std.proofs.lemmas.Option.{same_Some, none-some, slice_get-map, slice_get_within}
 use Rattle.std.specs.Option.{option_map}
 use Rattle.nob_ids.specs.declared.wire_rep.WireRep.{WireRep}
 use Rattle.nob_ids.specs.Names.{is_same}
@@ -15,6 +12,7 @@ use Rattle.nob_table.specs.Order.{place_in, IsBefore, IsRising}
 use Rattle.nob_table.specs.Peers.{is_idle_in, NeverIdleIn, NoneIdleIn, IsFirstIn}
 use Rattle.nob_table.specs.Rows.{row_at, reps_of, IsOnce}
 use Rattle.nob_table.specs.Standings.{is_idle, far_standing}
+use Rattle.nob_table.proofs.Parted.{rows_before}
 use Rattle.nob_table.proofs.Rising.{rising_at}
 use Rattle.nob_table.proofs.Same.{same_laws, same_is}
 
@@ -34,54 +32,12 @@ module _ (rows : List (WireRep × Surrogate)) (once : IsOnce rows) where
   place_at i e got = ap (option_map (λ s. s.place)) (at_place i e got)
 
   module _ (rising : IsRising (place_in rows) (reps_of rows)) where
-    rows_rise : (i j : ℕ) (e f : WireRep × Surrogate) → i < j → slice_get rows i ≡ Some e → slice_get rows j ≡ Some f → e.1.place < f.1.place
+    pub rows_rise : (i j : ℕ) (e f : WireRep × Surrogate) → i < j → slice_get rows i ≡ Some e → slice_get rows j ≡ Some f → e.1.place < f.1.place
     rows_rise i j e f less first second =
         let reps : (k : ℕ) (g : WireRep × Surrogate) → slice_get rows k ≡ Some g → slice_get (reps_of rows) k ≡ Some g.0 =
         λ k g got. slice_get-map (λ (w : WireRep × Surrogate). w.0) rows k ∙ ap (option_map (λ (w : WireRep × Surrogate). w.0)) got in
         let before : IsBefore (place_in rows e.0) (place_in rows f.0) = rising_at (place_in rows) (reps_of rows) i j e.0 f.0 rising less (reps i e first) (reps j f second) in
         subst (λ (o : Option ℕ). IsBefore (Some e.1.place) o) (place_at j f second) (subst (λ (o : Option ℕ). IsBefore o (place_in rows f.0)) (place_at i e first) before)
-
-    -- those with a place below another come first
-    pub partitioned : (n : ℕ) → IsPartitionedBy (λ (e : WireRep × Surrogate). nat_lt e.1.place n) rows
-    partitioned n i j d le within later =
-        let first : slice_get rows i ≡ Some (get_or rows i d) = slice_get-get_or rows i d (omega arith) in
-        let second : slice_get rows j ≡ Some (get_or rows j d) = slice_get-get_or rows j d within in
-        let less : (get_or rows j d).1.place < n = (Decides-ltb (get_or rows j d).1.place n).0 later in
-        elim (i == j) as (λ b. (i == j) ≡ b → nat_lt (get_or rows i d).1.place n ≡ true) [
-          | true ↦ λ t. subst (λ (k : ℕ). nat_lt (get_or rows k d).1.place n ≡ true) (sym (eqb-true i j t)) later
-          | false ↦ λ u.
-              let apart : i ≡ j → ⊥ = λ e. true≢false (sym (rw e (nat_eq_equiv.refl j)) ∙ u) in
-              let rise : (get_or rows i d).1.place < (get_or rows j d).1.place = rows_rise i j (get_or rows i d) (get_or rows j d) (omega arith) first second in
-              (Decides-ltb (get_or rows i d).1.place n).1 (omega (arith, rise, less))
-        ] refl
-
-    -- what the partition point says of a row
-    pub below_point : (n point at : ℕ) (e : WireRep × Surrogate) → IsPartitionPoint (λ (w : WireRep × Surrogate). nat_lt w.1.place n ≡ true) (λ (w : WireRep × Surrogate). nat_lt w.1.place n ≡ false) rows point
-        → slice_get rows at ≡ Some e → at < point → e.1.place < n
-    below_point n point at e parted got less =
-        let is : get_or rows at e ≡ e = get_or_from_slice_get rows at e e got in
-        (Decides-ltb e.1.place n).0 (subst (λ (w : WireRep × Surrogate). nat_lt w.1.place n ≡ true) is (parted.0 at e (omega arith) less))
-
-    pub from_point : (n point at : ℕ) (e : WireRep × Surrogate) → IsPartitionPoint (λ (w : WireRep × Surrogate). nat_lt w.1.place n ≡ true) (λ (w : WireRep × Surrogate). nat_lt w.1.place n ≡ false) rows point
-        → slice_get rows at ≡ Some e → point ≤ at → n ≤ e.1.place
-    from_point n point at e parted got le =
-        let is : get_or rows at e ≡ e = get_or_from_slice_get rows at e e got in
-        let no_less : nat_lt e.1.place n ≡ false = subst (λ (w : WireRep × Surrogate). nat_lt w.1.place n ≡ false) is (parted.1 at e le (slice_get_within rows at e got)) in
-        elim (nat_le n e.1.place) as (λ b. nat_le n e.1.place ≡ b → n ≤ e.1.place) [ true ↦ λ t. grind (arith, nat_tests) | false ↦ λ u. grind (arith, nat_tests) ] refl
-
-    -- a row with a lesser place stands before
-    rows_before : (i k : ℕ) (e f : WireRep × Surrogate) → slice_get rows i ≡ Some e → slice_get rows k ≡ Some f → f.1.place < e.1.place → k < i
-    rows_before i k e f got there less =
-        elim (nat_lt k i) as (λ b. nat_lt k i ≡ b → k < i) [
-          | true ↦ λ t. (Decides-ltb k i).0 t
-          | false ↦ λ u. elim (nat_lt i k) as (λ b. nat_lt i k ≡ b → k < i) [
-            | true ↦ λ t. let rise : e.1.place < f.1.place = rows_rise i k e f ((Decides-ltb i k).0 t) got there in absurd (omega (arith, rise, less))
-            | false ↦ λ v.
-                let same : i ≡ k = grind (arith, nat_tests) in
-                let one : e ≡ f = same_Some e f (sym got ∙ ap (λ (n : ℕ). slice_get rows n) same ∙ there) in
-                let places : e.1.place ≡ f.1.place = ap (λ (w : WireRep × Surrogate). w.1.place) one in absurd (omega (arith, places, less))
-          ] refl
-        ] refl
 
     module _ (counted : List (WireRep × Counts)) (from : ℕ) where
       row_of : (rep : WireRep) (place : ℕ) → place_in rows rep ≡ Some place → (k : ℕ) × (e : WireRep × Surrogate) × (slice_get rows k ≡ Some e) × (e.0 ≡ rep) × (e.1.place ≡ place)
@@ -108,7 +64,7 @@ module _ (rows : List (WireRep × Surrogate)) (once : IsOnce rows) where
             let f : WireRep × Surrogate = found.1 in
             let there : slice_get rows k ≡ Some f = found.2 in
             let same : f.1.place ≡ place = found.4 in
-            sym (idle_row f k rep there found.3) ∙ none k f (rows_before at k e f got there (omega (arith, same))) there (omega (arith, same)),
+            sym (idle_row f k rep there found.3) ∙ none k f (rows_before (λ (w : WireRep × Surrogate). w.1.place) rows rows_rise at k e f got there (omega (arith, same))) there (omega (arith, same)),
       )
 
       -- no row is idle
@@ -120,11 +76,11 @@ module _ (rows : List (WireRep × Surrogate)) (once : IsOnce rows) where
           let same : f.1.place ≡ place = found.4 in
           sym (idle_row f found.0 rep there found.3) ∙ none found.0 f (slice_get_within rows found.0 f there) there (omega (arith, same))
 
-module _ (parts : List Peer) (place : ℕ) where
-  -- what is found in the first few parts
+module _ (peers : List Peer) (place : ℕ) where
+  -- what is found in the first few peers
   abbrev pub IsFirstOf : ℕ → Option (ℕ × WireRep) → Type 0
   IsFirstOf few first =
       MatchOption first
-      ((k : ℕ) (p : Peer) → k < few → slice_get parts k ≡ Some p → NeverIdleIn p.counted.rows p.surrogates.rows place)
-      (λ found. ((k : ℕ) × (p : Peer) × (slice_get parts k ≡ Some p) × IsFirstIn p.counted.rows p.surrogates.rows place found.0 found.1)
-      × ((k : ℕ) (p : Peer) → k < few → slice_get parts k ≡ Some p → NoneIdleIn p.counted.rows p.surrogates.rows place found.0))
+      ((k : ℕ) (p : Peer) → k < few → slice_get peers k ≡ Some p → NeverIdleIn p.counted.rows p.surrogates.rows place)
+      (λ found. ((k : ℕ) × (p : Peer) × (slice_get peers k ≡ Some p) × IsFirstIn p.counted.rows p.surrogates.rows place found.0 found.1)
+      × ((k : ℕ) (p : Peer) → k < few → slice_get peers k ≡ Some p → NoneIdleIn p.counted.rows p.surrogates.rows place found.0))

@@ -4,8 +4,10 @@ pub mod Flat
 pub mod Grown
 pub mod Idle
 pub mod Ordered
-pub mod Parts
+pub mod Owned
+pub mod Parted
 pub mod Rising
 pub mod Same
 pub mod Stands
 pub mod Tables
+pub mod Unheld

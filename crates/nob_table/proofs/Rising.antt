@@ -1,4 +1,4 @@
--- Lists whose places rise: what keeps them so.
+-- Lists whose numbers rise: what keeps them so.
 use Rattle.std.proofs.Common.{◌≡◌, ℕ, ◌<◌, Bool, true, false, ◌||◌, cond, List, [], ◌∷◌, ◌++◌, filter, Option, Some, slice_get, refl, subst, arith}
 use Rattle.std.proofs.lemmas.Option.{none-some, same_Some}
 use Rattle.std.specs.List.{list_any, AllByRecursion}
@@ -40,44 +40,44 @@ all_at P [] i y all got = absurd (none-some y got)
 all_at P (x ∷ xs) zero y all got = subst P (same_Some x y got) all.0
 all_at P (x ∷ xs) (suc i) y all got = all_at P xs i y all.1 got
 
-module _ (place place' : WireRep → Option ℕ) where
-  before_same : (a b : Option ℕ) → b ≡ a → (xs : List WireRep) → ((rep : WireRep) → list_any (is_same rep) xs ≡ true → place' rep ≡ place rep)
-      → AllByRecursion (λ o. IsBefore a (place o)) xs → AllByRecursion (λ o. IsBefore b (place' o)) xs
+module _ (has has' : WireRep → Option ℕ) where
+  before_same : (a b : Option ℕ) → b ≡ a → (xs : List WireRep) → ((rep : WireRep) → list_any (is_same rep) xs ≡ true → has' rep ≡ has rep)
+      → AllByRecursion (λ o. IsBefore a (has o)) xs → AllByRecursion (λ o. IsBefore b (has' o)) xs
   before_same a b e [] same all = tt
   before_same a b e (x ∷ xs) same all = (rw (e, same x (in_head x xs)) all.0, before_same a b e xs (λ rep h. same rep (in_tail rep x xs h)) all.1)
 
-  -- where the members' places are the same
-  pub rising_same : (xs : List WireRep) → ((rep : WireRep) → list_any (is_same rep) xs ≡ true → place' rep ≡ place rep) → IsRising place xs → IsRising place' xs
+  -- where the members' numbers are the same
+  pub rising_same : (xs : List WireRep) → ((rep : WireRep) → list_any (is_same rep) xs ≡ true → has' rep ≡ has rep) → IsRising has xs → IsRising has' xs
   rising_same [] same rising = tt
   rising_same (x ∷ xs) same rising =
-      let rest : (rep : WireRep) → list_any (is_same rep) xs ≡ true → place' rep ≡ place rep = λ rep h. same rep (in_tail rep x xs h) in
-      (before_same (place x) (place' x) (same x (in_head x xs)) xs rest rising.0, rising_same xs rest rising.1)
+      let rest : (rep : WireRep) → list_any (is_same rep) xs ≡ true → has' rep ≡ has rep = λ rep h. same rep (in_tail rep x xs h) in
+      (before_same (has x) (has' x) (same x (in_head x xs)) xs rest rising.0, rising_same xs rest rising.1)
 
-module _ (place : WireRep → Option ℕ) where
+module _ (has : WireRep → Option ℕ) where
   -- one more behind the last
-  pub rising_push : (xs : List WireRep) (y : WireRep) → IsRising place xs → AllByRecursion (λ o. IsBefore (place o) (place y)) xs → IsRising place (xs ++ y ∷ [])
+  pub rising_push : (xs : List WireRep) (y : WireRep) → IsRising has xs → AllByRecursion (λ o. IsBefore (has o) (has y)) xs → IsRising has (xs ++ y ∷ [])
   rising_push [] y rising all = (tt, tt)
-  rising_push (x ∷ xs) y rising all = (all_push (λ o. IsBefore (place x) (place o)) xs y rising.0 all.0, rising_push xs y rising.1 all.1)
+  rising_push (x ∷ xs) y rising all = (all_push (λ o. IsBefore (has x) (has o)) xs y rising.0 all.0, rising_push xs y rising.1 all.1)
 
   -- without one
-  pub rising_without : (rep : WireRep) (xs : List WireRep) → IsRising place xs → IsRising place (without rep xs)
+  pub rising_without : (rep : WireRep) (xs : List WireRep) → IsRising has xs → IsRising has (without rep xs)
   rising_without rep [] rising = tt
-  rising_without rep (x ∷ xs) rising = elim (is_same rep x) as (λ b. IsRising place (cond b xs (x ∷ without rep xs))) [
+  rising_without rep (x ∷ xs) rising = elim (is_same rep x) as (λ b. IsRising has (cond b xs (x ∷ without rep xs))) [
     | true ↦ rising.1
-    | false ↦ (all_without (λ o. IsBefore (place x) (place o)) (is_same rep) xs rising.0, rising_without rep xs rising.1)
+    | false ↦ (all_without (λ o. IsBefore (has x) (has o)) (is_same rep) xs rising.0, rising_without rep xs rising.1)
   ]
 
   -- those that pass a test
-  pub rising_filter : (test : WireRep → Bool) (xs : List WireRep) → IsRising place xs → IsRising place (filter test xs)
+  pub rising_filter : (test : WireRep → Bool) (xs : List WireRep) → IsRising has xs → IsRising has (filter test xs)
   rising_filter test [] rising = tt
-  rising_filter test (x ∷ xs) rising = elim (test x) as (λ b. IsRising place (cond b (x ∷ filter test xs) (filter test xs))) [
-    | true ↦ (all_filter (λ o. IsBefore (place x) (place o)) test xs rising.0, rising_filter test xs rising.1)
+  rising_filter test (x ∷ xs) rising = elim (test x) as (λ b. IsRising has (cond b (x ∷ filter test xs) (filter test xs))) [
+    | true ↦ (all_filter (λ o. IsBefore (has x) (has o)) test xs rising.0, rising_filter test xs rising.1)
     | false ↦ rising_filter test xs rising.1
   ]
 
-  -- by places in the list
-  pub rising_at : (xs : List WireRep) (i j : ℕ) (a b : WireRep) → IsRising place xs → i < j → slice_get xs i ≡ Some a → slice_get xs j ≡ Some b → IsBefore (place a) (place b)
+  -- by numbers in the list
+  pub rising_at : (xs : List WireRep) (i j : ℕ) (a b : WireRep) → IsRising has xs → i < j → slice_get xs i ≡ Some a → slice_get xs j ≡ Some b → IsBefore (has a) (has b)
   rising_at [] i j a b rising less first second = absurd (none-some a first)
   rising_at (x ∷ xs) i zero a b rising less first second = absurd (omega arith)
-  rising_at (x ∷ xs) zero (suc j) a b rising less first second = subst (λ o. IsBefore (place o) (place b)) (same_Some x a first) (all_at (λ o. IsBefore (place x) (place o)) xs j b rising.0 second)
+  rising_at (x ∷ xs) zero (suc j) a b rising less first second = subst (λ o. IsBefore (has o) (has b)) (same_Some x a first) (all_at (λ o. IsBefore (has x) (has o)) xs j b rising.0 second)
   rising_at (x ∷ xs) (suc i) (suc j) a b rising less first second = rising_at xs i j a b rising.1 (omega arith) first second

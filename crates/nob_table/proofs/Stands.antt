@@ -1,7 +1,6 @@
 -- What a change of the rows of another space's reference makes of how each reference stands.
-use Rattle.std.proofs.Common.{◌≡◌, ℕ, Bool, true, false, ◌==◌, ◌||◌, cond, List, [], ◌∷◌, Option, Some, None, IsSome, IfSome, is_some, slice_get, rules, if◌then◌else◌, refl, sym, ap, ◌∙◌}
+use Rattle.std.proofs.Common.{◌≡◌, ℕ, Bool, true, false, ◌==◌, ◌||◌, cond, List, [], ◌∷◌, Option, Some, None, IsSome, is_some, if◌then◌else◌, refl, sym, ap, ◌∙◌}
 use Rattle.std.proofs.lemmas.Cmp.{nat_eq_equiv}
-use Rattle.std.proofs.lemmas.Map.Keys.{any_passes_from_place}
 use Rattle.std.specs.List.{list_any}
 use Rattle.std.specs.Option.{option_map}
 use Rattle.std.specs.Map.{lookup, keys_of}
@@ -132,24 +131,9 @@ module _ (me exported : ℕ) (objects counted : List (WireRep × Counts)) (surro
   pub placed : (dirties : ℕ) → IsTable me exported dirties objects counted surrogates → is_some (place_in surrogates rep) ≡ is_surrogate (stands me exported objects counted surrogates rep).state
   placed dirties table = placed_state (rep.owner == me) (was_given exported rep.index) (row_at objects rep) (row_at surrogates rep) (row_at counted rep) (table.counts rep) (table.far rep)
 
-  -- the live objects are those that stand in their order
-  pub live_placed : (dirties : ℕ) → IsTable me exported dirties objects counted surrogates → list_any (is_same rep) (reps_of objects) ≡ is_live (stands me exported objects counted surrogates rep).state
-  live_placed dirties table =
+  -- the live objects are those that have a row
+  pub live_is_there : (dirties : ℕ) → IsTable me exported dirties objects counted surrogates → list_any (is_same rep) (reps_of objects) ≡ is_live (stands me exported objects counted surrogates rep).state
+  live_is_there dirties table =
       any_key (is_same rep) objects
       ∙ live_state (rep.owner == me) (was_given exported rep.index) (row_at objects rep) (row_at surrogates rep) (row_at counted rep)
       (λ has. let owned : rep.owner ≡ me = (table.given rep has).0 in rw owned (nat_eq_equiv.refl me))
-
-  -- the object at a place of that order is the space's own, and live
-  live_there : (dirties : ℕ) → IsTable me exported dirties objects counted surrogates → (place : ℕ) → slice_get (reps_of objects) place ≡ Some rep
-      → (rep.owner ≡ me) × (is_live (stands me exported objects counted surrogates rep).state ≡ true)
-  live_there dirties table place got =
-      let found = any_passes_from_place (is_same rep) (reps_of objects) place rep got (same_refl rep) in
-      let has : is_some (row_at objects rep) ≡ true = sym (any_key (is_same rep) objects) ∙ found in
-      ((table.given rep has).0, sym (live_placed dirties table) ∙ found)
-
--- what stands at a place of the live objects' order is the space's own, and live
-pub live_found : (me exported dirties : ℕ) (objects counted : List (WireRep × Counts)) (surrogates : List (WireRep × Surrogate)) (place : ℕ) (found : Option WireRep)
-    → IsTable me exported dirties objects counted surrogates → found ≡ slice_get (reps_of objects) place
-    → IfSome found (λ rep. (rep.owner ≡ me) × (is_live (stands me exported objects counted surrogates rep).state ≡ true))
-live_found me exported dirties objects counted surrogates place None table is = search rules
-live_found me exported dirties objects counted surrogates place (Some rep) table is = live_there me exported objects counted surrogates rep dirties table place (sym is)

@@ -12,7 +12,7 @@ use Rattle.nob_table.specs.Peers.{is_idle_in, NeverIdleIn, IsFirstIn}
 use Rattle.nob_table.specs.Rows.{row_at, Puts, keep_if}
 use Rattle.nob_table.specs.Standings.{far_standing, is_idle}
 use Rattle.nob_table.specs.Table.{Table, IsTable, standing, NoneIdle, IsFirstIdle}
-use Rattle.nob_table.proofs.Parts.{kept_some}
+use Rattle.nob_table.proofs.Owned.{kept_some}
 
 -- a filter is no longer
 pub filter_shorter : (test : WireRep → Bool) (xs : List WireRep) → length (filter test xs) ≤ length xs
@@ -59,7 +59,7 @@ module _ (me exported dirties : ℕ) (objects counted : List (WireRep × Counts)
           | false ↦ λ u. let at : row_at counted' rep ≡ row_at counted rep = closed rep ∙ rw u refl in sym (ap is_some at) ∙ has
         ] refl
 
-    -- what is left was there, in the part of another owner
+    -- what is left was there, in the peer of another owner
     others : (rep : WireRep) → IsSome (row_at surrogates' rep) → ((rep.owner == owner) ≡ false) × (row_at surrogates' rep ≡ row_at surrogates rep)
     others rep has =
         elim (rep.owner == owner) as (λ b. (rep.owner == owner) ≡ b → (b ≡ false) × (row_at surrogates' rep ≡ row_at surrogates rep)) [
@@ -78,6 +78,7 @@ module _ (me exported dirties : ℕ) (objects counted : List (WireRep × Counts)
     pub table_closed : length surrogates' ≤ length surrogates → IsTable me exported dirties objects counted' surrogates'
     table_closed fewer = record {
       given = table.given;
+      by_index = table.by_index;
       far = λ rep has. table.far rep (still rep has);
       no_agent = λ rep has. table.no_agent rep (still rep has);
       counts = λ rep has.

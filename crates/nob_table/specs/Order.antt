@@ -1,4 +1,4 @@
--- The order of last Dirties: each surrogate has a place, and a list is in order where the places rise.
+-- Two orders: each surrogate has a place in the order of last Dirties, and the live objects stand in the order of their indexes.
 use Rattle.std.specs.Prelude.{ℕ, ◌<◌, List, [], ◌∷◌, Option, Some, None}
 use Rattle.std.specs.Option.{option_map}
 use Rattle.std.specs.List.{AllByRecursion}
@@ -10,13 +10,21 @@ use Rattle.nob_table.specs.Rows.{row_at}
 abbrev pub place_in : List (WireRep × Surrogate) → WireRep → Option ℕ
 place_in surrogates rep = option_map (λ surrogate. surrogate.place) (row_at surrogates rep)
 
--- both are places, the first below the second
+-- both are there, the first below the second
 abbrev pub IsBefore : Option ℕ → Option ℕ → Type 0
-IsBefore None place = ⊥
+IsBefore None second = ⊥
 IsBefore (Some first) None = ⊥
 IsBefore (Some first) (Some second) = first < second
 
--- the place of each reference of the list is below those of the references behind it
+-- what each reference of the list has is below what the references behind it have
 abbrev pub IsRising : (WireRep → Option ℕ) → List WireRep → Type 0
-IsRising place [] = Unit {0}
-IsRising place (rep ∷ reps) = AllByRecursion (λ other. IsBefore (place rep) (place other)) reps × IsRising place reps
+IsRising has [] = Unit {0}
+IsRising has (rep ∷ reps) = AllByRecursion (λ other. IsBefore (has rep) (has other)) reps × IsRising has reps
+
+-- the index of a reference
+abbrev pub index_of : WireRep → Option ℕ
+index_of rep = Some rep.index
+
+-- the references stand in the order of their indexes, each index once
+abbrev pub IsByIndex : List WireRep → Type 0
+IsByIndex reps = IsRising index_of reps

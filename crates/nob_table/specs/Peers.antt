@@ -1,4 +1,4 @@
--- What the table has of the other spaces: a part for each space's number.
+-- What the table has of the other spaces: a peer for each space's number.
 use Rattle.std.specs.Prelude.{◌≡◌, ℕ, ◌+◌, ◌<◌, ◌≤◌, Bool, true, false, List, length, slice_get, nat_lt, Option, IsSome, Some, None, if◌then◌else◌}
 use Rattle.std.specs.List.{flat_map, AllZip}
 use Rattle.nob_ids.specs.Names.{most_spaces}
@@ -19,45 +19,45 @@ pub record Far : Type 0 where
   -- how many more surrogates fit
   pub room : ℕ
 
--- how many parts there are once all are made: one for each number up to the greatest space's
-abbrev pub most_parts : ℕ
-most_parts = most_spaces + 1
+-- how many peers there are once all are made: one for each number up to the greatest space's
+abbrev pub most_peers : ℕ
+most_peers = most_spaces + 1
 
--- the counts of all parts
+-- the counts of all peers
 abbrev pub counted_of : List Peer → List (WireRep × Counts)
-counted_of parts = flat_map (λ part. part.counted.rows) parts
+counted_of peers = flat_map (λ peer. peer.counted.rows) peers
 
--- the surrogates of all parts
+-- the surrogates of all peers
 abbrev pub surrogates_of : List Peer → List (WireRep × Surrogate)
-surrogates_of parts = flat_map (λ part. part.surrogates.rows) parts
+surrogates_of peers = flat_map (λ peer. peer.surrogates.rows) peers
 
--- a part with these rows has the references of this owner alone, each once, its surrogates in the order of their last Dirties
-pub record IsPart (owner : ℕ) (counted : List (WireRep × Counts)) (surrogates : List (WireRep × Surrogate)) : Type 0 where
+-- a peer with these rows has the references of this owner alone, each once, its surrogates in the order of their last Dirties
+pub record IsPeer (owner : ℕ) (counted : List (WireRep × Counts)) (surrogates : List (WireRep × Surrogate)) : Type 0 where
   pub counted_owned : (rep : WireRep) → IsSome (row_at counted rep) → rep.owner ≡ owner
   pub surrogates_owned : (rep : WireRep) → IsSome (row_at surrogates rep) → rep.owner ≡ owner
   pub counted_once : IsOnce counted
   pub surrogates_once : IsOnce surrogates
   pub rising : IsRising (place_in surrogates) (reps_of surrogates)
 
--- each part is its number's
-abbrev pub AreParts : List Peer → Type 0
-AreParts parts = (owner : ℕ) (part : Peer) → slice_get parts owner ≡ Some part → IsPart owner part.counted.rows part.surrogates.rows
+-- each peer is its number's
+abbrev pub AreByNumber : List Peer → Type 0
+AreByNumber peers = (owner : ℕ) (peer : Peer) → slice_get peers owner ≡ Some peer → IsPeer owner peer.counted.rows peer.surrogates.rows
 
--- each part has this room
+-- each peer has this room
 abbrev pub HaveRoom : ℕ → List Peer → Type 0
-HaveRoom room parts = (owner : ℕ) (part : Peer) → slice_get parts owner ≡ Some part → (room ≤ part.counted.room) × (room ≤ part.surrogates.room)
+HaveRoom room peers = (owner : ℕ) (peer : Peer) → slice_get peers owner ≡ Some peer → (room ≤ peer.counted.room) × (room ≤ peer.surrogates.room)
 
 -- new has as much room as old at least
-abbrev pub PartKeepsRoom : Peer → Peer → Type 0
-PartKeepsRoom old new = (old.counted.room ≤ new.counted.room) × (old.surrogates.room ≤ new.surrogates.room)
+abbrev pub PeerKeepsRoom : Peer → Peer → Type 0
+PeerKeepsRoom old new = (old.counted.room ≤ new.counted.room) × (old.surrogates.room ≤ new.surrogates.room)
 
--- what holds of the parts, the number of surrogates and the room that was made
-pub record IsPeers (parts : List Peer) (count room : ℕ) : Type 0 where
-  pub owned : AreParts parts
-  pub roomy : HaveRoom room parts
-  -- room was made in all parts
-  pub made : 0 < room → most_parts ≤ length parts
-  pub counts : count ≡ length (surrogates_of parts)
+-- what holds of the peers, the number of surrogates and the room that was made
+pub record IsPeers (peers : List Peer) (count room : ℕ) : Type 0 where
+  pub owned : AreByNumber peers
+  pub roomy : HaveRoom room peers
+  -- room was made in all peers
+  pub made : 0 < room → most_peers ≤ length peers
+  pub counts : count ≡ length (surrogates_of peers)
 
 -- the surrogate with this reference is idle
 abbrev pub is_idle_in : List (WireRep × Counts) → List (WireRep × Surrogate) → WireRep → Bool
@@ -77,9 +77,9 @@ IsFirstIn counted surrogates from place rep = (from ≤ place) × (place_in surr
 
 -- new has the rows of old, and as much room at least
 abbrev pub Grows : Peer → Peer → Type 0
-Grows old new = (new.counted.rows ≡ old.counted.rows) × (new.surrogates.rows ≡ old.surrogates.rows) × PartKeepsRoom old new
+Grows old new = (new.counted.rows ≡ old.counted.rows) × (new.surrogates.rows ≡ old.surrogates.rows) × PeerKeepsRoom old new
 
--- each part of new grows from the one of old
+-- each peer of new grows from the one of old
 abbrev pub AllGrow : List Peer → List Peer → Type 0
 AllGrow old new = AllZip Grows old new
 

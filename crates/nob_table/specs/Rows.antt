@@ -3,7 +3,6 @@ use Rattle.std.specs.Prelude.{◌≡◌, ℕ, Bool, List, Option, Some, None, if
 use Rattle.std.specs.Map.{lookup, keys_of}
 use Rattle.std.specs.Set.{remove_key}
 use Rattle.std.specs.List.{IsDistinct}
-use Rattle.indexmap.specs.IndexMap.{swap_remove_by}
 use Rattle.nob_ids.specs.Names.{is_same}
 use Rattle.nob_ids.specs.declared.wire_rep.WireRep.{WireRep}
 
@@ -37,7 +36,3 @@ keep_if test (Some x) = if test x then Some x else None
 -- the references without this one, in the same order
 abbrev pub without : WireRep → List WireRep → List WireRep
 without rep reps = remove_key (is_same rep) reps
-
--- the references without this one, with the last one in its place
-abbrev pub swapped_out : WireRep → List WireRep → List WireRep
-swapped_out rep reps = swap_remove_by (is_same rep) reps

@@ -68,6 +68,10 @@ is_surrogate _ = false
 abbrev pub is_idle : Standing → Bool
 is_idle standing = if is_granted standing.state then not (is_held standing.counts) else false
 
+-- live and without holds
+abbrev pub is_unheld : Standing → Bool
+is_unheld standing = if is_live standing.state then not (is_held standing.counts) else false
+
 -- the state of a surrogate, by its owner's answer
 abbrev pub state_of : Grant → State
 state_of Waits = Pending

@@ -13,9 +13,9 @@ use Rattle.nob_table.specs.declared.fault.TableError.TheVariants.{Fault, OutOfMe
 use Rattle.nob_table.specs.Counts as counts
 use Rattle.nob_table.specs.Counts.{is_held}
 use Rattle.nob_ids.specs.Names.{is_same}
-use Rattle.nob_table.specs.Order.{place_in, IsRising}
+use Rattle.nob_table.specs.Order.{place_in, IsRising, IsByIndex}
 use Rattle.nob_table.specs.Rows.{row_at, reps_of}
-use Rattle.nob_table.specs.Standings.{is_known, is_unknown, is_live, is_pending, is_granted, is_idle, own_standing, far_standing}
+use Rattle.nob_table.specs.Standings.{is_known, is_unknown, is_live, is_pending, is_granted, is_idle, is_unheld, own_standing, far_standing}
 
 -- the table of a space, with the room beside its items: how many more exports and surrogates fit without memory
 pub record Table : Type 0 where
@@ -25,7 +25,7 @@ pub record Table : Type 0 where
   pub exported : ℕ
   -- how many Dirties were sent: the place of the next one's surrogate
   pub dirties : ℕ
-  -- the space's live objects, with their counts, in the order in which they can be walked
+  -- the space's live objects, with their counts, in the order of their indexes
   pub objects : List (WireRep × Counts)
   -- the counts of other spaces' references: of surrogates, and of lost references, in no order
   pub counted : List (WireRep × Counts)
@@ -43,10 +43,6 @@ most_objects = 65536
 -- how many surrogates there are on open sessions at most, refused ones included
 abbrev pub most_surrogates : ℕ
 most_surrogates = 65536
-
--- how many Dirties are sent at most: as many as 64 bits can count
-abbrev pub most_dirties : ℕ
-most_dirties = 18446744073709551615
 
 -- the greatest index: 2^48
 abbrev pub most_index : ℕ
@@ -87,9 +83,9 @@ IsOrder t reps = IsRising (place_of t) reps × ((rep : WireRep) → list_any (is
 abbrev pub live : Table → ℕ
 live t = length t.objects
 
--- the live objects, in the order in which they can be walked
-abbrev pub live_order : Table → List WireRep
-live_order t = reps_of t.objects
+-- the live objects, in the order of their indexes
+abbrev pub live_reps : Table → List WireRep
+live_reps t = reps_of t.objects
 
 -- the reference to an object of the table's space
 abbrev pub own : Table → ℕ → WireRep
@@ -108,21 +104,52 @@ pub record Unchanged (old new : Table) : Type 0 where
 abbrev pub Becomes : Table → Table → WireRep → Standing → Type 0
 Becomes old new rep after = (other : WireRep) → standing new other ≡ (if is_same rep other then after else standing old other)
 
--- new is the table of the same space, with the same indexes given and the same live objects in the same order
-abbrev pub SameObjects : Table → Table → Type 0
-SameObjects old new = (new.me ≡ old.me) × (new.exported ≡ old.exported) × (live new ≡ live old) × (live_order new ≡ live_order old)
+-- new has the same surrogates at the same places, as many Dirties were sent, and it has as much room for surrogates at least
+pub record SameSurrogates (old new : Table) : Type 0 where
+  pub places : (rep : WireRep) → place_of new rep ≡ place_of old rep
+  pub total : surrogate_total new ≡ surrogate_total old
+  pub dirties : new.dirties ≡ old.dirties
+  pub room : old.surrogate_room ≤ new.surrogate_room
 
--- new has the same surrogates at the same places, and as many Dirties were sent
-abbrev pub SameOrder : Table → Table → Type 0
-SameOrder old new = ((rep : WireRep) → place_of new rep ≡ place_of old rep) × (surrogate_total new ≡ surrogate_total old) × (new.dirties ≡ old.dirties)
+-- new is the table of the same space, with the same indexes given, as many live objects, and as much room for exports at least
+pub record SameObjects (old new : Table) : Type 0 where
+  pub me : new.me ≡ old.me
+  pub exported : new.exported ≡ old.exported
+  pub live : live new ≡ live old
+  pub room : old.export_room ≤ new.export_room
+
+-- what an export leaves: the space, and all of the surrogates
+pub record ExportLeaves (old new : Table) : Type 0 where
+  pub me : new.me ≡ old.me
+  pub surrogates : SameSurrogates old new
+
+-- what a withdrawal leaves: the space, the indexes given, the room, and all of the surrogates
+pub record WithdrawalLeaves (old new : Table) : Type 0 where
+  pub me : new.me ≡ old.me
+  pub exported : new.exported ≡ old.exported
+  pub room : old.export_room ≤ new.export_room
+  pub surrogates : SameSurrogates old new
+
+-- what a change of one standing leaves: how many objects and surrogates there are, the places, and the room
+pub record ChangeLeaves (old new : Table) : Type 0 where
+  pub objects : SameObjects old new
+  pub surrogates : SameSurrogates old new
+
+-- what is left where surrogates are taken out: the objects, the Dirties sent, and the room
+pub record RemovalLeaves (old new : Table) : Type 0 where
+  pub objects : SameObjects old new
+  pub dirties : new.dirties ≡ old.dirties
+  pub room : old.surrogate_room ≤ new.surrogate_room
+
+-- nothing has changed, and there is as much room at least
+pub record Stays (old new : Table) : Type 0 where
+  pub items : Unchanged old new
+  pub export_room : old.export_room ≤ new.export_room
+  pub surrogate_room : old.surrogate_room ≤ new.surrogate_room
 
 -- this reference has this place in new, and every other one the place that it has in old
 abbrev pub Places : Table → Table → WireRep → Option ℕ → Type 0
 Places old new rep place = (other : WireRep) → place_of new other ≡ (if is_same rep other then place else place_of old other)
-
--- new has as much room as old at least
-abbrev pub KeepsRoom : Table → Table → Type 0
-KeepsRoom old new = (old.export_room ≤ new.export_room) × (old.surrogate_room ≤ new.surrogate_room)
 
 -- the first refusal of an export: as many live objects as there may be, or no index left
 abbrev pub export_fault : Table → Option TableFault
@@ -144,7 +171,7 @@ is_far t rep = not (rep.owner == t.me) && not (rep.index == 0)
 abbrev pub pending_fault : Table → WireRep → Option TableFault
 pending_fault t rep =
     if is_far t rep
-    then (if nat_le most_surrogates (surrogate_total t) || nat_le most_dirties t.dirties then Some Limit else (if is_unknown (standing t rep).state then None else Some StillUsed))
+    then (if nat_le most_surrogates (surrogate_total t) then Some Limit else (if is_unknown (standing t rep).state then None else Some StillUsed))
     else Some Absent
 
 -- the refusal of an owner's answer
@@ -172,6 +199,14 @@ NoneIdle t from to = (rep : WireRep) (place : ℕ) → place_of t rep ≡ Some p
 abbrev pub IsFirstIdle : Table → ℕ → ℕ → WireRep → Type 0
 IsFirstIdle t from place rep = (from ≤ place) × (place_of t rep ≡ Some place) × (is_idle (standing t rep) ≡ true) × NoneIdle t from place
 
+-- no object with an index from this one on is live and without holds
+abbrev pub NeverUnheld : Table → ℕ → Type 0
+NeverUnheld t from = (index : ℕ) → from ≤ index → is_unheld (standing t (own t index)) ≡ false
+
+-- the object of this index is live and without holds, and is the first such from the other index on
+abbrev pub IsFirstUnheld : Table → ℕ → ℕ → Type 0
+IsFirstUnheld t from index = (from ≤ index) × (is_unheld (standing t (own t index)) ≡ true) × ((other : ℕ) → from ≤ other → other < index → is_unheld (standing t (own t other)) ≡ false)
+
 -- whether the reference is to an object of this owner, another space
 abbrev pub is_of : Table → ℕ → WireRep → Bool
 is_of t owner rep = rep.owner == owner && not (rep.owner == t.me)
@@ -180,6 +215,8 @@ is_of t owner rep = rep.owner == owner && not (rep.owner == t.me)
 pub record IsTable (me exported dirties : ℕ) (objects counted : List (WireRep × Counts)) (surrogates : List (WireRep × Surrogate)) : Type 0 where
   -- a live object is the space's, and its index was given
   pub given : (rep : WireRep) → IsSome (row_at objects rep) → (rep.owner ≡ me) × (1 ≤ rep.index) × (rep.index ≤ exported)
+  -- the live objects stand in the order of their indexes
+  pub by_index : IsByIndex (reps_of objects)
   -- other spaces' references are other spaces'
   pub far : (rep : WireRep) → IsSome (row_at counted rep) → rep.owner == me ≡ false
   -- none of them is to an agent

@@ -6,6 +6,7 @@
 //! long as it is held. The table takes no events and knows no sessions: the space above says what happened.
 #![tactic(auto)]
 
+pub mod comparing;
 mod counts;
 mod fault;
 mod peer;

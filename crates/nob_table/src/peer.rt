@@ -5,7 +5,7 @@ ghost use Rattle.std.specs.Option.{option_map};
 ghost use Rattle.nob_ids.specs.declared.wire_rep.WireRep.{WireRep};
 ghost use Rattle.nob_table.specs.Counts.{no_counts, is_held};
 ghost use Rattle.nob_table.specs.Order.{place_in, IsRising};
-ghost use Rattle.nob_table.specs.Peers.{IsPart, PartKeepsRoom, Grows, NeverIdleIn, IsFirstIn};
+ghost use Rattle.nob_table.specs.Peers.{IsPeer, PeerKeepsRoom, Grows, NeverIdleIn, IsFirstIn};
 ghost use Rattle.nob_table.specs.Rows.{row_at, reps_of, Puts, IsOnce, keep_if};
 ghost use Rattle.nob_table.specs.Standings.{sent, answered, is_idle, far_standing};
 
@@ -44,21 +44,21 @@ impl Peer {
         ensures counted_room { OnOk result (additional ≤ self.new.counted.room) }
         ensures surrogates_room { OnOk result (additional ≤ self.new.surrogates.room) }
         ensures succeeds { additional ≤ self.old.counted.room → additional ≤ self.old.surrogates.room → IsOk result }
-        ensures room { PartKeepsRoom self.old self.new }
+        ensures room { PeerKeepsRoom self.old self.new }
     {
         self.counted.reserve(additional)?;
         self.surrogates.reserve(additional)
     }
 
     // A surrogate whose Dirty was just sent, at a place above all.
-    pub(crate) fn push(&mut self, rep: &WireRep, place: u64) -> Result<(), AllocError>
+    pub(crate) fn push(&mut self, rep: &WireRep, place: u128) -> Result<(), AllocError>
         requires new { row_at self.old.counted.rows rep.now ≡ None }
         requires sent { row_at self.old.surrogates.rows rep.now ≡ None }
         requires last { (other : WireRep) → IfSome (place_in self.old.surrogates.rows other) (λ earlier. earlier < place) }
         ensures counted { OnOk result (Puts self.old.counted.rows self.new.counted.rows rep.now (Some no_counts)) }
         ensures surrogates { OnOk result (Puts self.old.surrogates.rows self.new.surrogates.rows rep.now (Some (sent place))) }
         ensures len { OnOk result (length self.new.surrogates.rows ≡ length self.old.surrogates.rows + 1) }
-        ensures part { OnOk result (IsPart rep.now.owner self.old.counted.rows self.old.surrogates.rows → IsPart rep.now.owner self.new.counted.rows self.new.surrogates.rows) }
+        ensures peer { OnOk result (IsPeer rep.now.owner self.old.counted.rows self.old.surrogates.rows → IsPeer rep.now.owner self.new.counted.rows self.new.surrogates.rows) }
         ensures succeeds { 0 < self.old.counted.room → 0 < self.old.surrogates.room → IsOk result }
         ensures counted_room { self.old.counted.room ≤ self.new.counted.room + 1 }
         ensures surrogates_room { self.old.surrogates.room ≤ self.new.surrogates.room + 1 }
@@ -76,8 +76,8 @@ impl Peer {
         requires { IsSome (row_at self.old.counted.rows rep.now) }
         ensures counted { Puts self.old.counted.rows self.new.counted.rows rep.now (Some counts) }
         ensures surrogates { self.new.surrogates.rows ≡ self.old.surrogates.rows }
-        ensures part { (owner : ℕ) → IsPart owner self.old.counted.rows self.old.surrogates.rows → IsPart owner self.new.counted.rows self.new.surrogates.rows }
-        ensures room { PartKeepsRoom self.old self.new }
+        ensures peer { (owner : ℕ) → IsPeer owner self.old.counted.rows self.old.surrogates.rows → IsPeer owner self.new.counted.rows self.new.surrogates.rows }
+        ensures room { PeerKeepsRoom self.old self.new }
     {
         self.counted.set(rep, counts);
     }
@@ -88,8 +88,8 @@ impl Peer {
         ensures counted { self.new.counted.rows ≡ self.old.counted.rows }
         ensures surrogates { Puts self.old.surrogates.rows self.new.surrogates.rows rep.now (option_map (answered grant) (row_at self.old.surrogates.rows rep.now)) }
         ensures len { length self.new.surrogates.rows ≡ length self.old.surrogates.rows }
-        ensures part { (owner : ℕ) → IsPart owner self.old.counted.rows self.old.surrogates.rows → IsPart owner self.new.counted.rows self.new.surrogates.rows }
-        ensures room { PartKeepsRoom self.old self.new }
+        ensures peer { (owner : ℕ) → IsPeer owner self.old.counted.rows self.old.surrogates.rows → IsPeer owner self.new.counted.rows self.new.surrogates.rows }
+        ensures room { PeerKeepsRoom self.old self.new }
     {
         if let Some(surrogate) = self.surrogates.get(*rep) {
             self.surrogates.set(rep, surrogate.answered(grant));
@@ -100,8 +100,8 @@ impl Peer {
     pub(crate) fn forget(&mut self, rep: &WireRep)
         ensures counted { Puts self.old.counted.rows self.new.counted.rows rep.now None }
         ensures surrogates { self.new.surrogates.rows ≡ self.old.surrogates.rows }
-        ensures part { (owner : ℕ) → IsPart owner self.old.counted.rows self.old.surrogates.rows → IsPart owner self.new.counted.rows self.new.surrogates.rows }
-        ensures room { PartKeepsRoom self.old self.new }
+        ensures peer { (owner : ℕ) → IsPeer owner self.old.counted.rows self.old.surrogates.rows → IsPeer owner self.new.counted.rows self.new.surrogates.rows }
+        ensures room { PeerKeepsRoom self.old self.new }
     {
         self.counted.take(rep);
     }
@@ -112,8 +112,8 @@ impl Peer {
         ensures counted { Puts self.old.counted.rows self.new.counted.rows rep.now None }
         ensures surrogates { Puts self.old.surrogates.rows self.new.surrogates.rows rep.now None }
         ensures len { length self.new.surrogates.rows + 1 ≡ length self.old.surrogates.rows }
-        ensures part { (owner : ℕ) → IsPart owner self.old.counted.rows self.old.surrogates.rows → IsPart owner self.new.counted.rows self.new.surrogates.rows }
-        ensures room { PartKeepsRoom self.old self.new }
+        ensures peer { (owner : ℕ) → IsPeer owner self.old.counted.rows self.old.surrogates.rows → IsPeer owner self.new.counted.rows self.new.surrogates.rows }
+        ensures room { PeerKeepsRoom self.old self.new }
     {
         self.counted.take(rep);
         self.surrogates.take_in_order(rep);
@@ -125,8 +125,8 @@ impl Peer {
         ensures len { result ≡ length self.old.surrogates.rows }
         ensures counted { (rep : WireRep) → row_at self.new.counted.rows rep ≡ keep_if is_held (row_at self.old.counted.rows rep) }
         ensures surrogates { self.new.surrogates.rows ≡ [] }
-        ensures part { (owner : ℕ) → IsPart owner self.old.counted.rows self.old.surrogates.rows → IsPart owner self.new.counted.rows self.new.surrogates.rows }
-        ensures room { PartKeepsRoom self.old self.new }
+        ensures peer { (owner : ℕ) → IsPeer owner self.old.counted.rows self.old.surrogates.rows → IsPeer owner self.new.counted.rows self.new.surrogates.rows }
+        ensures room { PeerKeepsRoom self.old self.new }
     {
         let surrogates = self.surrogates.len();
         self.counted.keep_held();
@@ -136,12 +136,12 @@ impl Peer {
 
     // The surrogate with the least place from this one on that is granted and has no holds, with its place. Linear in
     // the surrogates that it passes.
-    pub(crate) fn first_idle(&self, place: u64) -> Option<(u64, WireRep)>
+    pub(crate) fn first_idle(&self, place: u128) -> Option<(u128, WireRep)>
         requires once { IsOnce self.now.surrogates.rows }
         requires rising { IsRising (place_in self.now.surrogates.rows) (reps_of self.now.surrogates.rows) }
         ensures { MatchOption result (NeverIdleIn self.now.counted.rows self.now.surrogates.rows place) (λ found. IsFirstIn self.now.counted.rows self.now.surrogates.rows place found.0 found.1) }
     {
-        let start = self.surrogates.count_below(place);
+        let start = self.surrogates.count_before(place);
         let end = self.surrogates.len();
         for at in start..end {
             let row = self.surrogates.row(at)?;

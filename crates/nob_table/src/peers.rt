@@ -5,7 +5,7 @@ ghost use Rattle.std.specs.Option.{option_map};
 ghost use Rattle.nob_ids.specs.declared.wire_rep.WireRep.{WireRep};
 ghost use Rattle.nob_table.specs.Counts.{no_counts, is_held};
 ghost use Rattle.nob_table.specs.Order.{place_in};
-ghost use Rattle.nob_table.specs.Peers.{most_parts, counted_of, surrogates_of, AreParts, NeverIdleIn, IsFirstIn, earlier_of, AllGrow, HaveRoom};
+ghost use Rattle.nob_table.specs.Peers.{most_peers, counted_of, surrogates_of, AreByNumber, NeverIdleIn, IsFirstIn, earlier_of, AllGrow, HaveRoom};
 ghost use Rattle.nob_table.specs.Rows.{row_at, reps_of, Puts, IsOnce, keep_if};
 ghost use Rattle.nob_table.specs.Standings.{sent, answered};
 
@@ -16,15 +16,15 @@ use nob_ids::{SpaceId, WireRep};
 use std::alloc::{AllocError, Global};
 use std::marker::Model;
 
-// What the table has of all other spaces: a part for each, at the place of the space's number (at 0 and at the own
-// number there is nothing). The parts are made when room is first wanted.
+// What the table has of all other spaces: a peer for each, by the space's number (at 0 and at the own number there is
+// nothing). The peers are made when room is first wanted.
 #[derive(Drop)]
 pub(crate) struct Peers {
     alloc: Global,
-    parts: Vec<Peer>,
-    // How many surrogates there are in all parts.
+    peers: Vec<Peer>,
+    // How many surrogates there are in all peers.
     count: usize,
-    // How many more surrogates fit, whoever the owners are: each part has room for as many.
+    // How many more surrogates fit, whoever the owners are: each peer has room for as many.
     room: usize,
 }
 
@@ -35,28 +35,28 @@ impl Model for Peers {
 
     ghost use Rattle.nob_table.specs.Peers.{IsPeers, counted_of, surrogates_of};
 
-    ghost view = { λ a. record { counted = counted_of a.parts.items; surrogates = surrogates_of a.parts.items; room = a.room } };
+    ghost view = { λ a. record { counted = counted_of a.peers.items; surrogates = surrogates_of a.peers.items; room = a.room } };
 
-    ghost invariant = { λ a. IsPeers a.parts.items a.count a.room };
+    ghost invariant = { λ a. IsPeers a.peers.items a.count a.room };
 }
 
-// A space's number: the place of its part.
+// A space's number, by which its peer stands.
 fn number_of(owner: SpaceId) -> usize
     ensures value { result ≡ owner }
-    ensures small { result < most_parts }
+    ensures small { result < most_peers }
 {
     usize::from(owner.get())
 }
 
-// The part of a space, if it is made.
-fn part(parts: &[Peer], owner: SpaceId) -> Option<&Peer>
-    ensures { MatchOption result (slice_get parts.now owner ≡ None) (λ part. slice_get parts.now owner ≡ Some part.now) }
+// The peer of a space, if it is made.
+fn peer_of(peers: &[Peer], owner: SpaceId) -> Option<&Peer>
+    ensures { MatchOption result (slice_get peers.now owner ≡ None) (λ peer. slice_get peers.now owner ≡ Some peer.now) }
 {
-    parts.get(number_of(owner))
+    peers.get(number_of(owner))
 }
 
-// How many parts there are once all are made.
-const MOST_PARTS: usize = SpaceId::MOST as usize + 1;
+// How many peers there are once all are made.
+const MOST_PEERS: usize = SpaceId::MOST as usize + 1;
 
 impl Peers {
     // Nothing of any space.
@@ -66,7 +66,7 @@ impl Peers {
     {
         Peers {
             alloc,
-            parts: Vec::new(alloc),
+            peers: Vec::new(alloc),
             count: 0,
             room: 0,
         }
@@ -84,28 +84,28 @@ impl Peers {
     pub(crate) fn counts(&self, rep: WireRep) -> Option<Counts>
         ensures { result ≡ row_at self.now.counted rep }
     {
-        let part = part(&self.parts, rep.owner)?;
-        part.counted.get(rep)
+        let peer = peer_of(&self.peers, rep.owner)?;
+        peer.counted.get(rep)
     }
 
     // The surrogate of a reference.
     pub(crate) fn surrogate(&self, rep: WireRep) -> Option<Surrogate>
         ensures { result ≡ row_at self.now.surrogates rep }
     {
-        let part = part(&self.parts, rep.owner)?;
-        part.surrogates.get(rep)
+        let peer = peer_of(&self.peers, rep.owner)?;
+        peer.surrogates.get(rep)
     }
 
     // The surrogate with the least place from this one on that is granted and has no holds, with its place. Linear in
     // the surrogates that it passes.
-    pub(crate) fn first_idle(&self, place: u64) -> Option<(u64, WireRep)>
+    pub(crate) fn first_idle(&self, place: u128) -> Option<(u128, WireRep)>
         ensures { MatchOption result (NeverIdleIn self.now.counted self.now.surrogates place) (λ found. IsFirstIn self.now.counted self.now.surrogates place found.0 found.1) }
     {
-        first_idle_of(&self.parts, place)
+        first_idle_of(&self.peers, place)
     }
 
-    // Makes room for so many more surrogates in each part. Constant where there is as much, else linear in the references
-    // of the parts that have to grow.
+    // Makes room for so many more surrogates in each peer. Constant where there is as much, else linear in the references
+    // of the peers that have to grow.
     pub(crate) fn reserve(&mut self, surrogates: usize) -> Result<(), AllocError>
         ensures counted { self.new.counted ≡ self.old.counted }
         ensures surrogates { self.new.surrogates ≡ self.old.surrogates }
@@ -116,14 +116,14 @@ impl Peers {
         if surrogates <= self.room {
             return Ok(());
         }
-        fill(&mut self.parts, self.alloc)?;
-        reserve_all(&mut self.parts, surrogates)?;
+        fill(&mut self.peers, self.alloc)?;
+        reserve_all(&mut self.peers, surrogates)?;
         self.room = surrogates;
         Ok(())
     }
 
     // A surrogate whose Dirty was just sent, at a place above all.
-    pub(crate) fn push(&mut self, rep: &WireRep, place: u64) -> Result<(), AllocError>
+    pub(crate) fn push(&mut self, rep: &WireRep, place: u128) -> Result<(), AllocError>
         requires new { row_at self.old.counted rep.now ≡ None }
         requires sent { row_at self.old.surrogates rep.now ≡ None }
         requires last { (other : WireRep) → IfSome (place_in self.old.surrogates other) (λ earlier. earlier < place) }
@@ -137,9 +137,9 @@ impl Peers {
         ensures room { self.old.room ≤ self.new.room + 1 }
         ensures room_kept { OnErr result (self.old.room ≤ self.new.room) }
     {
-        fill(&mut self.parts, self.alloc)?;
+        fill(&mut self.peers, self.alloc)?;
         let at = number_of(rep.owner);
-        self.parts[at].push(rep, place)?;
+        self.peers[at].push(rep, place)?;
         self.count += 1;
         self.room = self.room.saturating_sub(1);
         Ok(())
@@ -153,8 +153,8 @@ impl Peers {
         ensures room { self.old.room ≤ self.new.room }
     {
         let at = number_of(rep.owner);
-        if at < self.parts.len() {
-            self.parts[at].set_counts(rep, counts);
+        if at < self.peers.len() {
+            self.peers[at].set_counts(rep, counts);
         }
     }
 
@@ -167,8 +167,8 @@ impl Peers {
         ensures room { self.old.room ≤ self.new.room }
     {
         let at = number_of(rep.owner);
-        if at < self.parts.len() {
-            self.parts[at].set_answer(rep, grant);
+        if at < self.peers.len() {
+            self.peers[at].set_answer(rep, grant);
         }
     }
 
@@ -179,8 +179,8 @@ impl Peers {
         ensures room { self.old.room ≤ self.new.room }
     {
         let at = number_of(rep.owner);
-        if at < self.parts.len() {
-            self.parts[at].forget(rep);
+        if at < self.peers.len() {
+            self.peers[at].forget(rep);
         }
     }
 
@@ -193,8 +193,8 @@ impl Peers {
         ensures room { self.old.room ≤ self.new.room }
     {
         let at = number_of(rep.owner);
-        if at < self.parts.len() {
-            self.parts[at].remove(rep);
+        if at < self.peers.len() {
+            self.peers[at].remove(rep);
             self.count -= 1;
         }
     }
@@ -208,52 +208,52 @@ impl Peers {
         ensures room { self.old.room ≤ self.new.room }
     {
         let at = number_of(owner);
-        if at < self.parts.len() {
-            self.count -= self.parts[at].close();
+        if at < self.peers.len() {
+            self.count -= self.peers[at].close();
         }
     }
 }
 
-// Makes the parts that aren't made yet.
-fn fill(parts: &mut Vec<Peer>, alloc: Global) -> Result<(), AllocError>
-    ensures parts { AreParts parts.old.items → AreParts parts.new.items }
-    ensures counted { counted_of parts.new.items ≡ counted_of parts.old.items }
-    ensures surrogates { surrogates_of parts.new.items ≡ surrogates_of parts.old.items }
-    ensures made { OnOk result (most_parts ≤ length parts.new.items) }
-    ensures same { most_parts ≤ length parts.old.items → parts.new.items ≡ parts.old.items }
-    ensures succeeds { most_parts ≤ length parts.old.items → IsOk result }
+// Makes the peers that aren't made yet.
+fn fill(peers: &mut Vec<Peer>, alloc: Global) -> Result<(), AllocError>
+    ensures peers { AreByNumber peers.old.items → AreByNumber peers.new.items }
+    ensures counted { counted_of peers.new.items ≡ counted_of peers.old.items }
+    ensures surrogates { surrogates_of peers.new.items ≡ surrogates_of peers.old.items }
+    ensures made { OnOk result (most_peers ≤ length peers.new.items) }
+    ensures same { most_peers ≤ length peers.old.items → peers.new.items ≡ peers.old.items }
+    ensures succeeds { most_peers ≤ length peers.old.items → IsOk result }
 {
-    while parts.len() < MOST_PARTS {
-        parts.push(Peer::new(alloc))?;
+    while peers.len() < MOST_PEERS {
+        peers.push(Peer::new(alloc))?;
     }
     Ok(())
 }
 
-// Makes room in each part.
-fn reserve_all(parts: &mut [Peer], surrogates: usize) -> Result<(), AllocError>
-    ensures grow { AllGrow parts.old parts.new }
-    ensures room { OnOk result (HaveRoom surrogates parts.new) }
+// Makes room in each peer.
+fn reserve_all(peers: &mut [Peer], surrogates: usize) -> Result<(), AllocError>
+    ensures grow { AllGrow peers.old peers.new }
+    ensures room { OnOk result (HaveRoom surrogates peers.new) }
 {
-    for part in parts {
-        part.reserve(surrogates)?;
+    for peer in peers {
+        peer.reserve(surrogates)?;
     }
     Ok(())
 }
 
-// The first idle surrogate of these parts from this place on.
-fn first_idle_of(parts: &[Peer], place: u64) -> Option<(u64, WireRep)>
-    requires { AreParts parts.now }
-    ensures { MatchOption result (NeverIdleIn (counted_of parts.now) (surrogates_of parts.now) place) (λ found. IsFirstIn (counted_of parts.now) (surrogates_of parts.now) place found.0 found.1) }
+// The first idle surrogate of these peers from this place on.
+fn first_idle_of(peers: &[Peer], place: u128) -> Option<(u128, WireRep)>
+    requires { AreByNumber peers.now }
+    ensures { MatchOption result (NeverIdleIn (counted_of peers.now) (surrogates_of peers.now) place) (λ found. IsFirstIn (counted_of peers.now) (surrogates_of peers.now) place found.0 found.1) }
 {
     let mut first = None;
-    for part in parts {
-        first = earlier(first, part.first_idle(place));
+    for peer in peers {
+        first = earlier(first, peer.first_idle(place));
     }
     first
 }
 
 // The one with the lesser place.
-fn earlier(one: Option<(u64, WireRep)>, other: Option<(u64, WireRep)>) -> Option<(u64, WireRep)>
+fn earlier(one: Option<(u128, WireRep)>, other: Option<(u128, WireRep)>) -> Option<(u128, WireRep)>
     ensures { result ≡ earlier_of one other }
 {
     match (one, other) {

@@ -3,8 +3,8 @@
 ghost use Rattle.std.specs.Prelude.{◌≡◌, ℕ, ◌^◌, ◌+◌, ◌<◌, ◌≤◌, ◌++◌, ◌∷◌, [], length, nat_lt, IsSome, None, Some, OnOk, IsOk, slice_get, if◌then◌else◌, is_some};
 ghost use Rattle.nob_ids.specs.declared.wire_rep.WireRep.{WireRep};
 ghost use Rattle.nob_table.specs.Counts.{is_held};
-ghost use Rattle.nob_table.specs.Order.{place_in, IsRising};
-ghost use Rattle.nob_table.specs.Rows.{RowList, row_at, reps_of, Puts, IsOnce, without, keep_if, swapped_out};
+ghost use Rattle.nob_table.specs.Order.{place_in, IsRising, IsByIndex};
+ghost use Rattle.nob_table.specs.Rows.{RowList, row_at, reps_of, Puts, IsOnce, without, keep_if};
 
 use crate::counts::Counts;
 use crate::standing::Surrogate;
@@ -59,19 +59,11 @@ impl<X: Copy + Drop> Rows<X> {
         self.map.get(&rep).copied()
     }
 
-    // The reference at a place.
-    pub(crate) fn rep_at(&self, place: usize) -> Option<WireRep>
-        ensures { result ≡ slice_get (reps_of self.now.rows) place }
+    // The row that so many others stand before.
+    pub(crate) fn row(&self, at: usize) -> Option<(WireRep, X)>
+        ensures { result ≡ slice_get self.now.rows at }
     {
-        let (rep, _) = self.map.get_index(place)?;
-        Some(*rep)
-    }
-
-    // The row at a place.
-    pub(crate) fn row(&self, place: usize) -> Option<(WireRep, X)>
-        ensures { result ≡ slice_get self.now.rows place }
-    {
-        let (rep, row) = self.map.get_index(place)?;
+        let (rep, row) = self.map.get_index(at)?;
         Some((*rep, *row))
     }
 
@@ -84,8 +76,8 @@ impl<X: Copy + Drop> Rows<X> {
         ensures once { IsOnce self.new.rows }
         ensures room { self.new.room ≡ self.old.room }
     {
-        if let Some(place) = self.map.get_mut(rep) {
-            *place = row;
+        if let Some(old) = self.map.get_mut(rep) {
+            *old = row;
         }
     }
 
@@ -111,10 +103,9 @@ impl<X: Copy + Drop> Rows<X> {
         let _absent = self.map.insert(*rep, row).unwrap();
     }
 
-    // Takes a row out. The last one takes its place.
+    // Takes a row out. The last one moves to where it stood.
     pub(crate) fn take(&mut self, rep: &WireRep)
         ensures puts { Puts self.old.rows self.new.rows rep.now None }
-        ensures reps { reps_of self.new.rows ≡ swapped_out rep.now (reps_of self.old.rows) }
         ensures once { IsOnce self.new.rows }
         ensures len { length self.new.rows + (if is_some (row_at self.old.rows rep.now) then 1 else 0) ≡ length self.old.rows }
         ensures room { self.old.room ≤ self.new.room }
@@ -162,11 +153,25 @@ impl Rows<Counts> {
             { counts.is_held() },
         );
     }
+
+    // How many rows have an index below this one: the first ones, where the indexes rise. Logarithmic in the rows.
+    pub(crate) fn count_below(&self, index: u64) -> usize
+        requires { IsByIndex (reps_of self.now.rows) }
+        ensures bound { result ≤ length self.now.rows }
+        ensures below { (at : ℕ) (row : WireRep × Counts) → slice_get self.now.rows at ≡ Some row → at < result → row.0.index < index }
+        ensures from { (at : ℕ) (row : WireRep × Counts) → slice_get self.now.rows at ≡ Some row → result ≤ at → index ≤ row.0.index }
+    {
+        self.map.partition_point(
+            |rep: &WireRep, _counts: &Counts| -> bool
+                ensures { result ≡ nat_lt rep.now.index index }
+            { rep.index < index },
+        )
+    }
 }
 
 impl Rows<Surrogate> {
     // How many rows have a place below this one: the first ones, where the places rise. Logarithmic in the rows.
-    pub(crate) fn count_below(&self, place: u64) -> usize
+    pub(crate) fn count_before(&self, place: u128) -> usize
         requires { IsRising (place_in self.now.rows) (reps_of self.now.rows) }
         ensures bound { result ≤ length self.now.rows }
         ensures below { (at : ℕ) (row : WireRep × Surrogate) → slice_get self.now.rows at ≡ Some row → at < result → row.1.place < place }

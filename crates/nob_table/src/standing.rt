@@ -110,12 +110,12 @@ pub(crate) struct Surrogate {
     /// What the owner has answered to the last Dirty.
     pub(crate) grant: Grant,
     /// How many Dirties were sent before the last one of this reference.
-    pub(crate) place: u64,
+    pub(crate) place: u128,
 }
 
 impl Surrogate {
     // The surrogate of a Dirty that was just sent.
-    pub(crate) fn sent(place: u64) -> Surrogate
+    pub(crate) fn sent(place: u128) -> Surrogate
         ensures { result ≡ sent place }
     {
         Surrogate {

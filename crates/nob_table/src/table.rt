@@ -1,13 +1,15 @@
 //! The table itself.
 
-ghost use Rattle.std.specs.Prelude.{◌≡◌, List, is_some, ◌+◌, ◌<◌, ◌≤◌, ◌==◌, ◌++◌, ◌∷◌, [], filter, not, length, slice_get, None, Some, IsSome, IfSome, IsTrue, IsOk, OnOk, OnErr, IfOk, IfErr, MatchOption, MatchResult, if◌then◌else◌};
+ghost use Rattle.std.specs.Prelude.{◌≡◌, List, is_some, ◌+◌, ◌^◌, ◌<◌, ◌≤◌, ◌==◌, ◌++◌, ◌∷◌, [], filter, not, length, slice_get, None, Some, IsSome, IfSome, IsTrue, IsOk, OnOk, OnErr, IfOk, IfErr, MatchOption, MatchResult, if◌then◌else◌};
 ghost use Rattle.nob_ids.specs.declared.wire_rep.WireRep.{WireRep};
 ghost use Rattle.nob_table.specs.Counts.{is_held};
 ghost use Rattle.nob_ids.specs.Names.{is_same};
-ghost use Rattle.nob_table.specs.Rows.{swapped_out, IsOnce};
+ghost use Rattle.nob_table.specs.Objects.{AreAllHeld, IsFirstRow};
+ghost use Rattle.nob_table.specs.Order.{IsByIndex};
+ghost use Rattle.nob_table.specs.Rows.{reps_of, IsOnce};
 ghost use Rattle.std.specs.List.{list_any};
 ghost use Rattle.nob_table.specs.Standings.{unknown, is_known, is_live, is_lost, is_surrogate, state_of, withdrawn, exported_standing, pending_standing, with_counts, in_state, after_hold, after_release, after_close};
-ghost use Rattle.nob_table.specs.Table.{Table, standing, surrogate_total, most_objects, most_surrogates, most_index, surrogate_reps, place_of, IsOrder, live, live_order, own, export_fault, hold_fault, release_fault, pending_fault, answer_fault, remove_fault, withdraw_fault, Unchanged, Becomes, SameObjects, SameOrder, Places, KeepsRoom, IsRefusal, NoneIdle, IsFirstIdle, is_of};
+ghost use Rattle.nob_table.specs.Table.{Table, standing, surrogate_total, most_objects, most_surrogates, most_index, surrogate_reps, place_of, IsOrder, live, live_reps, own, export_fault, hold_fault, release_fault, pending_fault, answer_fault, remove_fault, withdraw_fault, Becomes, SameObjects, ExportLeaves, WithdrawalLeaves, ChangeLeaves, RemovalLeaves, Stays, Places, IsRefusal, NoneIdle, IsFirstIdle, NeverUnheld, IsFirstUnheld, is_of};
 
 use crate::counts::{Counts, Part};
 use crate::fault::{TableError, TableFault};
@@ -27,7 +29,7 @@ use std::marker::Model;
 pub struct ObjectTable {
     me: SpaceId,
     exported: u64,
-    dirties: u64,
+    dirties: u128,
     objects: Rows<Counts>,
     peers: Peers,
 }
@@ -111,21 +113,20 @@ impl ObjectTable {
     pub fn object_count(&self) -> usize
         ensures count { result ≡ live self.now }
         ensures few { live self.now ≤ most_objects }
-        ensures places { result ≡ length (live_order self.now) }
         ensures once { IsOnce self.now.objects }
-        ensures placed { (rep : WireRep) → list_any (is_same rep) (live_order self.now) ≡ is_live (standing self.now rep).state }
+        ensures live { (rep : WireRep) → list_any (is_same rep) (live_reps self.now) ≡ is_live (standing self.now rep).state }
     {
         self.objects.len()
     }
 
-    /// The live object at this place, for a walk over all of them: places count from 0 to `object_count`, and each
-    /// live object has one. An export takes the place behind the last, a withdrawal puts the last object into the
-    /// place that it leaves, and nothing else moves them. Constant time.
-    pub fn object_at(&self, place: usize) -> Option<WireRep>
-        ensures at { result ≡ slice_get (live_order self.now) place }
-        ensures live { IfSome result (λ rep. (rep.owner ≡ self.now.me) × IsTrue (is_live (standing self.now rep).state)) }
+    /// The least index from this one on of a live object that nothing holds. Logarithmic in the live objects, and
+    /// linear in those that it passes: the held ones between this index and the one found. So a walk over all such
+    /// objects, each time from the index behind the last one found, passes each live object once.
+    pub fn first_unheld(&self, index: u64) -> Option<u64>
+        ensures first { MatchOption result (NeverUnheld self.now index) (λ found. IsFirstUnheld self.now index found) }
+        ensures given { IfSome result (λ found. (1 ≤ found) × (found ≤ self.now.exported)) }
     {
-        self.objects.rep_at(place)
+        first_unheld_of(&self.objects, index)
     }
 
     /// How many surrogates there are on open sessions. Constant time.
@@ -145,10 +146,8 @@ impl ObjectTable {
     pub fn hold(&mut self, rep: WireRep, part: Part) -> Result<(), TableFault>
         ensures answer { MatchResult result (λ _. hold_fault self.old rep part ≡ None) (λ fault. hold_fault self.old rep part ≡ Some fault) }
         ensures held { OnOk result (Becomes self.old self.new rep (after_hold part (standing self.old rep))) }
-        ensures objects { SameObjects self.old self.new }
-        ensures order { SameOrder self.old self.new }
-        ensures room { KeepsRoom self.old self.new }
-        ensures err { OnErr result (Unchanged self.old self.new) }
+        ensures left { ChangeLeaves self.old self.new }
+        ensures err { OnErr result (Stays self.old self.new) }
     {
         let standing = self.state(rep);
         let state = standing.state;
@@ -166,10 +165,8 @@ impl ObjectTable {
     pub fn release(&mut self, rep: WireRep, part: Part) -> Result<(), TableFault>
         ensures answer { MatchResult result (λ _. release_fault self.old rep part ≡ None) (λ fault. release_fault self.old rep part ≡ Some fault) }
         ensures released { OnOk result (Becomes self.old self.new rep (after_release part (standing self.old rep))) }
-        ensures objects { SameObjects self.old self.new }
-        ensures order { SameOrder self.old self.new }
-        ensures room { KeepsRoom self.old self.new }
-        ensures err { OnErr result (Unchanged self.old self.new) }
+        ensures left { ChangeLeaves self.old self.new }
+        ensures err { OnErr result (Stays self.old self.new) }
     {
         let standing = self.state(rep);
         let state = standing.state;
@@ -189,8 +186,7 @@ impl ObjectTable {
     /// Makes room: after it so many exports and so many surrogates can't run out of memory, whoever the surrogates'
     /// owners are. Constant where there is as much room, else linear in the references where the room has to grow.
     pub fn reserve(&mut self, exports: usize, surrogates: usize) -> Result<(), AllocError>
-        ensures items { Unchanged self.old self.new }
-        ensures room { KeepsRoom self.old self.new }
+        ensures left { Stays self.old self.new }
         ensures exports { OnOk result (exports ≤ self.new.export_room) }
         ensures surrogates { OnOk result (surrogates ≤ self.new.surrogate_room) }
         ensures succeeds { exports ≤ self.old.export_room → surrogates ≤ self.old.surrogate_room → IsOk result }
@@ -207,14 +203,11 @@ impl ObjectTable {
         ensures exported { IfOk result (λ rep. Becomes self.old self.new rep exported_standing) }
         ensures next { OnOk result (self.new.exported ≡ self.old.exported + 1) }
         ensures live { OnOk result (live self.new ≡ live self.old + 1) }
-        ensures placed { IfOk result (λ rep. live_order self.new ≡ live_order self.old ++ rep ∷ []) }
-        ensures me { self.new.me ≡ self.old.me }
-        ensures order { SameOrder self.old self.new }
-        ensures room { (self.old.export_room ≤ self.new.export_room + 1) × (self.old.surrogate_room ≤ self.new.surrogate_room) }
+        ensures room { self.old.export_room ≤ self.new.export_room + 1 }
+        ensures left { ExportLeaves self.old self.new }
         ensures accepted { OnOk result (export_fault self.old ≡ None) }
-        ensures err { IfErr result (IsRefusal (export_fault self.old)) }
-        ensures unchanged { OnErr result (Unchanged self.old self.new) }
-        ensures room_kept { OnErr result (KeepsRoom self.old self.new) }
+        ensures refused { IfErr result (IsRefusal (export_fault self.old)) }
+        ensures err { OnErr result (Stays self.old self.new) }
         ensures succeeds { 0 < self.old.export_room → export_fault self.old ≡ None → IsOk result }
     {
         if self.objects.len() >= ObjectTable::MOST_OBJECTS
@@ -233,17 +226,13 @@ impl ObjectTable {
     }
 
     /// Withdraws a live object that nothing holds. B1 where no live object has the index, B4 where it is held.
-    /// Constant time on average.
+    /// Linear in the live objects of greater indexes.
     pub fn withdraw(&mut self, index: u64) -> Result<(), TableFault>
         ensures answer { MatchResult result (λ _. withdraw_fault self.old index ≡ None) (λ fault. withdraw_fault self.old index ≡ Some fault) }
         ensures withdrawn { OnOk result (Becomes self.old self.new (own self.old index) withdrawn) }
         ensures live { OnOk result (live self.new + 1 ≡ live self.old) }
-        ensures places { OnOk result (live_order self.new ≡ swapped_out (own self.old index) (live_order self.old)) }
-        ensures exported { self.new.exported ≡ self.old.exported }
-        ensures me { self.new.me ≡ self.old.me }
-        ensures order { SameOrder self.old self.new }
-        ensures room { KeepsRoom self.old self.new }
-        ensures err { OnErr result (Unchanged self.old self.new) }
+        ensures left { WithdrawalLeaves self.old self.new }
+        ensures err { OnErr result (Stays self.old self.new) }
     {
         let rep = WireRep {
             owner: self.me,
@@ -255,32 +244,32 @@ impl ObjectTable {
         if counts.is_held() {
             return Err(TableFault::StillUsed);
         }
-        self.objects.take(&rep);
+        self.objects.take_in_order(&rep);
         Ok(())
     }
 
     /// A Dirty for the reference is sent: it is a pending surrogate, the last in order. B1 where the space can't
     /// have a surrogate of it, since it is its own or an agent's; B3 where there are 65,536 surrogates on open
-    /// sessions or 2^64 - 1 Dirties were sent; B4 where it is a surrogate already, or lost and still held. Constant
-    /// time on average, save where the room has to grow.
+    /// sessions; B4 where it is a surrogate already, or lost and still held. Constant time on average, save where the
+    /// room has to grow. The caller's condition: the Dirties sent can be counted in 128 bits.
     pub fn pending(&mut self, rep: WireRep) -> Result<(), TableError>
+        requires { self.old.dirties + 1 < 2 ^ 128 }
         ensures pending { OnOk result (Becomes self.old self.new rep pending_standing) }
         ensures place { OnOk result (Places self.old self.new rep (Some self.old.dirties)) }
         ensures dirties { OnOk result (self.new.dirties ≡ self.old.dirties + 1) }
         ensures count { OnOk result (surrogate_total self.new ≡ surrogate_total self.old + 1) }
         ensures order { OnOk result ((reps : List WireRep) → IsOrder self.old reps → IsOrder self.new (reps ++ rep ∷ [])) }
-        ensures objects { SameObjects self.old self.new }
-        ensures room { (self.old.export_room ≤ self.new.export_room) × (self.old.surrogate_room ≤ self.new.surrogate_room + 1) }
+        ensures room { self.old.surrogate_room ≤ self.new.surrogate_room + 1 }
+        ensures left { SameObjects self.old self.new }
         ensures accepted { OnOk result (pending_fault self.old rep ≡ None) }
-        ensures err { IfErr result (IsRefusal (pending_fault self.old rep)) }
-        ensures unchanged { OnErr result (Unchanged self.old self.new) }
-        ensures room_kept { OnErr result (KeepsRoom self.old self.new) }
+        ensures refused { IfErr result (IsRefusal (pending_fault self.old rep)) }
+        ensures err { OnErr result (Stays self.old self.new) }
         ensures succeeds { 0 < self.old.surrogate_room → pending_fault self.old rep ≡ None → IsOk result }
     {
         if rep.owner == self.me || rep.index == 0 {
             return Err(TableError::Fault(TableFault::Absent));
         }
-        if self.peers.len() >= ObjectTable::MOST_SURROGATES || self.dirties == u64::MAX {
+        if self.peers.len() >= ObjectTable::MOST_SURROGATES {
             return Err(TableError::Fault(TableFault::Limit));
         }
         if self.peers.counts(rep).is_some() {
@@ -295,10 +284,8 @@ impl ObjectTable {
     pub fn grant(&mut self, rep: WireRep) -> Result<(), TableFault>
         ensures answer { MatchResult result (λ _. answer_fault self.old rep ≡ None) (λ fault. answer_fault self.old rep ≡ Some fault) }
         ensures granted { OnOk result (Becomes self.old self.new rep (in_state State.Granted (standing self.old rep))) }
-        ensures objects { SameObjects self.old self.new }
-        ensures order { SameOrder self.old self.new }
-        ensures room { KeepsRoom self.old self.new }
-        ensures err { OnErr result (Unchanged self.old self.new) }
+        ensures left { ChangeLeaves self.old self.new }
+        ensures err { OnErr result (Stays self.old self.new) }
     {
         self.answer(rep, Grant::Given)
     }
@@ -307,18 +294,17 @@ impl ObjectTable {
     pub fn refuse(&mut self, rep: WireRep) -> Result<(), TableFault>
         ensures answer { MatchResult result (λ _. answer_fault self.old rep ≡ None) (λ fault. answer_fault self.old rep ≡ Some fault) }
         ensures refused { OnOk result (Becomes self.old self.new rep (in_state State.Refused (standing self.old rep))) }
-        ensures objects { SameObjects self.old self.new }
-        ensures order { SameOrder self.old self.new }
-        ensures room { KeepsRoom self.old self.new }
-        ensures err { OnErr result (Unchanged self.old self.new) }
+        ensures left { ChangeLeaves self.old self.new }
+        ensures err { OnErr result (Stays self.old self.new) }
     {
         self.answer(rep, Grant::Denied)
     }
 
     /// The first surrogate in the order of the last Dirties, from this place on, that is granted and without holds, with
     /// its place. Linear in the surrogates that it passes: of each owner those from the place on, up to the first such one.
-    pub fn first_idle(&self, place: u64) -> Option<(u64, WireRep)>
-        ensures { MatchOption result (NoneIdle self.now place self.now.dirties) (λ found. IsFirstIdle self.now place found.0 found.1) }
+    pub fn first_idle(&self, place: u128) -> Option<(u128, WireRep)>
+        ensures first { MatchOption result (NoneIdle self.now place self.now.dirties) (λ found. IsFirstIdle self.now place found.0 found.1) }
+        ensures sent { IfSome result (λ found. found.0 < self.now.dirties) }
     {
         self.peers.first_idle(place)
     }
@@ -331,10 +317,8 @@ impl ObjectTable {
         ensures place { OnOk result (Places self.old self.new rep None) }
         ensures count { OnOk result (surrogate_total self.new + 1 ≡ surrogate_total self.old) }
         ensures order { OnOk result ((reps : List WireRep) → IsOrder self.old reps → IsOrder self.new (filter (λ other. not (is_same rep other)) reps)) }
-        ensures dirties { self.new.dirties ≡ self.old.dirties }
-        ensures objects { SameObjects self.old self.new }
-        ensures room { KeepsRoom self.old self.new }
-        ensures err { OnErr result (Unchanged self.old self.new) }
+        ensures left { RemovalLeaves self.old self.new }
+        ensures err { OnErr result (Stays self.old self.new) }
     {
         let standing = self.state(rep);
         let state = standing.state;
@@ -355,9 +339,7 @@ impl ObjectTable {
         ensures places { (rep : WireRep) → place_of self.new rep ≡ (if rep.owner == owner then None else place_of self.old rep) }
         ensures count { surrogate_total self.new ≡ length (filter (λ rep. not (rep.owner == owner)) (surrogate_reps self.old)) }
         ensures order { (reps : List WireRep) → IsOrder self.old reps → IsOrder self.new (filter (λ rep. not (rep.owner == owner)) reps) }
-        ensures dirties { self.new.dirties ≡ self.old.dirties }
-        ensures objects { SameObjects self.old self.new }
-        ensures room { KeepsRoom self.old self.new }
+        ensures left { RemovalLeaves self.old self.new }
     {
         self.peers.close(owner);
     }
@@ -366,10 +348,8 @@ impl ObjectTable {
     fn answer(&mut self, rep: WireRep, grant: Grant) -> Result<(), TableFault>
         ensures answer { MatchResult result (λ _. answer_fault self.old rep ≡ None) (λ fault. answer_fault self.old rep ≡ Some fault) }
         ensures answered { OnOk result (Becomes self.old self.new rep (in_state (state_of grant) (standing self.old rep))) }
-        ensures objects { SameObjects self.old self.new }
-        ensures order { SameOrder self.old self.new }
-        ensures room { KeepsRoom self.old self.new }
-        ensures err { OnErr result (Unchanged self.old self.new) }
+        ensures left { ChangeLeaves self.old self.new }
+        ensures err { OnErr result (Stays self.old self.new) }
     {
         let standing = self.state(rep);
         let state = standing.state;
@@ -385,9 +365,7 @@ impl ObjectTable {
         requires known { IsTrue (is_known (standing self.old rep.now).state) }
         requires held { IsTrue (is_lost (standing self.old rep.now).state) → IsTrue (is_held counts) }
         ensures written { Becomes self.old self.new rep.now (with_counts counts (standing self.old rep.now)) }
-        ensures objects { SameObjects self.old self.new }
-        ensures order { SameOrder self.old self.new }
-        ensures room { KeepsRoom self.old self.new }
+        ensures left { ChangeLeaves self.old self.new }
     {
         if rep.owner == self.me {
             self.objects.set(rep, counts);
@@ -400,10 +378,25 @@ impl ObjectTable {
     fn forget_lost(&mut self, rep: WireRep)
         requires { IsTrue (is_lost (standing self.old rep).state) }
         ensures forgotten { Becomes self.old self.new rep unknown }
-        ensures objects { SameObjects self.old self.new }
-        ensures order { SameOrder self.old self.new }
-        ensures room { KeepsRoom self.old self.new }
+        ensures left { ChangeLeaves self.old self.new }
     {
         self.peers.forget(&rep);
     }
+}
+
+// The least index from this one on of an object that nothing holds.
+fn first_unheld_of(objects: &Rows<Counts>, index: u64) -> Option<u64>
+    requires { IsByIndex (reps_of objects.now.rows) }
+    ensures once { IsOnce objects.now.rows }
+    ensures first { MatchOption result (AreAllHeld objects.now.rows index) (λ found. IsFirstRow objects.now.rows index found) }
+{
+    let start = objects.count_below(index);
+    let end = objects.len();
+    for at in start..end {
+        let row = objects.row(at)?;
+        if !row.1.is_held() {
+            return Some(row.0.index);
+        }
+    }
+    None
 }

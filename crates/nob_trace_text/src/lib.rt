@@ -6,5 +6,5 @@ mod lines;
 mod number;
 
 pub use bytes::bytes_of;
-pub use lines::lines_of;
+pub use lines::first_line;
 pub use number::number_of;

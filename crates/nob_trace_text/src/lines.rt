@@ -1,29 +1,26 @@
 //! Lines.
 
-ghost use Rattle.std.specs.Prelude.{◌≡◌, IfOk};
-ghost use Rattle.std.specs.List.{slice_split};
+ghost use Rattle.std.specs.Prelude.{◌≡◌, ◌<◌, ◌∷◌, [], length, IfSome, MatchOption, position};
 ghost use Rattle.nob_trace_text.specs.Lines as spec;
 
-use std::alloc::{AllocError, Global};
-
-/// The lines of a text, without their newlines: the last one may lack its own, and an empty text has none. Only
-/// memory fails it.
-pub fn lines_of(alloc: Global, text: &[u8]) -> Result<Vec<&[u8]>, AllocError>
-    ensures { IfOk result (λ lines. spec.texts lines.items ≡ spec.lines_of text.now) }
+/// The first line of a text, without its newline, and the text after it: `None` of an empty text, which has no line.
+#[tactic(auto, using(crate::proofs::LineTexts::newline_first, crate::proofs::LineTexts::newline_none))]
+pub fn first_line(text: &[u8]) -> Option<(&[u8], &[u8])>
+    ensures lines { MatchOption result (text.now ≡ []) (λ parts. spec.lines_of text.now ≡ parts.0.now ∷ spec.lines_of parts.1.now) }
+    ensures shorter { IfSome result (λ parts. length parts.1.now < length text.now) }
 {
     if text.is_empty() {
-        return Ok(Vec::new(alloc));
+        return None;
     }
-    let last = text.len() - 1;
-    if text[last] == b'\n' {
-        return pieces_of(alloc, text.split_at(last).0);
-    }
-    pieces_of(alloc, text)
+    let Some(end) = newline_of(text) else {
+        return Some(text.split_at(text.len()));
+    };
+    Some((text.split_at(end).0, text.split_at(end + 1).1))
 }
 
-// The pieces between the newlines.
-fn pieces_of(alloc: Global, text: &[u8]) -> Result<Vec<&[u8]>, AllocError>
-    ensures { IfOk result (λ pieces. spec.texts pieces.items ≡ slice_split spec.is_newline text.now) }
+// Where the first newline stands.
+fn newline_of(text: &[u8]) -> Option<usize>
+    ensures { result ≡ position spec.is_newline text.now }
 {
-    text.split(|byte| *byte == b'\n').collect(alloc)
+    text.iter().position(|byte| *byte == b'\n')
 }

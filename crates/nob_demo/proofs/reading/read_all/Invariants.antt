@@ -8,6 +8,7 @@ abbrev pub invariant-loop : goal.invariant-loop
 invariant-loop g l = record {
   reads : l.source.reads ≡ l.counter;
   read : Consumes (g.R.Read.remaining l.fn.source.reader) (g.R.Read.remaining l.source.reader) l.input.items;
+  count : length l.input.items ≡ l.source.bytes;
   going : (l.source.failed ≡ false) × (l.source.ended ≡ false);
-  few : length l.input.items ≤ most_bytes;
+  few : l.source.bytes ≤ most_bytes;
 }

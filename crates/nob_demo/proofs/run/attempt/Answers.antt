@@ -1,8 +1,7 @@
-use Rattle.std.proofs.Common.{◌++◌, ◌≤◌, List, ℕ, length, subst}
+use Rattle.std.proofs.Common.{◌++◌, List, ℕ, subst}
 use Rattle.std.specs.Io.KnownBytes.{Appends}
 use Rattle.nob_demo_pair.specs.Scripts.{Plays, last_line}
-use Rattle.nob_demo.specs.Program.{most_bytes}
-use Rattle.nob_demo.proofs.Known.{known_too, appends_more}
+use Rattle.nob_demo.proofs.Known.{appends_more}
 use Rattle.nob_demo.proofs.run.attempt.Goals as goal
 
 pub returns : goal.returns
@@ -16,7 +15,7 @@ returns g c =
       ended = (
         c.in_ok-judge.ensures.taken,
         c.in_ok-input.ensures.right,
-        (text ++ last_line outcome, known_too (λ (script : List ℕ). (length script ≤ most_bytes) × Plays script (text ++ last_line outcome) outcome) _ c.in_ok-input.input.items c.in_ok-input.ensures.whole (c.in_ok-input.ensures.few, played), appends_more _ _ _ text (last_line outcome) first last),
+        (c.in_ok-input.input.items, text ++ last_line outcome, c.in_ok-input.ensures.count, c.in_ok-input.ensures.whole, played, appends_more _ _ _ text (last_line outcome) first last),
         c.in-Ok-write_all.ensures.ok,
       );
     }

@@ -17,6 +17,7 @@ returns-in-Err-Words g c =
         input = g.R.Read.remaining c.args.reader.now.reader;
         rest = g.R.Read.remaining c.attempt.new.reader.reader;
         reads = c.attempt.new.reader.reads;
+        bytes = c.attempt.new.reader.bytes;
         failed = c.attempt.new.reader.failed;
         ended = c.attempt.new.reader.ended;
       };
@@ -35,6 +36,7 @@ returns-in-Err-Read g c =
         input = g.R.Read.remaining c.args.reader.now.reader;
         rest = g.R.Read.remaining c.attempt.new.reader.reader;
         reads = c.attempt.new.reader.reads;
+        bytes = c.attempt.new.reader.bytes;
         failed = c.attempt.new.reader.failed;
         ended = c.attempt.new.reader.ended;
       };
@@ -53,6 +55,7 @@ returns-in-Err-Memory g c =
         input = g.R.Read.remaining c.args.reader.now.reader;
         rest = g.R.Read.remaining c.attempt.new.reader.reader;
         reads = c.attempt.new.reader.reads;
+        bytes = c.attempt.new.reader.bytes;
         failed = c.attempt.new.reader.failed;
         ended = c.attempt.new.reader.ended;
       };

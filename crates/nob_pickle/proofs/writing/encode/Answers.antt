@@ -1,11 +1,9 @@
-use Rattle.nob_pickle.proofs.Whole.{spelt_by, short_by, written_by}
+use Rattle.std.proofs.Common.{sym, ap, ◌∙◌, Ok}
+use Rattle.nob_pickle.proofs.Whole.{faulty, fits_pickle}
 use Rattle.nob_pickle.proofs.writing.encode.Goals as goal
 
-pub returns-clause-found : goal.returns-clause-found
-returns-clause-found c = spelt_by c.whole.result c.args.value.now c.whole.ensures.typed c.whole.ensures.exact
+pub returns-in_ok-pickle_of_len-in-Ok-clause-exact : goal.returns-in_ok-pickle_of_len-in-Ok-clause-exact
+returns-in_ok-pickle_of_len-in-Ok-clause-exact c = fits_pickle c.args.value.now c.in-Ok.ensures.fits ∙ ap Ok (sym c.in_ok-pickle_of_len-in-Ok.ensures)
 
-pub returns-clause-only : goal.returns-clause-only
-returns-clause-only c = λ fits. written_by c.whole.result c.args.value.now fits c.whole.ensures.exact
-
-pub returns-clause-short : goal.returns-clause-short
-returns-clause-short c = short_by c.whole.result c.args.value.now c.whole.ensures.exact
+pub returns-in-Err-clause-only : goal.returns-in-Err-clause-only
+returns-in-Err-clause-only c = λ fits. absurd (faulty c.args.value.now c.in-Err.fault c.in-Err.ensures.fault fits)

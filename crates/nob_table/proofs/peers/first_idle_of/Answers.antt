@@ -6,19 +6,19 @@ use Rattle.nob_table.proofs.Idle.{IsFirstOf}
 use Rattle.nob_table.proofs.peers.first_idle_of.Goals as goal
 
 pub first_idle-requires-clause-once : goal.first_idle-requires-clause-once
-first_idle-requires-clause-once c = (c.requires c.loop-part.part-index c.part-item.result (slice_get_read c.args.parts.now (length c.args.parts.now) c.loop-part.part-index c.part-item.result refl c.loop-part-test.true c.part-item.is)).surrogates_once
+first_idle-requires-clause-once c = (c.requires c.loop-peer.peer-index c.peer-item.result (slice_get_read c.args.peers.now (length c.args.peers.now) c.loop-peer.peer-index c.peer-item.result refl c.loop-peer-test.true c.peer-item.is)).surrogates_once
 
 pub first_idle-requires-clause-rising : goal.first_idle-requires-clause-rising
-first_idle-requires-clause-rising c = (c.requires c.loop-part.part-index c.part-item.result (slice_get_read c.args.parts.now (length c.args.parts.now) c.loop-part.part-index c.part-item.result refl c.loop-part-test.true c.part-item.is)).rising
+first_idle-requires-clause-rising c = (c.requires c.loop-peer.peer-index c.peer-item.result (slice_get_read c.args.peers.now (length c.args.peers.now) c.loop-peer.peer-index c.peer-item.result refl c.loop-peer-test.true c.peer-item.is)).rising
 
-pub loop-part-preserved : goal.loop-part-preserved
-loop-part-preserved c =
-    subst (λ (o : Option (ℕ × WireRep)). IsFirstOf c.args.parts.now c.args.place (c.loop-part.part-index + 1) o) (sym c.earlier-first.ensures)
-    (first_more c.args.parts.now c.args.place c.loop-part.part-index c.part-item.result c.loop-part.first c.first_idle.result c.loop-part.invariant
-    (slice_get_read c.args.parts.now (length c.args.parts.now) c.loop-part.part-index c.part-item.result refl c.loop-part-test.true c.part-item.is) c.first_idle.ensures)
+pub loop-peer-preserved : goal.loop-peer-preserved
+loop-peer-preserved c =
+    subst (λ (o : Option (ℕ × WireRep)). IsFirstOf c.args.peers.now c.args.place (c.loop-peer.peer-index + 1) o) (sym c.earlier-first.ensures)
+    (first_more c.args.peers.now c.args.place c.loop-peer.peer-index c.peer-item.result c.loop-peer.first c.first_idle.result c.loop-peer.invariant
+    (slice_get_read c.args.peers.now (length c.args.peers.now) c.loop-peer.peer-index c.peer-item.result refl c.loop-peer-test.true c.peer-item.is) c.first_idle.ensures)
 
 pub returns : goal.returns
 returns c =
-    let ended : c.loop-part.part-index ≡ length c.args.parts.now = omega arith in
-    first_all c.args.parts.now c.requires c.args.place c.loop-part.first
-    (subst (λ (n : ℕ). IsFirstOf c.args.parts.now c.args.place n c.loop-part.first) ended c.loop-part.invariant)
+    let ended : c.loop-peer.peer-index ≡ length c.args.peers.now = omega arith in
+    first_all c.args.peers.now c.requires c.args.place c.loop-peer.first
+    (subst (λ (n : ℕ). IsFirstOf c.args.peers.now c.args.place n c.loop-peer.first) ended c.loop-peer.invariant)

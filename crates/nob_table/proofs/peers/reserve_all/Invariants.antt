@@ -3,5 +3,5 @@ use Rattle.nob_table.specs.declared.peer.Peer.{Peer}
 use Rattle.nob_table.specs.Peers.{AllGrow}
 use Rattle.nob_table.proofs.peers.reserve_all.Given as goal
 
-abbrev pub invariant-loop-part : goal.invariant-loop-part
-invariant-loop-part l = AllGrow l.fn.parts l.part-items × ((k : ℕ) (part : Peer) → k < l.part-index → slice_get l.part-items k ≡ Some part → (l.surrogates ≤ part.counted.room) × (l.surrogates ≤ part.surrogates.room))
+abbrev pub invariant-loop-peer : goal.invariant-loop-peer
+invariant-loop-peer l = AllGrow l.fn.peers l.peer-items × ((k : ℕ) (peer : Peer) → k < l.peer-index → slice_get l.peer-items k ≡ Some peer → (l.surrogates ≤ peer.counted.room) × (l.surrogates ≤ peer.surrogates.room))

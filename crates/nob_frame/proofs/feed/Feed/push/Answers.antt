@@ -1,6 +1,7 @@
-use Rattle.std.proofs.Common.{ap, sym, subst, ◌∙◌, List, ℕ, ◌<◌, drop, length, Ok, arith}
+use Rattle.std.proofs.Common.{ap, sym, subst, refl, ◌∙◌, List, ℕ, ◌<◌, drop, length, Ok, arith}
+use Rattle.std.proofs.lemmas.List.{take_at}
 use Rattle.nob_frame.specs.Streams.{Splits, IsCut, Pushes, kept_of, wanted_by}
-use Rattle.nob_frame.proofs.Pushing.{stays, still_waits, waits_on, waits_again, gives, only_those, little_kept}
+use Rattle.nob_frame.proofs.Pushing.{stays, still_waits, waits_on, waits_again, gives, only_those, little_kept, few_kept}
 use Rattle.nob_frame.proofs.feed.Feed.push.Goals as goal
 
 -- nothing came
@@ -59,3 +60,10 @@ returns-then-is_empty-clause-only c = only_those _ _ _ _ (stayed c)
 
 pub returns-then-is_empty-clause-few : goal.returns-then-is_empty-clause-few
 returns-then-is_empty-clause-few c = little_kept _ _ _ _ (stayed c)
+
+-- memory ran out, and what was kept still is
+pub returns-in_err-extend_from_slice-clause-few : goal.returns-in_err-extend_from_slice-clause-few
+returns-in_err-extend_from_slice-clause-few c = few_kept _ c.self.inside.fault c.extend_from_slice.new.self.items c.self.inside.wanted refl (rw c.in_err-extend_from_slice.ensures.err c.self.invariant)
+
+pub returns-in-Err-OutOfMemory-clause-few : goal.returns-in-Err-OutOfMemory-clause-few
+returns-in-Err-OutOfMemory-clause-few c = few_kept _ c.self.inside.fault c.truncate.new.self.items c.self.inside.wanted refl (rw (c.truncate.ensures.items, c.in_ok-extend_from_slice.ensures.ok, take_at c.self.inside.kept.items c.args.piece.now c.len-before.result (sym c.len-before.ensures.value)) c.self.invariant)

@@ -8,7 +8,7 @@ got c = sym c.row.ensures ∙ c.in_ok-row.was
 pub returns-then-is_idle : goal.returns-then-is_idle
 returns-then-is_idle c =
     first_found c.args.self.now.surrogates.rows c.requires.once c.requires.rising c.args.self.now.counted.rows c.args.place c.loop-at.at c.in_ok-row.row c.loop-at.invariant (got c)
-    (c.count_below-start.ensures.from c.loop-at.at c.in_ok-row.row (got c) c.loop-at.auto.at) (sym c.is_idle.ensures ∙ c.if-is_idle.true)
+    (c.count_before-start.ensures.from c.loop-at.at c.in_ok-row.row (got c) c.loop-at.auto.at) (sym c.is_idle.ensures ∙ c.if-is_idle.true)
 
 pub returns : goal.returns
 returns c =

@@ -6,11 +6,11 @@ use Rattle.nob_table.specs.Counts.{no_counts}
 use Rattle.nob_table.specs.Rows.{reps_of, Puts}
 use Rattle.nob_table.specs.Standings.{sent}
 use Rattle.nob_table.proofs.Flat.{reps_append}
-use Rattle.nob_table.proofs.Parts.{part_push}
+use Rattle.nob_table.proofs.Owned.{peer_push}
 use Rattle.nob_table.proofs.peer.Peer.push.Goals as goal
 
-pub returns-clause-part : goal.returns-clause-part
-returns-clause-part c = λ part.
+pub returns-clause-peer : goal.returns-clause-peer
+returns-clause-peer c = λ peer.
     let before = c.reserve.ensures.rows in
     let before' = c.reserve-2.ensures.rows in
     let put : Puts c.args.self.now.counted.rows c.push.new.self.rows c.args.rep.now (Some no_counts) =
@@ -21,5 +21,5 @@ returns-clause-part c = λ part.
     let reps : reps_of c.push-2.new.self.rows ≡ reps_of c.args.self.now.surrogates.rows ++ c.args.rep.now ∷ [] =
     ap (λ (es : List (WireRep × Surrogate)). reps_of es) c.push-2.ensures.rows ∙ reps_append c.reserve-2.new.self.rows ((c.args.rep.now, c.sent.result) ∷ [])
     ∙ ap (λ (es : List (WireRep × Surrogate)). reps_of es ++ c.args.rep.now ∷ []) before' in
-    part_push c.args.rep.now.owner c.args.self.now.counted.rows c.push.new.self.rows c.args.self.now.surrogates.rows c.push-2.new.self.rows c.args.rep.now part c.push.ensures.once c.push-2.ensures.once
+    peer_push c.args.rep.now.owner c.args.self.now.counted.rows c.push.new.self.rows c.args.self.now.surrogates.rows c.push-2.new.self.rows c.args.rep.now peer c.push.ensures.once c.push-2.ensures.once
     no_counts c.args.place refl put put' reps c.requires.sent c.requires.last

@@ -3,7 +3,7 @@ use Rattle.std.specs.Option.{option_map}
 use Rattle.nob_table.specs.declared.standing.Surrogate.{Surrogate}
 use Rattle.nob_table.specs.Rows.{row_at, Puts}
 use Rattle.nob_table.specs.Standings.{answered}
-use Rattle.nob_table.proofs.Parts.{part_answer}
+use Rattle.nob_table.proofs.Owned.{peer_answer}
 use Rattle.nob_table.proofs.peer.Peer.set_answer.Goals as goal
 
 put : (c : goal.After-set) → Puts c.args.self.now.surrogates.rows c.set.new.self.rows c.args.rep.now (option_map (answered c.args.grant) (row_at c.args.self.now.surrogates.rows c.args.rep.now))
@@ -13,6 +13,6 @@ put c =
     ap Some c.answered.ensures ∙ ap (option_map (answered c.args.grant)) (sym there) in
     subst (λ (o : Option Surrogate). Puts c.args.self.now.surrogates.rows c.set.new.self.rows c.args.rep.now o) row c.set.ensures.rows
 
-pub returns-in-Some-clause-part : goal.returns-in-Some-clause-part
-returns-in-Some-clause-part c = λ owner part.
-    part_answer owner c.args.self.now.counted.rows c.args.self.now.surrogates.rows c.set.new.self.rows c.args.rep.now c.args.grant part c.set.ensures.once (put c) c.set.ensures.reps
+pub returns-in-Some-clause-peer : goal.returns-in-Some-clause-peer
+returns-in-Some-clause-peer c = λ owner peer.
+    peer_answer owner c.args.self.now.counted.rows c.args.self.now.surrogates.rows c.set.new.self.rows c.args.rep.now c.args.grant peer c.set.ensures.once (put c) c.set.ensures.reps

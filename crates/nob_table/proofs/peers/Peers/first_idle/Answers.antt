@@ -1,10 +1,10 @@
 use Rattle.std.proofs.Common.{List, MatchOption, sym, subst}
 use Rattle.nob_table.specs.declared.peer.Peer.{Peer}
-use Rattle.nob_table.specs.Peers.{AreParts, counted_of, surrogates_of, NeverIdleIn, IsFirstIn}
+use Rattle.nob_table.specs.Peers.{AreByNumber, counted_of, surrogates_of, NeverIdleIn, IsFirstIn}
 use Rattle.nob_table.proofs.peers.Peers.first_idle.Goals as goal
 
 pub first_idle_of-requires : goal.first_idle_of-requires
-first_idle_of-requires c = subst (λ (xs : List Peer). AreParts xs) (sym c.deref.ensures.value) c.self.invariant.owned
+first_idle_of-requires c = subst (λ (xs : List Peer). AreByNumber xs) (sym c.deref.ensures.value) c.self.invariant.owned
 
 pub returns : goal.returns
 returns c = rw (← c.self.view_is) (subst

@@ -2,8 +2,8 @@ use Rattle.nob_table.specs.Table.{Table}
 use Rattle.nob_table.proofs.Tables.{first_of_table}
 use Rattle.nob_table.proofs.table.ObjectTable.first_idle.Goals as goal
 
-pub returns : goal.returns
-returns c =
+pub returns-clause-first : goal.returns-clause-first
+returns-clause-first c =
     let t : Table = record {
       me = c.self.inside.me;
       exported = c.self.inside.exported;

@@ -1,0 +1,9 @@
+//! Bytes as contracts see them, a list, and the numbers that stand in them, the highest byte first. The codecs stand on
+//! this crate.
+#![tactic(auto)]
+
+mod owned;
+mod taking;
+
+pub use owned::Bytes;
+pub use taking::{take_u16, take_u32, take_u64};

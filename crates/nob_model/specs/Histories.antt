@@ -1,0 +1,16 @@
+-- The history of a space: what it did, the newest first, with what it has in hand and what each deed gave.
+use Rattle.std.specs.Prelude.{ℕ, List}
+use Rattle.nob_model_types.specs.declared.entry.Entry.{Entry}
+use Rattle.nob_model_words.specs.Deeds.{deeds}
+use Rattle.nob_model_words.specs.declared.deed.Deed.{Deed}
+use Rattle.nob_model_work.specs.Work.{work}
+use Rattle.nob_model_work.specs.Gifts.{given}
+use Rattle.nob_model.specs.declared.history.History.{History}
+
+-- the history of deeds
+abbrev pub history_of : (s n : ℕ) → List Deed → History
+history_of s n D = record { deeds = D; work = work s n D; given = given s n D }
+
+-- the history of a space's list of entries
+abbrev pub history : (s n : ℕ) → List Entry → History
+history s n L = history_of s n (deeds L)

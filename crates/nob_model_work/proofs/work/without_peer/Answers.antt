@@ -1,0 +1,14 @@
+use Rattle.std.proofs.Common.{◌≡◌, ◌∙◌, ◌==◌, not, ap, filter, refl, rules}
+use Rattle.std.proofs.lemmas.Fn.{filter_same}
+use Rattle.nob_model_work.specs.declared.work.Work.{Work}
+use Rattle.nob_model_work.specs.declared.work.Run.{Run}
+use Rattle.nob_model_work.specs.declared.work.OwnCall.{OwnCall}
+use Rattle.nob_model_work.specs.declared.message.Message.{Message}
+use Rattle.nob_model_work.specs.Messages.{is_not_from, message_after}
+use Rattle.nob_model_work.specs.Work as words
+use Rattle.nob_model_work.proofs.work.without_peer.Goals as goal
+
+pub returns : goal.returns
+returns c =
+    let kept = filter_same _ (is_not_from c.args.peer) _ (λ x b f call. search rules) _ _ c.retain.ensures.filtered in
+    c.from_vec.ensures ∙ kept ∙ ap (λ xs. filter (is_not_from c.args.peer) xs) c.into_vec-items.ensures

@@ -1,0 +1,106 @@
+-- What each deed gave to the peers.
+use Rattle.std.specs.Prelude.{ℕ, Bool, true, false, ◌&&◌, ◌||◌, not, ◌==◌, List, [], ◌∷◌, ◌++◌, Option, Some, None, map, filter, find, if◌then◌else◌}
+use Rattle.nob_ids.specs.Names.{is_same}
+use Rattle.nob_ids.specs.declared.wire_rep.WireRep.{WireRep}
+use Rattle.nob_item.specs.Kinds.{counted_in}
+use Rattle.nob_item.specs.declared.item.Item.{Item}
+use Rattle.nob_item.specs.declared.item.Item.TheVariants as items
+use Rattle.nob_pickle.specs.declared.value.Value.{Value}
+use Rattle.nob_pickle.specs.declared.value.Value.TheVariants as values
+use Rattle.nob_model_types.specs.declared.event.Outcome.{Outcome}
+use Rattle.nob_model_types.specs.declared.event.Outcome.TheVariants as outcomes
+use Rattle.nob_model_words.specs.declared.deed.Deed.{Deed}
+use Rattle.nob_model_words.specs.declared.deed.Deed.TheVariants.{Call, Finish, Act, Settle, Clean}
+use Rattle.nob_model_words.specs.Sessions.{is_peer, item_at}
+use Rattle.nob_model_words.specs.Objects.{is_exported, is_live}
+use Rattle.nob_model_words.specs.Turns.{wants_dirty, turns}
+use Rattle.nob_model_work.specs.declared.message.Message.{Message}
+use Rattle.nob_model_work.specs.declared.work.Run.{Run}
+use Rattle.nob_model_work.specs.declared.work.Work.{Work}
+use Rattle.nob_model_work.specs.declared.gifts.Sending.{Sending}
+use Rattle.nob_model_work.specs.Messages.{is_of, is_lost_message}
+use Rattle.nob_model_work.specs.Work.{is_run, work}
+
+-- each reference once, where it stands first
+abbrev pub once : List WireRep → List WireRep
+once [] = []
+once (rep ∷ reps) = rep ∷ filter (λ other. not (is_same rep other)) (once reps)
+
+-- a Dirty for a reference goes to its owner
+unfoldable pub dirty_for : WireRep → Sending
+dirty_for rep = record { to = rep.owner; item = items.Dirty rep.index }
+
+-- the Dirties for the references of an item, in reading order
+unfoldable pub dirties_for : (s n : ℕ) → List Deed → List WireRep → List Sending
+dirties_for s n D reps = map dirty_for (filter (λ rep. wants_dirty s n rep D (turns s n rep D)) (once reps))
+
+-- the answer to a Dirty: DirtyOk for a live object, DirtyNo for one that was exported and isn't live any more
+unfoldable pub answer_to : (s p index : ℕ) → List Deed → List Sending
+answer_to s p index D = if is_live s index D then record { to = p; item = items.DirtyOk index } ∷ [] else if is_exported s index D then record { to = p; item = items.DirtyNo index } ∷ [] else []
+
+-- what acting on an item from p gives
+unfoldable pub gifts_of_act : (s n p : ℕ) → List Deed → Option Item → List Sending
+gifts_of_act s n p D None = []
+gifts_of_act s n p D (Some (items.Call call target method value)) = dirties_for s n D (counted_in (items.Call call target method value))
+gifts_of_act s n p D (Some (items.Reply call status value)) = dirties_for s n D (counted_in (items.Reply call status value))
+gifts_of_act s n p D (Some (items.Settle item)) = []
+gifts_of_act s n p D (Some (items.Dirty index)) = answer_to s p index D
+gifts_of_act s n p D (Some (items.DirtyOk index)) = []
+gifts_of_act s n p D (Some (items.DirtyNo index)) = []
+gifts_of_act s n p D (Some (items.Clean index)) = []
+
+-- the Reply of status 3 with unit to a lost Call
+unfoldable pub lost_call_reply : ℕ → Item → Bool → List Sending
+lost_call_reply p (items.Call call target method value) lost = if lost then record { to = p; item = items.Reply call 3 values.Unit } ∷ [] else []
+lost_call_reply p (items.Reply call status value) lost = []
+lost_call_reply p (items.Settle item) lost = []
+lost_call_reply p (items.Dirty index) lost = []
+lost_call_reply p (items.DirtyOk index) lost = []
+lost_call_reply p (items.DirtyNo index) lost = []
+lost_call_reply p (items.Clean index) lost = []
+
+-- what settling a message that waits gives: the Settle, and then the Reply to a lost Call
+unfoldable pub gifts_of_settle : (s n p k : ℕ) → List Deed → Option Message → List Sending
+gifts_of_settle s n p k D None = []
+gifts_of_settle s n p k D (Some message) = record { to = p; item = items.Settle k } ∷ lost_call_reply p message.item (is_lost_message s n D message)
+
+-- the status of an outcome: 0 answered, 1 the method's fault, 2 no such method
+abbrev pub status_of : Outcome → ℕ
+status_of (outcomes.Answer value) = 0
+status_of (outcomes.Fault value) = 1
+status_of outcomes.NoMethod = 2
+
+-- the value of an outcome: unit where there is no such method
+abbrev pub value_of : Outcome → Value
+value_of (outcomes.Answer value) = value
+value_of (outcomes.Fault value) = value
+value_of outcomes.NoMethod = values.Unit
+
+-- the Reply to a Call
+unfoldable pub reply_to : ℕ → Item → Outcome → List Sending
+reply_to p (items.Call call target method value) outcome = record { to = p; item = items.Reply call (status_of outcome) (value_of outcome) } ∷ []
+reply_to p (items.Reply call status value) outcome = []
+reply_to p (items.Settle item) outcome = []
+reply_to p (items.Dirty index) outcome = []
+reply_to p (items.DirtyOk index) outcome = []
+reply_to p (items.DirtyNo index) outcome = []
+reply_to p (items.Clean index) outcome = []
+
+-- what ending a job that runs gives: the Reply to its client
+unfoldable pub gifts_of_finish : Outcome → Option Run → List Sending
+gifts_of_finish outcome None = []
+gifts_of_finish outcome (Some run) = reply_to run.message.from run.message.item outcome
+
+-- what a deed of space s among n gives to the peers, in order, by what was done and was in hand before: one list over all peers
+unfoldable pub gifts : (s n : ℕ) → Deed → List Deed → Work → List Sending
+gifts s n (Call target method value call) D W = if is_peer s n target.owner then record { to = target.owner; item = items.Call call target.index method value } ∷ [] else []
+gifts s n (Finish job outcome) D W = gifts_of_finish outcome (find (is_run job) W.running)
+gifts s n (Act p k) D W = gifts_of_act s n p D (item_at p k D)
+gifts s n (Settle p k) D W = gifts_of_settle s n p k D (find (is_of p k) W.waiting)
+gifts s n (Clean rep) D W = if (turns s n rep D).asks then record { to = rep.owner; item = items.Clean rep.index } ∷ [] else []
+gifts s n (_) D W = []
+
+-- what each deed gave, the newest first
+abbrev pub given : (s n : ℕ) → List Deed → List (List Sending)
+given s n [] = []
+given s n (deed ∷ D) = gifts s n deed D (work s n D) ∷ given s n D

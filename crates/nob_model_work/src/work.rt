@@ -1,0 +1,682 @@
+//! The work in hand at a space.
+
+ghost use Rattle.std.specs.Prelude.{◌≡◌, [], ◌∷◌, ◌++◌, not, IfOk, Some, None, map, filter, find, if◌then◌else◌};
+ghost use Rattle.std.specs.List.{list_any};
+ghost use Rattle.nob_model_words.specs.Sessions.{item_at};
+ghost use Rattle.nob_model_work.specs.Messages as message_words;
+ghost use Rattle.nob_model_work.specs.Work as words;
+
+use crate::message::{
+    self, Message, Messages, RefCopies, is_job, is_lost_message, is_of, message_after,
+    messages_after, new_message, replies_to,
+};
+use nob_ids::{CallNo, ItemNo, JobNo, SpaceId};
+use nob_item::Item;
+use nob_model_types::Job;
+use nob_model_words::{Deed, Here, sessions};
+use nob_pickle::Value;
+use std::alloc::{AllocError, Global};
+use std::marker::Model;
+
+/// How far a call of this space has come.
+#[derive(Clone, Copy, Debug, PartialEq, Eq)]
+pub enum Stage {
+    /// It was made.
+    Sent,
+    /// A Reply to it was acted on.
+    Answered,
+    /// The session closed before its reply was ready.
+    Ended,
+}
+
+/// A call of this space whose reply isn't taken.
+#[derive(Clone, Copy, Debug, PartialEq, Eq)]
+pub struct OwnCall {
+    /// The number of the call.
+    pub call: CallNo,
+    /// The space that was called.
+    pub to: SpaceId,
+    /// How far it has come.
+    pub stage: Stage,
+}
+
+/// Calls of this space, the first made first. Contracts see the list.
+#[derive(Debug, Drop)]
+pub struct OwnCalls {
+    calls: Vec<OwnCall>,
+}
+
+impl Model for OwnCalls {
+    ghost use Rattle.std.specs.Prelude.{List};
+    ghost use Rattle.nob_model_work.specs.declared.work.OwnCall.{OwnCall};
+
+    ghost Value = { List OwnCall };
+
+    ghost view = { λ calls. calls.calls.items };
+}
+
+impl OwnCalls {
+    /// These calls. It takes no memory.
+    pub fn from_vec(calls: Vec<OwnCall>) -> OwnCalls
+        ensures { result ≡ calls.items }
+    {
+        OwnCalls { calls }
+    }
+
+    /// The calls as a vector. It takes no memory.
+    pub fn into_vec(self) -> Vec<OwnCall>
+        ensures { result.items ≡ self }
+    {
+        let OwnCalls { calls } = self;
+        calls
+    }
+
+    /// The calls.
+    pub fn as_slice(&self) -> &[OwnCall]
+        ensures { result.now ≡ self.now }
+    {
+        self.calls.as_slice()
+    }
+}
+
+/// A job that runs.
+#[derive(Debug, Drop)]
+pub struct Run {
+    /// The number of the job.
+    pub job: JobNo,
+    /// The message that it came in.
+    pub message: Message,
+}
+
+/// Jobs that run, the newest first. Contracts see the list.
+#[derive(Debug, Drop)]
+pub struct Runs {
+    runs: Vec<Run>,
+}
+
+impl Model for Runs {
+    ghost use Rattle.std.specs.Prelude.{List};
+    ghost use Rattle.nob_model_work.specs.declared.work.Run.{Run};
+
+    ghost Value = { List Run };
+
+    ghost use Rattle.std.specs.Coded.{codes};
+    ghost use Rattle.nob_pickle.specs.Marks.{trees_code};
+
+    ghost coded = { Prim.hlevel (codes, trees_code) };
+
+    ghost view = { λ runs. runs.runs.items };
+}
+
+impl Runs {
+    /// These jobs. It takes no memory.
+    pub fn from_vec(runs: Vec<Run>) -> Runs
+        ensures { result ≡ runs.items }
+    {
+        Runs { runs }
+    }
+
+    /// The jobs as a vector. It takes no memory.
+    pub fn into_vec(self) -> Vec<Run>
+        ensures { result.items ≡ self }
+    {
+        let Runs { runs } = self;
+        runs
+    }
+
+    /// The jobs.
+    pub fn as_slice(&self) -> &[Run]
+        ensures { result.now ≡ self.now }
+    {
+        self.runs.as_slice()
+    }
+}
+
+/// What a space has in hand.
+#[derive(Debug, Drop)]
+pub struct Work {
+    /// The messages that wait for their references, in order of acting.
+    pub waiting: Messages,
+    /// The ready jobs, in order of becoming ready.
+    pub ready: Messages,
+    /// The jobs that run.
+    pub running: Runs,
+    /// The ready replies, in order of becoming ready.
+    pub replies: Messages,
+    /// The calls whose replies aren't taken.
+    pub calls: OwnCalls,
+}
+
+impl Work {
+    /// Nothing in hand.
+    pub fn none(alloc: Global) -> Work
+        ensures { result ≡ words.no_work }
+    {
+        Work {
+            waiting: Messages::from_vec(Vec::new(alloc)),
+            ready: Messages::from_vec(Vec::new(alloc)),
+            running: Runs::from_vec(Vec::new(alloc)),
+            replies: Messages::from_vec(Vec::new(alloc)),
+            calls: OwnCalls::from_vec(Vec::new(alloc)),
+        }
+    }
+}
+
+// These messages and one more.
+fn with_message(messages: Messages, message: Message) -> Result<Messages, AllocError>
+    ensures { IfOk result (λ more. more ≡ messages ++ message ∷ []) }
+{
+    let mut items = messages.into_vec();
+    items.push(message)?;
+    Ok(Messages::from_vec(items))
+}
+
+// One message more that waits.
+fn wait(message: Message, work: Work) -> Result<Work, AllocError>
+    ensures { IfOk result (λ after. after ≡ words.wait message work) }
+{
+    let Work { waiting, ready, running, replies, calls } = work;
+    let waiting = with_message(waiting, message)?;
+    Ok(Work { waiting, ready, running, replies, calls })
+}
+
+// One ready job more.
+fn make_ready(message: Message, work: Work) -> Result<Work, AllocError>
+    ensures { IfOk result (λ after. after ≡ words.make_ready message work) }
+{
+    let Work { waiting, ready, running, replies, calls } = work;
+    let ready = with_message(ready, message)?;
+    Ok(Work { waiting, ready, running, replies, calls })
+}
+
+// One ready reply more.
+fn make_reply(message: Message, work: Work) -> Result<Work, AllocError>
+    ensures { IfOk result (λ after. after ≡ words.make_reply message work) }
+{
+    let Work { waiting, ready, running, replies, calls } = work;
+    let replies = with_message(replies, message)?;
+    Ok(Work { waiting, ready, running, replies, calls })
+}
+
+// A call after a Reply to a call of a peer's was acted on.
+#[tactic(auto, unfolding(crate::specs::Work::call_answered))]
+fn call_answered(peer: SpaceId, call: CallNo, own: &OwnCall) -> OwnCall
+    ensures { result ≡ words.call_answered peer call own.now }
+{
+    let answered = own.to == peer && own.call == call;
+    match own.stage {
+        Stage::Sent => {
+            if answered {
+                let stage = Stage::Answered;
+                return OwnCall { call: own.call, to: own.to, stage };
+            }
+            *own
+        }
+        Stage::Answered | Stage::Ended => *own,
+    }
+}
+
+// Calls after a Reply to one of them was acted on.
+fn calls_answered(
+    alloc: Global,
+    peer: SpaceId,
+    call: CallNo,
+    calls: &[OwnCall],
+) -> Result<Vec<OwnCall>, AllocError>
+    ensures { IfOk result (λ after. after.items ≡ map (words.call_answered peer call) calls.now) }
+{
+    match calls {
+        [] => Ok(Vec::new(alloc)),
+        [own, others @ ..] => {
+            let mut after = calls_answered(alloc, peer, call, others)?;
+            let first = call_answered(peer, call, own);
+            after.insert(0, first)?;
+            Ok(after)
+        }
+    }
+}
+
+// A message that was acted on.
+#[tactic(auto, unfolding(crate::specs::Work::taken_in))]
+fn taken_in(alloc: Global, message: Message, work: Work) -> Result<Work, AllocError>
+    ensures { IfOk result (λ after. after ≡ words.taken_in message message.item work) }
+{
+    let alone = message.copies.as_slice().is_empty();
+    match &message.item {
+        Item::Call { .. } => {
+            if alone {
+                return make_ready(message, work);
+            }
+            wait(message, work)
+        }
+        Item::Reply { call, .. } => reply_in(alloc, *call, message, work),
+        _ => Ok(work),
+    }
+}
+
+// A Reply is ready at once if it carries no counted references, else it waits.
+fn place_reply(message: Message, work: Work) -> Result<Work, AllocError>
+    ensures { IfOk result (λ after. after ≡ (if words.is_none_of message.copies then words.make_reply message work else words.wait message work)) }
+{
+    if message.copies.as_slice().is_empty() {
+        return make_reply(message, work);
+    }
+    wait(message, work)
+}
+
+// A call is answered.
+fn answer_call(alloc: Global, peer: SpaceId, call: CallNo, work: Work) -> Result<Work, AllocError>
+    ensures { IfOk result (λ after. after ≡ words.with_calls (words.call_answered peer call) work) }
+{
+    let Work { waiting, ready, running, replies, calls } = work;
+    let calls = OwnCalls::from_vec(calls_answered(alloc, peer, call, calls.as_slice())?);
+    Ok(Work { waiting, ready, running, replies, calls })
+}
+
+// A Reply to a call that was acted on.
+fn reply_in(alloc: Global, call: CallNo, message: Message, work: Work) -> Result<Work, AllocError>
+    ensures { IfOk result (λ after. after ≡ words.with_calls (words.call_answered message.from call) (if words.is_none_of message.copies then words.make_reply message work else words.wait message work)) }
+{
+    let from = message.from;
+    let taken = place_reply(message, work)?;
+    answer_call(alloc, from, call, taken)
+}
+
+// What is in hand after Act on an item of a peer's.
+#[tactic(auto, unfolding(crate::specs::Work::after_act))]
+fn after_act(
+    alloc: Global,
+    here: Here,
+    peer: SpaceId,
+    number: ItemNo,
+    deeds: &[Deed],
+    work: Work,
+) -> Result<Work, AllocError>
+    ensures { IfOk result (λ after. after ≡ words.after_act here.space here.n peer number deeds.now (item_at peer number deeds.now) work) }
+{
+    match sessions::item_at(alloc, peer, number, deeds)? {
+        None => Ok(work),
+        Some(item) => {
+            let message = new_message(alloc, here, peer, number, item, deeds)?;
+            taken_in(alloc, message, work)
+        }
+    }
+}
+
+// The Reply that stands for one with a lost reference.
+fn lost_reply(alloc: Global, message: &Message, call: CallNo) -> Message
+    ensures { result ≡ words.lost_reply message.now call }
+{
+    Message {
+        from: message.from,
+        number: message.number,
+        item: Item::Reply {
+            call,
+            status: 3,
+            value: Value::Unit,
+        },
+        copies: RefCopies::from_vec(Vec::new(alloc)),
+    }
+}
+
+// A message that was settled.
+#[tactic(auto, unfolding(crate::specs::Work::settled_in))]
+fn settled_in(alloc: Global, message: Message, lost: bool, work: Work) -> Result<Work, AllocError>
+    ensures { IfOk result (λ after. after ≡ words.settled_in message message.item lost work) }
+{
+    match &message.item {
+        Item::Call { .. } => {
+            if lost {
+                return Ok(work);
+            }
+            make_ready(message, work)
+        }
+        Item::Reply { call, .. } => {
+            if lost {
+                return make_reply(lost_reply(alloc, &message, *call), work);
+            }
+            make_reply(message, work)
+        }
+        _ => Ok(work),
+    }
+}
+
+// The first message that came from a peer in an item of this number, and all others.
+fn take_waiting(
+    peer: SpaceId,
+    number: ItemNo,
+    mut messages: Vec<Message>,
+) -> Result<(Option<Message>, Vec<Message>), AllocError>
+    ensures first { IfOk result (λ taken. taken.0 ≡ find (message_words.is_of peer number) messages.items) }
+    ensures rest { IfOk result (λ taken. taken.1.items ≡ words.without_first (message_words.is_of peer number) messages.items) }
+{
+    if messages.is_empty() {
+        return Ok((None, messages));
+    }
+    let first = messages.remove(0);
+    if is_of(peer, number, &first) {
+        return Ok((Some(first), messages));
+    }
+    let (found, mut rest) = take_waiting(peer, number, messages)?;
+    rest.insert(0, first)?;
+    Ok((found, rest))
+}
+
+// The first message with the contents of a job, and all others.
+fn take_job(
+    job: &Job,
+    mut messages: Vec<Message>,
+) -> Result<(Option<Message>, Vec<Message>), AllocError>
+    ensures first { IfOk result (λ taken. taken.0 ≡ find (message_words.is_job job.now) messages.items) }
+    ensures rest { IfOk result (λ taken. taken.1.items ≡ words.without_first (message_words.is_job job.now) messages.items) }
+{
+    if messages.is_empty() {
+        return Ok((None, messages));
+    }
+    let first = messages.remove(0);
+    if is_job(job, &first) {
+        return Ok((Some(first), messages));
+    }
+    let (found, mut rest) = take_job(job, messages)?;
+    rest.insert(0, first)?;
+    Ok((found, rest))
+}
+
+// What is in hand after Settle of the message that came from a peer in an item of this number.
+#[tactic(auto, unfolding(crate::specs::Work::after_settle))]
+fn after_settle(
+    alloc: Global,
+    here: Here,
+    peer: SpaceId,
+    number: ItemNo,
+    deeds: &[Deed],
+    work: Work,
+) -> Result<Work, AllocError>
+    ensures { IfOk result (λ after. after ≡ words.after_settle here.space here.n peer number deeds.now (find (message_words.is_of peer number) work.waiting) work) }
+{
+    let Work { waiting, ready, running, replies, calls } = work;
+    let (found, rest) = take_waiting(peer, number, waiting.into_vec())?;
+    let waiting = Messages::from_vec(rest);
+    let others = Work { waiting, ready, running, replies, calls };
+    match found {
+        None => Ok(others),
+        Some(message) => {
+            let lost = is_lost_message(alloc, here, deeds, &message)?;
+            settled_in(alloc, message, lost, others)
+        }
+    }
+}
+
+// A job that runs, the newest.
+fn start(job: JobNo, message: Message, work: Work) -> Result<Work, AllocError>
+    ensures { IfOk result (λ after. after ≡ words.start job message work) }
+{
+    let Work { waiting, ready, running, replies, calls } = work;
+    let mut runs = running.into_vec();
+    runs.insert(0, Run { job, message })?;
+    let running = Runs::from_vec(runs);
+    Ok(Work { waiting, ready, running, replies, calls })
+}
+
+// What is in hand after Claim of a job.
+#[tactic(auto, unfolding(crate::specs::Work::after_claim))]
+fn after_claim(job: &Job, work: Work) -> Result<Work, AllocError>
+    ensures { IfOk result (λ after. after ≡ words.after_claim job.now (find (message_words.is_job job.now) work.ready) work) }
+{
+    let Work { waiting, ready, running, replies, calls } = work;
+    let (found, rest) = take_job(job, ready.into_vec())?;
+    let ready = Messages::from_vec(rest);
+    let others = Work { waiting, ready, running, replies, calls };
+    match found {
+        None => Ok(others),
+        Some(message) => start(job.job, message, others),
+    }
+}
+
+// What is in hand after the end of a job.
+#[tactic(auto, unfolding(crate::specs::Work::after_finish))]
+fn after_finish(job: JobNo, work: Work) -> Work
+    ensures { result ≡ words.after_finish job work }
+{
+    let Work { waiting, ready, running, replies, calls } = work;
+    let mut runs = running.into_vec();
+    runs.retain(|run| run.job != job);
+    let running = Runs::from_vec(runs);
+    Work { waiting, ready, running, replies, calls }
+}
+
+// All messages but the Replies to a call.
+fn without_replies(call: CallNo, messages: Messages) -> Messages
+    ensures { result ≡ filter (words.is_not_reply call) messages }
+{
+    let mut items = messages.into_vec();
+    items.retain(|message| !replies_to(call, &message.item));
+    Messages::from_vec(items)
+}
+
+// All calls but that of a number.
+fn without_call(call: CallNo, calls: OwnCalls) -> OwnCalls
+    ensures { result ≡ filter (λ own. not (words.is_call call own)) calls }
+{
+    let mut items = calls.into_vec();
+    items.retain(|own| own.call != call);
+    OwnCalls::from_vec(items)
+}
+
+// What is in hand after the reply to a call was taken.
+#[tactic(auto, unfolding(crate::specs::Work::after_take))]
+fn after_take(call: CallNo, work: Work) -> Work
+    ensures { result ≡ words.after_take call work }
+{
+    let Work { waiting, ready, running, replies, calls } = work;
+    let waiting = without_replies(call, waiting);
+    let replies = without_replies(call, replies);
+    let calls = without_call(call, calls);
+    Work { waiting, ready, running, replies, calls }
+}
+
+// What is in hand after it was told that there will be no reply to a call.
+#[tactic(auto, unfolding(crate::specs::Work::after_end))]
+fn after_end(call: CallNo, work: Work) -> Work
+    ensures { result ≡ words.after_end call work }
+{
+    let Work { waiting, ready, running, replies, calls } = work;
+    let calls = without_call(call, calls);
+    Work { waiting, ready, running, replies, calls }
+}
+
+// What is in hand after a call was made.
+#[tactic(auto, unfolding(crate::specs::Work::after_call))]
+fn after_call(to: SpaceId, call: CallNo, work: Work) -> Result<Work, AllocError>
+    ensures { IfOk result (λ after. after ≡ words.after_call to call work) }
+{
+    let Work { waiting, ready, running, replies, calls } = work;
+    let mut items = calls.into_vec();
+    let stage = Stage::Sent;
+    items.push(OwnCall { call, to, stage })?;
+    let calls = OwnCalls::from_vec(items);
+    Ok(Work { waiting, ready, running, replies, calls })
+}
+
+// All messages but those from a peer.
+fn without_peer(peer: SpaceId, messages: Messages) -> Messages
+    ensures { result ≡ filter (message_words.is_not_from peer) messages }
+{
+    let mut items = messages.into_vec();
+    items.retain(|message| message.from != peer);
+    Messages::from_vec(items)
+}
+
+// Whether a Reply from a peer to a call is ready.
+fn is_replied(peer: SpaceId, call: CallNo, replies: &[Message]) -> bool
+    ensures { result ≡ list_any (words.is_reply_from peer call) replies.now }
+{
+    replies
+        .iter()
+        .any(|message| message.from == peer && replies_to(call, &message.item))
+}
+
+// A call after the session with a peer closed.
+#[tactic(auto, unfolding(crate::specs::Work::call_closed))]
+fn call_closed(peer: SpaceId, replies: &[Message], own: &OwnCall) -> OwnCall
+    ensures { result ≡ words.call_closed peer replies.now own.now }
+{
+    if own.to == peer && !is_replied(peer, own.call, replies) {
+        let stage = Stage::Ended;
+        return OwnCall { call: own.call, to: own.to, stage };
+    }
+    *own
+}
+
+// Calls after the session with a peer closed.
+fn calls_closed(
+    alloc: Global,
+    peer: SpaceId,
+    replies: &[Message],
+    calls: &[OwnCall],
+) -> Result<Vec<OwnCall>, AllocError>
+    ensures { IfOk result (λ after. after.items ≡ map (words.call_closed peer replies.now) calls.now) }
+{
+    match calls {
+        [] => Ok(Vec::new(alloc)),
+        [own, others @ ..] => {
+            let mut after = calls_closed(alloc, peer, replies, others)?;
+            let first = call_closed(peer, replies, own);
+            after.insert(0, first)?;
+            Ok(after)
+        }
+    }
+}
+
+// What is in hand after the session with a peer closed.
+#[tactic(auto, unfolding(crate::specs::Work::after_close))]
+fn after_close(alloc: Global, peer: SpaceId, work: Work) -> Result<Work, AllocError>
+    ensures { IfOk result (λ after. after ≡ words.after_close peer work) }
+{
+    let Work { waiting, ready, running, replies, calls } = work;
+    let waiting = without_peer(peer, waiting);
+    let ready = without_peer(peer, ready);
+    let calls = OwnCalls::from_vec(calls_closed(alloc, peer, replies.as_slice(), calls.as_slice())?);
+    Ok(Work { waiting, ready, running, replies, calls })
+}
+
+// What is in hand after a deed, the loans aside.
+#[tactic(auto, unfolding(crate::specs::Work::work_after))]
+fn work_after(
+    alloc: Global,
+    here: Here,
+    deed: &Deed,
+    deeds: &[Deed],
+    work: Work,
+) -> Result<Work, AllocError>
+    ensures { IfOk result (λ after. after ≡ words.work_after here.space here.n deed.now deeds.now work) }
+{
+    match deed {
+        Deed::Call { target, call, .. } => after_call(target.owner, *call, work),
+        Deed::TakeReply(call, _, _) => Ok(after_take(*call, work)),
+        Deed::TakeEnd(call) => Ok(after_end(*call, work)),
+        Deed::Claim(job) => after_claim(job, work),
+        Deed::Finish(job, _) => Ok(after_finish(*job, work)),
+        Deed::DropReply(job) => Ok(after_finish(*job, work)),
+        Deed::Act(peer, number) => after_act(alloc, here, *peer, *number, deeds, work),
+        Deed::Settle(peer, number) => after_settle(alloc, here, *peer, *number, deeds, work),
+        Deed::Close(peer, _, _) => after_close(alloc, *peer, work),
+        _ => Ok(work),
+    }
+}
+
+// The message of a job that runs, after a deed, the first of these.
+#[tactic(auto, unfolding(crate::specs::Work::run_after))]
+fn run_after(alloc: Global, here: Here, deeds: &[Deed], run: Run) -> Result<Run, AllocError>
+    ensures { IfOk result (λ after. after ≡ words.run_after here.space here.n deeds.now run) }
+{
+    let Run { job, message } = run;
+    let message = message_after(alloc, here, deeds, message)?;
+    Ok(Run { job, message })
+}
+
+// Jobs that run after a deed, the first of these.
+fn runs_after(
+    alloc: Global,
+    here: &Here,
+    deeds: &[Deed],
+    mut runs: Vec<Run>,
+) -> Result<Vec<Run>, AllocError>
+    ensures { IfOk result (λ after. after.items ≡ map (λ run. words.run_after here.now.space here.now.n deeds.now run) runs.items) }
+{
+    if runs.as_slice().is_empty() {
+        return Ok(runs);
+    }
+    let first = runs.remove(0);
+    let mut after = runs_after(alloc, here, deeds, runs)?;
+    let head = run_after(alloc, *here, deeds, first)?;
+    after.insert(0, head)?;
+    Ok(after)
+}
+
+// Messages with the loans made that can be made now.
+fn message_loans(
+    alloc: Global,
+    here: &Here,
+    deeds: &[Deed],
+    messages: Messages,
+) -> Result<Messages, AllocError>
+    ensures { IfOk result (λ after. after ≡ map (λ message. message_words.message_after here.now.space here.now.n deeds.now message) messages) }
+{
+    let after = messages_after(alloc, here, deeds, messages.into_vec())?;
+    Ok(Messages::from_vec(after))
+}
+
+// Jobs that run with the loans made that can be made now.
+fn run_loans(
+    alloc: Global,
+    here: &Here,
+    deeds: &[Deed],
+    runs: Runs,
+) -> Result<Runs, AllocError>
+    ensures { IfOk result (λ after. after ≡ map (λ run. words.run_after here.now.space here.now.n deeds.now run) runs) }
+{
+    let after = runs_after(alloc, here, deeds, runs.into_vec())?;
+    Ok(Runs::from_vec(after))
+}
+
+// What is in hand with the loans made that can be made now.
+#[tactic(auto, unfolding(crate::specs::Work::with_loans))]
+fn with_loans(alloc: Global, here: &Here, deeds: &[Deed], work: Work) -> Result<Work, AllocError>
+    ensures { IfOk result (λ after. after ≡ words.with_loans here.now.space here.now.n deeds.now work) }
+{
+    let Work { waiting, ready, running, replies, calls } = work;
+    let waiting = message_loans(alloc, here, deeds, waiting)?;
+    let ready = message_loans(alloc, here, deeds, ready)?;
+    let running = run_loans(alloc, here, deeds, running)?;
+    let replies = message_loans(alloc, here, deeds, replies)?;
+    Ok(Work { waiting, ready, running, replies, calls })
+}
+
+/// What a space has in hand after a deed, the first of these, by what it had in hand before.
+pub fn after(
+    alloc: Global,
+    here: &Here,
+    deed: &Deed,
+    older: &[Deed],
+    deeds: &[Deed],
+    work: Work,
+) -> Result<Work, AllocError>
+    ensures { IfOk result (λ after. after ≡ words.with_loans here.now.space here.now.n deeds.now (words.work_after here.now.space here.now.n deed.now older.now work)) }
+{
+    let done = work_after(alloc, *here, deed, older, work)?;
+    with_loans(alloc, here, deeds, done)
+}
+
+/// What a space has in hand.
+pub fn in_hand(alloc: Global, here: &Here, deeds: &[Deed]) -> Result<Work, AllocError>
+    ensures { IfOk result (λ work. work ≡ words.work here.now.space here.now.n deeds.now) }
+{
+    match deeds {
+        [] => Ok(Work::none(alloc)),
+        [deed, older @ ..] => {
+            let before = in_hand(alloc, here, older)?;
+            after(alloc, here, deed, older, deeds, before)
+        }
+    }
+}

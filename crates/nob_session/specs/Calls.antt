@@ -1,0 +1,103 @@
+-- What the calls on an end answer and leave, by the end alone: for callers who know no list of calls.
+use Rattle.std.specs.Prelude.{◌≡◌, ℕ, ◌+◌, Bool, true, false, not, ◌&&◌, nat_le, max, List, [], ◌∷◌, ◌++◌, length, take, drop, Option, Some, None, Result, Ok, Err, if◌then◌else◌}
+use Rattle.nob_frame.specs.declared.frame.Frame.{Frame}
+use Rattle.nob_model_end.specs.declared.refusal.EndRefusal.{EndRefusal}
+use Rattle.nob_model_end.specs.declared.refusal.EndRefusal.TheVariants as refusal
+use Rattle.nob_model_end.specs.declared.entry.Kind.{Kind}
+use Rattle.nob_model_end.specs.declared.entry.Ending.{Ending}
+use Rattle.nob_model_end.specs.End.{greatest_seq}
+use Rattle.nob_model_end.specs.Right.{queue_limit, last_item, is_limited, open_frames, closed_frames}
+use Rattle.nob_session.specs.declared.closed.Arrival.{Arrival}
+use Rattle.nob_session.specs.declared.closed.Arrival.TheVariants as arrival
+use Rattle.nob_session.specs.Stands.{End, is_open_end, ended}
+
+-- what `send` answers: the next number, unless the end is closed, or too many limited items are unacknowledged, or the numbers are used up
+abbrev pub next_of : Kind → End → Result ℕ EndRefusal
+next_of kind e =
+    if not (is_open_end e) then Err refusal.Closed
+    else (if is_limited kind && nat_le queue_limit (length e.unacknowledged) then Err refusal.QueueFull
+    else (if nat_le last_item e.handed then Err refusal.SeqEnd
+    else Ok (e.handed + 1)))
+
+-- an open end with one more item handed to it
+abbrev pub with_item : End → List ℕ → End
+with_item e payload =
+    record {
+      me = e.me;
+      peer = e.peer;
+      limits = e.limits;
+      handed = e.handed + 1;
+      lowest = e.lowest;
+      unacknowledged = e.unacknowledged ++ payload ∷ [];
+      transmitted = e.transmitted;
+      accepted = e.accepted;
+      taken = e.taken;
+      waiting = e.waiting;
+      data_arrived = e.data_arrived;
+      ticks = e.ticks;
+      ending = e.ending;
+      owes_close = e.owes_close;
+    }
+
+-- the frames that a transmit gives: of an open end the unacknowledged items from the lowest on, at most a window of them, or an Ack if one is due; of a closed end the Close that it owes
+abbrev pub frames_of : End → List Frame
+frames_of e =
+    if is_open_end e then open_frames e.me e.peer (e.accepted + 1) e.lowest e.data_arrived (take e.limits.window e.unacknowledged)
+    else closed_frames e.me e.peer (e.accepted + 1) e.owes_close e.ending
+
+-- an end once it has transmitted
+abbrev pub after_transmit : End → End
+after_transmit e =
+    record {
+      me = e.me;
+      peer = e.peer;
+      limits = e.limits;
+      handed = e.handed;
+      lowest = e.lowest;
+      unacknowledged = e.unacknowledged;
+      transmitted = max e.transmitted (greatest_seq (frames_of e));
+      accepted = e.accepted;
+      taken = e.taken;
+      waiting = e.waiting;
+      data_arrived = false;
+      ticks = e.ticks;
+      ending = e.ending;
+      owes_close = false;
+    }
+
+-- an end without the first item that waited
+abbrev pub without_front : End → End
+without_front e =
+    record {
+      me = e.me;
+      peer = e.peer;
+      limits = e.limits;
+      handed = e.handed;
+      lowest = e.lowest;
+      unacknowledged = e.unacknowledged;
+      transmitted = e.transmitted;
+      accepted = e.accepted;
+      taken = e.taken + 1;
+      waiting = drop 1 e.waiting;
+      data_arrived = e.data_arrived;
+      ticks = e.ticks;
+      ending = e.ending;
+      owes_close = e.owes_close;
+    }
+
+-- new is the end of the same session, with the same limits, and as many items were handed to it
+pub record SameHanded (old new : End) : Type 0 where
+  pub me : new.me ≡ old.me
+  pub peer : new.peer ≡ old.peer
+  pub limits : new.limits ≡ old.limits
+  pub handed : new.handed ≡ old.handed
+
+-- whether a call closed the end: it is as open as before, or it was open and has closed as the evidence says, which names its peer
+abbrev pub EndsBy : End → End → Option Ending → Type 0
+EndsBy old new None = new.ending ≡ old.ending
+EndsBy old new (Some ending) = (is_open_end old ≡ true) × (ending.peer ≡ old.peer) × (new ≡ ended old ending.reason)
+
+-- the evidence that an arriving frame gave, if it closed the end
+abbrev pub evidence_of : Arrival → Option Ending
+evidence_of (arrival.Took n) = None
+evidence_of (arrival.Closed ending) = Some ending

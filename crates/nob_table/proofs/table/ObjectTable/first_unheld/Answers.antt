@@ -1,0 +1,21 @@
+use Rattle.nob_table.specs.Table.{Table}
+use Rattle.nob_table.proofs.Unheld.{first_of_objects, found_given}
+use Rattle.nob_table.proofs.table.ObjectTable.first_unheld.Goals as goal
+
+abbrev table : goal.After-first_unheld_of → Table
+table c = record {
+  me = c.self.inside.me;
+  exported = c.self.inside.exported;
+  dirties = c.self.inside.dirties;
+  objects = c.self.inside.objects.rows;
+  counted = c.self.inside.peers.counted;
+  surrogates = c.self.inside.peers.surrogates;
+  export_room = c.self.inside.objects.room;
+  surrogate_room = c.self.inside.peers.room;
+}
+
+pub returns-clause-first : goal.returns-clause-first
+returns-clause-first c = rw (← c.self.view_is) (first_of_objects (table c) c.first_unheld_of.ensures.once c.self.invariant c.args.index c.first_unheld_of.result c.first_unheld_of.ensures.first)
+
+pub returns-clause-given : goal.returns-clause-given
+returns-clause-given c = rw (← c.self.view_is) (found_given (table c) c.first_unheld_of.ensures.once c.self.invariant c.args.index c.first_unheld_of.result c.first_unheld_of.ensures.first)
