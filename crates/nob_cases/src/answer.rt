@@ -82,8 +82,8 @@ pub enum Answer {
     Took(u64),
     /// The end has closed for this reason.
     Closed(Reason),
-    /// A new object.
-    Exported(WireRep),
+    /// A reference.
+    Reference(WireRep),
     /// How a reference stands.
     Stands(Standing),
     /// The place of a surrogate in the order of last Dirties, and the surrogate.

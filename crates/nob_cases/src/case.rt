@@ -67,6 +67,12 @@ fn codec_case(alloc: Global, words: &[&str]) -> Result<CodecCase, Unanswered> {
             Ok(CodecCase::References(deep(alloc, lists, innermost)?))
         }
         ["references", word] => Ok(CodecCase::References(value(alloc, word)?)),
+        ["fits", word] => Ok(CodecCase::Fits(value(alloc, word)?)),
+        ["fits", "deep", lists, innermost] => Ok(CodecCase::Fits(deep(alloc, lists, innermost)?)),
+        ["counted", "behind", place, words @ ..] => Ok(CodecCase::CountedOne(
+            words::short_number(alloc, place)? as usize,
+            items::item(alloc, words)?,
+        )),
         ["counted", words @ ..] => Ok(CodecCase::Counted(items::item(alloc, words)?)),
         ["note", words @ ..] => Ok(CodecCase::IsNote(items::item(alloc, words)?)),
         _ => Err(Unanswered::NoCase),
@@ -79,6 +85,7 @@ fn writing_case(alloc: Global, words: &[&str]) -> Result<CodecCase, Unanswered> 
         ["value", "deep", lists, innermost] => {
             Ok(CodecCase::WriteValue(deep(alloc, lists, innermost)?))
         }
+        ["parts", words @ ..] => Ok(CodecCase::WriteParts(items::item(alloc, words)?)),
         ["item", words @ ..] => Ok(CodecCase::WriteItem(items::item(alloc, words)?)),
         ["frame", words @ ..] => Ok(CodecCase::WriteFrame(items::frame(alloc, words)?)),
         _ => Err(Unanswered::NoCase),
@@ -110,6 +117,11 @@ fn end_case(alloc: Global, words: &[&str]) -> Result<EndCase, Unanswered> {
             Ok(EndCase::Send(Kind::Limited, words::bytes(alloc, bytes)?))
         }
         ["send", "note", bytes] => Ok(EndCase::Send(Kind::Note, words::bytes(alloc, bytes)?)),
+        ["next", "limited"] => Ok(EndCase::Next(Kind::Limited)),
+        ["next", "note"] => Ok(EndCase::Next(Kind::Note)),
+        ["numbers"] => Ok(EndCase::FreeNumbers),
+        ["has", "frames"] => Ok(EndCase::HasFrames),
+        ["frames"] => Ok(EndCase::Frames),
         ["arrive", bytes] => Ok(EndCase::Arrive(words::bytes(alloc, bytes)?)),
         ["close", reason] => Ok(EndCase::Close(words::reason(alloc, reason)?)),
         ["transmit"] => Ok(EndCase::Transmit),
@@ -131,6 +143,7 @@ fn table_case(alloc: Global, words: &[&str]) -> Result<TableCase, Unanswered> {
         ["export"] => Ok(TableCase::Export),
         ["counts"] => Ok(TableCase::Counts),
         ["withdraw", index] => Ok(TableCase::Withdraw(words::number(alloc, index)?)),
+        ["unheld", index] => Ok(TableCase::Unheld(words::number(alloc, index)?)),
         ["idle", place] => Ok(TableCase::Idle(words::number(alloc, place)?)),
         ["close", owner] => Ok(TableCase::Close(words::space(alloc, owner)?)),
         [call, rep] => surrogate_case(call, words::reference(alloc, rep)?),

@@ -55,7 +55,7 @@ impl Plain {
             EndCase::Tick => self.tick(),
             EndCase::Close(reason) => self.close(*reason),
             EndCase::IsOpen => Ok(Answer::of_test(words::is_open(&self.calls))),
-            EndCase::Open(_, _, _) | EndCase::Reserve(_) => Ok(Answer::Word("ok")),
+            _ => Ok(Answer::Word("no call")),
         }
     }
 

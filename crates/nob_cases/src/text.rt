@@ -46,7 +46,7 @@ fn text_of_call(alloc: Global, answer: &Answer) -> Result<String, AllocError> {
             let reason = reason.number();
             text = format!(in alloc; "closed {reason}")?;
         }
-        Answer::Exported(rep) => push_reference(alloc, &mut text, *rep)?,
+        Answer::Reference(rep) => push_reference(alloc, &mut text, *rep)?,
         Answer::Stands(standing) => text = standing_text(alloc, *standing)?,
         Answer::Idle(place, rep) => {
             text = format!(in alloc; "place {place} ")?;
