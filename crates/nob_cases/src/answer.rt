@@ -34,6 +34,21 @@ pub enum Push {
     Refused(FrameFault),
 }
 
+/// What a call on a pin table answers.
+#[derive(Clone, Copy)]
+pub enum PinAnswer {
+    /// It is done.
+    Done,
+    /// It is done, and took the place of a bundle that was there.
+    Replaced,
+    /// The call is none that the table may be asked.
+    NoCall,
+    /// The table's refusal.
+    Refused(PinFault),
+    /// How often a reference is in transit.
+    Count(u64),
+}
+
 /// What a case answers.
 #[derive(Drop)]
 pub enum Answer {
@@ -57,6 +72,8 @@ pub enum Answer {
     Spaces(Vec<SpaceId>),
     /// What each push to a Feed answers.
     Pushes(Vec<Push>),
+    /// What each call on a pin table answers.
+    Pins(Vec<PinAnswer>),
     /// The number of an item that is to be sent.
     Sent(ItemNo),
     /// An item that waits, with its number.
@@ -65,8 +82,8 @@ pub enum Answer {
     Took(u64),
     /// The end has closed for this reason.
     Closed(Reason),
-    /// A new object.
-    Exported(WireRep),
+    /// A reference.
+    Reference(WireRep),
     /// How a reference stands.
     Stands(Standing),
     /// The place of a surrogate in the order of last Dirties, and the surrogate.

@@ -4,9 +4,11 @@ use crate::codecs::CodecCase;
 use crate::ends::EndCase;
 use crate::sets::SetCase;
 use crate::tables::TableCase;
+use crate::transit::PinCase;
 use crate::unanswered::Unanswered;
 use crate::values::{deep_value, value};
 use crate::{items, words};
+use nob_ids::ItemNo;
 use nob_session::Kind;
 use nob_table::Part;
 use std::alloc::Global;
@@ -18,14 +20,21 @@ pub enum Case {
     Codec(CodecCase),
     /// A call on an end of a session.
     End(EndCase),
+    /// A call on an end of a session by the plain program of the definitions.
+    Plain(EndCase),
     /// A call on an object table.
     Table(TableCase),
     /// A call on dirty sets.
     Set(SetCase),
+    /// The calls on a pin table from its beginning to its end.
+    Pins(Vec<PinCase>),
 }
 
 /// The case that a line spells, and how often it is to be made: once where the line doesn't say it.
 pub fn case_of(alloc: Global, line: &str) -> Result<(Case, u64), Unanswered> {
+    if let Some(calls) = line.strip_prefix("pins ") {
+        return Ok((Case::Pins(pin_cases(alloc, calls)?), 1));
+    }
     let words: Vec<&str> = line.split(' ').collect(alloc)?;
     match words.as_slice() {
         ["times", count, words @ ..] => Ok((lone_case(alloc, words)?, words::times(alloc, count)?)),
@@ -36,6 +45,7 @@ pub fn case_of(alloc: Global, line: &str) -> Result<(Case, u64), Unanswered> {
 fn lone_case(alloc: Global, words: &[&str]) -> Result<Case, Unanswered> {
     match words {
         ["session", words @ ..] => Ok(Case::End(end_case(alloc, words)?)),
+        ["plain", words @ ..] => Ok(Case::Plain(end_case(alloc, words)?)),
         ["table", words @ ..] => Ok(Case::Table(table_case(alloc, words)?)),
         ["dirty", words @ ..] => Ok(Case::Set(set_case(alloc, words)?)),
         ["encode", words @ ..] => Ok(Case::Codec(writing_case(alloc, words)?)),
@@ -57,6 +67,12 @@ fn codec_case(alloc: Global, words: &[&str]) -> Result<CodecCase, Unanswered> {
             Ok(CodecCase::References(deep(alloc, lists, innermost)?))
         }
         ["references", word] => Ok(CodecCase::References(value(alloc, word)?)),
+        ["fits", word] => Ok(CodecCase::Fits(value(alloc, word)?)),
+        ["fits", "deep", lists, innermost] => Ok(CodecCase::Fits(deep(alloc, lists, innermost)?)),
+        ["counted", "behind", place, words @ ..] => Ok(CodecCase::CountedOne(
+            words::short_number(alloc, place)? as usize,
+            items::item(alloc, words)?,
+        )),
         ["counted", words @ ..] => Ok(CodecCase::Counted(items::item(alloc, words)?)),
         ["note", words @ ..] => Ok(CodecCase::IsNote(items::item(alloc, words)?)),
         _ => Err(Unanswered::NoCase),
@@ -69,6 +85,7 @@ fn writing_case(alloc: Global, words: &[&str]) -> Result<CodecCase, Unanswered> 
         ["value", "deep", lists, innermost] => {
             Ok(CodecCase::WriteValue(deep(alloc, lists, innermost)?))
         }
+        ["parts", words @ ..] => Ok(CodecCase::WriteParts(items::item(alloc, words)?)),
         ["item", words @ ..] => Ok(CodecCase::WriteItem(items::item(alloc, words)?)),
         ["frame", words @ ..] => Ok(CodecCase::WriteFrame(items::frame(alloc, words)?)),
         _ => Err(Unanswered::NoCase),
@@ -100,6 +117,11 @@ fn end_case(alloc: Global, words: &[&str]) -> Result<EndCase, Unanswered> {
             Ok(EndCase::Send(Kind::Limited, words::bytes(alloc, bytes)?))
         }
         ["send", "note", bytes] => Ok(EndCase::Send(Kind::Note, words::bytes(alloc, bytes)?)),
+        ["next", "limited"] => Ok(EndCase::Next(Kind::Limited)),
+        ["next", "note"] => Ok(EndCase::Next(Kind::Note)),
+        ["numbers"] => Ok(EndCase::FreeNumbers),
+        ["has", "frames"] => Ok(EndCase::HasFrames),
+        ["frames"] => Ok(EndCase::Frames),
         ["arrive", bytes] => Ok(EndCase::Arrive(words::bytes(alloc, bytes)?)),
         ["close", reason] => Ok(EndCase::Close(words::reason(alloc, reason)?)),
         ["transmit"] => Ok(EndCase::Transmit),
@@ -121,6 +143,7 @@ fn table_case(alloc: Global, words: &[&str]) -> Result<TableCase, Unanswered> {
         ["export"] => Ok(TableCase::Export),
         ["counts"] => Ok(TableCase::Counts),
         ["withdraw", index] => Ok(TableCase::Withdraw(words::number(alloc, index)?)),
+        ["unheld", index] => Ok(TableCase::Unheld(words::number(alloc, index)?)),
         ["idle", place] => Ok(TableCase::Idle(words::number(alloc, place)?)),
         ["close", owner] => Ok(TableCase::Close(words::space(alloc, owner)?)),
         [call, rep] => surrogate_case(call, words::reference(alloc, rep)?),
@@ -173,6 +196,33 @@ fn listing_case(call: &str, index: u64, client: nob_ids::SpaceId) -> Result<SetC
         "dirty" => Ok(SetCase::Dirty(index, client)),
         "clean" => Ok(SetCase::Clean(index, client)),
         "lists" => Ok(SetCase::Lists(index, client)),
+        _ => Err(Unanswered::NoCase),
+    }
+}
+
+// The calls on a pin table, parted by semicolons.
+fn pin_cases(alloc: Global, calls: &str) -> Result<Vec<PinCase>, Unanswered> {
+    let mut cases = Vec::new(alloc);
+    for call in calls.split(';') {
+        let words: Vec<&str> = call.trim().split(' ').collect(alloc)?;
+        cases.push(pin_case(alloc, &words)?)?;
+    }
+    Ok(cases)
+}
+
+fn pin_case(alloc: Global, words: &[&str]) -> Result<PinCase, Unanswered> {
+    match words {
+        ["put", peer, item, reps @ ..] => Ok(PinCase::Put(
+            words::space(alloc, peer)?,
+            ItemNo::new(words::number(alloc, item)?),
+            words::references(alloc, reps)?,
+        )),
+        ["settle", peer, item] => Ok(PinCase::Settle(
+            words::space(alloc, peer)?,
+            ItemNo::new(words::number(alloc, item)?),
+        )),
+        ["close", peer] => Ok(PinCase::Close(words::space(alloc, peer)?)),
+        ["count", rep] => Ok(PinCase::Count(words::reference(alloc, rep)?)),
         _ => Err(Unanswered::NoCase),
     }
 }

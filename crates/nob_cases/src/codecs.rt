@@ -13,14 +13,20 @@ pub enum CodecCase {
     ReadValue(Vec<u8>),
     /// The bytes that spell a value.
     WriteValue(Value),
+    /// Whether a value has a pickle.
+    Fits(Value),
     /// The references in a value.
     References(Value),
     /// The item that bytes spell.
     ReadItem(Vec<u8>),
     /// The bytes that spell an item.
     WriteItem(Item),
+    /// The same of a Call's or a Reply's parts.
+    WriteParts(Item),
     /// The counted references of an item.
     Counted(Item),
+    /// The counted reference of an item that stands behind so many.
+    CountedOne(usize, Item),
     /// Whether an item is a note.
     IsNote(Item),
     /// The frame that bytes spell.
@@ -38,11 +44,14 @@ pub fn answer(alloc: Global, case: &CodecCase) -> Result<Answer, AllocError> {
     match case {
         CodecCase::ReadValue(bytes) => read_value(alloc, bytes),
         CodecCase::WriteValue(value) => write_value(alloc, value),
+        CodecCase::Fits(value) => Ok(fits(value)),
         CodecCase::References(value) => {
             Ok(Answer::References(nob_pickle::refs_of(alloc, value)?))
         }
         CodecCase::ReadItem(bytes) => read_item(alloc, bytes),
         CodecCase::WriteItem(item) => write_item(alloc, item),
+        CodecCase::WriteParts(item) => write_parts(alloc, item),
+        CodecCase::CountedOne(place, item) => Ok(counted_one(item, *place)),
         CodecCase::Counted(item) => Ok(Answer::References(nob_item::counted_refs(alloc, item)?)),
         CodecCase::IsNote(item) => Ok(Answer::of_test(item.is_note())),
         CodecCase::ReadFrame(bytes) => read_frame(alloc, bytes),
@@ -67,6 +76,13 @@ fn write_value(alloc: Global, value: &Value) -> Result<Answer, AllocError> {
     }
 }
 
+fn fits(value: &Value) -> Answer {
+    match nob_pickle::fits(value) {
+        Ok(()) => Answer::Word("yes"),
+        Err(fault) => Answer::Refused(Refusal::Pickle(PickleError::Fault(fault))),
+    }
+}
+
 fn refused_value(error: PickleError) -> Result<Answer, AllocError> {
     match error {
         PickleError::OutOfMemory => Err(AllocError),
@@ -85,6 +101,34 @@ fn write_item(alloc: Global, item: &Item) -> Result<Answer, AllocError> {
     match nob_item::encode(alloc, item) {
         Ok(bytes) => Ok(Answer::Bytes(bytes)),
         Err(error) => refused_item(error),
+    }
+}
+
+fn write_parts(alloc: Global, item: &Item) -> Result<Answer, AllocError> {
+    let written = match item {
+        Item::Call {
+            call,
+            target,
+            method,
+            value,
+        } => nob_item::encode_call(alloc, *call, *target, *method, value),
+        Item::Reply {
+            call,
+            status,
+            value,
+        } => nob_item::encode_reply(alloc, *call, *status, value),
+        _ => return Ok(Answer::Word("no parts")),
+    };
+    match written {
+        Ok(bytes) => Ok(Answer::Bytes(bytes)),
+        Err(error) => refused_item(error),
+    }
+}
+
+fn counted_one(item: &Item, place: usize) -> Answer {
+    match nob_item::counted_ref(item, place) {
+        Some(rep) => Answer::Reference(rep),
+        None => Answer::Word("none"),
     }
 }
 

@@ -13,8 +13,16 @@ pub enum EndCase {
     Open(SpaceId, SpaceId, Limits),
     /// Makes room for so many sends.
     Reserve(usize),
+    /// What a send would answer.
+    Next(Kind),
+    /// How many numbers are free.
+    FreeNumbers,
     /// Hands an item.
     Send(Kind, Vec<u8>),
+    /// Whether a transmit would give a frame.
+    HasFrames,
+    /// The frames that a transmit would give.
+    Frames,
     /// The frames to be sent now.
     Transmit,
     /// The frame that these bytes spell arrives.
@@ -57,6 +65,10 @@ fn call(alloc: Global, session: &mut Session, case: &EndCase) -> Result<Answer, 
             Ok(()) => Ok(Answer::Word("ok")),
             Err(_) => Err(AllocError),
         },
+        EndCase::Next(kind) => Ok(next(session, *kind)),
+        EndCase::FreeNumbers => Ok(Answer::Number(session.free_numbers())),
+        EndCase::HasFrames => Ok(Answer::of_test(session.has_frames())),
+        EndCase::Frames => Ok(Answer::Frames(session.frames()?)),
         EndCase::Send(kind, payload) => send(session, *kind, payload.clone()?),
         EndCase::Transmit => match session.transmit() {
             Ok(frames) => Ok(Answer::Frames(frames)),
@@ -79,6 +91,13 @@ fn send(session: &mut Session, kind: Kind, payload: Vec<u8>) -> Result<Answer, A
     match session.send(payload, kind) {
         Ok(number) => Ok(Answer::Sent(number)),
         Err(error) => refused(error),
+    }
+}
+
+fn next(session: &Session, kind: Kind) -> Answer {
+    match session.next(kind) {
+        Ok(number) => Answer::Sent(number),
+        Err(refusal) => Answer::Refused(Refusal::End(SessionError::Refused(refusal))),
     }
 }
 

@@ -2,9 +2,10 @@
 
 use crate::answer::Answer;
 use crate::case::{Case, case_of};
+use crate::plain::Plain;
 use crate::text::text_of;
 use crate::unanswered::Unanswered;
-use crate::{codecs, ends, sets, tables};
+use crate::{codecs, ends, plain, sets, tables, transit};
 use nob_dirty::DirtySets;
 use nob_session::Session;
 use nob_table::ObjectTable;
@@ -15,6 +16,7 @@ use std::alloc::{AllocError, Global};
 pub struct Stage {
     alloc: Global,
     end: Option<Session>,
+    plain: Option<Plain>,
     table: Option<ObjectTable>,
     sets: DirtySets,
 }
@@ -25,6 +27,7 @@ impl Stage {
         Stage {
             alloc,
             end: None,
+            plain: None,
             table: None,
             sets: DirtySets::new(alloc),
         }
@@ -64,7 +67,9 @@ impl Stage {
         match case {
             Case::Codec(case) => codecs::answer(self.alloc, case),
             Case::End(case) => ends::make(self.alloc, &mut self.end, case),
+            Case::Plain(case) => plain::make(self.alloc, &mut self.plain, case),
             Case::Table(case) => tables::make(self.alloc, &mut self.table, case),
+            Case::Pins(cases) => transit::answer(self.alloc, cases),
             Case::Set(case) => sets::make(self.alloc, &mut self.sets, case),
         }
     }

@@ -34,6 +34,8 @@ pub enum TableCase {
     State(WireRep),
     /// The first idle surrogate from this place on.
     Idle(u64),
+    /// The first object from this index on that nothing holds.
+    Unheld(u64),
     /// How many objects and surrogates there are.
     Counts,
 }
@@ -75,6 +77,7 @@ fn call(table: &mut ObjectTable, case: &TableCase) -> Result<Answer, AllocError>
         }
         TableCase::State(rep) => Ok(Answer::Stands(table.state(*rep))),
         TableCase::Idle(place) => Ok(idle(table, *place)),
+        TableCase::Unheld(index) => Ok(unheld(table, *index)),
         TableCase::Counts => Ok(Answer::Counts(table.object_count(), table.surrogate_count())),
     }
 }
@@ -88,7 +91,7 @@ fn done(outcome: Result<(), TableFault>) -> Answer {
 
 fn export(table: &mut ObjectTable) -> Result<Answer, AllocError> {
     match table.export() {
-        Ok(rep) => Ok(Answer::Exported(rep)),
+        Ok(rep) => Ok(Answer::Reference(rep)),
         Err(error) => refused(error),
     }
 }
@@ -107,9 +110,16 @@ fn refused(error: TableError) -> Result<Answer, AllocError> {
     }
 }
 
+fn unheld(table: &ObjectTable, index: u64) -> Answer {
+    match table.first_unheld(index) {
+        Some(index) => Answer::Number(index),
+        None => Answer::Word("none"),
+    }
+}
+
 fn idle(table: &ObjectTable, place: u64) -> Answer {
-    match table.first_idle(place) {
-        Some((place, rep)) => Answer::Idle(u128::from(place), rep),
+    match table.first_idle(u128::from(place)) {
+        Some((place, rep)) => Answer::Idle(place, rep),
         None => Answer::Word("none"),
     }
 }

@@ -1,6 +1,6 @@
 //! The texts of answers.
 
-use crate::answer::{Answer, Push, Refusal};
+use crate::answer::{Answer, PinAnswer, Push, Refusal};
 use crate::value_text::{push_bytes, push_reference, push_value};
 use nob_frame::{Frame, FrameError, FrameKind};
 use nob_ids::{SpaceId, WireRep};
@@ -22,6 +22,7 @@ pub fn text_of(alloc: Global, answer: &Answer) -> Result<String, AllocError> {
         Answer::References(reps) => push_references(alloc, &mut text, reps)?,
         Answer::Spaces(spaces) => push_spaces(alloc, &mut text, spaces)?,
         Answer::Pushes(pushes) => push_pushes(alloc, &mut text, pushes)?,
+        Answer::Pins(answers) => push_pin_answers(alloc, &mut text, answers)?,
         _ => return text_of_call(alloc, answer),
     }
     Ok(text)
@@ -45,7 +46,7 @@ fn text_of_call(alloc: Global, answer: &Answer) -> Result<String, AllocError> {
             let reason = reason.number();
             text = format!(in alloc; "closed {reason}")?;
         }
-        Answer::Exported(rep) => push_reference(alloc, &mut text, *rep)?,
+        Answer::Reference(rep) => push_reference(alloc, &mut text, *rep)?,
         Answer::Stands(standing) => text = standing_text(alloc, *standing)?,
         Answer::Idle(place, rep) => {
             text = format!(in alloc; "place {place} ")?;
@@ -155,6 +156,27 @@ fn push_pushes(alloc: Global, text: &mut String, pushes: &[Push]) -> Result<(), 
                 text,
                 Refusal::Frame(FrameError::Fault(*fault)),
             )?,
+        }
+    }
+    Ok(())
+}
+
+// Writes what the calls on a pin table answer, parted by semicolons.
+fn push_pin_answers(
+    alloc: Global,
+    text: &mut String,
+    answers: &[PinAnswer],
+) -> Result<(), AllocError> {
+    for (i, answer) in answers.iter().enumerate() {
+        if i > 0 {
+            text.push_str("; ")?;
+        }
+        match answer {
+            PinAnswer::Done => text.push_str("ok")?,
+            PinAnswer::Replaced => text.push_str("replaced")?,
+            PinAnswer::NoCall => text.push_str("no call")?,
+            PinAnswer::Refused(fault) => push_refusal(alloc, text, Refusal::Pins(*fault))?,
+            PinAnswer::Count(count) => text.push_str(format!(in alloc; "{count}")?.as_str())?,
         }
     }
     Ok(())

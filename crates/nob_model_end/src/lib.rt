@@ -11,6 +11,3 @@ pub mod words;
 
 pub use entry::{Arrived, EndEntry, Ending, Frames, Kind, PairEntry};
 pub use refusal::EndRefusal;
-
-#[cfg(test)]
-mod tests;

@@ -1,4 +1,3 @@
 pub mod Once
 pub mod Found
 pub mod Kept
-pub mod Life

@@ -13,6 +13,3 @@ pub use evidence::Settled;
 pub use fault::PinFault;
 pub use pin::TransitPin;
 pub use table::PinTable;
-
-#[cfg(test)]
-mod tests;
