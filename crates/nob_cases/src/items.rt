@@ -3,7 +3,8 @@
 use crate::unanswered::Unanswered;
 use crate::values::value;
 use crate::words;
-use nob_frame::{Frame, FrameKind, Payload};
+use nob_bytes::Bytes;
+use nob_frame::{Frame, FrameKind};
 use nob_ids::{CallNo, ItemNo};
 use nob_item::Item;
 use std::alloc::Global;
@@ -50,7 +51,7 @@ pub fn frame(alloc: Global, words: &[&str]) -> Result<Frame, Unanswered> {
         to: words::space(alloc, to)?,
         seq: words::number(alloc, seq)?,
         ack: words::number(alloc, ack)?,
-        payload: Payload::from_vec(words::bytes(alloc, payload)?),
+        payload: Bytes::from_vec(words::bytes(alloc, payload)?),
     })
 }
 

@@ -3,7 +3,8 @@
 use crate::answer::{Answer, Refusal};
 use crate::codecs::refused_frame;
 use crate::ends::EndCase;
-use nob_frame::{Frame, Payload};
+use nob_bytes::Bytes;
+use nob_frame::Frame;
 use nob_ids::{Limits, Reason, SpaceId};
 use nob_model_end::{Arrived, EndEntry, EndRefusal, Frames, right, words};
 use nob_session::{Kind, SessionError};
@@ -69,7 +70,7 @@ impl Plain {
 
     fn send(&mut self, kind: Kind, payload: &[u8]) -> Result<Answer, AllocError> {
         let outcome = right::send(self.alloc, kind, &self.calls)?;
-        let payload = Payload::from_vec(Vec::from_slice(self.alloc, payload)?);
+        let payload = Bytes::from_vec(Vec::from_slice(self.alloc, payload)?);
         self.note(EndEntry::Send(payload, kind, outcome))?;
         Ok(match outcome {
             Ok(number) => Answer::Sent(number),

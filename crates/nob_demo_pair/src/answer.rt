@@ -2,7 +2,7 @@
 
 ghost use Rattle.std.specs.Prelude.{◌+◌, ◌<◌, ◌≤◌, ◌^◌};
 
-use nob_frame::Payload;
+use nob_bytes::Bytes;
 use nob_ids::{ItemNo, Reason};
 use nob_session::EndRefusal;
 
@@ -27,7 +27,7 @@ pub enum Answer {
     /// A `send` that had nothing to transmit.
     SentNothing,
     /// The number and the bytes of the item that was taken.
-    Got(ItemNo, Payload),
+    Got(ItemNo, Bytes),
     /// No item waits.
     Nothing,
     /// A tick that closed nothing.

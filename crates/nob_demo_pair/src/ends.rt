@@ -19,7 +19,8 @@ ghost use Rattle.nob_model_end.specs.declared.entry.EndEntry.TheVariants.{Arrive
 use crate::answer::{Answer, Sent};
 use crate::log::FrameLog;
 use crate::step::{Call, Side};
-use nob_frame::{Frame, Payload};
+use nob_bytes::Bytes;
+use nob_frame::Frame;
 use nob_ids::Reason;
 use nob_session::{Arrival, EndRefusal, Kind, Session, SessionError, wire};
 use std::alloc::{AllocError, Global};
@@ -29,7 +30,7 @@ pub fn put(
     session: &mut Session,
     frames: &mut FrameLog,
     side: Side,
-    item: Payload,
+    item: Bytes,
 ) -> Result<Answer, AllocError>
     requires { IsItem item }
     ensures answer { (me peer before : ℕ) (limits : LimitsOf) (L : List EndEntry) → Stands me peer limits session.old.end L →
@@ -50,7 +51,7 @@ fn hand(
     session: &mut Session,
     frames: &mut FrameLog,
     side: Side,
-    item: Payload,
+    item: Bytes,
 ) -> Result<Answer, AllocError>
     requires item { IsItem item }
     requires taken { IsOk (next_of Limited session.old.end) }
@@ -120,7 +121,7 @@ fn front_of(alloc: Global, session: &Session) -> Result<Option<Answer>, AllocErr
         None => Ok(None),
         Some((number, item)) => {
             let bytes = Vec::from_slice(alloc, item)?;
-            Ok(Some(Answer::Got(number, Payload::from_vec(bytes))))
+            Ok(Some(Answer::Got(number, Bytes::from_vec(bytes))))
         }
     }
 }

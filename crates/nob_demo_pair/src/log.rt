@@ -8,7 +8,8 @@ ghost use Rattle.nob_demo_pair.specs.Log.{AreCounted, IsThere, all_frames, frame
 
 use crate::batch::{Batch, ItemRun, Row};
 use crate::step::Side;
-use nob_frame::{Frame, FrameKind, Payload};
+use nob_bytes::Bytes;
+use nob_frame::{Frame, FrameKind};
 use nob_model_end::Frames;
 use std::alloc::{AllocError, Global};
 use std::marker::Model;
@@ -18,8 +19,8 @@ use std::marker::Model;
 #[derive(Debug, Drop)]
 pub struct FrameLog {
     // the items of space 1 and those of space 2, the first first
-    first: Vec<Payload>,
-    second: Vec<Payload>,
+    first: Vec<Bytes>,
+    second: Vec<Bytes>,
     rows: Vec<Row>,
     // how many frames there are
     count: u64,
@@ -57,7 +58,7 @@ impl FrameLog {
     }
 
     /// Keeps the next item of an end, for the frames that will carry it. Only memory fails it.
-    pub fn add_item(&mut self, side: Side, item: &Payload) -> Result<(), AllocError>
+    pub fn add_item(&mut self, side: Side, item: &Bytes) -> Result<(), AllocError>
         ensures { self.new.frames ≡ self.old.frames }
     {
         let copy = item.copy()?;
@@ -137,8 +138,8 @@ fn row_of(rows: &[Row], number: u64) -> Option<&Row>
 
 // The frame at this place of a batch.
 fn frame_in(
-    first: &[Payload],
-    second: &[Payload],
+    first: &[Bytes],
+    second: &[Bytes],
     batch: &Batch,
     place: u64,
 ) -> Result<Option<Frame>, AllocError>
@@ -159,7 +160,7 @@ fn frame_in(
 }
 
 // The frame at this place of a run of these items.
-fn frame_of_run(items: &[Payload], run: ItemRun, place: u64) -> Result<Option<Frame>, AllocError>
+fn frame_of_run(items: &[Bytes], run: ItemRun, place: u64) -> Result<Option<Frame>, AllocError>
     requires first { 1 ≤ run.first }
     requires there { run.first - 1 + run.count ≤ length items.now }
     ensures frame { IfOk result (λ frame. frame ≡ slice_get (data_frames run.from run.to run.ack run.first (take run.count (drop (run.first - 1) items.now))) place) }
@@ -180,7 +181,7 @@ fn frame_of_run(items: &[Payload], run: ItemRun, place: u64) -> Result<Option<Fr
 }
 
 // The batch of these frames.
-fn batch_of(first: &[Payload], second: &[Payload], frames: Vec<Frame>) -> Batch
+fn batch_of(first: &[Bytes], second: &[Bytes], frames: Vec<Frame>) -> Batch
     ensures there { IsThere first.now second.now result }
     ensures frames { frames_in first.now second.now result ≡ frames.items }
 {
@@ -191,7 +192,7 @@ fn batch_of(first: &[Payload], second: &[Payload], frames: Vec<Frame>) -> Batch
 }
 
 // The run of items that these frames carry, if they are one.
-fn run_of(first: &[Payload], second: &[Payload], frames: &[Frame]) -> Option<ItemRun>
+fn run_of(first: &[Bytes], second: &[Bytes], frames: &[Frame]) -> Option<ItemRun>
     ensures { IfSome result (λ run. IsThere first.now second.now (Batch.Run run) × (frames.now ≡ frames_in first.now second.now (Batch.Run run))) }
 {
     let head = frames.first()?;
@@ -213,7 +214,7 @@ fn run_of(first: &[Payload], second: &[Payload], frames: &[Frame]) -> Option<Ite
 }
 
 // Whether the frames carry the first of these items, from this number on, and are like the first frame beside that.
-fn carry(head: &Frame, number: u64, frames: &[Frame], items: &[Payload]) -> bool
+fn carry(head: &Frame, number: u64, frames: &[Frame], items: &[Bytes]) -> bool
     ensures { result ≡ true → (length frames.now ≤ length items.now) × (frames.now ≡ data_frames head.now.from head.now.to head.now.ack number (take (length frames.now) items.now)) }
 {
     match frames {
@@ -230,7 +231,7 @@ fn carry(head: &Frame, number: u64, frames: &[Frame], items: &[Payload]) -> bool
 }
 
 // Whether the frame carries the item of this number, and is like another beside that.
-fn carries(head: &Frame, number: u64, frame: &Frame, item: &Payload) -> bool
+fn carries(head: &Frame, number: u64, frame: &Frame, item: &Bytes) -> bool
     ensures { result ≡ true → frame.now ≡ record { kind = kinds.Data; from = head.now.from; to = head.now.to; seq = number; ack = head.now.ack; payload = item.now } }
 {
     frame.kind.is_data()

@@ -9,7 +9,7 @@ ghost use Rattle.nob_demo_pair.specs.declared.step.Step.{Step as StepOf};
 ghost use Rattle.nob_demo_pair.specs.Grammar.{header_text, limits_text, length_of_word, IsLimits, side_text, call_text, step_text, IsCall, IsStep};
 
 use crate::step::{Call, Side, Step};
-use nob_frame::Payload;
+use nob_bytes::Bytes;
 use nob_ids::Limits;
 use nob_trace_text::{bytes_of, number_of};
 use std::alloc::{AllocError, Global};
@@ -75,7 +75,7 @@ fn put_of(alloc: Global, text: &[u8]) -> Result<Option<Call>, AllocError>
     if bytes.is_empty() || bytes.len() > 16_384 {
         return Ok(None);
     }
-    Ok(Some(Call::Put(Payload::from_vec(bytes))))
+    Ok(Some(Call::Put(Bytes::from_vec(bytes))))
 }
 
 /// The limits that a script's first line spells: `None` where it spells none. Only memory fails it.

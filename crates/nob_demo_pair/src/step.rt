@@ -1,6 +1,6 @@
 //! The steps of a pair script.
 
-use nob_frame::Payload;
+use nob_bytes::Bytes;
 
 /// One of the two ends.
 #[derive(Clone, Copy, Debug)]
@@ -15,7 +15,7 @@ pub enum Side {
 #[derive(Debug, Drop)]
 pub enum Call {
     /// `put HEX`: hands an item.
-    Put(Payload),
+    Put(Bytes),
     /// `send`: transmits.
     Send,
     /// `get`: takes the first item that waits.

@@ -6,7 +6,7 @@ ghost use Rattle.std.specs.String.{string_bytes};
 ghost use Rattle.nob_demo_pair.specs.Run.{answer_text, refusal_text, numbers_text, sent_text};
 
 use crate::answer::{Answer, Sent};
-use nob_frame::Payload;
+use nob_bytes::Bytes;
 use nob_ids::{ItemNo, Reason};
 use nob_session::EndRefusal;
 use std::alloc::{AllocError, Global};
@@ -36,7 +36,7 @@ fn item_text(alloc: Global, number: ItemNo) -> Result<String, AllocError>
     format!(in alloc; "item {number}")
 }
 
-fn item_bytes_text(alloc: Global, number: ItemNo, item: &Payload) -> Result<String, AllocError>
+fn item_bytes_text(alloc: Global, number: ItemNo, item: &Bytes) -> Result<String, AllocError>
     ensures { IfOk result (λ text. string_bytes text ≡ answer_text (Answer.Got number item.now)) }
 {
     let number = number.get();

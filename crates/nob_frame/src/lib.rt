@@ -13,6 +13,6 @@ mod writing;
 pub use fault::{FrameError, FrameFault};
 pub use feed::Feed;
 pub use frame::{Frame, FrameKind};
-pub use nob_bytes::Bytes as Payload;
+pub use nob_bytes::Bytes;
 pub use reading::decode;
 pub use writing::encode;

@@ -3,7 +3,8 @@
 ghost use Rattle.std.specs.Prelude.{◌≡◌, IfOk, length};
 
 use crate::refusal::EndRefusal;
-use nob_frame::{Frame, Payload};
+use nob_bytes::Bytes;
+use nob_frame::Frame;
 use nob_ids::{ItemNo, Reason, SpaceId};
 use std::alloc::AllocError;
 use std::marker::Model;
@@ -93,13 +94,13 @@ impl Frames {
 #[derive(Debug, Drop)]
 pub enum EndEntry {
     /// `send` of a payload: its number, or a refusal.
-    Send(Payload, Kind, Result<ItemNo, EndRefusal>),
+    Send(Bytes, Kind, Result<ItemNo, EndRefusal>),
     /// `transmit`: the frames that it gave.
     Transmit(Frames),
     /// `arrive` of a frame.
     Arrive(Frame, Result<Arrived, EndRefusal>),
     /// `front`: the first item that waits, if there is one.
-    Front(Option<(ItemNo, Payload)>),
+    Front(Option<(ItemNo, Bytes)>),
     /// `take`: gives up the first item that waits.
     Take,
     /// `is_open`.

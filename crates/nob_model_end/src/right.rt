@@ -8,7 +8,8 @@ ghost use Rattle.nob_model_end.specs.Right as right;
 use crate::entry::{Arrived, EndEntry, Ending, Kind};
 use crate::refusal::EndRefusal;
 use crate::words;
-use nob_frame::{Frame, FrameKind, Payload};
+use nob_bytes::Bytes;
+use nob_frame::{Frame, FrameKind};
 use nob_ids::{ItemNo, Limits, Reason, SpaceId};
 use std::alloc::{AllocError, Global};
 
@@ -135,7 +136,7 @@ fn data_frames(
             to: peer,
             seq: first + i as u64,
             ack,
-            payload: Payload::from_vec(Vec::from_slice(alloc, payload)?),
+            payload: Bytes::from_vec(Vec::from_slice(alloc, payload)?),
         })?;
     }
     Ok(frames)
@@ -159,7 +160,7 @@ fn lone_frame(
         to: peer,
         seq: 0,
         ack,
-        payload: Payload::from_vec(Vec::from_slice(alloc, payload)?),
+        payload: Bytes::from_vec(Vec::from_slice(alloc, payload)?),
     })?;
     Ok(frames)
 }

@@ -19,7 +19,8 @@ ghost use Rattle.nob_session.specs.Answers.{Answered, arrived_of};
 
 use crate::closed::{Arrival, Closed};
 use crate::error::SessionError;
-use nob_frame::{Frame, FrameKind, Payload};
+use nob_bytes::Bytes;
+use nob_frame::{Frame, FrameKind};
 use nob_ids::{ItemNo, Limits, Reason, SpaceId};
 use nob_model_end::right::{INBOX_LIMIT, LAST_ITEM, QUEUE_LIMIT};
 use nob_model_end::{EndRefusal, Kind};
@@ -35,13 +36,13 @@ pub struct Session {
     peer: SpaceId,
     limits: Limits,
     // all payloads that were handed, the first first; none once it is closed
-    sent: Vec<Payload>,
+    sent: Vec<Bytes>,
     handed: u64,
     // the lowest number that isn't acknowledged
     lowest: u64,
     transmitted: u64,
     // all payloads that were accepted, the first first; none once it is closed
-    received: Vec<Payload>,
+    received: Vec<Bytes>,
     accepted: u64,
     taken: u64,
     // whether a Data frame arrived since the last transmit
@@ -155,7 +156,7 @@ impl Session {
         ensures err_room { OnErr result (self.old.room ≤ self.new.room) }
     {
         let number = self.next(kind)?;
-        self.sent.push(Payload::from_vec(payload))?;
+        self.sent.push(Bytes::from_vec(payload))?;
         self.handed += 1;
         Ok(number)
     }
@@ -209,7 +210,7 @@ impl Session {
     }
 
     // The items that a transmit of the open end gives: at most a window of the unacknowledged ones.
-    fn given(&self) -> &[Payload]
+    fn given(&self) -> &[Bytes]
         requires { self.now.end.ending ≡ None }
         ensures items { AllByRecursion IsItem result.now }
         ensures given { result.now ≡ take self.now.end.limits.window self.now.end.unacknowledged }
@@ -428,7 +429,7 @@ fn data_frames(
     peer: SpaceId,
     ack: u64,
     first: u64,
-    payloads: &[Payload],
+    payloads: &[Bytes],
 ) -> Result<Vec<Frame>, AllocError>
     requires { first + length payloads.now < 2 ^ 64 }
     ensures len { IfOk result (λ frames. length frames.items ≡ length payloads.now) }
@@ -467,7 +468,7 @@ fn lone_frame(
         to: peer,
         seq: 0,
         ack,
-        payload: Payload::from_vec(Vec::from_slice(alloc, payload)?),
+        payload: Bytes::from_vec(Vec::from_slice(alloc, payload)?),
     })?;
     Ok(frames)
 }

@@ -24,5 +24,5 @@ returns-clause-frame c =
     let item = c.index-items-item.result in
     let place = run.first - 1 + c.args.place in
     let at = slice_get-get_or c.args.items.now place item (omega (arith, c.requires.there, c.if-place-run.false)) ∙ ap (λ (x : List ℕ). Some x) (sym c.index-items-item.is) in
-    ap (λ (p : List ℕ). Some (record { kind = kinds.Data; from = run.from; to = run.to; seq = place + 1; ack = run.ack; payload = p })) c.in_ok-copy.ensures
+    ap (λ (p : List ℕ). Some (record { kind = kinds.Data; from = run.from; to = run.to; seq = place + 1; ack = run.ack; payload = p })) c.in_ok-copy.ensures.same
     ∙ sym (run_at run.from run.to run.ack run.first run.count c.args.items.now c.args.place place item c.requires.first (omega (arith, c.if-place-run.false)) refl at)
