@@ -3,12 +3,12 @@
 use crate::answer::Answer;
 use crate::case::{Case, case_of};
 use crate::plain::Plain;
+use crate::tables::CountedTable;
 use crate::text::text_of;
 use crate::unanswered::Unanswered;
 use crate::{codecs, ends, plain, sets, tables, transit};
 use nob_dirty::DirtySets;
 use nob_session::Session;
-use nob_table::ObjectTable;
 use std::alloc::{AllocError, Global};
 
 /// The end, the table and the sets on which the next cases are made.
@@ -17,7 +17,7 @@ pub struct Stage {
     alloc: Global,
     end: Option<Session>,
     plain: Option<Plain>,
-    table: Option<ObjectTable>,
+    table: Option<CountedTable>,
     sets: DirtySets,
 }
 

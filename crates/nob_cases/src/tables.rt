@@ -1,5 +1,7 @@
 //! Cases of an object table.
 
+ghost use Rattle.std.specs.Prelude.{◌≡◌, ◌≤◌};
+
 use crate::answer::{Answer, Refusal};
 use nob_ids::{SpaceId, WireRep};
 use nob_table::{ObjectTable, Part, TableError, TableFault};
@@ -40,34 +42,51 @@ pub enum TableCase {
     Counts,
 }
 
+/// A table, and a number that the number of Dirties it was told of doesn't pass.
+#[derive(Drop)]
+pub struct CountedTable {
+    table: ObjectTable,
+    most: u64,
+    ghost counted: { table.dirties ≤ most },
+}
+
 /// Makes a case on the table that was made last. Only memory fails it, and then nothing has changed.
 pub fn make(
     alloc: Global,
-    table: &mut Option<ObjectTable>,
+    counted: &mut Option<CountedTable>,
     case: &TableCase,
 ) -> Result<Answer, AllocError> {
     if let TableCase::New(me) = case {
-        *table = Some(ObjectTable::new(alloc, *me));
+        *counted = Some(CountedTable {
+            table: ObjectTable::new(alloc, *me),
+            most: 0,
+        });
         return Ok(Answer::Word("ok"));
     }
-    match table {
-        Some(table) => call(table, case),
+    match counted {
+        Some(counted) => call(counted, case),
         None => Ok(Answer::Word("no table")),
     }
 }
 
-fn call(table: &mut ObjectTable, case: &TableCase) -> Result<Answer, AllocError> {
+fn call(counted: &mut CountedTable, case: &TableCase) -> Result<Answer, AllocError> {
+    if let TableCase::Pending(rep) = case {
+        return pending(counted, *rep);
+    }
+    call_without_dirty(&mut counted.table, case)
+}
+
+// A call that tells of no Dirty.
+fn call_without_dirty(table: &mut ObjectTable, case: &TableCase) -> Result<Answer, AllocError>
+    ensures { table.new.dirties ≡ table.old.dirties }
+{
     match case {
-        TableCase::New(_) => Ok(Answer::Word("ok")),
-        TableCase::Reserve(exports, surrogates) => {
-            table.reserve(*exports, *surrogates)?;
-            Ok(Answer::Word("ok"))
-        }
+        TableCase::New(_) | TableCase::Pending(_) => Ok(Answer::Word("ok")),
+        TableCase::Reserve(exports, surrogates) => reserve(table, *exports, *surrogates),
         TableCase::Export => export(table),
         TableCase::Withdraw(index) => Ok(done(table.withdraw(*index))),
         TableCase::Hold(rep, part) => Ok(done(table.hold(*rep, *part))),
         TableCase::Release(rep, part) => Ok(done(table.release(*rep, *part))),
-        TableCase::Pending(rep) => pending(table, *rep),
         TableCase::Grant(rep) => Ok(done(table.grant(*rep))),
         TableCase::Refuse(rep) => Ok(done(table.refuse(*rep))),
         TableCase::Remove(rep) => Ok(done(table.remove(*rep))),
@@ -82,6 +101,13 @@ fn call(table: &mut ObjectTable, case: &TableCase) -> Result<Answer, AllocError>
     }
 }
 
+fn reserve(table: &mut ObjectTable, exports: usize, surrogates: usize) -> Result<Answer, AllocError>
+    ensures { table.new.dirties ≡ table.old.dirties }
+{
+    table.reserve(exports, surrogates)?;
+    Ok(Answer::Word("ok"))
+}
+
 fn done(outcome: Result<(), TableFault>) -> Answer {
     match outcome {
         Ok(()) => Answer::Word("ok"),
@@ -89,15 +115,21 @@ fn done(outcome: Result<(), TableFault>) -> Answer {
     }
 }
 
-fn export(table: &mut ObjectTable) -> Result<Answer, AllocError> {
+fn export(table: &mut ObjectTable) -> Result<Answer, AllocError>
+    ensures { table.new.dirties ≡ table.old.dirties }
+{
     match table.export() {
         Ok(rep) => Ok(Answer::Reference(rep)),
         Err(error) => refused(error),
     }
 }
 
-fn pending(table: &mut ObjectTable, rep: WireRep) -> Result<Answer, AllocError> {
-    match table.pending(rep) {
+fn pending(counted: &mut CountedTable, rep: WireRep) -> Result<Answer, AllocError> {
+    if counted.most == u64::MAX {
+        return Ok(Answer::Word("no call"));
+    }
+    counted.most += 1;
+    match counted.table.pending(rep) {
         Ok(()) => Ok(Answer::Word("ok")),
         Err(error) => refused(error),
     }
