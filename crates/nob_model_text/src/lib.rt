@@ -2,6 +2,12 @@
 //! what is read is what that spelling says.
 #![tactic(auto)]
 
+mod answer_writing;
+mod event_writing;
+mod refusal_writing;
 mod value_writing;
 
+pub use answer_writing::answer_text;
+pub use event_writing::event_text;
+pub use refusal_writing::refusal_text;
 pub use value_writing::{rep_text, value_text};
