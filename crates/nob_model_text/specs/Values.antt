@@ -36,3 +36,35 @@ abbrev mutual
 -- the text of a value
 abbrev pub value_text : Value → List ℕ
 value_text value = tree_text (tree value)
+
+abbrev mutual
+  -- how many lists stand in one another
+  pub nested : Tree → ℕ
+  nested unit = 0
+  nested (int n) = 0
+  nested (bytes bs) = 0
+  nested (list ts) = 1 + most_nested ts
+  nested (ref r) = 0
+
+  -- the same of the elements of a list: the most that one of them has
+  pub most_nested : Trees → ℕ
+  most_nested none = 0
+  most_nested (more t ts) = max (nested t) (most_nested ts)
+
+abbrev mutual
+  -- each number in it is one of its type: an i64, a byte, a space, a u64. Every value of a program is such
+  pub IsTyped : Tree → Type 0
+  IsTyped unit = Unit {0}
+  IsTyped (int n) = FitsSigned w64 n
+  IsTyped (bytes bs) = IsBytes bs
+  IsTyped (list ts) = AreTyped ts
+  IsTyped (ref r) = IsSpace r.owner × (r.index < 2 ^ 64)
+
+  -- the same of trees one after another
+  pub AreTyped : Trees → Type 0
+  AreTyped none = Unit {0}
+  AreTyped (more t ts) = IsTyped t × AreTyped ts
+
+-- a value that a text can spell: no more than 1,000 lists stand in one another
+abbrev pub HasText : Value → Type 0
+HasText value = IsTyped (tree value) × (nested (tree value) ≤ 1000)

@@ -4,7 +4,9 @@
 
 mod answer_writing;
 mod event_writing;
+mod fronts;
 mod refusal_writing;
+mod unread;
 mod value_writing;
 
 pub use answer_writing::answer_text;
