@@ -83,42 +83,38 @@ pub fn bytes_at(alloc: Global, text: &[u8]) -> Result<(Vec<u8>, &[u8]), Unread>
     Ok((bytes, rest))
 }
 
-// The space at the front of a text, and what is left.
-pub fn space_at(alloc: Global, text: &[u8]) -> Result<(SpaceId, &[u8]), Unread>
-    ensures found { IfOk result (λ parts. text.now ≡ decimal parts.0 ++ parts.1.now) }
-    ensures only { (space : ℕ) (rest : List ℕ) → IsSpace space → spec.Stops rest → text.now ≡ decimal space ++ rest
-        → Reads (λ parts. (parts.0 ≡ space) × (parts.1.now ≡ rest)) result }
+// The two numbers of a reference at the front of a text, and what is left.
+pub fn rep_numbers_at(alloc: Global, text: &[u8]) -> Result<(u64, u64, &[u8]), Unread>
+    ensures found { IfOk result (λ parts. text.now ≡ (decimal parts.0 ++ 46 ∷ decimal parts.1) ++ parts.2.now) }
+    ensures only { (owner index : ℕ) (rest : List ℕ) → owner < 2 ^ 64 → index < 2 ^ 64 → spec.Stops rest → text.now ≡ (decimal owner ++ 46 ∷ decimal index) ++ rest
+        → Reads (λ parts. (parts.0 ≡ owner) × (parts.1 ≡ index) × (parts.2.now ≡ rest)) result }
 {
-    let (number, rest) = number_at(alloc, text)?;
-    let Some(space) = space_numbered(number) else {
-        return Err(Unread::NoText);
-    };
-    Ok((space, rest))
+    let (owner, behind) = number_at(alloc, text)?;
+    let (index, rest) = number_at(alloc, after_point(behind)?)?;
+    Ok((owner, index, rest))
 }
 
-// The space of this number: `None` where no space has it.
-pub fn space_numbered(number: u64) -> Option<SpaceId>
-    ensures found { IfSome result (λ space. space ≡ number) }
-    ensures only { IsSpace number → result ≡ Some number }
+// The reference of these numbers.
+pub fn rep_of(owner: u64, index: u64) -> Result<WireRep, Unread>
+    ensures found { IfOk result (λ rep. (rep.owner ≡ owner) × (rep.index ≡ index)) }
+    ensures only { IsSpace owner → Reads (λ rep. (rep.owner ≡ owner) × (rep.index ≡ index)) result }
+{
+    let owner = space_of(owner)?;
+    Ok(WireRep { owner, index })
+}
+
+// The space of this number.
+pub fn space_of(number: u64) -> Result<SpaceId, Unread>
+    ensures found { IfOk result (λ space. space ≡ number) }
+    ensures only { IsSpace number → Reads (λ space. space ≡ number) result }
 {
     if number > 32 {
-        return None;
+        return Err(Unread::NoText);
     }
-    SpaceId::new(number as u16)
-}
-
-// The reference at the front of a text, and what is left.
-pub fn rep_at(alloc: Global, text: &[u8]) -> Result<(WireRep, &[u8]), Unread>
-    ensures found { IfOk result (λ parts. text.now ≡ rep_text parts.0 ++ parts.1.now) }
-    ensures only { (rep : RepOf) (rest : List ℕ) → IsSpace rep.owner → rep.index < 2 ^ 64 → spec.Stops rest → text.now ≡ rep_text rep ++ rest
-        → Reads (λ parts. (parts.0 ≡ rep) × (parts.1.now ≡ rest)) result }
-{
-    let (number, behind) = number_at(alloc, text)?;
-    let Some(owner) = space_numbered(number) else {
+    let Some(space) = SpaceId::new(number as u16) else {
         return Err(Unread::NoText);
     };
-    let (index, rest) = number_at(alloc, after_point(behind)?)?;
-    Ok((WireRep { owner, index }, rest))
+    Ok(space)
 }
 
 // What follows the point with which a text begins.
