@@ -198,6 +198,12 @@ pub by_elements : (P : Trees → Type 0) (ts : Trees) (text end : List ℕ) → 
 by_elements P none text end bracket spelt then = absurd (bracket end spelt)
 by_elements P (more t us) text end bracket spelt then = then t us refl
 
+-- ---- how deep the elements are
+
+pub deep_more : (lists : ℕ) (vs : List Value) (v : Value) → most_nested (forest vs) ≤ lists → nested (tree v) ≤ lists → most_nested (forest (vs ++ v ∷ [])) ≤ lists
+deep_more lists [] v all one = omega (arith, one)
+deep_more lists (w ∷ vs) v all one = omega (arith, all, deep_more lists vs v (omega (arith, all)) one)
+
 -- ---- the whole text
 
 pub not_empty : (rest : List ℕ) (b : Bool) → rest ≡ [] → b ≡ (length rest == 0) → b ≡ false → ⊥
