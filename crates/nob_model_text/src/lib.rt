@@ -5,6 +5,7 @@
 mod answer_writing;
 mod event_writing;
 mod fronts;
+mod refusal_reading;
 mod refusal_writing;
 mod unread;
 mod value_reading;
@@ -12,6 +13,7 @@ mod value_writing;
 
 pub use answer_writing::answer_text;
 pub use event_writing::event_text;
+pub use refusal_reading::refusal_of;
 pub use refusal_writing::refusal_text;
 pub use value_reading::value_of;
 pub use value_writing::{rep_text, value_text};
