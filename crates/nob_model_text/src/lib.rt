@@ -5,6 +5,7 @@
 mod answer_writing;
 mod event_writing;
 mod fronts;
+mod outcome_reading;
 mod refusal_reading;
 mod refusal_writing;
 mod unread;
