@@ -3,6 +3,7 @@
 #![tactic(auto)]
 
 mod answer_writing;
+mod event_reading;
 mod event_writing;
 mod fronts;
 mod outcome_reading;
