@@ -1,0 +1,3 @@
+pub mod Written
+pub mod Parting
+pub mod Read

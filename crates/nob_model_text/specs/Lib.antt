@@ -1,0 +1,5 @@
+pub mod Values
+pub mod Fronts
+pub mod Reading
+pub mod Events
+pub mod Answers

@@ -1,0 +1,21 @@
+//! The texts of values, events, answers and refusals, as scripts and traces have them: each has one spelling, and
+//! what is read is what that spelling says.
+#![tactic(auto)]
+
+mod answer_writing;
+mod event_reading;
+mod event_writing;
+mod fronts;
+mod outcome_reading;
+mod refusal_reading;
+mod refusal_writing;
+mod unread;
+mod value_reading;
+mod value_writing;
+
+pub use answer_writing::answer_text;
+pub use event_writing::event_text;
+pub use refusal_reading::refusal_of;
+pub use refusal_writing::refusal_text;
+pub use value_reading::value_of;
+pub use value_writing::{rep_text, value_text};
