@@ -37,13 +37,13 @@ first_fault None later = later
 abbrev pub names_gone : ℕ → Item → History → Bool
 names_gone s item h = list_any (λ rep. is_own_and_gone s rep h) (counted_in item)
 
--- whether a call was made and no Reply to it acted on
+-- whether a call was made, no Reply to it was acted on, and it hasn't ended
 abbrev pub is_sent : Stage → Bool
 is_sent stages.Sent = true
 is_sent stages.Answered = false
 is_sent stages.Ended = false
 
--- whether call k was made to p and no Reply to it was acted on
+-- whether call k was made to p, no Reply to it was acted on, and it hasn't ended
 abbrev pub awaits_reply : (p k : ℕ) → OwnCall → Bool
 awaits_reply p k own = own.call == k && own.to == p && is_sent own.stage
 

@@ -32,7 +32,7 @@ releases [] = []
 releases (Release rep ∷ D) = rep ∷ releases D
 releases (_ ∷ D) = releases D
 
--- the hand: what came into it less what was released
+-- the hand: what came into it less what was released, 0 where more was released than came
 abbrev pub hand : WireRep → List Deed → ℕ
 hand rep D = times rep (gained D) - times rep (releases D)
 
@@ -64,7 +64,7 @@ loans_of s message = target_lent s message.item ++ copies_lent message.copies
 abbrev pub lent_in : ℕ → Work → List WireRep
 lent_in s W = flat_map (loans_of s) W.waiting ++ (flat_map (loans_of s) W.ready ++ (flat_map (λ run. loans_of s run.message) W.running ++ flat_map (loans_of s) W.replies))
 
--- the holds of space s on a reference: hand and lent together
+-- the holds of space s on a reference: what came into the hand or is lent, less what was released. On a right list that is hand and lent together
 abbrev pub holds : ℕ → WireRep → History → ℕ
 holds s rep h = (times rep (gained h.deeds) + times rep (lent_in s h.work)) - times rep (releases h.deeds)
 

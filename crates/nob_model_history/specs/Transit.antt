@@ -1,4 +1,4 @@
--- What was sent, which of it is in transit, and the order of the Dirties.
+-- What was sent, which of it has pins here, and the order of the Dirties.
 use Rattle.std.specs.Prelude.{ℕ, ◌+◌, Bool, true, false, ◌&&◌, ◌||◌, ◌==◌, not, List, [], ◌∷◌, ◌++◌, length, map, filter, find, filter_map, flat_map, Option, Some, None, if◌then◌else◌}
 use Rattle.std.specs.List.{list_any}
 use Rattle.nob_ids.specs.Names.{is_same}

@@ -51,7 +51,7 @@ pub enum Answer {
     Called(CallNo),
     /// Of TakeReply: the reply's status and its value.
     Replied(u8, Value),
-    /// Of TakeReply: the session closed before there was a reply.
+    /// Of TakeReply: the session closed before the reply was ready.
     Ended,
     /// Of Claim: the job.
     Job(Job),

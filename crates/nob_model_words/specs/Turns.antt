@@ -58,7 +58,7 @@ asked_once_more t = record { dirties = t.dirties + 1; answers = t.answers; asks 
 abbrev pub answered_once_more : OwnerAnswer → Turns → Turns
 answered_once_more answer t = record { dirties = t.dirties; answers = t.answers + 1; asks = t.asks; last = answer }
 
--- the reference given up, where the last of Dirty and Clean is a Dirty
+-- the reference given up: the last of Dirty and Clean is no Dirty any more
 abbrev pub given_up : Turns → Turns
 given_up t = record { dirties = t.dirties; answers = t.answers; asks = false; last = t.last }
 

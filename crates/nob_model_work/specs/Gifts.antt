@@ -30,7 +30,7 @@ once (rep ∷ reps) = rep ∷ filter (λ other. not (is_same rep other)) (once r
 unfoldable pub dirty_for : WireRep → Sending
 dirty_for rep = record { to = rep.owner; item = items.Dirty rep.index }
 
--- the Dirties for the references of an item, in reading order
+-- the Dirties for references, in reading order, each reference once and only where it gets one
 unfoldable pub dirties_for : (s n : ℕ) → List Deed → List WireRep → List Sending
 dirties_for s n D reps = map dirty_for (filter (λ rep. wants_dirty s n rep D (turns s n rep D)) (once reps))
 
