@@ -1,1 +1,4 @@
 pub mod Numbered
+pub mod Arriving
+pub mod Sending
+pub mod Pinning
