@@ -26,7 +26,7 @@ use Rattle.nob_model_history.proofs.Sending.{new_items, sent_more, counted_sent,
 -- ---- filters
 
 -- two tests one after the other
-filter_and : {A : Type 0} (p q : A → Bool) (xs : List A) → filter (λ x. p x && q x) xs ≡ filter q (filter p xs)
+pub filter_and : {A : Type 0} (p q : A → Bool) (xs : List A) → filter (λ x. p x && q x) xs ≡ filter q (filter p xs)
 filter_and p q [] = refl
 filter_and p q (x ∷ xs) = one_and (p x) (q x) x (filter (λ y. p y && q y) xs) (filter p xs) q refl (filter_and p q xs)
   where
@@ -36,7 +36,7 @@ filter_and p q (x ∷ xs) = one_and (p x) (q x) x (filter (λ y. p y && q y) xs)
     one_and false b x both first q is same = same
 
 -- two tests that agree
-filter_same : {A : Type 0} (p q : A → Bool) → ((x : A) → p x ≡ q x) → (xs : List A) → filter p xs ≡ filter q xs
+pub filter_same : {A : Type 0} (p q : A → Bool) → ((x : A) → p x ≡ q x) → (xs : List A) → filter p xs ≡ filter q xs
 filter_same p q same xs = λ i. filter (λ x. same x i) xs
 
 flip_test : (a b : ℕ) → (a == b) ≡ (b == a)

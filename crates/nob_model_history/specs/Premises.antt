@@ -6,9 +6,10 @@ use Rattle.nob_item.specs.declared.item.Item.{Item}
 use Rattle.nob_item.specs.declared.item.Item.TheVariants as items
 use Rattle.nob_model_end.specs.End.{accepted}
 use Rattle.nob_model_words.specs.Sessions.{item_at}
+use Rattle.nob_model_words.specs.Objects.{exports, is_live}
 use Rattle.nob_model_words.specs.Turns.{turns, is_pending, is_granted}
 use Rattle.nob_model_words.specs.declared.deed.Deed.{Deed}
-use Rattle.nob_model_words.specs.declared.deed.Deed.TheVariants.{Arrive, Act, Clean}
+use Rattle.nob_model_words.specs.declared.deed.Deed.TheVariants.{Export, Withdraw, Arrive, Act, Clean}
 use Rattle.nob_model_history.specs.Histories.{history_of}
 use Rattle.nob_model_history.specs.Ends.{calls_at}
 use Rattle.nob_model_history.specs.Transit.{count_to, sent, is_settle_of}
@@ -41,3 +42,10 @@ TookTurns s n [] = ⊤
 TookTurns s n (Act p k ∷ D) = AnswersPending s n p (item_at p k D) D × TookTurns s n D
 TookTurns s n (Clean rep ∷ D) = (is_granted (turns s n rep D) ≡ true) × TookTurns s n D
 TookTurns s n (_ ∷ D) = TookTurns s n D
+
+-- each Export answered the next index of space s, and each Withdraw took an object that was live
+abbrev pub ObjectsInTurn : (s : ℕ) → List Deed → Type 0
+ObjectsInTurn s [] = ⊤
+ObjectsInTurn s (Export rep ∷ D) = (rep ≡ record { owner = s; index = length (exports D) + 1 }) × ObjectsInTurn s D
+ObjectsInTurn s (Withdraw index ∷ D) = (is_live s index D ≡ true) × ObjectsInTurn s D
+ObjectsInTurn s (_ ∷ D) = ObjectsInTurn s D
