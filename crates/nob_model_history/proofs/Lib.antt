@@ -5,3 +5,5 @@ pub mod Pinning
 pub mod Dirtying
 pub mod Turning
 pub mod Living
+pub mod Listed
+pub mod Surrogates
