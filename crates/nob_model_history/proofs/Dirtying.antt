@@ -177,9 +177,9 @@ rises (x ∷ xs) =
     elim (list_any (is_same x) xs) as (λ (b : Bool). list_any (is_same x) xs ≡ b → RisesIn (x ∷ xs) (cond b (once_last xs) (x ∷ once_last xs))) [
       | true ↦ λ e. rises_later x xs (once_last xs) (rises xs)
       | false ↦ λ e. (
-          all_weaker _ _ (λ other placed. subst (λ (found : Option ℕ). IsBefore found (later_place (last_place other xs) (is_same other x))) (sym (here_placed x xs e)) (first_before (last_place other xs) (is_same other x) placed)) (once_last xs) (all_placed xs),
-          rises_later x xs (once_last xs) (rises xs),
-        )
+        all_weaker _ _ (λ other placed. subst (λ (found : Option ℕ). IsBefore found (later_place (last_place other xs) (is_same other x))) (sym (here_placed x xs e)) (first_before (last_place other xs) (is_same other x) placed)) (once_last xs) (all_placed xs),
+        rises_later x xs (once_last xs) (rises xs),
+      )
     ] refl
 
 -- so they do in a history

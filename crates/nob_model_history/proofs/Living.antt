@@ -105,9 +105,9 @@ pub live_exported : (s : ℕ) (rep : WireRep) (D : List Deed) → ObjectsInTurn 
 live_exported s rep D turn =
     let fresh : is_withdrawn (length (exports D) + 1) D ≡ false = false_from_ne_true _ (λ gone. let before = withdrawn_exported s (length (exports D) + 1) D turn.1 gone in omega (arith, before)) in
     let kept : (rep.owner == s && not (is_withdrawn rep.index D)) ≡ true =
-      ap (λ (r : WireRep). r.owner == s && not (is_withdrawn r.index D)) turn.0
-      ∙ ap (λ (b : Bool). b && not (is_withdrawn (length (exports D) + 1) D)) (eq-eqb s s refl)
-      ∙ ap not fresh in
+    ap (λ (r : WireRep). r.owner == s && not (is_withdrawn r.index D)) turn.0
+    ∙ ap (λ (b : Bool). b && not (is_withdrawn (length (exports D) + 1) D)) (eq-eqb s s refl)
+    ∙ ap not fresh in
     filter-append (λ (r : WireRep). r.owner == s && not (is_withdrawn r.index D)) (exports D) (rep ∷ [])
     ∙ ap (λ (b : Bool). live s D ++ cond b (rep ∷ []) []) kept
 
@@ -119,9 +119,9 @@ live_withdrawn s x D =
 
 below : (x k : ℕ) → x ≤ suc k → (x ≡ suc k → ⊥) → x ≤ k
 below x k most differ = elim (nat_le x k) as (λ (b : Bool). nat_le x k ≡ b → x ≤ k) [
-      | true ↦ λ e. leb-true x k e
-      | false ↦ λ e. let over = leb-false x k e in absurd (differ (omega (arith, over, most)))
-    ] refl
+  | true ↦ λ e. leb-true x k e
+  | false ↦ λ e. let over = leb-false x k e in absurd (differ (omega (arith, over, most)))
+] refl
 
 -- no index up to a lesser number
 none_over : (s x count : ℕ) → count < x → filter (λ (rep : WireRep). x == rep.index) (refs_up_to s count) ≡ []
@@ -151,11 +151,11 @@ live_fewer s x D turn =
     let place = and_parts _ _ (sym (exported_are s x D turn.1) ∙ parts.0) in
     let stays : (s == s && not (is_withdrawn x D)) ≡ true = ap (λ (b : Bool). b && not (is_withdrawn x D)) (eq-eqb s s refl) ∙ parts.1 in
     let one : filter named (live s D) ≡ ref_of s x ∷ [] =
-      sym (filter_and kept named (exports D))
-      ∙ filter_same _ _ (λ rep. and_flip (kept rep) (named rep)) (exports D)
-      ∙ filter_and named kept (exports D)
-      ∙ ap (filter kept) (ap (filter named) (exports_are s D turn.1) ∙ only_one s x (length (exports D)) (leb-true 1 x place.0) (leb-true x (length (exports D)) place.1))
-      ∙ ap (λ (b : Bool). cond b (ref_of s x ∷ []) []) stays in
+    sym (filter_and kept named (exports D))
+    ∙ filter_same _ _ (λ rep. and_flip (kept rep) (named rep)) (exports D)
+    ∙ filter_and named kept (exports D)
+    ∙ ap (filter kept) (ap (filter named) (exports_are s D turn.1) ∙ only_one s x (length (exports D)) (leb-true 1 x place.0) (leb-true x (length (exports D)) place.1))
+    ∙ ap (λ (b : Bool). cond b (ref_of s x ∷ []) []) stays in
     let both = length-filter_both named (λ (rep : WireRep). not (named rep)) (λ rep. refl) (live s D) in
     let fewer = ap length (live_withdrawn s x D) in
     let single : length (filter named (live s D)) ≡ 1 = ap length one in

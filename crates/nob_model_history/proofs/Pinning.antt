@@ -95,9 +95,9 @@ pub bundles_settled : (s n p j k : ℕ) (D : List Deed) → item_at p j D ≡ So
 bundles_settled s n p j k D is =
     let test : SentItem → Bool = λ (one : SentItem). one.to == p && one.number == k in
     let each : (one : SentItem) → is_pinned (did.Act p j ∷ D) one ≡ (is_pinned D one && not (test one)) = λ one.
-      ap (λ (b : Bool). is_some_of (counted_in one.item) && not ((p == one.to && b) || is_settled one.to one.number D) && not (closed one.to D)) (ap (is_settle_of one.number) is ∙ flip_test k one.number)
-      ∙ ap (λ (b : Bool). is_some_of (counted_in one.item) && not ((b && one.number == k) || is_settled one.to one.number D) && not (closed one.to D)) (flip_test p one.to)
-      ∙ without_one (is_some_of (counted_in one.item)) (test one) (is_settled one.to one.number D) (closed one.to D) in
+    ap (λ (b : Bool). is_some_of (counted_in one.item) && not ((p == one.to && b) || is_settled one.to one.number D) && not (closed one.to D)) (ap (is_settle_of one.number) is ∙ flip_test k one.number)
+    ∙ ap (λ (b : Bool). is_some_of (counted_in one.item) && not ((b && one.number == k) || is_settled one.to one.number D) && not (closed one.to D)) (flip_test p one.to)
+    ∙ without_one (is_some_of (counted_in one.item)) (test one) (is_settled one.to one.number D) (closed one.to D) in
     bundles_more s n (did.Act p j) D
     ∙ ap (λ (more : List Gift). filter (is_pinned (did.Act p j ∷ D)) (sent (history_of s n D)) ++ filter (is_pinned (did.Act p j ∷ D)) (new_items (sent (history_of s n D)) more)) (settle_gives_nothing s n p j k D (work s n D) is)
     ∙ append-nil (filter (is_pinned (did.Act p j ∷ D)) (sent (history_of s n D)))
@@ -122,8 +122,8 @@ without_peer true false false false = refl
 pub bundles_closed : (s n p : ℕ) (reason : Reason) (cause : Cause) (D : List Deed) → bundles (history_of s n (did.Closing p reason cause ∷ D)) ≡ filter (λ (one : SentItem). not (one.to == p)) (bundles (history_of s n D))
 bundles_closed s n p reason cause D =
     let each : (one : SentItem) → is_pinned (did.Closing p reason cause ∷ D) one ≡ (is_pinned D one && not (one.to == p)) = λ one.
-      ap (λ (b : Bool). is_some_of (counted_in one.item) && not (is_settled one.to one.number D) && not (b || closed one.to D)) (flip_test p one.to)
-      ∙ without_peer (is_some_of (counted_in one.item)) (is_settled one.to one.number D) (one.to == p) (closed one.to D) in
+    ap (λ (b : Bool). is_some_of (counted_in one.item) && not (is_settled one.to one.number D) && not (b || closed one.to D)) (flip_test p one.to)
+    ∙ without_peer (is_some_of (counted_in one.item)) (is_settled one.to one.number D) (one.to == p) (closed one.to D) in
     bundles_more s n (did.Closing p reason cause) D
     ∙ ap (λ (more : List Gift). filter (is_pinned (did.Closing p reason cause ∷ D)) (sent (history_of s n D)) ++ filter (is_pinned (did.Closing p reason cause ∷ D)) (new_items (sent (history_of s n D)) more)) (closing_gives_nothing s n p reason cause D (work s n D))
     ∙ append-nil (filter (is_pinned (did.Closing p reason cause ∷ D)) (sent (history_of s n D)))
@@ -177,7 +177,7 @@ takes_pins D one = is_some_of (counted_in one.item) && not (closed one.to D)
 pub new_pins : (s n : ℕ) (D : List Deed) → SettlesSent s n D → (gifts : List Gift) → filter (is_pinned D) (new_items (sent (history_of s n D)) gifts) ≡ filter (takes_pins D) (new_items (sent (history_of s n D)) gifts)
 new_pins s n D known more =
     filter_same_on (is_pinned D) (takes_pins D) (new_items (sent (history_of s n D)) more)
-      (all_weaker _ _ (λ one above. ap (λ (b : Bool). is_some_of (counted_in one.item) && not b && not (closed one.to D)) (false_from_ne_true _ (λ settled. let before = settled_sent s n one.to one.number D known settled in omega (arith, before, above))) ∙ without_true (is_some_of (counted_in one.item)) (not (closed one.to D))) _ (new_numbers more (sent (history_of s n D))))
+    (all_weaker _ _ (λ one above. ap (λ (b : Bool). is_some_of (counted_in one.item) && not b && not (closed one.to D)) (false_from_ne_true _ (λ settled. let before = settled_sent s n one.to one.number D known settled in omega (arith, before, above))) ∙ without_true (is_some_of (counted_in one.item)) (not (closed one.to D))) _ (new_numbers more (sent (history_of s n D))))
 
 -- ---- a bundle is of an item that was sent
 
@@ -194,8 +194,8 @@ found_in P G first test found (x ∷ xs) all some = found_step P G test found x 
 pub bundle_sent : (s n p k : ℕ) (D : List Deed) → has_bundle p k (history_of s n D) ≡ true → k ≤ count_to p (sent (history_of s n D))
 bundle_sent s n p k D has =
     found_in (λ (one : SentItem). one.number ≤ count_to one.to (sent (history_of s n D))) (k ≤ count_to p (sent (history_of s n D))) (is_pinned D) (λ (one : SentItem). one.to == p && one.number == k)
-      (λ one below test.
-        let parts = and_parts (one.to == p) (one.number == k) test in
-        let there : one.number ≤ count_to p (sent (history_of s n D)) = subst (λ (q : ℕ). one.number ≤ count_to q (sent (history_of s n D))) (eqb-true one.to p parts.0) below in
-        subst (λ (m : ℕ). m ≤ count_to p (sent (history_of s n D))) (eqb-true one.number k parts.1) there)
-      (sent (history_of s n D)) (counted_sent s n D) has
+    (λ one below test.
+    let parts = and_parts (one.to == p) (one.number == k) test in
+    let there : one.number ≤ count_to p (sent (history_of s n D)) = subst (λ (q : ℕ). one.number ≤ count_to q (sent (history_of s n D))) (eqb-true one.to p parts.0) below in
+    subst (λ (m : ℕ). m ≤ count_to p (sent (history_of s n D))) (eqb-true one.number k parts.1) there)
+    (sent (history_of s n D)) (counted_sent s n D) has
