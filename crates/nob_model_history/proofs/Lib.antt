@@ -7,3 +7,4 @@ pub mod Turning
 pub mod Living
 pub mod Listed
 pub mod Surrogates
+pub mod Asking
