@@ -1,0 +1,8 @@
+//! The state of a space, in parts: what a space keeps, and for which lists of what it did that stands.
+#![tactic(auto)]
+
+mod looks;
+pub mod objects;
+mod parts;
+
+pub use parts::Parts;

@@ -1,0 +1,67 @@
+//! Looks at the state: sessions and references. None takes memory.
+
+ghost use Rattle.std.specs.Prelude.{◌≡◌};
+ghost use Rattle.nob_table.specs.Standings as standings;
+ghost use Rattle.nob_table.specs.Table.{standing};
+ghost use Rattle.nob_space_state.specs.Looks.{has_closed, has_holds, names_none, is_cut};
+
+use crate::parts::Parts;
+use nob_ids::{SpaceId, WireRep};
+use nob_table::State;
+
+impl Parts {
+    /// Whether the end with another space has closed. Constant time.
+    pub fn has_closed(&self, other: SpaceId) -> bool
+        ensures { result ≡ has_closed self.now.sessions.items other }
+    {
+        match self.sessions.get(other.get() as usize - 1) {
+            Some(session) => !session.is_open(),
+            None => false,
+        }
+    }
+
+    /// Whether anything holds a reference. Constant time on average.
+    pub fn is_held(&self, rep: &WireRep) -> bool
+        ensures { result ≡ has_holds self.now.table rep.now }
+    {
+        let standing = self.table.state(*rep);
+        let counts = standing.counts;
+        counts.is_held()
+    }
+
+    /// How often a reference is in hand. Constant time on average.
+    pub fn hand(&self, rep: &WireRep) -> u32
+        ensures { result ≡ (standing self.now.table rep.now).counts.hand }
+    {
+        let standing = self.table.state(*rep);
+        let counts = standing.counts;
+        counts.hand
+    }
+
+    /// Whether a reference names an object of this space, not the agent, that isn't live. Constant time on average.
+    pub fn is_gone(&self, me: SpaceId, rep: &WireRep) -> bool
+        ensures { result ≡ names_none me self.now.table rep.now }
+    {
+        let standing = self.table.state(*rep);
+        let live = is_live(standing.state);
+        rep.index != 0 && rep.owner == me && !live
+    }
+
+    /// Whether a reference is another space's, and the end with that has closed. Constant time.
+    pub fn is_cut(&self, me: SpaceId, rep: &WireRep) -> bool
+        ensures { result ≡ is_cut me self.now.sessions.items rep.now }
+    {
+        let closed = self.has_closed(rep.owner);
+        rep.owner != me && closed
+    }
+}
+
+// Whether it is a live object of this space.
+fn is_live(state: State) -> bool
+    ensures { result ≡ standings.is_live state }
+{
+    match state {
+        State::Live => true,
+        _ => false,
+    }
+}
