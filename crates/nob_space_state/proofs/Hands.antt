@@ -119,8 +119,14 @@ module _ {s n : ℕ} {limits : Limits} {st : State} {D : List Deed} (stands : St
   ] refl
 
 -- one more of a list
-times_more : (rep other : WireRep) (reps : List WireRep) → times other (rep ∷ reps) ≡ (if is_same rep other then times other reps + 1 else times other reps)
+pub times_more : (rep other : WireRep) (reps : List WireRep) → times other (rep ∷ reps) ≡ (if is_same rep other then times other reps + 1 else times other reps)
 times_more rep other reps = rw (same_laws.symm rep other) (elim (is_same other rep) as (λ b. length (cond b (rep ∷ filter (is_same other) reps) (filter (is_same other) reps)) ≡ (if b then times other reps + 1 else times other reps)) [ true ↦ omega arith | false ↦ refl ])
+
+-- no more is released where one more came into the hand
+pub gains_more : (rep other : WireRep) (D : List Deed) → times other (releases D) ≤ times other (gains D) → times other (releases D) ≤ times other (rep ∷ gains D)
+gains_more rep other D low =
+    let more : times other (rep ∷ gains D) ≡ (if is_same rep other then times other (gains D) + 1 else times other (gains D)) = times_more rep other (gains D) in
+    elim (is_same rep other) as (λ b. times other (rep ∷ gains D) ≡ (if b then times other (gains D) + 1 else times other (gains D)) → times other (releases D) ≤ times other (rep ∷ gains D)) [ true ↦ λ e. omega (arith, e, low) | false ↦ λ e. omega (arith, e, low) ] more
 
 -- the hand with one more that came into it
 hand_gains : (rep other : WireRep) (D : List Deed) → times other (releases D) ≤ times other (gains D) → one_more rep (λ w. hand w D) other ≡ hand other (Dup rep ∷ D)
@@ -148,9 +154,7 @@ module _ {s n : ℕ} {limits : Limits} {st : State} {D : List Deed} (stands : St
       record {
         exported = right.exported;
         once = right.once;
-        released = λ other counted. let low : times other (releases D) ≤ times other (gains D) = right.released other counted in
-          let more : times other (rep ∷ gains D) ≡ (if is_same rep other then times other (gains D) + 1 else times other (gains D)) = times_more rep other (gains D) in
-          elim (is_same rep other) as (λ b. times other (rep ∷ gains D) ≡ (if b then times other (gains D) + 1 else times other (gains D)) → times other (releases D) ≤ times other (rep ∷ gains D)) [ true ↦ λ e. omega (arith, e, low) | false ↦ λ e. omega (arith, e, low) ] more;
+        released = λ other counted. gains_more rep other D (right.released other counted);
         withdrawn = right.withdrawn;
         strangers = right.strangers;
         payloads = λ p k. right.payloads p k ∙ ap (λ calls. slice_get (accepted calls) k) (sym (quiet.calls p));
@@ -168,15 +172,15 @@ module _ {s n : ℕ} {limits : Limits} {st : State} {D : List Deed} (stands : St
         exported = right.exported;
         once = right.once;
         released = λ other counted.
-          let low : times other (releases D) ≤ times other (gains D) = right.released other counted in
-          let more : times other (rep ∷ releases D) ≡ (if is_same rep other then times other (releases D) + 1 else times other (releases D)) = times_more rep other (releases D) in
-          elim (is_same rep other) as (λ b. is_same rep other ≡ b → times other (rep ∷ releases D) ≡ (if b then times other (releases D) + 1 else times other (releases D)) → times other (rep ∷ releases D) ≤ times other (gains D)) [
-            | true ↦ λ same e.
-                let is : rep ≡ other = same_is rep other same in
-                let held : 0 < times other (gains D) - times other (releases D) = subst (λ w. 0 < hand w D) is (some (subst (λ w. is_counted w ≡ true) (sym is) counted)) in
-                omega (arith, e, low, held)
-            | false ↦ λ differs e. omega (arith, e, low)
-          ] refl more;
+            let low : times other (releases D) ≤ times other (gains D) = right.released other counted in
+            let more : times other (rep ∷ releases D) ≡ (if is_same rep other then times other (releases D) + 1 else times other (releases D)) = times_more rep other (releases D) in
+            elim (is_same rep other) as (λ b. is_same rep other ≡ b → times other (rep ∷ releases D) ≡ (if b then times other (releases D) + 1 else times other (releases D)) → times other (rep ∷ releases D) ≤ times other (gains D)) [
+              | true ↦ λ same e.
+                  let is : rep ≡ other = same_is rep other same in
+                  let held : 0 < times other (gains D) - times other (releases D) = subst (λ w. 0 < hand w D) is (some (subst (λ w. is_counted w ≡ true) (sym is) counted)) in
+                  omega (arith, e, low, held)
+              | false ↦ λ differs e. omega (arith, e, low)
+            ] refl more;
         withdrawn = right.withdrawn;
         strangers = right.strangers;
         payloads = λ p k. right.payloads p k ∙ ap (λ calls. slice_get (accepted calls) k) (sym (quiet.calls p));

@@ -105,3 +105,33 @@ release_is_quiet s n rep D = record {
   calls_made = refl;
   jobs_made = refl;
 }
+
+pub export_is_quiet : (s n : ℕ) (rep : WireRep) (D : List Deed) → IsQuiet s n (Export rep) D
+unfolding gifts work_after with_loans message_after run_after copy_after
+export_is_quiet s n rep D = record {
+  calls = λ p. refl;
+  closed = λ p. refl;
+  payloads = λ p k. refl;
+  turns = λ rep. refl;
+  listed = λ index client. refl;
+  bundles = refl;
+  dirties = refl;
+  work = loans_made s n D;
+  calls_made = refl;
+  jobs_made = refl;
+}
+
+pub withdraw_is_quiet : (s n index : ℕ) (D : List Deed) → IsQuiet s n (Withdraw index) D
+unfolding gifts work_after with_loans message_after run_after copy_after
+withdraw_is_quiet s n index D = record {
+  calls = λ p. refl;
+  closed = λ p. refl;
+  payloads = λ p k. refl;
+  turns = λ rep. refl;
+  listed = λ index client. refl;
+  bundles = refl;
+  dirties = refl;
+  work = loans_made s n D;
+  calls_made = refl;
+  jobs_made = refl;
+}

@@ -49,7 +49,7 @@ held_more Hand counts = grind (arith, nat_tests)
 held_more Lent counts = grind (arith, nat_tests)
 
 -- without holds both parts are 0
-no_holds : (counts : Counts) → is_held counts ≡ false → counts ≡ no_counts
+pub no_holds : (counts : Counts) → is_held counts ≡ false → counts ≡ no_counts
 no_holds counts free =
     let hand : counts.hand ≡ 0 = grind (arith, nat_tests, free) in
     let lent : counts.lent ≡ 0 = grind (arith, nat_tests, free) in

@@ -2,6 +2,9 @@
 use Rattle.std.specs.Prelude.{ℕ, ◌-◌, Bool, true, false, ◌&&◌, ◌==◌, not, List, slice_get, Option, Some, None, if◌then◌else◌}
 use Rattle.nob_ids.specs.Names.{is_counted}
 use Rattle.nob_ids.specs.declared.wire_rep.WireRep.{WireRep}
+use Rattle.std.specs.List.{list_any}
+use Rattle.nob_dirty.specs.declared.sets.Listing.{Listing}
+use Rattle.nob_dirty.specs.Sets.{has_index}
 use Rattle.nob_session.specs.Stands.{Roomy, is_open_end}
 use Rattle.nob_table.specs.Standings.{is_live}
 use Rattle.nob_table.specs.Table.{Table, standing}
@@ -31,3 +34,7 @@ names_none s t rep = not (rep.index == 0) && (rep.owner == s && not (is_live (st
 -- whether a reference is another space's, and the end with that has closed
 abbrev pub is_cut : ℕ → List Roomy → WireRep → Bool
 is_cut s sessions rep = not (rep.owner == s) && has_closed sessions rep.owner
+
+-- whether a client is listed at an index
+abbrev pub has_clients : List Listing → ℕ → Bool
+has_clients dirty index = list_any (has_index index) dirty

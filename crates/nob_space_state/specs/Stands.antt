@@ -1,6 +1,6 @@
 -- For which lists of what a space did its state stands: one equation for each part, by the words that are read off
 -- the whole list. The newest stands FIRST.
-use Rattle.std.specs.Prelude.{◌≡◌, ◌≤◌, ℕ, ◌+◌, Bool, true, false, ◌&&◌, ◌==◌, not, nat_le, List, ◌∷◌, length, slice_get, map, Option, Some, None, Result, Ok, Err, if◌then◌else◌}
+use Rattle.std.specs.Prelude.{◌≡◌, ◌≤◌, ℕ, ◌+◌, Bool, true, false, ◌&&◌, ◌==◌, not, nat_le, List, ◌∷◌, length, slice_get, map, Option, Some, None, Result, Ok, Err, IsOk, if◌then◌else◌}
 use Rattle.std.specs.List.{sum_by, IsDistinct}
 use Rattle.nob_ids.specs.Names.{is_counted, is_same}
 use Rattle.nob_ids.specs.declared.limits.Limits.{Limits}
@@ -33,6 +33,8 @@ use Rattle.nob_model_history.specs.Holds.{times, gains, releases, hand, lent_in}
 use Rattle.nob_model_history.specs.Transit as transit
 use Rattle.nob_model_history.specs.Listing.{is_listed}
 use Rattle.nob_model.specs.Right.{own_ref, calls_made, jobs_made}
+use Rattle.nob_space_state.specs.declared.error.SpaceError.{SpaceError}
+use Rattle.nob_space_state.specs.declared.error.SpaceError.TheVariants as errors
 use Rattle.nob_space_state.specs.Parts.{State}
 
 -- the ends stand for the calls on them: at place p - 1 the one with space p
@@ -95,6 +97,10 @@ pub record Stands (s n : ℕ) (limits : Limits) (state : State) (D : List Deed) 
   pub jobs : state.jobs ≡ jobs_made D
   pub orderly : IsOrderly s n D
 
+-- a state of space s among n: there is a list that it stands for
+abbrev pub IsState : (s n : ℕ) → State → Type 0
+IsState s n state = (limits : Limits) × (D : List Deed) × Stands s n limits state D
+
 -- new stands for every list that old stands for
 abbrev pub Keeps : (s n : ℕ) → State → State → Type 0
 Keeps s n old new = (limits : Limits) (D : List Deed) → Stands s n limits old D → Stands s n limits new D
@@ -107,3 +113,9 @@ Did s n old new deed = (limits : Limits) (D : List Deed) → Stands s n limits o
 abbrev pub Answers : {A : Type 0} → (A → Answer) → Result A Refusal → Result Answer Refusal → Type 0
 Answers answer (Ok x) right = right ≡ Ok (answer x)
 Answers answer (Err refusal) right = right ≡ Err refusal
+
+-- a result is the right one, unless memory was wanted: then nothing else refuses the event
+abbrev pub AnswersOrWants : {A : Type 0} → (A → Answer) → Result A SpaceError → Result Answer Refusal → Type 0
+AnswersOrWants answer (Ok x) right = right ≡ Ok (answer x)
+AnswersOrWants answer (Err (errors.Refused refusal)) right = right ≡ Err refusal
+AnswersOrWants answer (Err errors.OutOfMemory) right = IsOk right

@@ -1,9 +1,10 @@
 //! Looks at the state: sessions and references. None takes memory.
 
-ghost use Rattle.std.specs.Prelude.{◌≡◌};
+ghost use Rattle.std.specs.Prelude.{◌≡◌, ◌==◌, not};
 ghost use Rattle.nob_table.specs.Standings as standings;
 ghost use Rattle.nob_table.specs.Table.{standing};
-ghost use Rattle.nob_space_state.specs.Looks.{has_closed, has_holds, names_none, is_cut};
+ghost use Rattle.nob_space_state.specs.Looks.{has_closed, has_holds, names_none, is_cut, has_clients};
+ghost use Rattle.nob_pins.specs.Bundles.{count_of};
 
 use crate::parts::Parts;
 use nob_ids::{SpaceId, WireRep};
@@ -45,6 +46,20 @@ impl Parts {
         let standing = self.table.state(*rep);
         let live = is_live(standing.state);
         rep.index != 0 && rep.owner == me && !live
+    }
+
+    /// Whether a client is listed for an object of this space. Linear in the listings.
+    pub fn has_clients(&self, index: u64) -> bool
+        ensures { result ≡ has_clients self.now.dirty index }
+    {
+        !self.dirty.is_empty(index)
+    }
+
+    /// Whether a reference is in transit from here. Linear in the pins.
+    pub fn is_pinned(&self, rep: &WireRep) -> bool
+        ensures { result ≡ not (count_of self.now.pins.bundles rep.now == 0) }
+    {
+        self.pins.count(*rep) != 0
     }
 
     /// Whether a reference is another space's, and the end with that has closed. Constant time.
