@@ -85,14 +85,17 @@ new_dirties s n item h = dirties_for s n h.deeds (counted_in item)
 unfoldable pub is_too_much : (s n : ℕ) → Item → History → Bool
 is_too_much s n item h = nat_le most_messages (messages h.work) || nat_lt most_surrogates (length (surrogates s n h) + length (new_dirties s n item h))
 
+-- whether the peer of a gift has free numbers for all among some gifts that go to it
+abbrev pub has_numbers_among : List Gift → History → Gift → Bool
+has_numbers_among gifts h gift = has_numbers gift.to (length (items_to gift.to gifts)) h
+
 -- whether each peer among some gifts has free numbers for those to it
-abbrev pub all_have_numbers : List Gift → List Gift → History → Bool
-all_have_numbers gifts [] h = true
-all_have_numbers gifts (gift ∷ rest) h = has_numbers gift.to (length (items_to gift.to gifts)) h && all_have_numbers gifts rest h
+abbrev pub all_have_numbers : List Gift → History → Bool
+all_have_numbers gifts h = list_all (has_numbers_among gifts h) gifts
 
 -- why a Call or a Reply without a fault stays in the inbox: a limit, then free numbers
 unfoldable pub message_refusal : (s n : ℕ) → Item → History → Option Refusal
-message_refusal s n item h = if is_too_much s n item h then Some refusals.Limit else if not (all_have_numbers (new_dirties s n item h) (new_dirties s n item h) h) then Some refusals.SeqEnd else None
+message_refusal s n item h = if is_too_much s n item h then Some refusals.Limit else if not (all_have_numbers (new_dirties s n item h) h) then Some refusals.SeqEnd else None
 
 -- why an item from p without a fault stays in the inbox
 unfoldable pub act_refusal : (s n p : ℕ) → Item → History → Option Refusal

@@ -50,6 +50,7 @@ use Rattle.nob_model_history.specs.Transit.{pins, first_idle}
 use Rattle.nob_model_history.specs.Listing.{is_any_listed}
 use Rattle.nob_model.specs.Sending.{◌or_else◌, refuse_if, is_own_and_not_live, value_refused, send_refused, has_numbers, unless}
 use Rattle.nob_model.specs.Acting.{act_on}
+use Rattle.nob_model.specs.Candidates.{to_settle, to_clean, to_claim}
 
 -- so many live objects and no more
 abbrev pub most_objects : ℕ
@@ -137,20 +138,6 @@ jobs_made [] = 0
 jobs_made (Claim job ∷ D) = jobs_made D + 1
 jobs_made (_ ∷ D) = jobs_made D
 
--- the index that an item calls
-abbrev pub target_of : Item → ℕ
-target_of (items.Call call target method value) = target
-target_of (items.Reply call status value) = 0
-target_of (items.Settle item) = 0
-target_of (items.Dirty index) = 0
-target_of (items.DirtyOk index) = 0
-target_of (items.DirtyNo index) = 0
-target_of (items.Clean index) = 0
-
--- whether no job that runs has the target of a message
-abbrev pub is_free : InHand → Message → Bool
-is_free W message = not (list_any (λ run. target_of run.message.item == target_of message.item) W.running)
-
 -- the job of this number that an item from p is
 unfoldable pub job_of : (j p : ℕ) → Item → Result Answer Refusal
 job_of j p (items.Call call target method value) = Ok (answers.Job (record { job = j; client = p; call = call; target = target; method = method; value = value }))
@@ -168,7 +155,7 @@ claim_of made (Some message) = if nat_le last_number made then Err refusals.Limi
 
 -- Claim: the first ready job whose target isn't running
 unfoldable pub right_claim : History → Result Answer Refusal
-right_claim h = claim_of (jobs_made h.deeds) (find (is_free h.work) h.work.ready)
+right_claim h = claim_of (jobs_made h.deeds) (to_claim h)
 
 -- what is answered to the end of a job, if it runs
 unfoldable pub finish_of : ℕ → Outcome → Option Run → History → Result Answer Refusal
@@ -188,10 +175,6 @@ act_of s n p (Some front) h = act_on s n p front.0 (item_spelt front.1) h
 unfoldable pub right_act : (s n p : ℕ) → History → Result Answer Refusal
 right_act s n p h = if not (is_peer s n p) then Err refusals.NoPeer else if closed p h.deeds then Err refusals.Closed else act_of s n p (right_front (calls_at p h)) h
 
--- whether all references of a message are resolved
-abbrev pub is_all_resolved : (s n : ℕ) → History → Message → Bool
-is_all_resolved s n h message = list_all (λ copy. is_resolved s n copy.rep h.deeds) message.copies
-
 -- how many items settling a message gives: the Reply to a lost Call too
 abbrev pub settle_count : (s n : ℕ) → Message → Item → History → ℕ
 settle_count s n message (items.Call call target method value) h = if is_lost_message s n h.deeds message then 2 else 1
@@ -209,7 +192,7 @@ settle_of s n (Some message) h = if has_numbers message.from (settle_count s n m
 
 -- Settle: the first message, in order of acting, whose references are all resolved
 unfoldable pub right_settle : (s n : ℕ) → History → Result Answer Refusal
-right_settle s n h = settle_of s n (find (is_all_resolved s n h) h.work.waiting) h
+right_settle s n h = settle_of s n (to_settle s n h) h
 
 -- what is answered where this is the reference to clean, if there is one
 unfoldable pub clean_of : Option WireRep → History → Result Answer Refusal
@@ -218,15 +201,19 @@ clean_of (Some rep) h = if has_numbers rep.owner 1 h then Ok (answers.Cleaned re
 
 -- Clean: the first surrogate that can be given up
 unfoldable pub right_clean : (s n : ℕ) → History → Result Answer Refusal
-right_clean s n h = clean_of (first_idle s n h) h
+right_clean s n h = clean_of (to_clean s n h) h
 
 -- the reference to an own object
 abbrev pub own_ref : (s index : ℕ) → WireRep
 own_ref s index = record { owner = s; index = index }
 
+-- why an object isn't withdrawn: it is the agent, isn't live, has holds or pins, or somebody is listed for it
+unfoldable pub withdraw_refused : (s index : ℕ) → History → Option Refusal
+withdraw_refused s index h = refuse_if (index == 0) (refusals.StillUsed uses.Agent) or_else refuse_if (not (is_live s index h.deeds)) refusals.NoObject or_else refuse_if (is_held s (own_ref s index) h) (refusals.StillUsed uses.Held) or_else refuse_if (not (pins (own_ref s index) h == 0)) (refusals.StillUsed uses.InTransit) or_else refuse_if (is_any_listed s index h.deeds) (refusals.StillUsed uses.Listed)
+
 -- Withdraw: exactly if it isn't the agent, is live, has no holds, no pins, and nobody is listed
 unfoldable pub right_withdraw : (s index : ℕ) → History → Result Answer Refusal
-right_withdraw s index h = unless (refuse_if (index == 0) (refusals.StillUsed uses.Agent) or_else refuse_if (not (is_live s index h.deeds)) refusals.NoObject or_else refuse_if (is_held s (own_ref s index) h) (refusals.StillUsed uses.Held) or_else refuse_if (not (pins (own_ref s index) h == 0)) (refusals.StillUsed uses.InTransit) or_else refuse_if (is_any_listed s index h.deeds) (refusals.StillUsed uses.Listed)) answers.Withdrawn
+right_withdraw s index h = unless (withdraw_refused s index h) answers.Withdrawn
 
 -- Transmit: the frames that the end with a peer gives
 unfoldable pub right_frames : (s n p window : ℕ) → History → Result Answer Refusal
@@ -252,9 +239,14 @@ tick_of (Err refusal) = Err refusals.Closed
 unfoldable pub right_ticks : (s n p retry : ℕ) → History → Result Answer Refusal
 right_ticks s n p retry h = if not (is_peer s n p) then Err refusals.NoPeer else tick_of (right_tick p retry (calls_at p h))
 
+-- what a close did, as the space's answer
+abbrev pub closing_of : Result Ending EndRefusal → Result Answer Refusal
+closing_of (Ok ending) = Ok (answers.Closed ending.reason)
+closing_of (Err refusal) = Err refusals.Closed
+
 -- Close: the session with a peer closes because it was asked to
 unfoldable pub right_closing : (s n p : ℕ) → History → Result Answer Refusal
-right_closing s n p h = if not (is_peer s n p) then Err refusals.NoPeer else if closed p h.deeds then Err refusals.Closed else Ok (answers.Closed Asked)
+right_closing s n p h = if not (is_peer s n p) then Err refusals.NoPeer else closing_of (right_close p Asked (calls_at p h))
 
 -- the one right answer of space s among n, with these limits, after a history
 unfoldable pub right_after : (s n : ℕ) → Limits → History → Event → Result Answer Refusal

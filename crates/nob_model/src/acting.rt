@@ -1,7 +1,7 @@
 //! Acting on an item: its faults, which close the session, and then what keeps it in the inbox.
 
 ghost use Rattle.std.specs.Prelude.{◌≡◌, ◌≤◌, ◌&&◌, ◌==◌, not, IfOk, length};
-ghost use Rattle.std.specs.List.{list_any};
+ghost use Rattle.std.specs.List.{list_any, list_all};
 ghost use Rattle.nob_model_history.specs.Ends.{items_to};
 ghost use Rattle.nob_model_words.specs.Objects.{is_live};
 ghost use Rattle.nob_model.specs.Sending.{is_own_and_not_live as is_not_live};
@@ -246,14 +246,14 @@ fn count_to(peer: SpaceId, gifts: &[Gift]) -> usize
     }
 }
 
-// Whether each peer among some gifts has free numbers for those to it.
+// Whether each peer among some of these gifts has free numbers for all of them that go to it.
 fn all_have_numbers(
     alloc: Global,
     gifts: &[Gift],
     rest: &[Gift],
     history: &History,
 ) -> Result<bool, AllocError>
-    ensures { IfOk result (λ answer. answer ≡ words.all_have_numbers gifts.now rest.now history.now) }
+    ensures { IfOk result (λ answer. answer ≡ list_all (words.has_numbers_among gifts.now history.now) rest.now) }
 {
     match rest {
         [] => Ok(true),

@@ -4,6 +4,8 @@
 #![tactic(auto)]
 
 pub mod acting;
+pub mod candidates;
+pub mod next;
 pub mod right;
 pub mod sending;
 

@@ -10,11 +10,11 @@ ghost use Rattle.nob_model_history.specs.Holds.{times as times_word, hand as han
 ghost use Rattle.nob_model.specs.Sending.{value_refused as value_refused_word};
 ghost use Rattle.nob_model_end.specs.Texts.{texts};
 ghost use Rattle.nob_model_end.specs.Right.{right_front, first_of};
-ghost use Rattle.nob_model_words.specs.Turns.{is_resolved as is_resolved_word};
 ghost use Rattle.nob_model_history.specs.Ends.{calls_at as calls_word};
 ghost use Rattle.nob_model.specs.Right as words;
 
 use crate::acting::act_on;
+use crate::candidates::{to_claim, to_settle};
 use crate::sending::{counted, has_numbers, is_own_and_not_live, send_refused, value_refused};
 use nob_frame::Frame;
 use nob_ids::{CallNo, ItemNo, JobNo, Limits, Reason, SpaceId, WireRep};
@@ -289,46 +289,6 @@ fn jobs_made(deeds: &[Deed]) -> usize
     }
 }
 
-// The index that an item calls.
-fn target_of(item: &Item) -> u64
-    ensures { result ≡ words.target_of item.now }
-{
-    match item {
-        Item::Call { target, .. } => *target,
-        _ => 0,
-    }
-}
-
-// Whether one of these jobs has a target.
-fn is_running(target: u64, runs: &[Run]) -> bool
-    ensures { result ≡ list_any (λ run. words.target_of run.message.item == target) runs.now }
-{
-    runs.iter()
-        .any(|run| target_of(&run.message.item) == target)
-}
-
-// Whether no job that runs has the target of a message.
-fn is_free(work: &InHand, message: &Message) -> bool
-    ensures { result ≡ words.is_free work.now message.now }
-{
-    !is_running(target_of(&message.item), work.running.as_slice())
-}
-
-// The first of some messages whose target isn't running.
-fn find_free<'a>(work: &InHand, messages: &'a [Message]) -> Option<&'a Message>
-    ensures { option_map (λ message. message.now) result ≡ find (words.is_free work.now) messages.now }
-{
-    match messages {
-        [] => None,
-        [message, others @ ..] => {
-            if is_free(work, message) {
-                return Some(message);
-            }
-            find_free(work, others)
-        }
-    }
-}
-
 // The job of a number that an item is.
 #[tactic(auto, unfolding(crate::specs::Right::job_of))]
 fn job_of(job: JobNo, client: SpaceId, item: &Item) -> Answered
@@ -372,7 +332,7 @@ pub fn claim(history: &History) -> Answered
     ensures { IfOk result (λ answer. answer ≡ words.right_claim history.now) }
 {
     let made = jobs_made(history.deeds.as_slice());
-    match find_free(&history.work, history.work.ready.as_slice()) {
+    match to_claim(history) {
         Some(message) => claim_of(made, message),
         None => Ok(Err(Refusal::Nothing)),
     }
@@ -508,81 +468,6 @@ pub fn act(alloc: Global, here: &Here, peer: SpaceId, history: &History) -> Answ
     act_on_front(alloc, here, peer, history)
 }
 
-// Whether a reference is resolved.
-fn is_resolved(
-    alloc: Global,
-    here: &Here,
-    deeds: &[Deed],
-    rep: &WireRep,
-) -> Result<bool, AllocError>
-    ensures { IfOk result (λ resolved. resolved ≡ is_resolved_word here.now.space here.now.n rep.now deeds.now) }
-{
-    if rep.owner == here.space {
-        return Ok(true);
-    }
-    if turns::is_usable(alloc, *here, *rep, deeds)? {
-        return Ok(true);
-    }
-    turns::is_lost(alloc, *here, *rep, deeds)
-}
-
-// Whether the references of all these copies are resolved.
-fn is_all_resolved(
-    alloc: Global,
-    here: &Here,
-    deeds: &[Deed],
-    copies: &[RefCopy],
-) -> Result<bool, AllocError>
-    ensures { IfOk result (λ resolved. resolved ≡ list_all (λ copy. is_resolved_word here.now.space here.now.n copy.rep deeds.now) copies.now) }
-{
-    match copies {
-        [] => Ok(true),
-        [copy, others @ ..] => {
-            if !is_resolved(alloc, here, deeds, &copy.rep)? {
-                return Ok(false);
-            }
-            is_all_resolved(alloc, here, deeds, others)
-        }
-    }
-}
-
-// Whether the references of a message are all resolved.
-fn is_ready(
-    alloc: Global,
-    here: &Here,
-    history: &History,
-    message: &Message,
-) -> Result<bool, AllocError>
-    ensures { IfOk result (λ ready. ready ≡ words.is_all_resolved here.now.space here.now.n history.now message.now) }
-{
-    is_all_resolved(
-        alloc,
-        here,
-        history.deeds.as_slice(),
-        message.copies.as_slice(),
-    )
-}
-
-// The first of some messages whose references are all resolved.
-fn find_resolved<'a>(
-    alloc: Global,
-    here: &Here,
-    history: &History,
-    messages: &'a [Message],
-) -> Result<Option<&'a Message>, AllocError>
-    ensures { IfOk result (λ found. option_map (λ message. message.now) found ≡ find (words.is_all_resolved here.now.space here.now.n history.now) messages.now) }
-{
-    match messages {
-        [] => Ok(None),
-        [message, others @ ..] => {
-            if is_ready(alloc, here, history, message)? {
-                return Ok(Some(message));
-            }
-            find_resolved(alloc, here, history, others)
-        }
-    }
-}
-
 // How many items settling a message gives.
 fn settle_count(
     alloc: Global,
@@ -621,7 +506,7 @@ fn settle_of(alloc: Global, here: &Here, message: &Message, history: &History) -
 pub fn settle(alloc: Global, here: &Here, history: &History) -> Answered
     ensures { IfOk result (λ answer. answer ≡ words.right_settle here.now.space here.now.n history.now) }
 {
-    match find_resolved(alloc, here, history, history.work.waiting.as_slice())? {
+    match to_settle(alloc, here, history)? {
         Some(message) => settle_of(alloc, here, message, history),
         None => Ok(Err(Refusal::Nothing)),
     }
@@ -643,29 +528,45 @@ pub fn clean(alloc: Global, here: &Here, history: &History) -> Answered
     }
 }
 
+/// Why the object of an index isn't withdrawn.
+#[tactic(auto, unfolding(crate::specs::Right::withdraw_refused))]
+pub fn withdraw_refused(
+    alloc: Global,
+    space: SpaceId,
+    index: u64,
+    history: &History,
+) -> Result<Option<Refusal>, AllocError>
+    ensures { IfOk result (λ refused. refused ≡ words.withdraw_refused space index history.now) }
+{
+    if index == 0 {
+        return Ok(Some(Refusal::StillUsed(Use::Agent)));
+    }
+    let owner = space;
+    let rep = WireRep { owner, index };
+    if !objects::is_live(alloc, space, index, history.deeds.as_slice())? {
+        return Ok(Some(Refusal::NoObject));
+    }
+    if is_held(alloc, space, &rep, history)? {
+        return Ok(Some(Refusal::StillUsed(Use::Held)));
+    }
+    if pins(alloc, &rep, history)? != 0 {
+        return Ok(Some(Refusal::StillUsed(Use::InTransit)));
+    }
+    if is_any_listed(alloc, space, index, history.deeds.as_slice())? {
+        return Ok(Some(Refusal::StillUsed(Use::Listed)));
+    }
+    Ok(None)
+}
+
 /// What is answered to Withdraw of the object of an index.
 #[tactic(auto, unfolding(crate::specs::Right::right_withdraw))]
 pub fn withdraw(alloc: Global, space: SpaceId, index: u64, history: &History) -> Answered
     ensures { IfOk result (λ answer. answer ≡ words.right_withdraw space index history.now) }
 {
-    if index == 0 {
-        return Ok(Err(Refusal::StillUsed(Use::Agent)));
+    match withdraw_refused(alloc, space, index, history)? {
+        Some(refusal) => Ok(Err(refusal)),
+        None => Ok(Ok(Answer::Withdrawn)),
     }
-    let owner = space;
-    let rep = WireRep { owner, index };
-    if !objects::is_live(alloc, space, index, history.deeds.as_slice())? {
-        return Ok(Err(Refusal::NoObject));
-    }
-    if is_held(alloc, space, &rep, history)? {
-        return Ok(Err(Refusal::StillUsed(Use::Held)));
-    }
-    if pins(alloc, &rep, history)? != 0 {
-        return Ok(Err(Refusal::StillUsed(Use::InTransit)));
-    }
-    if is_any_listed(alloc, space, index, history.deeds.as_slice())? {
-        return Ok(Err(Refusal::StillUsed(Use::Listed)));
-    }
-    Ok(Ok(Answer::Withdrawn))
 }
 
 /// What is answered to Transmit to a peer: the frames that the end with it gives.
@@ -734,18 +635,26 @@ pub fn tick(alloc: Global, here: &Here, peer: SpaceId, retry: u64, history: &His
     Ok(tick_of(end::tick(peer, retry, calls.as_slice())))
 }
 
+// What a close did, as the space's answer.
+fn closing_of(closing: Result<Ending, EndRefusal>) -> Result<Answer, Refusal>
+    ensures { result ≡ words.closing_of closing }
+{
+    match closing {
+        Ok(ending) => Ok(Answer::Closed(ending.reason)),
+        Err(_) => Err(Refusal::Closed),
+    }
+}
+
 /// What is answered to Close of the session with a peer.
 #[tactic(auto, unfolding(crate::specs::Right::right_closing))]
-pub fn close(here: &Here, peer: SpaceId, history: &History) -> Result<Answer, Refusal>
-    ensures { result ≡ words.right_closing here.now.space here.now.n peer history.now }
+pub fn close(alloc: Global, here: &Here, peer: SpaceId, history: &History) -> Answered
+    ensures { IfOk result (λ answer. answer ≡ words.right_closing here.now.space here.now.n peer history.now) }
 {
     if !here.is_peer(peer) {
-        return Err(Refusal::NoPeer);
+        return Ok(Err(Refusal::NoPeer));
     }
-    if sessions::closed(peer, history.deeds.as_slice()) {
-        return Err(Refusal::Closed);
-    }
-    Ok(Answer::Closed(Reason::Asked))
+    let calls = calls_at(alloc, peer, history)?;
+    Ok(closing_of(end::close(peer, Reason::Asked, calls.as_slice())))
 }
 
 /// The one right answer to an event after a history.
@@ -774,7 +683,7 @@ pub fn after(
         Event::Transmit(peer) => transmit(alloc, here, *peer, limits.window, history),
         Event::Arrive(frame) => arrive(alloc, here, frame, history),
         Event::Tick(peer) => tick(alloc, here, *peer, limits.retry, history),
-        Event::Close(peer) => Ok(close(here, *peer, history)),
+        Event::Close(peer) => close(alloc, here, *peer, history),
     }
 }
 

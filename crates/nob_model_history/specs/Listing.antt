@@ -1,5 +1,6 @@
 -- Who is listed for an object.
 use Rattle.std.specs.Prelude.{ℕ, Bool, true, false, ◌&&◌, ◌||◌, ◌==◌, not, List, [], ◌∷◌, Option, Some, None, if◌then◌else◌}
+use Rattle.std.specs.List.{list_any}
 use Rattle.nob_item.specs.declared.item.Item.{Item}
 use Rattle.nob_item.specs.declared.item.Item.TheVariants as items
 use Rattle.nob_model_words.specs.declared.deed.Deed.{Deed}
@@ -28,12 +29,11 @@ is_entered s index c (_ ∷ D) = is_entered s index c D
 abbrev pub is_listed : (s index c : ℕ) → List Deed → Bool
 is_listed s index c D = not (closed c D) && is_entered s index c D
 
--- whether one of the spaces whose items these deeds acted on is listed for an index, by all deeds
-abbrev pub is_any_of_listed : (s index : ℕ) → List Deed → List Deed → Bool
-is_any_of_listed s index D [] = false
-is_any_of_listed s index D (Act p k ∷ E) = is_listed s index p D || is_any_of_listed s index D E
-is_any_of_listed s index D (_ ∷ E) = is_any_of_listed s index D E
+-- whether a deed acts on an item from a client that is listed for an index
+abbrev pub is_of_listed : (s index : ℕ) → List Deed → Deed → Bool
+is_of_listed s index D (Act p k) = is_listed s index p D
+is_of_listed s index D (_) = false
 
--- whether anybody is listed for an index
+-- whether anybody is listed for an index: nobody is whose items weren't acted on
 abbrev pub is_any_listed : (s index : ℕ) → List Deed → Bool
-is_any_listed s index D = is_any_of_listed s index D D
+is_any_listed s index D = list_any (is_of_listed s index D) D

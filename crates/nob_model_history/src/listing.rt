@@ -1,6 +1,7 @@
 //! Who is listed for an object.
 
 ghost use Rattle.std.specs.Prelude.{◌≡◌, IfOk, Some};
+ghost use Rattle.std.specs.List.{list_any};
 ghost use Rattle.nob_model_words.specs.Sessions.{item_at};
 ghost use Rattle.nob_model_history.specs.Listing as words;
 
@@ -77,7 +78,7 @@ pub fn is_listed(
     is_entered(alloc, space, index, client, deeds)
 }
 
-// Whether one of the spaces whose items these deeds acted on is listed, by all deeds.
+// Whether one of these deeds acts on an item from a client that is listed for an index.
 fn is_any_of_listed(
     alloc: Global,
     space: SpaceId,
@@ -85,7 +86,7 @@ fn is_any_of_listed(
     all: &[Deed],
     deeds: &[Deed],
 ) -> Result<bool, AllocError>
-    ensures { IfOk result (λ listed. listed ≡ words.is_any_of_listed space index all.now deeds.now) }
+    ensures { IfOk result (λ listed. listed ≡ list_any (words.is_of_listed space index all.now) deeds.now) }
 {
     match deeds {
         [] => Ok(false),

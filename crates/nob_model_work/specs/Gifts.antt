@@ -91,14 +91,18 @@ unfoldable pub gifts_of_finish : Outcome → Option Run → List Gift
 gifts_of_finish outcome None = []
 gifts_of_finish outcome (Some run) = reply_to run.message.from run.message.item outcome
 
--- what a deed of space s among n gives to the peers, in order, by what was done and was in hand before: one list over all peers
+-- what a deed of space s among n gives, in order, by what was done and was in hand before, whoever it goes to
+unfoldable pub gifts_of : (s n : ℕ) → Deed → List Deed → InHand → List Gift
+gifts_of s n (Call target method value call) D W = record { to = target.owner; item = items.Call call target.index method value } ∷ []
+gifts_of s n (Finish job outcome) D W = gifts_of_finish outcome (find (is_run job) W.running)
+gifts_of s n (Act p k) D W = gifts_of_act s n p D (item_at p k D)
+gifts_of s n (Settle p k) D W = gifts_of_settle s n p k D (find (is_of p k) W.waiting)
+gifts_of s n (Clean rep) D W = if (turns s n rep D).asks then record { to = rep.owner; item = items.Clean rep.index } ∷ [] else []
+gifts_of s n (_) D W = []
+
+-- what a deed gives to the peers of space s among n, in order: one list over all peers, and nothing for anybody else
 unfoldable pub gifts : (s n : ℕ) → Deed → List Deed → InHand → List Gift
-gifts s n (Call target method value call) D W = if is_peer s n target.owner then record { to = target.owner; item = items.Call call target.index method value } ∷ [] else []
-gifts s n (Finish job outcome) D W = gifts_of_finish outcome (find (is_run job) W.running)
-gifts s n (Act p k) D W = gifts_of_act s n p D (item_at p k D)
-gifts s n (Settle p k) D W = gifts_of_settle s n p k D (find (is_of p k) W.waiting)
-gifts s n (Clean rep) D W = if (turns s n rep D).asks then record { to = rep.owner; item = items.Clean rep.index } ∷ [] else []
-gifts s n (_) D W = []
+gifts s n deed D W = filter (λ gift. is_peer s n gift.to) (gifts_of s n deed D W)
 
 -- what each deed gave, the newest first
 abbrev pub all_gifts : (s n : ℕ) → List Deed → List (List Gift)

@@ -84,10 +84,10 @@ after_message message (items.DirtyOk index) work = work
 after_message message (items.DirtyNo index) work = work
 after_message message (items.Clean index) work = work
 
--- after Act on item k from p
+-- after Act on item k from p, if it can be read: a reference is lost from the start if it is lost once the item is acted on
 unfoldable pub after_act : (s n p k : ℕ) → List Deed → Option Item → InHand → InHand
 after_act s n p k D None work = work
-after_act s n p k D (Some item) work = after_message (new_message s n p k item D) item work
+after_act s n p k D (Some item) work = after_message (new_message s n p k item (Act p k ∷ D)) item work
 
 -- the Reply that stands for one with a lost reference: status 3 with unit, and nothing is lent by it
 abbrev pub lost_reply : Message → ℕ → Message
@@ -107,9 +107,9 @@ after_settlement message (items.Clean index) lost work = work
 abbrev pub without_waiting : (p k : ℕ) → InHand → InHand
 without_waiting p k work = record { waiting = without_first (is_of p k) work.waiting; ready = work.ready; running = work.running; replies = work.replies; calls = work.calls }
 
--- after Settle of a message, if there is one that waits: where there is none, nothing is taken out
+-- after Settle of a message, if there is one that waits
 unfoldable pub after_settle : (s n p k : ℕ) → List Deed → Option Message → InHand → InHand
-after_settle s n p k D None work = without_waiting p k work
+after_settle s n p k D None work = work
 after_settle s n p k D (Some message) work = after_settlement message message.item (is_lost_message s n D message) (without_waiting p k work)
 
 -- without the first ready job that has the contents of one
@@ -120,9 +120,9 @@ without_ready job work = record { waiting = work.waiting; ready = without_first 
 abbrev pub start : ℕ → Message → InHand → InHand
 start j message work = record { waiting = work.waiting; ready = work.ready; running = record { job = j; message = message } ∷ work.running; replies = work.replies; calls = work.calls }
 
--- after Claim of a job, if a ready one has its contents: where none has, nothing is taken out
+-- after Claim of a job, if a ready one has its contents
 unfoldable pub after_claim : Job → Option Message → InHand → InHand
-after_claim job None work = without_ready job work
+after_claim job None work = work
 after_claim job (Some message) work = start job.job message (without_ready job work)
 
 -- after the end of a job: none of its number runs

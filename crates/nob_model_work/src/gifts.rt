@@ -384,27 +384,59 @@ fn of_clean(
 // What a call gives.
 fn of_call(
     alloc: Global,
-    here: Here,
     target: WireRep,
     call: CallNo,
     method: u16,
     value: &Value,
 ) -> Result<Vec<Gift>, AllocError>
-    ensures { IfOk result (λ gifts. gifts.items ≡ (if is_peer here.space here.n target.owner then record { to = target.owner; item = items.Call call target.index method value.now } ∷ [] else [])) }
+    ensures { IfOk result (λ gifts. gifts.items ≡ record { to = target.owner; item = items.Call call target.index method value.now } ∷ []) }
 {
-    if here.is_peer(target.owner) {
-        let value = value.copy()?;
-        let to = target.owner;
-        let target = target.index;
-        let item = Item::Call {
-            call,
+    let value = value.copy()?;
+    let to = target.owner;
+    let target = target.index;
+    let item = Item::Call {
+        call,
+        target,
+        method,
+        value,
+    };
+    lone(alloc, to, item)
+}
+
+// What a deed gives, in order, whoever it goes to.
+#[tactic(auto, unfolding(crate::specs::Gifts::gifts_of))]
+fn gifts_of(
+    alloc: Global,
+    here: &Here,
+    deed: &Deed,
+    deeds: &[Deed],
+    work: &InHand,
+) -> Result<Vec<Gift>, AllocError>
+    ensures { IfOk result (λ gifts. gifts.items ≡ words.gifts_of here.now.space here.now.n deed.now deeds.now work.now) }
+{
+    match deed {
+        Deed::Call {
             target,
             method,
             value,
-        };
-        return lone(alloc, to, item);
+            call,
+        } => of_call(alloc, *target, *call, *method, value),
+        Deed::Finish(job, outcome) => of_finish(alloc, *job, outcome, work.running.as_slice()),
+        Deed::Act(peer, number) => of_act(alloc, here, *peer, *number, deeds),
+        Deed::Settle(peer, number) => {
+            of_settle(alloc, here, *peer, *number, deeds, work.waiting.as_slice())
+        }
+        Deed::Clean(rep) => of_clean(alloc, here, deeds, rep),
+        _ => Ok(Vec::new(alloc)),
     }
-    Ok(Vec::new(alloc))
+}
+
+// Those of some gifts that go to peers.
+fn to_peers(here: Here, mut gifts: Vec<Gift>) -> Vec<Gift>
+    ensures { result.items ≡ filter (λ gift. is_peer here.space here.n gift.to) gifts.items }
+{
+    gifts.retain(|gift| here.is_peer(gift.to));
+    gifts
 }
 
 /// What a deed gives to the peers, in order, by what was done and was in hand before.
@@ -418,21 +450,8 @@ pub fn gifts(
 ) -> Result<Vec<Gift>, AllocError>
     ensures { IfOk result (λ gifts. gifts.items ≡ words.gifts here.now.space here.now.n deed.now deeds.now work.now) }
 {
-    match deed {
-        Deed::Call {
-            target,
-            method,
-            value,
-            call,
-        } => of_call(alloc, *here, *target, *call, *method, value),
-        Deed::Finish(job, outcome) => of_finish(alloc, *job, outcome, work.running.as_slice()),
-        Deed::Act(peer, number) => of_act(alloc, here, *peer, *number, deeds),
-        Deed::Settle(peer, number) => {
-            of_settle(alloc, here, *peer, *number, deeds, work.waiting.as_slice())
-        }
-        Deed::Clean(rep) => of_clean(alloc, here, deeds, rep),
-        _ => Ok(Vec::new(alloc)),
-    }
+    let all = gifts_of(alloc, here, deed, deeds, work)?;
+    Ok(to_peers(*here, all))
 }
 
 /// What a space has in hand, and what each of its deeds gave, the newest first.

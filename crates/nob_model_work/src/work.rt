@@ -2,6 +2,7 @@
 
 ghost use Rattle.std.specs.Prelude.{◌≡◌, [], ◌∷◌, ◌++◌, not, IfOk, Some, None, map, filter, find, if◌then◌else◌};
 ghost use Rattle.std.specs.List.{list_any};
+ghost use Rattle.nob_model_words.specs.declared.deed.Deed.TheVariants as did;
 ghost use Rattle.nob_model_words.specs.Sessions.{item_at};
 ghost use Rattle.nob_model_words.specs.Messages as message_words;
 ghost use Rattle.nob_model_work.specs.Work as words;
@@ -351,12 +352,14 @@ fn after_act(
     here: Here,
     peer: SpaceId,
     number: ItemNo,
+    older: &[Deed],
     deeds: &[Deed],
     work: InHand,
 ) -> Result<InHand, AllocError>
-    ensures { IfOk result (λ after. after ≡ words.after_act here.space here.n peer number deeds.now (item_at peer number deeds.now) work) }
+    requires { deeds.now ≡ did.Act peer number ∷ older.now }
+    ensures { IfOk result (λ after. after ≡ words.after_act here.space here.n peer number older.now (item_at peer number older.now) work) }
 {
-    match sessions::item_at(alloc, peer, number, deeds)? {
+    match sessions::item_at(alloc, peer, number, older)? {
         None => Ok(work),
         Some(item) => {
             let message = new_message(alloc, here, peer, number, item, deeds)?;
@@ -450,7 +453,7 @@ fn take_job(
 }
 
 // What is in hand after Settle of the message that came from a peer in an item of this number.
-#[tactic(auto, unfolding(crate::specs::Work::after_settle))]
+#[tactic(auto, unfolding(crate::specs::Work::after_settle), using(crate::proofs::Firsts::none_taken))]
 fn after_settle(
     alloc: Global,
     here: Here,
@@ -510,7 +513,7 @@ fn start(job: JobNo, message: Message, work: InHand) -> Result<InHand, AllocErro
 }
 
 // What is in hand after Claim of a job.
-#[tactic(auto, unfolding(crate::specs::Work::after_claim))]
+#[tactic(auto, unfolding(crate::specs::Work::after_claim), using(crate::proofs::Firsts::none_taken))]
 fn after_claim(job: &Job, work: InHand) -> Result<InHand, AllocError>
     ensures { IfOk result (λ after. after ≡ words.after_claim job.now (find (message_words.is_job job.now) work.ready) work) }
 {
@@ -730,16 +733,18 @@ fn after_close(alloc: Global, peer: SpaceId, work: InHand) -> Result<InHand, All
     })
 }
 
-// What is in hand after a deed, the loans aside.
+// What is in hand after a deed, the first of these, the loans aside.
 #[tactic(auto, unfolding(crate::specs::Work::work_after))]
 fn work_after(
     alloc: Global,
     here: Here,
     deed: &Deed,
+    older: &[Deed],
     deeds: &[Deed],
     work: InHand,
 ) -> Result<InHand, AllocError>
-    ensures { IfOk result (λ after. after ≡ words.work_after here.space here.n deed.now deeds.now work) }
+    requires { deeds.now ≡ deed.now ∷ older.now }
+    ensures { IfOk result (λ after. after ≡ words.work_after here.space here.n deed.now older.now work) }
 {
     match deed {
         Deed::Call { target, call, .. } => after_call(target.owner, *call, work),
@@ -748,8 +753,8 @@ fn work_after(
         Deed::Claim(job) => after_claim(job, work),
         Deed::Finish(job, _) => Ok(after_finish(*job, work)),
         Deed::DropReply(job) => Ok(after_finish(*job, work)),
-        Deed::Act(peer, number) => after_act(alloc, here, *peer, *number, deeds, work),
-        Deed::Settle(peer, number) => after_settle(alloc, here, *peer, *number, deeds, work),
+        Deed::Act(peer, number) => after_act(alloc, here, *peer, *number, older, deeds, work),
+        Deed::Settle(peer, number) => after_settle(alloc, here, *peer, *number, older, work),
         Deed::Closing(peer, _, _) => after_close(alloc, *peer, work),
         _ => Ok(work),
     }
@@ -844,9 +849,10 @@ pub fn after(
     deeds: &[Deed],
     work: InHand,
 ) -> Result<InHand, AllocError>
+    requires { deeds.now ≡ deed.now ∷ older.now }
     ensures { IfOk result (λ after. after ≡ words.with_loans here.now.space here.now.n deeds.now (words.work_after here.now.space here.now.n deed.now older.now work)) }
 {
-    let done = work_after(alloc, *here, deed, older, work)?;
+    let done = work_after(alloc, *here, deed, older, deeds, work)?;
     with_loans(alloc, here, deeds, done)
 }
 
