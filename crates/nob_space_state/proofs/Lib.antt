@@ -7,4 +7,5 @@ pub mod Stood
 pub mod Listed
 pub mod Pinned
 pub mod Exported
+pub mod Begins
 pub mod Hands
