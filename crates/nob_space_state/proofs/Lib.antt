@@ -8,4 +8,5 @@ pub mod Listed
 pub mod Pinned
 pub mod Exported
 pub mod Begins
+pub mod Ends
 pub mod Hands
