@@ -217,8 +217,8 @@ impl ObjectTable {
     }
 
     /// Withdraws a live object that nothing holds. B1 where no live object has the index, B4 where it is held.
-    /// It takes no memory. Over all calls constant time on average: a withdrawal that leaves fewer objects than places
-    /// of withdrawn ones clears these, linear in both.
+    /// It takes no memory. Over all calls constant time on average: a withdrawal that leaves fewer objects than empty
+    /// slots clears these, linear in both.
     pub fn withdraw(&mut self, index: u64) -> Result<(), TableFault>
         ensures answer { MatchResult result (λ _. withdraw_fault self.old index ≡ None) (λ fault. withdraw_fault self.old index ≡ Some fault) }
         ensures withdrawn { OnOk result (Becomes self.old self.new (own self.old index) withdrawn) }
