@@ -11,11 +11,12 @@ use nob_ids::{SpaceId, WireRep};
 use std::alloc::{AllocError, Global};
 use std::marker::Model;
 
-// The live objects of a space with their counts, and how many indexes were given. Contracts see a row for each.
+// The live objects of a space with their counts, and how many indexes were given. Contracts see a row
+// for each.
 //
-// Each object has a slot, in the order of the indexes. The slot of a withdrawn object is empty; once more than half of the
-// slots are, all empty ones are cleared in place. So a withdrawal takes no memory, and over all calls constant time on
-// average.
+// Each object has a slot, in the order of the indexes. The slot of a withdrawn object is empty; once
+// more than half of the slots are, all empty ones are cleared in place. So a withdrawal takes no
+// memory, and over all calls constant time on average.
 #[derive(Drop)]
 pub(crate) struct Objects {
     // The indexes given so far are 1 to this one.
@@ -32,7 +33,11 @@ impl Model for Objects {
 
     ghost use Rattle.nob_table.specs.Objects.{AreSlots, live_rows};
 
-    ghost view = { λ a. record { exported = a.exported; rows = live_rows a.slots.rows; room = a.slots.room } };
+    ghost view = { λ a. record {
+      exported = a.exported;
+      rows = live_rows a.slots.rows;
+      room = a.slots.room;
+    } };
 
     ghost invariant = { λ a. AreSlots a.exported a.live a.slots.rows };
 }
@@ -115,7 +120,8 @@ impl Objects {
         self.slots.set(rep, Some(counts));
     }
 
-    // Takes a live object out: its slot is left empty, and all empty slots go once they are more than half.
+    // Takes a live object out: its slot is left empty, and all empty slots go once they are more than
+    // half.
     pub(crate) fn take(&mut self, rep: &WireRep)
         requires { IsSome (row_at self.old.rows rep.now) }
         ensures puts { Puts self.old.rows self.new.rows rep.now None }
@@ -130,10 +136,11 @@ impl Objects {
         }
     }
 
-    // The least index from this one on of an object that nothing holds. Logarithmic in the slots, and linear in those that
-    // it passes.
+    // The least index from this one on of an object that nothing holds. Logarithmic in the slots, and
+    // linear in those that it passes.
     pub(crate) fn first_unheld(&self, index: u64) -> Option<u64>
-        ensures first { MatchOption result (AreAllHeld self.now.rows index) (λ found. IsFirstRow self.now.rows index found) }
+        ensures first { MatchOption result (AreAllHeld self.now.rows index)
+            (λ found. IsFirstRow self.now.rows index found) }
     {
         first_unheld_of(&self.slots, index)
     }
@@ -143,7 +150,8 @@ impl Objects {
 fn first_unheld_of(slots: &Rows<Option<Counts>>, index: u64) -> Option<u64>
     requires once { IsOnce slots.now.rows }
     requires by_index { IsByIndex (reps_of slots.now.rows) }
-    ensures { MatchOption result (AreAllHeld (live_rows slots.now.rows) index) (λ found. IsFirstRow (live_rows slots.now.rows) index found) }
+    ensures { MatchOption result (AreAllHeld (live_rows slots.now.rows) index)
+        (λ found. IsFirstRow (live_rows slots.now.rows) index found) }
 {
     let start = slots.count_below(index);
     let end = slots.len();

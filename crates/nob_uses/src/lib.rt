@@ -42,7 +42,8 @@ pub fn reference(owner: u16, index: u64) -> Option<WireRep>
 
 /// The length in the first two bytes: None where there are fewer.
 pub fn length_in_front(bytes: &[u8]) -> Option<u16>
-    ensures { MatchOption result (length bytes.now < 2) (λ len. (2 ≤ length bytes.now) × (len ≡ big_number 2 bytes.now)) }
+    ensures { MatchOption result (length bytes.now < 2)
+        (λ len. (2 ≤ length bytes.now) × (len ≡ big_number 2 bytes.now)) }
 {
     match take_u16(bytes, ()) {
         Ok((len, _rest)) => Some(len),
@@ -61,7 +62,8 @@ pub fn by_pickle(alloc: Global, value: &Value) -> Result<Value, PickleError>
 
 /// The frames in front of the bytes, which are the only ones that they can be.
 pub fn frames_of(alloc: Global, bytes: &[u8]) -> Result<Vec<Frame>, FrameError>
-    ensures { (frames : List FrameOf) (rest : List ℕ) → Splits bytes.now frames rest → IfOk result (λ given. given.items ≡ frames) }
+    ensures { (frames : List FrameOf) (rest : List ℕ) → Splits bytes.now frames rest
+        → IfOk result (λ given. given.items ≡ frames) }
 {
     let mut feed = Feed::new(alloc);
     feed.push(bytes)
@@ -69,7 +71,8 @@ pub fn frames_of(alloc: Global, bytes: &[u8]) -> Result<Vec<Frame>, FrameError>
 
 /// The counted references of the item that the bytes spell.
 pub fn counted_by(alloc: Global, bytes: &[u8]) -> Result<Vec<WireRep>, ItemError>
-    ensures { (item : ItemOf) → ItemSpelt bytes.now item → IfOk result (λ refs. refs.items ≡ counted_in item) }
+    ensures { (item : ItemOf) → ItemSpelt bytes.now item
+        → IfOk result (λ refs. refs.items ≡ counted_in item) }
 {
     let item = nob_item::decode(alloc, bytes)?;
     Ok(counted_refs(alloc, &item)?)
@@ -88,7 +91,8 @@ pub fn send_note(session: &mut Session, note: Vec<u8>) -> Result<ItemNo, Session
 
 /// Withdraws the first object from an index on that nothing holds: its index.
 pub fn withdraw_first(table: &mut ObjectTable, from: u64) -> Option<u64>
-    ensures { MatchOption result (NeverUnheld table.old from) (λ index. Becomes table.old table.new (own table.old index) withdrawn) }
+    ensures { MatchOption result (NeverUnheld table.old from)
+        (λ index. Becomes table.old table.new (own table.old index) withdrawn) }
 {
     let index = table.first_unheld(from)?;
     match table.withdraw(index) {
@@ -108,7 +112,8 @@ pub fn clean_last(sets: &mut DirtySets, index: u64, client: SpaceId) -> bool
 
 /// Ends the pins of the item that a note of this peer settles: false where it is no Settle.
 pub fn settle_by(pins: &mut PinTable, peer: SpaceId, note: &Item) -> Result<bool, PinFault>
-    ensures { (item : ℕ) → note.now ≡ Settle item → OnOk result (TakesOut pins.old.bundles pins.new.bundles peer item) }
+    ensures { (item : ℕ) → note.now ≡ Settle item
+        → OnOk result (TakesOut pins.old.bundles pins.new.bundles peer item) }
 {
     let Some(settled) = Settled::of_note(peer, note) else {
         return Ok(false);
