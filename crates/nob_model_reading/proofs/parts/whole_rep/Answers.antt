@@ -2,7 +2,7 @@ use Rattle.std.proofs.Common.{arith, sym, ◌∙◌, []}
 use Rattle.std.proofs.lemmas.List.{append-nil}
 use Rattle.nob_model_text.specs.Values.{rep_text}
 use Rattle.nob_model_text.proofs.Read.{by_error, passed, not_empty}
-use Rattle.nob_model_text.proofs.event_reading.whole_rep.Goals as goal
+use Rattle.nob_model_reading.proofs.parts.whole_rep.Goals as goal
 
 pub returns-in_err-owner-clause-only : goal.returns-in_err-owner-clause-only
 returns-in_err-owner-clause-only c rep fits spelt =

@@ -1,4 +1,4 @@
-//! Texts to events.
+//! Texts to what a call and the end of a job are about.
 
 ghost use Rattle.std.specs.Prelude.{◌≡◌, ◌++◌, ◌∷◌, ◌<◌, ◌^◌, ℕ, List, IfOk, codes};
 ghost use Rattle.std.specs.Fmt.{decimal};
@@ -9,24 +9,27 @@ ghost use Rattle.nob_model_text.specs.Reading.{Reads};
 ghost use Rattle.nob_model_text.specs.Values as values;
 ghost use Rattle.nob_model_text.specs.Events as spec;
 
-use crate::fronts::{number_at, rep_numbers_at, rep_of};
-use crate::outcome_reading::{whole_number, whole_outcome, whole_space};
-use crate::unread::Unread;
-use crate::value_reading::whole_value;
-use nob_ids::{JobNo, WireRep};
-use nob_model_types::Event;
+use crate::parts::after_space;
+use nob_ids::JobNo;
+use nob_model_text::{Unread, number_at, rep_numbers_at, rep_of, whole_value};
+use nob_model_types::{Event, Outcome};
 use std::alloc::Global;
 
-// The reference that a text spells.
-pub fn whole_rep(alloc: Global, text: &[u8]) -> Result<WireRep, Unread>
-    ensures found { IfOk result (λ rep. text.now ≡ values.rep_text rep) }
-    ensures only { (rep : RepOf) → spec.IsRep rep → text.now ≡ values.rep_text rep → Reads (λ r. (r.owner ≡ rep.owner) × (r.index ≡ rep.index)) result }
+// The outcome that a text spells.
+pub fn whole_outcome(alloc: Global, text: &[u8]) -> Result<Outcome, Unread>
+    ensures found { IfOk result (λ outcome. text.now ≡ spec.outcome_text outcome) }
+    ensures only { (outcome : OutcomeOf) → spec.IsOutcome outcome → text.now ≡ spec.outcome_text outcome → Reads (λ o. o ≡ outcome) result }
 {
-    let (owner, index, rest) = rep_numbers_at(alloc, text)?;
-    if !rest.is_empty() {
-        return Err(Unread::NoText);
+    match text {
+        b"nomethod" => Ok(Outcome::NoMethod),
+        [b'a', b'n', b's', b'w', b'e', b'r', b' ', value @ ..] => Ok(Outcome::Answer(whole_value(
+            alloc, value,
+        )?)),
+        [b'f', b'a', b'u', b'l', b't', b' ', value @ ..] => Ok(Outcome::Fault(whole_value(
+            alloc, value,
+        )?)),
+        _ => Err(Unread::NoText),
     }
-    rep_of(owner, index)
 }
 
 // The call that a text spells behind its word.
@@ -41,9 +44,12 @@ pub fn call_of(alloc: Global, text: &[u8]) -> Result<Event, Unread>
     if method > 65_535 {
         return Err(Unread::NoText);
     }
+    let Some(target) = rep_of(owner, index) else {
+        return Err(Unread::NoText);
+    };
     let value = whole_value(alloc, after_space(left)?)?;
     Ok(Event::Call {
-        target: rep_of(owner, index)?,
+        target,
         method: method as u16,
         value,
     })
@@ -58,15 +64,4 @@ pub fn finish_of(alloc: Global, text: &[u8]) -> Result<Event, Unread>
     let (job, behind) = number_at(alloc, text)?;
     let outcome = whole_outcome(alloc, after_space(behind)?)?;
     Ok(Event::Finish(JobNo::new(job), outcome))
-}
-
-// What follows the space with which a text begins.
-fn after_space(text: &[u8]) -> Result<&[u8], Unread>
-    ensures found { IfOk result (λ rest. text.now ≡ 32 ∷ rest.now) }
-    ensures only { (rest : List ℕ) → text.now ≡ 32 ∷ rest → Reads (λ r. r.now ≡ rest) result }
-{
-    match text {
-        [b' ', rest @ ..] => Ok(rest),
-        _ => Err(Unread::NoText),
-    }
 }
