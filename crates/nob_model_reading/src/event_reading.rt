@@ -28,7 +28,7 @@ pub fn event_of(alloc: Global, text: &[u8]) -> Result<Option<Event>, AllocError>
     }
 }
 
-// The same, where a text that spells none is an error.
+/// The same, where a text that spells none is an error.
 pub fn whole_event(alloc: Global, text: &[u8]) -> Result<Event, Unread>
     ensures found { IfOk result (λ event. Speaks text.now event) }
     ensures only { (event : EventOf) → ReadsSpoken text.now result event }

@@ -1,6 +1,6 @@
 //! Texts to what an event or an answer is about: one number, one space, one reference.
 
-ghost use Rattle.std.specs.Prelude.{◌≡◌, ◌∷◌, ◌<◌, ◌^◌, ℕ, List, IfOk};
+ghost use Rattle.std.specs.Prelude.{◌≡◌, ◌++◌, ◌∷◌, ◌<◌, ◌^◌, ℕ, List, IfOk};
 ghost use Rattle.std.specs.Fmt.{decimal};
 ghost use Rattle.nob_ids.specs.Names.{IsSpace};
 ghost use Rattle.nob_ids.specs.declared.wire_rep.WireRep.{WireRep as RepOf};
@@ -13,7 +13,7 @@ use nob_model_text::{Unread, rep_numbers_at, rep_of, space_of};
 use nob_trace_text::number_of;
 use std::alloc::Global;
 
-// The number that a text spells.
+/// The number that a text spells.
 pub fn whole_number(alloc: Global, text: &[u8]) -> Result<u64, Unread>
     ensures found { IfOk result (λ n. text.now ≡ decimal n) }
     ensures only { (n : ℕ) → n < 2 ^ 64 → text.now ≡ decimal n → Reads (λ m. m ≡ n) result }
@@ -24,7 +24,7 @@ pub fn whole_number(alloc: Global, text: &[u8]) -> Result<u64, Unread>
     }
 }
 
-// The space that a text spells.
+/// The space that a text spells.
 pub fn whole_space(alloc: Global, text: &[u8]) -> Result<SpaceId, Unread>
     ensures found { IfOk result (λ space. text.now ≡ decimal space) }
     ensures only { (space : ℕ) → IsSpace space → text.now ≡ decimal space → Reads (λ s. s ≡ space) result }
@@ -51,7 +51,7 @@ pub fn whole_rep(alloc: Global, text: &[u8]) -> Result<WireRep, Unread>
     }
 }
 
-// What follows the space with which a text begins.
+/// What follows the space with which a text begins.
 pub fn after_space(text: &[u8]) -> Result<&[u8], Unread>
     ensures found { IfOk result (λ rest. text.now ≡ 32 ∷ rest.now) }
     ensures only { (rest : List ℕ) → text.now ≡ 32 ∷ rest → Reads (λ r. r.now ≡ rest) result }
@@ -59,5 +59,16 @@ pub fn after_space(text: &[u8]) -> Result<&[u8], Unread>
     match text {
         [b' ', rest @ ..] => Ok(rest),
         _ => Err(Unread::NoText),
+    }
+}
+
+/// What follows a word with which a text begins.
+pub fn after<'a>(text: &'a [u8], word: &[u8]) -> Result<&'a [u8], Unread>
+    ensures found { IfOk result (λ rest. text.now ≡ word.now ++ rest.now) }
+    ensures only { (rest : List ℕ) → text.now ≡ word.now ++ rest → Reads (λ r. r.now ≡ rest) result }
+{
+    match text.strip_prefix(word) {
+        Some(rest) => Ok(rest),
+        None => Err(Unread::NoText),
     }
 }
