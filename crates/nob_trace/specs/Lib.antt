@@ -1,0 +1,5 @@
+pub mod Stamps
+pub mod Frames
+pub mod Entries
+pub mod Traces
+pub mod Reading

@@ -1,0 +1,13 @@
+//! Traces and their one spelling in text.
+#![tactic(auto)]
+
+mod fault;
+mod head;
+mod lines;
+mod stamped;
+mod trace;
+
+pub use fault::{TraceError, TraceFault};
+pub use head::Head;
+pub use stamped::Stamped;
+pub use trace::{Entries, Trace};
