@@ -1,2 +1,4 @@
 pub mod Rising
 pub mod Parting
+pub mod FrameBytes
+pub mod Spaced

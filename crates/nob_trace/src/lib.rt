@@ -2,6 +2,7 @@
 #![tactic(auto)]
 
 mod fault;
+mod frame_reading;
 mod head;
 mod lines;
 mod stamped;
