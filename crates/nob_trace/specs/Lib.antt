@@ -3,3 +3,4 @@ pub mod Frames
 pub mod Entries
 pub mod Traces
 pub mod Reading
+pub mod Writing

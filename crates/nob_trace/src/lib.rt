@@ -1,14 +1,17 @@
 //! Traces and their one spelling in text.
 #![tactic(auto)]
 
+mod entry_reading;
 mod fault;
 mod frame_reading;
 mod head;
 mod lines;
 mod stamped;
 mod trace;
+mod writing;
 
 pub use fault::{TraceError, TraceFault};
 pub use head::Head;
 pub use stamped::Stamped;
 pub use trace::{Entries, Trace};
+pub use writing::{encode, result_text};
