@@ -6,3 +6,5 @@ pub mod Signs
 pub mod Sides
 pub mod Cases
 pub mod Written
+pub mod ReadLines
+pub mod ReadTraces

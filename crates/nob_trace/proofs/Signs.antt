@@ -95,7 +95,7 @@ unfolding encode_with
 hex [] = tt
 hex (b ∷ bs) = (in_table lower_digits (b / 16) digits, (in_table lower_digits (b % 16) digits, hex bs))
 
-space : (n : ℕ) → IsSpace n → HasNone (decimal n)
+pub space : (n : ℕ) → IsSpace n → HasNone (decimal n)
 space n is = number n (omega (arith, is.1))
 
 rep : (r : WireRep) → IsSpace r.owner → r.index < 2 ^ 64 → HasNone (rep_text r)
@@ -125,7 +125,7 @@ value v typed = shape (tree v) typed.0
 -- ---- words
 
 -- a word and what follows it
-word : (w rest : List ℕ) → HasNone w → HasNone rest → HasNone (w ++ rest)
+pub word : (w rest : List ℕ) → HasNone w → HasNone rest → HasNone (w ++ rest)
 word w rest one two = both w rest one two
 
 outcome : (o : Outcome) → IsOutcome o → HasNone (outcome_text o)

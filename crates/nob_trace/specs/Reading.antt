@@ -6,9 +6,11 @@ use Rattle.nob_trace.specs.declared.head.Head.{Head}
 use Rattle.nob_trace.specs.declared.trace.Trace.{Trace}
 use Rattle.nob_trace.specs.declared.fault.TraceFault.{TraceFault}
 use Rattle.nob_trace.specs.declared.fault.TraceFault.TheVariants as faults
+use Rattle.nob_trace.specs.declared.fault.TraceError.{TraceError}
+use Rattle.nob_trace.specs.declared.fault.TraceError.TheVariants.{Fault, OutOfMemory}
 use Rattle.nob_trace.specs.Entries.{entry_text, IsTraced}
 use Rattle.nob_trace.specs.Stamps.{Rise, last_stamp}
-use Rattle.nob_trace.specs.Traces.{head_text, entries_text, IsHead}
+use Rattle.nob_trace.specs.Traces.{head_text, entries_text, trace_text, IsHead}
 
 -- the byte isn't among the bytes
 abbrev pub Lacks : ℕ → List ℕ → Type 0
@@ -47,3 +49,30 @@ pub data TextFault (text : List ℕ) (fault : TraceFault) : Type 0 where
   bad : (line rest : List ℕ) → BeginsWithLine text line rest → IsNoHead line → fault ≡ faults.Entry → TextFault text fault
   -- the lines behind it don't begin with the entries that it promises
   lines : (head : Head) (rest : List ℕ) → text ≡ head_text head ++ 10 ∷ rest → EntriesFault rest head.count fault → TextFault text fault
+
+-- what is wrong with a text that should be one trace
+pub data TraceProblem (text : List ℕ) (fault : TraceFault) : Type 0 where
+  -- it doesn't begin with a trace
+  front : TextFault text fault → TraceProblem text fault
+  -- bytes stand behind the trace with which it begins
+  behind : (trace : Trace) (rest : List ℕ) → text ≡ trace_text trace ++ rest → rest ≢ [] → fault ≡ faults.Trailing → TraceProblem text fault
+
+-- what is wrong with a text that should be traces, one after the other: behind these something stands that doesn't begin with a trace
+pub record TracesProblem (text : List ℕ) (fault : TraceFault) (traces : List Trace) (left : List ℕ) : Type 0 where
+  pub text_is : text ≡ flat_map trace_text traces ++ left
+  pub some : left ≢ []
+  pub fault_is : TextFault left fault
+
+-- the fault is right, or memory ran out
+abbrev pub Explains : (TraceFault → Type 0) → TraceError → Type 0
+Explains IsFault (Fault fault) = IsFault fault
+Explains IsFault OutOfMemory = Unit {0}
+
+-- what was given is right, or the fault is, unless memory ran out
+abbrev pub Answers : {X : Type 0} → (X → Type 0) → (TraceFault → Type 0) → Result X TraceError → Type 0
+Answers IsRight IsFault (Ok x) = IsRight x
+Answers IsRight IsFault (Err e) = Explains IsFault e
+
+-- this is given, unless memory ran out
+abbrev pub Finds : {X : Type 0} → (X → Type 0) → Result X TraceError → Type 0
+Finds IsRight result = Answers IsRight (λ fault. ⊥) result

@@ -1,9 +1,10 @@
 -- The one spelling of each trace.
-use Rattle.std.specs.Prelude.{ℕ, ◌<◌, ◌≤◌, ◌^◌, List, [], ◌∷◌, ◌++◌, length, codes}
+use Rattle.std.specs.Prelude.{ℕ, ◌<◌, ◌^◌, List, [], ◌∷◌, ◌++◌, length, codes}
 use Rattle.std.specs.List.{AllByRecursion}
 use Rattle.std.specs.Fmt.{decimal}
 use Rattle.nob_ids.specs.Names.{IsSpace}
 use Rattle.nob_ids.specs.declared.limits.Limits.{Limits}
+use Rattle.nob_model_reading.specs.Scripts.{limits_text, AreLimits}
 use Rattle.nob_trace.specs.declared.stamped.Stamped.{Stamped}
 use Rattle.nob_trace.specs.declared.head.Head.{Head}
 use Rattle.nob_trace.specs.declared.trace.Trace.{Trace}
@@ -13,7 +14,7 @@ use Rattle.nob_trace.specs.Entries.{entry_text, IsTraced, HasSpelling}
 -- a trace's first line: its space, of how many, the limits, and how many entries follow
 abbrev pub head_text : Head → List ℕ
 head_text head =
-    codes "trace " ++ (decimal head.space ++ (codes " of " ++ (decimal head.n ++ (codes " window " ++ (decimal head.limits.window ++ (codes " retry " ++ (decimal head.limits.retry ++ (codes " entries " ++ decimal head.count))))))))
+    codes "trace " ++ (decimal head.space ++ (codes " of " ++ (decimal head.n ++ limits_text head.limits (codes " entries " ++ decimal head.count))))
 
 -- entries, a line each
 abbrev pub entries_text : List Stamped → List ℕ
@@ -32,10 +33,7 @@ trace_text trace = head_text (head_of trace) ++ 10 ∷ entries_text trace.entrie
 pub record IsHead (head : Head) : Type 0 where
   pub space : IsSpace head.space
   pub n : IsSpace head.n
-  pub low_window : 1 ≤ head.limits.window
-  pub high_window : head.limits.window ≤ 64
-  pub low_retry : 1 ≤ head.limits.retry
-  pub high_retry : head.limits.retry ≤ 255
+  pub limits : AreLimits head.limits
   pub count : head.count < 2 ^ 64
 
 -- a trace that a text can spell: its numbers are in their ranges, its stamps rise from 1 on, and its entries are such that a trace can have
