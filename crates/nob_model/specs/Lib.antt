@@ -15,4 +15,6 @@ pub use Rattle.nob_model_history.specs.Transit
 pub use Rattle.nob_model_history.specs.Listing
 pub mod Sending
 pub mod Acting
+pub mod Candidates
 pub mod Right
+pub mod Next

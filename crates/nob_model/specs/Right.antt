@@ -38,7 +38,7 @@ use Rattle.nob_model_work.specs.declared.work.Run.{Run}
 use Rattle.nob_model_work.specs.declared.work.Stage.{Stage}
 use Rattle.nob_model_work.specs.declared.work.Stage.TheVariants as stages
 use Rattle.nob_model_work.specs.declared.work.OwnCall.{OwnCall}
-use Rattle.nob_model_work.specs.declared.work.Work.{Work}
+use Rattle.nob_model_work.specs.declared.work.InHand.{InHand}
 use Rattle.nob_model_words.specs.Messages.{is_lost_message, replies_to}
 use Rattle.nob_model_work.specs.Work.{is_call, is_run}
 use Rattle.nob_model_work.specs.Gifts.{value_of}
@@ -48,8 +48,9 @@ use Rattle.nob_model_history.specs.Ends.{calls_at}
 use Rattle.nob_model_history.specs.Holds.{times, hand, is_held}
 use Rattle.nob_model_history.specs.Transit.{pins, first_idle}
 use Rattle.nob_model_history.specs.Listing.{is_any_listed}
-use Rattle.nob_model.specs.Sending.{◌or_else◌, refuse_if, is_own_and_gone, value_refused, send_refused, has_numbers, unless}
+use Rattle.nob_model.specs.Sending.{◌or_else◌, refuse_if, is_own_and_not_live, value_refused, send_refused, has_numbers, unless}
 use Rattle.nob_model.specs.Acting.{act_on}
+use Rattle.nob_model.specs.Candidates.{to_settle, to_clean, to_claim}
 
 -- so many live objects and no more
 abbrev pub most_objects : ℕ
@@ -67,21 +68,21 @@ most_calls = 4096
 abbrev pub most_in_hand : ℕ
 most_in_hand = 2 ^ 32 - 1
 
--- Export: the next index
+-- Export: the reference of the next index, unless a space has all the live objects or indexes that it may have
 unfoldable pub right_export : ℕ → History → Result Answer Refusal
 right_export s h = unless (refuse_if (nat_le most_objects (length (live s h.deeds)) || nat_le last_number (length (exports h.deeds))) refusals.Limit) (answers.Exported (record { owner = s; index = length (exports h.deeds) + 1 }))
 
 -- whether a reference names an own object, not the agent, that isn't live
-abbrev pub is_gone : ℕ → WireRep → History → Bool
-is_gone s rep h = is_counted rep && is_own_and_gone s rep h
+abbrev pub is_not_live : ℕ → WireRep → History → Bool
+is_not_live s rep h = is_counted rep && is_own_and_not_live s rep h
 
--- Dup
+-- Dup: done, unless the reference names an object that isn't live, isn't held, its owner's session has closed here, or the hand is full
 unfoldable pub right_dup : ℕ → WireRep → History → Result Answer Refusal
-right_dup s rep h = unless (refuse_if (is_gone s rep h) refusals.NoObject or_else refuse_if (not (is_counted rep) || not (is_held s rep h)) refusals.NotHeld or_else refuse_if (not (is_own s rep) && closed rep.owner h.deeds) refusals.Closed or_else refuse_if (nat_le most_in_hand (hand rep h.deeds)) refusals.Limit) answers.Done
+right_dup s rep h = unless (refuse_if (is_not_live s rep h) refusals.NoObject or_else refuse_if (not (is_counted rep) || not (is_held s rep h)) refusals.NotHeld or_else refuse_if (not (is_own s rep) && closed rep.owner h.deeds) refusals.Closed or_else refuse_if (nat_le most_in_hand (hand rep h.deeds)) refusals.Limit) answers.Done
 
--- Release
+-- Release: done, unless the reference names an object that isn't live, or none of it is in the hand
 unfoldable pub right_release : ℕ → WireRep → History → Result Answer Refusal
-right_release s rep h = unless (refuse_if (is_gone s rep h) refusals.NoObject or_else refuse_if (not (is_counted rep) || hand rep h.deeds == 0) refusals.NotHeld) answers.Done
+right_release s rep h = unless (refuse_if (is_not_live s rep h) refusals.NoObject or_else refuse_if (not (is_counted rep) || hand rep h.deeds == 0) refusals.NotHeld) answers.Done
 
 -- how many calls were made
 abbrev pub calls_made : List Deed → ℕ
@@ -93,7 +94,7 @@ calls_made (_ ∷ D) = calls_made D
 abbrev pub is_last_call : History → Bool
 is_last_call h = nat_le most_calls (length h.work.calls) || nat_le last_number (calls_made h.deeds)
 
--- Call: the number of the call
+-- Call: the next number of a call, unless there is no such peer, its session has closed here, the target isn't held, the value may not be sent, a limit is reached, or the session takes no item more
 unfoldable pub right_call : (s n : ℕ) → WireRep → Value → History → Result Answer Refusal
 right_call s n target value h = unless (refuse_if (not (is_peer s n target.owner)) refusals.NoPeer or_else refuse_if (closed target.owner h.deeds) refusals.Closed or_else refuse_if (is_counted target && not (is_held s target h)) refusals.NotHeld or_else value_refused s h value or_else refuse_if (is_last_call h) refusals.Limit or_else send_refused target.owner Limited h) (answers.Called (calls_made h.deeds + 1))
 
@@ -102,54 +103,40 @@ abbrev pub is_handful : Value → History → Bool
 is_handful value h = list_any (λ rep. nat_lt most_in_hand (hand rep h.deeds + times rep (filter is_counted (refs_in value)))) (filter is_counted (refs_in value))
 
 -- what is answered where this item is the ready reply
-unfoldable pub reply_taken : Item → History → Result Answer Refusal
-reply_taken (items.Reply call status value) h = unless (refuse_if (is_handful value h) refusals.Limit) (answers.Replied status value)
-reply_taken (items.Call call target method value) h = Err refusals.NotReady
-reply_taken (items.Settle item) h = Err refusals.NotReady
-reply_taken (items.Dirty index) h = Err refusals.NotReady
-reply_taken (items.DirtyOk index) h = Err refusals.NotReady
-reply_taken (items.DirtyNo index) h = Err refusals.NotReady
-reply_taken (items.Clean index) h = Err refusals.NotReady
+unfoldable pub answer_of_reply : Item → History → Result Answer Refusal
+answer_of_reply (items.Reply call status value) h = unless (refuse_if (is_handful value h) refusals.Limit) (answers.Replied status value)
+answer_of_reply (items.Call call target method value) h = Err refusals.NotReady
+answer_of_reply (items.Settle item) h = Err refusals.NotReady
+answer_of_reply (items.Dirty index) h = Err refusals.NotReady
+answer_of_reply (items.DirtyOk index) h = Err refusals.NotReady
+answer_of_reply (items.DirtyNo index) h = Err refusals.NotReady
+answer_of_reply (items.Clean index) h = Err refusals.NotReady
 
 -- what is answered where no reply is ready: the call ended, or it isn't ready
-abbrev pub stage_taken : Stage → Result Answer Refusal
-stage_taken stages.Sent = Err refusals.NotReady
-stage_taken stages.Answered = Err refusals.NotReady
-stage_taken stages.Ended = Ok answers.Ended
+abbrev pub answer_of_stage : Stage → Result Answer Refusal
+answer_of_stage stages.Sent = Err refusals.NotReady
+answer_of_stage stages.Answered = Err refusals.NotReady
+answer_of_stage stages.Ended = Ok answers.Ended
 
 -- what is answered for a call, by its ready reply if there is one
-unfoldable pub call_taken : OwnCall → Option Message → History → Result Answer Refusal
-call_taken own (Some message) h = reply_taken message.item h
-call_taken own None h = stage_taken own.stage
+unfoldable pub answer_of_call : OwnCall → Option Message → History → Result Answer Refusal
+answer_of_call own (Some message) h = answer_of_reply message.item h
+answer_of_call own None h = answer_of_stage own.stage
 
 -- what is answered for a call, if there is one
-unfoldable pub own_call_taken : ℕ → Option OwnCall → History → Result Answer Refusal
-own_call_taken k None h = Err refusals.NoCall
-own_call_taken k (Some own) h = call_taken own (find (λ message. replies_to k message.item) h.work.replies) h
+unfoldable pub take_of : ℕ → Option OwnCall → History → Result Answer Refusal
+take_of k None h = Err refusals.NoCall
+take_of k (Some own) h = answer_of_call own (find (λ message. replies_to k message.item) h.work.replies) h
 
--- TakeReply
+-- TakeReply: the status and the value of the ready reply, or that there will be none
 unfoldable pub right_take_reply : ℕ → History → Result Answer Refusal
-right_take_reply k h = own_call_taken k (find (is_call k) h.work.calls) h
+right_take_reply k h = take_of k (find (is_call k) h.work.calls) h
 
 -- how many jobs were claimed
 abbrev pub jobs_made : List Deed → ℕ
 jobs_made [] = 0
 jobs_made (Claim job ∷ D) = jobs_made D + 1
 jobs_made (_ ∷ D) = jobs_made D
-
--- the index that an item calls
-abbrev pub target_of : Item → ℕ
-target_of (items.Call call target method value) = target
-target_of (items.Reply call status value) = 0
-target_of (items.Settle item) = 0
-target_of (items.Dirty index) = 0
-target_of (items.DirtyOk index) = 0
-target_of (items.DirtyNo index) = 0
-target_of (items.Clean index) = 0
-
--- whether no job that runs has the target of a message
-abbrev pub is_free : Work → Message → Bool
-is_free W message = not (list_any (λ run. target_of run.message.item == target_of message.item) W.running)
 
 -- the job of this number that an item from p is
 unfoldable pub job_of : (j p : ℕ) → Item → Result Answer Refusal
@@ -168,14 +155,14 @@ claim_of made (Some message) = if nat_le last_number made then Err refusals.Limi
 
 -- Claim: the first ready job whose target isn't running
 unfoldable pub right_claim : History → Result Answer Refusal
-right_claim h = claim_of (jobs_made h.deeds) (find (is_free h.work) h.work.ready)
+right_claim h = claim_of (jobs_made h.deeds) (to_claim h)
 
 -- what is answered to the end of a job, if it runs
 unfoldable pub finish_of : ℕ → Outcome → Option Run → History → Result Answer Refusal
 finish_of s outcome None h = Err refusals.NoJob
 finish_of s outcome (Some run) h = if closed run.message.from h.deeds then Ok answers.Dropped else unless (value_refused s h (value_of outcome) or_else send_refused run.message.from Limited h) answers.Finished
 
--- Finish
+-- Finish: the reply is handed on, or dropped where the session with the client has closed, unless the job isn't running or its reply may not be sent
 unfoldable pub right_finish : (s job : ℕ) → Outcome → History → Result Answer Refusal
 right_finish s job outcome h = finish_of s outcome (find (is_run job) h.work.running) h
 
@@ -184,13 +171,9 @@ unfoldable pub act_of : (s n p : ℕ) → Option (ℕ × List ℕ) → History �
 act_of s n p None h = Err refusals.Nothing
 act_of s n p (Some front) h = act_on s n p front.0 (item_spelt front.1) h
 
--- Act
+-- Act: the front of the inbox is acted on, unless there is no such peer, its session has closed here, or its inbox is empty
 unfoldable pub right_act : (s n p : ℕ) → History → Result Answer Refusal
 right_act s n p h = if not (is_peer s n p) then Err refusals.NoPeer else if closed p h.deeds then Err refusals.Closed else act_of s n p (right_front (calls_at p h)) h
-
--- whether all references of a message are resolved
-abbrev pub is_all_resolved : (s n : ℕ) → History → Message → Bool
-is_all_resolved s n h message = list_all (λ copy. is_resolved s n copy.rep h.deeds) message.copies
 
 -- how many items settling a message gives: the Reply to a lost Call too
 abbrev pub settle_count : (s n : ℕ) → Message → Item → History → ℕ
@@ -209,7 +192,7 @@ settle_of s n (Some message) h = if has_numbers message.from (settle_count s n m
 
 -- Settle: the first message, in order of acting, whose references are all resolved
 unfoldable pub right_settle : (s n : ℕ) → History → Result Answer Refusal
-right_settle s n h = settle_of s n (find (is_all_resolved s n h) h.work.waiting) h
+right_settle s n h = settle_of s n (to_settle s n h) h
 
 -- what is answered where this is the reference to clean, if there is one
 unfoldable pub clean_of : Option WireRep → History → Result Answer Refusal
@@ -218,17 +201,21 @@ clean_of (Some rep) h = if has_numbers rep.owner 1 h then Ok (answers.Cleaned re
 
 -- Clean: the first surrogate that can be given up
 unfoldable pub right_clean : (s n : ℕ) → History → Result Answer Refusal
-right_clean s n h = clean_of (first_idle s n h) h
+right_clean s n h = clean_of (to_clean s n h) h
 
 -- the reference to an own object
 abbrev pub own_ref : (s index : ℕ) → WireRep
 own_ref s index = record { owner = s; index = index }
 
+-- why an object isn't withdrawn: it is the agent, isn't live, has holds or pins, or somebody is listed for it
+unfoldable pub withdraw_refused : (s index : ℕ) → History → Option Refusal
+withdraw_refused s index h = refuse_if (index == 0) (refusals.StillUsed uses.Agent) or_else refuse_if (not (is_live s index h.deeds)) refusals.NoObject or_else refuse_if (is_held s (own_ref s index) h) (refusals.StillUsed uses.Held) or_else refuse_if (not (pins (own_ref s index) h == 0)) (refusals.StillUsed uses.InTransit) or_else refuse_if (is_any_listed s index h.deeds) (refusals.StillUsed uses.Listed)
+
 -- Withdraw: exactly if it isn't the agent, is live, has no holds, no pins, and nobody is listed
 unfoldable pub right_withdraw : (s index : ℕ) → History → Result Answer Refusal
-right_withdraw s index h = unless (refuse_if (index == 0) (refusals.StillUsed uses.Agent) or_else refuse_if (not (is_live s index h.deeds)) refusals.NoObject or_else refuse_if (is_held s (own_ref s index) h) (refusals.StillUsed uses.Held) or_else refuse_if (not (pins (own_ref s index) h == 0)) (refusals.StillUsed uses.InTransit) or_else refuse_if (is_any_listed s index h.deeds) (refusals.StillUsed uses.Listed)) answers.Withdrawn
+right_withdraw s index h = unless (withdraw_refused s index h) answers.Withdrawn
 
--- Transmit
+-- Transmit: the frames that the end with a peer gives
 unfoldable pub right_frames : (s n p window : ℕ) → History → Result Answer Refusal
 right_frames s n p window h = if not (is_peer s n p) then Err refusals.NoPeer else Ok (answers.Frames (right_transmit s p window (calls_at p h)))
 
@@ -248,13 +235,18 @@ tick_of (Ok None) = Ok answers.Done
 tick_of (Ok (Some ending)) = Ok (answers.Closed ending.reason)
 tick_of (Err refusal) = Err refusals.Closed
 
--- Tick
+-- Tick: the session with a peer counts one tick more, which may close it
 unfoldable pub right_ticks : (s n p retry : ℕ) → History → Result Answer Refusal
 right_ticks s n p retry h = if not (is_peer s n p) then Err refusals.NoPeer else tick_of (right_tick p retry (calls_at p h))
 
--- Close
+-- what a close did, as the space's answer
+abbrev pub closing_of : Result Ending EndRefusal → Result Answer Refusal
+closing_of (Ok ending) = Ok (answers.Closed ending.reason)
+closing_of (Err refusal) = Err refusals.Closed
+
+-- Close: the session with a peer closes because it was asked to
 unfoldable pub right_closing : (s n p : ℕ) → History → Result Answer Refusal
-right_closing s n p h = if not (is_peer s n p) then Err refusals.NoPeer else if closed p h.deeds then Err refusals.Closed else Ok (answers.Closed Asked)
+right_closing s n p h = if not (is_peer s n p) then Err refusals.NoPeer else closing_of (right_close p Asked (calls_at p h))
 
 -- the one right answer of space s among n, with these limits, after a history
 unfoldable pub right_after : (s n : ℕ) → Limits → History → Event → Result Answer Refusal

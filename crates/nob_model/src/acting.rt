@@ -1,13 +1,13 @@
 //! Acting on an item: its faults, which close the session, and then what keeps it in the inbox.
 
 ghost use Rattle.std.specs.Prelude.{◌≡◌, ◌≤◌, ◌&&◌, ◌==◌, not, IfOk, length};
-ghost use Rattle.std.specs.List.{list_any};
+ghost use Rattle.std.specs.List.{list_any, list_all};
 ghost use Rattle.nob_model_history.specs.Ends.{items_to};
 ghost use Rattle.nob_model_words.specs.Objects.{is_live};
-ghost use Rattle.nob_model.specs.Sending.{is_own_and_gone as is_gone};
+ghost use Rattle.nob_model.specs.Sending.{is_own_and_not_live as is_not_live};
 ghost use Rattle.nob_model.specs.Acting as words;
 
-use crate::sending::{has_numbers, is_own_and_gone};
+use crate::sending::{has_numbers, is_own_and_not_live};
 use nob_ids::{CallNo, ItemNo, Reason, SpaceId, WireRep};
 use nob_item::Item;
 use nob_model_history::History;
@@ -15,7 +15,7 @@ use nob_model_history::transit::{has_bundle, surrogates};
 use nob_model_types::{Answer, Refusal};
 use nob_model_words::{Here, objects, turns};
 use nob_model_work::gifts::dirties_for;
-use nob_model_work::{OwnCall, Sending, Stage, Work};
+use nob_model_work::{Gift, InHand, OwnCall, Stage};
 use std::alloc::{AllocError, Global};
 
 /// So many messages and no more.
@@ -25,36 +25,36 @@ pub const MOST_MESSAGES: usize = 1 << 16;
 pub const MOST_SURROGATES: usize = 1 << 16;
 
 // Whether one of these own references isn't live.
-fn is_any_gone(
+fn is_any_not_live(
     alloc: Global,
     space: SpaceId,
     reps: &[WireRep],
     history: &History,
 ) -> Result<bool, AllocError>
-    ensures { IfOk result (λ gone. gone ≡ list_any (λ rep. is_gone space rep history.now) reps.now) }
+    ensures { IfOk result (λ gone. gone ≡ list_any (λ rep. is_not_live space rep history.now) reps.now) }
 {
     match reps {
         [] => Ok(false),
         [rep, others @ ..] => {
-            if is_own_and_gone(alloc, space, rep, history)? {
+            if is_own_and_not_live(alloc, space, rep, history)? {
                 return Ok(true);
             }
-            is_any_gone(alloc, space, others, history)
+            is_any_not_live(alloc, space, others, history)
         }
     }
 }
 
 // Whether an own counted reference of an item isn't live.
-fn names_gone(
+fn names_not_live(
     alloc: Global,
     space: SpaceId,
     item: &Item,
     history: &History,
 ) -> Result<bool, AllocError>
-    ensures { IfOk result (λ gone. gone ≡ words.names_gone space item.now history.now) }
+    ensures { IfOk result (λ gone. gone ≡ words.names_not_live space item.now history.now) }
 {
     let reps = nob_item::counted_refs(alloc, item)?;
-    is_any_gone(alloc, space, reps.as_slice(), history)
+    is_any_not_live(alloc, space, reps.as_slice(), history)
 }
 
 // Whether a call was made to a peer and no Reply to it was acted on.
@@ -109,12 +109,12 @@ fn fault_of_call(
     item: &Item,
     history: &History,
 ) -> Result<Option<Reason>, AllocError>
-    ensures { IfOk result (λ fault. fault ≡ words.first_fault (words.fault_if (not (target == 0) && not (is_live space target history.now.deeds)) Reason.BadReference) (words.fault_if (words.names_gone space item.now history.now) Reason.BadReference)) }
+    ensures { IfOk result (λ fault. fault ≡ words.first_fault (words.fault_if (not (target == 0) && not (is_live space target history.now.deeds)) Reason.BadReference) (words.fault_if (words.names_not_live space item.now history.now) Reason.BadReference)) }
 {
     if target != 0 && !objects::is_live(alloc, space, target, history.deeds.as_slice())? {
         return Ok(Some(Reason::BadReference));
     }
-    if names_gone(alloc, space, item, history)? {
+    if names_not_live(alloc, space, item, history)? {
         return Ok(Some(Reason::BadReference));
     }
     Ok(None)
@@ -136,12 +136,12 @@ fn fault_of_reply(
     item: &Item,
     history: &History,
 ) -> Result<Option<Reason>, AllocError>
-    ensures { IfOk result (λ fault. fault ≡ words.first_fault (words.fault_if (not (list_any (words.awaits_reply peer call) history.now.work.calls)) Reason.OutOfPlace) (words.fault_if (words.names_gone space item.now history.now) Reason.BadReference)) }
+    ensures { IfOk result (λ fault. fault ≡ words.first_fault (words.fault_if (not (list_any (words.awaits_reply peer call) history.now.work.calls)) Reason.OutOfPlace) (words.fault_if (words.names_not_live space item.now history.now) Reason.BadReference)) }
 {
     if !is_awaited(peer, call, history.work.calls.as_slice()) {
         return Ok(Some(Reason::OutOfPlace));
     }
-    if names_gone(alloc, space, item, history)? {
+    if names_not_live(alloc, space, item, history)? {
         return Ok(Some(Reason::BadReference));
     }
     Ok(None)
@@ -192,7 +192,7 @@ pub fn fault_of(
 }
 
 /// How many messages there are.
-pub fn messages(work: &Work) -> u64
+pub fn messages(work: &InHand) -> u64
     ensures { result ≡ words.messages work.now }
 {
     let waiting = work.waiting.as_slice().len() as u64;
@@ -208,7 +208,7 @@ fn new_dirties(
     here: &Here,
     item: &Item,
     history: &History,
-) -> Result<Vec<Sending>, AllocError>
+) -> Result<Vec<Gift>, AllocError>
     ensures { IfOk result (λ dirties. dirties.items ≡ words.new_dirties here.now.space here.now.n item.now history.now) }
 {
     dirties_for(alloc, here, history.deeds.as_slice(), item)
@@ -233,7 +233,7 @@ fn is_too_much(
 }
 
 // How many of some gifts go to a peer.
-fn count_to(peer: SpaceId, gifts: &[Sending]) -> usize
+fn count_to(peer: SpaceId, gifts: &[Gift]) -> usize
     ensures value { result ≡ length (items_to peer gifts.now) }
     ensures bound { result ≤ length gifts.now }
 {
@@ -246,14 +246,14 @@ fn count_to(peer: SpaceId, gifts: &[Sending]) -> usize
     }
 }
 
-// Whether each peer among some gifts has free numbers for those to it.
+// Whether each peer among some of these gifts has free numbers for all of them that go to it.
 fn all_have_numbers(
     alloc: Global,
-    gifts: &[Sending],
-    rest: &[Sending],
+    gifts: &[Gift],
+    rest: &[Gift],
     history: &History,
 ) -> Result<bool, AllocError>
-    ensures { IfOk result (λ answer. answer ≡ words.all_have_numbers gifts.now rest.now history.now) }
+    ensures { IfOk result (λ answer. answer ≡ list_all (words.has_numbers_among gifts.now history.now) rest.now) }
 {
     match rest {
         [] => Ok(true),
@@ -267,14 +267,14 @@ fn all_have_numbers(
 }
 
 // Why a Call or a Reply without a fault stays in the inbox.
-#[tactic(auto, unfolding(crate::specs::Acting::message_kept))]
-fn message_kept(
+#[tactic(auto, unfolding(crate::specs::Acting::message_refusal))]
+fn message_refusal(
     alloc: Global,
     here: &Here,
     item: &Item,
     history: &History,
 ) -> Result<Option<Refusal>, AllocError>
-    ensures { IfOk result (λ kept. kept ≡ words.message_kept here.now.space here.now.n item.now history.now) }
+    ensures { IfOk result (λ kept. kept ≡ words.message_refusal here.now.space here.now.n item.now history.now) }
 {
     if is_too_much(alloc, here, item, history)? {
         return Ok(Some(Refusal::Limit));
@@ -287,18 +287,18 @@ fn message_kept(
 }
 
 // Why an item from a peer without a fault stays in the inbox.
-#[tactic(auto, unfolding(crate::specs::Acting::kept_by))]
-fn kept_by(
+#[tactic(auto, unfolding(crate::specs::Acting::act_refusal))]
+fn act_refusal(
     alloc: Global,
     here: &Here,
     peer: SpaceId,
     item: &Item,
     history: &History,
 ) -> Result<Option<Refusal>, AllocError>
-    ensures { IfOk result (λ kept. kept ≡ words.kept_by here.now.space here.now.n peer item.now history.now) }
+    ensures { IfOk result (λ kept. kept ≡ words.act_refusal here.now.space here.now.n peer item.now history.now) }
 {
     match item {
-        Item::Call { .. } | Item::Reply { .. } => message_kept(alloc, here, item, history),
+        Item::Call { .. } | Item::Reply { .. } => message_refusal(alloc, here, item, history),
         Item::Dirty(_) => {
             if !has_numbers(alloc, peer, 1, history)? {
                 return Ok(Some(Refusal::SeqEnd));
@@ -310,8 +310,12 @@ fn kept_by(
 }
 
 // What is answered to acting on an item, once its fault and what keeps it are known.
-fn acted_as(number: ItemNo, fault: Option<Reason>, kept: Option<Refusal>) -> Result<Answer, Refusal>
-    ensures { result ≡ words.acted_as number fault kept }
+fn answer_of_act(
+    number: ItemNo,
+    fault: Option<Reason>,
+    kept: Option<Refusal>,
+) -> Result<Answer, Refusal>
+    ensures { result ≡ words.answer_of_act number fault kept }
 {
     match fault {
         Some(reason) => Ok(Answer::Closed(reason)),
@@ -338,8 +342,8 @@ pub fn act_on(
         None => Ok(Ok(Answer::Closed(Reason::BadItem))),
         Some(item) => {
             let fault = fault_of(alloc, here, peer, item, history)?;
-            let kept = kept_by(alloc, here, peer, item, history)?;
-            Ok(acted_as(number, fault, kept))
+            let kept = act_refusal(alloc, here, peer, item, history)?;
+            Ok(answer_of_act(number, fault, kept))
         }
     }
 }

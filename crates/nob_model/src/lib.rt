@@ -4,11 +4,13 @@
 #![tactic(auto)]
 
 pub mod acting;
+pub mod candidates;
+pub mod next;
 pub mod right;
 pub mod sending;
 
 pub use nob_model_end::{Arrived, EndEntry, EndRefusal, Ending, Frames, Kind, PairEntry};
-pub use nob_model_history::{History, Parcel, history_of, make_history};
+pub use nob_model_history::{History, SentItem, history_of, make_history};
 pub use nob_model_types::{Answer, Entry, Event, Job, Outcome, Refusal, Use, WorldStep};
 pub use nob_model_words::{Cause, Deed, Here, Loan, Message, OwnerAnswer, RefCopy, Turns};
-pub use nob_model_work::{OwnCall, Run, Sending, Stage, Work};
+pub use nob_model_work::{Gift, InHand, OwnCall, Run, Stage};

@@ -10,12 +10,12 @@ ghost use Rattle.nob_model_history.specs.Holds.{times as times_word, hand as han
 ghost use Rattle.nob_model.specs.Sending.{value_refused as value_refused_word};
 ghost use Rattle.nob_model_end.specs.Texts.{texts};
 ghost use Rattle.nob_model_end.specs.Right.{right_front, first_of};
-ghost use Rattle.nob_model_words.specs.Turns.{is_resolved as is_resolved_word};
 ghost use Rattle.nob_model_history.specs.Ends.{calls_at as calls_word};
 ghost use Rattle.nob_model.specs.Right as words;
 
 use crate::acting::act_on;
-use crate::sending::{counted, has_numbers, is_own_and_gone, send_refused, value_refused};
+use crate::candidates::{to_claim, to_settle};
+use crate::sending::{counted, has_numbers, is_own_and_not_live, send_refused, value_refused};
 use nob_frame::Frame;
 use nob_ids::{CallNo, ItemNo, JobNo, Limits, Reason, SpaceId, WireRep};
 use nob_item::Item;
@@ -28,7 +28,7 @@ use nob_model_history::{History, make_history};
 use nob_model_types::{Answer, Entry, Event, Job, Outcome, Refusal, Use};
 use nob_model_words::message::{Message, RefCopy, is_lost_message, replies_to};
 use nob_model_words::{Deed, Here, objects, sessions, turns};
-use nob_model_work::{OwnCall, Run, Stage, Work};
+use nob_model_work::{InHand, OwnCall, Run, Stage};
 use nob_pickle::Value;
 use std::alloc::{AllocError, Global};
 
@@ -47,7 +47,7 @@ pub const MOST_IN_HAND: u64 = (1 << 32) - 1;
 // What is answered, in whatever memory there is.
 type Answered = Result<Result<Answer, Refusal>, AllocError>;
 
-/// Export.
+/// What is answered to Export: the reference of the next index.
 #[tactic(auto, unfolding(crate::specs::Right::right_export))]
 pub fn export(alloc: Global, space: SpaceId, history: &History) -> Answered
     ensures { IfOk result (λ answer. answer ≡ words.right_export space history.now) }
@@ -63,26 +63,26 @@ pub fn export(alloc: Global, space: SpaceId, history: &History) -> Answered
 }
 
 // Whether a reference names an own object, not the agent, that isn't live.
-fn is_gone(
+fn is_not_live(
     alloc: Global,
     space: SpaceId,
     rep: &WireRep,
     history: &History,
 ) -> Result<bool, AllocError>
-    ensures { IfOk result (λ gone. gone ≡ words.is_gone space rep.now history.now) }
+    ensures { IfOk result (λ gone. gone ≡ words.is_not_live space rep.now history.now) }
 {
     if !rep.is_counted() {
         return Ok(false);
     }
-    is_own_and_gone(alloc, space, rep, history)
+    is_own_and_not_live(alloc, space, rep, history)
 }
 
-/// Dup of a reference.
+/// What is answered to Dup of a reference.
 #[tactic(auto, unfolding(crate::specs::Right::right_dup))]
 pub fn dup(alloc: Global, space: SpaceId, rep: &WireRep, history: &History) -> Answered
     ensures { IfOk result (λ answer. answer ≡ words.right_dup space rep.now history.now) }
 {
-    if is_gone(alloc, space, rep, history)? {
+    if is_not_live(alloc, space, rep, history)? {
         return Ok(Err(Refusal::NoObject));
     }
     if !rep.is_counted() || !is_held(alloc, space, rep, history)? {
@@ -97,12 +97,12 @@ pub fn dup(alloc: Global, space: SpaceId, rep: &WireRep, history: &History) -> A
     Ok(Ok(Answer::Done))
 }
 
-/// Release of a reference.
+/// What is answered to Release of a reference.
 #[tactic(auto, unfolding(crate::specs::Right::right_release))]
 pub fn release(alloc: Global, space: SpaceId, rep: &WireRep, history: &History) -> Answered
     ensures { IfOk result (λ answer. answer ≡ words.right_release space rep.now history.now) }
 {
-    if is_gone(alloc, space, rep, history)? {
+    if is_not_live(alloc, space, rep, history)? {
         return Ok(Err(Refusal::NoObject));
     }
     if !rep.is_counted() || hand(alloc, rep, history.deeds.as_slice())? == 0 {
@@ -131,7 +131,7 @@ fn is_last_call(history: &History) -> bool
         || calls_made(history.deeds.as_slice()) as u64 >= LAST_NUMBER
 }
 
-/// Call of a method with a value.
+/// What is answered to Call of a method with a value: the next number of a call.
 #[tactic(auto, unfolding(crate::specs::Right::right_call))]
 pub fn call(
     alloc: Global,
@@ -199,9 +199,9 @@ fn is_handful(alloc: Global, value: &Value, history: &History) -> Result<bool, A
 }
 
 // What is answered where this item is the ready reply.
-#[tactic(auto, unfolding(crate::specs::Right::reply_taken))]
-fn reply_taken(alloc: Global, item: &Item, history: &History) -> Answered
-    ensures { IfOk result (λ answer. answer ≡ words.reply_taken item.now history.now) }
+#[tactic(auto, unfolding(crate::specs::Right::answer_of_reply))]
+fn answer_of_reply(alloc: Global, item: &Item, history: &History) -> Answered
+    ensures { IfOk result (λ answer. answer ≡ words.answer_of_reply item.now history.now) }
 {
     match item {
         Item::Reply { status, value, .. } => {
@@ -245,8 +245,8 @@ fn find_call(call: CallNo, calls: &[OwnCall]) -> Option<OwnCall>
 }
 
 // What is answered where no reply is ready.
-fn stage_taken(stage: Stage) -> Result<Answer, Refusal>
-    ensures { result ≡ words.stage_taken stage }
+fn answer_of_stage(stage: Stage) -> Result<Answer, Refusal>
+    ensures { result ≡ words.answer_of_stage stage }
 {
     match stage {
         Stage::Sent => Err(Refusal::NotReady),
@@ -256,23 +256,23 @@ fn stage_taken(stage: Stage) -> Result<Answer, Refusal>
 }
 
 // What is answered for a call.
-#[tactic(auto, unfolding(crate::specs::Right::call_taken))]
-fn call_taken(alloc: Global, call: CallNo, own: &OwnCall, history: &History) -> Answered
-    ensures { IfOk result (λ answer. answer ≡ words.call_taken own.now (find (λ message. replies_to_word call message.item) history.now.work.replies) history.now) }
+#[tactic(auto, unfolding(crate::specs::Right::answer_of_call))]
+fn answer_of_call(alloc: Global, call: CallNo, own: &OwnCall, history: &History) -> Answered
+    ensures { IfOk result (λ answer. answer ≡ words.answer_of_call own.now (find (λ message. replies_to_word call message.item) history.now.work.replies) history.now) }
 {
     match find_reply(call, history.work.replies.as_slice()) {
-        Some(message) => reply_taken(alloc, &message.item, history),
-        None => Ok(stage_taken(own.stage)),
+        Some(message) => answer_of_reply(alloc, &message.item, history),
+        None => Ok(answer_of_stage(own.stage)),
     }
 }
 
-/// TakeReply of a call.
-#[tactic(auto, unfolding(crate::specs::Right::right_take_reply, crate::specs::Right::own_call_taken))]
+/// What is answered to TakeReply of a call: its ready reply, or that there will be none.
+#[tactic(auto, unfolding(crate::specs::Right::right_take_reply, crate::specs::Right::take_of))]
 pub fn take_reply(alloc: Global, call: CallNo, history: &History) -> Answered
     ensures { IfOk result (λ answer. answer ≡ words.right_take_reply call history.now) }
 {
     match find_call(call, history.work.calls.as_slice()) {
-        Some(own) => call_taken(alloc, call, &own, history),
+        Some(own) => answer_of_call(alloc, call, &own, history),
         None => Ok(Err(Refusal::NoCall)),
     }
 }
@@ -286,46 +286,6 @@ fn jobs_made(deeds: &[Deed]) -> usize
         [] => 0,
         [Deed::Claim(_), older @ ..] => jobs_made(older) + 1,
         [_, older @ ..] => jobs_made(older),
-    }
-}
-
-// The index that an item calls.
-fn target_of(item: &Item) -> u64
-    ensures { result ≡ words.target_of item.now }
-{
-    match item {
-        Item::Call { target, .. } => *target,
-        _ => 0,
-    }
-}
-
-// Whether one of these jobs has a target.
-fn is_running(target: u64, runs: &[Run]) -> bool
-    ensures { result ≡ list_any (λ run. words.target_of run.message.item == target) runs.now }
-{
-    runs.iter()
-        .any(|run| target_of(&run.message.item) == target)
-}
-
-// Whether no job that runs has the target of a message.
-fn is_free(work: &Work, message: &Message) -> bool
-    ensures { result ≡ words.is_free work.now message.now }
-{
-    !is_running(target_of(&message.item), work.running.as_slice())
-}
-
-// The first of some messages whose target isn't running.
-fn find_free<'a>(work: &Work, messages: &'a [Message]) -> Option<&'a Message>
-    ensures { option_map (λ message. message.now) result ≡ find (words.is_free work.now) messages.now }
-{
-    match messages {
-        [] => None,
-        [message, others @ ..] => {
-            if is_free(work, message) {
-                return Some(message);
-            }
-            find_free(work, others)
-        }
     }
 }
 
@@ -366,13 +326,13 @@ fn claim_of(made: usize, message: &Message) -> Answered
     job_of(JobNo::new(made as u64 + 1), message.from, &message.item)
 }
 
-/// Claim.
+/// What is answered to Claim: the first ready job whose target isn't running.
 #[tactic(auto, unfolding(crate::specs::Right::right_claim, crate::specs::Right::claim_of))]
 pub fn claim(history: &History) -> Answered
     ensures { IfOk result (λ answer. answer ≡ words.right_claim history.now) }
 {
     let made = jobs_made(history.deeds.as_slice());
-    match find_free(&history.work, history.work.ready.as_slice()) {
+    match to_claim(history) {
         Some(message) => claim_of(made, message),
         None => Ok(Err(Refusal::Nothing)),
     }
@@ -433,7 +393,7 @@ fn finish_of(
     Ok(Ok(Answer::Finished))
 }
 
-/// Finish of a job.
+/// What is answered to Finish of a job: its reply is handed on, or goes to nobody.
 #[tactic(auto, unfolding(crate::specs::Right::right_finish, crate::specs::Right::finish_of))]
 pub fn finish(
     alloc: Global,
@@ -494,7 +454,7 @@ fn act_on_front(alloc: Global, here: &Here, peer: SpaceId, history: &History) ->
     act_on_first(alloc, here, peer, number, waiting.as_slice(), history)
 }
 
-/// Act on the next item from a peer.
+/// What is answered to Act on the next item from a peer.
 #[tactic(auto, unfolding(crate::specs::Right::right_act))]
 pub fn act(alloc: Global, here: &Here, peer: SpaceId, history: &History) -> Answered
     ensures { IfOk result (λ answer. answer ≡ words.right_act here.now.space here.now.n peer history.now) }
@@ -506,81 +466,6 @@ pub fn act(alloc: Global, here: &Here, peer: SpaceId, history: &History) -> Answ
         return Ok(Err(Refusal::Closed));
     }
     act_on_front(alloc, here, peer, history)
-}
-
-// Whether a reference is resolved.
-fn is_resolved(
-    alloc: Global,
-    here: &Here,
-    deeds: &[Deed],
-    rep: &WireRep,
-) -> Result<bool, AllocError>
-    ensures { IfOk result (λ resolved. resolved ≡ is_resolved_word here.now.space here.now.n rep.now deeds.now) }
-{
-    if rep.owner == here.space {
-        return Ok(true);
-    }
-    if turns::is_usable(alloc, *here, *rep, deeds)? {
-        return Ok(true);
-    }
-    turns::is_lost(alloc, *here, *rep, deeds)
-}
-
-// Whether the references of all these copies are resolved.
-fn is_all_resolved(
-    alloc: Global,
-    here: &Here,
-    deeds: &[Deed],
-    copies: &[RefCopy],
-) -> Result<bool, AllocError>
-    ensures { IfOk result (λ resolved. resolved ≡ list_all (λ copy. is_resolved_word here.now.space here.now.n copy.rep deeds.now) copies.now) }
-{
-    match copies {
-        [] => Ok(true),
-        [copy, others @ ..] => {
-            if !is_resolved(alloc, here, deeds, &copy.rep)? {
-                return Ok(false);
-            }
-            is_all_resolved(alloc, here, deeds, others)
-        }
-    }
-}
-
-// Whether the references of a message are all resolved.
-fn is_ready(
-    alloc: Global,
-    here: &Here,
-    history: &History,
-    message: &Message,
-) -> Result<bool, AllocError>
-    ensures { IfOk result (λ ready. ready ≡ words.is_all_resolved here.now.space here.now.n history.now message.now) }
-{
-    is_all_resolved(
-        alloc,
-        here,
-        history.deeds.as_slice(),
-        message.copies.as_slice(),
-    )
-}
-
-// The first of some messages whose references are all resolved.
-fn find_resolved<'a>(
-    alloc: Global,
-    here: &Here,
-    history: &History,
-    messages: &'a [Message],
-) -> Result<Option<&'a Message>, AllocError>
-    ensures { IfOk result (λ found. option_map (λ message. message.now) found ≡ find (words.is_all_resolved here.now.space here.now.n history.now) messages.now) }
-{
-    match messages {
-        [] => Ok(None),
-        [message, others @ ..] => {
-            if is_ready(alloc, here, history, message)? {
-                return Ok(Some(message));
-            }
-            find_resolved(alloc, here, history, others)
-        }
-    }
 }
 
 // How many items settling a message gives.
@@ -616,18 +501,18 @@ fn settle_of(alloc: Global, here: &Here, message: &Message, history: &History) -
     Ok(Err(Refusal::SeqEnd))
 }
 
-/// Settle.
+/// What is answered to Settle: the first message whose references are all resolved.
 #[tactic(auto, unfolding(crate::specs::Right::right_settle, crate::specs::Right::settle_of))]
 pub fn settle(alloc: Global, here: &Here, history: &History) -> Answered
     ensures { IfOk result (λ answer. answer ≡ words.right_settle here.now.space here.now.n history.now) }
 {
-    match find_resolved(alloc, here, history, history.work.waiting.as_slice())? {
+    match to_settle(alloc, here, history)? {
         Some(message) => settle_of(alloc, here, message, history),
         None => Ok(Err(Refusal::Nothing)),
     }
 }
 
-/// Clean.
+/// What is answered to Clean: the first surrogate that can be given up.
 #[tactic(auto, unfolding(crate::specs::Right::right_clean, crate::specs::Right::clean_of))]
 pub fn clean(alloc: Global, here: &Here, history: &History) -> Answered
     ensures { IfOk result (λ answer. answer ≡ words.right_clean here.now.space here.now.n history.now) }
@@ -643,32 +528,48 @@ pub fn clean(alloc: Global, here: &Here, history: &History) -> Answered
     }
 }
 
-/// Withdraw of the object of an index.
-#[tactic(auto, unfolding(crate::specs::Right::right_withdraw))]
-pub fn withdraw(alloc: Global, space: SpaceId, index: u64, history: &History) -> Answered
-    ensures { IfOk result (λ answer. answer ≡ words.right_withdraw space index history.now) }
+/// Why the object of an index isn't withdrawn.
+#[tactic(auto, unfolding(crate::specs::Right::withdraw_refused))]
+pub fn withdraw_refused(
+    alloc: Global,
+    space: SpaceId,
+    index: u64,
+    history: &History,
+) -> Result<Option<Refusal>, AllocError>
+    ensures { IfOk result (λ refused. refused ≡ words.withdraw_refused space index history.now) }
 {
     if index == 0 {
-        return Ok(Err(Refusal::StillUsed(Use::Agent)));
+        return Ok(Some(Refusal::StillUsed(Use::Agent)));
     }
     let owner = space;
     let rep = WireRep { owner, index };
     if !objects::is_live(alloc, space, index, history.deeds.as_slice())? {
-        return Ok(Err(Refusal::NoObject));
+        return Ok(Some(Refusal::NoObject));
     }
     if is_held(alloc, space, &rep, history)? {
-        return Ok(Err(Refusal::StillUsed(Use::Held)));
+        return Ok(Some(Refusal::StillUsed(Use::Held)));
     }
     if pins(alloc, &rep, history)? != 0 {
-        return Ok(Err(Refusal::StillUsed(Use::InTransit)));
+        return Ok(Some(Refusal::StillUsed(Use::InTransit)));
     }
     if is_any_listed(alloc, space, index, history.deeds.as_slice())? {
-        return Ok(Err(Refusal::StillUsed(Use::Listed)));
+        return Ok(Some(Refusal::StillUsed(Use::Listed)));
     }
-    Ok(Ok(Answer::Withdrawn))
+    Ok(None)
 }
 
-/// Transmit to a peer.
+/// What is answered to Withdraw of the object of an index.
+#[tactic(auto, unfolding(crate::specs::Right::right_withdraw))]
+pub fn withdraw(alloc: Global, space: SpaceId, index: u64, history: &History) -> Answered
+    ensures { IfOk result (λ answer. answer ≡ words.right_withdraw space index history.now) }
+{
+    match withdraw_refused(alloc, space, index, history)? {
+        Some(refusal) => Ok(Err(refusal)),
+        None => Ok(Ok(Answer::Withdrawn)),
+    }
+}
+
+/// What is answered to Transmit to a peer: the frames that the end with it gives.
 #[tactic(auto, unfolding(crate::specs::Right::right_frames))]
 pub fn transmit(
     alloc: Global,
@@ -698,7 +599,7 @@ fn arrival_of(arrived: Result<Arrived, EndRefusal>) -> Result<Answer, Refusal>
     }
 }
 
-/// Arrive of a frame.
+/// What is answered to Arrive of a frame.
 #[tactic(auto, unfolding(crate::specs::Right::right_arrival))]
 pub fn arrive(alloc: Global, here: &Here, frame: &Frame, history: &History) -> Answered
     ensures { IfOk result (λ answer. answer ≡ words.right_arrival here.now.space here.now.n frame.now history.now) }
@@ -722,7 +623,7 @@ fn tick_of(ticked: Result<Option<Ending>, EndRefusal>) -> Result<Answer, Refusal
     }
 }
 
-/// Tick of the session with a peer.
+/// What is answered to Tick of the session with a peer.
 #[tactic(auto, unfolding(crate::specs::Right::right_ticks))]
 pub fn tick(alloc: Global, here: &Here, peer: SpaceId, retry: u64, history: &History) -> Answered
     ensures { IfOk result (λ answer. answer ≡ words.right_ticks here.now.space here.now.n peer retry history.now) }
@@ -734,18 +635,26 @@ pub fn tick(alloc: Global, here: &Here, peer: SpaceId, retry: u64, history: &His
     Ok(tick_of(end::tick(peer, retry, calls.as_slice())))
 }
 
-/// Close of the session with a peer.
+// What a close did, as the space's answer.
+fn closing_of(closing: Result<Ending, EndRefusal>) -> Result<Answer, Refusal>
+    ensures { result ≡ words.closing_of closing }
+{
+    match closing {
+        Ok(ending) => Ok(Answer::Closed(ending.reason)),
+        Err(_) => Err(Refusal::Closed),
+    }
+}
+
+/// What is answered to Close of the session with a peer.
 #[tactic(auto, unfolding(crate::specs::Right::right_closing))]
-pub fn close(here: &Here, peer: SpaceId, history: &History) -> Result<Answer, Refusal>
-    ensures { result ≡ words.right_closing here.now.space here.now.n peer history.now }
+pub fn close(alloc: Global, here: &Here, peer: SpaceId, history: &History) -> Answered
+    ensures { IfOk result (λ answer. answer ≡ words.right_closing here.now.space here.now.n peer history.now) }
 {
     if !here.is_peer(peer) {
-        return Err(Refusal::NoPeer);
+        return Ok(Err(Refusal::NoPeer));
     }
-    if sessions::closed(peer, history.deeds.as_slice()) {
-        return Err(Refusal::Closed);
-    }
-    Ok(Answer::Closed(Reason::Asked))
+    let calls = calls_at(alloc, peer, history)?;
+    Ok(closing_of(end::close(peer, Reason::Asked, calls.as_slice())))
 }
 
 /// The one right answer to an event after a history.
@@ -774,7 +683,7 @@ pub fn after(
         Event::Transmit(peer) => transmit(alloc, here, *peer, limits.window, history),
         Event::Arrive(frame) => arrive(alloc, here, frame, history),
         Event::Tick(peer) => tick(alloc, here, *peer, limits.retry, history),
-        Event::Close(peer) => Ok(close(here, *peer, history)),
+        Event::Close(peer) => close(alloc, here, *peer, history),
     }
 }
 

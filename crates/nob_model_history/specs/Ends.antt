@@ -14,10 +14,10 @@ use Rattle.nob_model_end.specs.declared.entry.Arrived.TheVariants as arrived
 use Rattle.nob_model_end.specs.declared.entry.EndEntry.{EndEntry}
 use Rattle.nob_model_end.specs.declared.entry.EndEntry.TheVariants as ends
 use Rattle.nob_model_words.specs.declared.deed.Deed.{Deed}
-use Rattle.nob_model_words.specs.declared.deed.Deed.TheVariants.{Act, Transmit, Arrive, Tick, Close}
+use Rattle.nob_model_words.specs.declared.deed.Deed.TheVariants.{Act, Transmit, Arrive, Tick, Closing}
 use Rattle.nob_model_words.specs.declared.deed.Cause.{Cause}
 use Rattle.nob_model_words.specs.declared.deed.Cause.TheVariants as causes
-use Rattle.nob_model_work.specs.declared.gifts.Sending.{Sending}
+use Rattle.nob_model_work.specs.declared.gifts.Gift.{Gift}
 use Rattle.nob_model_history.specs.declared.history.History.{History}
 
 -- how an item counts: a Call and a method's Reply are limited; a note, and the Reply of status 3, which the runtime makes itself, never is
@@ -31,7 +31,7 @@ kind_of (items.DirtyNo index) = Note
 kind_of (items.Clean index) = Note
 
 -- the items among gifts that go to p
-abbrev pub items_to : ℕ → List Sending → List Item
+abbrev pub items_to : ℕ → List Gift → List Item
 items_to p gifts = map (λ gift. gift.item) (filter (λ gift. gift.to == p) gifts)
 
 -- the bytes of a spelling, none where there is none
@@ -61,15 +61,15 @@ own_calls p (Act q k) calls = if q == p then ends.Take ∷ calls else calls
 own_calls p (Transmit q frames) calls = if q == p then ends.Transmit frames ∷ calls else calls
 own_calls p (Arrive frame count) calls = if frame.from == p then ends.Arrive frame (Ok (arrived.Took count)) ∷ calls else calls
 own_calls p (Tick q) calls = if q == p then ends.Tick (Ok None) ∷ calls else calls
-own_calls p (Close q reason cause) calls = if q == p then call_of_closing p reason cause ∷ calls else calls
+own_calls p (Closing q reason cause) calls = if q == p then call_of_closing p reason cause ∷ calls else calls
 own_calls p (_) calls = calls
 
 -- the calls on the end with p by deeds and what they gave, the newest first: what a deed gives is sent before its item is taken
-abbrev pub calls_of : ℕ → List Deed → List (List Sending) → List EndEntry
+abbrev pub calls_of : ℕ → List Deed → List (List Gift) → List EndEntry
 calls_of p [] G = []
 calls_of p (deed ∷ D) [] = own_calls p deed (calls_of p D [])
 calls_of p (deed ∷ D) (gifts ∷ G) = own_calls p deed (with_sends (items_to p gifts) (calls_of p D G))
 
 -- the calls on the end with p in a history
 abbrev pub calls_at : ℕ → History → List EndEntry
-calls_at p h = calls_of p h.deeds h.given
+calls_at p h = calls_of p h.deeds h.all_gifts

@@ -4,12 +4,12 @@ use Rattle.nob_model_types.specs.declared.entry.Entry.{Entry}
 use Rattle.nob_model_words.specs.Deeds.{deeds}
 use Rattle.nob_model_words.specs.declared.deed.Deed.{Deed}
 use Rattle.nob_model_work.specs.Work.{work}
-use Rattle.nob_model_work.specs.Gifts.{given}
+use Rattle.nob_model_work.specs.Gifts.{all_gifts}
 use Rattle.nob_model_history.specs.declared.history.History.{History}
 
 -- the history of deeds
 abbrev pub history_of : (s n : ℕ) → List Deed → History
-history_of s n D = record { deeds = D; work = work s n D; given = given s n D }
+history_of s n D = record { deeds = D; work = work s n D; all_gifts = all_gifts s n D }
 
 -- the history of a space's list of entries
 abbrev pub history : (s n : ℕ) → List Entry → History

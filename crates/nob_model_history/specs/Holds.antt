@@ -11,7 +11,7 @@ use Rattle.nob_model_words.specs.declared.message.Loan.{Loan}
 use Rattle.nob_model_words.specs.declared.message.Loan.TheVariants as loan
 use Rattle.nob_model_words.specs.declared.message.RefCopy.{RefCopy}
 use Rattle.nob_model_words.specs.declared.message.Message.{Message}
-use Rattle.nob_model_work.specs.declared.work.Work.{Work}
+use Rattle.nob_model_work.specs.declared.work.InHand.{InHand}
 use Rattle.nob_model_history.specs.declared.history.History.{History}
 
 -- how often a reference stands in a list
@@ -19,12 +19,12 @@ abbrev pub times : WireRep → List WireRep → ℕ
 times rep reps = length (filter (is_same rep) reps)
 
 -- the references that came into the hand: by an Export, a Dup, and each as often as it stands in the value of a reply that was taken
-abbrev pub gained : List Deed → List WireRep
-gained [] = []
-gained (Export rep ∷ D) = rep ∷ gained D
-gained (Dup rep ∷ D) = rep ∷ gained D
-gained (TakeReply call status value ∷ D) = refs_in value ++ gained D
-gained (_ ∷ D) = gained D
+abbrev pub gains : List Deed → List WireRep
+gains [] = []
+gains (Export rep ∷ D) = rep ∷ gains D
+gains (Dup rep ∷ D) = rep ∷ gains D
+gains (TakeReply call status value ∷ D) = refs_in value ++ gains D
+gains (_ ∷ D) = gains D
 
 -- the references that were released
 abbrev pub releases : List Deed → List WireRep
@@ -34,7 +34,7 @@ releases (_ ∷ D) = releases D
 
 -- the hand: what came into it less what was released, 0 where more was released than came
 abbrev pub hand : WireRep → List Deed → ℕ
-hand rep D = times rep (gained D) - times rep (releases D)
+hand rep D = times rep (gains D) - times rep (releases D)
 
 -- whether a loan is made
 abbrev pub is_lent : Loan → Bool
@@ -61,12 +61,12 @@ abbrev pub loans_of : ℕ → Message → List WireRep
 loans_of s message = target_lent s message.item ++ copies_lent message.copies
 
 -- all that is lent at space s, by messages that wait, ready and running jobs, and ready replies
-abbrev pub lent_in : ℕ → Work → List WireRep
+abbrev pub lent_in : ℕ → InHand → List WireRep
 lent_in s W = flat_map (loans_of s) W.waiting ++ (flat_map (loans_of s) W.ready ++ (flat_map (λ run. loans_of s run.message) W.running ++ flat_map (loans_of s) W.replies))
 
 -- the holds of space s on a reference: what came into the hand or is lent, less what was released. On a right list that is hand and lent together
 abbrev pub holds : ℕ → WireRep → History → ℕ
-holds s rep h = (times rep (gained h.deeds) + times rep (lent_in s h.work)) - times rep (releases h.deeds)
+holds s rep h = (times rep (gains h.deeds) + times rep (lent_in s h.work)) - times rep (releases h.deeds)
 
 -- whether it has any
 abbrev pub is_held : ℕ → WireRep → History → Bool

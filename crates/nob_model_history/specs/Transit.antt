@@ -10,28 +10,28 @@ use Rattle.nob_model_words.specs.declared.deed.Deed.{Deed}
 use Rattle.nob_model_words.specs.declared.deed.Deed.TheVariants.{Act}
 use Rattle.nob_model_words.specs.Sessions.{closed, item_at}
 use Rattle.nob_model_words.specs.Turns.{turns, is_standing, is_usable}
-use Rattle.nob_model_work.specs.declared.gifts.Sending.{Sending}
+use Rattle.nob_model_work.specs.declared.gifts.Gift.{Gift}
 use Rattle.nob_model_history.specs.declared.history.History.{History}
-use Rattle.nob_model_history.specs.declared.transit.Parcel.{Parcel}
+use Rattle.nob_model_history.specs.declared.transit.SentItem.{SentItem}
 use Rattle.nob_model_history.specs.Holds.{times, is_held}
 
 -- how many items were sent to p
-abbrev pub count_to : ℕ → List Parcel → ℕ
-count_to p parcels = length (filter (λ parcel. parcel.to == p) parcels)
+abbrev pub count_to : ℕ → List SentItem → ℕ
+count_to p sent_items = length (filter (λ sent_item. sent_item.to == p) sent_items)
 
 -- gifts are sent one after the other, each with the next number of its peer
-abbrev pub with_gifts : List Parcel → List Sending → List Parcel
-with_gifts parcels [] = parcels
-with_gifts parcels (gift ∷ gifts) = with_gifts (parcels ++ record { to = gift.to; number = count_to gift.to parcels + 1; item = gift.item } ∷ []) gifts
+abbrev pub with_gifts : List SentItem → List Gift → List SentItem
+with_gifts sent_items [] = sent_items
+with_gifts sent_items (gift ∷ gifts) = with_gifts (sent_items ++ record { to = gift.to; number = count_to gift.to sent_items + 1; item = gift.item } ∷ []) gifts
 
 -- all that was sent, to all peers, the first first
-abbrev pub sent_of : List (List Sending) → List Parcel
+abbrev pub sent_of : List (List Gift) → List SentItem
 sent_of [] = []
 sent_of (gifts ∷ G) = with_gifts (sent_of G) gifts
 
 -- all that was sent in a history
-abbrev pub sent : History → List Parcel
-sent h = sent_of h.given
+abbrev pub sent : History → List SentItem
+sent h = sent_of h.all_gifts
 
 -- whether an item is the Settle of item k
 abbrev pub is_settle_of : ℕ → Option Item → Bool
@@ -56,20 +56,20 @@ is_some_of [] = false
 is_some_of (x ∷ xs) = true
 
 -- whether what was sent has pins here: it carries counted references, its Settle wasn't acted on, and the session hasn't closed here
-abbrev pub is_pinned : List Deed → Parcel → Bool
-is_pinned D parcel = is_some_of (counted_in parcel.item) && not (is_settled parcel.to parcel.number D) && not (closed parcel.to D)
+abbrev pub is_pinned : List Deed → SentItem → Bool
+is_pinned D sent_item = is_some_of (counted_in sent_item.item) && not (is_settled sent_item.to sent_item.number D) && not (closed sent_item.to D)
 
 -- the bundles of pins: what was sent and has pins here
-abbrev pub bundles : History → List Parcel
+abbrev pub bundles : History → List SentItem
 bundles h = filter (is_pinned h.deeds) (sent h)
 
 -- whether there is a bundle of item k to p
 abbrev pub has_bundle : (p k : ℕ) → History → Bool
-has_bundle p k h = is_some_of (filter (λ parcel. parcel.to == p && parcel.number == k) (bundles h))
+has_bundle p k h = is_some_of (filter (λ sent_item. sent_item.to == p && sent_item.number == k) (bundles h))
 
 -- the references with a pin, each as often as it has one
 abbrev pub pinned : History → List WireRep
-pinned h = flat_map (λ parcel. counted_in parcel.item) (bundles h)
+pinned h = flat_map (λ sent_item. counted_in sent_item.item) (bundles h)
 
 -- how many pins a reference has here
 abbrev pub pins : WireRep → History → ℕ
@@ -87,7 +87,7 @@ asks_for p (items.Clean index) = None
 
 -- the references of all Dirties that were sent, the first first
 abbrev pub dirties : History → List WireRep
-dirties h = filter_map (λ parcel. asks_for parcel.to parcel.item) (sent h)
+dirties h = filter_map (λ sent_item. asks_for sent_item.to sent_item.item) (sent h)
 
 -- each reference once, where it stands last
 abbrev pub once_last : List WireRep → List WireRep

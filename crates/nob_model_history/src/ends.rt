@@ -11,7 +11,7 @@ use nob_ids::{ItemNo, Reason, SpaceId};
 use nob_item::{Item, ItemError};
 use nob_model_end::{Arrived, EndEntry, Ending, Kind};
 use nob_model_words::{Cause, Deed};
-use nob_model_work::{Sending, Sendings};
+use nob_model_work::{Gift, GiftList};
 use std::alloc::{AllocError, Global};
 
 /// How an item counts.
@@ -63,7 +63,7 @@ fn with_send(
 fn with_sends(
     alloc: Global,
     peer: SpaceId,
-    gifts: &[Sending],
+    gifts: &[Gift],
     calls: Vec<EndEntry>,
 ) -> Result<Vec<EndEntry>, AllocError>
     ensures { IfOk result (λ more. more.items ≡ words.with_sends (words.items_to peer gifts.now) calls.items) }
@@ -131,7 +131,7 @@ fn own_calls(peer: SpaceId, deed: &Deed, calls: Vec<EndEntry>) -> Result<Vec<End
             }
             Ok(calls)
         }
-        Deed::Close(other, reason, cause) => {
+        Deed::Closing(other, reason, cause) => {
             if *other == peer {
                 return with_call(call_of_closing(peer, *reason, cause)?, calls);
             }
@@ -146,15 +146,15 @@ fn calls_of(
     alloc: Global,
     peer: SpaceId,
     deeds: &[Deed],
-    given: &[Sendings],
+    all_gifts: &[GiftList],
 ) -> Result<Vec<EndEntry>, AllocError>
-    ensures { IfOk result (λ calls. calls.items ≡ words.calls_of peer deeds.now given.now) }
+    ensures { IfOk result (λ calls. calls.items ≡ words.calls_of peer deeds.now all_gifts.now) }
 {
     match deeds {
         [] => Ok(Vec::new(alloc)),
-        [deed, older @ ..] => match given {
+        [deed, older @ ..] => match all_gifts {
             [] => {
-                let calls = calls_of(alloc, peer, older, given)?;
+                let calls = calls_of(alloc, peer, older, all_gifts)?;
                 own_calls(peer, deed, calls)
             }
             [gifts, before @ ..] => {
@@ -178,6 +178,6 @@ pub fn calls_at(
         alloc,
         peer,
         history.deeds.as_slice(),
-        history.given.as_slice(),
+        history.all_gifts.as_slice(),
     )
 }

@@ -6,7 +6,7 @@ ghost use Rattle.nob_model_history.specs.Histories as words;
 use nob_model_types::Entry;
 use nob_model_words::{Deed, Here, deeds};
 use nob_model_work::gifts::past_of;
-use nob_model_work::{Past, Sendings, Work};
+use nob_model_work::{GiftList, InHand, Past};
 use std::alloc::{AllocError, Global};
 use std::marker::Model;
 
@@ -48,37 +48,37 @@ impl Deeds {
 
 /// What each deed gave, the newest first. Contracts see the list of lists.
 #[derive(Debug, Drop)]
-pub struct Given {
-    given: Vec<Sendings>,
+pub struct AllGifts {
+    all_gifts: Vec<GiftList>,
 }
 
-impl Model for Given {
+impl Model for AllGifts {
     ghost use Rattle.std.specs.Prelude.{List};
-    ghost use Rattle.nob_model_work.specs.declared.gifts.Sending.{Sending};
+    ghost use Rattle.nob_model_work.specs.declared.gifts.Gift.{Gift};
 
-    ghost Value = { List (List Sending) };
+    ghost Value = { List (List Gift) };
 
     ghost use Rattle.std.specs.Coded.{codes};
     ghost use Rattle.nob_pickle.specs.Marks.{trees_code};
 
     ghost coded = { Prim.hlevel (codes, trees_code) };
 
-    ghost view = { λ given. given.given.items };
+    ghost view = { λ all_gifts. all_gifts.all_gifts.items };
 }
 
-impl Given {
+impl AllGifts {
     /// These gifts. It takes no memory.
-    pub fn from_vec(given: Vec<Sendings>) -> Given
-        ensures { result ≡ given.items }
+    pub fn from_vec(all_gifts: Vec<GiftList>) -> AllGifts
+        ensures { result ≡ all_gifts.items }
     {
-        Given { given }
+        AllGifts { all_gifts }
     }
 
     /// The gifts.
-    pub fn as_slice(&self) -> &[Sendings]
+    pub fn as_slice(&self) -> &[GiftList]
         ensures { result.now ≡ self.now }
     {
-        self.given.as_slice()
+        self.all_gifts.as_slice()
     }
 }
 
@@ -88,19 +88,23 @@ pub struct History {
     /// What it did, the newest first.
     pub deeds: Deeds,
     /// What it has in hand.
-    pub work: Work,
+    pub work: InHand,
     /// What each deed gave, the newest first.
-    pub given: Given,
+    pub all_gifts: AllGifts,
 }
 
 /// The history of deeds. It passes them once, and at each of them looks back for the references that it touches.
 pub fn history_of(alloc: Global, here: &Here, deeds: Vec<Deed>) -> Result<History, AllocError>
     ensures { IfOk result (λ history. history ≡ words.history_of here.now.space here.now.n deeds.items) }
 {
-    let Past { work, given } = past_of(alloc, here, deeds.as_slice())?;
+    let Past { work, all_gifts } = past_of(alloc, here, deeds.as_slice())?;
     let deeds = Deeds::from_vec(deeds);
-    let given = Given::from_vec(given);
-    Ok(History { deeds, work, given })
+    let all_gifts = AllGifts::from_vec(all_gifts);
+    Ok(History {
+        deeds,
+        work,
+        all_gifts,
+    })
 }
 
 /// The history of a space's list of entries, the newest first.

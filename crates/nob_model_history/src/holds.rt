@@ -7,7 +7,7 @@ use crate::history::History;
 use nob_ids::{SpaceId, WireRep};
 use nob_item::Item;
 use nob_model_words::{Deed, Loan, Message, RefCopy};
-use nob_model_work::{Run, Work};
+use nob_model_work::{InHand, Run};
 use std::alloc::{AllocError, Global};
 
 /// How often a reference stands in a list.
@@ -27,27 +27,27 @@ fn before(mut reps: Vec<WireRep>, mut others: Vec<WireRep>) -> Result<Vec<WireRe
 }
 
 /// The references that came into the hand.
-pub fn gained(alloc: Global, deeds: &[Deed]) -> Result<Vec<WireRep>, AllocError>
-    ensures { IfOk result (λ reps. reps.items ≡ words.gained deeds.now) }
+pub fn gains(alloc: Global, deeds: &[Deed]) -> Result<Vec<WireRep>, AllocError>
+    ensures { IfOk result (λ reps. reps.items ≡ words.gains deeds.now) }
 {
     match deeds {
         [] => Ok(Vec::new(alloc)),
         [Deed::Export(rep), older @ ..] => {
-            let mut reps = gained(alloc, older)?;
+            let mut reps = gains(alloc, older)?;
             reps.insert(0, *rep)?;
             Ok(reps)
         }
         [Deed::Dup(rep), older @ ..] => {
-            let mut reps = gained(alloc, older)?;
+            let mut reps = gains(alloc, older)?;
             reps.insert(0, *rep)?;
             Ok(reps)
         }
         [Deed::TakeReply(_, _, value), older @ ..] => {
-            let reps = gained(alloc, older)?;
+            let reps = gains(alloc, older)?;
             let came = nob_pickle::refs_of(alloc, value)?;
             before(came, reps)
         }
-        [_, older @ ..] => gained(alloc, older),
+        [_, older @ ..] => gains(alloc, older),
     }
 }
 
@@ -71,7 +71,7 @@ pub fn hand(alloc: Global, rep: &WireRep, deeds: &[Deed]) -> Result<usize, Alloc
     ensures value { IfOk result (λ hand. hand ≡ words.hand rep.now deeds.now) }
     ensures bound { IfOk result (λ hand. hand < 2 ^ 62) }
 {
-    let came = gained(alloc, deeds)?;
+    let came = gains(alloc, deeds)?;
     let gone = releases(alloc, deeds)?;
     Ok(times(rep, came.as_slice()).saturating_sub(times(rep, gone.as_slice())))
 }
@@ -159,7 +159,7 @@ fn loans_of_runs(alloc: Global, space: SpaceId, runs: &[Run]) -> Result<Vec<Wire
 }
 
 /// All that is lent at a space.
-pub fn lent_in(alloc: Global, space: SpaceId, work: &Work) -> Result<Vec<WireRep>, AllocError>
+pub fn lent_in(alloc: Global, space: SpaceId, work: &InHand) -> Result<Vec<WireRep>, AllocError>
     ensures { IfOk result (λ reps. reps.items ≡ words.lent_in space work.now) }
 {
     let waiting = loans_of_all(alloc, space, work.waiting.as_slice())?;
@@ -178,7 +178,7 @@ pub fn holds(
 ) -> Result<usize, AllocError>
     ensures { IfOk result (λ holds. holds ≡ words.holds space rep.now history.now) }
 {
-    let came = gained(alloc, history.deeds.as_slice())?;
+    let came = gains(alloc, history.deeds.as_slice())?;
     let lent = lent_in(alloc, space, &history.work)?;
     let gone = releases(alloc, history.deeds.as_slice())?;
     let more = times(rep, came.as_slice()) + times(rep, lent.as_slice());

@@ -9,5 +9,5 @@ pub mod holds;
 pub mod listing;
 pub mod transit;
 
-pub use history::{Deeds, Given, History, history_of, make_history};
-pub use transit::Parcel;
+pub use history::{AllGifts, Deeds, History, history_of, make_history};
+pub use transit::SentItem;

@@ -1,6 +1,7 @@
 //! Who is listed for an object.
 
 ghost use Rattle.std.specs.Prelude.{◌≡◌, IfOk, Some};
+ghost use Rattle.std.specs.List.{list_any};
 ghost use Rattle.nob_model_words.specs.Sessions.{item_at};
 ghost use Rattle.nob_model_history.specs.Listing as words;
 
@@ -9,8 +10,8 @@ use nob_item::Item;
 use nob_model_words::{Deed, objects, sessions};
 use std::alloc::{AllocError, Global};
 
-// Whether a client is asked for after an item from it, by what held before.
-fn asked_after(
+// Whether a client is entered after an item from it, by what held before.
+fn is_entered_after(
     alloc: Global,
     space: SpaceId,
     index: u64,
@@ -18,7 +19,7 @@ fn asked_after(
     deeds: &[Deed],
     before: bool,
 ) -> Result<bool, AllocError>
-    ensures { IfOk result (λ asked. asked ≡ words.asked_after space index item.now deeds.now before) }
+    ensures { IfOk result (λ entered. entered ≡ words.is_entered_after space index item.now deeds.now before) }
 {
     match item {
         Some(Item::Dirty(other)) => {
@@ -38,26 +39,26 @@ fn asked_after(
 }
 
 /// Whether a client's last Dirty or Clean for an index that was acted on is a Dirty that was answered by DirtyOk.
-pub fn is_asked(
+pub fn is_entered(
     alloc: Global,
     space: SpaceId,
     index: u64,
     client: SpaceId,
     deeds: &[Deed],
 ) -> Result<bool, AllocError>
-    ensures { IfOk result (λ asked. asked ≡ words.is_asked space index client deeds.now) }
+    ensures { IfOk result (λ entered. entered ≡ words.is_entered space index client deeds.now) }
 {
     match deeds {
         [] => Ok(false),
         [Deed::Act(from, number), older @ ..] => {
-            let before = is_asked(alloc, space, index, client, older)?;
+            let before = is_entered(alloc, space, index, client, older)?;
             if *from == client {
                 let item = sessions::item_at(alloc, *from, *number, older)?;
-                return asked_after(alloc, space, index, &item, older, before);
+                return is_entered_after(alloc, space, index, &item, older, before);
             }
             Ok(before)
         }
-        [_, older @ ..] => is_asked(alloc, space, index, client, older),
+        [_, older @ ..] => is_entered(alloc, space, index, client, older),
     }
 }
 
@@ -74,10 +75,10 @@ pub fn is_listed(
     if sessions::closed(client, deeds) {
         return Ok(false);
     }
-    is_asked(alloc, space, index, client, deeds)
+    is_entered(alloc, space, index, client, deeds)
 }
 
-// Whether one of the spaces whose items these deeds acted on is listed, by all deeds.
+// Whether one of these deeds acts on an item from a client that is listed for an index.
 fn is_any_of_listed(
     alloc: Global,
     space: SpaceId,
@@ -85,7 +86,7 @@ fn is_any_of_listed(
     all: &[Deed],
     deeds: &[Deed],
 ) -> Result<bool, AllocError>
-    ensures { IfOk result (λ listed. listed ≡ words.is_any_of_listed space index all.now deeds.now) }
+    ensures { IfOk result (λ listed. listed ≡ list_any (words.is_of_listed space index all.now) deeds.now) }
 {
     match deeds {
         [] => Ok(false),

@@ -13,12 +13,12 @@ use crate::holds::{is_held, times};
 use nob_ids::{ItemNo, SpaceId, WireRep};
 use nob_item::Item;
 use nob_model_words::{Deed, Here, sessions, turns};
-use nob_model_work::{Sending, Sendings};
+use nob_model_work::{Gift, GiftList};
 use std::alloc::{AllocError, Global};
 
 /// An item that was sent to a peer, with its number.
 #[derive(Debug, Drop)]
-pub struct Parcel {
+pub struct SentItem {
     /// The peer.
     pub to: SpaceId,
     /// The number of the item.
@@ -28,55 +28,58 @@ pub struct Parcel {
 }
 
 // How many items were sent to a peer.
-fn count_to(peer: SpaceId, parcels: &[Parcel]) -> usize
-    ensures value { result ≡ words.count_to peer parcels.now }
-    ensures bound { result ≤ length parcels.now }
+fn count_to(peer: SpaceId, sent_items: &[SentItem]) -> usize
+    ensures value { result ≡ words.count_to peer sent_items.now }
+    ensures bound { result ≤ length sent_items.now }
 {
-    parcels.iter().filter(|parcel| parcel.to == peer).count()
+    sent_items
+        .iter()
+        .filter(|sent_item| sent_item.to == peer)
+        .count()
 }
 
 // What was sent with one gift more.
-fn with_gift(gift: &Sending, mut parcels: Vec<Parcel>) -> Result<Vec<Parcel>, AllocError>
-    ensures { IfOk result (λ more. more.items ≡ parcels.items ++ record { to = gift.now.to; number = words.count_to gift.now.to parcels.items + 1; item = gift.now.item } ∷ []) }
+fn with_gift(gift: &Gift, mut sent_items: Vec<SentItem>) -> Result<Vec<SentItem>, AllocError>
+    ensures { IfOk result (λ more. more.items ≡ sent_items.items ++ record { to = gift.now.to; number = words.count_to gift.now.to sent_items.items + 1; item = gift.now.item } ∷ []) }
 {
     let to = gift.to;
-    let number = ItemNo::new(count_to(to, parcels.as_slice()) as u64 + 1);
+    let number = ItemNo::new(count_to(to, sent_items.as_slice()) as u64 + 1);
     let item = gift.item.copy()?;
-    parcels.push(Parcel { to, number, item })?;
-    Ok(parcels)
+    sent_items.push(SentItem { to, number, item })?;
+    Ok(sent_items)
 }
 
 // What was sent with some gifts more.
-fn with_gifts(gifts: &[Sending], parcels: Vec<Parcel>) -> Result<Vec<Parcel>, AllocError>
-    ensures { IfOk result (λ more. more.items ≡ words.with_gifts parcels.items gifts.now) }
+fn with_gifts(gifts: &[Gift], sent_items: Vec<SentItem>) -> Result<Vec<SentItem>, AllocError>
+    ensures { IfOk result (λ more. more.items ≡ words.with_gifts sent_items.items gifts.now) }
 {
     match gifts {
-        [] => Ok(parcels),
+        [] => Ok(sent_items),
         [gift, rest @ ..] => {
-            let more = with_gift(gift, parcels)?;
+            let more = with_gift(gift, sent_items)?;
             with_gifts(rest, more)
         }
     }
 }
 
 // All that was sent, by what each deed gave.
-fn sent_of(alloc: Global, given: &[Sendings]) -> Result<Vec<Parcel>, AllocError>
-    ensures { IfOk result (λ parcels. parcels.items ≡ words.sent_of given.now) }
+fn sent_of(alloc: Global, all_gifts: &[GiftList]) -> Result<Vec<SentItem>, AllocError>
+    ensures { IfOk result (λ sent_items. sent_items.items ≡ words.sent_of all_gifts.now) }
 {
-    match given {
+    match all_gifts {
         [] => Ok(Vec::new(alloc)),
         [gifts, before @ ..] => {
-            let parcels = sent_of(alloc, before)?;
-            with_gifts(gifts.as_slice(), parcels)
+            let sent_items = sent_of(alloc, before)?;
+            with_gifts(gifts.as_slice(), sent_items)
         }
     }
 }
 
 /// All that was sent, to all peers, the first first.
-pub fn sent(alloc: Global, history: &History) -> Result<Vec<Parcel>, AllocError>
-    ensures { IfOk result (λ parcels. parcels.items ≡ words.sent history.now) }
+pub fn sent(alloc: Global, history: &History) -> Result<Vec<SentItem>, AllocError>
+    ensures { IfOk result (λ sent_items. sent_items.items ≡ words.sent history.now) }
 {
-    sent_of(alloc, history.given.as_slice())
+    sent_of(alloc, history.all_gifts.as_slice())
 }
 
 // Whether an item is the Settle of a number.
@@ -112,32 +115,32 @@ pub fn is_settled(
 }
 
 // Whether what was sent has pins.
-fn is_pinned(alloc: Global, deeds: &[Deed], parcel: &Parcel) -> Result<bool, AllocError>
-    ensures { IfOk result (λ answer. answer ≡ words.is_pinned deeds.now parcel.now) }
+fn is_pinned(alloc: Global, deeds: &[Deed], sent_item: &SentItem) -> Result<bool, AllocError>
+    ensures { IfOk result (λ answer. answer ≡ words.is_pinned deeds.now sent_item.now) }
 {
-    let reps = nob_item::counted_refs(alloc, &parcel.item)?;
+    let reps = nob_item::counted_refs(alloc, &sent_item.item)?;
     if reps.as_slice().is_empty() {
         return Ok(false);
     }
-    if is_settled(alloc, parcel.to, parcel.number, deeds)? {
+    if is_settled(alloc, sent_item.to, sent_item.number, deeds)? {
         return Ok(false);
     }
-    Ok(!sessions::closed(parcel.to, deeds))
+    Ok(!sessions::closed(sent_item.to, deeds))
 }
 
 // What was sent and has pins, of these.
 fn pinned_of(
     alloc: Global,
     deeds: &[Deed],
-    mut parcels: Vec<Parcel>,
-) -> Result<Vec<Parcel>, AllocError>
-    ensures { IfOk result (λ pinned. pinned.items ≡ filter (words.is_pinned deeds.now) parcels.items) }
+    mut sent_items: Vec<SentItem>,
+) -> Result<Vec<SentItem>, AllocError>
+    ensures { IfOk result (λ pinned. pinned.items ≡ filter (words.is_pinned deeds.now) sent_items.items) }
 {
-    if parcels.is_empty() {
-        return Ok(parcels);
+    if sent_items.is_empty() {
+        return Ok(sent_items);
     }
-    let first = parcels.remove(0);
-    let mut pinned = pinned_of(alloc, deeds, parcels)?;
+    let first = sent_items.remove(0);
+    let mut pinned = pinned_of(alloc, deeds, sent_items)?;
     if is_pinned(alloc, deeds, &first)? {
         pinned.insert(0, first)?;
     }
@@ -145,11 +148,11 @@ fn pinned_of(
 }
 
 /// The bundles of pins.
-pub fn bundles(alloc: Global, history: &History) -> Result<Vec<Parcel>, AllocError>
+pub fn bundles(alloc: Global, history: &History) -> Result<Vec<SentItem>, AllocError>
     ensures { IfOk result (λ bundles. bundles.items ≡ words.bundles history.now) }
 {
-    let parcels = sent(alloc, history)?;
-    pinned_of(alloc, history.deeds.as_slice(), parcels)
+    let sent_items = sent(alloc, history)?;
+    pinned_of(alloc, history.deeds.as_slice(), sent_items)
 }
 
 /// Whether there is a bundle of an item to a peer.
@@ -165,14 +168,14 @@ pub fn has_bundle(
     Ok(is_among(peer, number, bundles.as_slice()))
 }
 
-// Whether there is a parcel with an item to a peer among these.
-fn is_among(peer: SpaceId, number: ItemNo, parcels: &[Parcel]) -> bool
-    ensures { result ≡ words.is_some_of (filter (λ parcel. parcel.to == peer && parcel.number == number) parcels.now) }
+// Whether an item of a number to a peer is among these.
+fn is_among(peer: SpaceId, number: ItemNo, sent_items: &[SentItem]) -> bool
+    ensures { result ≡ words.is_some_of (filter (λ sent_item. sent_item.to == peer && sent_item.number == number) sent_items.now) }
 {
-    match parcels {
+    match sent_items {
         [] => false,
-        [parcel, others @ ..] => {
-            if parcel.to == peer && parcel.number == number {
+        [sent_item, others @ ..] => {
+            if sent_item.to == peer && sent_item.number == number {
                 return true;
             }
             is_among(peer, number, others)
@@ -180,15 +183,15 @@ fn is_among(peer: SpaceId, number: ItemNo, parcels: &[Parcel]) -> bool
     }
 }
 
-// The counted references of parcels.
-fn refs_in_all(alloc: Global, parcels: &[Parcel]) -> Result<Vec<WireRep>, AllocError>
-    ensures { IfOk result (λ reps. reps.items ≡ flat_map (λ parcel. counted_in parcel.item) parcels.now) }
+// The counted references of sent items.
+fn refs_in_all(alloc: Global, sent_items: &[SentItem]) -> Result<Vec<WireRep>, AllocError>
+    ensures { IfOk result (λ reps. reps.items ≡ flat_map (λ sent_item. counted_in sent_item.item) sent_items.now) }
 {
-    match parcels {
+    match sent_items {
         [] => Ok(Vec::new(alloc)),
-        [parcel, others @ ..] => {
+        [sent_item, others @ ..] => {
             let mut rest = refs_in_all(alloc, others)?;
-            let mut reps = nob_item::counted_refs(alloc, &parcel.item)?;
+            let mut reps = nob_item::counted_refs(alloc, &sent_item.item)?;
             reps.append(&mut rest)?;
             Ok(reps)
         }
@@ -204,17 +207,17 @@ pub fn pins(alloc: Global, rep: &WireRep, history: &History) -> Result<usize, Al
     Ok(times(rep, reps.as_slice()))
 }
 
-// The references of the Dirties among parcels.
-fn dirties_in(alloc: Global, parcels: &[Parcel]) -> Result<Vec<WireRep>, AllocError>
-    ensures { IfOk result (λ reps. reps.items ≡ filter_map (λ parcel. words.asks_for parcel.to parcel.item) parcels.now) }
+// The references of the Dirties among sent items.
+fn dirties_in(alloc: Global, sent_items: &[SentItem]) -> Result<Vec<WireRep>, AllocError>
+    ensures { IfOk result (λ reps. reps.items ≡ filter_map (λ sent_item. words.asks_for sent_item.to sent_item.item) sent_items.now) }
 {
-    match parcels {
+    match sent_items {
         [] => Ok(Vec::new(alloc)),
-        [parcel, others @ ..] => {
+        [sent_item, others @ ..] => {
             let mut reps = dirties_in(alloc, others)?;
-            match &parcel.item {
+            match &sent_item.item {
                 Item::Dirty(index) => {
-                    let owner = parcel.to;
+                    let owner = sent_item.to;
                     let index = *index;
                     reps.insert(0, WireRep { owner, index })?;
                     Ok(reps)
@@ -229,8 +232,8 @@ fn dirties_in(alloc: Global, parcels: &[Parcel]) -> Result<Vec<WireRep>, AllocEr
 pub fn dirties(alloc: Global, history: &History) -> Result<Vec<WireRep>, AllocError>
     ensures { IfOk result (λ reps. reps.items ≡ words.dirties history.now) }
 {
-    let parcels = sent(alloc, history)?;
-    dirties_in(alloc, parcels.as_slice())
+    let sent_items = sent(alloc, history)?;
+    dirties_in(alloc, sent_items.as_slice())
 }
 
 // Each reference once, where it stands last.

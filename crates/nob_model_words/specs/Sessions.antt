@@ -6,7 +6,7 @@ use Rattle.nob_item.specs.Reading.{item_read}
 use Rattle.nob_item.specs.declared.item.Item.{Item}
 use Rattle.nob_item.specs.declared.fault.ItemFault.{ItemFault}
 use Rattle.nob_model_words.specs.declared.deed.Deed.{Deed}
-use Rattle.nob_model_words.specs.declared.deed.Deed.TheVariants.{Act, Arrive, Close}
+use Rattle.nob_model_words.specs.declared.deed.Deed.TheVariants.{Act, Arrive, Closing}
 
 -- the peers of space s are all other spaces from 1 to n
 abbrev pub is_peer : (s n p : ℕ) → Bool
@@ -15,7 +15,7 @@ is_peer s n p = not (p == s) && nat_le 1 p && nat_le p n
 -- whether the session with p has closed here
 abbrev pub closed : ℕ → List Deed → Bool
 closed p [] = false
-closed p (Close q reason cause ∷ D) = q == p || closed p D
+closed p (Closing q reason cause ∷ D) = q == p || closed p D
 closed p (_ ∷ D) = closed p D
 
 -- whether a frame that accepted so many items is a Data frame from p with number n that was accepted itself

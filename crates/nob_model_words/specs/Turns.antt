@@ -51,16 +51,16 @@ abbrev pub wants_dirty : (s n : ℕ) → WireRep → List Deed → Turns → Boo
 wants_dirty s n rep D before = is_peer s n rep.owner && not (closed rep.owner D) && not (is_standing before)
 
 -- one Dirty more
-abbrev pub asked_once_more : Turns → Turns
-asked_once_more t = record { dirties = t.dirties + 1; answers = t.answers; asks = true; last = t.last }
+abbrev pub with_dirty : Turns → Turns
+with_dirty t = record { dirties = t.dirties + 1; answers = t.answers; asks = true; last = t.last }
 
 -- one answer more
-abbrev pub answered_once_more : OwnerAnswer → Turns → Turns
-answered_once_more answer t = record { dirties = t.dirties; answers = t.answers + 1; asks = t.asks; last = answer }
+abbrev pub with_answer : OwnerAnswer → Turns → Turns
+with_answer answer t = record { dirties = t.dirties; answers = t.answers + 1; asks = t.asks; last = answer }
 
 -- the reference given up: the last of Dirty and Clean is no Dirty any more
-abbrev pub given_up : Turns → Turns
-given_up t = record { dirties = t.dirties; answers = t.answers; asks = false; last = t.last }
+abbrev pub with_clean : Turns → Turns
+with_clean t = record { dirties = t.dirties; answers = t.answers; asks = false; last = t.last }
 
 -- whether an item carries a reference
 abbrev pub carries : WireRep → Item → Bool
@@ -73,19 +73,19 @@ names rep p index = rep.owner == p && rep.index == index
 -- the turns for a reference after an item from p was acted on
 abbrev pub turns_after : (s n p : ℕ) → WireRep → Option Item → List Deed → Turns → Turns
 turns_after s n p rep None D before = before
-turns_after s n p rep (Some (items.Call call target method value)) D before = if carries rep (items.Call call target method value) && wants_dirty s n rep D before then asked_once_more before else before
-turns_after s n p rep (Some (items.Reply call status value)) D before = if carries rep (items.Reply call status value) && wants_dirty s n rep D before then asked_once_more before else before
+turns_after s n p rep (Some (items.Call call target method value)) D before = if carries rep (items.Call call target method value) && wants_dirty s n rep D before then with_dirty before else before
+turns_after s n p rep (Some (items.Reply call status value)) D before = if carries rep (items.Reply call status value) && wants_dirty s n rep D before then with_dirty before else before
 turns_after s n p rep (Some (items.Settle item)) D before = before
 turns_after s n p rep (Some (items.Dirty index)) D before = before
-turns_after s n p rep (Some (items.DirtyOk index)) D before = if names rep p index then answered_once_more said.Yes before else before
-turns_after s n p rep (Some (items.DirtyNo index)) D before = if names rep p index then answered_once_more said.No before else before
+turns_after s n p rep (Some (items.DirtyOk index)) D before = if names rep p index then with_answer said.Yes before else before
+turns_after s n p rep (Some (items.DirtyNo index)) D before = if names rep p index then with_answer said.No before else before
 turns_after s n p rep (Some (items.Clean index)) D before = before
 
 -- the turns of space s, among n, for a reference
 abbrev pub turns : (s n : ℕ) → WireRep → List Deed → Turns
 turns s n rep [] = no_turns
 turns s n rep (Act p k ∷ D) = turns_after s n p rep (item_at p k D) D (turns s n rep D)
-turns s n rep (Clean other ∷ D) = if is_same rep other then given_up (turns s n rep D) else turns s n rep D
+turns s n rep (Clean other ∷ D) = if is_same rep other then with_clean (turns s n rep D) else turns s n rep D
 turns s n rep (_ ∷ D) = turns s n rep D
 
 -- own: the space is the owner

@@ -68,7 +68,7 @@ pub enum Deed {
     /// Tick of the session with a peer.
     Tick(SpaceId),
     /// The session with a peer closed.
-    Close(SpaceId, Reason, Cause),
+    Closing(SpaceId, Reason, Cause),
 }
 
 impl Deed {
@@ -110,7 +110,7 @@ impl Deed {
             Event::Finish(job, outcome) => Deed::of_finish(*job, outcome, answer),
             Event::Act(peer) => match answer {
                 Answer::Acted(item) => Ok(Some(Deed::Act(*peer, *item))),
-                Answer::Closed(reason) => Ok(Some(Deed::Close(*peer, *reason, Cause::Item))),
+                Answer::Closed(reason) => Ok(Some(Deed::Closing(*peer, *reason, Cause::Item))),
                 _ => Ok(None),
             },
             Event::Settle => match answer {
@@ -132,11 +132,11 @@ impl Deed {
             Event::Arrive(frame) => Deed::of_arrival(frame, answer),
             Event::Tick(peer) => match answer {
                 Answer::Done => Ok(Some(Deed::Tick(*peer))),
-                Answer::Closed(reason) => Ok(Some(Deed::Close(*peer, *reason, Cause::Ticks))),
+                Answer::Closed(reason) => Ok(Some(Deed::Closing(*peer, *reason, Cause::Ticks))),
                 _ => Ok(None),
             },
             Event::Close(peer) => match answer {
-                Answer::Closed(reason) => Ok(Some(Deed::Close(*peer, *reason, Cause::Asked))),
+                Answer::Closed(reason) => Ok(Some(Deed::Closing(*peer, *reason, Cause::Asked))),
                 _ => Ok(None),
             },
         }
@@ -174,7 +174,7 @@ impl Deed {
             Answer::Took(count) => Ok(Some(Deed::Arrive(frame.copy()?, *count))),
             Answer::Closed(reason) => {
                 let cause = Cause::Frame(frame.copy()?);
-                Ok(Some(Deed::Close(frame.from, *reason, cause)))
+                Ok(Some(Deed::Closing(frame.from, *reason, cause)))
             }
             _ => Ok(None),
         }

@@ -16,7 +16,7 @@ pub fn closed(peer: SpaceId, deeds: &[Deed]) -> bool
 {
     match deeds {
         [] => false,
-        [Deed::Close(other, _, _), older @ ..] => *other == peer || closed(peer, older),
+        [Deed::Closing(other, _, _), older @ ..] => *other == peer || closed(peer, older),
         [_, older @ ..] => closed(peer, older),
     }
 }

@@ -50,9 +50,9 @@ impl Turns {
     }
 
     // One Dirty more.
-    fn asked_once_more(self) -> Turns
+    fn with_dirty(self) -> Turns
         requires { self.dirties < 2 ^ 63 }
-        ensures { result ≡ words.asked_once_more self }
+        ensures { result ≡ words.with_dirty self }
     {
         Turns {
             dirties: self.dirties + 1,
@@ -63,9 +63,9 @@ impl Turns {
     }
 
     // One answer more.
-    fn answered_once_more(self, answer: OwnerAnswer) -> Turns
+    fn with_answer(self, answer: OwnerAnswer) -> Turns
         requires { self.answers < 2 ^ 63 }
-        ensures { result ≡ words.answered_once_more answer self }
+        ensures { result ≡ words.with_answer answer self }
     {
         Turns {
             dirties: self.dirties,
@@ -76,8 +76,8 @@ impl Turns {
     }
 
     // The reference given up, where the last of Dirty and Clean is a Dirty.
-    fn given_up(self) -> Turns
-        ensures { result ≡ words.given_up self }
+    fn with_clean(self) -> Turns
+        ensures { result ≡ words.with_clean self }
     {
         Turns {
             dirties: self.dirties,
@@ -148,19 +148,19 @@ fn after_item(
     match item {
         Item::Call { .. } | Item::Reply { .. } => {
             if carries(alloc, rep, item)? && wants_dirty(here, rep, deeds, before) {
-                return Ok(before.asked_once_more());
+                return Ok(before.with_dirty());
             }
             Ok(before)
         }
         Item::DirtyOk(index) => {
             if rep.owner == peer && rep.index == *index {
-                return Ok(before.answered_once_more(OwnerAnswer::Yes));
+                return Ok(before.with_answer(OwnerAnswer::Yes));
             }
             Ok(before)
         }
         Item::DirtyNo(index) => {
             if rep.owner == peer && rep.index == *index {
-                return Ok(before.answered_once_more(OwnerAnswer::No));
+                return Ok(before.with_answer(OwnerAnswer::No));
             }
             Ok(before)
         }
@@ -190,10 +190,10 @@ fn after_act(
 
 // The turns after a reference was cleaned.
 fn after_clean(rep: WireRep, cleaned: &WireRep, before: Turns) -> Turns
-    ensures { result ≡ (if is_same rep cleaned.now then words.given_up before else before) }
+    ensures { result ≡ (if is_same rep cleaned.now then words.with_clean before else before) }
 {
     if rep == *cleaned {
-        before.given_up()
+        before.with_clean()
     } else {
         before
     }

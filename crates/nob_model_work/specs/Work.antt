@@ -8,18 +8,18 @@ use Rattle.nob_item.specs.declared.item.Item.TheVariants as items
 use Rattle.nob_pickle.specs.declared.value.Value.TheVariants as values
 use Rattle.nob_model_types.specs.declared.answer.Job.{Job}
 use Rattle.nob_model_words.specs.declared.deed.Deed.{Deed}
-use Rattle.nob_model_words.specs.declared.deed.Deed.TheVariants.{Call, TakeReply, TakeEnd, Claim, Finish, DropReply, Act, Settle, Close}
+use Rattle.nob_model_words.specs.declared.deed.Deed.TheVariants.{Call, TakeReply, TakeEnd, Claim, Finish, DropReply, Act, Settle, Closing}
 use Rattle.nob_model_words.specs.Sessions.{item_at}
 use Rattle.nob_model_words.specs.declared.message.Message.{Message}
 use Rattle.nob_model_work.specs.declared.work.Stage.{Stage}
 use Rattle.nob_model_work.specs.declared.work.Stage.TheVariants as stages
 use Rattle.nob_model_work.specs.declared.work.OwnCall.{OwnCall}
 use Rattle.nob_model_work.specs.declared.work.Run.{Run}
-use Rattle.nob_model_work.specs.declared.work.Work.{Work}
+use Rattle.nob_model_work.specs.declared.work.InHand.{InHand}
 use Rattle.nob_model_words.specs.Messages.{new_message, message_after, is_of, is_not_from, replies_to, is_job, is_lost_message}
 
 -- a space that has done nothing has nothing in hand
-abbrev pub no_work : Work
+abbrev pub no_work : InHand
 no_work = record { waiting = []; ready = []; running = []; replies = []; calls = [] }
 
 -- all but the first element that passes a test
@@ -36,37 +36,37 @@ abbrev pub is_run : ℕ → Run → Bool
 is_run j run = run.job == j
 
 -- a call that was sent is answered by a Reply to it from the space that it was sent to
-abbrev pub stage_answered : Bool → Stage → Stage
-stage_answered answered stages.Sent = if answered then stages.Answered else stages.Sent
-stage_answered answered stages.Answered = stages.Answered
-stage_answered answered stages.Ended = stages.Ended
+abbrev pub stage_after_reply : Bool → Stage → Stage
+stage_after_reply answered stages.Sent = if answered then stages.Answered else stages.Sent
+stage_after_reply answered stages.Answered = stages.Answered
+stage_after_reply answered stages.Ended = stages.Ended
 
 -- a call after a Reply to call k from p was acted on
-unfoldable pub call_answered : (p k : ℕ) → OwnCall → OwnCall
-call_answered p k own = record { call = own.call; to = own.to; stage = stage_answered (own.to == p && own.call == k) own.stage }
+unfoldable pub call_after_reply : (p k : ℕ) → OwnCall → OwnCall
+call_after_reply p k own = record { call = own.call; to = own.to; stage = stage_after_reply (own.to == p && own.call == k) own.stage }
 
 -- a Reply from p that is ready answers call k
 abbrev pub is_reply_from : (p k : ℕ) → Message → Bool
 is_reply_from p k message = message.from == p && replies_to k message.item
 
 -- a call that has no ready reply ends when the session that it was sent on closes
-unfoldable pub call_closed : ℕ → List Message → OwnCall → OwnCall
-call_closed p replies own = record { call = own.call; to = own.to; stage = if own.to == p && not (list_any (is_reply_from p own.call) replies) then stages.Ended else own.stage }
+unfoldable pub call_after_close : ℕ → List Message → OwnCall → OwnCall
+call_after_close p replies own = record { call = own.call; to = own.to; stage = if own.to == p && not (list_any (is_reply_from p own.call) replies) then stages.Ended else own.stage }
 
 -- one message more that waits
-abbrev pub wait : Message → Work → Work
+abbrev pub wait : Message → InHand → InHand
 wait message work = record { waiting = work.waiting ++ message ∷ []; ready = work.ready; running = work.running; replies = work.replies; calls = work.calls }
 
 -- one ready job more
-abbrev pub make_ready : Message → Work → Work
+abbrev pub make_ready : Message → InHand → InHand
 make_ready message work = record { waiting = work.waiting; ready = work.ready ++ message ∷ []; running = work.running; replies = work.replies; calls = work.calls }
 
 -- one ready reply more
-abbrev pub make_reply : Message → Work → Work
+abbrev pub make_reply : Message → InHand → InHand
 make_reply message work = record { waiting = work.waiting; ready = work.ready; running = work.running; replies = work.replies ++ message ∷ []; calls = work.calls }
 
 -- the calls changed
-abbrev pub with_calls : (OwnCall → OwnCall) → Work → Work
+abbrev pub with_calls : (OwnCall → OwnCall) → InHand → InHand
 with_calls change work = record { waiting = work.waiting; ready = work.ready; running = work.running; replies = work.replies; calls = map change work.calls }
 
 -- whether nothing is in a list
@@ -75,58 +75,58 @@ is_none_of [] = true
 is_none_of (x ∷ xs) = false
 
 -- a message that was acted on, by its item: without counted references a Call is a ready job and a Reply is ready at once, else they wait; a Reply answers its call
-unfoldable pub taken_in : Message → Item → Work → Work
-taken_in message (items.Call call target method value) work = if is_none_of message.copies then make_ready message work else wait message work
-taken_in message (items.Reply call status value) work = with_calls (call_answered message.from call) (if is_none_of message.copies then make_reply message work else wait message work)
-taken_in message (items.Settle item) work = work
-taken_in message (items.Dirty index) work = work
-taken_in message (items.DirtyOk index) work = work
-taken_in message (items.DirtyNo index) work = work
-taken_in message (items.Clean index) work = work
+unfoldable pub after_message : Message → Item → InHand → InHand
+after_message message (items.Call call target method value) work = if is_none_of message.copies then make_ready message work else wait message work
+after_message message (items.Reply call status value) work = with_calls (call_after_reply message.from call) (if is_none_of message.copies then make_reply message work else wait message work)
+after_message message (items.Settle item) work = work
+after_message message (items.Dirty index) work = work
+after_message message (items.DirtyOk index) work = work
+after_message message (items.DirtyNo index) work = work
+after_message message (items.Clean index) work = work
 
--- after Act on item k from p
-unfoldable pub after_act : (s n p k : ℕ) → List Deed → Option Item → Work → Work
+-- after Act on item k from p, if it can be read: a reference is lost from the start if it is lost once the item is acted on
+unfoldable pub after_act : (s n p k : ℕ) → List Deed → Option Item → InHand → InHand
 after_act s n p k D None work = work
-after_act s n p k D (Some item) work = taken_in (new_message s n p k item D) item work
+after_act s n p k D (Some item) work = after_message (new_message s n p k item (Act p k ∷ D)) item work
 
 -- the Reply that stands for one with a lost reference: status 3 with unit, and nothing is lent by it
 abbrev pub lost_reply : Message → ℕ → Message
 lost_reply message call = record { from = message.from; number = message.number; item = items.Reply call 3 values.Unit; copies = [] }
 
 -- a message that was settled, by its item: a Call is a ready job, or over if it was lost; a Reply is ready, as a lost one if it was lost
-unfoldable pub settled_in : Message → Item → Bool → Work → Work
-settled_in message (items.Call call target method value) lost work = if lost then work else make_ready message work
-settled_in message (items.Reply call status value) lost work = if lost then make_reply (lost_reply message call) work else make_reply message work
-settled_in message (items.Settle item) lost work = work
-settled_in message (items.Dirty index) lost work = work
-settled_in message (items.DirtyOk index) lost work = work
-settled_in message (items.DirtyNo index) lost work = work
-settled_in message (items.Clean index) lost work = work
+unfoldable pub after_settlement : Message → Item → Bool → InHand → InHand
+after_settlement message (items.Call call target method value) lost work = if lost then work else make_ready message work
+after_settlement message (items.Reply call status value) lost work = if lost then make_reply (lost_reply message call) work else make_reply message work
+after_settlement message (items.Settle item) lost work = work
+after_settlement message (items.Dirty index) lost work = work
+after_settlement message (items.DirtyOk index) lost work = work
+after_settlement message (items.DirtyNo index) lost work = work
+after_settlement message (items.Clean index) lost work = work
 
 -- without the first message that waits and came from p in item k
-abbrev pub without_waiting : (p k : ℕ) → Work → Work
+abbrev pub without_waiting : (p k : ℕ) → InHand → InHand
 without_waiting p k work = record { waiting = without_first (is_of p k) work.waiting; ready = work.ready; running = work.running; replies = work.replies; calls = work.calls }
 
--- after Settle of a message, if there is one that waits: where there is none, nothing is taken out
-unfoldable pub after_settle : (s n p k : ℕ) → List Deed → Option Message → Work → Work
-after_settle s n p k D None work = without_waiting p k work
-after_settle s n p k D (Some message) work = settled_in message message.item (is_lost_message s n D message) (without_waiting p k work)
+-- after Settle of a message, if there is one that waits
+unfoldable pub after_settle : (s n p k : ℕ) → List Deed → Option Message → InHand → InHand
+after_settle s n p k D None work = work
+after_settle s n p k D (Some message) work = after_settlement message message.item (is_lost_message s n D message) (without_waiting p k work)
 
 -- without the first ready job that has the contents of one
-abbrev pub without_ready : Job → Work → Work
+abbrev pub without_ready : Job → InHand → InHand
 without_ready job work = record { waiting = work.waiting; ready = without_first (is_job job) work.ready; running = work.running; replies = work.replies; calls = work.calls }
 
 -- a job that runs: the newest claimed stands first
-abbrev pub start : ℕ → Message → Work → Work
+abbrev pub start : ℕ → Message → InHand → InHand
 start j message work = record { waiting = work.waiting; ready = work.ready; running = record { job = j; message = message } ∷ work.running; replies = work.replies; calls = work.calls }
 
--- after Claim of a job, if a ready one has its contents: where none has, nothing is taken out
-unfoldable pub after_claim : Job → Option Message → Work → Work
-after_claim job None work = without_ready job work
+-- after Claim of a job, if a ready one has its contents
+unfoldable pub after_claim : Job → Option Message → InHand → InHand
+after_claim job None work = work
 after_claim job (Some message) work = start job.job message (without_ready job work)
 
 -- after the end of a job: none of its number runs
-unfoldable pub after_finish : ℕ → Work → Work
+unfoldable pub after_finish : ℕ → InHand → InHand
 after_finish j work = record { waiting = work.waiting; ready = work.ready; running = filter (λ run. not (is_run j run)) work.running; replies = work.replies; calls = work.calls }
 
 -- whether a message isn't a Reply to call k
@@ -134,23 +134,23 @@ abbrev pub is_not_reply : ℕ → Message → Bool
 is_not_reply k message = not (replies_to k message.item)
 
 -- after the reply to call k was taken: the Replies to it are over, and so is the call
-unfoldable pub after_take : ℕ → Work → Work
+unfoldable pub after_take : ℕ → InHand → InHand
 after_take k work = record { waiting = filter (is_not_reply k) work.waiting; ready = work.ready; running = work.running; replies = filter (is_not_reply k) work.replies; calls = filter (λ own. not (is_call k own)) work.calls }
 
 -- after it was told that there will be no reply to call k
-unfoldable pub after_end : ℕ → Work → Work
+unfoldable pub after_end : ℕ → InHand → InHand
 after_end k work = record { waiting = work.waiting; ready = work.ready; running = work.running; replies = work.replies; calls = filter (λ own. not (is_call k own)) work.calls }
 
 -- after a call was made
-unfoldable pub after_call : (p k : ℕ) → Work → Work
+unfoldable pub after_call : (p k : ℕ) → InHand → InHand
 after_call p k work = record { waiting = work.waiting; ready = work.ready; running = work.running; replies = work.replies; calls = work.calls ++ record { call = k; to = p; stage = stages.Sent } ∷ [] }
 
 -- after the session with p closed: its messages that wait and its ready jobs are thrown away, and calls to it that have no ready reply end; what runs goes on, and ready replies stay
-unfoldable pub after_close : ℕ → Work → Work
-after_close p work = record { waiting = filter (is_not_from p) work.waiting; ready = filter (is_not_from p) work.ready; running = work.running; replies = work.replies; calls = map (call_closed p work.replies) work.calls }
+unfoldable pub after_close : ℕ → InHand → InHand
+after_close p work = record { waiting = filter (is_not_from p) work.waiting; ready = filter (is_not_from p) work.ready; running = work.running; replies = work.replies; calls = map (call_after_close p work.replies) work.calls }
 
 -- what is in hand after a deed, by what was in hand before, the loans aside
-unfoldable pub work_after : (s n : ℕ) → Deed → List Deed → Work → Work
+unfoldable pub work_after : (s n : ℕ) → Deed → List Deed → InHand → InHand
 work_after s n (Call target method value call) D work = after_call target.owner call work
 work_after s n (TakeReply call status value) D work = after_take call work
 work_after s n (TakeEnd call) D work = after_end call work
@@ -159,7 +159,7 @@ work_after s n (Finish job outcome) D work = after_finish job work
 work_after s n (DropReply job) D work = after_finish job work
 work_after s n (Act p k) D work = after_act s n p k D (item_at p k D) work
 work_after s n (Settle p k) D work = after_settle s n p k D (find (is_of p k) work.waiting) work
-work_after s n (Close p reason cause) D work = after_close p work
+work_after s n (Closing p reason cause) D work = after_close p work
 work_after s n (_) D work = work
 
 -- the message of a job that runs, after a deed
@@ -167,10 +167,10 @@ unfoldable pub run_after : (s n : ℕ) → List Deed → Run → Run
 run_after s n D run = record { job = run.job; message = message_after s n D run.message }
 
 -- the loans made that can be made now
-unfoldable pub with_loans : (s n : ℕ) → List Deed → Work → Work
+unfoldable pub with_loans : (s n : ℕ) → List Deed → InHand → InHand
 with_loans s n D work = record { waiting = map (λ message. message_after s n D message) work.waiting; ready = map (λ message. message_after s n D message) work.ready; running = map (λ run. run_after s n D run) work.running; replies = map (λ message. message_after s n D message) work.replies; calls = work.calls }
 
 -- the work in hand at space s among n
-abbrev pub work : (s n : ℕ) → List Deed → Work
+abbrev pub work : (s n : ℕ) → List Deed → InHand
 work s n [] = no_work
 work s n (deed ∷ D) = with_loans s n (deed ∷ D) (work_after s n deed D (work s n D))

@@ -11,7 +11,7 @@ ghost use Rattle.nob_model_words.specs.Messages.{is_of};
 ghost use Rattle.nob_model_work.specs.Work.{is_run, work as work_word};
 ghost use Rattle.nob_model_work.specs.Gifts as words;
 
-use crate::work::{self, Run, Work};
+use crate::work::{self, InHand, Run};
 use nob_ids::{CallNo, ItemNo, JobNo, SpaceId, WireRep};
 use nob_item::Item;
 use nob_model_types::Outcome;
@@ -23,7 +23,7 @@ use std::marker::Model;
 
 /// An item that is given to a peer.
 #[derive(Debug, Drop)]
-pub struct Sending {
+pub struct Gift {
     /// The peer.
     pub to: SpaceId,
     /// The item.
@@ -32,47 +32,47 @@ pub struct Sending {
 
 /// Items that are given to peers, in order. Contracts see the list.
 #[derive(Debug, Drop)]
-pub struct Sendings {
-    sendings: Vec<Sending>,
+pub struct GiftList {
+    gifts: Vec<Gift>,
 }
 
-impl Model for Sendings {
+impl Model for GiftList {
     ghost use Rattle.std.specs.Prelude.{List};
-    ghost use Rattle.nob_model_work.specs.declared.gifts.Sending.{Sending};
+    ghost use Rattle.nob_model_work.specs.declared.gifts.Gift.{Gift};
 
-    ghost Value = { List Sending };
+    ghost Value = { List Gift };
 
     ghost use Rattle.std.specs.Coded.{codes};
     ghost use Rattle.nob_pickle.specs.Marks.{trees_code};
 
     ghost coded = { Prim.hlevel (codes, trees_code) };
 
-    ghost view = { λ sendings. sendings.sendings.items };
+    ghost view = { λ gifts. gifts.gifts.items };
 }
 
-impl Sendings {
+impl GiftList {
     /// These items. It takes no memory.
-    pub fn from_vec(sendings: Vec<Sending>) -> Sendings
-        ensures { result ≡ sendings.items }
+    pub fn from_vec(gifts: Vec<Gift>) -> GiftList
+        ensures { result ≡ gifts.items }
     {
-        Sendings { sendings }
+        GiftList { gifts }
     }
 
     /// The items.
-    pub fn as_slice(&self) -> &[Sending]
+    pub fn as_slice(&self) -> &[Gift]
         ensures { result.now ≡ self.now }
     {
-        self.sendings.as_slice()
+        self.gifts.as_slice()
     }
 }
 
 // One item and no other.
-fn lone(alloc: Global, to: SpaceId, item: Item) -> Result<Vec<Sending>, AllocError>
-    ensures { IfOk result (λ sendings. sendings.items ≡ record { to = to; item = item } ∷ []) }
+fn lone(alloc: Global, to: SpaceId, item: Item) -> Result<Vec<Gift>, AllocError>
+    ensures { IfOk result (λ gifts. gifts.items ≡ record { to = to; item = item } ∷ []) }
 {
-    let mut sendings = Vec::new(alloc);
-    sendings.push(Sending { to, item })?;
-    Ok(sendings)
+    let mut gifts = Vec::new(alloc);
+    gifts.push(Gift { to, item })?;
+    Ok(gifts)
 }
 
 // Each reference once, where it stands first.
@@ -118,7 +118,7 @@ fn dirties_of(
     here: &Here,
     deeds: &[Deed],
     reps: &[WireRep],
-) -> Result<Vec<Sending>, AllocError>
+) -> Result<Vec<Gift>, AllocError>
     ensures { IfOk result (λ dirties. dirties.items ≡ map words.dirty_for (filter (λ rep. is_wanted here.now.space here.now.n rep deeds.now (turns_word here.now.space here.now.n rep deeds.now)) reps.now)) }
 {
     match reps {
@@ -128,7 +128,7 @@ fn dirties_of(
             if wants_dirty(alloc, here, deeds, rep)? {
                 let to = rep.owner;
                 let item = Item::Dirty(rep.index);
-                dirties.insert(0, Sending { to, item })?;
+                dirties.insert(0, Gift { to, item })?;
             }
             Ok(dirties)
         }
@@ -142,7 +142,7 @@ pub fn dirties_for(
     here: &Here,
     deeds: &[Deed],
     item: &Item,
-) -> Result<Vec<Sending>, AllocError>
+) -> Result<Vec<Gift>, AllocError>
     ensures { IfOk result (λ dirties. dirties.items ≡ words.dirties_for here.now.space here.now.n deeds.now (counted_in item.now)) }
 {
     let reps = nob_item::counted_refs(alloc, item)?;
@@ -158,7 +158,7 @@ fn answer_to(
     peer: SpaceId,
     index: u64,
     deeds: &[Deed],
-) -> Result<Vec<Sending>, AllocError>
+) -> Result<Vec<Gift>, AllocError>
     ensures { IfOk result (λ answer. answer.items ≡ words.answer_to space peer index deeds.now) }
 {
     if objects::is_live(alloc, space, index, deeds)? {
@@ -178,7 +178,7 @@ fn of_item(
     peer: SpaceId,
     deeds: &[Deed],
     item: &Item,
-) -> Result<Vec<Sending>, AllocError>
+) -> Result<Vec<Gift>, AllocError>
     ensures { IfOk result (λ gifts. gifts.items ≡ words.gifts_of_act here.now.space here.now.n peer deeds.now (Some item.now)) }
 {
     match item {
@@ -198,7 +198,7 @@ fn of_act(
     peer: SpaceId,
     number: ItemNo,
     deeds: &[Deed],
-) -> Result<Vec<Sending>, AllocError>
+) -> Result<Vec<Gift>, AllocError>
     ensures { IfOk result (λ gifts. gifts.items ≡ words.gifts_of_act here.now.space here.now.n peer deeds.now (item_at peer number deeds.now)) }
 {
     match sessions::item_at(alloc, peer, number, deeds)? {
@@ -215,7 +215,7 @@ fn settle_and_reply(
     number: ItemNo,
     item: &Item,
     lost: bool,
-) -> Result<Vec<Sending>, AllocError>
+) -> Result<Vec<Gift>, AllocError>
     ensures { IfOk result (λ gifts. gifts.items ≡ record { to = peer; item = items.Settle number } ∷ words.lost_call_reply peer item.now lost) }
 {
     let mut gifts = lone(alloc, peer, Item::Settle(number))?;
@@ -230,7 +230,7 @@ fn settle_and_reply(
                     status,
                     value,
                 };
-                gifts.push(Sending { to: peer, item })?;
+                gifts.push(Gift { to: peer, item })?;
             }
             Ok(gifts)
         }
@@ -247,7 +247,7 @@ fn of_message(
     number: ItemNo,
     deeds: &[Deed],
     message: &Message,
-) -> Result<Vec<Sending>, AllocError>
+) -> Result<Vec<Gift>, AllocError>
     ensures { IfOk result (λ gifts. gifts.items ≡ words.gifts_of_settle here.now.space here.now.n peer number deeds.now (Some message.now)) }
 {
     let lost = is_lost_message(alloc, *here, deeds, message)?;
@@ -278,7 +278,7 @@ fn of_settle(
     number: ItemNo,
     deeds: &[Deed],
     waiting: &[Message],
-) -> Result<Vec<Sending>, AllocError>
+) -> Result<Vec<Gift>, AllocError>
     ensures { IfOk result (λ gifts. gifts.items ≡ words.gifts_of_settle here.now.space here.now.n peer number deeds.now (find (is_of peer number) waiting.now)) }
 {
     match find_waiting(peer, number, waiting) {
@@ -316,7 +316,7 @@ fn reply_to(
     peer: SpaceId,
     item: &Item,
     outcome: &Outcome,
-) -> Result<Vec<Sending>, AllocError>
+) -> Result<Vec<Gift>, AllocError>
     ensures { IfOk result (λ gifts. gifts.items ≡ words.reply_to peer item.now outcome.now) }
 {
     match item {
@@ -357,7 +357,7 @@ fn of_finish(
     job: JobNo,
     outcome: &Outcome,
     runs: &[Run],
-) -> Result<Vec<Sending>, AllocError>
+) -> Result<Vec<Gift>, AllocError>
     ensures { IfOk result (λ gifts. gifts.items ≡ words.gifts_of_finish outcome.now (find (is_run job) runs.now)) }
 {
     match find_run(job, runs) {
@@ -372,7 +372,7 @@ fn of_clean(
     here: &Here,
     deeds: &[Deed],
     rep: &WireRep,
-) -> Result<Vec<Sending>, AllocError>
+) -> Result<Vec<Gift>, AllocError>
     ensures { IfOk result (λ gifts. gifts.items ≡ (if (turns_word here.now.space here.now.n rep.now deeds.now).asks then record { to = rep.now.owner; item = items.Clean rep.now.index } ∷ [] else [])) }
 {
     if turns::turns_of(alloc, here, rep, deeds)?.asks {
@@ -384,39 +384,35 @@ fn of_clean(
 // What a call gives.
 fn of_call(
     alloc: Global,
-    here: Here,
     target: WireRep,
     call: CallNo,
     method: u16,
     value: &Value,
-) -> Result<Vec<Sending>, AllocError>
-    ensures { IfOk result (λ gifts. gifts.items ≡ (if is_peer here.space here.n target.owner then record { to = target.owner; item = items.Call call target.index method value.now } ∷ [] else [])) }
+) -> Result<Vec<Gift>, AllocError>
+    ensures { IfOk result (λ gifts. gifts.items ≡ record { to = target.owner; item = items.Call call target.index method value.now } ∷ []) }
 {
-    if here.is_peer(target.owner) {
-        let value = value.copy()?;
-        let to = target.owner;
-        let target = target.index;
-        let item = Item::Call {
-            call,
-            target,
-            method,
-            value,
-        };
-        return lone(alloc, to, item);
-    }
-    Ok(Vec::new(alloc))
+    let value = value.copy()?;
+    let to = target.owner;
+    let target = target.index;
+    let item = Item::Call {
+        call,
+        target,
+        method,
+        value,
+    };
+    lone(alloc, to, item)
 }
 
-/// What a deed gives to the peers, in order, by what was done and was in hand before.
-#[tactic(auto, unfolding(crate::specs::Gifts::gifts))]
-pub fn gifts(
+// What a deed gives, in order, whoever it goes to.
+#[tactic(auto, unfolding(crate::specs::Gifts::gifts_of))]
+fn gifts_of(
     alloc: Global,
     here: &Here,
     deed: &Deed,
     deeds: &[Deed],
-    work: &Work,
-) -> Result<Vec<Sending>, AllocError>
-    ensures { IfOk result (λ gifts. gifts.items ≡ words.gifts here.now.space here.now.n deed.now deeds.now work.now) }
+    work: &InHand,
+) -> Result<Vec<Gift>, AllocError>
+    ensures { IfOk result (λ gifts. gifts.items ≡ words.gifts_of here.now.space here.now.n deed.now deeds.now work.now) }
 {
     match deed {
         Deed::Call {
@@ -424,7 +420,7 @@ pub fn gifts(
             method,
             value,
             call,
-        } => of_call(alloc, *here, *target, *call, *method, value),
+        } => of_call(alloc, *target, *call, *method, value),
         Deed::Finish(job, outcome) => of_finish(alloc, *job, outcome, work.running.as_slice()),
         Deed::Act(peer, number) => of_act(alloc, here, *peer, *number, deeds),
         Deed::Settle(peer, number) => {
@@ -435,32 +431,58 @@ pub fn gifts(
     }
 }
 
+// Those of some gifts that go to peers.
+fn to_peers(here: Here, mut gifts: Vec<Gift>) -> Vec<Gift>
+    ensures { result.items ≡ filter (λ gift. is_peer here.space here.n gift.to) gifts.items }
+{
+    gifts.retain(|gift| here.is_peer(gift.to));
+    gifts
+}
+
+/// What a deed gives to the peers, in order, by what was done and was in hand before.
+#[tactic(auto, unfolding(crate::specs::Gifts::gifts))]
+pub fn gifts(
+    alloc: Global,
+    here: &Here,
+    deed: &Deed,
+    deeds: &[Deed],
+    work: &InHand,
+) -> Result<Vec<Gift>, AllocError>
+    ensures { IfOk result (λ gifts. gifts.items ≡ words.gifts here.now.space here.now.n deed.now deeds.now work.now) }
+{
+    let all = gifts_of(alloc, here, deed, deeds, work)?;
+    Ok(to_peers(*here, all))
+}
+
 /// What a space has in hand, and what each of its deeds gave, the newest first.
 #[derive(Debug, Drop)]
 pub struct Past {
     /// What it has in hand.
-    pub work: Work,
+    pub work: InHand,
     /// What each deed gave.
-    pub given: Vec<Sendings>,
+    pub all_gifts: Vec<GiftList>,
 }
 
 /// What a space has in hand, and what each of its deeds gave. It passes the deeds once, and at each of them looks back for
 /// the references that it touches.
 pub fn past_of(alloc: Global, here: &Here, deeds: &[Deed]) -> Result<Past, AllocError>
     ensures work { IfOk result (λ past. past.work ≡ work_word here.now.space here.now.n deeds.now) }
-    ensures given { IfOk result (λ past. past.given.items ≡ words.given here.now.space here.now.n deeds.now) }
+    ensures all_gifts { IfOk result (λ past. past.all_gifts.items ≡ words.all_gifts here.now.space here.now.n deeds.now) }
 {
     match deeds {
         [] => Ok(Past {
-            work: Work::none(alloc),
-            given: Vec::new(alloc),
+            work: InHand::none(alloc),
+            all_gifts: Vec::new(alloc),
         }),
         [deed, older @ ..] => {
-            let Past { work, mut given } = past_of(alloc, here, older)?;
+            let Past {
+                work,
+                mut all_gifts,
+            } = past_of(alloc, here, older)?;
             let gifts = gifts(alloc, here, deed, older, &work)?;
-            given.insert(0, Sendings::from_vec(gifts))?;
+            all_gifts.insert(0, GiftList::from_vec(gifts))?;
             let work = work::after(alloc, here, deed, older, deeds, work)?;
-            Ok(Past { work, given })
+            Ok(Past { work, all_gifts })
         }
     }
 }

@@ -6,5 +6,5 @@
 pub mod gifts;
 pub mod work;
 
-pub use gifts::{Past, Sending, Sendings};
-pub use work::{OwnCall, OwnCalls, Run, Runs, Stage, Work};
+pub use gifts::{Gift, GiftList, Past};
+pub use work::{InHand, OwnCall, OwnCalls, Run, Runs, Stage};

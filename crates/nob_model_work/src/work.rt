@@ -2,6 +2,7 @@
 
 ghost use Rattle.std.specs.Prelude.{◌≡◌, [], ◌∷◌, ◌++◌, not, IfOk, Some, None, map, filter, find, if◌then◌else◌};
 ghost use Rattle.std.specs.List.{list_any};
+ghost use Rattle.nob_model_words.specs.declared.deed.Deed.TheVariants as did;
 ghost use Rattle.nob_model_words.specs.Sessions.{item_at};
 ghost use Rattle.nob_model_words.specs.Messages as message_words;
 ghost use Rattle.nob_model_work.specs.Work as words;
@@ -134,7 +135,7 @@ impl Runs {
 
 /// What a space has in hand.
 #[derive(Debug, Drop)]
-pub struct Work {
+pub struct InHand {
     /// The messages that wait for their references, in order of acting.
     pub waiting: Messages,
     /// The ready jobs, in order of becoming ready.
@@ -147,12 +148,12 @@ pub struct Work {
     pub calls: OwnCalls,
 }
 
-impl Work {
+impl InHand {
     /// Nothing in hand.
-    pub fn none(alloc: Global) -> Work
+    pub fn none(alloc: Global) -> InHand
         ensures { result ≡ words.no_work }
     {
-        Work {
+        InHand {
             waiting: Messages::from_vec(Vec::new(alloc)),
             ready: Messages::from_vec(Vec::new(alloc)),
             running: Runs::from_vec(Vec::new(alloc)),
@@ -172,10 +173,10 @@ fn with_message(messages: Messages, message: Message) -> Result<Messages, AllocE
 }
 
 // One message more that waits.
-fn wait(message: Message, work: Work) -> Result<Work, AllocError>
+fn wait(message: Message, work: InHand) -> Result<InHand, AllocError>
     ensures { IfOk result (λ after. after ≡ words.wait message work) }
 {
-    let Work {
+    let InHand {
         waiting,
         ready,
         running,
@@ -183,7 +184,7 @@ fn wait(message: Message, work: Work) -> Result<Work, AllocError>
         calls,
     } = work;
     let waiting = with_message(waiting, message)?;
-    Ok(Work {
+    Ok(InHand {
         waiting,
         ready,
         running,
@@ -193,10 +194,10 @@ fn wait(message: Message, work: Work) -> Result<Work, AllocError>
 }
 
 // One ready job more.
-fn make_ready(message: Message, work: Work) -> Result<Work, AllocError>
+fn make_ready(message: Message, work: InHand) -> Result<InHand, AllocError>
     ensures { IfOk result (λ after. after ≡ words.make_ready message work) }
 {
-    let Work {
+    let InHand {
         waiting,
         ready,
         running,
@@ -204,7 +205,7 @@ fn make_ready(message: Message, work: Work) -> Result<Work, AllocError>
         calls,
     } = work;
     let ready = with_message(ready, message)?;
-    Ok(Work {
+    Ok(InHand {
         waiting,
         ready,
         running,
@@ -214,10 +215,10 @@ fn make_ready(message: Message, work: Work) -> Result<Work, AllocError>
 }
 
 // One ready reply more.
-fn make_reply(message: Message, work: Work) -> Result<Work, AllocError>
+fn make_reply(message: Message, work: InHand) -> Result<InHand, AllocError>
     ensures { IfOk result (λ after. after ≡ words.make_reply message work) }
 {
-    let Work {
+    let InHand {
         waiting,
         ready,
         running,
@@ -225,7 +226,7 @@ fn make_reply(message: Message, work: Work) -> Result<Work, AllocError>
         calls,
     } = work;
     let replies = with_message(replies, message)?;
-    Ok(Work {
+    Ok(InHand {
         waiting,
         ready,
         running,
@@ -235,9 +236,9 @@ fn make_reply(message: Message, work: Work) -> Result<Work, AllocError>
 }
 
 // A call after a Reply to a call of a peer's was acted on.
-#[tactic(auto, unfolding(crate::specs::Work::call_answered))]
-fn call_answered(peer: SpaceId, call: CallNo, own: &OwnCall) -> OwnCall
-    ensures { result ≡ words.call_answered peer call own.now }
+#[tactic(auto, unfolding(crate::specs::Work::call_after_reply))]
+fn call_after_reply(peer: SpaceId, call: CallNo, own: &OwnCall) -> OwnCall
+    ensures { result ≡ words.call_after_reply peer call own.now }
 {
     let answered = own.to == peer && own.call == call;
     match own.stage {
@@ -257,19 +258,19 @@ fn call_answered(peer: SpaceId, call: CallNo, own: &OwnCall) -> OwnCall
 }
 
 // Calls after a Reply to one of them was acted on.
-fn calls_answered(
+fn calls_after_reply(
     alloc: Global,
     peer: SpaceId,
     call: CallNo,
     calls: &[OwnCall],
 ) -> Result<Vec<OwnCall>, AllocError>
-    ensures { IfOk result (λ after. after.items ≡ map (words.call_answered peer call) calls.now) }
+    ensures { IfOk result (λ after. after.items ≡ map (words.call_after_reply peer call) calls.now) }
 {
     match calls {
         [] => Ok(Vec::new(alloc)),
         [own, others @ ..] => {
-            let mut after = calls_answered(alloc, peer, call, others)?;
-            let first = call_answered(peer, call, own);
+            let mut after = calls_after_reply(alloc, peer, call, others)?;
+            let first = call_after_reply(peer, call, own);
             after.insert(0, first)?;
             Ok(after)
         }
@@ -277,9 +278,9 @@ fn calls_answered(
 }
 
 // A message that was acted on.
-#[tactic(auto, unfolding(crate::specs::Work::taken_in))]
-fn taken_in(alloc: Global, message: Message, work: Work) -> Result<Work, AllocError>
-    ensures { IfOk result (λ after. after ≡ words.taken_in message message.item work) }
+#[tactic(auto, unfolding(crate::specs::Work::after_message))]
+fn after_message(alloc: Global, message: Message, work: InHand) -> Result<InHand, AllocError>
+    ensures { IfOk result (λ after. after ≡ words.after_message message message.item work) }
 {
     let alone = message.copies.as_slice().is_empty();
     match &message.item {
@@ -295,7 +296,7 @@ fn taken_in(alloc: Global, message: Message, work: Work) -> Result<Work, AllocEr
 }
 
 // A Reply is ready at once if it carries no counted references, else it waits.
-fn place_reply(message: Message, work: Work) -> Result<Work, AllocError>
+fn place_reply(message: Message, work: InHand) -> Result<InHand, AllocError>
     ensures { IfOk result (λ after. after ≡ (if words.is_none_of message.copies then words.make_reply message work else words.wait message work)) }
 {
     if message.copies.as_slice().is_empty() {
@@ -305,18 +306,23 @@ fn place_reply(message: Message, work: Work) -> Result<Work, AllocError>
 }
 
 // A call is answered.
-fn answer_call(alloc: Global, peer: SpaceId, call: CallNo, work: Work) -> Result<Work, AllocError>
-    ensures { IfOk result (λ after. after ≡ words.with_calls (words.call_answered peer call) work) }
+fn answer_call(
+    alloc: Global,
+    peer: SpaceId,
+    call: CallNo,
+    work: InHand,
+) -> Result<InHand, AllocError>
+    ensures { IfOk result (λ after. after ≡ words.with_calls (words.call_after_reply peer call) work) }
 {
-    let Work {
+    let InHand {
         waiting,
         ready,
         running,
         replies,
         calls,
     } = work;
-    let calls = OwnCalls::from_vec(calls_answered(alloc, peer, call, calls.as_slice())?);
-    Ok(Work {
+    let calls = OwnCalls::from_vec(calls_after_reply(alloc, peer, call, calls.as_slice())?);
+    Ok(InHand {
         waiting,
         ready,
         running,
@@ -326,8 +332,13 @@ fn answer_call(alloc: Global, peer: SpaceId, call: CallNo, work: Work) -> Result
 }
 
 // A Reply to a call that was acted on.
-fn reply_in(alloc: Global, call: CallNo, message: Message, work: Work) -> Result<Work, AllocError>
-    ensures { IfOk result (λ after. after ≡ words.with_calls (words.call_answered message.from call) (if words.is_none_of message.copies then words.make_reply message work else words.wait message work)) }
+fn reply_in(
+    alloc: Global,
+    call: CallNo,
+    message: Message,
+    work: InHand,
+) -> Result<InHand, AllocError>
+    ensures { IfOk result (λ after. after ≡ words.with_calls (words.call_after_reply message.from call) (if words.is_none_of message.copies then words.make_reply message work else words.wait message work)) }
 {
     let from = message.from;
     let taken = place_reply(message, work)?;
@@ -341,16 +352,18 @@ fn after_act(
     here: Here,
     peer: SpaceId,
     number: ItemNo,
+    older: &[Deed],
     deeds: &[Deed],
-    work: Work,
-) -> Result<Work, AllocError>
-    ensures { IfOk result (λ after. after ≡ words.after_act here.space here.n peer number deeds.now (item_at peer number deeds.now) work) }
+    work: InHand,
+) -> Result<InHand, AllocError>
+    requires { deeds.now ≡ did.Act peer number ∷ older.now }
+    ensures { IfOk result (λ after. after ≡ words.after_act here.space here.n peer number older.now (item_at peer number older.now) work) }
 {
-    match sessions::item_at(alloc, peer, number, deeds)? {
+    match sessions::item_at(alloc, peer, number, older)? {
         None => Ok(work),
         Some(item) => {
             let message = new_message(alloc, here, peer, number, item, deeds)?;
-            taken_in(alloc, message, work)
+            after_message(alloc, message, work)
         }
     }
 }
@@ -372,9 +385,14 @@ fn lost_reply(alloc: Global, message: &Message, call: CallNo) -> Message
 }
 
 // A message that was settled.
-#[tactic(auto, unfolding(crate::specs::Work::settled_in))]
-fn settled_in(alloc: Global, message: Message, lost: bool, work: Work) -> Result<Work, AllocError>
-    ensures { IfOk result (λ after. after ≡ words.settled_in message message.item lost work) }
+#[tactic(auto, unfolding(crate::specs::Work::after_settlement))]
+fn after_settlement(
+    alloc: Global,
+    message: Message,
+    lost: bool,
+    work: InHand,
+) -> Result<InHand, AllocError>
+    ensures { IfOk result (λ after. after ≡ words.after_settlement message message.item lost work) }
 {
     match &message.item {
         Item::Call { .. } => {
@@ -435,18 +453,18 @@ fn take_job(
 }
 
 // What is in hand after Settle of the message that came from a peer in an item of this number.
-#[tactic(auto, unfolding(crate::specs::Work::after_settle))]
+#[tactic(auto, unfolding(crate::specs::Work::after_settle), using(crate::proofs::Firsts::none_taken))]
 fn after_settle(
     alloc: Global,
     here: Here,
     peer: SpaceId,
     number: ItemNo,
     deeds: &[Deed],
-    work: Work,
-) -> Result<Work, AllocError>
+    work: InHand,
+) -> Result<InHand, AllocError>
     ensures { IfOk result (λ after. after ≡ words.after_settle here.space here.n peer number deeds.now (find (message_words.is_of peer number) work.waiting) work) }
 {
-    let Work {
+    let InHand {
         waiting,
         ready,
         running,
@@ -455,7 +473,7 @@ fn after_settle(
     } = work;
     let (found, rest) = take_waiting(peer, number, waiting.into_vec())?;
     let waiting = Messages::from_vec(rest);
-    let others = Work {
+    let others = InHand {
         waiting,
         ready,
         running,
@@ -466,16 +484,16 @@ fn after_settle(
         None => Ok(others),
         Some(message) => {
             let lost = is_lost_message(alloc, here, deeds, &message)?;
-            settled_in(alloc, message, lost, others)
+            after_settlement(alloc, message, lost, others)
         }
     }
 }
 
 // A job that runs, the newest.
-fn start(job: JobNo, message: Message, work: Work) -> Result<Work, AllocError>
+fn start(job: JobNo, message: Message, work: InHand) -> Result<InHand, AllocError>
     ensures { IfOk result (λ after. after ≡ words.start job message work) }
 {
-    let Work {
+    let InHand {
         waiting,
         ready,
         running,
@@ -485,7 +503,7 @@ fn start(job: JobNo, message: Message, work: Work) -> Result<Work, AllocError>
     let mut runs = running.into_vec();
     runs.insert(0, Run { job, message })?;
     let running = Runs::from_vec(runs);
-    Ok(Work {
+    Ok(InHand {
         waiting,
         ready,
         running,
@@ -495,11 +513,11 @@ fn start(job: JobNo, message: Message, work: Work) -> Result<Work, AllocError>
 }
 
 // What is in hand after Claim of a job.
-#[tactic(auto, unfolding(crate::specs::Work::after_claim))]
-fn after_claim(job: &Job, work: Work) -> Result<Work, AllocError>
+#[tactic(auto, unfolding(crate::specs::Work::after_claim), using(crate::proofs::Firsts::none_taken))]
+fn after_claim(job: &Job, work: InHand) -> Result<InHand, AllocError>
     ensures { IfOk result (λ after. after ≡ words.after_claim job.now (find (message_words.is_job job.now) work.ready) work) }
 {
-    let Work {
+    let InHand {
         waiting,
         ready,
         running,
@@ -508,7 +526,7 @@ fn after_claim(job: &Job, work: Work) -> Result<Work, AllocError>
     } = work;
     let (found, rest) = take_job(job, ready.into_vec())?;
     let ready = Messages::from_vec(rest);
-    let others = Work {
+    let others = InHand {
         waiting,
         ready,
         running,
@@ -523,10 +541,10 @@ fn after_claim(job: &Job, work: Work) -> Result<Work, AllocError>
 
 // What is in hand after the end of a job.
 #[tactic(auto, unfolding(crate::specs::Work::after_finish))]
-fn after_finish(job: JobNo, work: Work) -> Work
+fn after_finish(job: JobNo, work: InHand) -> InHand
     ensures { result ≡ words.after_finish job work }
 {
-    let Work {
+    let InHand {
         waiting,
         ready,
         running,
@@ -536,7 +554,7 @@ fn after_finish(job: JobNo, work: Work) -> Work
     let mut runs = running.into_vec();
     runs.retain(|run| run.job != job);
     let running = Runs::from_vec(runs);
-    Work {
+    InHand {
         waiting,
         ready,
         running,
@@ -565,10 +583,10 @@ fn without_call(call: CallNo, calls: OwnCalls) -> OwnCalls
 
 // What is in hand after the reply to a call was taken.
 #[tactic(auto, unfolding(crate::specs::Work::after_take))]
-fn after_take(call: CallNo, work: Work) -> Work
+fn after_take(call: CallNo, work: InHand) -> InHand
     ensures { result ≡ words.after_take call work }
 {
-    let Work {
+    let InHand {
         waiting,
         ready,
         running,
@@ -578,7 +596,7 @@ fn after_take(call: CallNo, work: Work) -> Work
     let waiting = without_replies(call, waiting);
     let replies = without_replies(call, replies);
     let calls = without_call(call, calls);
-    Work {
+    InHand {
         waiting,
         ready,
         running,
@@ -589,10 +607,10 @@ fn after_take(call: CallNo, work: Work) -> Work
 
 // What is in hand after it was told that there will be no reply to a call.
 #[tactic(auto, unfolding(crate::specs::Work::after_end))]
-fn after_end(call: CallNo, work: Work) -> Work
+fn after_end(call: CallNo, work: InHand) -> InHand
     ensures { result ≡ words.after_end call work }
 {
-    let Work {
+    let InHand {
         waiting,
         ready,
         running,
@@ -600,7 +618,7 @@ fn after_end(call: CallNo, work: Work) -> Work
         calls,
     } = work;
     let calls = without_call(call, calls);
-    Work {
+    InHand {
         waiting,
         ready,
         running,
@@ -611,10 +629,10 @@ fn after_end(call: CallNo, work: Work) -> Work
 
 // What is in hand after a call was made.
 #[tactic(auto, unfolding(crate::specs::Work::after_call))]
-fn after_call(to: SpaceId, call: CallNo, work: Work) -> Result<Work, AllocError>
+fn after_call(to: SpaceId, call: CallNo, work: InHand) -> Result<InHand, AllocError>
     ensures { IfOk result (λ after. after ≡ words.after_call to call work) }
 {
-    let Work {
+    let InHand {
         waiting,
         ready,
         running,
@@ -625,7 +643,7 @@ fn after_call(to: SpaceId, call: CallNo, work: Work) -> Result<Work, AllocError>
     let stage = Stage::Sent;
     items.push(OwnCall { call, to, stage })?;
     let calls = OwnCalls::from_vec(items);
-    Ok(Work {
+    Ok(InHand {
         waiting,
         ready,
         running,
@@ -651,9 +669,9 @@ fn is_replied(peer: SpaceId, call: CallNo, replies: &[Message]) -> bool
 }
 
 // A call after the session with a peer closed.
-#[tactic(auto, unfolding(crate::specs::Work::call_closed))]
-fn call_closed(peer: SpaceId, replies: &[Message], own: &OwnCall) -> OwnCall
-    ensures { result ≡ words.call_closed peer replies.now own.now }
+#[tactic(auto, unfolding(crate::specs::Work::call_after_close))]
+fn call_after_close(peer: SpaceId, replies: &[Message], own: &OwnCall) -> OwnCall
+    ensures { result ≡ words.call_after_close peer replies.now own.now }
 {
     if own.to == peer && !is_replied(peer, own.call, replies) {
         let stage = Stage::Ended;
@@ -667,19 +685,19 @@ fn call_closed(peer: SpaceId, replies: &[Message], own: &OwnCall) -> OwnCall
 }
 
 // Calls after the session with a peer closed.
-fn calls_closed(
+fn calls_after_close(
     alloc: Global,
     peer: SpaceId,
     replies: &[Message],
     calls: &[OwnCall],
 ) -> Result<Vec<OwnCall>, AllocError>
-    ensures { IfOk result (λ after. after.items ≡ map (words.call_closed peer replies.now) calls.now) }
+    ensures { IfOk result (λ after. after.items ≡ map (words.call_after_close peer replies.now) calls.now) }
 {
     match calls {
         [] => Ok(Vec::new(alloc)),
         [own, others @ ..] => {
-            let mut after = calls_closed(alloc, peer, replies, others)?;
-            let first = call_closed(peer, replies, own);
+            let mut after = calls_after_close(alloc, peer, replies, others)?;
+            let first = call_after_close(peer, replies, own);
             after.insert(0, first)?;
             Ok(after)
         }
@@ -688,10 +706,10 @@ fn calls_closed(
 
 // What is in hand after the session with a peer closed.
 #[tactic(auto, unfolding(crate::specs::Work::after_close))]
-fn after_close(alloc: Global, peer: SpaceId, work: Work) -> Result<Work, AllocError>
+fn after_close(alloc: Global, peer: SpaceId, work: InHand) -> Result<InHand, AllocError>
     ensures { IfOk result (λ after. after ≡ words.after_close peer work) }
 {
-    let Work {
+    let InHand {
         waiting,
         ready,
         running,
@@ -700,13 +718,13 @@ fn after_close(alloc: Global, peer: SpaceId, work: Work) -> Result<Work, AllocEr
     } = work;
     let waiting = without_peer(peer, waiting);
     let ready = without_peer(peer, ready);
-    let calls = OwnCalls::from_vec(calls_closed(
+    let calls = OwnCalls::from_vec(calls_after_close(
         alloc,
         peer,
         replies.as_slice(),
         calls.as_slice(),
     )?);
-    Ok(Work {
+    Ok(InHand {
         waiting,
         ready,
         running,
@@ -715,16 +733,18 @@ fn after_close(alloc: Global, peer: SpaceId, work: Work) -> Result<Work, AllocEr
     })
 }
 
-// What is in hand after a deed, the loans aside.
+// What is in hand after a deed, the first of these, the loans aside.
 #[tactic(auto, unfolding(crate::specs::Work::work_after))]
 fn work_after(
     alloc: Global,
     here: Here,
     deed: &Deed,
+    older: &[Deed],
     deeds: &[Deed],
-    work: Work,
-) -> Result<Work, AllocError>
-    ensures { IfOk result (λ after. after ≡ words.work_after here.space here.n deed.now deeds.now work) }
+    work: InHand,
+) -> Result<InHand, AllocError>
+    requires { deeds.now ≡ deed.now ∷ older.now }
+    ensures { IfOk result (λ after. after ≡ words.work_after here.space here.n deed.now older.now work) }
 {
     match deed {
         Deed::Call { target, call, .. } => after_call(target.owner, *call, work),
@@ -733,9 +753,9 @@ fn work_after(
         Deed::Claim(job) => after_claim(job, work),
         Deed::Finish(job, _) => Ok(after_finish(*job, work)),
         Deed::DropReply(job) => Ok(after_finish(*job, work)),
-        Deed::Act(peer, number) => after_act(alloc, here, *peer, *number, deeds, work),
-        Deed::Settle(peer, number) => after_settle(alloc, here, *peer, *number, deeds, work),
-        Deed::Close(peer, _, _) => after_close(alloc, *peer, work),
+        Deed::Act(peer, number) => after_act(alloc, here, *peer, *number, older, deeds, work),
+        Deed::Settle(peer, number) => after_settle(alloc, here, *peer, *number, older, work),
+        Deed::Closing(peer, _, _) => after_close(alloc, *peer, work),
         _ => Ok(work),
     }
 }
@@ -792,10 +812,15 @@ fn run_loans(alloc: Global, here: &Here, deeds: &[Deed], runs: Runs) -> Result<R
 
 // What is in hand with the loans made that can be made now.
 #[tactic(auto, unfolding(crate::specs::Work::with_loans))]
-fn with_loans(alloc: Global, here: &Here, deeds: &[Deed], work: Work) -> Result<Work, AllocError>
+fn with_loans(
+    alloc: Global,
+    here: &Here,
+    deeds: &[Deed],
+    work: InHand,
+) -> Result<InHand, AllocError>
     ensures { IfOk result (λ after. after ≡ words.with_loans here.now.space here.now.n deeds.now work) }
 {
-    let Work {
+    let InHand {
         waiting,
         ready,
         running,
@@ -806,7 +831,7 @@ fn with_loans(alloc: Global, here: &Here, deeds: &[Deed], work: Work) -> Result<
     let ready = message_loans(alloc, here, deeds, ready)?;
     let running = run_loans(alloc, here, deeds, running)?;
     let replies = message_loans(alloc, here, deeds, replies)?;
-    Ok(Work {
+    Ok(InHand {
         waiting,
         ready,
         running,
@@ -822,20 +847,21 @@ pub fn after(
     deed: &Deed,
     older: &[Deed],
     deeds: &[Deed],
-    work: Work,
-) -> Result<Work, AllocError>
+    work: InHand,
+) -> Result<InHand, AllocError>
+    requires { deeds.now ≡ deed.now ∷ older.now }
     ensures { IfOk result (λ after. after ≡ words.with_loans here.now.space here.now.n deeds.now (words.work_after here.now.space here.now.n deed.now older.now work)) }
 {
-    let done = work_after(alloc, *here, deed, older, work)?;
+    let done = work_after(alloc, *here, deed, older, deeds, work)?;
     with_loans(alloc, here, deeds, done)
 }
 
 /// What a space has in hand.
-pub fn in_hand(alloc: Global, here: &Here, deeds: &[Deed]) -> Result<Work, AllocError>
+pub fn in_hand(alloc: Global, here: &Here, deeds: &[Deed]) -> Result<InHand, AllocError>
     ensures { IfOk result (λ work. work ≡ words.work here.now.space here.now.n deeds.now) }
 {
     match deeds {
-        [] => Ok(Work::none(alloc)),
+        [] => Ok(InHand::none(alloc)),
         [deed, older @ ..] => {
             let before = in_hand(alloc, here, older)?;
             after(alloc, here, deed, older, deeds, before)

@@ -1,6 +1,6 @@
 use Rattle.std.proofs.Common.{◌≡◌, ◌∙◌, ◌==◌, not, ap, filter, refl, rules}
 use Rattle.std.proofs.lemmas.Fn.{filter_same}
-use Rattle.nob_model_work.specs.declared.work.Work.{Work}
+use Rattle.nob_model_work.specs.declared.work.InHand.{InHand}
 use Rattle.nob_model_work.specs.declared.work.Run.{Run}
 use Rattle.nob_model_work.specs.declared.work.OwnCall.{OwnCall}
 use Rattle.nob_model_words.specs.declared.message.Message.{Message}

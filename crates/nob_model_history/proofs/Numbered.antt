@@ -1,0 +1,101 @@
+-- The calls on an end hand on what was sent to its peer, in order, and nothing else.
+use Rattle.std.proofs.Common.{◌≡◌, ℕ, suc, ◌+◌, Bool, true, false, cond, List, [], ◌∷◌, ◌++◌, length, map, filter, Ok, refl, sym, ap, subst, ◌∙◌, append_assoc, arith}
+use Rattle.std.specs.Prelude.{◌==◌}
+use Rattle.std.proofs.lemmas.List.{append-nil, length-append, length-map, map-append}
+use Rattle.std.proofs.lemmas.List.Elements.{filter-append}
+use Rattle.nob_ids.specs.declared.reason.Reason.{Reason}
+use Rattle.nob_item.specs.declared.item.Item.{Item}
+use Rattle.nob_model_end.specs.End.{handed}
+use Rattle.nob_model_end.specs.declared.entry.EndEntry.{EndEntry}
+use Rattle.nob_model_end.specs.declared.entry.EndEntry.TheVariants as ends
+use Rattle.nob_model_words.specs.declared.deed.Deed.{Deed}
+use Rattle.nob_model_words.specs.declared.deed.Deed.TheVariants as did
+use Rattle.nob_model_words.specs.declared.deed.Cause.{Cause}
+use Rattle.nob_model_words.specs.declared.deed.Cause.TheVariants as causes
+use Rattle.nob_model_work.specs.declared.gifts.Gift.{Gift}
+use Rattle.nob_model_work.specs.Work.{work}
+use Rattle.nob_model_work.specs.Gifts.{gifts, all_gifts}
+use Rattle.nob_model_history.specs.declared.transit.SentItem.{SentItem}
+use Rattle.nob_model_history.specs.Histories.{history_of}
+use Rattle.nob_model_history.specs.Ends.{items_to, payload_of, kind_of, with_sends, own_calls, call_of_closing, calls_of, calls_at}
+use Rattle.nob_model_history.specs.Transit.{count_to, with_gifts, sent_of, sent}
+
+-- ---- what is handed
+
+-- a call that is no Send hands nothing, made or not
+if_handed : (b : Bool) (call : EndEntry) (calls : List EndEntry) → handed (call ∷ calls) ≡ handed calls → handed (cond b (call ∷ calls) calls) ≡ handed calls
+if_handed true call calls same = same
+if_handed false call calls same = refl
+
+closing_handed : (p : ℕ) (reason : Reason) (cause : Cause) (calls : List EndEntry) → handed (call_of_closing p reason cause ∷ calls) ≡ handed calls
+closing_handed p reason causes.Item calls = refl
+closing_handed p reason (causes.Frame frame) calls = refl
+closing_handed p reason causes.Ticks calls = refl
+closing_handed p reason causes.Asked calls = refl
+
+-- the call that a deed itself is hands nothing
+pub own_handed : (p : ℕ) (deed : Deed) (calls : List EndEntry) → handed (own_calls p deed calls) ≡ handed calls
+own_handed p (did.Act q k) calls = if_handed (q == p) ends.Take calls refl
+own_handed p (did.Transmit q frames) calls = if_handed (q == p) (ends.Transmit frames) calls refl
+own_handed p (did.Arrive frame count) calls = if_handed (frame.from == p) _ calls refl
+own_handed p (did.Tick q) calls = if_handed (q == p) _ calls refl
+own_handed p (did.Closing q reason cause) calls = if_handed (q == p) _ calls (closing_handed p reason cause calls)
+own_handed p (_) calls = refl
+
+-- sends hand their items on, behind what was handed before
+pub sends_handed : (items : List Item) (calls : List EndEntry) → handed (with_sends items calls) ≡ handed calls ++ map payload_of items
+sends_handed [] calls = sym (append-nil (handed calls))
+sends_handed (item ∷ items) calls =
+    sends_handed items (ends.Send (payload_of item) (kind_of item) (Ok (length (handed calls) + 1)) ∷ calls)
+    ∙ append_assoc (handed calls) (payload_of item ∷ []) (map payload_of items)
+
+-- ---- what is sent
+
+-- the items of those that went to p
+abbrev pub items_sent_to : ℕ → List SentItem → List Item
+items_sent_to p sent_items = map (λ (one : SentItem). one.item) (filter (λ (one : SentItem). one.to == p) sent_items)
+
+one_more_to : (b : Bool) (one : SentItem) (gift : Gift) (rest : List Gift) → one.item ≡ gift.item → (before : List Item) → (before ++ map (λ (x : SentItem). x.item) (cond b (one ∷ []) [])) ++ map (λ (x : Gift). x.item) rest ≡ before ++ map (λ (x : Gift). x.item) (cond b (gift ∷ rest) rest)
+one_more_to true one gift rest same before = append_assoc before (one.item ∷ []) _ ∙ ap (λ (item : Item). before ++ item ∷ map (λ (x : Gift). x.item) rest) same
+one_more_to false one gift rest same before = ap (λ (items : List Item). items ++ map (λ (x : Gift). x.item) rest) (append-nil before)
+
+-- gifts to p are sent behind what was sent to it before
+pub gifts_sent_to : (p : ℕ) (gifts : List Gift) (before : List SentItem) → items_sent_to p (with_gifts before gifts) ≡ items_sent_to p before ++ items_to p gifts
+gifts_sent_to p [] before = sym (append-nil _)
+gifts_sent_to p (gift ∷ gifts) before =
+    let one : SentItem = record { to = gift.to; number = count_to gift.to before + 1; item = gift.item } in
+    gifts_sent_to p gifts (before ++ one ∷ [])
+    ∙ ap (λ (items : List Item). items ++ items_to p gifts) (ap (map (λ (x : SentItem). x.item)) (filter-append (λ (x : SentItem). x.to == p) before (one ∷ [])) ∙ map-append (λ (x : SentItem). x.item) (filter (λ (x : SentItem). x.to == p) before) _)
+    ∙ one_more_to (gift.to == p) one gift (filter (λ (x : Gift). x.to == p) gifts) refl (items_sent_to p before)
+
+-- ---- both
+
+-- what is handed on the end with p are the payloads of what was sent to p, in order
+pub payloads_handed : (s n p : ℕ) (D : List Deed) → handed (calls_at p (history_of s n D)) ≡ map payload_of (items_sent_to p (sent (history_of s n D)))
+payloads_handed s n p [] = refl
+payloads_handed s n p (deed ∷ D) =
+    let more = gifts s n deed D (work s n D) in
+    own_handed p deed (with_sends (items_to p more) (calls_at p (history_of s n D)))
+    ∙ sends_handed (items_to p more) (calls_at p (history_of s n D))
+    ∙ ap (λ (payloads : List (List ℕ)). payloads ++ map payload_of (items_to p more)) (payloads_handed s n p D)
+    ∙ sym (map-append payload_of (items_sent_to p (sent (history_of s n D))) (items_to p more))
+    ∙ ap (map payload_of) (sym (gifts_sent_to p more (sent (history_of s n D))))
+
+-- as many items are handed on the end with p as were sent to p
+pub count_handed : (s n p : ℕ) (D : List Deed) → length (handed (calls_at p (history_of s n D))) ≡ count_to p (sent (history_of s n D))
+count_handed s n p D =
+    ap length (payloads_handed s n p D)
+    ∙ length-map (items_sent_to p (sent (history_of s n D))) payload_of
+    ∙ length-map (filter (λ (x : SentItem). x.to == p) (sent (history_of s n D))) (λ (x : SentItem). x.item)
+
+-- ---- one deed more
+
+-- the calls on the end with p once a deed more is done: what it gave to p is sent, and then the deed's own call is made
+pub calls_more : (s n p : ℕ) (deed : Deed) (D : List Deed) → calls_at p (history_of s n (deed ∷ D)) ≡ own_calls p deed (with_sends (items_to p (gifts s n deed D (work s n D))) (calls_at p (history_of s n D)))
+calls_more s n p deed D = refl
+
+-- a deed that gives nothing to p and is no call on the end with p leaves the calls on that end as they were
+pub calls_same : (s n p : ℕ) (deed : Deed) (D : List Deed) → items_to p (gifts s n deed D (work s n D)) ≡ [] → ((calls : List EndEntry) → own_calls p deed calls ≡ calls) → calls_at p (history_of s n (deed ∷ D)) ≡ calls_at p (history_of s n D)
+calls_same s n p deed D none same =
+    same (with_sends (items_to p (gifts s n deed D (work s n D))) (calls_at p (history_of s n D)))
+    ∙ ap (λ (items : List Item). with_sends items (calls_at p (history_of s n D))) none

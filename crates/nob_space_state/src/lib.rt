@@ -1,0 +1,10 @@
+//! The state of a space, in parts: what a space keeps, and for which lists of what it did that stands.
+#![tactic(auto)]
+
+mod error;
+mod looks;
+mod objects;
+mod parts;
+
+pub use error::SpaceError;
+pub use parts::Parts;
