@@ -1,0 +1,12 @@
+pub mod Words
+pub mod Told
+pub mod Shows
+pub mod Quiet
+pub mod Rows
+pub mod Stood
+pub mod Listed
+pub mod Pinned
+pub mod Exported
+pub mod Begins
+pub mod Ends
+pub mod Hands

@@ -1,0 +1,55 @@
+-- A state that stands for a list stands for it with a quiet deed more, once its table does.
+use Rattle.std.proofs.Common.{◌≡◌, ℕ, ◌+◌, ◌-◌, ◌≤◌, Bool, true, false, not, ◌&&◌, List, [], ◌∷◌, length, map, slice_get, if◌then◌else◌, Some, None, refl, sym, ap, subst, ◌∙◌}
+use Rattle.std.specs.List.{sum_by}
+use Rattle.nob_ids.specs.Names.{is_counted}
+use Rattle.nob_ids.specs.declared.limits.Limits.{Limits}
+use Rattle.nob_ids.specs.declared.wire_rep.WireRep.{WireRep}
+use Rattle.nob_session.specs.Stands.{end_of}
+use Rattle.nob_table.specs.Counts.{is_held}
+use Rattle.nob_table.specs.Standings as standings
+use Rattle.nob_table.specs.Table.{Table, standing}
+use Rattle.nob_model_words.specs.declared.deed.Deed.{Deed}
+use Rattle.nob_model_words.specs.Objects as objects
+use Rattle.nob_model_words.specs.Turns.{turns}
+use Rattle.nob_model_words.specs.Sessions.{closed}
+use Rattle.nob_model_end.specs.End.{accepted}
+use Rattle.nob_model_history.specs.Histories.{history_of}
+use Rattle.nob_model_history.specs.Transit as transit
+use Rattle.nob_space_state.specs.Parts.{State, with_table}
+use Rattle.nob_space_state.specs.Stands.{Stands, EndsStand, TableShows, TableStands, PinsStand, IsOrderly, bundle, far_state}
+use Rattle.nob_space_state.proofs.Quiet.{IsQuiet}
+
+module _ {s n : ℕ} {deed : Deed} {D : List Deed} (quiet : IsQuiet s n deed D) where
+  -- what a table shows of a history it shows of one with a quiet deed more that changes no object
+  pub shows_quiet : {t : Table} {H L : WireRep → ℕ} (H' L' : WireRep → ℕ) → TableShows s n t (history_of s n D) H L
+      → objects.exports (deed ∷ D) ≡ objects.exports D → ((index : ℕ) → objects.is_live s index (deed ∷ D) ≡ objects.is_live s index D)
+      → ((rep : WireRep) → is_counted rep ≡ true → H rep ≡ H' rep) → ((rep : WireRep) → is_counted rep ≡ true → L rep ≡ L' rep)
+      → TableShows s n t (history_of s n (deed ∷ D)) H' L'
+  shows_quiet {t} H' L' shows exports live hands loans = record {
+    me = shows.me;
+    exported = shows.exported ∙ ap length (sym exports);
+    live = λ index. shows.live index ∙ sym (live index);
+    far = λ rep counted own. shows.far rep counted own
+        ∙ ap (λ b. far_state b (is_held (standing t rep).counts) (turns s n rep D)) (sym (quiet.closed rep.owner))
+        ∙ ap (λ w. far_state (closed rep.owner (deed ∷ D)) (is_held (standing t rep).counts) w) (sym (quiet.turns rep));
+    hands = λ rep counted. shows.hands rep counted ∙ hands rep counted;
+    loans = λ rep counted. shows.loans rep counted ∙ loans rep counted;
+    dirties = shows.dirties ∙ ap length (sym quiet.dirties);
+    places = λ rep. shows.places rep ∙ ap (λ reps. if standings.is_surrogate (standing t rep).state then transit.last_place rep reps else None) (sym quiet.dirties);
+  }
+
+  -- a state with another table
+  pub stands_quiet : {limits : Limits} {st : State} (t : Table) → Stands s n limits st D → TableStands s n t (history_of s n (deed ∷ D)) → IsOrderly s n (deed ∷ D) → Stands s n limits (with_table t st) (deed ∷ D)
+  stands_quiet {limits} {st} t stands table orderly = record {
+    ends = record {
+      each = stands.ends.each;
+      ends = λ place end there. stands.ends.ends place end there ∙ ap (λ calls. end_of s (place + 1) limits calls) (sym (quiet.calls (place + 1)));
+    };
+    table = table;
+    listed = λ index client. stands.listed index client ∙ sym (quiet.listed index client);
+    pins = λ f. stands.pins f ∙ ap (λ items. sum_by f (map bundle items)) (sym quiet.bundles);
+    work = stands.work ∙ sym quiet.work;
+    calls = stands.calls ∙ sym quiet.calls_made;
+    jobs = stands.jobs ∙ sym quiet.jobs_made;
+    orderly = orderly;
+  }

@@ -1,0 +1,23 @@
+use Rattle.std.proofs.Common.{◌≡◌, None, Some, refl, sym, ap, ◌∙◌}
+use Rattle.std.proofs.lemmas.Option.{none-some}
+use Rattle.nob_model_types.specs.declared.answer.Answer.TheVariants as answers
+use Rattle.nob_model.specs.Sending.{unless}
+use Rattle.nob_space_state.specs.Parts.{state_of}
+use Rattle.nob_space_state.proofs.Shows.{shows_hand_fewer}
+use Rattle.nob_space_state.proofs.Hands.{release_right, release_finds_hold, release_stands, hand_there}
+use Rattle.nob_space_state.proofs.parts.Parts.release.Goals as goal
+
+pub returns-in-Err-clause-answer : goal.returns-in-Err-clause-answer
+returns-in-Err-clause-answer c limits D stands = release_right stands c.args.rep.now ∙ ap (λ refusal. unless refusal answers.Done) (c.in-Err.ensures {u = tt})
+
+pub unreachable-requires : goal.unreachable-requires
+unreachable-requires c = none-some _ (sym (release_finds_hold c.args.here.now.space (state_of c.args.self.now) c.args.rep.now (c.in_default.ensures {u = tt})) ∙ (c.in-Err-release.ensures {u = tt}).answer)
+
+pub returns-clause-answer : goal.returns-clause-answer
+returns-clause-answer c limits D stands = release_right stands c.args.rep.now ∙ ap (λ refusal. unless refusal answers.Done) (c.in_default.ensures {u = tt})
+
+pub returns-clause-stands : goal.returns-clause-stands
+returns-clause-stands c limits D stands =
+    release_stands stands c.args.rep.now c.release.new.self
+    (shows_hand_fewer _ _ _ _ _ c.args.self.now.table c.release.new.self c.args.rep.now stands.table c.release.ensures.left (c.in-Ok.ensures {u = tt}).answer (c.in-Ok.ensures {u = tt}).released)
+    (hand_there stands c.args.rep.now (c.in_default.ensures {u = tt}))

@@ -1,0 +1,25 @@
+use Rattle.std.proofs.Common.{◌≡◌, None, Some, refl, sym, ap, subst, ◌∙◌}
+use Rattle.std.proofs.lemmas.Option.{none-some}
+use Rattle.nob_table.specs.Table.{Becomes, withdraw_fault, own}
+use Rattle.nob_table.specs.Standings.{withdrawn}
+use Rattle.nob_model_types.specs.declared.answer.Answer.TheVariants as answers
+use Rattle.nob_model.specs.Right.{own_ref}
+use Rattle.nob_model.specs.Sending.{unless}
+use Rattle.nob_space_state.specs.Parts.{state_of}
+use Rattle.nob_space_state.proofs.Exported.{withdraw_right, withdraw_free, withdraw_stands}
+use Rattle.nob_space_state.proofs.parts.Parts.withdraw.Goals as goal
+
+pub returns-in-Err-clause-answer : goal.returns-in-Err-clause-answer
+returns-in-Err-clause-answer c limits D stands = withdraw_right stands c.args.index ∙ ap (λ refusal. unless refusal answers.Withdrawn) (c.in-Err.ensures {u = tt})
+
+pub unreachable-requires : goal.unreachable-requires
+unreachable-requires c = none-some _ (sym (withdraw_free c.requires.2 c.args.index (c.in_default.ensures {u = tt})) ∙ (c.in-Err-withdraw.ensures {u = tt}).answer)
+
+pub returns-clause-answer : goal.returns-clause-answer
+returns-clause-answer c limits D stands = withdraw_right stands c.args.index ∙ ap (λ refusal. unless refusal answers.Withdrawn) (c.in_default.ensures {u = tt})
+
+pub returns-clause-stands : goal.returns-clause-stands
+returns-clause-stands c limits D stands =
+    withdraw_stands stands c.withdraw.new.self c.args.index (c.in-Ok.ensures {u = tt}).left
+    (subst (λ me. Becomes c.args.self.now.table c.withdraw.new.self (record { owner = me; index = c.args.index }) withdrawn) stands.table.me (c.in-Ok.ensures {u = tt}).withdrawn)
+    (c.in_default.ensures {u = tt})

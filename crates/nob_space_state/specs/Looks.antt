@@ -1,0 +1,40 @@
+-- What the state tells of sessions and references.
+use Rattle.std.specs.Prelude.{ℕ, ◌-◌, Bool, true, false, ◌&&◌, ◌==◌, not, List, slice_get, Option, Some, None, if◌then◌else◌}
+use Rattle.nob_ids.specs.Names.{is_counted}
+use Rattle.nob_ids.specs.declared.wire_rep.WireRep.{WireRep}
+use Rattle.std.specs.List.{list_any}
+use Rattle.nob_dirty.specs.declared.sets.Listing.{Listing}
+use Rattle.nob_dirty.specs.Sets.{has_index}
+use Rattle.nob_session.specs.Stands.{Roomy, is_open_end}
+use Rattle.nob_table.specs.Standings.{is_live}
+use Rattle.nob_table.specs.Table.{Table, standing}
+use Rattle.nob_table.specs.Counts as counts
+
+-- whether an end, where there is one, has closed
+abbrev pub is_closed_end : Option Roomy → Bool
+is_closed_end None = false
+is_closed_end (Some end) = not (is_open_end end.end)
+
+-- the end with space p, where there is one: spaces are counted from 1
+abbrev pub end_with : List Roomy → ℕ → Option Roomy
+end_with sessions p = if p == 0 then None else slice_get sessions (p - 1)
+
+-- whether the end with space p has closed
+abbrev pub has_closed : List Roomy → ℕ → Bool
+has_closed sessions p = is_closed_end (end_with sessions p)
+
+-- whether the table has holds of a reference
+abbrev pub has_holds : Table → WireRep → Bool
+has_holds t rep = counts.is_held (standing t rep).counts
+
+-- whether a reference names an object of the table's space, not the agent, that isn't live
+abbrev pub names_none : ℕ → Table → WireRep → Bool
+names_none s t rep = not (rep.index == 0) && (rep.owner == s && not (is_live (standing t rep).state))
+
+-- whether a reference is another space's, and the end with that has closed
+abbrev pub is_cut : ℕ → List Roomy → WireRep → Bool
+is_cut s sessions rep = not (rep.owner == s) && has_closed sessions rep.owner
+
+-- whether a client is listed at an index
+abbrev pub has_clients : List Listing → ℕ → Bool
+has_clients dirty index = list_any (has_index index) dirty

@@ -1,0 +1,57 @@
+-- The parts of a space's state, as plain data.
+use Rattle.std.specs.Prelude.{ℕ, List}
+use Rattle.nob_session.specs.Stands.{Roomy}
+use Rattle.nob_table.specs.Table.{Table}
+use Rattle.nob_dirty.specs.declared.sets.Listing.{Listing}
+use Rattle.nob_pins.specs.Bundles as pins
+use Rattle.nob_model_work.specs.declared.work.InHand.{InHand}
+use Rattle.nob_space_state.specs.declared.parts.Parts.{Parts}
+
+-- what a space keeps: its ends of the sessions, at place p - 1 the one with space p; its objects and surrogates; who is listed for its objects; the pins of what it sent; the work in hand; and how many calls and jobs were made
+pub record State : Type 0 where
+  pub sessions : List Roomy
+  pub table : Table
+  pub dirty : List Listing
+  pub pins : pins.Table
+  pub work : InHand
+  pub calls : ℕ
+  pub jobs : ℕ
+
+-- the parts as plain data
+abbrev pub state_of : Parts → State
+state_of parts =
+    record {
+      sessions = parts.sessions.items;
+      table = parts.table;
+      dirty = parts.dirty;
+      pins = parts.pins;
+      work = record { waiting = parts.waiting.items; ready = parts.ready.items; running = parts.running.items; replies = parts.replies.items; calls = parts.calls.items };
+      calls = parts.calls_made;
+      jobs = parts.jobs_made;
+    }
+
+-- the state with another table
+abbrev pub with_table : Table → State → State
+with_table t st =
+    record {
+      sessions = st.sessions;
+      table = t;
+      dirty = st.dirty;
+      pins = st.pins;
+      work = st.work;
+      calls = st.calls;
+      jobs = st.jobs;
+    }
+
+-- the state with other ends
+abbrev pub with_sessions : List Roomy → State → State
+with_sessions sessions st =
+    record {
+      sessions = sessions;
+      table = st.table;
+      dirty = st.dirty;
+      pins = st.pins;
+      work = st.work;
+      calls = st.calls;
+      jobs = st.jobs;
+    }

@@ -1,0 +1,126 @@
+-- For which lists of what a space did its state stands: one equation for each part, by the words that are read off
+-- the whole list. The newest stands FIRST.
+use Rattle.std.specs.Prelude.{◌≡◌, ◌≤◌, ℕ, ◌+◌, Bool, true, false, ◌&&◌, ◌==◌, not, nat_le, List, [], ◌∷◌, length, slice_get, map, Option, Some, None, Result, Ok, Err, IsOk, if◌then◌else◌}
+use Rattle.std.specs.List.{sum_by, IsDistinct}
+use Rattle.nob_ids.specs.Names.{is_counted, is_same}
+use Rattle.nob_ids.specs.declared.limits.Limits.{Limits}
+use Rattle.nob_ids.specs.declared.wire_rep.WireRep.{WireRep}
+use Rattle.nob_item.specs.Kinds.{counted_in}
+use Rattle.nob_model_end.specs.End.{accepted}
+use Rattle.nob_session.specs.Stands as session
+use Rattle.nob_session.specs.Stands.{Roomy}
+use Rattle.nob_table.specs.declared.standing.State.{State as TableState}
+use Rattle.nob_table.specs.declared.standing.State.TheVariants as states
+use Rattle.nob_table.specs.Counts.{is_held}
+use Rattle.nob_table.specs.Standings as standings
+use Rattle.nob_table.specs.Table.{Table, standing, place_of}
+use Rattle.nob_dirty.specs.declared.sets.Listing.{Listing}
+use Rattle.nob_dirty.specs.Sets.{lists}
+use Rattle.nob_pins.specs.Bundles.{Pinned, bundle_of}
+use Rattle.nob_model_types.specs.declared.answer.Answer.{Answer}
+use Rattle.nob_model_types.specs.declared.refusal.Refusal.{Refusal}
+use Rattle.nob_model_words.specs.declared.deed.Deed.{Deed}
+use Rattle.nob_model_words.specs.declared.turns.Turns.{Turns}
+use Rattle.nob_model_words.specs.Sessions.{is_peer, closed, payload_at}
+use Rattle.nob_model_words.specs.Objects as objects
+use Rattle.nob_model_words.specs.Turns.{is_own, is_pending, is_granted, is_refused, turns}
+use Rattle.nob_model_work.specs.Work.{work}
+use Rattle.nob_model_history.specs.declared.history.History.{History}
+use Rattle.nob_model_history.specs.declared.transit.SentItem.{SentItem}
+use Rattle.nob_model_history.specs.Histories.{history_of}
+use Rattle.nob_model_history.specs.Ends.{calls_at}
+use Rattle.nob_model_history.specs.Holds.{times, gains, releases, hand, lent_in}
+use Rattle.nob_model_history.specs.Transit as transit
+use Rattle.nob_model_history.specs.Listing.{is_listed}
+use Rattle.nob_model.specs.Right.{own_ref, calls_made, jobs_made}
+use Rattle.nob_space_state.specs.declared.error.SpaceError.{SpaceError}
+use Rattle.nob_space_state.specs.declared.error.SpaceError.TheVariants as errors
+use Rattle.nob_space_state.specs.Parts.{State}
+
+-- the ends stand for the calls on them: at place p - 1 the one with space p
+pub record EndsStand (s n : ℕ) (limits : Limits) (sessions : List Roomy) (h : History) : Type 0 where
+  pub each : length sessions ≡ n
+  pub ends : (place : ℕ) (end : Roomy) → slice_get sessions place ≡ Some end → session.Stands s (place + 1) limits end.end (calls_at (place + 1) h)
+
+-- how a reference to another space's object stands: while the session with its owner is open here by what was asked and answered, and then lost as long as it is held
+abbrev pub far_state : (has_closed has_holds : Bool) → Turns → TableState
+far_state true has_holds t = if has_holds then states.Lost else states.Unknown
+far_state false has_holds t = if is_pending t then states.Pending else if is_granted t then states.Granted else if is_refused t then states.Refused else states.Unknown
+
+-- the table has the objects and the surrogates of a history, in the order of their Dirties, and these holds: so many in hand and so many lent
+pub record TableShows (s n : ℕ) (t : Table) (h : History) (in_hand on_loan : WireRep → ℕ) : Type 0 where
+  pub me : t.me ≡ s
+  -- as many indexes were given as Exports were answered
+  pub exported : t.exported ≡ length (objects.exports h.deeds)
+  pub live : (index : ℕ) → standings.is_live (standing t (own_ref s index)).state ≡ objects.is_live s index h.deeds
+  pub far : (rep : WireRep) → is_counted rep ≡ true → is_own s rep ≡ false → (standing t rep).state ≡ far_state (closed rep.owner h.deeds) (is_held (standing t rep).counts) (turns s n rep h.deeds)
+  pub hands : (rep : WireRep) → is_counted rep ≡ true → (standing t rep).counts.hand ≡ in_hand rep
+  pub loans : (rep : WireRep) → is_counted rep ≡ true → (standing t rep).counts.lent ≡ on_loan rep
+  pub dirties : t.dirties ≡ length (transit.dirties h)
+  pub places : (rep : WireRep) → place_of t rep ≡ (if standings.is_surrogate (standing t rep).state then transit.place rep h else None)
+
+-- the table stands for a history: its holds are those of the history
+abbrev pub TableStands : (s n : ℕ) → Table → History → Type 0
+TableStands s n t h = TableShows s n t h (λ rep. hand rep h.deeds) (λ rep. times rep (lent_in s h.work))
+
+-- what was sent, as the bundle of its pins
+abbrev pub bundle : SentItem → Pinned
+bundle item = bundle_of item.to item.number (counted_in item.item)
+
+-- the bundles are those of a history, in whatever order: every sum over them is the same
+abbrev pub PinsStand : List Pinned → History → Type 0
+PinsStand bundles h = (f : Pinned → ℕ) → sum_by f bundles ≡ sum_by f (map bundle (transit.bundles h))
+
+-- what holds of every list of right answers, and no state shows
+pub record IsOrderly (s n : ℕ) (D : List Deed) : Type 0 where
+  -- the indexes that were given are 1, 2, .. without a gap
+  pub exported : (index : ℕ) → objects.is_exported s index D ≡ (nat_le 1 index && nat_le index (length (objects.exports D)))
+  -- no index was given twice
+  pub once : IsDistinct is_same (objects.exports D)
+  -- no counted reference was released more often than it came into the hand
+  pub released : (rep : WireRep) → is_counted rep ≡ true → times rep (releases D) ≤ times rep (gains D)
+  -- what was withdrawn was exported
+  pub withdrawn : (index : ℕ) → objects.is_withdrawn index D ≡ true → objects.is_exported s index D ≡ true
+  -- no session with a space that is no peer closed
+  pub strangers : (p : ℕ) → is_peer s n p ≡ false → closed p D ≡ false
+  -- the payload of an item is the one that was accepted in its turn
+  pub payloads : (p k : ℕ) → payload_at p (k + 1) D ≡ slice_get (accepted (calls_at p (history_of s n D))) k
+
+-- a state of space s among n, with these limits, stands for a list of what the space did
+pub record Stands (s n : ℕ) (limits : Limits) (state : State) (D : List Deed) : Type 0 where
+  pub ends : EndsStand s n limits state.sessions (history_of s n D)
+  pub table : TableStands s n state.table (history_of s n D)
+  pub listed : (index client : ℕ) → lists state.dirty index client ≡ is_listed s index client D
+  pub pins : PinsStand state.pins.bundles (history_of s n D)
+  pub work : state.work ≡ work s n D
+  pub calls : state.calls ≡ calls_made D
+  pub jobs : state.jobs ≡ jobs_made D
+  pub orderly : IsOrderly s n D
+
+-- a state of space s among n: there is a list that it stands for
+abbrev pub IsState : (s n : ℕ) → State → Type 0
+IsState s n state = (limits : Limits) × (D : List Deed) × Stands s n limits state D
+
+-- new stands for every list that old stands for
+abbrev pub Keeps : (s n : ℕ) → State → State → Type 0
+Keeps s n old new = (limits : Limits) (D : List Deed) → Stands s n limits old D → Stands s n limits new D
+
+-- new stands for every list that old stands for, with a deed more
+abbrev pub Did : (s n : ℕ) → State → State → Deed → Type 0
+Did s n old new deed = (limits : Limits) (D : List Deed) → Stands s n limits old D → Stands s n limits new (deed ∷ D)
+
+-- a result is the right one: what was answered, or the refusal
+abbrev pub Answers : {A : Type 0} → (A → Answer) → Result A Refusal → Result Answer Refusal → Type 0
+Answers answer (Ok x) right = right ≡ Ok (answer x)
+Answers answer (Err refusal) right = right ≡ Err refusal
+
+-- a result is the right one, unless memory was wanted: then nothing else refuses the event
+abbrev pub AnswersOrWants : {A : Type 0} → (A → Answer) → Result A SpaceError → Result Answer Refusal → Type 0
+AnswersOrWants answer (Ok x) right = right ≡ Ok (answer x)
+AnswersOrWants answer (Err (errors.Refused refusal)) right = right ≡ Err refusal
+AnswersOrWants answer (Err errors.OutOfMemory) right = IsOk right
+
+-- ends of space s with the spaces from p on, one after the other, on which no call was made yet
+abbrev pub AreOpened : (s p : ℕ) → Limits → List Roomy → Type 0
+AreOpened s p limits [] = Unit {0}
+AreOpened s p limits (end ∷ ends) = session.Stands s p limits end.end [] × AreOpened s (p + 1) limits ends

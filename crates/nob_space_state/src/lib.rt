@@ -1,0 +1,11 @@
+//! The state of a space, in parts: what a space keeps, and for which lists of what it did that stands.
+#![tactic(auto)]
+
+mod error;
+mod looks;
+mod objects;
+mod parts;
+mod sessions;
+
+pub use error::SpaceError;
+pub use parts::Parts;

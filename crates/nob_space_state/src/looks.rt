@@ -1,0 +1,82 @@
+//! Looks at the state: sessions and references. None takes memory.
+
+ghost use Rattle.std.specs.Prelude.{◌≡◌, ◌==◌, not};
+ghost use Rattle.nob_table.specs.Standings as standings;
+ghost use Rattle.nob_table.specs.Table.{standing};
+ghost use Rattle.nob_space_state.specs.Looks.{has_closed, has_holds, names_none, is_cut, has_clients};
+ghost use Rattle.nob_pins.specs.Bundles.{count_of};
+
+use crate::parts::Parts;
+use nob_ids::{SpaceId, WireRep};
+use nob_table::State;
+
+impl Parts {
+    /// Whether the end with another space has closed. Constant time.
+    pub fn has_closed(&self, other: SpaceId) -> bool
+        ensures { result ≡ has_closed self.now.sessions.items other }
+    {
+        match self.sessions.get(other.get() as usize - 1) {
+            Some(session) => !session.is_open(),
+            None => false,
+        }
+    }
+
+    /// Whether anything holds a reference. Constant time on average.
+    pub fn is_held(&self, rep: &WireRep) -> bool
+        ensures { result ≡ has_holds self.now.table rep.now }
+    {
+        let standing = self.table.state(*rep);
+        let counts = standing.counts;
+        counts.is_held()
+    }
+
+    /// How often a reference is in hand. Constant time on average.
+    pub fn hand(&self, rep: &WireRep) -> u32
+        ensures { result ≡ (standing self.now.table rep.now).counts.hand }
+    {
+        let standing = self.table.state(*rep);
+        let counts = standing.counts;
+        counts.hand
+    }
+
+    /// Whether a reference names an object of this space, not the agent, that isn't live. Constant time on average.
+    pub fn is_gone(&self, me: SpaceId, rep: &WireRep) -> bool
+        ensures { result ≡ names_none me self.now.table rep.now }
+    {
+        let standing = self.table.state(*rep);
+        let live = is_live(standing.state);
+        rep.index != 0 && rep.owner == me && !live
+    }
+
+    /// Whether a client is listed for an object of this space. Linear in the listings.
+    pub fn has_clients(&self, index: u64) -> bool
+        ensures { result ≡ has_clients self.now.dirty index }
+    {
+        !self.dirty.is_empty(index)
+    }
+
+    /// Whether a reference is in transit from here. Linear in the pins.
+    pub fn is_pinned(&self, rep: &WireRep) -> bool
+        ensures { result ≡ not (count_of self.now.pins.bundles rep.now == 0) }
+    {
+        self.pins.count(*rep) != 0
+    }
+
+    /// Whether a reference is another space's, and the end with that has closed. Constant time.
+    pub fn is_cut(&self, me: SpaceId, rep: &WireRep) -> bool
+        ensures { result ≡ is_cut me self.now.sessions.items rep.now }
+    {
+        let closed = self.has_closed(rep.owner);
+        rep.owner != me && closed
+    }
+}
+
+// Whether it is a live object of this space.
+fn is_live(state: State) -> bool
+    ensures { result ≡ standings.is_live state }
+{
+    match state {
+        State::Live => true,
+        _ => false,
+    }
+}

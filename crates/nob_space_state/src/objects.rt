@@ -1,0 +1,144 @@
+//! The events on objects and on what is in hand: Export, Dup, Release and Withdraw. None sends anything.
+
+ghost use Rattle.std.specs.Prelude.{◌≡◌, ℕ, List, ◌∷◌, Some, None, Ok, Err, OnOk, OnErr, IfOk, MatchResult};
+ghost use Rattle.nob_ids.specs.declared.limits.Limits.{Limits as LimitsOf};
+ghost use Rattle.nob_model_types.specs.declared.answer.Answer.TheVariants as answers;
+ghost use Rattle.nob_model_words.specs.declared.deed.Deed.{Deed};
+ghost use Rattle.nob_model_words.specs.declared.deed.Deed.TheVariants as did;
+ghost use Rattle.nob_model_history.specs.Histories.{history_of};
+ghost use Rattle.nob_model.specs.Right as right;
+ghost use Rattle.nob_space_state.specs.Parts.{state_of};
+ghost use Rattle.nob_space_state.specs.Judging.{dup_refusal, release_refusal, withdraw_refusal};
+ghost use Rattle.nob_space_state.specs.Stands.{Stands, IsState, Keeps, Did, Answers, AnswersOrWants};
+
+use crate::error::SpaceError;
+use crate::parts::Parts;
+use nob_ids::{SpaceId, WireRep};
+use nob_model::{Here, Refusal, Use};
+use nob_table::{ObjectTable, Part, TableError};
+
+impl Parts {
+    // Why a Dup of a reference is refused.
+    #[tactic(auto, unfolding(crate::specs::Judging::dup_refusal))]
+    fn refuse_dup(&self, me: SpaceId, rep: &WireRep) -> Result<(), Refusal>
+        ensures { MatchResult result (λ _. dup_refusal me (state_of self.now) rep.now ≡ None) (λ refusal. dup_refusal me (state_of self.now) rep.now ≡ Some refusal) }
+    {
+        if self.is_gone(me, rep) {
+            return Err(Refusal::NoObject);
+        }
+        if rep.index == 0 {
+            return Err(Refusal::NotHeld);
+        }
+        if !self.is_held(rep) {
+            return Err(Refusal::NotHeld);
+        }
+        if self.is_cut(me, rep) {
+            return Err(Refusal::Closed);
+        }
+        if self.hand(rep) == u32::MAX {
+            return Err(Refusal::Limit);
+        }
+        Ok(())
+    }
+
+    // Why a Release of a reference is refused.
+    #[tactic(auto, unfolding(crate::specs::Judging::release_refusal))]
+    fn refuse_release(&self, me: SpaceId, rep: &WireRep) -> Result<(), Refusal>
+        ensures { MatchResult result (λ _. release_refusal me (state_of self.now) rep.now ≡ None) (λ refusal. release_refusal me (state_of self.now) rep.now ≡ Some refusal) }
+    {
+        if self.is_gone(me, rep) {
+            return Err(Refusal::NoObject);
+        }
+        if rep.index == 0 {
+            return Err(Refusal::NotHeld);
+        }
+        if self.hand(rep) == 0 {
+            return Err(Refusal::NotHeld);
+        }
+        Ok(())
+    }
+
+    /// Dup: one more hold in hand on a reference. It takes no memory. Constant time on average.
+    pub fn dup(&mut self, here: &Here, rep: &WireRep) -> Result<(), Refusal>
+        ensures answer { (limits : LimitsOf) (D : List Deed) → Stands here.now.space here.now.n limits (state_of self.old) D → Answers (λ _. answers.Done) result (right.right_dup here.now.space rep.now (history_of here.now.space here.now.n D)) }
+        ensures stands { OnOk result (Did here.now.space here.now.n (state_of self.old) (state_of self.new) (did.Dup rep.now)) }
+        ensures err { OnErr result (Keeps here.now.space here.now.n (state_of self.old) (state_of self.new)) }
+    {
+        if let Err(refusal) = self.refuse_dup(here.space, rep) {
+            return Err(refusal);
+        }
+        match self.table.hold(*rep, Part::Hand) {
+            Ok(()) => Ok(()),
+            Err(_) => unreachable!(),
+        }
+    }
+
+    /// Release: one hold in hand on a reference is given back. It takes no memory. Constant time on average.
+    pub fn release(&mut self, here: &Here, rep: &WireRep) -> Result<(), Refusal>
+        ensures answer { (limits : LimitsOf) (D : List Deed) → Stands here.now.space here.now.n limits (state_of self.old) D → Answers (λ _. answers.Done) result (right.right_release here.now.space rep.now (history_of here.now.space here.now.n D)) }
+        ensures stands { OnOk result (Did here.now.space here.now.n (state_of self.old) (state_of self.new) (did.Release rep.now)) }
+        ensures err { OnErr result (Keeps here.now.space here.now.n (state_of self.old) (state_of self.new)) }
+    {
+        if let Err(refusal) = self.refuse_release(here.space, rep) {
+            return Err(refusal);
+        }
+        match self.table.release(*rep, Part::Hand) {
+            Ok(()) => Ok(()),
+            Err(_) => unreachable!(),
+        }
+    }
+
+    // Why a Withdraw of an index is refused.
+    #[tactic(auto, unfolding(crate::specs::Judging::withdraw_refusal))]
+    fn refuse_withdraw(&self, me: SpaceId, index: u64) -> Result<(), Refusal>
+        ensures { MatchResult result (λ _. withdraw_refusal me (state_of self.now) index ≡ None) (λ refusal. withdraw_refusal me (state_of self.now) index ≡ Some refusal) }
+    {
+        if index == 0 {
+            return Err(Refusal::StillUsed(Use::Agent));
+        }
+        let rep = WireRep { owner: me, index };
+        if self.is_gone(me, &rep) {
+            return Err(Refusal::NoObject);
+        }
+        if self.is_held(&rep) {
+            return Err(Refusal::StillUsed(Use::Held));
+        }
+        if self.is_pinned(&rep) {
+            return Err(Refusal::StillUsed(Use::InTransit));
+        }
+        if self.has_clients(index) {
+            return Err(Refusal::StillUsed(Use::Listed));
+        }
+        Ok(())
+    }
+
+    /// Withdraw: the object of an index is live no more. It takes no memory. Linear in the pins and the listings.
+    pub fn withdraw(&mut self, here: &Here, index: u64) -> Result<(), Refusal>
+        requires { IsState here.now.space here.now.n (state_of self.old) }
+        ensures answer { (limits : LimitsOf) (D : List Deed) → Stands here.now.space here.now.n limits (state_of self.old) D → Answers (λ _. answers.Withdrawn) result (right.right_withdraw here.now.space index (history_of here.now.space here.now.n D)) }
+        ensures stands { OnOk result (Did here.now.space here.now.n (state_of self.old) (state_of self.new) (did.Withdraw index)) }
+        ensures err { OnErr result (Keeps here.now.space here.now.n (state_of self.old) (state_of self.new)) }
+    {
+        if let Err(refusal) = self.refuse_withdraw(here.space, index) {
+            return Err(refusal);
+        }
+        match self.table.withdraw(index) {
+            Ok(()) => Ok(()),
+            Err(_) => unreachable!(),
+        }
+    }
+
+    /// Export: the reference to a new object, once in hand. Constant time on average.
+    pub fn export(&mut self, here: &Here) -> Result<WireRep, SpaceError>
+        ensures answer { (limits : LimitsOf) (D : List Deed) → Stands here.now.space here.now.n limits (state_of self.old) D → AnswersOrWants (λ rep. answers.Exported rep) result (right.right_export here.now.space (history_of here.now.space here.now.n D)) }
+        ensures stands { IfOk result (λ rep. Did here.now.space here.now.n (state_of self.old) (state_of self.new) (did.Export rep)) }
+        ensures err { OnErr result (Keeps here.now.space here.now.n (state_of self.old) (state_of self.new)) }
+    {
+        prove!(self.table.object_count() <= ObjectTable::MOST_OBJECTS);
+        match self.table.export() {
+            Ok(rep) => Ok(rep),
+            Err(TableError::Fault(_)) => Err(SpaceError::Refused(Refusal::Limit)),
+            Err(TableError::OutOfMemory) => Err(SpaceError::OutOfMemory),
+        }
+    }
+}
