@@ -42,10 +42,10 @@ fn has_words(rt: &HostRuntime) -> io::Result<bool> {
 // What is written for an input: a trace is judged or written again, any other input is a script.
 fn output_of(alloc: Global, input: &[u8], is_copy: bool) -> Result<String, Problem> {
     if is_copy {
-        return trace::copy_of(alloc, input);
+        return trace::copied(alloc, input);
     }
     if input.starts_with(b"trace ") {
-        return trace::judgement(alloc, input);
+        return trace::judged(alloc, input);
     }
-    Ok(script::output(alloc, input)?)
+    Ok(script::answered(alloc, input)?)
 }

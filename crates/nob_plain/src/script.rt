@@ -113,7 +113,7 @@ fn world_of(alloc: Global, line: &[u8]) -> Result<Option<World>, AllocError> {
 }
 
 /// The first line, and each step with its answer, to the first line that is no step.
-pub fn output(alloc: Global, input: &[u8]) -> Result<String, AllocError> {
+pub fn answered(alloc: Global, input: &[u8]) -> Result<String, AllocError> {
     let mut text = String::new(alloc);
     let Some((head, steps)) = first_line(input) else {
         return bad_step(alloc, text, 1);

@@ -8,7 +8,7 @@ use std::alloc::Global;
 
 /// `right` and how many entries the one trace has, or `wrong` and the place, from 1, of the first whose result isn't
 /// right.
-pub fn judgement(alloc: Global, input: &[u8]) -> Result<String, Problem> {
+pub fn judged(alloc: Global, input: &[u8]) -> Result<String, Problem> {
     let trace = decode(alloc, input)?;
     let here = Here {
         space: trace.space,
@@ -52,7 +52,7 @@ fn is_right(
 }
 
 /// The traces of an input, one after the other, as they are written.
-pub fn copy_of(alloc: Global, input: &[u8]) -> Result<String, Problem> {
+pub fn copied(alloc: Global, input: &[u8]) -> Result<String, Problem> {
     let mut text = String::new(alloc);
     for trace in decode_all(alloc, input)?.as_slice() {
         text.push_str(encode(alloc, trace)?.as_str())?;

@@ -1,5 +1,5 @@
 use Rattle.std.proofs.Common.{length}
-use Rattle.nob_plain.proofs.script.output.Given as goal
+use Rattle.nob_plain.proofs.script.answered.Given as goal
 
 abbrev pub invariant-loop-line : goal.invariant-loop-line
 invariant-loop-line l = Unit {0}
