@@ -1,11 +1,11 @@
 -- Numbers as they are read and written.
-use Rattle.std.proofs.Common.{◌≡◌, ℕ, ◌^◌, ◌<◌, ◌≤◌, true, false, ltb, List, ◌++◌, length, take, drop, Ok, Err, cond, refl, sym, ap, ◌∙◌, arith}
+use Rattle.std.proofs.Common.{◌≡◌, ℕ, ◌+◌, ◌^◌, ◌<◌, ◌≤◌, true, false, ltb, List, ◌++◌, length, take, drop, Ok, Err, cond, refl, sym, ap, ◌∙◌, arith}
 use Rattle.std.proofs.lemmas.Bool.{ltb-false, le-ltb}
-use Rattle.std.proofs.lemmas.List.{drop_at, take-append-drop, length-append, length-take}
+use Rattle.std.proofs.lemmas.List.{drop_at, take-append-drop, length-append, length-take, length-drop, drop-append-le}
 use Rattle.std.proofs.lemmas.Nat.{be_bytes_2, be_bytes_4, be_bytes_8}
 use Rattle.byteorder.specs.Endian.{big_bytes, big_number}
-use Rattle.byteorder.specs.Numbers.{big_from-take, big_from-lt, big_number-reads_back, length-bytes_high_first}
-use Rattle.nob_bytes.specs.Numbers.{number_at}
+use Rattle.byteorder.specs.Numbers.{big_from-take, big_from-append, big_from-lt, big_number-reads_back, length-bytes_high_first}
+use Rattle.nob_bytes.specs.Numbers.{number_at, field}
 pub use Rattle.nob_bytes.proofs.Lists.{IsBytes, IsBytes-drop, IsBytes-take}
 
 -- the bytes of the number that bytes are, are these bytes
@@ -57,3 +57,16 @@ number_again short size n rest lt =
     let len = length-bytes_high_first size n in
     let long : ltb (length (big_bytes size n ++ rest)) size ≡ false = le-ltb _ _ (omega (arith, len, length-append (big_bytes size n) rest)) in
     rw (long, big_number-reads_back size n rest lt, drop_at (big_bytes size n) rest size len) refl
+
+-- ---- numbers at a place
+
+-- the bytes of a number that was read are those that it was read from
+pub field_bytes : (place size : ℕ) (bytes : List ℕ) → ReadsBack size → IsBytes bytes → place + size ≤ length bytes → big_bytes size (field place size bytes) ≡ take size (drop place bytes)
+field_bytes place size bytes back fits h = front_bytes size (drop place bytes) back (IsBytes-drop place bytes fits) (omega (arith, length-drop place bytes))
+
+-- more bytes behind it leave a number as it is
+pub field_more : (place size : ℕ) (bytes more : List ℕ) → place + size ≤ length bytes → field place size (bytes ++ more) ≡ field place size bytes
+field_more place size bytes more h =
+    let low : place ≤ length bytes = omega arith in
+    let parts : drop place (bytes ++ more) ≡ drop place bytes ++ more = drop-append-le place bytes more low in
+    ap (big_number size) parts ∙ big_from-append size (drop place bytes) more (omega (arith, length-drop place bytes))

@@ -1,4 +1,4 @@
--- A number in front of bytes.
+-- A number in front of bytes, and one that stands among them.
 use Rattle.std.specs.Prelude.{◌≡◌, ℕ, List, length, drop, nat_lt, Result, Ok, Err, if◌then◌else◌}
 use Rattle.byteorder.specs.Endian.{big_number}
 
@@ -10,3 +10,7 @@ number_at short size bytes = if nat_lt (length bytes) size then Err short else O
 abbrev pub Sees : {X Y F : Type 0} → (X → Y) → Result X F → Result Y F → Type 0
 Sees view (Ok x) wanted = wanted ≡ Ok (view x)
 Sees view (Err fault) wanted = wanted ≡ Err fault
+
+-- the number in so many bytes from a place on, the highest first
+abbrev pub field : ℕ → ℕ → List ℕ → ℕ
+field place size bytes = big_number size (drop place bytes)

@@ -3,7 +3,9 @@
 #![tactic(auto)]
 
 mod owned;
+mod placed;
 mod taking;
 
 pub use owned::Bytes;
+pub use placed::{u16_at, u32_at, u64_at};
 pub use taking::{take_u16, take_u32, take_u64};

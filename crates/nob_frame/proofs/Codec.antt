@@ -7,6 +7,9 @@ use Rattle.std.proofs.lemmas.Bool.Decides.{nat_tests}
 use Rattle.std.proofs.lemmas.List.{take_at, drop_at, take-append-drop, length-append, length-take-le, append-nil, nil_from_length}
 use Rattle.byteorder.specs.Endian.{big_bytes}
 use Rattle.byteorder.specs.Numbers.{big_number-reads_back}
+use Rattle.nob_bytes.specs.Numbers.{field}
+use Rattle.nob_bytes.proofs.Lists.{IsBytes, joined, take_both}
+use Rattle.nob_bytes.proofs.Numbers.{back_2, back_4, back_8, field_bytes}
 use Rattle.nob_ids.specs.Names.{IsSpace}
 use Rattle.nob_frame.specs.declared.fault.FrameFault.{FrameFault}
 use Rattle.nob_frame.specs.declared.fault.FrameFault.TheVariants as faults
@@ -17,9 +20,8 @@ use Rattle.nob_frame.specs.declared.frame.FrameKind.TheVariants.{Data, Ack, Clos
 use Rattle.nob_frame.specs.declared.header.Header.{Header}
 use Rattle.nob_frame.specs.Kinds.{kind_number, kind_of}
 use Rattle.nob_frame.specs.Spelling.{marks, numbers, heading, header_of, spelling, HasSeq, Carries, Fits, Spelt}
-use Rattle.nob_frame.specs.Reading.{◌>>=◌, are_spaces, is_seq, is_next, is_length, is_payload, sound, field, known, kind_at, numbers_at, header_at, payload_at, framed, front_of, front_at, frame_at, bytes_of, Gives}
+use Rattle.nob_frame.specs.Reading.{◌>>=◌, are_spaces, is_seq, is_next, is_length, is_payload, sound, known, kind_at, numbers_at, header_at, payload_at, framed, front_of, front_at, frame_at, bytes_of, Gives}
 use Rattle.nob_frame.specs.Laws.{NoFront}
-use Rattle.nob_frame.proofs.Numbers.{IsBytes, joined, take_both, back_2, back_4, back_8, field-bytes}
 
 -- the value of a step that did not fail
 pub bind_ok : {A B : Type 0} (r : Result A FrameFault) (f : A → Result B FrameFault) (y : B) → (r >>= f) ≡ Ok y → (x : A) × (r ≡ Ok x) × (f x ≡ Ok y)
@@ -138,10 +140,10 @@ numbers_taken kind bytes fits len =
     let seq = field 8 8 bytes in
     let ack = field 16 8 bytes in
     let size = field 24 4 bytes in
-    let two = joined 4 2 2 bytes (big_bytes 2 from) (big_bytes 2 to) (field-bytes 4 2 bytes back_2 fits (omega arith)) (field-bytes 6 2 bytes back_2 fits (omega arith)) in
-    let three = joined 4 4 8 bytes (big_bytes 2 from ++ big_bytes 2 to) (big_bytes 8 seq) two (field-bytes 8 8 bytes back_8 fits (omega arith)) in
-    let four = joined 4 12 8 bytes (big_bytes 2 from ++ big_bytes 2 to ++ big_bytes 8 seq) (big_bytes 8 ack) three (field-bytes 16 8 bytes back_8 fits (omega arith)) in
-    joined 4 20 4 bytes (big_bytes 2 from ++ big_bytes 2 to ++ big_bytes 8 seq ++ big_bytes 8 ack) (big_bytes 4 size) four (field-bytes 24 4 bytes back_4 fits (omega arith))
+    let two = joined 4 2 2 bytes (big_bytes 2 from) (big_bytes 2 to) (field_bytes 4 2 bytes back_2 fits (omega arith)) (field_bytes 6 2 bytes back_2 fits (omega arith)) in
+    let three = joined 4 4 8 bytes (big_bytes 2 from ++ big_bytes 2 to) (big_bytes 8 seq) two (field_bytes 8 8 bytes back_8 fits (omega arith)) in
+    let four = joined 4 12 8 bytes (big_bytes 2 from ++ big_bytes 2 to ++ big_bytes 8 seq) (big_bytes 8 ack) three (field_bytes 16 8 bytes back_8 fits (omega arith)) in
+    joined 4 20 4 bytes (big_bytes 2 from ++ big_bytes 2 to ++ big_bytes 8 seq ++ big_bytes 8 ack) (big_bytes 4 size) four (field_bytes 24 4 bytes back_4 fits (omega arith))
 
 kind_marks : (bytes : List ℕ) (kind : FrameKind) → 4 ≤ length bytes → kind_at bytes ≡ Ok kind → marks 1 kind ≡ take 4 bytes
 unfolding kind_at

@@ -3,8 +3,8 @@ use Rattle.std.proofs.Common.{◌≡◌, ◌≢◌, ℕ, ◌+◌, ◌<◌, ◌�
 use Rattle.std.proofs.lemmas.Bool.{ltb-false, ltb-true, le-ltb, lt-ltb, eqb-true, cases_lt}
 use Rattle.std.proofs.lemmas.Bool.Decides.{nat_tests}
 use Rattle.std.proofs.lemmas.List.{length-append, length-drop, take-append-le, drop-append-le}
-use Rattle.byteorder.specs.Endian.{big_number}
-use Rattle.byteorder.specs.Numbers.{big_from-append}
+use Rattle.nob_bytes.specs.Numbers.{field}
+use Rattle.nob_bytes.proofs.Numbers.{field_more}
 use Rattle.nob_frame.specs.declared.fault.FrameFault.{FrameFault}
 use Rattle.nob_frame.specs.declared.fault.FrameFault.TheVariants as faults
 use Rattle.nob_frame.specs.declared.frame.Frame.{Frame}
@@ -12,7 +12,7 @@ use Rattle.nob_frame.specs.declared.frame.FrameKind.{FrameKind}
 use Rattle.nob_frame.specs.declared.frame.FrameKind.TheVariants.{Data, Ack, Close}
 use Rattle.nob_frame.specs.declared.header.Header.{Header}
 use Rattle.nob_frame.specs.Kinds.{kind_of}
-use Rattle.nob_frame.specs.Reading.{◌>>=◌, are_spaces, is_seq, is_next, is_length, is_payload, sound, field, known, kind_at, numbers_at, header_at, payload_at, framed, front_at, frame_at}
+use Rattle.nob_frame.specs.Reading.{◌>>=◌, are_spaces, is_seq, is_next, is_length, is_payload, sound, known, kind_at, numbers_at, header_at, payload_at, framed, front_at, frame_at}
 use Rattle.nob_frame.specs.Streams.{BeginsNone, wanted_by}
 use Rattle.nob_frame.proofs.Codec.{bind_ok, guard_ok, Passes, sound_passes, front_again}
 
@@ -41,12 +41,6 @@ bind_err P (Ok x) g f e now next = next x refl e
 bind_err P (Err d) g f e now next = now (ap fails (err_is d f e))
 
 -- ---- what more bytes leave
-
-field_more : (place n : ℕ) (rest more : List ℕ) → place + n ≤ length rest → field place n (rest ++ more) ≡ field place n rest
-field_more place n rest more h =
-    let low : place ≤ length rest = omega arith in
-    let parts : drop place (rest ++ more) ≡ drop place rest ++ more = drop-append-le place rest more low in
-    ap (big_number n) parts ∙ big_from-append n (drop place rest) more (omega (arith, length-drop place rest))
 
 kind_more : (rest more : List ℕ) → 4 ≤ length rest → kind_at (rest ++ more) ≡ kind_at rest
 unfolding kind_at

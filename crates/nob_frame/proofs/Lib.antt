@@ -1,4 +1,3 @@
-pub mod Numbers
 pub mod Codec
 pub mod Fronts
 pub mod Splitting

@@ -10,7 +10,7 @@ use Rattle.nob_frame.specs.Spelling.{Fits, spelling}
 use Rattle.nob_frame.specs.Reading.{framed, front_of, front_at}
 use Rattle.nob_frame.specs.Laws.{OneSplit}
 use Rattle.nob_frame.specs.Streams.{Splits, IsCut, IsBroken}
-use Rattle.nob_frame.proofs.Numbers.{IsBytes, IsBytes-drop}
+use Rattle.nob_bytes.proofs.Lists.{IsBytes, IsBytes-drop}
 use Rattle.nob_frame.proofs.Codec.{front_taken, no_front}
 use Rattle.nob_frame.proofs.Fronts.{begins_none, first_fault, front_stands, front_fault_stays}
 

@@ -1,6 +1,6 @@
 -- Which of F1 to F11 bytes or a frame are refused for: the first in the order of judging.
 use Rattle.std.specs.Prelude.{◌≡◌, ℕ, ◌+◌, ◌^◌, ◌==◌, ◌&&◌, Bool, true, not, nat_lt, nat_le, if◌then◌else◌, List, length, take, drop, slice_index, Option, Some, None, Result, Ok, Err, IsOk}
-use Rattle.byteorder.specs.Endian.{big_number}
+use Rattle.nob_bytes.specs.Numbers.{field}
 use Rattle.nob_ids.specs.Names.{is_space}
 use Rattle.nob_frame.specs.declared.fault.FrameFault.{FrameFault}
 use Rattle.nob_frame.specs.declared.fault.FrameFault.TheVariants as faults
@@ -68,10 +68,6 @@ sound header =
     else if not (is_next header.ack) then Err faults.Ack
     else if not (is_length header.kind header.length) then Err faults.Length
     else Ok header
-
--- the number in the bytes from a place on, the highest byte first
-abbrev pub field : ℕ → ℕ → List ℕ → ℕ
-field place size bytes = big_number size (drop place bytes)
 
 -- F4 of the byte of the kind, or the kind
 abbrev pub known : Option FrameKind → Result FrameKind FrameFault

@@ -1,13 +1,14 @@
 -- A stream of frames that comes in pieces.
 use Rattle.std.specs.Prelude.{◌≡◌, ◌≢◌, ℕ, ◌+◌, nat_lt, if◌then◌else◌, List, [], ◌∷◌, ◌++◌, length, Option, Some, None, Result, Ok, Err, IsOk}
 use Rattle.std.specs.List.{flat_map, AllByRecursion}
+use Rattle.nob_bytes.specs.Numbers.{field}
 use Rattle.nob_frame.specs.declared.fault.FrameFault.{FrameFault}
 use Rattle.nob_frame.specs.declared.fault.FrameFault.TheVariants as faults
 use Rattle.nob_frame.specs.declared.fault.FrameError.{FrameError}
 use Rattle.nob_frame.specs.declared.fault.FrameError.TheVariants.{Fault, OutOfMemory}
 use Rattle.nob_frame.specs.declared.frame.Frame.{Frame}
 use Rattle.nob_frame.specs.Spelling.{Fits, spelling}
-use Rattle.nob_frame.specs.Reading.{field, frame_at}
+use Rattle.nob_frame.specs.Reading.{frame_at}
 
 -- no spelling of a frame begins the bytes
 abbrev pub BeginsNone : List ℕ → Type 0

@@ -1,13 +1,14 @@
 //! The header of a frame: its first 28 bytes.
 
-ghost use Rattle.std.specs.Prelude.{◌≡◌, ◌≤◌, ◌<◌, ◌+◌, ◌^◌, length, IfOk, OnOk};
+ghost use Rattle.std.specs.Prelude.{◌≡◌, ◌≤◌, ◌<◌, ◌^◌, length, IfOk, OnOk};
 ghost use Rattle.nob_frame.specs.Spelling.{heading, header_of};
-ghost use Rattle.nob_frame.specs.Reading.{field, is_seq, is_length, kind_at, numbers_at, sound, header_at};
+ghost use Rattle.nob_frame.specs.Reading.{is_seq, is_length, kind_at, numbers_at, sound, header_at};
 ghost use Rattle.nob_frame.specs.Streams.{wanted_by};
 
 use crate::fault::FrameFault;
 use crate::frame::{Frame, FrameKind};
 use byteorder::{BigEndian, ByteOrder};
+use nob_bytes::{u16_at, u32_at, u64_at};
 use nob_ids::SpaceId;
 
 /// How many bytes a header has.
@@ -97,30 +98,6 @@ fn length_fits(kind: FrameKind, length: usize) -> bool
         FrameKind::Ack => length == 0,
         FrameKind::Close => length == 1,
     }
-}
-
-/// The number in the two bytes from a place on.
-fn u16_at(bytes: &[u8], place: usize) -> u16
-    requires { place + 2 ≤ length bytes.now }
-    ensures { result ≡ field place 2 bytes.now }
-{
-    BigEndian::read_u16(bytes.split_at(place).1)
-}
-
-/// The number in the four bytes from a place on.
-fn u32_at(bytes: &[u8], place: usize) -> u32
-    requires { place + 4 ≤ length bytes.now }
-    ensures { result ≡ field place 4 bytes.now }
-{
-    BigEndian::read_u32(bytes.split_at(place).1)
-}
-
-/// The number in the eight bytes from a place on.
-fn u64_at(bytes: &[u8], place: usize) -> u64
-    requires { place + 8 ≤ length bytes.now }
-    ensures { result ≡ field place 8 bytes.now }
-{
-    BigEndian::read_u64(bytes.split_at(place).1)
 }
 
 /// The kind that the first four bytes say, or the first of F2 to F5.

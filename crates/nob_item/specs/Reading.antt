@@ -1,7 +1,8 @@
 -- Reading an item from its bytes, with the first fault that is met.
-use Rattle.std.specs.Prelude.{ℕ, ◌==◌, ◌||◌, Bool, false, List, [], ◌∷◌, length, Result, Ok, Err, if◌then◌else◌}
+use Rattle.std.specs.Prelude.{ℕ, ◌==◌, ◌&&◌, ◌||◌, Bool, false, List, [], ◌∷◌, length, nat_le, Result, Ok, Err, if◌then◌else◌}
 use Rattle.nob_bytes.specs.Numbers as numbers
-use Rattle.nob_pickle.specs.Reading.{value_read}
+use Rattle.nob_pickle.specs.Limits.{most_in_all}
+use Rattle.nob_pickle.specs.Reading.{value_read, wants_memory as pickle_wants_memory}
 use Rattle.nob_item.specs.Judging.{◌>>=◌, of_value, is_call_number, is_item_number, is_status}
 use Rattle.nob_item.specs.declared.item.Item.{Item}
 use Rattle.nob_item.specs.declared.item.Item.TheVariants as items
@@ -84,14 +85,31 @@ note_by first bs =
 unfoldable pub item_by : ℕ → List ℕ → Result Item ItemFault
 item_by first bs = if first == 1 then call_at bs else if first == 2 then reply_at bs else note_by first bs
 
--- whether an item with this first byte carries a value: a Call or a Reply
-abbrev pub is_valued : ℕ → Bool
-is_valued first = first == 1 || first == 2
+-- whether reading a value wants memory: it has at most 16,000 bytes, and they begin as bytes or a list with something in it do
+abbrev pub value_wants_memory : List ℕ → Bool
+value_wants_memory bs = nat_le (length bs) most_in_all && pickle_wants_memory bs
 
--- whether bytes begin as an item with a value does: no other wants memory
+-- what a test says of what was read, and no where there is a fault already
+abbrev pub is_read_and : {A : Type 0} → (A → Bool) → Result A ItemFault → Bool
+is_read_and test (Ok x) = test x
+is_read_and test (Err fault) = false
+
+-- whether a Call behind its first byte wants memory: its numbers are sound, and its value wants it
+abbrev pub call_wants_memory : List ℕ → Bool
+call_wants_memory bs = is_read_and (λ front. value_wants_memory front.3) (call_front bs)
+
+-- whether a Reply behind its first byte wants memory: its numbers are sound, and its value wants it
+abbrev pub reply_wants_memory : List ℕ → Bool
+reply_wants_memory bs = is_read_and (λ front. value_wants_memory front.2) (reply_front bs)
+
+-- whether an item by its first byte wants memory: no note does
+abbrev pub item_wants_memory : ℕ → List ℕ → Bool
+item_wants_memory first bs = (first == 1 && call_wants_memory bs) || (first == 2 && reply_wants_memory bs)
+
+-- whether reading an item wants memory: for its value alone
 abbrev pub wants_memory : List ℕ → Bool
 wants_memory [] = false
-wants_memory (first ∷ bs) = is_valued first
+wants_memory (first ∷ bs) = item_wants_memory first bs
 
 -- the item that all of the bytes spell
 abbrev pub item_read : List ℕ → Result Item ItemFault

@@ -8,7 +8,7 @@ ghost use Rattle.nob_item.specs.declared.item.Item.{Item as ItemOf};
 ghost use Rattle.nob_item.specs.declared.fault.ItemError.TheVariants.{OutOfMemory};
 ghost use Rattle.nob_item.specs.Spelling.{Spelt};
 ghost use Rattle.nob_item.specs.Judging.{Gives, Sees, of_value};
-ghost use Rattle.nob_item.specs.Reading.{call_number_at, item_number_at, status_at, call_front, call_at, reply_front, reply_at, settle_at, index_at, note_by, item_by, is_valued, wants_memory, item_read};
+ghost use Rattle.nob_item.specs.Reading.{call_number_at, item_number_at, status_at, call_front, call_at, reply_front, reply_at, settle_at, index_at, note_by, item_by, value_wants_memory, call_wants_memory, reply_wants_memory, item_wants_memory, wants_memory, item_read};
 
 use crate::fault::{ItemError, ItemFault};
 use crate::item::Item;
@@ -38,8 +38,8 @@ struct ReplyFront<'a> {
 /// The item that all of the bytes spell: Ok exactly where they do. Else the first fault, from the front: I1
 /// for a missing byte before the value or in a note, I2 for a first byte that no item has, I4 for a number
 /// and I5 for a status out of range, as soon as it is read; then I3 for what the value is refused for, or I6
-/// for a byte after a note. Only a Call and a Reply take memory, for their value: I1, I2, I4, I5 and I6 are
-/// answered before want of it. It takes time linear in the bytes.
+/// for a byte after a note. Only a Call and a Reply take memory, for a value that is bytes or a list with something in
+/// it: I1, I2, I4, I5 and I6 are answered before want of it. It takes time linear in the bytes.
 pub fn decode(alloc: Global, bytes: &[u8]) -> Result<Item, ItemError>
     // What is read is spelled so.
     ensures found { IfOk result (λ item. Spelt bytes.now item) }
@@ -47,7 +47,7 @@ pub fn decode(alloc: Global, bytes: &[u8]) -> Result<Item, ItemError>
     ensures only { (item : ItemOf) → Spelt bytes.now item → Gives (λ x. x) result (Ok item) }
     // Which fault it is. A fault that isn't the value's comes before want of memory.
     ensures exact { Gives (λ x. x) result (item_read bytes.now) }
-    // Memory can run out for Calls and Replies alone.
+    // Memory can run out for a Call or a Reply alone whose numbers are sound and whose value wants it.
     ensures memory { IfErr result (λ e. e ≡ OutOfMemory → IsTrue (wants_memory bytes.now)) }
 {
     let [first, bytes @ ..] = bytes else {
@@ -62,7 +62,7 @@ fn item_of(alloc: Global, first: u8, bytes: &[u8]) -> Result<Item, ItemError>
     ensures found { IfOk result (λ item. Spelt (first ∷ bytes.now) item) }
     ensures only { (item : ItemOf) → Spelt (first ∷ bytes.now) item → Gives (λ x. x) result (Ok item) }
     ensures exact { Gives (λ x. x) result (item_by first bytes.now) }
-    ensures memory { IfErr result (λ e. e ≡ OutOfMemory → IsTrue (is_valued first)) }
+    ensures memory { IfErr result (λ e. e ≡ OutOfMemory → IsTrue (item_wants_memory first bytes.now)) }
 {
     match first {
         1 => call_of(alloc, bytes),
@@ -77,6 +77,7 @@ fn call_of(alloc: Global, bytes: &[u8]) -> Result<Item, ItemError>
     ensures found { IfOk result (λ item. Spelt (1 ∷ bytes.now) item) }
     ensures only { (item : ItemOf) → Spelt (1 ∷ bytes.now) item → Gives (λ x. x) result (Ok item) }
     ensures exact { Gives (λ x. x) result (call_at bytes.now) }
+    ensures memory { IfErr result (λ e. e ≡ OutOfMemory → IsTrue (call_wants_memory bytes.now)) }
 {
     let front = call_front_of(bytes)?;
     let value = value_of(alloc, front.pickle)?;
@@ -94,6 +95,7 @@ fn reply_of(alloc: Global, bytes: &[u8]) -> Result<Item, ItemError>
     ensures found { IfOk result (λ item. Spelt (2 ∷ bytes.now) item) }
     ensures only { (item : ItemOf) → Spelt (2 ∷ bytes.now) item → Gives (λ x. x) result (Ok item) }
     ensures exact { Gives (λ x. x) result (reply_at bytes.now) }
+    ensures memory { IfErr result (λ e. e ≡ OutOfMemory → IsTrue (reply_wants_memory bytes.now)) }
 {
     let front = reply_front_of(bytes)?;
     let value = value_of(alloc, front.pickle)?;
@@ -109,6 +111,7 @@ fn value_of(alloc: Global, bytes: &[u8]) -> Result<Value, ItemError>
     ensures found { IfOk result (λ value. PickleSpelt bytes.now value) }
     ensures only { (value : ValueOf) → PickleSpelt bytes.now value → Gives (λ x. x) result (Ok value) }
     ensures exact { Gives (λ x. x) result (of_value (value_read bytes.now)) }
+    ensures memory { IfErr result (λ e. e ≡ OutOfMemory → IsTrue (value_wants_memory bytes.now)) }
 {
     Ok(nob_pickle::decode(alloc, bytes)?)
 }

@@ -8,6 +8,7 @@ pub mod Owned
 pub mod Parted
 pub mod Rising
 pub mod Same
+pub mod Slots
 pub mod Stands
 pub mod Tables
 pub mod Unheld

@@ -78,7 +78,6 @@ module _ (me exported dirties : ℕ) (objects counted : List (WireRep × Counts)
     pub table_closed : length surrogates' ≤ length surrogates → IsTable me exported dirties objects counted' surrogates'
     table_closed fewer = record {
       given = table.given;
-      by_index = table.by_index;
       far = λ rep has. table.far rep (still rep has);
       no_agent = λ rep has. table.no_agent rep (still rep has);
       counts = λ rep has.

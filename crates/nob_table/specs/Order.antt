@@ -1,4 +1,4 @@
--- Two orders: each surrogate has a place in the order of last Dirties, and the live objects stand in the order of their indexes.
+-- Two orders: each surrogate has a place in the order of last Dirties, and the objects stand in the order of their indexes.
 use Rattle.std.specs.Prelude.{ℕ, ◌<◌, List, [], ◌∷◌, Option, Some, None}
 use Rattle.std.specs.Option.{option_map}
 use Rattle.std.specs.List.{AllByRecursion}

@@ -13,7 +13,7 @@ use Rattle.nob_table.specs.declared.fault.TableError.TheVariants.{Fault, OutOfMe
 use Rattle.nob_table.specs.Counts as counts
 use Rattle.nob_table.specs.Counts.{is_held}
 use Rattle.nob_ids.specs.Names.{is_same}
-use Rattle.nob_table.specs.Order.{place_in, IsRising, IsByIndex}
+use Rattle.nob_table.specs.Order.{place_in, IsRising}
 use Rattle.nob_table.specs.Rows.{row_at, reps_of}
 use Rattle.nob_table.specs.Standings.{is_known, is_unknown, is_live, is_pending, is_granted, is_idle, is_unheld, own_standing, far_standing}
 
@@ -25,7 +25,7 @@ pub record Table : Type 0 where
   pub exported : ℕ
   -- how many Dirties were sent: the place of the next one's surrogate
   pub dirties : ℕ
-  -- the space's live objects, with their counts, in the order of their indexes
+  -- the space's live objects, with their counts
   pub objects : List (WireRep × Counts)
   -- the counts of other spaces' references: of surrogates, and of lost references, in no order
   pub counted : List (WireRep × Counts)
@@ -83,7 +83,7 @@ IsOrder t reps = IsRising (place_of t) reps × ((rep : WireRep) → list_any (is
 abbrev pub live : Table → ℕ
 live t = length t.objects
 
--- the live objects, in the order of their indexes
+-- the live objects, each once
 abbrev pub live_reps : Table → List WireRep
 live_reps t = reps_of t.objects
 
@@ -215,8 +215,6 @@ is_of t owner rep = rep.owner == owner && not (rep.owner == t.me)
 pub record IsTable (me exported dirties : ℕ) (objects counted : List (WireRep × Counts)) (surrogates : List (WireRep × Surrogate)) : Type 0 where
   -- a live object is the space's, and its index was given
   pub given : (rep : WireRep) → IsSome (row_at objects rep) → (rep.owner ≡ me) × (1 ≤ rep.index) × (rep.index ≤ exported)
-  -- the live objects stand in the order of their indexes
-  pub by_index : IsByIndex (reps_of objects)
   -- other spaces' references are other spaces'
   pub far : (rep : WireRep) → IsSome (row_at counted rep) → rep.owner == me ≡ false
   -- none of them is to an agent

@@ -9,6 +9,7 @@
 pub mod comparing;
 mod counts;
 mod fault;
+mod objects;
 mod peer;
 mod peers;
 mod rows;

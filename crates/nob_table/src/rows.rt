@@ -1,6 +1,8 @@
 //! Rows by reference.
 
-ghost use Rattle.std.specs.Prelude.{◌≡◌, ℕ, ◌^◌, ◌+◌, ◌<◌, ◌≤◌, ◌++◌, ◌∷◌, [], length, nat_lt, IsSome, None, Some, OnOk, IsOk, slice_get, if◌then◌else◌, is_some};
+ghost use Rattle.std.specs.Prelude.{◌≡◌, ℕ, ◌^◌, ◌+◌, ◌<◌, ◌≤◌, ◌++◌, ◌∷◌, [], length, nat_lt, IsSome, None, Some, OnOk, IsOk, slice_get, if◌then◌else◌, is_some, filter, Option};
+ghost use Rattle.std.specs.Map.{set_value};
+ghost use Rattle.nob_ids.specs.Names.{is_same};
 ghost use Rattle.nob_ids.specs.declared.wire_rep.WireRep.{WireRep};
 ghost use Rattle.nob_table.specs.Counts.{is_held};
 ghost use Rattle.nob_table.specs.Order.{place_in, IsRising, IsByIndex};
@@ -71,6 +73,7 @@ impl<X: Copy + Drop> Rows<X> {
     pub(crate) fn set(&mut self, rep: &WireRep, row: X)
         requires { IsSome (row_at self.old.rows rep.now) }
         ensures rows { Puts self.old.rows self.new.rows rep.now (Some row) }
+        ensures written { self.new.rows ≡ set_value (is_same rep.now) self.old.rows row }
         ensures reps { reps_of self.new.rows ≡ reps_of self.old.rows }
         ensures len { length self.new.rows ≡ length self.old.rows }
         ensures once { IsOnce self.new.rows }
@@ -153,16 +156,31 @@ impl Rows<Counts> {
             { counts.is_held() },
         );
     }
+}
+
+impl Rows<Option<Counts>> {
+    // Takes out the rows that are empty. Linear in the rows and the room beside them.
+    pub(crate) fn keep_filled(&mut self)
+        ensures rows { self.new.rows ≡ filter (λ row. is_some row.1) self.old.rows }
+        ensures once { IsOnce self.new.rows }
+        ensures room { self.old.room ≤ self.new.room }
+    {
+        self.map.retain(
+            |_rep: &WireRep, slot: &mut Option<Counts>| -> bool
+                ensures { (result ≡ is_some slot.old) × (slot.new ≡ slot.old) }
+            { slot.is_some() },
+        );
+    }
 
     // How many rows have an index below this one: the first ones, where the indexes rise. Logarithmic in the rows.
     pub(crate) fn count_below(&self, index: u64) -> usize
         requires { IsByIndex (reps_of self.now.rows) }
         ensures bound { result ≤ length self.now.rows }
-        ensures below { (at : ℕ) (row : WireRep × Counts) → slice_get self.now.rows at ≡ Some row → at < result → row.0.index < index }
-        ensures from { (at : ℕ) (row : WireRep × Counts) → slice_get self.now.rows at ≡ Some row → result ≤ at → index ≤ row.0.index }
+        ensures below { (at : ℕ) (row : WireRep × Option Counts) → slice_get self.now.rows at ≡ Some row → at < result → row.0.index < index }
+        ensures from { (at : ℕ) (row : WireRep × Option Counts) → slice_get self.now.rows at ≡ Some row → result ≤ at → index ≤ row.0.index }
     {
         self.map.partition_point(
-            |rep: &WireRep, _counts: &Counts| -> bool
+            |rep: &WireRep, _slot: &Option<Counts>| -> bool
                 ensures { result ≡ nat_lt rep.now.index index }
             { rep.index < index },
         )

@@ -4,17 +4,15 @@ ghost use Rattle.std.specs.Prelude.{◌≡◌, List, is_some, ◌+◌, ◌^◌, 
 ghost use Rattle.nob_ids.specs.declared.wire_rep.WireRep.{WireRep};
 ghost use Rattle.nob_table.specs.Counts.{is_held};
 ghost use Rattle.nob_ids.specs.Names.{is_same};
-ghost use Rattle.nob_table.specs.Objects.{AreAllHeld, IsFirstRow};
-ghost use Rattle.nob_table.specs.Order.{IsByIndex};
-ghost use Rattle.nob_table.specs.Rows.{reps_of, IsOnce};
+ghost use Rattle.nob_table.specs.Rows.{IsOnce};
 ghost use Rattle.std.specs.List.{list_any};
 ghost use Rattle.nob_table.specs.Standings.{unknown, is_known, is_live, is_lost, is_surrogate, state_of, withdrawn, exported_standing, pending_standing, with_counts, in_state, after_hold, after_release, after_close};
 ghost use Rattle.nob_table.specs.Table.{Table, standing, surrogate_total, most_objects, most_surrogates, most_index, surrogate_reps, place_of, IsOrder, live, live_reps, own, export_fault, hold_fault, release_fault, pending_fault, answer_fault, remove_fault, withdraw_fault, Becomes, SameObjects, ExportLeaves, WithdrawalLeaves, ChangeLeaves, RemovalLeaves, Stays, Places, IsRefusal, NoneIdle, IsFirstIdle, NeverUnheld, IsFirstUnheld, is_of};
 
 use crate::counts::{Counts, Part};
 use crate::fault::{TableError, TableFault};
+use crate::objects::Objects;
 use crate::peers::Peers;
-use crate::rows::Rows;
 use crate::standing::{Grant, Standing, State};
 use nob_ids::{SpaceId, WireRep};
 use std::alloc::{AllocError, Global};
@@ -28,9 +26,8 @@ use std::marker::Model;
 #[derive(Drop)]
 pub struct ObjectTable {
     me: SpaceId,
-    exported: u64,
     dirties: u128,
-    objects: Rows<Counts>,
+    objects: Objects,
     peers: Peers,
 }
 
@@ -41,9 +38,9 @@ impl Model for ObjectTable {
 
     ghost use Rattle.nob_table.specs.Table.{IsTable};
 
-    ghost view = { λ a. record { me = a.me; exported = a.exported; dirties = a.dirties; objects = a.objects.rows; counted = a.peers.counted; surrogates = a.peers.surrogates; export_room = a.objects.room; surrogate_room = a.peers.room } };
+    ghost view = { λ a. record { me = a.me; exported = a.objects.exported; dirties = a.dirties; objects = a.objects.rows; counted = a.peers.counted; surrogates = a.peers.surrogates; export_room = a.objects.room; surrogate_room = a.peers.room } };
 
-    ghost invariant = { λ a. IsTable a.me a.exported a.dirties a.objects.rows a.peers.counted a.peers.surrogates };
+    ghost invariant = { λ a. IsTable a.me a.objects.exported a.dirties a.objects.rows a.peers.counted a.peers.surrogates };
 }
 
 impl ObjectTable {
@@ -66,9 +63,8 @@ impl ObjectTable {
     {
         ObjectTable {
             me,
-            exported: 0,
             dirties: 0,
-            objects: Rows::new(alloc),
+            objects: Objects::new(alloc),
             peers: Peers::new(alloc),
         }
     }
@@ -87,7 +83,7 @@ impl ObjectTable {
                     state: State::Live,
                     counts,
                 },
-                None if 1 <= rep.index && rep.index <= self.exported => Standing {
+                None if 1 <= rep.index && rep.index <= self.objects.exported() => Standing {
                     state: State::Withdrawn,
                     counts: Counts::NONE,
                 },
@@ -120,13 +116,14 @@ impl ObjectTable {
     }
 
     /// The least index from this one on of a live object that nothing holds. Logarithmic in the live objects, and
-    /// linear in those that it passes: the held ones between this index and the one found. So a walk over all such
-    /// objects, each time from the index behind the last one found, passes each live object once.
+    /// linear in the slots that it passes between this index and the one found: of held objects, and of withdrawn ones
+    /// that aren't cleared yet, of which the table never has more than live objects and one. So a walk over all such
+    /// objects, each time from the index behind the last one found, passes each slot once.
     pub fn first_unheld(&self, index: u64) -> Option<u64>
         ensures first { MatchOption result (NeverUnheld self.now index) (λ found. IsFirstUnheld self.now index found) }
         ensures given { IfSome result (λ found. (1 ≤ found) × (found ≤ self.now.exported)) }
     {
-        first_unheld_of(&self.objects, index)
+        self.objects.first_unheld(index)
     }
 
     /// How many surrogates there are on open sessions. Constant time.
@@ -211,22 +208,17 @@ impl ObjectTable {
         ensures succeeds { 0 < self.old.export_room → export_fault self.old ≡ None → IsOk result }
     {
         if self.objects.len() >= ObjectTable::MOST_OBJECTS
-            || self.exported >= ObjectTable::MOST_INDEX
+            || self.objects.exported() >= ObjectTable::MOST_INDEX
         {
             return Err(TableError::Fault(TableFault::Limit));
         }
         self.objects.reserve(1)?;
-        self.exported += 1;
-        let rep = WireRep {
-            owner: self.me,
-            index: self.exported,
-        };
-        self.objects.push(&rep, Counts { hand: 1, lent: 0 });
-        Ok(rep)
+        Ok(self.objects.push(self.me, Counts { hand: 1, lent: 0 }))
     }
 
     /// Withdraws a live object that nothing holds. B1 where no live object has the index, B4 where it is held.
-    /// Linear in the live objects of greater indexes.
+    /// It takes no memory. Over all calls constant time on average: a withdrawal that leaves fewer objects than empty
+    /// slots clears these, linear in both.
     pub fn withdraw(&mut self, index: u64) -> Result<(), TableFault>
         ensures answer { MatchResult result (λ _. withdraw_fault self.old index ≡ None) (λ fault. withdraw_fault self.old index ≡ Some fault) }
         ensures withdrawn { OnOk result (Becomes self.old self.new (own self.old index) withdrawn) }
@@ -244,7 +236,7 @@ impl ObjectTable {
         if counts.is_held() {
             return Err(TableFault::StillUsed);
         }
-        self.objects.take_in_order(&rep);
+        self.objects.take(&rep);
         Ok(())
     }
 
@@ -382,21 +374,4 @@ impl ObjectTable {
     {
         self.peers.forget(&rep);
     }
-}
-
-// The least index from this one on of an object that nothing holds.
-fn first_unheld_of(objects: &Rows<Counts>, index: u64) -> Option<u64>
-    requires { IsByIndex (reps_of objects.now.rows) }
-    ensures once { IsOnce objects.now.rows }
-    ensures first { MatchOption result (AreAllHeld objects.now.rows index) (λ found. IsFirstRow objects.now.rows index found) }
-{
-    let start = objects.count_below(index);
-    let end = objects.len();
-    for at in start..end {
-        let row = objects.row(at)?;
-        if !row.1.is_held() {
-            return Some(row.0.index);
-        }
-    }
-    None
 }

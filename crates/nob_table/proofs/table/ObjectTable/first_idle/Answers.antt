@@ -6,7 +6,7 @@ pub returns-clause-first : goal.returns-clause-first
 returns-clause-first c =
     let t : Table = record {
       me = c.self.inside.me;
-      exported = c.self.inside.exported;
+      exported = c.self.inside.objects.exported;
       dirties = c.self.inside.dirties;
       objects = c.self.inside.objects.rows;
       counted = c.self.inside.peers.counted;

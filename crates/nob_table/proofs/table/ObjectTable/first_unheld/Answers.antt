@@ -2,10 +2,10 @@ use Rattle.nob_table.specs.Table.{Table}
 use Rattle.nob_table.proofs.Unheld.{first_of_objects, found_given}
 use Rattle.nob_table.proofs.table.ObjectTable.first_unheld.Goals as goal
 
-abbrev table : goal.After-first_unheld_of → Table
+abbrev table : goal.After-first_unheld → Table
 table c = record {
   me = c.self.inside.me;
-  exported = c.self.inside.exported;
+  exported = c.self.inside.objects.exported;
   dirties = c.self.inside.dirties;
   objects = c.self.inside.objects.rows;
   counted = c.self.inside.peers.counted;
@@ -15,7 +15,7 @@ table c = record {
 }
 
 pub returns-clause-first : goal.returns-clause-first
-returns-clause-first c = rw (← c.self.view_is) (first_of_objects (table c) c.first_unheld_of.ensures.once c.self.invariant c.args.index c.first_unheld_of.result c.first_unheld_of.ensures.first)
+returns-clause-first c = rw (← c.self.view_is) (first_of_objects (table c) c.self.invariant c.args.index c.first_unheld.result c.first_unheld.ensures.first)
 
 pub returns-clause-given : goal.returns-clause-given
-returns-clause-given c = rw (← c.self.view_is) (found_given (table c) c.first_unheld_of.ensures.once c.self.invariant c.args.index c.first_unheld_of.result c.first_unheld_of.ensures.first)
+returns-clause-given c = rw (← c.self.view_is) (found_given (table c) c.self.invariant c.args.index c.first_unheld.result c.first_unheld.ensures.first)
