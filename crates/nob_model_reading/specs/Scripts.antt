@@ -17,22 +17,22 @@ abbrev pub AreLimits : Limits → Type 0
 AreLimits limits = (1 ≤ limits.window) × (limits.window ≤ 64) × (1 ≤ limits.retry) × (limits.retry ≤ 255)
 
 -- the limits that a first line states, if it does
-abbrev pub stated_text : Option Limits → List ℕ
-stated_text None = []
-stated_text (Some limits) = limits_text limits []
+abbrev pub optional_limits_text : Option Limits → List ℕ
+optional_limits_text None = []
+optional_limits_text (Some limits) = limits_text limits []
 
 -- limits in their ranges, where there are some
-abbrev pub AreStated : Option Limits → Type 0
-AreStated None = Unit {0}
-AreStated (Some limits) = AreLimits limits
+abbrev pub AreOptionalLimits : Option Limits → Type 0
+AreOptionalLimits None = Unit {0}
+AreOptionalLimits (Some limits) = AreLimits limits
 
 -- the first line: how many spaces there are, and the limits where it states some
 abbrev pub opening_text : Opening → List ℕ
-opening_text opening = codes "spaces " ++ (decimal opening.n ++ stated_text opening.limits)
+opening_text opening = codes "spaces " ++ (decimal opening.n ++ optional_limits_text opening.limits)
 
 -- a first line with numbers in their ranges
 abbrev pub IsOpening : Opening → Type 0
-IsOpening opening = IsSpace opening.n × AreStated opening.limits
+IsOpening opening = IsSpace opening.n × AreOptionalLimits opening.limits
 
 -- a step: a space and its event, or the delivery of a frame by its number
 abbrev pub step_text : WorldStep → List ℕ

@@ -1,21 +1,17 @@
 -- Events and results of traces by what is read of them.
-use Rattle.std.proofs.Common.{◌≡◌, ℕ, List, [], ◌∷◌, ◌++◌, codes, Result, Ok, Err, refl, sym, ap, ◌∙◌, rules}
-use Rattle.std.specs.List.{AllByRecursion}
-use Rattle.nob_frame.specs.declared.frame.Frame.{Frame}
+use Rattle.std.proofs.Common.{◌≡◌, ℕ, List, [], ◌∷◌, ◌++◌, codes, Result, Ok, Err, sym, ◌∙◌}
 use Rattle.nob_model_types.specs.declared.event.Event.{Event}
 use Rattle.nob_model_types.specs.declared.event.Event.TheVariants as events
 use Rattle.nob_model_types.specs.declared.answer.Answer.{Answer}
 use Rattle.nob_model_types.specs.declared.answer.Answer.TheVariants as answers
-use Rattle.nob_model_types.specs.declared.refusal.Use.{Use}
 use Rattle.nob_model_types.specs.declared.refusal.Use.TheVariants as uses
 use Rattle.nob_model_types.specs.declared.refusal.Refusal.{Refusal}
 use Rattle.nob_model_types.specs.declared.refusal.Refusal.TheVariants as refusals
-use Rattle.nob_model_text.specs.Events.{IsSpoken, event_text}
-use Rattle.nob_model_text.specs.Answers.{answer_text, refusal_text, use_text}
+use Rattle.nob_model_text.specs.Events.{event_text}
+use Rattle.nob_model_text.specs.Answers.{answer_text}
 use Rattle.nob_model_reading.specs.Spoken.{Speaks}
 use Rattle.nob_model_reading.specs.Told.{IsTold, Tells}
-use Rattle.nob_trace.specs.Frames.{IsFramed, frame_text, frames_text}
-use Rattle.nob_trace.specs.Entries.{ArrivalFits, GivenFit, IsTracedEvent, IsTracedResult, arrival_text, given_text, result_text}
+use Rattle.nob_trace.specs.Entries.{ArrivalFits, TransmitFits, IsTracedResult, arrival_text, transmit_text, result_text}
 
 longer : (bytes : List ℕ) → codes "arrive " ++ [] ≡ codes "arrive " ++ 0 ∷ bytes → ⊥
 longer bytes is = absurd cc
@@ -42,7 +38,7 @@ filled : (bytes : List ℕ) → [] ≡ 0 ∷ bytes → ⊥
 filled bytes is = absurd cc
 
 -- an answer whose text doesn't depend on frames has none
-pub no_frames : (text : List ℕ) (answer : Answer) → Tells text answer → GivenFit (Ok answer) × (text ≡ answer_text (given_text answer) answer)
+pub no_frames : (text : List ℕ) (answer : Answer) → Tells text answer → TransmitFits (Ok answer) × (text ≡ answer_text (transmit_text answer) answer)
 no_frames text (answers.Exported r) tells = (tt, tells [])
 no_frames text answers.Done tells = (tt, tells [])
 no_frames text (answers.Called c) tells = (tt, tells [])

@@ -1,8 +1,8 @@
 -- The spelling of a frame is bytes, and its text begins with a digit.
 use Prim.Native.Nat.{zero}
-use Rattle.std.proofs.Common.{◌≡◌, ℕ, suc, ◌<◌, ◌/◌, List, [], ◌∷◌, ◌++◌, length, slice_index, refl, arith}
+use Rattle.std.proofs.Common.{◌≡◌, ℕ, suc, ◌<◌, List, [], ◌∷◌, ◌++◌, length, refl, arith}
 use Rattle.std.specs.Int.{bytes_high_first, byte_at}
-use Rattle.hex.specs.Hex.{encode_lower, encode_with, IsBytes}
+use Rattle.hex.specs.Hex.{encode_with, IsBytes}
 use Rattle.nob_frame.specs.declared.frame.Frame.{Frame}
 use Rattle.nob_frame.specs.declared.frame.FrameKind.{FrameKind}
 use Rattle.nob_frame.specs.declared.frame.FrameKind.TheVariants.{Data, Ack, Close}

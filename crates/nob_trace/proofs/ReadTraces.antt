@@ -1,5 +1,5 @@
 -- A trace at the front of a text, and traces one after the other.
-use Rattle.std.proofs.Common.{◌≡◌, ◌≢◌, ℕ, ◌+◌, ◌<◌, ◌≤◌, List, [], ◌∷◌, ◌++◌, length, codes, refl, sym, ap, subst, arith, rules, ◌∙◌, append_assoc, length-append, Result, Ok, Err}
+use Rattle.std.proofs.Common.{◌≡◌, ℕ, ◌<◌, List, [], ◌∷◌, ◌++◌, length, codes, refl, sym, ap, subst, arith, rules, ◌∙◌, append_assoc, length-append, Result, Ok, Err}
 use Rattle.std.specs.Prelude.{IsErrAnd}
 use Rattle.std.specs.List.{AllByRecursion, flat_map}
 use Rattle.std.specs.Fmt.{decimal}
@@ -11,7 +11,7 @@ use Rattle.nob_trace.specs.declared.fault.TraceFault.TheVariants as faults
 use Rattle.nob_trace.specs.declared.fault.TraceError.{TraceError}
 use Rattle.nob_trace.specs.declared.fault.TraceError.TheVariants.{Fault, OutOfMemory}
 use Rattle.nob_trace.specs.Traces.{head_of, head_text, entries_text, trace_text, IsHead, IsTrace, IsWritable}
-use Rattle.nob_trace.specs.Reading.{Answers, BeginsWithLine, EntriesFault, Explains, IsNoHead, Lacks, TextFault, TracesProblem}
+use Rattle.nob_trace.specs.Reading.{Answers, BeginsWithLine, EntriesFault, Explains, IsNoHead, Lacks, TextFault}
 use Rattle.nob_trace.proofs.Parting.{has_one, one_parting}
 use Rattle.nob_trace.proofs.Signs as signs
 

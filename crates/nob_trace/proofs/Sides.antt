@@ -1,6 +1,5 @@
 -- The two sides of an entry are parted in one way.
-use Rattle.std.proofs.Common.{◌≡◌, ℕ, false, List, [], ◌∷◌, ◌++◌, length, codes, refl, sym, ap, subst, arith, ◌∙◌, append_assoc, length-append}
-use Rattle.std.specs.Prelude.{◌==◌}
+use Rattle.std.proofs.Common.{◌≡◌, ℕ, List, [], ◌∷◌, ◌++◌, codes, refl, sym, ap, ◌∙◌, append_assoc}
 use Rattle.nob_trace.specs.Reading.{Lacks}
 use Rattle.nob_trace.proofs.Parting.{one_parting, has_one}
 use Rattle.nob_trace.proofs.Signs.{lacks_both}

@@ -1,6 +1,6 @@
 -- Neither a newline nor an equals sign stands in the texts of events and results.
 use Prim.Native.Nat.{zero}
-use Rattle.std.proofs.Common.{◌≡◌, ℕ, suc, ◌+◌, ◌^◌, ◌<◌, ◌≤◌, ◌/◌, ◌%◌, Bool, true, false, List, [], ◌∷◌, ◌++◌, slice_index, codes, refl, sym, ap, subst, arith, rules, Result, Ok, Err, ◌∙◌}
+use Rattle.std.proofs.Common.{◌≡◌, ℕ, suc, ◌+◌, ◌^◌, ◌<◌, ◌/◌, ◌%◌, Bool, false, List, [], ◌∷◌, ◌++◌, slice_index, codes, refl, arith, rules, Result, Ok, Err}
 use Rattle.std.specs.Prelude.{◌==◌, ◌||◌, ℤ, pos, negsuc}
 use Rattle.std.specs.List.{AllByRecursion}
 use Rattle.std.specs.Int.{w64}
@@ -8,7 +8,7 @@ use Rattle.std.specs.Int.RustNames.{FitsSigned}
 use Rattle.std.specs.Fmt.{decimal, signed_decimal}
 use Rattle.std.proofs.lemmas.Fmt.{decimal_by_steps}
 use Rattle.std.proofs.lemmas.Bool.Decides.{nat_tests}
-use Rattle.hex.specs.Hex.{encode_lower, encode_with, lower_digits, IsBytes}
+use Rattle.hex.specs.Hex.{encode_lower, encode_with, lower_digits}
 use Rattle.nob_ids.specs.Names.{IsSpace}
 use Rattle.nob_ids.specs.Reasons.{reason_number}
 use Rattle.nob_ids.specs.declared.reason.Reason.{Reason}
@@ -32,13 +32,13 @@ use Rattle.nob_model_types.specs.declared.refusal.Use.TheVariants as uses
 use Rattle.nob_model_types.specs.declared.refusal.Refusal.{Refusal}
 use Rattle.nob_model_types.specs.declared.refusal.Refusal.TheVariants as refusals
 use Rattle.nob_model_text.specs.Values.{rep_text, tree_text, inside_text, behind_text, value_text, IsTyped, AreTyped, HasText}
-use Rattle.nob_model_text.specs.Events.{IsOutcome, IsRep, IsSpoken, event_text, outcome_text}
-use Rattle.nob_model_text.specs.Answers.{answer_text, job_text, refusal_text, use_text}
+use Rattle.nob_model_text.specs.Events.{IsOutcome, event_text, outcome_text}
+use Rattle.nob_model_text.specs.Answers.{job_text, refusal_text, use_text}
 use Rattle.nob_model_text.proofs.Parting.{small_signed}
-use Rattle.nob_model_reading.specs.Told.{IsJob, IsTold}
+use Rattle.nob_model_reading.specs.Told.{IsJob}
 use Rattle.nob_trace.specs.declared.stamped.Stamped.{Stamped}
-use Rattle.nob_trace.specs.Frames.{IsFramed, frame_text, frames_text, spaced_text}
-use Rattle.nob_trace.specs.Entries.{IsTraced, IsTracedEvent, IsTracedResult, arrival_text, given_text, entry_text, result_text}
+use Rattle.nob_trace.specs.Frames.{frame_text, frames_text, spaced_text}
+use Rattle.nob_trace.specs.Entries.{IsTraced, IsTracedEvent, IsTracedResult, arrival_text, entry_text, result_text}
 use Rattle.nob_trace.specs.Reading.{Lacks}
 
 -- a newline or an equals sign

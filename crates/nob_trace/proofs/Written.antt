@@ -1,16 +1,15 @@
 -- Frames and entries that were written so far, and those that are left.
-use Rattle.std.proofs.Common.{◌≡◌, ℕ, suc, ◌+◌, ◌<◌, List, [], ◌∷◌, ◌++◌, length, drop, get_or, refl, sym, ap, subst, ◌∙◌, append_assoc, add-one, Result, Ok, Err}
+use Rattle.std.proofs.Common.{◌≡◌, ℕ, suc, ◌+◌, ◌<◌, List, [], ◌∷◌, ◌++◌, length, drop, get_or, sym, ap, subst, ◌∙◌, append_assoc, add-one, Result, Ok, Err}
 use Rattle.std.specs.Prelude.{IsErrAnd}
 use Rattle.std.specs.List.{AllByRecursion}
 use Rattle.std.proofs.Math.Seq.{drop-cons}
 use Rattle.nob_frame.specs.declared.frame.Frame.{Frame}
-use Rattle.nob_frame.specs.Spelling.{Fits}
 use Rattle.nob_trace.specs.declared.stamped.Stamped.{Stamped}
 use Rattle.nob_trace.specs.declared.fault.TraceError.{TraceError}
 use Rattle.nob_trace.specs.declared.fault.TraceError.TheVariants.{Fault, OutOfMemory}
 use Rattle.nob_trace.specs.Writing.{Refuses, Writes}
 use Rattle.nob_trace.specs.Frames.{frame_text, spaced_text}
-use Rattle.nob_trace.specs.Entries.{entry_text, HasSpelling}
+use Rattle.nob_trace.specs.Entries.{entry_text}
 use Rattle.nob_trace.specs.Traces.{entries_text}
 
 pub first_ahead : {A : Type 0} (xs : List A) (i : ℕ) (x : A) → i < length xs → x ≡ get_or xs i x → drop i xs ≡ x ∷ drop (i + 1) xs

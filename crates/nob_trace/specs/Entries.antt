@@ -20,13 +20,13 @@ arrival_text (events.Arrive frame) = frame_text frame
 arrival_text event = []
 
 -- the frames' text of a transmit's answer, and none of another answer
-abbrev pub given_text : Answer → List ℕ
-given_text (answers.Frames frames) = frames_text frames
-given_text answer = []
+abbrev pub transmit_text : Answer → List ℕ
+transmit_text (answers.Frames frames) = frames_text frames
+transmit_text answer = []
 
 -- an answer or a refusal
 abbrev pub result_text : Result Answer Refusal → List ℕ
-result_text (Ok answer) = answer_text (given_text answer) answer
+result_text (Ok answer) = answer_text (transmit_text answer) answer
 result_text (Err refusal) = refusal_text refusal
 
 -- an entry: its stamp, its event, and its result behind an equals sign
@@ -39,14 +39,14 @@ ArrivalFits (events.Arrive frame) = Fits frame
 ArrivalFits event = Unit {0}
 
 -- frames that a transmit gave have spellings
-abbrev pub GivenFit : Result Answer Refusal → Type 0
-GivenFit (Ok (answers.Frames frames)) = AllByRecursion Fits frames
-GivenFit (Ok answer) = Unit {0}
-GivenFit (Err refusal) = Unit {0}
+abbrev pub TransmitFits : Result Answer Refusal → Type 0
+TransmitFits (Ok (answers.Frames frames)) = AllByRecursion Fits frames
+TransmitFits (Ok answer) = Unit {0}
+TransmitFits (Err refusal) = Unit {0}
 
 -- an entry in which each frame has a spelling
 abbrev pub HasSpelling : Stamped → Type 0
-HasSpelling entry = ArrivalFits entry.event × GivenFit entry.result
+HasSpelling entry = ArrivalFits entry.event × TransmitFits entry.result
 
 -- an event that a trace can have: one that a script can have, or the arrival of a frame that bytes spell
 abbrev pub IsTracedEvent : Event → Type 0

@@ -3,7 +3,6 @@ use Rattle.std.specs.Prelude.{ℕ, ◌<◌, ◌^◌, List, [], ◌∷◌, ◌++�
 use Rattle.std.specs.List.{AllByRecursion}
 use Rattle.std.specs.Fmt.{decimal}
 use Rattle.nob_ids.specs.Names.{IsSpace}
-use Rattle.nob_ids.specs.declared.limits.Limits.{Limits}
 use Rattle.nob_model_reading.specs.Scripts.{limits_text, AreLimits}
 use Rattle.nob_trace.specs.declared.stamped.Stamped.{Stamped}
 use Rattle.nob_trace.specs.declared.head.Head.{Head}

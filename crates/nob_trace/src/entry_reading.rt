@@ -12,11 +12,11 @@ ghost use Rattle.nob_model_text.specs.Answers.{answer_text};
 ghost use Rattle.nob_model_reading.specs.Told.{IsTold};
 ghost use Rattle.nob_trace.specs.declared.stamped.Stamped.{Stamped as StampedOf};
 ghost use Rattle.nob_trace.specs.Frames.{IsFramed, frame_text};
-ghost use Rattle.nob_trace.specs.Entries.{ArrivalFits, GivenFit, HasSpelling, IsTraced, IsTracedEvent, IsTracedResult, arrival_text, entry_text, result_text};
+ghost use Rattle.nob_trace.specs.Entries.{ArrivalFits, TransmitFits, HasSpelling, IsTraced, IsTracedEvent, IsTracedResult, arrival_text, entry_text, result_text};
 ghost use Rattle.nob_trace.specs.Reading.{Lacks};
 
 use crate::frame_reading::{whole_frame, whole_frames};
-use crate::lines::parted;
+use crate::lines::split_at_byte;
 use crate::stamped::Stamped;
 use nob_model_reading::{after_space, whole_answer, whole_event};
 use nob_model_text::{Unread, number_at, refusal_of};
@@ -45,7 +45,7 @@ fn sides_of(text: &[u8]) -> Result<(&[u8], &[u8]), Unread>
     ensures only { (left right : List ℕ) → Lacks 61 left → text.now ≡ left ++ (codes " = " ++ right)
         → Reads (λ sides. (sides.0.now ≡ left) × (sides.1.now ≡ right)) result }
 {
-    let Some((front, back)) = parted(text, b'=') else {
+    let Some((front, back)) = split_at_byte(text, b'=') else {
         return Err(Unread::NoText);
     };
     let Some((last, left)) = front.split_last() else {
@@ -65,7 +65,7 @@ fn traced_event(alloc: Global, text: &[u8]) -> Result<Event, Unread>
 {
     match after_arrive(text) {
         Some(rest) => arrival_of(alloc, rest),
-        None => spoken(alloc, text),
+        None => script_event(alloc, text),
     }
 }
 
@@ -91,7 +91,7 @@ fn arrival_of(alloc: Global, text: &[u8]) -> Result<Event, Unread>
 }
 
 // The event of a script that a text spells.
-fn spoken(alloc: Global, text: &[u8]) -> Result<Event, Unread>
+fn script_event(alloc: Global, text: &[u8]) -> Result<Event, Unread>
     ensures found { IfOk result (λ event. ArrivalFits event × (text.now ≡ event_text (arrival_text event) event)) }
     ensures only { (event : EventOf) → IsSpoken event → text.now ≡ event_text [] event → Reads (λ e. e ≡ event) result }
 {
@@ -103,16 +103,16 @@ fn spoken(alloc: Global, text: &[u8]) -> Result<Event, Unread>
 
 // The result in a trace that a text spells.
 fn traced_result(alloc: Global, text: &[u8]) -> Result<Result<Answer, Refusal>, Unread>
-    ensures found { IfOk result (λ answered. GivenFit answered × (text.now ≡ result_text answered)) }
-    ensures only { (answered : ResultOf AnswerOf RefusalOf) → IsTracedResult answered → text.now ≡ result_text answered → Reads (λ r. r ≡ answered) result }
+    ensures found { IfOk result (λ response. TransmitFits response × (text.now ≡ result_text response)) }
+    ensures only { (response : ResultOf AnswerOf RefusalOf) → IsTracedResult response → text.now ≡ result_text response → Reads (λ r. r ≡ response) result }
 {
     if begins_as_refusal(text) {
-        return refused(text);
+        return refusal_result(text);
     }
     if begins_as_frames(text) {
-        return given(alloc, text);
+        return frames_result(alloc, text);
     }
-    answered(alloc, text)
+    answer_result(alloc, text)
 }
 
 // Whether a text begins with the letter of refusals.
@@ -138,8 +138,8 @@ fn begins_as_frames(text: &[u8]) -> bool
 }
 
 // The refusal that a text spells, as a result. It takes no memory.
-fn refused(text: &[u8]) -> Result<Result<Answer, Refusal>, Unread>
-    ensures found { IfOk result (λ answered. GivenFit answered × (text.now ≡ result_text answered)) }
+fn refusal_result(text: &[u8]) -> Result<Result<Answer, Refusal>, Unread>
+    ensures found { IfOk result (λ response. TransmitFits response × (text.now ≡ result_text response)) }
     ensures only { (refusal : RefusalOf) → text.now ≡ result_text (Err refusal) → Reads (λ r. r ≡ Err refusal) result }
 {
     match refusal_of(text) {
@@ -149,8 +149,8 @@ fn refused(text: &[u8]) -> Result<Result<Answer, Refusal>, Unread>
 }
 
 // The frames that a text spells, as a result.
-fn given(alloc: Global, text: &[u8]) -> Result<Result<Answer, Refusal>, Unread>
-    ensures found { IfOk result (λ answered. GivenFit answered × (text.now ≡ result_text answered)) }
+fn frames_result(alloc: Global, text: &[u8]) -> Result<Result<Answer, Refusal>, Unread>
+    ensures found { IfOk result (λ response. TransmitFits response × (text.now ≡ result_text response)) }
     ensures only { (frames : List FrameOf) → IsTracedResult (Ok (Answer.Frames frames)) → text.now ≡ result_text (Ok (Answer.Frames frames)) → Reads (λ r. r ≡ Ok (Answer.Frames frames)) result }
 {
     match whole_frames(alloc, text) {
@@ -160,8 +160,8 @@ fn given(alloc: Global, text: &[u8]) -> Result<Result<Answer, Refusal>, Unread>
 }
 
 // The answer without frames that a text spells, as a result.
-fn answered(alloc: Global, text: &[u8]) -> Result<Result<Answer, Refusal>, Unread>
-    ensures found { IfOk result (λ answered. GivenFit answered × (text.now ≡ result_text answered)) }
+fn answer_result(alloc: Global, text: &[u8]) -> Result<Result<Answer, Refusal>, Unread>
+    ensures found { IfOk result (λ response. TransmitFits response × (text.now ≡ result_text response)) }
     ensures only { (answer : AnswerOf) → IsTold answer → text.now ≡ answer_text [] answer → Reads (λ r. r ≡ Ok answer) result }
 {
     match whole_answer(alloc, text) {

@@ -63,12 +63,12 @@ fn frame_at(alloc: Global, text: &[u8]) -> Result<(Frame, &[u8]), Unread>
         → Reads (λ parts. (parts.0 ≡ frame) × (parts.1.now ≡ rest)) result }
 {
     let (bytes, rest) = bytes_at(alloc, text)?;
-    let frame = decoded(alloc, bytes.as_slice())?;
+    let frame = frame_of_bytes(alloc, bytes.as_slice())?;
     Ok((frame, rest))
 }
 
 // The frame that bytes spell.
-fn decoded(alloc: Global, bytes: &[u8]) -> Result<Frame, Unread>
+fn frame_of_bytes(alloc: Global, bytes: &[u8]) -> Result<Frame, Unread>
     ensures found { IfOk result (λ frame. Spelt bytes.now frame) }
     ensures only { (frame : FrameOf) → Spelt bytes.now frame → Reads (λ f. f ≡ frame) result }
 {

@@ -5,7 +5,7 @@ ghost use Rattle.nob_trace.specs.Reading.{BeginsWithLine, Lacks};
 
 // What stands before the first byte of this kind, and what stands behind it: `None` where there is none.
 #[tactic(auto, using(crate::proofs::Parting::none_lacks))]
-pub fn parted(text: &[u8], byte: u8) -> Option<(&[u8], &[u8])>
+pub fn split_at_byte(text: &[u8], byte: u8) -> Option<(&[u8], &[u8])>
     ensures { MatchOption result (Lacks byte text.now) (λ parts. Lacks byte parts.0.now × (text.now ≡ parts.0.now ++ byte ∷ parts.1.now)) }
 {
     let Some(end) = place_of(text, byte) else {
@@ -25,5 +25,5 @@ fn place_of(text: &[u8], byte: u8) -> Option<usize>
 pub fn whole_line(text: &[u8]) -> Option<(&[u8], &[u8])>
     ensures { MatchOption result (Lacks 10 text.now) (λ parts. BeginsWithLine text.now parts.0.now parts.1.now) }
 {
-    parted(text, b'\n')
+    split_at_byte(text, b'\n')
 }

@@ -87,33 +87,33 @@ fn traced_event_text(alloc: Global, event: &Event) -> Result<String, TraceError>
 }
 
 /// The text of a result in a trace, or R2 where a frame in it has no spelling.
-pub fn result_text(alloc: Global, answered: &Result<Answer, Refusal>) -> Result<String, TraceError>
-    ensures { Writes (λ text. string_bytes text ≡ entries.result_text answered.now) (entries.GivenFit answered.now) result }
+pub fn result_text(alloc: Global, response: &Result<Answer, Refusal>) -> Result<String, TraceError>
+    ensures { Writes (λ text. string_bytes text ≡ entries.result_text response.now) (entries.TransmitFits response.now) result }
 {
-    match answered {
-        Ok(Answer::Frames(given)) => frames_text(alloc, given.as_slice()),
+    match response {
+        Ok(Answer::Frames(list)) => frames_text(alloc, list.as_slice()),
         Ok(answer) => Ok(answer_text(alloc, answer, "")?),
         Err(refusal) => Ok(String::from_str(alloc, refusal_text(*refusal))?),
     }
 }
 
 // The text of the frames that a transmit gave.
-fn frames_text(alloc: Global, given: &[Frame]) -> Result<String, TraceError>
-    ensures { Writes (λ text. string_bytes text ≡ frames.frames_text given.now) (AllByRecursion Fits given.now) result }
+fn frames_text(alloc: Global, list: &[Frame]) -> Result<String, TraceError>
+    ensures { Writes (λ text. string_bytes text ≡ frames.frames_text list.now) (AllByRecursion Fits list.now) result }
 {
-    if given.is_empty() {
+    if list.is_empty() {
         return Ok(String::from_str(alloc, "frames none")?);
     }
     let mut text = String::from_str(alloc, "frames")?;
-    put_frames(alloc, &mut text, given)?;
+    put_frames(alloc, &mut text, list)?;
     Ok(text)
 }
 
 // Puts frames, each behind a space, behind a text.
-fn put_frames(alloc: Global, text: &mut String, given: &[Frame]) -> Result<(), TraceError>
-    ensures { Writes (λ _. string_bytes text.new ≡ string_bytes text.old ++ frames.spaced_text given.now) (AllByRecursion Fits given.now) result }
+fn put_frames(alloc: Global, text: &mut String, list: &[Frame]) -> Result<(), TraceError>
+    ensures { Writes (λ _. string_bytes text.new ≡ string_bytes text.old ++ frames.spaced_text list.now) (AllByRecursion Fits list.now) result }
 {
-    for frame in given {
+    for frame in list {
         let spelling = frame_text(alloc, frame)?;
         text.push_str(" ")?;
         text.push_str(spelling.as_str())?;

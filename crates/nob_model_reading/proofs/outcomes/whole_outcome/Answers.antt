@@ -1,7 +1,6 @@
 use Rattle.std.proofs.Common.{◌≡◌, rules}
-use Rattle.nob_model_types.specs.declared.event.Outcome.{Outcome}
 use Rattle.nob_model_types.specs.declared.event.Outcome.TheVariants.{Answer, Fault, NoMethod}
-use Rattle.nob_model_text.specs.Events.{IsOutcome, outcome_text}
+use Rattle.nob_model_text.specs.Events.{outcome_text}
 use Rattle.nob_model_reading.proofs.outcomes.whole_outcome.Goals as goal
 
 pub returns-in_default-clause-only : goal.returns-in_default-clause-only

@@ -1,5 +1,4 @@
-use Rattle.std.proofs.Common.{◌≡◌, ℕ, List, arith, rules}
-use Rattle.nob_model_types.specs.declared.entry.WorldStep.{WorldStep}
+use Rattle.std.proofs.Common.{◌≡◌, arith, rules}
 use Rattle.nob_model_types.specs.declared.entry.WorldStep.TheVariants as steps
 use Rattle.nob_model_text.specs.Reading.{Reads}
 use Rattle.nob_model_reading.specs.Scripts.{IsStep, step_text}

@@ -1,4 +1,4 @@
-use Rattle.std.proofs.Common.{◌≡◌, ℕ, List, ◌∷◌, ◌++◌, codes, refl, sym, ap, ◌∙◌}
+use Rattle.std.proofs.Common.{◌∷◌, ◌++◌, codes, refl}
 use Rattle.nob_model_text.specs.Events.{event_text}
 use Rattle.nob_model_text.proofs.Read.{by_error, passed}
 use Rattle.nob_trace.specs.Entries.{arrival_text, result_text}

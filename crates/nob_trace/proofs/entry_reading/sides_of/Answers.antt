@@ -1,4 +1,4 @@
-use Rattle.std.proofs.Common.{◌≡◌, ℕ, List, [], ◌∷◌, ◌++◌, sym, ap, subst, ◌∙◌, length, length-append, arith}
+use Rattle.std.proofs.Common.{◌≡◌, [], ◌∷◌, ◌++◌, sym, ap, ◌∙◌, length, length-append, arith}
 use Rattle.nob_model_text.proofs.Read.{by_error, passed}
 use Rattle.nob_trace.proofs.Sides.{last_same, no_sign, sides}
 use Rattle.nob_trace.proofs.entry_reading.sides_of.Goals as goal

@@ -1,4 +1,4 @@
-use Rattle.std.proofs.Common.{sym, ◌∙◌, []}
+use Rattle.std.proofs.Common.{◌∙◌}
 use Rattle.nob_frame.specs.Spelling.{spelling}
 use Rattle.nob_model_text.proofs.Read.{by_error, passed}
 use Rattle.nob_trace.proofs.FrameBytes.{spelling_bytes}

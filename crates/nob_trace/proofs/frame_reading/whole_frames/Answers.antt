@@ -1,7 +1,7 @@
-use Rattle.std.proofs.Common.{◌≡◌, ◌++◌, ◌∷◌, [], List, ℕ, sym, ap, subst, ◌∙◌, true, false}
+use Rattle.std.proofs.Common.{◌++◌, List, ℕ, sym, ap, ◌∙◌}
 use Rattle.std.proofs.lemmas.Bool.Decides.{Decides-eqb}
 use Rattle.std.proofs.lemmas.Slice.Eq.{slice_eq-Decides}
-use Rattle.nob_model_text.proofs.Read.{by_error, passed, not_empty}
+use Rattle.nob_model_text.proofs.Read.{by_error, passed}
 use Rattle.nob_trace.specs.Frames.{spaced_text}
 use Rattle.nob_trace.proofs.Spaced.{none_alone, some_alone}
 use Rattle.nob_trace.proofs.frame_reading.whole_frames.Goals as goal

@@ -1,6 +1,5 @@
-use Rattle.std.proofs.Common.{◌≡◌, ℕ, List, ◌++◌, ap, sym, ◌∙◌, refl, length}
-use Rattle.nob_trace.specs.declared.trace.Trace.{Trace}
-use Rattle.nob_trace.specs.Traces.{head_of, IsTrace, trace_text, entries_text}
+use Rattle.std.proofs.Common.{◌≡◌, ap, sym, refl, length}
+use Rattle.nob_trace.specs.Traces.{head_of}
 use Rattle.nob_trace.proofs.ReadLines.{by_error, passed}
 use Rattle.nob_trace.proofs.ReadTraces.{head_fault, lines_fault, lines_of, no_line}
 use Rattle.nob_trace.proofs.reading.trace_at.Goals as goal

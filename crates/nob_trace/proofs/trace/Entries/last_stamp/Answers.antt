@@ -1,5 +1,4 @@
-use Rattle.std.proofs.Common.{ap, sym, ◌∙◌, ◌-◌, List, length, arith}
-use Rattle.nob_trace.specs.declared.stamped.Stamped.{Stamped}
+use Rattle.std.proofs.Common.{ap, ◌∙◌, ◌-◌, length, arith}
 use Rattle.nob_trace.specs.Stamps as spec
 use Rattle.nob_trace.proofs.Rising.{last_at}
 use Rattle.nob_trace.proofs.trace.Entries.last_stamp.Goals as goal

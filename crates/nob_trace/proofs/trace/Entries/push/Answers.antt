@@ -1,4 +1,4 @@
-use Rattle.std.proofs.Common.{sym, subst, ap, ◌∙◌, List, ◌++◌, ◌∷◌, [], ◌<◌}
+use Rattle.std.proofs.Common.{sym, subst, List, ◌<◌}
 use Rattle.nob_trace.specs.declared.stamped.Stamped.{Stamped}
 use Rattle.nob_trace.specs.Stamps.{Rise, last_stamp}
 use Rattle.nob_trace.proofs.Rising.{rise_push}

@@ -1,6 +1,6 @@
-use Rattle.std.proofs.Common.{sym, ◌∙◌, ◌≡◌, Some}
+use Rattle.std.proofs.Common.{sym, ◌∙◌}
 use Rattle.nob_trace.proofs.Parting.{front_lacks, front_and_rest}
-use Rattle.nob_trace.proofs.lines.parted.Goals as goal
+use Rattle.nob_trace.proofs.lines.split_at_byte.Goals as goal
 
 pub returns : goal.returns
 returns c =
