@@ -10,3 +10,4 @@ pub mod Ends
 pub mod Holds
 pub mod Transit
 pub mod Listing
+pub mod Premises

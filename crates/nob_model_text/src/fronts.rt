@@ -1,6 +1,6 @@
 //! What stands at the front of a text, up to the first mark: numbers, bytes and references.
 
-ghost use Rattle.std.specs.Prelude.{◌≡◌, ◌++◌, ◌∷◌, ◌<◌, ◌≤◌, ◌^◌, ℕ, ℤ, List, Some, IfOk, IfSome, length};
+ghost use Rattle.std.specs.Prelude.{◌≡◌, ◌++◌, ◌∷◌, ◌<◌, ◌≤◌, ◌^◌, ℕ, ℤ, List, Some, IfOk, IfSome, IsSome, ◌↔◌, length};
 ghost use Rattle.std.specs.Int.{w64};
 ghost use Rattle.std.specs.Int.RustNames.{FitsSigned};
 ghost use Rattle.std.specs.Fmt.{decimal, signed_decimal};
@@ -16,7 +16,8 @@ use nob_ids::{SpaceId, WireRep};
 use nob_trace_text::{bytes_of, number_of};
 use std::alloc::{AllocError, Global};
 
-// The number at the front of a text, and what is left.
+/// The number at the front of a text, up to the first mark, and what is left. Only memory and a text that begins
+/// otherwise fail it.
 pub fn number_at(alloc: Global, text: &[u8]) -> Result<(u64, &[u8]), Unread>
     ensures found { IfOk result (λ parts. text.now ≡ decimal parts.0 ++ parts.1.now) }
     ensures only { (n : ℕ) (rest : List ℕ) → n < 2 ^ 64 → spec.Stops rest → text.now ≡ decimal n ++ rest
@@ -70,7 +71,7 @@ fn parsed(text: &[u8]) -> Option<i64>
     }
 }
 
-// The bytes at the front of a text, and what is left.
+/// The bytes at the front of a text, up to the first mark, and what is left. They are none where a mark is first.
 pub fn bytes_at(alloc: Global, text: &[u8]) -> Result<(Vec<u8>, &[u8]), Unread>
     ensures found { IfOk result (λ parts. text.now ≡ encode_lower parts.0.items ++ parts.1.now) }
     ensures only { (bytes rest : List ℕ) → IsBytes bytes → spec.Stops rest → text.now ≡ encode_lower bytes ++ rest
@@ -83,7 +84,7 @@ pub fn bytes_at(alloc: Global, text: &[u8]) -> Result<(Vec<u8>, &[u8]), Unread>
     Ok((bytes, rest))
 }
 
-// The two numbers of a reference at the front of a text, and what is left.
+/// The two numbers of a reference at the front of a text, and what is left.
 pub fn rep_numbers_at(alloc: Global, text: &[u8]) -> Result<(u64, u64, &[u8]), Unread>
     ensures found { IfOk result (λ parts. text.now ≡ (decimal parts.0 ++ 46 ∷ decimal parts.1) ++ parts.2.now) }
     ensures only { (owner index : ℕ) (rest : List ℕ) → owner < 2 ^ 64 → index < 2 ^ 64 → spec.Stops rest → text.now ≡ (decimal owner ++ 46 ∷ decimal index) ++ rest
@@ -94,27 +95,24 @@ pub fn rep_numbers_at(alloc: Global, text: &[u8]) -> Result<(u64, u64, &[u8]), U
     Ok((owner, index, rest))
 }
 
-// The reference of these numbers.
-pub fn rep_of(owner: u64, index: u64) -> Result<WireRep, Unread>
-    ensures found { IfOk result (λ rep. (rep.owner ≡ owner) × (rep.index ≡ index)) }
-    ensures only { IsSpace owner → Reads (λ rep. (rep.owner ≡ owner) × (rep.index ≡ index)) result }
+/// The reference of these numbers: `None` where no space has the owner's. It takes no memory.
+pub fn rep_of(owner: u64, index: u64) -> Option<WireRep>
+    ensures in_range { IsSome result ↔ IsSpace owner }
+    ensures value { IfSome result (λ rep. (rep.owner ≡ owner) × (rep.index ≡ index)) }
 {
     let owner = space_of(owner)?;
-    Ok(WireRep { owner, index })
+    Some(WireRep { owner, index })
 }
 
-// The space of this number.
-pub fn space_of(number: u64) -> Result<SpaceId, Unread>
-    ensures found { IfOk result (λ space. space ≡ number) }
-    ensures only { IsSpace number → Reads (λ space. space ≡ number) result }
+/// The space of this number: `None` where no space has it. It takes no memory.
+pub fn space_of(number: u64) -> Option<SpaceId>
+    ensures in_range { IsSome result ↔ IsSpace number }
+    ensures value { IfSome result (λ space. space ≡ number) }
 {
     if number > 32 {
-        return Err(Unread::NoText);
+        return None;
     }
-    let Some(space) = SpaceId::new(number as u16) else {
-        return Err(Unread::NoText);
-    };
-    Ok(space)
+    SpaceId::new(number as u16)
 }
 
 // What follows the point with which a text begins.

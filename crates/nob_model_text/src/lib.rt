@@ -3,10 +3,8 @@
 #![tactic(auto)]
 
 mod answer_writing;
-mod event_reading;
 mod event_writing;
 mod fronts;
-mod outcome_reading;
 mod refusal_reading;
 mod refusal_writing;
 mod unread;
@@ -15,7 +13,9 @@ mod value_writing;
 
 pub use answer_writing::answer_text;
 pub use event_writing::event_text;
+pub use fronts::{bytes_at, number_at, rep_numbers_at, rep_of, space_of};
 pub use refusal_reading::refusal_of;
 pub use refusal_writing::refusal_text;
-pub use value_reading::value_of;
+pub use unread::Unread;
+pub use value_reading::{value_of, whole_value};
 pub use value_writing::{rep_text, value_text};

@@ -37,7 +37,7 @@ pub fn value_of(alloc: Global, text: &[u8]) -> Result<Option<Value>, AllocError>
     }
 }
 
-// The same, where a text that spells none is an error.
+/// The same, where a text that spells none is an error.
 pub fn whole_value(alloc: Global, text: &[u8]) -> Result<Value, Unread>
     ensures found { IfOk result (λ value. (text.now ≡ spec.value_text value) × (spec.nested (tree value) ≤ 1000)) }
     ensures only { (value : ValueOf) → spec.HasText value → text.now ≡ spec.value_text value → Reads (λ v. v ≡ value) result }
@@ -183,5 +183,8 @@ fn rep_value(alloc: Global, text: &[u8]) -> Result<(Value, &[u8]), Unread>
     ensures deep { IfOk result (λ parts. spec.nested (tree parts.0) ≡ 0) }
 {
     let (owner, index, rest) = rep_numbers_at(alloc, text)?;
-    Ok((Value::Ref(rep_of(owner, index)?), rest))
+    let Some(rep) = rep_of(owner, index) else {
+        return Err(Unread::NoText);
+    };
+    Ok((Value::Ref(rep), rest))
 }

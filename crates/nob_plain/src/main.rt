@@ -2,48 +2,50 @@
 //! trace, from standard input, and answers each step by the plain program of nob_model. It is slow on purpose.
 #![tactic(auto)]
 
-mod reading;
+mod problem;
 mod script;
 mod trace;
-mod unread;
-mod writing;
 
-use crate::unread::Unread;
+use crate::problem::Problem;
 use std::alloc::Global;
-use std::io;
+use std::io::{Read, Write};
 use std::process::ExitCode;
+use std::{env, io};
 
 fn main(rt: HostRuntime) -> ExitCode {
-    match answer(&rt) {
+    match run(&rt) {
         Ok(()) => ExitCode::from(0),
-        Err(_) => {
-            let _ = rt.println("memory");
-            ExitCode::from(1)
-        }
+        Err(_) => ExitCode::from(1),
     }
 }
 
-// Reads all lines and writes what they give.
-fn answer(rt: &HostRuntime) -> io::Result<()> {
+// Reads all of standard input and writes what it gives.
+fn run(rt: &HostRuntime) -> io::Result<()> {
     let alloc = rt.alloc();
-    let mut lines = Vec::new(alloc);
-    for line in rt.lines(alloc) {
-        lines.push(line?)?;
-    }
-    match text_of(alloc, lines.as_slice()) {
-        Ok(text) => rt.println(text.as_str()),
-        Err(Unread::NoSpelling) => rt.println("no spelling"),
-        Err(Unread::Memory) => rt.println("memory"),
-    }
+    let is_copy = has_words(rt)?;
+    let mut input = Vec::new(alloc);
+    rt.stdin().read_to_end(&mut input)?;
+    let text = match output_of(alloc, input.as_slice(), is_copy) {
+        Ok(text) => text,
+        Err(problem) => problem.text(alloc)?,
+    };
+    rt.stdout().write_all(text.as_bytes())
 }
 
-// What is written for an input: a trace is judged, any other input is a script.
-fn text_of(alloc: Global, lines: &[String]) -> Result<String, Unread> {
-    let Some((head, rest)) = lines.split_first() else {
-        return Err(Unread::NoSpelling);
-    };
-    if head.as_str().starts_with("trace ") {
-        return trace::judged(alloc, head.as_str(), rest);
+// Whether the command line has words beside the program's name: then traces are written as they were read.
+fn has_words(rt: &HostRuntime) -> io::Result<bool> {
+    let mut words = env::args(rt)?;
+    words.next();
+    Ok(words.next().is_some())
+}
+
+// What is written for an input: a trace is judged or written again, any other input is a script.
+fn output_of(alloc: Global, input: &[u8], is_copy: bool) -> Result<String, Problem> {
+    if is_copy {
+        return trace::copied(alloc, input);
     }
-    script::answered(alloc, head.as_str(), rest)
+    if input.starts_with(b"trace ") {
+        return trace::judged(alloc, input);
+    }
+    Ok(script::answered(alloc, input)?)
 }

@@ -1,11 +1,11 @@
 //! A script of a world, each step answered by the definitions.
 
-use crate::reading::{event_of, limits, number, space, word, words_of};
-use crate::unread::Unread;
-use crate::writing::result_text;
 use nob_frame::Frame;
 use nob_ids::{Limits, SpaceId};
-use nob_model::{Answer, Entry, Event, Here, right};
+use nob_model::{Answer, Entry, Event, Here, WorldStep, right};
+use nob_model_reading::{opening_of, step_of};
+use nob_model_text::{answer_text, refusal_text};
+use nob_trace_text::first_line;
 use std::alloc::{AllocError, Global};
 
 // A world of spaces: the entries of all, the newest first, and all frames that were transmitted.
@@ -16,6 +16,7 @@ struct World {
     journal: Vec<Entry>,
     frames: Vec<Frame>,
 }
+
 // The entries of one space, the newest first.
 fn entries_of(alloc: Global, space: SpaceId, journal: &[Entry]) -> Result<Vec<Entry>, AllocError> {
     let mut entries = Vec::new(alloc);
@@ -28,7 +29,11 @@ fn entries_of(alloc: Global, space: SpaceId, journal: &[Entry]) -> Result<Vec<En
 }
 
 // `frames` and the numbers of new frames, which are kept.
-fn frames_text(alloc: Global, frames: &mut Vec<Frame>, given: &[Frame]) -> Result<String, Unread> {
+fn frames_text(
+    alloc: Global,
+    frames: &mut Vec<Frame>,
+    given: &[Frame],
+) -> Result<String, AllocError> {
     let mut text = String::from_str(alloc, "frames")?;
     if given.is_empty() {
         text.push_str(" none")?;
@@ -47,7 +52,7 @@ fn answer_of(
     world: &mut World,
     space: SpaceId,
     event: Event,
-) -> Result<String, Unread> {
+) -> Result<String, AllocError> {
     let here = Here { space, n: world.n };
     let entries = entries_of(alloc, space, world.journal.as_slice())?;
     let result = right::right(alloc, &here, &world.limits, entries.as_slice(), &event)?;
@@ -55,7 +60,10 @@ fn answer_of(
         Ok(Answer::Frames(given)) => frames_text(alloc, &mut world.frames, given.as_slice())?,
         _ => String::new(alloc),
     };
-    let text = result_text(alloc, &result, frames.as_str())?;
+    let text = match &result {
+        Ok(answer) => answer_text(alloc, answer, frames.as_str())?,
+        Err(refusal) => String::from_str(alloc, refusal_text(*refusal))?,
+    };
     world.journal.insert(
         0,
         Entry {
@@ -67,11 +75,11 @@ fn answer_of(
     Ok(text)
 }
 
-// What the delivery of a frame answers.
-fn delivery(alloc: Global, world: &mut World, k: u64) -> Result<String, Unread> {
-    let place = (k as usize).wrapping_sub(1);
+// What the delivery of the frame of this number answers.
+fn delivery(alloc: Global, world: &mut World, number: u64) -> Result<String, AllocError> {
+    let place = (number as usize).wrapping_sub(1);
     let Some(frame) = world.frames.get(place) else {
-        return Ok(String::from_str(alloc, "X2")?);
+        return String::from_str(alloc, "X2");
     };
     let frame = frame.copy()?;
     let to = frame.to;
@@ -79,63 +87,67 @@ fn delivery(alloc: Global, world: &mut World, k: u64) -> Result<String, Unread> 
 }
 
 // What a step of a script answers.
-fn step_answer(alloc: Global, world: &mut World, line: &str) -> Result<String, Unread> {
-    let words = words_of(alloc, line)?;
-    let Some((first, rest)) = words.as_slice().split_first() else {
-        return Err(Unread::NoSpelling);
-    };
-    if *first == "deliver" && rest.len() == 1 {
-        return delivery(alloc, world, number(alloc, word(rest, 0)?)?);
+fn step_answer(alloc: Global, world: &mut World, step: WorldStep) -> Result<String, AllocError> {
+    match step {
+        WorldStep::Deliver(number) => delivery(alloc, world, number),
+        WorldStep::Do(space, event) => {
+            if space.get() > world.n {
+                return String::from_str(alloc, "X1");
+            }
+            answer_of(alloc, world, space, event)
+        }
     }
-    let space = space(alloc, first)?;
-    if word(rest, 0)? == "arrive" {
-        return Err(Unread::NoSpelling);
-    }
-    let event = event_of(alloc, rest)?;
-    if space.get() > world.n {
-        return Ok(String::from_str(alloc, "X1")?);
-    }
-    answer_of(alloc, world, space, event)
 }
 
-// The world of a script's first line.
-fn world_of(alloc: Global, head: &[&str]) -> Result<World, Unread> {
-    if word(head, 0)? != "spaces" {
-        return Err(Unread::NoSpelling);
-    }
-    let n = space(alloc, word(head, 1)?)?.get();
-    let limits = if head.len() == 6 {
-        limits(alloc, word(head, 3)?, word(head, 5)?)?
-    } else {
-        Limits::default()
+// The world of a script's first line, where it is one.
+fn world_of(alloc: Global, line: &[u8]) -> Result<Option<World>, AllocError> {
+    let Some(opening) = opening_of(alloc, line)? else {
+        return Ok(None);
     };
-    Ok(World {
-        n,
-        limits,
+    Ok(Some(World {
+        n: opening.n.get(),
+        limits: opening.limits.unwrap_or(Limits::default()),
         journal: Vec::new(alloc),
         frames: Vec::new(alloc),
-    })
+    }))
 }
 
 /// The first line, and each step with its answer, to the first line that is no step.
-pub fn answered(alloc: Global, head: &str, lines: &[String]) -> Result<String, Unread> {
-    let mut world = world_of(alloc, words_of(alloc, head)?.as_slice())?;
-    let mut text = String::from_str(alloc, head)?;
+pub fn answered(alloc: Global, input: &[u8]) -> Result<String, AllocError> {
+    let mut text = String::new(alloc);
+    let Some((head, steps)) = first_line(input) else {
+        return bad_step(alloc, text, 1);
+    };
+    let Some(mut world) = world_of(alloc, head)? else {
+        return bad_step(alloc, text, 1);
+    };
+    put_line(&mut text, head, "")?;
+    let mut left = steps;
     let mut number = 1u64;
-    for line in lines {
+    while let Some((line, rest)) = first_line(left) {
         number = number.saturating_add(1);
-        let line = line.as_str();
-        match step_answer(alloc, &mut world, line) {
-            Ok(answer) => {
-                let answer = answer.as_str();
-                text.push_str(format!(in alloc; "\n{line} = {answer}")?.as_str())?;
-            }
-            Err(Unread::NoSpelling) => {
-                text.push_str(format!(in alloc; "\nline {number}: bad step")?.as_str())?;
-                return Ok(text);
-            }
-            Err(Unread::Memory) => return Err(Unread::Memory),
-        }
+        let Some(step) = step_of(alloc, line)? else {
+            return bad_step(alloc, text, number);
+        };
+        let answer = step_answer(alloc, &mut world, step)?;
+        put_line(&mut text, line, format!(in alloc; " = {answer}")?.as_str())?;
+        left = rest;
     }
+    Ok(text)
+}
+
+// Puts a line and what follows it behind a text: a line that is a spelling is text.
+fn put_line(text: &mut String, line: &[u8], behind: &str) -> Result<(), AllocError> {
+    if let Ok(line) = str::from_utf8(line) {
+        text.push_str(line)?;
+    }
+    text.push_str(behind)?;
+    text.push_str("\n")
+}
+
+// The text with the word that a line of this number is no step.
+fn bad_step(alloc: Global, text: String, number: u64) -> Result<String, AllocError> {
+    let mut text = text;
+    text.push_str(format!(in alloc; "line {number}: bad step\n")?.as_str())?;
     Ok(text)
 }

@@ -1,61 +1,61 @@
-//! One trace, judged.
+//! Traces, judged or written again.
 
-use crate::reading::{event_of, limits, short_number, space, word, words_of};
-use crate::unread::Unread;
-use crate::writing::{result_text, spelt_frames};
-use nob_ids::Limits;
-use nob_model::{Answer, Entry, Here, right};
+use crate::problem::Problem;
+use nob_ids::{Limits, SpaceId};
+use nob_model::{Entry, Here, right};
+use nob_trace::{Stamped, decode, decode_all, encode, result_text};
 use std::alloc::Global;
 
-/// `right` and how many entries there are, or `wrong` and the place, from 1, of the first whose result isn't right.
-pub fn judged(alloc: Global, head: &str, lines: &[String]) -> Result<String, Unread> {
-    let words = words_of(alloc, head)?;
+/// `right` and how many entries the one trace has, or `wrong` and the place, from 1, of the first whose result isn't
+/// right.
+pub fn judged(alloc: Global, input: &[u8]) -> Result<String, Problem> {
+    let trace = decode(alloc, input)?;
     let here = Here {
-        space: space(alloc, word(words.as_slice(), 1)?)?,
-        n: short_number(alloc, word(words.as_slice(), 3)?)?,
+        space: trace.space,
+        n: trace.n.get(),
     };
-    let window = word(words.as_slice(), 5)?;
-    let limits = limits(alloc, window, word(words.as_slice(), 7)?)?;
+    let limits = trace.limits;
+    let space = trace.space;
     let mut entries = Vec::new(alloc);
     let mut place = 0u64;
-    for line in lines {
+    for stamped in trace.entries.into_vec() {
         place = place.saturating_add(1);
-        match entry(alloc, here, &limits, entries.as_slice(), line.as_str())? {
-            Some(entry) => entries.insert(0, entry)?,
-            None => return Ok(format!(in alloc; "wrong {place}")?),
+        if !is_right(alloc, here, &limits, entries.as_slice(), &stamped)? {
+            return Ok(format!(in alloc; "wrong {place}\n")?);
         }
+        entries.insert(0, entry_of(space, stamped))?;
     }
-    Ok(format!(in alloc; "right {place}")?)
+    Ok(format!(in alloc; "right {place}\n")?)
 }
 
-// The entry of a line, where its result is the right one.
-fn entry(
+// The entry at its space.
+fn entry_of(space: SpaceId, stamped: Stamped) -> Entry {
+    Entry {
+        space,
+        event: stamped.event,
+        result: stamped.result,
+    }
+}
+
+// Whether an entry's result is the right one after the entries before it, the newest first.
+fn is_right(
     alloc: Global,
     here: Here,
     limits: &Limits,
     entries: &[Entry],
-    line: &str,
-) -> Result<Option<Entry>, Unread> {
-    let Some((left, wanted)) = line.split_once(" = ") else {
-        return Err(Unread::NoSpelling);
-    };
-    let words = words_of(alloc, left)?;
-    let Some((_stamp, rest)) = words.as_slice().split_first() else {
-        return Err(Unread::NoSpelling);
-    };
-    let event = event_of(alloc, rest)?;
-    let result = right::right(alloc, &here, limits, entries, &event)?;
-    let frames = match &result {
-        Ok(Answer::Frames(frames)) => spelt_frames(alloc, frames.as_slice())?,
-        _ => String::new(alloc),
-    };
-    if result_text(alloc, &result, frames.as_str())?.as_str() != wanted {
-        return Ok(None);
+    stamped: &Stamped,
+) -> Result<bool, Problem> {
+    let wanted = right::right(alloc, &here, limits, entries, &stamped.event)?;
+    let wanted = result_text(alloc, &wanted)?;
+    let written = result_text(alloc, &stamped.result)?;
+    Ok(wanted.as_str() == written.as_str())
+}
+
+/// The traces of an input, one after the other, as they are written.
+pub fn copied(alloc: Global, input: &[u8]) -> Result<String, Problem> {
+    let mut text = String::new(alloc);
+    for trace in decode_all(alloc, input)?.as_slice() {
+        text.push_str(encode(alloc, trace)?.as_str())?;
     }
-    let space = here.space;
-    Ok(Some(Entry {
-        space,
-        event,
-        result,
-    }))
+    Ok(text)
 }

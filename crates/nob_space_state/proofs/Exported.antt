@@ -36,7 +36,7 @@ use Rattle.nob_model_history.specs.Histories.{history_of}
 use Rattle.nob_model_history.specs.Holds.{is_held, hand, times, gains, releases, lent_in}
 use Rattle.nob_model_history.specs.Listing.{is_listed, is_any_listed}
 use Rattle.nob_model_history.specs.Transit as transit
-use Rattle.nob_model.specs.Right.{right_export, right_withdraw, own_ref, most_objects, last_number}
+use Rattle.nob_model.specs.Right.{right_export, right_withdraw, withdraw_refused, own_ref, most_objects, last_number}
 use Rattle.nob_model.specs.Sending.{◌or_else◌, refuse_if, unless}
 use Rattle.nob_space_state.specs.Judging.{export_refusal, withdraw_refusal}
 use Rattle.nob_space_state.specs.Looks.{has_holds, names_none, has_clients}
@@ -88,7 +88,7 @@ module _ {s n : ℕ} {limits : Limits} {st : State} {D : List Deed} (stands : St
 
   -- what is right for a Withdraw is what the state tells
   pub withdraw_right : (index : ℕ) → right_withdraw s index (history_of s n D) ≡ unless (withdraw_refusal s st index) answers.Withdrawn
-  unfolding right_withdraw withdraw_refusal
+  unfolding right_withdraw withdraw_refused withdraw_refusal
   withdraw_right index = elim (index == 0) as (λ z. index == 0 ≡ z → right_withdraw s index (history_of s n D) ≡ unless (withdraw_refusal s st index) answers.Withdrawn) [
     | true ↦ λ agent. rw (agent) refl
     | false ↦ λ counted.

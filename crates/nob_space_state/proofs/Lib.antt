@@ -7,4 +7,6 @@ pub mod Stood
 pub mod Listed
 pub mod Pinned
 pub mod Exported
+pub mod Begins
+pub mod Ends
 pub mod Hands

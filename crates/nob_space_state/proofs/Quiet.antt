@@ -18,7 +18,7 @@ use Rattle.nob_model_words.specs.Messages.{loan_after, copy_after, message_after
 use Rattle.nob_model_work.specs.declared.work.InHand.{InHand}
 use Rattle.nob_model_work.specs.declared.work.Run.{Run}
 use Rattle.nob_model_work.specs.Work.{work, work_after, with_loans, run_after}
-use Rattle.nob_model_work.specs.Gifts.{gifts}
+use Rattle.nob_model_work.specs.Gifts.{gifts, gifts_of}
 use Rattle.nob_model_history.specs.declared.history.History.{History}
 use Rattle.nob_model_history.specs.Histories.{history_of}
 use Rattle.nob_model_history.specs.Ends.{calls_at}
@@ -77,7 +77,7 @@ pub record IsQuiet (s n : ℕ) (deed : Deed) (D : List Deed) : Type 0 where
   pub jobs_made : jobs_made (deed ∷ D) ≡ jobs_made D
 
 pub dup_is_quiet : (s n : ℕ) (rep : WireRep) (D : List Deed) → IsQuiet s n (Dup rep) D
-unfolding gifts work_after with_loans message_after run_after copy_after
+unfolding gifts gifts_of work_after with_loans message_after run_after copy_after
 dup_is_quiet s n rep D = record {
   calls = λ p. refl;
   closed = λ p. refl;
@@ -92,7 +92,7 @@ dup_is_quiet s n rep D = record {
 }
 
 pub release_is_quiet : (s n : ℕ) (rep : WireRep) (D : List Deed) → IsQuiet s n (Release rep) D
-unfolding gifts work_after with_loans message_after run_after copy_after
+unfolding gifts gifts_of work_after with_loans message_after run_after copy_after
 release_is_quiet s n rep D = record {
   calls = λ p. refl;
   closed = λ p. refl;
@@ -107,7 +107,7 @@ release_is_quiet s n rep D = record {
 }
 
 pub export_is_quiet : (s n : ℕ) (rep : WireRep) (D : List Deed) → IsQuiet s n (Export rep) D
-unfolding gifts work_after with_loans message_after run_after copy_after
+unfolding gifts gifts_of work_after with_loans message_after run_after copy_after
 export_is_quiet s n rep D = record {
   calls = λ p. refl;
   closed = λ p. refl;
@@ -122,7 +122,7 @@ export_is_quiet s n rep D = record {
 }
 
 pub withdraw_is_quiet : (s n index : ℕ) (D : List Deed) → IsQuiet s n (Withdraw index) D
-unfolding gifts work_after with_loans message_after run_after copy_after
+unfolding gifts gifts_of work_after with_loans message_after run_after copy_after
 withdraw_is_quiet s n index D = record {
   calls = λ p. refl;
   closed = λ p. refl;

@@ -42,3 +42,16 @@ with_table t st =
       calls = st.calls;
       jobs = st.jobs;
     }
+
+-- the state with other ends
+abbrev pub with_sessions : List Roomy → State → State
+with_sessions sessions st =
+    record {
+      sessions = sessions;
+      table = st.table;
+      dirty = st.dirty;
+      pins = st.pins;
+      work = st.work;
+      calls = st.calls;
+      jobs = st.jobs;
+    }

@@ -1,6 +1,6 @@
 -- For which lists of what a space did its state stands: one equation for each part, by the words that are read off
 -- the whole list. The newest stands FIRST.
-use Rattle.std.specs.Prelude.{◌≡◌, ◌≤◌, ℕ, ◌+◌, Bool, true, false, ◌&&◌, ◌==◌, not, nat_le, List, ◌∷◌, length, slice_get, map, Option, Some, None, Result, Ok, Err, IsOk, if◌then◌else◌}
+use Rattle.std.specs.Prelude.{◌≡◌, ◌≤◌, ℕ, ◌+◌, Bool, true, false, ◌&&◌, ◌==◌, not, nat_le, List, [], ◌∷◌, length, slice_get, map, Option, Some, None, Result, Ok, Err, IsOk, if◌then◌else◌}
 use Rattle.std.specs.List.{sum_by, IsDistinct}
 use Rattle.nob_ids.specs.Names.{is_counted, is_same}
 use Rattle.nob_ids.specs.declared.limits.Limits.{Limits}
@@ -119,3 +119,8 @@ abbrev pub AnswersOrWants : {A : Type 0} → (A → Answer) → Result A SpaceEr
 AnswersOrWants answer (Ok x) right = right ≡ Ok (answer x)
 AnswersOrWants answer (Err (errors.Refused refusal)) right = right ≡ Err refusal
 AnswersOrWants answer (Err errors.OutOfMemory) right = IsOk right
+
+-- ends of space s with the spaces from p on, one after the other, on which no call was made yet
+abbrev pub AreOpened : (s p : ℕ) → Limits → List Roomy → Type 0
+AreOpened s p limits [] = Unit {0}
+AreOpened s p limits (end ∷ ends) = session.Stands s p limits end.end [] × AreOpened s (p + 1) limits ends

@@ -5,6 +5,7 @@ mod error;
 mod looks;
 mod objects;
 mod parts;
+mod sessions;
 
 pub use error::SpaceError;
 pub use parts::Parts;

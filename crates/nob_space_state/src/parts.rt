@@ -1,10 +1,16 @@
 //! The parts of a space's state.
 
+ghost use Rattle.std.specs.Prelude.{◌≡◌, ◌≤◌, [], length, IfOk};
+ghost use Rattle.nob_space_state.specs.Parts.{state_of};
+ghost use Rattle.nob_space_state.specs.Stands.{AreOpened, Stands};
+
 use nob_dirty::DirtySets;
-use nob_model::{Message, OwnCall, Run};
+use nob_ids::{Limits, SpaceId};
+use nob_model::{Here, Message, OwnCall, Run};
 use nob_pins::PinTable;
 use nob_session::Session;
 use nob_table::ObjectTable;
+use std::alloc::{AllocError, Global};
 
 /// What a space keeps. It holds pins, so it can't be let go: the sessions are closed first, which ends the pins.
 pub struct Parts {
@@ -30,4 +36,51 @@ pub struct Parts {
     pub calls_made: u64,
     /// How many jobs were given out.
     pub jobs_made: u64,
+}
+
+impl Parts {
+    /// The state of a space that has done nothing: its sessions with all others are open. Only memory fails it. The
+    /// caller's condition: there are 32 spaces at most.
+    pub fn new(alloc: Global, here: &Here, limits: Limits) -> Result<Parts, AllocError>
+        requires { here.now.n ≤ 32 }
+        ensures stands { IfOk result (λ parts. Stands here.now.space here.now.n limits (state_of parts) []) }
+    {
+        let sessions = open_all(alloc, here.space, here.n, limits)?;
+        Ok(Parts {
+            sessions,
+            table: ObjectTable::new(alloc, here.space),
+            dirty: DirtySets::new(alloc),
+            pins: PinTable::new(alloc),
+            waiting: Vec::new(alloc),
+            ready: Vec::new(alloc),
+            running: Vec::new(alloc),
+            replies: Vec::new(alloc),
+            calls: Vec::new(alloc),
+            calls_made: 0,
+            jobs_made: 0,
+        })
+    }
+}
+
+// The ends with the spaces from 1 to n.
+fn open_all(
+    alloc: Global,
+    me: SpaceId,
+    n: u16,
+    limits: Limits,
+) -> Result<Vec<Session>, AllocError>
+    requires { n ≤ 32 }
+    ensures each { IfOk result (λ sessions. length sessions.items ≡ n) }
+    ensures opened { IfOk result (λ sessions. AreOpened me 1 limits sessions.items) }
+{
+    let mut sessions = Vec::new(alloc);
+    let mut p = 1;
+    while p <= n {
+        let Some(peer) = SpaceId::new(p) else {
+            unreachable!();
+        };
+        sessions.push(Session::open(alloc, me, peer, limits)?)?;
+        p += 1;
+    }
+    Ok(sessions)
 }

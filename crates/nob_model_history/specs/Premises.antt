@@ -1,0 +1,51 @@
+-- What holds of every list of right answers, as far as the laws of one deed more need it.
+use Rattle.std.specs.Prelude.{◌≡◌, ◌≤◌, ⊤, ℕ, suc, ◌+◌, Bool, true, false, List, [], ◌∷◌, length, Option, Some, None}
+use Rattle.nob_frame.specs.Kinds.{is_data}
+use Rattle.nob_ids.specs.declared.wire_rep.WireRep.{WireRep}
+use Rattle.nob_item.specs.declared.item.Item.{Item}
+use Rattle.nob_item.specs.declared.item.Item.TheVariants as items
+use Rattle.nob_model_end.specs.End.{accepted}
+use Rattle.nob_model_words.specs.Sessions.{item_at}
+use Rattle.nob_model_words.specs.Objects.{exports, is_live}
+use Rattle.nob_model_words.specs.Turns.{turns, is_pending, is_granted}
+use Rattle.nob_model_words.specs.declared.deed.Deed.{Deed}
+use Rattle.nob_model_words.specs.declared.deed.Deed.TheVariants.{Export, Withdraw, Arrive, Act, Clean}
+use Rattle.nob_model_history.specs.Histories.{history_of}
+use Rattle.nob_model_history.specs.Ends.{calls_at}
+use Rattle.nob_model_history.specs.Transit.{count_to, sent, is_settle_of}
+
+-- a deed accepts the next item or none: a frame that was accepted took one item, is a Data frame, and its number is one more than what was accepted from its sender before
+abbrev pub AcceptsNext : (s n : ℕ) → Deed → List Deed → Type 0
+AcceptsNext s n (Arrive frame (suc k)) D = (k ≡ 0) × (is_data frame.kind ≡ true) × (frame.seq ≡ length (accepted (calls_at frame.from (history_of s n D))) + 1)
+AcceptsNext s n (_) D = ⊤
+
+-- each deed accepted the next item or none
+abbrev pub InTurn : (s n : ℕ) → List Deed → Type 0
+InTurn s n [] = ⊤
+InTurn s n (deed ∷ D) = AcceptsNext s n deed D × InTurn s n D
+
+-- each Settle that was acted on was of an item that was sent before
+abbrev pub SettlesSent : (s n : ℕ) → List Deed → Type 0
+SettlesSent s n [] = ⊤
+SettlesSent s n (Act p j ∷ D) = ((k : ℕ) → is_settle_of k (item_at p j D) ≡ true → k ≤ count_to p (sent (history_of s n D))) × SettlesSent s n D
+SettlesSent s n (_ ∷ D) = SettlesSent s n D
+
+-- an item from p is an answer only to a Dirty that waits for one
+abbrev pub AnswersPending : (s n p : ℕ) → Option Item → List Deed → Type 0
+AnswersPending s n p (Some (items.DirtyOk index)) D = is_pending (turns s n (record { owner = p; index = index }) D) ≡ true
+AnswersPending s n p (Some (items.DirtyNo index)) D = is_pending (turns s n (record { owner = p; index = index }) D) ≡ true
+AnswersPending s n p _ D = ⊤
+
+-- client and owner took turns: each answer that was acted on was to a Dirty that waited for one, and each Clean gave up what was granted
+abbrev pub TookTurns : (s n : ℕ) → List Deed → Type 0
+TookTurns s n [] = ⊤
+TookTurns s n (Act p k ∷ D) = AnswersPending s n p (item_at p k D) D × TookTurns s n D
+TookTurns s n (Clean rep ∷ D) = (is_granted (turns s n rep D) ≡ true) × TookTurns s n D
+TookTurns s n (_ ∷ D) = TookTurns s n D
+
+-- each Export answered the next index of space s, and each Withdraw took an object that was live
+abbrev pub ObjectsInTurn : (s : ℕ) → List Deed → Type 0
+ObjectsInTurn s [] = ⊤
+ObjectsInTurn s (Export rep ∷ D) = (rep ≡ record { owner = s; index = length (exports D) + 1 }) × ObjectsInTurn s D
+ObjectsInTurn s (Withdraw index ∷ D) = (is_live s index D ≡ true) × ObjectsInTurn s D
+ObjectsInTurn s (_ ∷ D) = ObjectsInTurn s D

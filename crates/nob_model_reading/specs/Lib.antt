@@ -1,0 +1,3 @@
+pub mod Spoken
+pub mod Told
+pub mod Scripts

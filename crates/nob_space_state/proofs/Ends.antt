@@ -1,0 +1,197 @@
+-- What a call on one end leaves: the ends, and the state with one deed more that is nothing but that call.
+use Rattle.std.proofs.Common.{◌≡◌, ℕ, ◌+◌, ◌-◌, ◌≤◌, ◌<◌, Bool, true, false, not, ◌&&◌, ◌==◌, List, [], ◌∷◌, length, map, nat_le, get_or, slice_get, Option, Some, None, Ok, Err, if◌then◌else◌, refl, sym, ap, subst, ◌∙◌, arith}
+use Prim.Native.Nat.{zero, suc}
+use lib.ListN.{set}
+use Rattle.std.specs.List.{sum_by, list_any, IsDistinct}
+use Rattle.std.proofs.lemmas.List.{length-set}
+use Rattle.std.proofs.lemmas.Option.{slice_get_read}
+use Rattle.std.proofs.lemmas.Cmp.{nat_eq_equiv}
+use Rattle.nob_model_types.specs.declared.answer.Answer.TheVariants as answers
+use Rattle.nob_model_types.specs.declared.refusal.Refusal.TheVariants as refusals
+use Rattle.nob_model_end.specs.Right.{right_transmit}
+use Rattle.std.proofs.lemmas.Bool.Decides.{nat_tests, Decides-eqb}
+use Rattle.nob_ids.specs.Names.{is_counted, is_same}
+use Rattle.nob_table.proofs.Flat.{get_set_other}
+use Rattle.nob_table.specs.Standings as standings
+use Rattle.nob_model_end.specs.declared.entry.EndEntry.TheVariants as ends
+use Rattle.nob_model.specs.Right.{own_ref}
+use Rattle.nob_space_state.proofs.Rows.{differ}
+use Rattle.nob_ids.specs.declared.limits.Limits.{Limits}
+use Rattle.nob_ids.specs.declared.wire_rep.WireRep.{WireRep}
+use Rattle.nob_frame.specs.declared.frame.Frame.{Frame}
+use Rattle.nob_session.specs.Stands as session
+use Rattle.nob_session.specs.Stands.{Roomy, end_of}
+use Rattle.nob_table.specs.Counts.{is_held}
+use Rattle.nob_table.specs.Table.{standing}
+use Rattle.nob_model_end.specs.End.{accepted}
+use Rattle.nob_model_end.specs.declared.entry.EndEntry.{EndEntry}
+use Rattle.nob_model_words.specs.declared.deed.Deed.{Deed}
+use Rattle.nob_model_words.specs.declared.deed.Deed.TheVariants.{Transmit}
+use Rattle.nob_model_words.specs.Objects as objects
+use Rattle.nob_model_words.specs.Sessions.{closed, is_peer, payload_at}
+use Rattle.nob_model_words.specs.Turns.{turns}
+use Rattle.nob_model_words.specs.Messages.{copy_after, message_after}
+use Rattle.nob_model_work.specs.Work.{work, work_after, with_loans, run_after}
+use Rattle.nob_model_work.specs.Gifts.{gifts, gifts_of}
+use Rattle.nob_model_history.specs.declared.history.History.{History}
+use Rattle.nob_model_history.specs.Histories.{history_of}
+use Rattle.nob_model_history.specs.Ends.{calls_at}
+use Rattle.nob_model_history.specs.Holds.{hand, times, lent_in, gains, releases}
+use Rattle.nob_model_history.specs.Listing.{is_listed}
+use Rattle.nob_model_history.specs.Transit as transit
+use Rattle.nob_model.specs.Right.{calls_made, jobs_made, right_frames}
+use Rattle.nob_space_state.specs.Parts.{State, with_sessions}
+use Rattle.nob_space_state.specs.Stands.{Stands, EndsStand, IsOrderly, bundle, far_state}
+use Rattle.nob_space_state.proofs.Quiet.{loans_made}
+
+-- one element changes
+set_here : {X : Type 0} (xs : List X) (at : ℕ) (y z : X) → slice_get (set xs at y) at ≡ Some z → z ≡ y
+set_here [] at y z there = absurd (cc)
+set_here (x ∷ xs) zero y z there = cc
+set_here (x ∷ xs) (suc at) y z there = set_here xs at y z there
+
+-- the ends with one changed
+pub ends_changed : (s n : ℕ) (limits : Limits) (ends : List Roomy) (h h' : History) (p : ℕ) (new : Roomy) → EndsStand s n limits ends h → 1 ≤ p
+    → session.Stands s p limits new.end (calls_at p h') → ((q : ℕ) → q == p ≡ false → calls_at q h ≡ calls_at q h') → EndsStand s n limits (set ends (p - 1) new) h'
+ends_changed s n limits ends h h' p new stands low here elsewhere = record {
+  each = length-set ends (p - 1) new ∙ stands.each;
+  ends = λ place end there. elim (place == p - 1) as (λ b. place == p - 1 ≡ b → session.Stands s (place + 1) limits end.end (calls_at (place + 1) h')) [
+    | true ↦ λ same.
+        let at : place ≡ p - 1 = (Decides-eqb place (p - 1)).0 same in
+        let is : end ≡ new = set_here ends (p - 1) new end (subst (λ k. slice_get (set ends (p - 1) new) k ≡ Some end) at there) in
+        subst (λ q. session.Stands s q limits end.end (calls_at q h')) (omega (arith, at, low)) (subst (λ (e : Roomy). session.Stands s p limits e.end (calls_at p h')) (sym is) here)
+    | false ↦ λ differs.
+        let apart : place ≡ p - 1 → ⊥ = λ same. differ ((Decides-eqb place (p - 1)).1 same) differs in
+        let before : slice_get ends place ≡ Some end = sym (get_set_other ends (p - 1) place new apart) ∙ there in
+        subst (λ calls. session.Stands s (place + 1) limits end.end calls) (elsewhere (place + 1) (grind (arith, nat_tests, differs, low))) (stands.ends place end before)
+  ] refl;
+}
+
+-- the ends with one in its place that is the same end
+pub ends_kept : (s n : ℕ) (limits : Limits) (ends : List Roomy) (h : History) (p : ℕ) (old new : Roomy) → EndsStand s n limits ends h → 1 ≤ p
+    → slice_get ends (p - 1) ≡ Some old → new.end ≡ old.end → EndsStand s n limits (set ends (p - 1) new) h
+ends_kept s n limits ends h p old new stands low there same =
+    let at : p - 1 + 1 ≡ p = omega (arith, low) in
+    ends_changed s n limits ends h h p new stands low (same ∙ subst (λ q. session.Stands s q limits old.end (calls_at q h)) at (stands.ends (p - 1) old there)) (λ q other. refl)
+
+-- what a deed leaves that is nothing but a call on one end
+pub record IsStill (s n : ℕ) (deed : Deed) (D : List Deed) : Type 0 where
+  pub closed : (p : ℕ) → closed p (deed ∷ D) ≡ closed p D
+  pub turns : (rep : WireRep) → turns s n rep (deed ∷ D) ≡ turns s n rep D
+  pub exports : objects.exports (deed ∷ D) ≡ objects.exports D
+  pub withdrawn : (index : ℕ) → objects.is_withdrawn index (deed ∷ D) ≡ objects.is_withdrawn index D
+  pub gains : gains (deed ∷ D) ≡ gains D
+  pub releases : releases (deed ∷ D) ≡ releases D
+  pub listed : (index client : ℕ) → is_listed s index client (deed ∷ D) ≡ is_listed s index client D
+  pub bundles : transit.bundles (history_of s n (deed ∷ D)) ≡ transit.bundles (history_of s n D)
+  pub dirties : transit.dirties (history_of s n (deed ∷ D)) ≡ transit.dirties (history_of s n D)
+  pub work : work s n (deed ∷ D) ≡ work s n D
+  pub calls_made : calls_made (deed ∷ D) ≡ calls_made D
+  pub jobs_made : jobs_made (deed ∷ D) ≡ jobs_made D
+
+pub transmit_is_still : (s n p : ℕ) (frames : List Frame) (D : List Deed) → IsStill s n (Transmit p frames) D
+unfolding gifts gifts_of work_after with_loans message_after run_after copy_after
+transmit_is_still s n p frames D = record {
+  closed = λ p. refl;
+  turns = λ rep. refl;
+  exports = refl;
+  withdrawn = λ index. refl;
+  gains = refl;
+  releases = refl;
+  listed = λ index client. refl;
+  bundles = refl;
+  dirties = refl;
+  work = loans_made s n D;
+  calls_made = refl;
+  jobs_made = refl;
+}
+
+-- the calls on the ends after a Transmit
+pub transmit_calls : (s n p q : ℕ) (frames : List Frame) (D : List Deed) → calls_at q (history_of s n (Transmit p frames ∷ D)) ≡ (if p == q then ends.Transmit frames ∷ calls_at q (history_of s n D) else calls_at q (history_of s n D))
+unfolding gifts gifts_of
+transmit_calls s n p q frames D = refl
+
+module _ {s n : ℕ} {limits : Limits} {st : State} {deed : Deed} {D : List Deed} (still : IsStill s n deed D) (stands : Stands s n limits st D) where
+  -- a state with other ends
+  pub stands_still : (sessions : List Roomy) → EndsStand s n limits sessions (history_of s n (deed ∷ D)) → ((p k : ℕ) → payload_at p (k + 1) (deed ∷ D) ≡ slice_get (accepted (calls_at p (history_of s n (deed ∷ D)))) k)
+      → Stands s n limits (with_sessions sessions st) (deed ∷ D)
+  stands_still sessions ends_stand payloads =
+      let right : IsOrderly s n D = stands.orderly in
+      record {
+        ends = ends_stand;
+        table = record {
+          me = stands.table.me;
+          exported = stands.table.exported ∙ ap length (sym still.exports);
+          live = λ index. stands.table.live index ∙ sym (λ i. list_any (is_same (own_ref s index)) (still.exports i) && not (still.withdrawn index i));
+          far = λ rep counted own. stands.table.far rep counted own
+            ∙ ap (λ b. far_state b (is_held (standing st.table rep).counts) (turns s n rep D)) (sym (still.closed rep.owner))
+            ∙ ap (λ w. far_state (closed rep.owner (deed ∷ D)) (is_held (standing st.table rep).counts) w) (sym (still.turns rep));
+          hands = λ rep counted. stands.table.hands rep counted ∙ sym (λ i. times rep (still.gains i) - times rep (still.releases i));
+          loans = λ rep counted. stands.table.loans rep counted ∙ ap (λ w. times rep (lent_in s w)) (sym still.work);
+          dirties = stands.table.dirties ∙ ap length (sym still.dirties);
+          places = λ rep. stands.table.places rep ∙ ap (λ reps. if standings.is_surrogate (standing st.table rep).state then transit.last_place rep reps else None) (sym still.dirties);
+        };
+        listed = λ index client. stands.listed index client ∙ sym (still.listed index client);
+        pins = λ f. stands.pins f ∙ ap (λ items. sum_by f (map bundle items)) (sym still.bundles);
+        work = stands.work ∙ sym still.work;
+        calls = stands.calls ∙ sym still.calls_made;
+        jobs = stands.jobs ∙ sym still.jobs_made;
+        orderly = record {
+          exported = λ index. ap (λ reps. list_any (is_same (own_ref s index)) reps) still.exports ∙ right.exported index ∙ ap (λ reps. nat_le 1 index && nat_le index (length reps)) (sym still.exports);
+          once = subst (IsDistinct is_same) (sym still.exports) right.once;
+          released = λ rep counted. subst (λ reps. times rep reps ≤ times rep (gains (deed ∷ D))) (sym still.releases) (subst (λ reps. times rep (releases D) ≤ times rep reps) (sym still.gains) (right.released rep counted));
+          withdrawn = λ index gone. ap (λ reps. list_any (is_same (own_ref s index)) reps) still.exports ∙ right.withdrawn index (sym (still.withdrawn index) ∙ gone);
+          strangers = λ p none. still.closed p ∙ right.strangers p none;
+          payloads = payloads;
+        };
+      }
+
+-- the end with a peer stands in its place
+pub end_there : (s n : ℕ) (limits : Limits) (ends : List Roomy) (h : History) (p : ℕ) (end : Roomy) → EndsStand s n limits ends h → is_peer s n p ≡ true → end ≡ get_or ends (p - 1) end
+    → (1 ≤ p) × (slice_get ends (p - 1) ≡ Some end) × session.Stands s p limits end.end (calls_at p h)
+end_there s n limits ends h p end stands peer is =
+    let low : 1 ≤ p = grind (arith, nat_tests, peer) in
+    let high : p ≤ n = grind (arith, nat_tests, peer) in
+    let there : slice_get ends (p - 1) ≡ Some end = slice_get_read ends n (p - 1) end (sym stands.each) (omega (arith, low, high)) is in
+    let at : p - 1 + 1 ≡ p = omega (arith, low) in
+    (low, there, subst (λ q. session.Stands s q limits end.end (calls_at q h)) at (stands.ends (p - 1) end there))
+
+-- what is right for a Transmit
+pub frames_right : (s n p window : ℕ) (h : History) → is_peer s n p ≡ true → right_frames s n p window h ≡ Ok (answers.Frames (right_transmit s p window (calls_at p h)))
+unfolding right_frames
+frames_right s n p window h peer = rw peer refl
+
+pub frames_no_peer : (s n p window : ℕ) (h : History) → is_peer s n p ≡ false → right_frames s n p window h ≡ Err refusals.NoPeer
+unfolding right_frames
+frames_no_peer s n p window h stranger = rw stranger refl
+
+module _ {s n : ℕ} {limits : Limits} {st : State} {D : List Deed} (stands : Stands s n limits st D) (p : ℕ) (old new : Roomy) (peer : is_peer s n p ≡ true) (is : old ≡ get_or st.sessions (p - 1) old) where
+  -- a state with the same end in its place
+  pub stands_kept : new.end ≡ old.end → Stands s n limits (with_sessions (set st.sessions (p - 1) new) st) D
+  stands_kept same =
+      let there = end_there s n limits st.sessions (history_of s n D) p old stands.ends peer is in
+      record {
+        ends = ends_kept s n limits st.sessions (history_of s n D) p old new stands.ends there.0 there.1 same;
+        table = stands.table;
+        listed = stands.listed;
+        pins = stands.pins;
+        work = stands.work;
+        calls = stands.calls;
+        jobs = stands.jobs;
+        orderly = stands.orderly;
+      }
+
+  -- a Transmit accepts nothing
+  transmit_accepted : (q : ℕ) (frames : List Frame) → accepted (calls_at q (history_of s n (Transmit p frames ∷ D))) ≡ accepted (calls_at q (history_of s n D))
+  transmit_accepted q frames = ap accepted (transmit_calls s n p q frames D) ∙ elim (p == q) as (λ b. accepted (if b then ends.Transmit frames ∷ calls_at q (history_of s n D) else calls_at q (history_of s n D)) ≡ accepted (calls_at q (history_of s n D))) [ true ↦ refl | false ↦ refl ]
+
+  -- after a Transmit
+  pub transmit_stands : (frames : List Frame) → session.Stands s p limits new.end (ends.Transmit frames ∷ calls_at p (history_of s n D)) → Stands s n limits (with_sessions (set st.sessions (p - 1) new) st) (Transmit p frames ∷ D)
+  transmit_stands frames after =
+      let there = end_there s n limits st.sessions (history_of s n D) p old stands.ends peer is in
+      let here : calls_at p (history_of s n (Transmit p frames ∷ D)) ≡ ends.Transmit frames ∷ calls_at p (history_of s n D) = transmit_calls s n p p frames D ∙ rw (nat_eq_equiv.refl p) refl in
+      stands_still (transmit_is_still s n p frames D) stands (set st.sessions (p - 1) new)
+      (ends_changed s n limits st.sessions (history_of s n D) (history_of s n (Transmit p frames ∷ D)) p new stands.ends there.0
+        (subst (λ calls. session.Stands s p limits new.end calls) (sym here) after)
+        (λ q other. sym (transmit_calls s n p q frames D ∙ rw (nat_eq_equiv.symm p q, other) refl)))
+      (λ q k. stands.orderly.payloads q k ∙ ap (λ payloads. slice_get payloads k) (sym (transmit_accepted q frames)))

@@ -1,0 +1,96 @@
+-- Events and results of traces by what is read of them.
+use Rattle.std.proofs.Common.{◌≡◌, ℕ, List, [], ◌∷◌, ◌++◌, codes, Result, Ok, Err, refl, sym, ap, ◌∙◌, rules}
+use Rattle.std.specs.List.{AllByRecursion}
+use Rattle.nob_frame.specs.declared.frame.Frame.{Frame}
+use Rattle.nob_model_types.specs.declared.event.Event.{Event}
+use Rattle.nob_model_types.specs.declared.event.Event.TheVariants as events
+use Rattle.nob_model_types.specs.declared.answer.Answer.{Answer}
+use Rattle.nob_model_types.specs.declared.answer.Answer.TheVariants as answers
+use Rattle.nob_model_types.specs.declared.refusal.Use.{Use}
+use Rattle.nob_model_types.specs.declared.refusal.Use.TheVariants as uses
+use Rattle.nob_model_types.specs.declared.refusal.Refusal.{Refusal}
+use Rattle.nob_model_types.specs.declared.refusal.Refusal.TheVariants as refusals
+use Rattle.nob_model_text.specs.Events.{IsSpoken, event_text}
+use Rattle.nob_model_text.specs.Answers.{answer_text, refusal_text, use_text}
+use Rattle.nob_model_reading.specs.Spoken.{Speaks}
+use Rattle.nob_model_reading.specs.Told.{IsTold, Tells}
+use Rattle.nob_trace.specs.Frames.{IsFramed, frame_text, frames_text}
+use Rattle.nob_trace.specs.Entries.{ArrivalFits, GivenFit, IsTracedEvent, IsTracedResult, arrival_text, given_text, result_text}
+
+longer : (bytes : List ℕ) → codes "arrive " ++ [] ≡ codes "arrive " ++ 0 ∷ bytes → ⊥
+longer bytes is = absurd cc
+
+-- an event whose text doesn't depend on a frame's is no arrival
+pub no_arrival : (text : List ℕ) (event : Event) → Speaks text event → ArrivalFits event × (text ≡ event_text (arrival_text event) event)
+no_arrival text events.Export speaks = (tt, speaks [])
+no_arrival text (events.Dup r) speaks = (tt, speaks [])
+no_arrival text (events.Release r) speaks = (tt, speaks [])
+no_arrival text (events.Call t m v) speaks = (tt, speaks [])
+no_arrival text (events.TakeReply c) speaks = (tt, speaks [])
+no_arrival text events.Claim speaks = (tt, speaks [])
+no_arrival text (events.Finish j o) speaks = (tt, speaks [])
+no_arrival text (events.Act p) speaks = (tt, speaks [])
+no_arrival text events.Settle speaks = (tt, speaks [])
+no_arrival text events.Clean speaks = (tt, speaks [])
+no_arrival text (events.Withdraw x) speaks = (tt, speaks [])
+no_arrival text (events.Transmit p) speaks = (tt, speaks [])
+no_arrival text (events.Arrive f) speaks = absurd (longer [] (sym (speaks []) ∙ speaks (0 ∷ [])))
+no_arrival text (events.Tick p) speaks = (tt, speaks [])
+no_arrival text (events.Close p) speaks = (tt, speaks [])
+
+filled : (bytes : List ℕ) → [] ≡ 0 ∷ bytes → ⊥
+filled bytes is = absurd cc
+
+-- an answer whose text doesn't depend on frames has none
+pub no_frames : (text : List ℕ) (answer : Answer) → Tells text answer → GivenFit (Ok answer) × (text ≡ answer_text (given_text answer) answer)
+no_frames text (answers.Exported r) tells = (tt, tells [])
+no_frames text answers.Done tells = (tt, tells [])
+no_frames text (answers.Called c) tells = (tt, tells [])
+no_frames text (answers.Replied s v) tells = (tt, tells [])
+no_frames text answers.Ended tells = (tt, tells [])
+no_frames text (answers.Job j) tells = (tt, tells [])
+no_frames text answers.Finished tells = (tt, tells [])
+no_frames text answers.Dropped tells = (tt, tells [])
+no_frames text (answers.Acted n) tells = (tt, tells [])
+no_frames text (answers.Closed r) tells = (tt, tells [])
+no_frames text (answers.Settled p n) tells = (tt, tells [])
+no_frames text (answers.Cleaned r) tells = (tt, tells [])
+no_frames text answers.Withdrawn tells = (tt, tells [])
+no_frames text (answers.Frames fs) tells = absurd (filled [] (sym (tells []) ∙ tells (0 ∷ [])))
+no_frames text (answers.Took n) tells = (tt, tells [])
+
+-- a result whose text begins neither as a refusal nor as frames is an answer of its own text
+pub by_answer : (P : Result Answer Refusal → Type 0) (text : List ℕ) (r : Result Answer Refusal) → IsTracedResult r → text ≡ result_text r
+    → ((rest : List ℕ) → text ≡ 83 ∷ rest → ⊥) → ((rest : List ℕ) → text ≡ 102 ∷ 114 ∷ rest → ⊥) → ((a : Answer) → IsTold a → text ≡ answer_text [] a → P (Ok a)) → P r
+by_answer P text (Ok (answers.Exported r)) is spelt refused given told = told (answers.Exported r) is spelt
+by_answer P text (Ok answers.Done) is spelt refused given told = told answers.Done is spelt
+by_answer P text (Ok (answers.Called c)) is spelt refused given told = told (answers.Called c) is spelt
+by_answer P text (Ok (answers.Replied s v)) is spelt refused given told = told (answers.Replied s v) is spelt
+by_answer P text (Ok answers.Ended) is spelt refused given told = told answers.Ended is spelt
+by_answer P text (Ok (answers.Job j)) is spelt refused given told = told (answers.Job j) is spelt
+by_answer P text (Ok answers.Finished) is spelt refused given told = told answers.Finished is spelt
+by_answer P text (Ok answers.Dropped) is spelt refused given told = told answers.Dropped is spelt
+by_answer P text (Ok (answers.Acted n)) is spelt refused given told = told (answers.Acted n) is spelt
+by_answer P text (Ok (answers.Closed r)) is spelt refused given told = told (answers.Closed r) is spelt
+by_answer P text (Ok (answers.Settled p n)) is spelt refused given told = told (answers.Settled p n) is spelt
+by_answer P text (Ok (answers.Cleaned r)) is spelt refused given told = told (answers.Cleaned r) is spelt
+by_answer P text (Ok answers.Withdrawn) is spelt refused given told = told answers.Withdrawn is spelt
+by_answer P text (Ok (answers.Frames [])) is spelt refused given told = absurd (given _ spelt)
+by_answer P text (Ok (answers.Frames (f ∷ fs))) is spelt refused given told = absurd (given _ spelt)
+by_answer P text (Ok (answers.Took n)) is spelt refused given told = told (answers.Took n) is spelt
+by_answer P text (Err refusals.NoPeer) is spelt refused given told = absurd (refused _ spelt)
+by_answer P text (Err refusals.Closed) is spelt refused given told = absurd (refused _ spelt)
+by_answer P text (Err refusals.NoObject) is spelt refused given told = absurd (refused _ spelt)
+by_answer P text (Err refusals.NotHeld) is spelt refused given told = absurd (refused _ spelt)
+by_answer P text (Err refusals.QueueFull) is spelt refused given told = absurd (refused _ spelt)
+by_answer P text (Err refusals.SeqEnd) is spelt refused given told = absurd (refused _ spelt)
+by_answer P text (Err refusals.TooBig) is spelt refused given told = absurd (refused _ spelt)
+by_answer P text (Err refusals.NoCall) is spelt refused given told = absurd (refused _ spelt)
+by_answer P text (Err refusals.NotReady) is spelt refused given told = absurd (refused _ spelt)
+by_answer P text (Err refusals.Nothing) is spelt refused given told = absurd (refused _ spelt)
+by_answer P text (Err (refusals.StillUsed uses.Held)) is spelt refused given told = absurd (refused _ spelt)
+by_answer P text (Err (refusals.StillUsed uses.InTransit)) is spelt refused given told = absurd (refused _ spelt)
+by_answer P text (Err (refusals.StillUsed uses.Listed)) is spelt refused given told = absurd (refused _ spelt)
+by_answer P text (Err (refusals.StillUsed uses.Agent)) is spelt refused given told = absurd (refused _ spelt)
+by_answer P text (Err refusals.NoJob) is spelt refused given told = absurd (refused _ spelt)
+by_answer P text (Err refusals.Limit) is spelt refused given told = absurd (refused _ spelt)

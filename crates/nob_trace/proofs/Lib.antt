@@ -1,0 +1,10 @@
+pub mod Rising
+pub mod Parting
+pub mod FrameBytes
+pub mod Spaced
+pub mod Signs
+pub mod Sides
+pub mod Cases
+pub mod Written
+pub mod ReadLines
+pub mod ReadTraces

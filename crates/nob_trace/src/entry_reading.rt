@@ -1,0 +1,171 @@
+//! Lines of traces to entries.
+
+ghost use Rattle.std.specs.Prelude.{◌≡◌, ◌++◌, ◌∷◌, [], List, ℕ, Ok, Err, Result as ResultOf, IfOk, MatchOption, codes, true, false};
+ghost use Rattle.nob_frame.specs.declared.frame.Frame.{Frame as FrameOf};
+ghost use Rattle.nob_frame.specs.Spelling.{Fits};
+ghost use Rattle.nob_model_types.specs.declared.event.Event.{Event as EventOf};
+ghost use Rattle.nob_model_types.specs.declared.answer.Answer.{Answer as AnswerOf};
+ghost use Rattle.nob_model_types.specs.declared.refusal.Refusal.{Refusal as RefusalOf};
+ghost use Rattle.nob_model_text.specs.Events.{IsSpoken, event_text};
+ghost use Rattle.nob_model_text.specs.Reading.{Reads};
+ghost use Rattle.nob_model_text.specs.Answers.{answer_text};
+ghost use Rattle.nob_model_reading.specs.Told.{IsTold};
+ghost use Rattle.nob_trace.specs.declared.stamped.Stamped.{Stamped as StampedOf};
+ghost use Rattle.nob_trace.specs.Frames.{IsFramed, frame_text};
+ghost use Rattle.nob_trace.specs.Entries.{ArrivalFits, GivenFit, HasSpelling, IsTraced, IsTracedEvent, IsTracedResult, arrival_text, entry_text, result_text};
+ghost use Rattle.nob_trace.specs.Reading.{Lacks};
+
+use crate::frame_reading::{whole_frame, whole_frames};
+use crate::lines::parted;
+use crate::stamped::Stamped;
+use nob_model_reading::{after_space, whole_answer, whole_event};
+use nob_model_text::{Unread, number_at, refusal_of};
+use nob_model_types::{Answer, Event, Refusal};
+use std::alloc::Global;
+
+// The entry that a line spells.
+pub fn entry_of(alloc: Global, line: &[u8]) -> Result<Stamped, Unread>
+    ensures found { IfOk result (λ entry. HasSpelling entry × (line.now ≡ entry_text entry)) }
+    ensures only { (entry : StampedOf) → IsTraced entry → line.now ≡ entry_text entry → Reads (λ e. e ≡ entry) result }
+{
+    let (stamp, behind) = number_at(alloc, line)?;
+    let (event, answer) = sides_of(after_space(behind)?)?;
+    let event = traced_event(alloc, event)?;
+    let result = traced_result(alloc, answer)?;
+    Ok(Stamped {
+        stamp,
+        event,
+        result,
+    })
+}
+
+// What stands before the first equals sign between spaces, and what stands behind it.
+fn sides_of(text: &[u8]) -> Result<(&[u8], &[u8]), Unread>
+    ensures found { IfOk result (λ sides. text.now ≡ sides.0.now ++ (codes " = " ++ sides.1.now)) }
+    ensures only { (left right : List ℕ) → Lacks 61 left → text.now ≡ left ++ (codes " = " ++ right)
+        → Reads (λ sides. (sides.0.now ≡ left) × (sides.1.now ≡ right)) result }
+{
+    let Some((front, back)) = parted(text, b'=') else {
+        return Err(Unread::NoText);
+    };
+    let Some((last, left)) = front.split_last() else {
+        return Err(Unread::NoText);
+    };
+    if *last != b' ' {
+        return Err(Unread::NoText);
+    }
+    let right = after_space(back)?;
+    Ok((left, right))
+}
+
+// The event of a trace that a text spells.
+fn traced_event(alloc: Global, text: &[u8]) -> Result<Event, Unread>
+    ensures found { IfOk result (λ event. ArrivalFits event × (text.now ≡ event_text (arrival_text event) event)) }
+    ensures only { (event : EventOf) → IsTracedEvent event → text.now ≡ event_text (arrival_text event) event → Reads (λ e. e ≡ event) result }
+{
+    match after_arrive(text) {
+        Some(rest) => arrival_of(alloc, rest),
+        None => spoken(alloc, text),
+    }
+}
+
+// What follows the word of an arrival with which a text begins.
+fn after_arrive(text: &[u8]) -> Option<&[u8]>
+    ensures { MatchOption result ((rest : List ℕ) → text.now ≡ codes "arrive " ++ rest → ⊥) (λ rest. text.now ≡ codes "arrive " ++ rest.now) }
+{
+    match text {
+        [b'a', b'r', b'r', b'i', b'v', b'e', b' ', rest @ ..] => Some(rest),
+        _ => None,
+    }
+}
+
+// The arrival that a text spells behind its word.
+fn arrival_of(alloc: Global, text: &[u8]) -> Result<Event, Unread>
+    ensures found { IfOk result (λ event. ArrivalFits event × (codes "arrive " ++ text.now ≡ event_text (arrival_text event) event)) }
+    ensures only { (frame : FrameOf) → IsFramed frame → text.now ≡ frame_text frame → Reads (λ e. e ≡ Event.Arrive frame) result }
+{
+    match whole_frame(alloc, text) {
+        Ok(frame) => Ok(Event::Arrive(frame)),
+        Err(unread) => Err(unread),
+    }
+}
+
+// The event of a script that a text spells.
+fn spoken(alloc: Global, text: &[u8]) -> Result<Event, Unread>
+    ensures found { IfOk result (λ event. ArrivalFits event × (text.now ≡ event_text (arrival_text event) event)) }
+    ensures only { (event : EventOf) → IsSpoken event → text.now ≡ event_text [] event → Reads (λ e. e ≡ event) result }
+{
+    match whole_event(alloc, text) {
+        Ok(event) => Ok(event),
+        Err(unread) => Err(unread),
+    }
+}
+
+// The result in a trace that a text spells.
+fn traced_result(alloc: Global, text: &[u8]) -> Result<Result<Answer, Refusal>, Unread>
+    ensures found { IfOk result (λ answered. GivenFit answered × (text.now ≡ result_text answered)) }
+    ensures only { (answered : ResultOf AnswerOf RefusalOf) → IsTracedResult answered → text.now ≡ result_text answered → Reads (λ r. r ≡ answered) result }
+{
+    if begins_as_refusal(text) {
+        return refused(text);
+    }
+    if begins_as_frames(text) {
+        return given(alloc, text);
+    }
+    answered(alloc, text)
+}
+
+// Whether a text begins with the letter of refusals.
+fn begins_as_refusal(text: &[u8]) -> bool
+    ensures yes { result ≡ true → (rest : List ℕ) × (text.now ≡ 83 ∷ rest) }
+    ensures no { result ≡ false → (rest : List ℕ) → text.now ≡ 83 ∷ rest → ⊥ }
+{
+    match text {
+        [b'S', ..] => true,
+        _ => false,
+    }
+}
+
+// Whether a text begins with the first two letters of a transmit's answer.
+fn begins_as_frames(text: &[u8]) -> bool
+    ensures yes { result ≡ true → (rest : List ℕ) × (text.now ≡ 102 ∷ 114 ∷ rest) }
+    ensures no { result ≡ false → (rest : List ℕ) → text.now ≡ 102 ∷ 114 ∷ rest → ⊥ }
+{
+    match text {
+        [b'f', b'r', ..] => true,
+        _ => false,
+    }
+}
+
+// The refusal that a text spells, as a result. It takes no memory.
+fn refused(text: &[u8]) -> Result<Result<Answer, Refusal>, Unread>
+    ensures found { IfOk result (λ answered. GivenFit answered × (text.now ≡ result_text answered)) }
+    ensures only { (refusal : RefusalOf) → text.now ≡ result_text (Err refusal) → Reads (λ r. r ≡ Err refusal) result }
+{
+    match refusal_of(text) {
+        Some(refusal) => Ok(Err(refusal)),
+        None => Err(Unread::NoText),
+    }
+}
+
+// The frames that a text spells, as a result.
+fn given(alloc: Global, text: &[u8]) -> Result<Result<Answer, Refusal>, Unread>
+    ensures found { IfOk result (λ answered. GivenFit answered × (text.now ≡ result_text answered)) }
+    ensures only { (frames : List FrameOf) → IsTracedResult (Ok (Answer.Frames frames)) → text.now ≡ result_text (Ok (Answer.Frames frames)) → Reads (λ r. r ≡ Ok (Answer.Frames frames)) result }
+{
+    match whole_frames(alloc, text) {
+        Ok(frames) => Ok(Ok(Answer::Frames(frames))),
+        Err(unread) => Err(unread),
+    }
+}
+
+// The answer without frames that a text spells, as a result.
+fn answered(alloc: Global, text: &[u8]) -> Result<Result<Answer, Refusal>, Unread>
+    ensures found { IfOk result (λ answered. GivenFit answered × (text.now ≡ result_text answered)) }
+    ensures only { (answer : AnswerOf) → IsTold answer → text.now ≡ answer_text [] answer → Reads (λ r. r ≡ Ok answer) result }
+{
+    match whole_answer(alloc, text) {
+        Ok(answer) => Ok(Ok(answer)),
+        Err(unread) => Err(unread),
+    }
+}

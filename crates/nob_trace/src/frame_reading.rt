@@ -1,0 +1,80 @@
+//! Texts of traces to frames.
+
+ghost use Rattle.std.specs.Prelude.{◌≡◌, ◌++◌, List, ℕ, IfOk};
+ghost use Rattle.std.specs.List.{AllByRecursion};
+ghost use Rattle.nob_frame.specs.declared.frame.Frame.{Frame as FrameOf};
+ghost use Rattle.nob_frame.specs.Spelling.{Fits, Spelt};
+ghost use Rattle.nob_model_text.specs.Fronts.{Stops};
+ghost use Rattle.nob_model_text.specs.Reading.{Reads};
+ghost use Rattle.nob_trace.specs.Frames.{IsFramed, frame_text, frames_text, spaced_text};
+
+use nob_frame::{Frame, FrameError};
+use nob_model_end::Frames;
+use nob_model_reading::{after, after_space};
+use nob_model_text::{Unread, bytes_at};
+use std::alloc::Global;
+
+// The frame that a text spells.
+pub fn whole_frame(alloc: Global, text: &[u8]) -> Result<Frame, Unread>
+    ensures found { IfOk result (λ frame. Fits frame × (text.now ≡ frame_text frame)) }
+    ensures only { (frame : FrameOf) → IsFramed frame → text.now ≡ frame_text frame → Reads (λ f. f ≡ frame) result }
+{
+    let (frame, rest) = frame_at(alloc, text)?;
+    if !rest.is_empty() {
+        return Err(Unread::NoText);
+    }
+    Ok(frame)
+}
+
+// The frames of a transmit that a text spells.
+pub fn whole_frames(alloc: Global, text: &[u8]) -> Result<Frames, Unread>
+    ensures found { IfOk result (λ frames. AllByRecursion Fits frames × (text.now ≡ frames_text frames)) }
+    ensures only { (frames : List FrameOf) → AllByRecursion IsFramed frames → text.now ≡ frames_text frames → Reads (λ fs. fs ≡ frames) result }
+{
+    if text == b"frames none".as_slice() {
+        return Ok(Frames::from_vec(Vec::new(alloc)));
+    }
+    let frames = spaced_frames(alloc, after(text, b"frames".as_slice())?)?;
+    if frames.as_slice().is_empty() {
+        return Err(Unread::NoText);
+    }
+    Ok(frames)
+}
+
+// The frames, each behind a space, that a text spells.
+fn spaced_frames(alloc: Global, text: &[u8]) -> Result<Frames, Unread>
+    ensures found { IfOk result (λ frames. AllByRecursion Fits frames × (text.now ≡ spaced_text frames)) }
+    ensures only { (frames : List FrameOf) → AllByRecursion IsFramed frames → text.now ≡ spaced_text frames → Reads (λ fs. fs ≡ frames) result }
+{
+    let mut frames = Vec::new(alloc);
+    let mut left = text;
+    while !left.is_empty() {
+        let (frame, rest) = frame_at(alloc, after_space(left)?)?;
+        frames.push(frame)?;
+        left = rest;
+    }
+    Ok(Frames::from_vec(frames))
+}
+
+// The frame at the front of a text, and what is left.
+fn frame_at(alloc: Global, text: &[u8]) -> Result<(Frame, &[u8]), Unread>
+    ensures found { IfOk result (λ parts. Fits parts.0 × (text.now ≡ frame_text parts.0 ++ parts.1.now)) }
+    ensures only { (frame : FrameOf) (rest : List ℕ) → IsFramed frame → Stops rest → text.now ≡ frame_text frame ++ rest
+        → Reads (λ parts. (parts.0 ≡ frame) × (parts.1.now ≡ rest)) result }
+{
+    let (bytes, rest) = bytes_at(alloc, text)?;
+    let frame = decoded(alloc, bytes.as_slice())?;
+    Ok((frame, rest))
+}
+
+// The frame that bytes spell.
+fn decoded(alloc: Global, bytes: &[u8]) -> Result<Frame, Unread>
+    ensures found { IfOk result (λ frame. Spelt bytes.now frame) }
+    ensures only { (frame : FrameOf) → Spelt bytes.now frame → Reads (λ f. f ≡ frame) result }
+{
+    match nob_frame::decode(alloc, bytes) {
+        Ok(frame) => Ok(frame),
+        Err(FrameError::Fault(_)) => Err(Unread::NoText),
+        Err(FrameError::OutOfMemory) => Err(Unread::OutOfMemory),
+    }
+}

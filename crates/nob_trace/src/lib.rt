@@ -1,0 +1,20 @@
+//! Traces and their one spelling in text.
+#![tactic(auto)]
+
+mod entry_reading;
+mod fault;
+mod frame_reading;
+mod head;
+mod head_reading;
+mod lines;
+mod reading;
+mod stamped;
+mod trace;
+mod writing;
+
+pub use fault::{TraceError, TraceFault};
+pub use head::Head;
+pub use reading::{decode, decode_all, trace_at};
+pub use stamped::Stamped;
+pub use trace::{Entries, Trace};
+pub use writing::{encode, result_text};
