@@ -140,12 +140,12 @@ surrogates_asked s n p k item D took is message asks =
     let turned : (rep : WireRep) → turns s n rep (did.Act p k ∷ D) ≡ cond (is_among wanted rep) (with_dirty (turns s n rep D)) (turns s n rep D) = λ rep. ap (λ (found : Option Item). turns_after s n p rep found D (turns s n rep D)) is ∙ asks rep ∙ ap (λ (b : Bool). cond b (with_dirty (turns s n rep D)) (turns s n rep D)) (sym (among rep)) in
     let of_wanted : (rep : WireRep) → is_among wanted rep ≡ true → wants rep ≡ true = λ rep there. (and_parts _ _ (sym (among rep) ∙ there)).1 in
     let kept : (rep : WireRep) → (others rep && now rep) ≡ has_surrogate s n D rep = λ rep.
-      ap (λ (t : Turns). others rep && (is_standing t && not (closed rep.owner D))) (turned rep)
-      ∙ old_kept s n D rep (is_among wanted rep) (λ there. wanted_none s n rep D (turns s n rep D) (of_wanted rep there)) in
+    ap (λ (t : Turns). others rep && (is_standing t && not (closed rep.owner D))) (turned rep)
+    ∙ old_kept s n D rep (is_among wanted rep) (λ there. wanted_none s n rep D (turns s n rep D) (of_wanted rep there)) in
     let new : (rep : WireRep) → is_among wanted rep ≡ true → now rep ≡ true = λ rep there.
-      let waits = (after_dirty (turns s n rep D) (shapes s n rep D took) (wanted_none s n rep D (turns s n rep D) (of_wanted rep there))).1 in
-      ap (λ (t : Turns). is_standing t && not (closed rep.owner D)) (turned rep ∙ ap (λ (b : Bool). cond b (with_dirty (turns s n rep D)) (turns s n rep D)) there)
-      ∙ and_from _ _ (or_left _ _ (or_left _ _ waits.0)) (and_parts _ _ (and_parts _ _ (of_wanted rep there)).0).1 in
+    let waits = (after_dirty (turns s n rep D) (shapes s n rep D took) (wanted_none s n rep D (turns s n rep D) (of_wanted rep there))).1 in
+    ap (λ (t : Turns). is_standing t && not (closed rep.owner D)) (turned rep ∙ ap (λ (b : Bool). cond b (with_dirty (turns s n rep D)) (turns s n rep D)) there)
+    ∙ and_from _ _ (or_left _ _ (or_left _ _ waits.0)) (and_parts _ _ (and_parts _ _ (of_wanted rep there)).0).1 in
     ap (λ (reps : List WireRep). filter now (once_last reps)) (dirties_more s n (did.Act p k) D ∙ ap (λ (reps : List WireRep). dirties (history_of s n D) ++ reps) (message_asks s n p k item D (work s n D) is message))
     ∙ ap (filter now) (order_append wanted (dirties (history_of s n D)) (filter_distinct wants (once (counted_in item)) (once_distinct (counted_in item))))
     ∙ filter-append now (filter others (once_last (dirties (history_of s n D)))) wanted

@@ -124,8 +124,8 @@ module _ {s n : ℕ} {limits : Limits} {st : State} {deed : Deed} {D : List Deed
           exported = stands.table.exported ∙ ap length (sym still.exports);
           live = λ index. stands.table.live index ∙ sym (λ i. list_any (is_same (own_ref s index)) (still.exports i) && not (still.withdrawn index i));
           far = λ rep counted own. stands.table.far rep counted own
-            ∙ ap (λ b. far_state b (is_held (standing st.table rep).counts) (turns s n rep D)) (sym (still.closed rep.owner))
-            ∙ ap (λ w. far_state (closed rep.owner (deed ∷ D)) (is_held (standing st.table rep).counts) w) (sym (still.turns rep));
+              ∙ ap (λ b. far_state b (is_held (standing st.table rep).counts) (turns s n rep D)) (sym (still.closed rep.owner))
+              ∙ ap (λ w. far_state (closed rep.owner (deed ∷ D)) (is_held (standing st.table rep).counts) w) (sym (still.turns rep));
           hands = λ rep counted. stands.table.hands rep counted ∙ sym (λ i. times rep (still.gains i) - times rep (still.releases i));
           loans = λ rep counted. stands.table.loans rep counted ∙ ap (λ w. times rep (lent_in s w)) (sym still.work);
           dirties = stands.table.dirties ∙ ap length (sym still.dirties);
@@ -192,6 +192,6 @@ module _ {s n : ℕ} {limits : Limits} {st : State} {D : List Deed} (stands : St
       let here : calls_at p (history_of s n (Transmit p frames ∷ D)) ≡ ends.Transmit frames ∷ calls_at p (history_of s n D) = transmit_calls s n p p frames D ∙ rw (nat_eq_equiv.refl p) refl in
       stands_still (transmit_is_still s n p frames D) stands (set st.sessions (p - 1) new)
       (ends_changed s n limits st.sessions (history_of s n D) (history_of s n (Transmit p frames ∷ D)) p new stands.ends there.0
-        (subst (λ calls. session.Stands s p limits new.end calls) (sym here) after)
-        (λ q other. sym (transmit_calls s n p q frames D ∙ rw (nat_eq_equiv.symm p q, other) refl)))
+      (subst (λ calls. session.Stands s p limits new.end calls) (sym here) after)
+      (λ q other. sym (transmit_calls s n p q frames D ∙ rw (nat_eq_equiv.symm p q, other) refl)))
       (λ q k. stands.orderly.payloads q k ∙ ap (λ payloads. slice_get payloads k) (sym (transmit_accepted q frames)))

@@ -63,12 +63,7 @@ impl Parts {
 }
 
 // The ends with the spaces from 1 to n.
-fn open_all(
-    alloc: Global,
-    me: SpaceId,
-    n: u16,
-    limits: Limits,
-) -> Result<Vec<Session>, AllocError>
+fn open_all(alloc: Global, me: SpaceId, n: u16, limits: Limits) -> Result<Vec<Session>, AllocError>
     requires { n ≤ 32 }
     ensures each { IfOk result (λ sessions. length sessions.items ≡ n) }
     ensures opened { IfOk result (λ sessions. AreOpened me 1 limits sessions.items) }
