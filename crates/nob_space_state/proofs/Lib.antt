@@ -10,3 +10,6 @@ pub mod Exported
 pub mod Begins
 pub mod Ends
 pub mod Hands
+pub mod Firsts
+pub mod Fixed
+pub mod Claiming

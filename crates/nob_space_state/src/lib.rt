@@ -2,6 +2,7 @@
 #![tactic(auto)]
 
 mod error;
+mod jobs;
 mod looks;
 mod objects;
 mod parts;
