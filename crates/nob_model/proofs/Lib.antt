@@ -1,0 +1,6 @@
+pub mod Doing
+pub mod Accepted
+pub mod Premises
+pub mod Orderly
+pub mod Possible
+pub mod Claiming

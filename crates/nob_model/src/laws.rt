@@ -1,0 +1,33 @@
+//! Laws over the definitions: each is the contract of a function that does nothing.
+
+ghost use Rattle.nob_model.specs.Laws.{DeedsLaw, EntriesLaw, TurnLaw, SettledLaw, TurnsLaw, ObjectsLaw, ActLaw, SendLaw, SettleLaw, CleanLaw, ClaimLaw, WithdrawLaw, LeastLaw, ReplyLaw};
+
+/// What a list of right entries did is a list of right deeds, and each list of right deeds is what some right entries
+/// did.
+pub fn deeds()
+    ensures forth { DeedsLaw }
+    ensures back { EntriesLaw }
+{}
+
+/// In every list of right deeds items were accepted in their turn, each Settle that was acted on was of an item that
+/// was sent before, client and owner took turns, and so did Exports and Withdraws: what the laws of the crates below
+/// ask of a list.
+pub fn premises()
+    ensures accepted { TurnLaw }
+    ensures settled { SettledLaw }
+    ensures turns { TurnsLaw }
+    ensures objects { ObjectsLaw }
+{}
+
+/// What a space could do next is what the right answer doesn't refuse, limits and free numbers aside: Act, Transmit
+/// (which then gives a frame), Settle, Clean, Claim and Withdraw; and a reply isn't ready where TakeReply says so.
+pub fn possible()
+    ensures act { ActLaw }
+    ensures send { SendLaw }
+    ensures settle { SettleLaw }
+    ensures clean { CleanLaw }
+    ensures claim { ClaimLaw }
+    ensures withdraw { WithdrawLaw }
+    ensures least { LeastLaw }
+    ensures reply { ReplyLaw }
+{}
