@@ -4,3 +4,7 @@ pub mod Premises
 pub mod Orderly
 pub mod Possible
 pub mod Claiming
+pub mod Made
+pub mod Carrying
+pub mod Replying
+pub mod Lending
