@@ -10,3 +10,5 @@ pub mod Exported
 pub mod Begins
 pub mod Ends
 pub mod Hands
+pub mod Sent
+pub mod Calling
