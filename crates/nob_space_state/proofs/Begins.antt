@@ -75,5 +75,7 @@ begins_stands s n limits st each opened me exported dirties surrogates nothing l
     withdrawn = λ index gone. absurd (cc);
     strangers = λ p none. refl;
     payloads = λ p k. refl;
+    settles = tt;
+    acts = tt;
   };
 }

@@ -38,10 +38,11 @@ use Rattle.nob_model_history.specs.Histories.{history_of}
 use Rattle.nob_model_history.specs.Ends.{calls_at}
 use Rattle.nob_model_history.specs.Holds.{hand, times, lent_in, gains, releases}
 use Rattle.nob_model_history.specs.Listing.{is_listed}
+use Rattle.nob_model_history.specs.Premises.{SettlesSent}
 use Rattle.nob_model_history.specs.Transit as transit
 use Rattle.nob_model.specs.Right.{calls_made, jobs_made, right_frames}
 use Rattle.nob_space_state.specs.Parts.{State, with_sessions}
-use Rattle.nob_space_state.specs.Stands.{Stands, EndsStand, IsOrderly, bundle, far_state}
+use Rattle.nob_space_state.specs.Stands.{Stands, EndsStand, IsOrderly, ActsOnPeers, bundle, far_state}
 use Rattle.nob_space_state.proofs.Quiet.{loans_made}
 
 -- one element changes
@@ -88,6 +89,8 @@ pub record IsStill (s n : ℕ) (deed : Deed) (D : List Deed) : Type 0 where
   pub work : work s n (deed ∷ D) ≡ work s n D
   pub calls_made : calls_made (deed ∷ D) ≡ calls_made D
   pub jobs_made : jobs_made (deed ∷ D) ≡ jobs_made D
+  pub settles : SettlesSent s n D → SettlesSent s n (deed ∷ D)
+  pub acts : ActsOnPeers s n D → ActsOnPeers s n (deed ∷ D)
 
 pub transmit_is_still : (s n p : ℕ) (frames : List Frame) (D : List Deed) → IsStill s n (Transmit p frames) D
 unfolding gifts gifts_of work_after with_loans message_after run_after copy_after
@@ -104,6 +107,8 @@ transmit_is_still s n p frames D = record {
   work = loans_made s n D;
   calls_made = refl;
   jobs_made = refl;
+  settles = λ settles. settles;
+  acts = λ acts. acts;
 }
 
 -- the calls on the ends after a Transmit
@@ -143,6 +148,8 @@ module _ {s n : ℕ} {limits : Limits} {st : State} {deed : Deed} {D : List Deed
           withdrawn = λ index gone. ap (λ reps. list_any (is_same (own_ref s index)) reps) still.exports ∙ right.withdrawn index (sym (still.withdrawn index) ∙ gone);
           strangers = λ p none. still.closed p ∙ right.strangers p none;
           payloads = payloads;
+          settles = still.settles right.settles;
+          acts = still.acts right.acts;
         };
       }
 

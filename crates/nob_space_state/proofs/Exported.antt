@@ -201,6 +201,8 @@ module _ {s n : ℕ} {limits : Limits} {st : State} {D : List Deed} (stands : St
         withdrawn = λ index gone. exported_more s D rep index ∙ rw (right.withdrawn index gone) refl;
         strangers = right.strangers;
         payloads = λ p j. right.payloads p j ∙ ap (λ calls. slice_get (accepted calls) j) (sym (quiet.calls p));
+        settles = right.settles;
+        acts = right.acts;
       }
 
   -- after a Withdraw
@@ -232,6 +234,8 @@ module _ {s n : ℕ} {limits : Limits} {st : State} {D : List Deed} (stands : St
         ] refl gone;
         strangers = right.strangers;
         payloads = λ p j. right.payloads p j ∙ ap (λ calls. slice_get (accepted calls) j) (sym (quiet.calls p));
+        settles = right.settles;
+        acts = right.acts;
       }
 
 -- the table's refusal of an Export is the space's

@@ -55,7 +55,7 @@ release_chain false false true = refl
 release_chain false false false = refl
 
 -- what has holds is known
-held_known : (mine given : Bool) (row : Option Counts) (surrogate : Option Surrogate) (counts : Option Counts) → table_counts.is_held (if mine then own_standing given row else far_standing surrogate counts).counts ≡ true
+pub held_known : (mine given : Bool) (row : Option Counts) (surrogate : Option Surrogate) (counts : Option Counts) → table_counts.is_held (if mine then own_standing given row else far_standing surrogate counts).counts ≡ true
     → is_known (if mine then own_standing given row else far_standing surrogate counts).state ≡ true
 held_known true given (Some c) surrogate counts held = refl
 held_known true true None surrogate counts held = absurd (cc)
@@ -158,6 +158,8 @@ module _ {s n : ℕ} {limits : Limits} {st : State} {D : List Deed} (stands : St
         withdrawn = right.withdrawn;
         strangers = right.strangers;
         payloads = λ p k. right.payloads p k ∙ ap (λ calls. slice_get (accepted calls) k) (sym (quiet.calls p));
+        settles = right.settles;
+        acts = right.acts;
       }
 
   -- after a Release
@@ -184,6 +186,8 @@ module _ {s n : ℕ} {limits : Limits} {st : State} {D : List Deed} (stands : St
         withdrawn = right.withdrawn;
         strangers = right.strangers;
         payloads = λ p k. right.payloads p k ∙ ap (λ calls. slice_get (accepted calls) k) (sym (quiet.calls p));
+        settles = right.settles;
+        acts = right.acts;
       }
 
 module _ {s n : ℕ} {limits : Limits} {st : State} {D : List Deed} (stands : Stands s n limits st D) (rep : WireRep) where

@@ -13,3 +13,5 @@ pub mod Hands
 pub mod Firsts
 pub mod Fixed
 pub mod Claiming
+pub mod Sent
+pub mod Calling

@@ -4,5 +4,6 @@ pub use Rattle.nob_model_history.specs.Histories
 pub mod Holds
 pub mod Looks
 pub mod Judging
+pub mod Sending
 pub mod Parts
 pub mod Stands

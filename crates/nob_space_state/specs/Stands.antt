@@ -20,6 +20,7 @@ use Rattle.nob_pins.specs.Bundles.{Pinned, bundle_of}
 use Rattle.nob_model_types.specs.declared.answer.Answer.{Answer}
 use Rattle.nob_model_types.specs.declared.refusal.Refusal.{Refusal}
 use Rattle.nob_model_words.specs.declared.deed.Deed.{Deed}
+use Rattle.nob_model_words.specs.declared.deed.Deed.TheVariants.{Act}
 use Rattle.nob_model_words.specs.declared.turns.Turns.{Turns}
 use Rattle.nob_model_words.specs.Sessions.{is_peer, closed, payload_at}
 use Rattle.nob_model_words.specs.Objects as objects
@@ -32,6 +33,7 @@ use Rattle.nob_model_history.specs.Ends.{calls_at}
 use Rattle.nob_model_history.specs.Holds.{times, gains, releases, hand, lent_in}
 use Rattle.nob_model_history.specs.Transit as transit
 use Rattle.nob_model_history.specs.Listing.{is_listed}
+use Rattle.nob_model_history.specs.Premises.{SettlesSent}
 use Rattle.nob_model.specs.Right.{own_ref, calls_made, jobs_made}
 use Rattle.nob_space_state.specs.declared.error.SpaceError.{SpaceError}
 use Rattle.nob_space_state.specs.declared.error.SpaceError.TheVariants as errors
@@ -71,6 +73,12 @@ bundle item = bundle_of item.to item.number (counted_in item.item)
 abbrev pub PinsStand : List Pinned → History → Type 0
 PinsStand bundles h = (f : Pinned → ℕ) → sum_by f bundles ≡ sum_by f (map bundle (transit.bundles h))
 
+-- each item that was acted on came from a peer
+abbrev pub ActsOnPeers : (s n : ℕ) → List Deed → Type 0
+ActsOnPeers s n [] = Unit {0}
+ActsOnPeers s n (Act p k ∷ D) = (is_peer s n p ≡ true) × ActsOnPeers s n D
+ActsOnPeers s n (_ ∷ D) = ActsOnPeers s n D
+
 -- what holds of every list of right answers, and no state shows
 pub record IsOrderly (s n : ℕ) (D : List Deed) : Type 0 where
   -- the indexes that were given are 1, 2, .. without a gap
@@ -85,6 +93,10 @@ pub record IsOrderly (s n : ℕ) (D : List Deed) : Type 0 where
   pub strangers : (p : ℕ) → is_peer s n p ≡ false → closed p D ≡ false
   -- the payload of an item is the one that was accepted in its turn
   pub payloads : (p k : ℕ) → payload_at p (k + 1) D ≡ slice_get (accepted (calls_at p (history_of s n D))) k
+  -- what was settled was sent
+  pub settles : SettlesSent s n D
+  -- what was acted on came from peers
+  pub acts : ActsOnPeers s n D
 
 -- a state of space s among n, with these limits, stands for a list of what the space did
 pub record Stands (s n : ℕ) (limits : Limits) (state : State) (D : List Deed) : Type 0 where

@@ -1,11 +1,13 @@
 //! The state of a space, in parts: what a space keeps, and for which lists of what it did that stands.
 #![tactic(auto)]
 
+mod calls;
 mod error;
 mod jobs;
 mod looks;
 mod objects;
 mod parts;
+mod sending;
 mod sessions;
 
 pub use error::SpaceError;

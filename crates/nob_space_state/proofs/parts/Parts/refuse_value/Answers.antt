@@ -1,0 +1,39 @@
+use Rattle.std.proofs.Common.{◌<◌, length, filter, sym, ◌∙◌, refl, arith}
+use Rattle.std.proofs.lemmas.Option.{slice_get_within}
+use Rattle.nob_ids.specs.Names.{is_counted}
+use Rattle.nob_pickle.specs.Spelling.{refs_in}
+use Rattle.nob_space_state.specs.Parts.{state_of}
+use Rattle.nob_space_state.proofs.Calling.{few_refs, value_is, refs_next, refs_first, refs_last}
+use Rattle.nob_space_state.proofs.parts.Parts.refuse_value.Goals as goal
+
+pub returns-in-Err : goal.returns-in-Err
+returns-in-Err c =
+    value_is c.args.me (state_of c.args.self.now) c.args.value.now ((c.in-Ok.ensures {u = tt}).fits.0 refl)
+    ∙ c.loop-rep.invariant.so_far
+    ∙ refs_first c.args.me (state_of c.args.self.now) (filter is_counted (refs_in c.args.value.now)) c.loop-rep.number c.in-Some.rep c.in-Err.refusal (sym (c.in-Some.ensures {u = tt})) (c.in-Err.ensures {u = tt})
+
+pub overflow_add-number : goal.overflow_add-number
+overflow_add-number c =
+    let few = few_refs c.args.value.now ((c.in-Ok.ensures {u = tt}).fits.0 refl) in
+    let within : c.loop-rep.number < length (filter is_counted (refs_in c.args.value.now)) = slice_get_within (filter is_counted (refs_in c.args.value.now)) c.loop-rep.number c.in-Some.rep (sym (c.in-Some.ensures {u = tt})) in
+    omega (arith, few, within)
+
+pub loop-rep-smaller : goal.loop-rep-smaller
+loop-rep-smaller c =
+    let within : c.loop-rep.number < length (filter is_counted (refs_in c.args.value.now)) = slice_get_within (filter is_counted (refs_in c.args.value.now)) c.loop-rep.number c.in-Some.rep (sym (c.in-Some.ensures {u = tt})) in
+    omega (arith, within)
+
+pub loop-rep-preserved : goal.loop-rep-preserved
+loop-rep-preserved c =
+    let within : c.loop-rep.number < length (filter is_counted (refs_in c.args.value.now)) = slice_get_within (filter is_counted (refs_in c.args.value.now)) c.loop-rep.number c.in-Some.rep (sym (c.in-Some.ensures {u = tt})) in
+    record {
+      few = omega (arith, within);
+      so_far = c.loop-rep.invariant.so_far
+          ∙ refs_next c.args.me (state_of c.args.self.now) (filter is_counted (refs_in c.args.value.now)) c.loop-rep.number c.in-Some.rep (sym (c.in-Some.ensures {u = tt})) (c.in_default-refuse_ref.ensures {u = tt});
+    }
+
+pub returns : goal.returns
+returns c =
+    value_is c.args.me (state_of c.args.self.now) c.args.value.now ((c.in-Ok.ensures {u = tt}).fits.0 refl)
+    ∙ c.loop-rep.invariant.so_far
+    ∙ refs_last c.args.me (state_of c.args.self.now) (filter is_counted (refs_in c.args.value.now)) c.loop-rep.number (sym (c.in_default-counted_ref.ensures {u = tt}))

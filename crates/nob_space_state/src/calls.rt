@@ -1,0 +1,105 @@
+//! The event Call.
+
+ghost use Rattle.std.specs.Prelude.{◌≡◌, ℕ, List, ◌∷◌, Some, None, Ok, Err, OnErr, IfOk, MatchResult};
+ghost use Rattle.nob_ids.specs.declared.limits.Limits.{Limits as LimitsOf};
+ghost use Rattle.nob_model_types.specs.declared.answer.Answer.TheVariants as answers;
+ghost use Rattle.nob_model_words.specs.declared.deed.Deed.{Deed};
+ghost use Rattle.nob_model_words.specs.declared.deed.Deed.TheVariants as did;
+ghost use Rattle.nob_model_history.specs.Histories.{history_of};
+ghost use Rattle.nob_model.specs.Right as right;
+ghost use Rattle.nob_space_state.specs.Parts.{state_of};
+ghost use Rattle.nob_space_state.specs.Sending.{call_refusal};
+ghost use Rattle.nob_space_state.specs.Stands.{Stands, IsState, Keeps, Did, AnswersOrWants};
+
+use crate::error::SpaceError;
+use crate::parts::Parts;
+use crate::sending::{counted_refs, hand};
+use nob_ids::{CallNo, SpaceId, WireRep};
+use nob_item::{ItemError, encode_call};
+use nob_model::right::{LAST_NUMBER, MOST_CALLS};
+use nob_model::{Here, Kind, OwnCall, Refusal, Stage};
+use nob_pickle::Value;
+use std::alloc::Global;
+
+impl Parts {
+    // Why a Call of a target with a value is refused. It takes no memory.
+    #[tactic(auto, unfolding(crate::specs::Sending::call_refusal))]
+    fn refuse_call(&self, here: &Here, target: &WireRep, value: &Value) -> Result<(), Refusal>
+        ensures { MatchResult result (λ _. call_refusal here.now.space here.now.n (state_of self.now) target.now value.now ≡ None) (λ refusal. call_refusal here.now.space here.now.n (state_of self.now) target.now value.now ≡ Some refusal) }
+    {
+        if !here.is_peer(target.owner) {
+            return Err(Refusal::NoPeer);
+        }
+        if self.has_closed(target.owner) {
+            return Err(Refusal::Closed);
+        }
+        if target.index != 0 && !self.is_held(target) {
+            return Err(Refusal::NotHeld);
+        }
+        if let Err(refusal) = self.refuse_value(here.space, value) {
+            return Err(refusal);
+        }
+        if self.calls.len() >= MOST_CALLS || self.calls_made >= LAST_NUMBER {
+            return Err(Refusal::Limit);
+        }
+        if let Err(refusal) = self.refuse_send(target.owner, Kind::Limited) {
+            return Err(refusal);
+        }
+        Ok(())
+    }
+
+    /// Call: a method of the object that a reference names is called with a value, whose references are pinned until
+    /// the object's owner has settled them: the number of the call. Linear in the value.
+    pub fn call(
+        &mut self,
+        alloc: Global,
+        here: &Here,
+        target: &WireRep,
+        method: u16,
+        value: &Value,
+    ) -> Result<CallNo, SpaceError>
+        requires { IsState here.now.space here.now.n (state_of self.old) }
+        ensures answer { (limits : LimitsOf) (D : List Deed) → Stands here.now.space here.now.n limits (state_of self.old) D → AnswersOrWants (λ call. answers.Called call) result (right.right_call here.now.space here.now.n target.now value.now (history_of here.now.space here.now.n D)) }
+        ensures stands { IfOk result (λ call. Did here.now.space here.now.n (state_of self.old) (state_of self.new) (did.Call target.now method value.now call)) }
+        ensures err { OnErr result (Keeps here.now.space here.now.n (state_of self.old) (state_of self.new)) }
+    {
+        if let Err(refusal) = self.refuse_call(here, target, value) {
+            return Err(SpaceError::Refused(refusal));
+        }
+        let call = CallNo::new(self.calls_made + 1);
+        let payload = match encode_call(alloc, call, target.index, method, value) {
+            Ok(payload) => payload,
+            Err(ItemError::Fault(_)) => unreachable!(),
+            Err(ItemError::OutOfMemory) => return Err(SpaceError::OutOfMemory),
+        };
+        let Ok(reps) = counted_refs(alloc, value) else {
+            return Err(SpaceError::OutOfMemory);
+        };
+        if self.calls.reserve(1).is_err() {
+            return Err(SpaceError::OutOfMemory);
+        }
+        let peer = target.owner;
+        let session = &mut self.sessions[peer.get() as usize - 1];
+        let Ok(_) = hand(
+            alloc,
+            session,
+            &mut self.pins,
+            peer,
+            payload,
+            Kind::Limited,
+            reps.as_slice(),
+        ) else {
+            return Err(SpaceError::OutOfMemory);
+        };
+        let own = OwnCall {
+            call,
+            to: peer,
+            stage: Stage::Sent,
+        };
+        let Ok(()) = self.calls.push(own) else {
+            unreachable!();
+        };
+        self.calls_made += 1;
+        Ok(call)
+    }
+}
