@@ -30,6 +30,7 @@ use Rattle.nob_model_history.specs.Holds.{times, loans_of, lent_in}
 use Rattle.nob_model.specs.Right.{right_claim, claim_of, job_of, last_number}
 use Rattle.nob_model.specs.Candidates.{target_of, is_free}
 use Rattle.nob_space_state.specs.Parts.{State, with_work}
+use Rattle.nob_model.specs.Lists.{IsRightDeed}
 use Rattle.nob_space_state.specs.Stands.{Stands}
 use Rattle.nob_space_state.proofs.Firsts.{narrower_first, without_all, times_without}
 use Rattle.nob_space_state.proofs.Fixed.{AreFixed, work_fixed, fixed_stays}
@@ -161,9 +162,9 @@ module _ (s n : ℕ) (D : List Deed) (m : Message) (job : Job) (j : ℕ) (found 
       ∙ fixed_stays s n (Claim job ∷ D) (claimed job.job m W) claimed_fixed
 
   -- after a Claim
-  pub claim_stands : {limits : Limits} {st : State} → Stands s n limits st D → Stands s n limits (with_work (claimed job.job m st.work) st.calls (st.jobs + 1) st) (Claim job ∷ D)
+  pub claim_stands : {limits : Limits} {st : State} → IsRightDeed s n limits (Claim job) D → Stands s n limits st D → Stands s n limits (with_work (claimed job.job m st.work) st.calls (st.jobs + 1) st) (Claim job ∷ D)
   unfolding gifts gifts_of
-  claim_stands {limits} {st} stands =
+  claim_stands {limits} {st} its stands =
       let after : work s n (Claim job ∷ D) ≡ claimed job.job m (work s n D) = claim_work in
       record {
         ends = record { each = stands.ends.each; ends = stands.ends.ends };
@@ -182,14 +183,7 @@ module _ (s n : ℕ) (D : List Deed) (m : Message) (job : Job) (j : ℕ) (found 
         work = ap (claimed job.job m) stands.work ∙ sym after;
         calls = stands.calls;
         jobs = ap (λ k. k + 1) stands.jobs;
-        orderly = record {
-          exported = stands.orderly.exported;
-          once = stands.orderly.once;
-          released = stands.orderly.released;
-          withdrawn = stands.orderly.withdrawn;
-          strangers = stands.orderly.strangers;
-          payloads = stands.orderly.payloads;
-        };
+        right = (its, stands.right);
       }
 
 -- what is right for a Claim is what the state tells
@@ -222,12 +216,12 @@ abbrev pub with_jobs : List Message → List Run → InHand → InHand
 with_jobs ready running W = record { waiting = W.waiting; ready = ready; running = running; replies = W.replies; calls = W.calls }
 
 -- after a Claim: the state that has taken the message out and has its run
-pub claim_done : {s n : ℕ} {limits : Limits} {st : State} {D : List Deed} (stands : Stands s n limits st D) (m : Message) (job : Job) (ready : List Message) (running : List Run)
+pub claim_done : {s n : ℕ} {limits : Limits} {st : State} {D : List Deed} (stands : Stands s n limits st D) (m : Message) (job : Job) (ready : List Message) (running : List Run) → IsRightDeed s n limits (Claim job) D
     → find (is_free st.work) st.work.ready ≡ Some m → job_of (st.jobs + 1) m.from m.item ≡ Ok (answers.Job job)
     → ready ≡ without_first (is_free st.work) st.work.ready → running ≡ record { job = job.job; message = m } ∷ st.work.running
     → Stands s n limits (with_work (with_jobs ready running st.work) st.calls (st.jobs + 1) st) (Claim job ∷ D)
-claim_done {s} {n} {limits} {st} {D} stands m job ready running found is others runs =
+claim_done {s} {n} {limits} {st} {D} stands m job ready running its found is others runs =
     let here : find (is_free (work s n D)) (work s n D).ready ≡ Some m = subst (λ w. find (is_free w) w.ready ≡ Some m) stands.work found in
-    let after : Stands s n limits (with_work (claimed job.job m st.work) st.calls (st.jobs + 1) st) (Claim job ∷ D) = claim_stands s n D m job (st.jobs + 1) here (job_is_of (st.jobs + 1) m job is) stands in
+    let after : Stands s n limits (with_work (claimed job.job m st.work) st.calls (st.jobs + 1) st) (Claim job ∷ D) = claim_stands s n D m job (st.jobs + 1) here (job_is_of (st.jobs + 1) m job is) its stands in
     subst (λ ms. Stands s n limits (with_work (with_jobs ms running st.work) st.calls (st.jobs + 1) st) (Claim job ∷ D)) (sym others)
     (subst (λ rs. Stands s n limits (with_work (with_jobs (without_first (is_free st.work) st.work.ready) rs st.work) st.calls (st.jobs + 1) st) (Claim job ∷ D)) (sym runs) after)

@@ -1,4 +1,5 @@
 pub mod Words
+pub mod Orderly
 pub mod Told
 pub mod Shows
 pub mod Quiet

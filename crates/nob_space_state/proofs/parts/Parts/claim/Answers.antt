@@ -9,6 +9,7 @@ use Rattle.nob_space_state.specs.Parts.{state_of}
 use Rattle.nob_space_state.specs.Stands.{AnswersOrWants}
 use Rattle.nob_space_state.proofs.Claiming.{claim_right, claim_none, claim_limit, claim_job, claim_done}
 use Rattle.nob_space_state.proofs.Firsts.{no_place, at_place, place_first, some_same}
+use Rattle.nob_space_state.proofs.Orderly.{claim_is}
 use Rattle.nob_space_state.proofs.parts.Parts.claim.Goals as goal
 
 pub returns-in_default-clause-answer : goal.returns-in_default-clause-answer
@@ -43,7 +44,7 @@ returns-clause-stands c limits D stands =
     let taken = at_place (is_free (state_of c.args.self.now).work) c.args.self.now.ready.items c.in-Some.place c.remove-message.result place c.remove-message.ensures.value in
     let same : c.index-message.result.now ≡ c.remove-message.result = some_same (sym seen.0 ∙ taken.0) in
     let is : job_of (c.args.self.now.jobs_made + 1) c.index-message.result.now.from c.index-message.result.now.item ≡ Ok (answers.Job c.in-Ok.job) = ap (λ j. job_of j c.index-message.result.now.from c.index-message.result.now.item) (sym c.new.ensures) ∙ c.in-Ok.ensures {u = tt} in
-    claim_done stands c.remove-message.result c.in-Ok.job c.remove-message.new.self.items c.insert.new.self.items taken.0
+    claim_done stands c.remove-message.result c.in-Ok.job c.remove-message.new.self.items c.insert.new.self.items (claim_is c.args.here.now.space c.args.here.now.n limits D c.in-Ok.job (returns-clause-answer c limits D stands)) taken.0
     (subst (λ (m : Message). job_of (c.args.self.now.jobs_made + 1) m.from m.item ≡ Ok (answers.Job c.in-Ok.job)) same is)
     (c.remove-message.ensures.items ∙ taken.1)
     (c.in-Ok-insert.ensures.items ∙ ap (λ runs. insert runs 0 (record { job = c.in-Ok.job.job; message = c.remove-message.result })) c.reserve.ensures.items)
