@@ -108,7 +108,7 @@ abbrev pub claimed : ℕ → Message → InHand → InHand
 claimed j m W = record { waiting = W.waiting; ready = without_first (is_free W) W.ready; running = record { job = j; message = m } ∷ W.running; replies = W.replies; calls = W.calls }
 
 -- all that is lent is what messages that wait, ready and running jobs and ready replies lend
-times_lent : (s : ℕ) (rep : WireRep) (W : InHand) → times rep (lent_in s W) ≡ times rep (flat_map (loans_of s) W.waiting) + (times rep (flat_map (loans_of s) W.ready) + (times rep (flat_map (λ run. loans_of s run.message) W.running) + times rep (flat_map (loans_of s) W.replies)))
+pub times_lent : (s : ℕ) (rep : WireRep) (W : InHand) → times rep (lent_in s W) ≡ times rep (flat_map (loans_of s) W.waiting) + (times rep (flat_map (loans_of s) W.ready) + (times rep (flat_map (λ run. loans_of s run.message) W.running) + times rep (flat_map (loans_of s) W.replies)))
 times_lent s rep W = times_both rep (flat_map (loans_of s) W.waiting) _
     ∙ ap (λ k. times rep (flat_map (loans_of s) W.waiting) + k) (times_both rep (flat_map (loans_of s) W.ready) _
     ∙ ap (λ k. times rep (flat_map (loans_of s) W.ready) + k) (times_both rep (flat_map (λ run. loans_of s run.message) W.running) (flat_map (loans_of s) W.replies)))

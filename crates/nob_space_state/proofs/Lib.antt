@@ -16,3 +16,5 @@ pub mod Fixed
 pub mod Claiming
 pub mod Sent
 pub mod Calling
+pub mod Taking
+pub mod Replies

@@ -6,4 +6,5 @@ pub mod Looks
 pub mod Judging
 pub mod Sending
 pub mod Parts
+pub mod Taking
 pub mod Stands

@@ -9,6 +9,8 @@ mod objects;
 mod parts;
 mod sending;
 mod sessions;
+mod take;
 
 pub use error::SpaceError;
 pub use parts::Parts;
+pub use take::CallResult;
