@@ -12,3 +12,6 @@ pub mod Ends
 pub mod Hands
 pub mod Sent
 pub mod Calling
+pub mod Running
+pub mod Returned
+pub mod Finishing

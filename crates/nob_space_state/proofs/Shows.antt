@@ -113,7 +113,7 @@ forgets_surrogate states.Lost counts = elim (is_held counts) as (λ b. is_surrog
 forgets_surrogate (_) counts = refl
 
 -- nothing holds what is forgotten
-forgets_counts : (state : State) (counts : Counts) → (unless_lost (record { state = state; counts = counts })).counts ≡ counts
+pub forgets_counts : (state : State) (counts : Counts) → (unless_lost (record { state = state; counts = counts })).counts ≡ counts
 forgets_counts states.Lost counts = elim (is_held counts) as (λ b. is_held counts ≡ b → (if b then record { state = states.Lost; counts = counts } else unknown).counts ≡ counts) [ true ↦ λ held. refl | false ↦ λ free. sym (no_holds counts free) ] refl
 forgets_counts (_) counts = refl
 

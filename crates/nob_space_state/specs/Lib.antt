@@ -7,3 +7,4 @@ pub mod Judging
 pub mod Sending
 pub mod Parts
 pub mod Stands
+pub mod Returns

@@ -3,6 +3,7 @@
 
 mod calls;
 mod error;
+mod finish;
 mod looks;
 mod objects;
 mod parts;
@@ -10,4 +11,5 @@ mod sending;
 mod sessions;
 
 pub use error::SpaceError;
+pub use finish::ReplyFate;
 pub use parts::Parts;
