@@ -18,3 +18,6 @@ pub mod Sent
 pub mod Calling
 pub mod Taking
 pub mod Replies
+pub mod Running
+pub mod Returned
+pub mod Finishing

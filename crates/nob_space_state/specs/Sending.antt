@@ -1,5 +1,5 @@
 -- What is answered to the events that hand an item to a peer, by the state, and what its pins make of the bundles.
-use Rattle.std.specs.Prelude.{◌≡◌, ℕ, Bool, ◌&&◌, ◌||◌, not, nat_le, List, [], ◌∷◌, length, filter, find, Option, Some, None, if◌then◌else◌}
+use Rattle.std.specs.Prelude.{◌≡◌, ℕ, Bool, ◌&&◌, ◌||◌, not, nat_le, List, [], ◌∷◌, length, filter, Option, Some, None}
 use Rattle.nob_ids.specs.Names.{is_counted}
 use Rattle.nob_ids.specs.declared.wire_rep.WireRep.{WireRep}
 use Rattle.nob_pickle.specs.Spelling.{refs_in}
@@ -11,14 +11,17 @@ use Rattle.nob_session.specs.Calls.{next_of}
 use Rattle.nob_session.specs.Stands.{Roomy}
 use Rattle.nob_pins.specs.Bundles.{Pinned, bundle_of, Adds}
 use Rattle.nob_model_types.specs.declared.event.Outcome.{Outcome}
+use Rattle.nob_model_types.specs.declared.answer.Answer.{Answer}
+use Rattle.nob_model_types.specs.declared.answer.Answer.TheVariants as answers
 use Rattle.nob_model_types.specs.declared.refusal.Refusal.{Refusal}
 use Rattle.nob_model_types.specs.declared.refusal.Refusal.TheVariants as refusals
+use Rattle.nob_model_words.specs.declared.deed.Deed.{Deed}
+use Rattle.nob_model_words.specs.declared.deed.Deed.TheVariants as did
 use Rattle.nob_model_words.specs.Sessions.{is_peer}
-use Rattle.nob_model_work.specs.declared.work.Run.{Run}
-use Rattle.nob_model_work.specs.Work.{is_run}
-use Rattle.nob_model_work.specs.Gifts.{value_of}
 use Rattle.nob_model.specs.Right.{most_calls, last_number}
 use Rattle.nob_model.specs.Sending.{◌or_else◌, refuse_if, is_faulty, refusal_in}
+use Rattle.nob_space_state.specs.declared.finish.ReplyFate.{ReplyFate}
+use Rattle.nob_space_state.specs.declared.finish.ReplyFate.TheVariants as fates
 use Rattle.nob_space_state.specs.Parts.{State}
 use Rattle.nob_space_state.specs.Looks.{end_with, has_closed, has_holds, names_none, is_cut}
 
@@ -56,16 +59,17 @@ call_refusal s n st target value = refuse_if (not (is_peer s n target.owner)) re
 abbrev pub reply_refusal : (s client : ℕ) → State → Value → Option Refusal
 reply_refusal s client st value = value_refusal s st value or_else send_refusal client Limited st
 
--- why the end of a job, where it runs, is refused: never where the end with its client has closed
-abbrev pub ending_refusal : ℕ → State → Outcome → Option Run → Option Refusal
-ending_refusal s st outcome None = Some refusals.NoJob
-ending_refusal s st outcome (Some run) = if has_closed st.sessions run.message.from then None else reply_refusal s run.message.from st (value_of outcome)
-
--- why a Finish is refused
-abbrev pub finish_refusal : (s job : ℕ) → State → Outcome → Option Refusal
-finish_refusal s job st outcome = ending_refusal s st outcome (find (is_run job) st.work.running)
-
 -- new has the bundles of old, and that of these references to a peer in an item where there are any
 abbrev pub AddsPins : List Pinned → List Pinned → (peer item : ℕ) → List WireRep → Type 0
 AddsPins old new peer item [] = new ≡ old
 AddsPins old new peer item (rep ∷ reps) = Adds old new (bundle_of peer item (rep ∷ reps))
+
+-- the answer to a Finish, by what became of the reply
+abbrev pub finish_answer : ReplyFate → Answer
+finish_answer fates.HandedOn = answers.Finished
+finish_answer fates.Dropped = answers.Dropped
+
+-- what a Finish did, by what became of the reply
+abbrev pub finish_deed : ℕ → Outcome → ReplyFate → Deed
+finish_deed job outcome fates.HandedOn = did.Finish job outcome
+finish_deed job outcome fates.Dropped = did.DropReply job

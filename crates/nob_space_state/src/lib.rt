@@ -3,6 +3,7 @@
 
 mod calls;
 mod error;
+mod finish;
 mod jobs;
 mod looks;
 mod objects;
@@ -12,5 +13,6 @@ mod sessions;
 mod take;
 
 pub use error::SpaceError;
+pub use finish::ReplyFate;
 pub use parts::Parts;
 pub use take::CallResult;

@@ -1,0 +1,155 @@
+use Rattle.std.proofs.Common.{◌≡◌, ℕ, ◌+◌, ◌-◌, ◌∷◌, List, true, false, Some, None, IsOk, find, nat_le, get_or, sym, ap, subst, ◌∙◌, refl, arith}
+use lib.ListN.{set}
+use Rattle.nob_item.specs.Judging.{Fails}
+use Rattle.nob_item.specs.Writing.{bytes_of}
+use Rattle.nob_item.specs.declared.item.Item.TheVariants as items
+use Rattle.nob_ids.specs.declared.wire_rep.WireRep.{WireRep}
+use Rattle.nob_model_end.specs.declared.entry.Kind.TheVariants.{Limited}
+use Rattle.nob_session.specs.Stands.{End}
+use Rattle.nob_model_types.specs.declared.answer.Answer.TheVariants as answers
+use Rattle.nob_model_words.specs.declared.deed.Deed.TheVariants as did
+use Rattle.nob_model_work.specs.declared.work.Run.{Run}
+use Rattle.nob_model_work.specs.Work.{is_run}
+use Rattle.nob_model_history.specs.Histories.{history_of}
+use Rattle.nob_model_history.specs.Ends.{calls_at}
+use Rattle.nob_model.specs.Sending.{unless}
+use Rattle.nob_space_state.specs.Looks.{has_closed}
+use Rattle.nob_space_state.specs.Parts.{state_of}
+use Rattle.nob_space_state.specs.Sending.{reply_refusal, AddsPins}
+use Rattle.nob_space_state.specs.Stands.{Stands}
+use Rattle.nob_space_state.proofs.Calling.{peer_range, next_free, stands_unsent}
+use Rattle.nob_space_state.proofs.Ends.{end_there}
+use Rattle.nob_space_state.proofs.Finishing.{finish_of_none, finish_of_closed, finish_of_open, finish_stands, finish_wants, drop_stands, jobs_lent, limited_status, reply_judged, reply_spelled, run_sound, runs_call, runs_number}
+use Rattle.nob_space_state.proofs.Sent.{next_unpinned}
+use Rattle.nob_space_state.proofs.Orderly.{drop_is, finish_is}
+use Rattle.nob_space_state.proofs.parts.Parts.finish.Goals as goal
+
+pub returns-in_default-clause-answer : goal.returns-in_default-clause-answer
+returns-in_default-clause-answer c limits D stands =
+    finish_of_none stands c.args.job c.args.outcome.now (subst (λ (runs : List Run). find (is_run c.args.job) runs ≡ None) c.as_slice.ensures.value (sym (c.in_default.ensures {u = tt})))
+
+pub unreachable-requires : goal.unreachable-requires
+unreachable-requires c =
+    let found : find (is_run c.args.job) c.args.self.now.running.items ≡ Some c.in-Some.run'.now = subst (λ (runs : List Run). find (is_run c.args.job) runs ≡ Some c.in-Some.run'.now) c.as_slice.ensures.value (sym (c.in-Some.ensures {u = tt})) in
+    runs_call c.in-Some.run'.now.message.item (run_sound c.requires.2 c.args.job c.args.outcome.now c.in-Some.run'.now found).1 c.in_default-item.not-Call
+
+pub end_job-requires : goal.end_job-requires
+end_job-requires c = jobs_lent c.requires.2 c.args.job
+
+pub end_job-requires-2 : goal.end_job-requires-2
+end_job-requires-2 c = jobs_lent c.requires.2 c.args.job
+
+pub returns-then-has_closed-clause-answer : goal.returns-then-has_closed-clause-answer
+returns-then-has_closed-clause-answer c limits D stands =
+    let found : find (is_run c.args.job) c.args.self.now.running.items ≡ Some c.in-Some.run'.now = subst (λ (runs : List Run). find (is_run c.args.job) runs ≡ Some c.in-Some.run'.now) c.as_slice.ensures.value (sym (c.in-Some.ensures {u = tt})) in
+    finish_of_closed stands c.args.job c.args.outcome.now c.in-Some.run'.now found (sym c.has_closed.ensures ∙ c.if-has_closed.true)
+
+pub returns-then-has_closed-clause-stands : goal.returns-then-has_closed-clause-stands
+returns-then-has_closed-clause-stands c limits D stands = drop_stands stands c.args.job c.end_job.new.table c.end_job.new.running.items (drop_is c.args.here.now.space c.args.here.now.n limits D c.args.job c.args.outcome.now (returns-then-has_closed-clause-answer c limits D stands)) c.end_job.ensures.back c.end_job.ensures.ended
+
+pub returns-in-Err-clause-answer : goal.returns-in-Err-clause-answer
+returns-in-Err-clause-answer c limits D stands =
+    let found : find (is_run c.args.job) c.args.self.now.running.items ≡ Some c.in-Some.run'.now = subst (λ (runs : List Run). find (is_run c.args.job) runs ≡ Some c.in-Some.run'.now) c.as_slice.ensures.value (sym (c.in-Some.ensures {u = tt})) in
+    let still : has_closed c.args.self.now.sessions.items c.in-Some.run'.now.message.from ≡ false = sym c.has_closed.ensures ∙ c.if-has_closed.false in
+    finish_of_open stands c.args.job c.args.outcome.now c.in-Some.run'.now found still
+    ∙ ap (λ refusal. unless refusal answers.Finished) (ap (reply_refusal c.args.here.now.space c.in-Some.run'.now.message.from (state_of c.args.self.now)) (sym c.value_of-value.ensures) ∙ (c.in-Err.ensures {u = tt}))
+
+pub unreachable-requires-in-Err-Fault : goal.unreachable-requires-in-Err-Fault
+unreachable-requires-in-Err-Fault c =
+    let found : find (is_run c.args.job) c.args.self.now.running.items ≡ Some c.in-Some.run'.now = subst (λ (runs : List Run). find (is_run c.args.job) runs ≡ Some c.in-Some.run'.now) c.as_slice.ensures.value (sym (c.in-Some.ensures {u = tt})) in
+    let sound = run_sound c.requires.2 c.args.job c.args.outcome.now c.in-Some.run'.now found in
+    let judged = reply_judged c.args.here.now.space c.in-Some.run'.now.message.from (state_of c.args.self.now) c.value_of-value.result.now (c.in_default-refuse_reply.ensures {u = tt}) in
+    let number = runs_number c.in-Some.run'.now.message.item c.in-Call.call c.in-Call.target c.in-Call.method c.in-Call.value sound.0.number c.in-Call.is in
+    let low : nat_le c.status_of.result 2 ≡ true = ap (λ (k : ℕ). nat_le k 2) c.status_of.ensures ∙ limited_status c.args.outcome.now in
+    reply_spelled c.args.here.now.space (state_of c.args.self.now) c.in-Call.call c.status_of.result c.value_of-value.result.now c.in-Err-Fault.field-0-0 number low judged.0
+    (subst (λ e. Fails e (bytes_of (items.Reply c.in-Call.call c.status_of.result c.value_of-value.result.now))) c.in-Err-Fault.field-0-is (c.in-Err-Fault.ensures {u = tt}).exact)
+
+pub returns-in-Err-OutOfMemory-clause-answer : goal.returns-in-Err-OutOfMemory-clause-answer
+returns-in-Err-OutOfMemory-clause-answer c limits D stands =
+    let found : find (is_run c.args.job) c.args.self.now.running.items ≡ Some c.in-Some.run'.now = subst (λ (runs : List Run). find (is_run c.args.job) runs ≡ Some c.in-Some.run'.now) c.as_slice.ensures.value (sym (c.in-Some.ensures {u = tt})) in
+    let still : has_closed c.args.self.now.sessions.items c.in-Some.run'.now.message.from ≡ false = sym c.has_closed.ensures ∙ c.if-has_closed.false in
+    subst IsOk (sym (finish_wants stands c.args.job c.args.outcome.now c.in-Some.run'.now found still c.value_of-value.result.now c.value_of-value.ensures (c.in_default-refuse_reply.ensures {u = tt}))) refl
+
+pub returns-in_default-counted_refs-clause-answer : goal.returns-in_default-counted_refs-clause-answer
+returns-in_default-counted_refs-clause-answer c limits D stands =
+    let found : find (is_run c.args.job) c.args.self.now.running.items ≡ Some c.in-Some.run'.now = subst (λ (runs : List Run). find (is_run c.args.job) runs ≡ Some c.in-Some.run'.now) c.as_slice.ensures.value (sym (c.in-Some.ensures {u = tt})) in
+    let still : has_closed c.args.self.now.sessions.items c.in-Some.run'.now.message.from ≡ false = sym c.has_closed.ensures ∙ c.if-has_closed.false in
+    subst IsOk (sym (finish_wants stands c.args.job c.args.outcome.now c.in-Some.run'.now found still c.value_of-value.result.now c.value_of-value.ensures (c.in_default-refuse_reply.ensures {u = tt}))) refl
+
+pub returns-in_default-hand-clause-answer : goal.returns-in_default-hand-clause-answer
+returns-in_default-hand-clause-answer c limits D stands =
+    let found : find (is_run c.args.job) c.args.self.now.running.items ≡ Some c.in-Some.run'.now = subst (λ (runs : List Run). find (is_run c.args.job) runs ≡ Some c.in-Some.run'.now) c.as_slice.ensures.value (sym (c.in-Some.ensures {u = tt})) in
+    let still : has_closed c.args.self.now.sessions.items c.in-Some.run'.now.message.from ≡ false = sym c.has_closed.ensures ∙ c.if-has_closed.false in
+    subst IsOk (sym (finish_wants stands c.args.job c.args.outcome.now c.in-Some.run'.now found still c.value_of-value.result.now c.value_of-value.ensures (c.in_default-refuse_reply.ensures {u = tt}))) refl
+
+pub returns-clause-answer : goal.returns-clause-answer
+returns-clause-answer c limits D stands =
+    let found : find (is_run c.args.job) c.args.self.now.running.items ≡ Some c.in-Some.run'.now = subst (λ (runs : List Run). find (is_run c.args.job) runs ≡ Some c.in-Some.run'.now) c.as_slice.ensures.value (sym (c.in-Some.ensures {u = tt})) in
+    let still : has_closed c.args.self.now.sessions.items c.in-Some.run'.now.message.from ≡ false = sym c.has_closed.ensures ∙ c.if-has_closed.false in
+    finish_wants stands c.args.job c.args.outcome.now c.in-Some.run'.now found still c.value_of-value.result.now c.value_of-value.ensures (c.in_default-refuse_reply.ensures {u = tt})
+
+pub index_mut-session-requires : goal.index_mut-session-requires
+index_mut-session-requires c =
+    let found : find (is_run c.args.job) c.args.self.now.running.items ≡ Some c.in-Some.run'.now = subst (λ (runs : List Run). find (is_run c.args.job) runs ≡ Some c.in-Some.run'.now) c.as_slice.ensures.value (sym (c.in-Some.ensures {u = tt})) in
+    let sound = run_sound c.requires.2 c.args.job c.args.outcome.now c.in-Some.run'.now found in
+    let range = peer_range c.args.here.now.space c.args.here.now.n c.in-Some.run'.now.message.from sound.0.peer in
+    let each = c.requires.2.ends.each in
+    let client = c.get.ensures.value in
+    omega (arith, range.0, range.1, each, client)
+
+pub hand-requires-clause-next : goal.hand-requires-clause-next
+hand-requires-clause-next c =
+    let found : find (is_run c.args.job) c.args.self.now.running.items ≡ Some c.in-Some.run'.now = subst (λ (runs : List Run). find (is_run c.args.job) runs ≡ Some c.in-Some.run'.now) c.as_slice.ensures.value (sym (c.in-Some.ensures {u = tt})) in
+    let sound = run_sound c.requires.2 c.args.job c.args.outcome.now c.in-Some.run'.now found in
+    let judged = reply_judged c.args.here.now.space c.in-Some.run'.now.message.from (state_of c.args.self.now) c.value_of-value.result.now (c.in_default-refuse_reply.ensures {u = tt}) in
+    let is : c.index_mut-session.result.now ≡ get_or c.args.self.now.sessions.items (c.in-Some.run'.now.message.from - 1) c.index_mut-session.result.now = subst (λ k. c.index_mut-session.result.now ≡ get_or c.args.self.now.sessions.items (k - 1) c.index_mut-session.result.now) c.get.ensures.value c.index_mut-session.ensures.value in
+    let there = end_there c.args.here.now.space c.args.here.now.n c.requires.0 c.args.self.now.sessions.items (history_of c.args.here.now.space c.args.here.now.n c.requires.1) c.in-Some.run'.now.message.from c.index_mut-session.result.now c.requires.2.ends sound.0.peer is in
+    next_free c.in-Some.run'.now.message.from Limited (state_of c.args.self.now) c.index_mut-session.result.now there.0 there.1 judged.1
+
+pub hand-requires-clause-new : goal.hand-requires-clause-new
+hand-requires-clause-new c =
+    let found : find (is_run c.args.job) c.args.self.now.running.items ≡ Some c.in-Some.run'.now = subst (λ (runs : List Run). find (is_run c.args.job) runs ≡ Some c.in-Some.run'.now) c.as_slice.ensures.value (sym (c.in-Some.ensures {u = tt})) in
+    let sound = run_sound c.requires.2 c.args.job c.args.outcome.now c.in-Some.run'.now found in
+    let is : c.index_mut-session.result.now ≡ get_or c.args.self.now.sessions.items (c.in-Some.run'.now.message.from - 1) c.index_mut-session.result.now = subst (λ k. c.index_mut-session.result.now ≡ get_or c.args.self.now.sessions.items (k - 1) c.index_mut-session.result.now) c.get.ensures.value c.index_mut-session.ensures.value in
+    let there = end_there c.args.here.now.space c.args.here.now.n c.requires.0 c.args.self.now.sessions.items (history_of c.args.here.now.space c.args.here.now.n c.requires.1) c.in-Some.run'.now.message.from c.index_mut-session.result.now c.requires.2.ends sound.0.peer is in
+    next_unpinned c.in-Some.run'.now.message.from (c.index_mut-session.result.now.end.handed + 1) c.requires.2 (ap (λ (end : End). end.handed + 1) there.2)
+
+pub returns-in_default-hand-clause-err : goal.returns-in_default-hand-clause-err
+returns-in_default-hand-clause-err c limits D stands =
+    let found : find (is_run c.args.job) c.args.self.now.running.items ≡ Some c.in-Some.run'.now = subst (λ (runs : List Run). find (is_run c.args.job) runs ≡ Some c.in-Some.run'.now) c.as_slice.ensures.value (sym (c.in-Some.ensures {u = tt})) in
+    let sound = run_sound c.requires.2 c.args.job c.args.outcome.now c.in-Some.run'.now found in
+    let is : c.index_mut-session.result.now ≡ get_or c.args.self.now.sessions.items (c.in-Some.run'.now.message.from - 1) c.index_mut-session.result.now = subst (λ k. c.index_mut-session.result.now ≡ get_or c.args.self.now.sessions.items (k - 1) c.index_mut-session.result.now) c.get.ensures.value c.index_mut-session.ensures.value in
+    let same = (c.in_default-hand.ensures {u = tt}).err in
+    subst (λ (k : ℕ). Stands c.args.here.now.space c.args.here.now.n limits (record {
+      sessions = set c.args.self.now.sessions.items (k - 1) c.hand.new.session;
+      table = c.args.self.now.table;
+      dirty = c.args.self.now.dirty;
+      pins = c.hand.new.pins;
+      work = record { waiting = c.args.self.now.waiting.items; ready = c.args.self.now.ready.items; running = c.args.self.now.running.items; replies = c.args.self.now.replies.items; calls = c.args.self.now.calls.items };
+      calls = c.args.self.now.calls_made;
+      jobs = c.args.self.now.jobs_made;
+    }) D) (sym c.get.ensures.value)
+    (stands_unsent stands c.in-Some.run'.now.message.from c.index_mut-session.result.now c.hand.new.session c.hand.new.pins sound.0.peer is same.0 same.1)
+
+pub returns-clause-stands : goal.returns-clause-stands
+returns-clause-stands c limits D stands =
+    let found : find (is_run c.args.job) c.args.self.now.running.items ≡ Some c.in-Some.run'.now = subst (λ (runs : List Run). find (is_run c.args.job) runs ≡ Some c.in-Some.run'.now) c.as_slice.ensures.value (sym (c.in-Some.ensures {u = tt})) in
+    let still : has_closed c.args.self.now.sessions.items c.in-Some.run'.now.message.from ≡ false = sym c.has_closed.ensures ∙ c.if-has_closed.false in
+    let is : c.index_mut-session.result.now ≡ get_or c.args.self.now.sessions.items (c.in-Some.run'.now.message.from - 1) c.index_mut-session.result.now = subst (λ k. c.index_mut-session.result.now ≡ get_or c.args.self.now.sessions.items (k - 1) c.index_mut-session.result.now) c.get.ensures.value c.index_mut-session.ensures.value in
+    let sent = c.in-Ok-hand.ensures {u = tt} in
+    subst (λ (k : ℕ). Stands c.args.here.now.space c.args.here.now.n limits (record {
+      sessions = set c.args.self.now.sessions.items (k - 1) c.hand.new.session;
+      table = c.end_job-2.new.table;
+      dirty = c.args.self.now.dirty;
+      pins = c.hand.new.pins;
+      work = record { waiting = c.args.self.now.waiting.items; ready = c.args.self.now.ready.items; running = c.end_job-2.new.running.items; replies = c.args.self.now.replies.items; calls = c.args.self.now.calls.items };
+      calls = c.args.self.now.calls_made;
+      jobs = c.args.self.now.jobs_made;
+    }) (did.Finish c.args.job c.args.outcome.now ∷ D)) (sym c.get.ensures.value)
+    (finish_stands stands c.args.job c.args.outcome.now (finish_is c.args.here.now.space c.args.here.now.n limits D c.args.job c.args.outcome.now (returns-clause-answer c limits D stands)) c.in-Some.run'.now found still c.in-Call.call c.in-Call.target c.in-Call.method c.in-Call.value c.in-Call.is
+    c.index_mut-session.result.now c.hand.new.session c.hand.new.pins is
+    c.in-Ok.payload.items c.status_of.result c.in-Ok-hand.field-0 c.value_of-value.result.now c.in-Ok-counted_refs.reps.items c.end_job-2.new.table c.end_job-2.new.running.items
+    c.status_of.ensures c.value_of-value.ensures (c.in-Ok.ensures {u = tt}).exact sent.number
+    (λ before. sent.answer c.args.here.now.space c.in-Some.run'.now.message.from limits (calls_at c.in-Some.run'.now.message.from (history_of c.args.here.now.space c.args.here.now.n D)) before)
+    (c.in-Ok-counted_refs.ensures {u = tt}) (subst (λ (reps : List WireRep). AddsPins c.args.self.now.pins.bundles c.hand.new.pins.bundles c.in-Some.run'.now.message.from (c.index_mut-session.result.now.end.handed + 1) reps) c.as_slice-2.ensures.value sent.pins)
+    c.end_job-2.ensures.back c.end_job-2.ensures.ended)

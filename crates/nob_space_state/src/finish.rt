@@ -1,0 +1,229 @@
+//! The event Finish, and how what a message has lent is given back.
+
+ghost use Rattle.std.specs.Prelude.{◌≡◌, ℕ, ◌-◌, ◌<◌, ◌≤◌, List, [], ◌∷◌, Some, None, Ok, Err, filter, flat_map, find, not, option_map, OnErr, IfOk, IfSome, MatchOption, MatchResult};
+ghost use Rattle.nob_ids.specs.declared.limits.Limits.{Limits as LimitsOf};
+ghost use Rattle.nob_ids.specs.declared.wire_rep.WireRep.{WireRep as WireRepOf};
+ghost use Rattle.nob_model_types.specs.declared.event.Outcome.{Outcome as OutcomeOf};
+ghost use Rattle.nob_model_words.specs.declared.deed.Deed.{Deed};
+ghost use Rattle.nob_model_work.specs.Gifts as words;
+ghost use Rattle.nob_pickle.specs.declared.value.Value.TheVariants as values;
+ghost use Rattle.nob_model_work.specs.Work.{is_run};
+ghost use Rattle.nob_model_history.specs.Histories.{history_of};
+ghost use Rattle.nob_model_history.specs.declared.history.History.{History};
+ghost use Rattle.nob_model_history.specs.Holds.{times, copies_lent, target_lent, loans_of, is_lent};
+ghost use Rattle.nob_model.specs.Right as right;
+ghost use Rattle.nob_table.specs.Table.{standing};
+ghost use Rattle.nob_space_state.specs.Parts.{state_of};
+ghost use Rattle.nob_space_state.specs.Sending.{reply_refusal, finish_answer, finish_deed};
+ghost use Rattle.nob_space_state.specs.Returns.{HasLent, GivesBack};
+ghost use Rattle.nob_space_state.specs.Stands.{Stands, IsState, Keeps, Did, AnswersOrWants};
+
+use crate::error::SpaceError;
+use crate::parts::Parts;
+use crate::sending::{counted_refs, hand};
+use nob_ids::{CallNo, JobNo, SpaceId, WireRep};
+use nob_item::{Item, ItemError, encode_reply};
+use nob_model::{Here, Kind, Loan, Message, Outcome, RefCopy, Refusal, Run};
+use nob_pickle::Value;
+use nob_table::{ObjectTable, Part};
+use std::alloc::Global;
+
+/// What became of the reply to a job that was ended.
+#[derive(Clone, Copy, Debug, PartialEq, Eq)]
+pub enum ReplyFate {
+    /// It is handed on to the session with the client.
+    HandedOn,
+    /// It is dropped: the session with the client has closed.
+    Dropped,
+}
+
+// Gives back one loan of a reference.
+fn give_back(table: &mut ObjectTable, rep: WireRep)
+    requires { 0 < (standing table.old rep).counts.lent }
+    ensures { GivesBack table.old table.new (rep ∷ []) }
+{
+    match table.release(rep, Part::Lent) {
+        Ok(()) => {}
+        Err(_) => unreachable!(),
+    }
+}
+
+// Whether a loan is made.
+fn is_lent(loan: Loan) -> bool
+    ensures { result ≡ is_lent loan }
+{
+    match loan {
+        Loan::Lent => true,
+        Loan::Due | Loan::Never => false,
+    }
+}
+
+// Gives back what these copies have lent.
+fn give_back_copies(table: &mut ObjectTable, copies: &[RefCopy])
+    requires { HasLent table.old (copies_lent copies.now) }
+    ensures { GivesBack table.old table.new (copies_lent copies.now) }
+{
+    for copy in copies {
+        if is_lent(copy.loan) {
+            give_back(table, copy.rep);
+        }
+    }
+}
+
+// Gives back the target that a Call has lent.
+fn give_back_target(table: &mut ObjectTable, me: SpaceId, item: &Item)
+    requires { HasLent table.old (target_lent me item.now) }
+    ensures { GivesBack table.old table.new (target_lent me item.now) }
+{
+    let Item::Call { target, .. } = item else {
+        return;
+    };
+    if *target == 0 {
+        return;
+    }
+    give_back(
+        table,
+        WireRep {
+            owner: me,
+            index: *target,
+        },
+    );
+}
+
+// Gives back what a message has lent: the target of a Call, and its copies.
+pub(crate) fn give_back_message(table: &mut ObjectTable, me: SpaceId, message: &Message)
+    requires { HasLent table.old (loans_of me message.now) }
+    ensures { GivesBack table.old table.new (loans_of me message.now) }
+{
+    give_back_target(table, me, &message.item);
+    give_back_copies(table, message.copies.as_slice());
+}
+
+// Whether a job has this number.
+fn is_run(job: JobNo, run: &Run) -> bool
+    ensures { result ≡ is_run job run.now }
+{
+    run.job == job
+}
+
+// Gives back what the jobs of this number have lent.
+fn give_back_job(table: &mut ObjectTable, me: SpaceId, job: JobNo, runs: &[Run])
+    requires { HasLent table.old (flat_map (λ run. loans_of me run.message) (filter (is_run job) runs.now)) }
+    ensures { GivesBack table.old table.new (flat_map (λ run. loans_of me run.message) (filter (is_run job) runs.now)) }
+{
+    for run in runs {
+        if is_run(job, run) {
+            give_back_message(table, me, &run.message);
+        }
+    }
+}
+
+// Ends the jobs of this number: what they have lent is given back.
+fn end_job(table: &mut ObjectTable, running: &mut Vec<Run>, me: SpaceId, job: JobNo)
+    requires { HasLent table.old (flat_map (λ run. loans_of me run.message) (filter (is_run job) running.old.items)) }
+    ensures back { GivesBack table.old table.new (flat_map (λ run. loans_of me run.message) (filter (is_run job) running.old.items)) }
+    ensures ended { running.new.items ≡ filter (λ run. not (is_run job run)) running.old.items }
+{
+    give_back_job(table, me, job, running.as_slice());
+    running.retain(|run| !is_run(job, run));
+}
+
+// The job that runs under this number.
+fn find_run(job: JobNo, runs: &[Run]) -> Option<&Run>
+    ensures { option_map (λ run. run.now) result ≡ find (is_run job) runs.now }
+{
+    runs.iter().find(|run| is_run(job, run))
+}
+
+// The status of an outcome.
+fn status_of(outcome: &Outcome) -> u8
+    ensures { result ≡ words.status_of outcome.now }
+{
+    match outcome {
+        Outcome::Answer(_) => 0,
+        Outcome::Fault(_) => 1,
+        Outcome::NoMethod => 2,
+    }
+}
+
+// The value of an outcome: unit where there is no such method.
+fn value_of<'a>(outcome: &'a Outcome, unit: &'a Value) -> &'a Value
+    requires { unit.now ≡ values.Unit }
+    ensures { result.now ≡ words.value_of outcome.now }
+{
+    match outcome {
+        Outcome::Answer(value) | Outcome::Fault(value) => value,
+        Outcome::NoMethod => unit,
+    }
+}
+
+impl Parts {
+    // Why the reply to a client may not be sent. It takes no memory.
+    fn refuse_reply(&self, me: SpaceId, client: SpaceId, value: &Value) -> Result<(), Refusal>
+        ensures { MatchResult result (λ _. reply_refusal me client (state_of self.now) value.now ≡ None) (λ refusal. reply_refusal me client (state_of self.now) value.now ≡ Some refusal) }
+    {
+        if let Err(refusal) = self.refuse_value(me, value) {
+            return Err(refusal);
+        }
+        if let Err(refusal) = self.refuse_send(client, Kind::Limited) {
+            return Err(refusal);
+        }
+        Ok(())
+    }
+
+    /// Finish: a job that runs is ended. Its outcome goes to its client as a reply, whose references are pinned until
+    /// the client has settled them; what its call had lent is given back. Where the session with the client has
+    /// closed the reply is dropped, whatever the outcome. Linear in the value and the running jobs.
+    pub fn finish(
+        &mut self,
+        alloc: Global,
+        here: &Here,
+        job: JobNo,
+        outcome: &Outcome,
+    ) -> Result<ReplyFate, SpaceError>
+        requires { IsState here.now.space here.now.n (state_of self.old) }
+        ensures answer { (limits : LimitsOf) (D : List Deed) → Stands here.now.space here.now.n limits (state_of self.old) D → AnswersOrWants finish_answer result (right.right_finish here.now.space job outcome.now (history_of here.now.space here.now.n D)) }
+        ensures stands { IfOk result (λ fate. Did here.now.space here.now.n (state_of self.old) (state_of self.new) (finish_deed job outcome.now fate)) }
+        ensures err { OnErr result (Keeps here.now.space here.now.n (state_of self.old) (state_of self.new)) }
+    {
+        let Some(run) = find_run(job, self.running.as_slice()) else {
+            return Err(SpaceError::Refused(Refusal::NoJob));
+        };
+        let client = run.message.from;
+        let call = match &run.message.item {
+            Item::Call { call, .. } => *call,
+            _ => unreachable!(),
+        };
+        if self.has_closed(client) {
+            end_job(&mut self.table, &mut self.running, here.space, job);
+            return Ok(ReplyFate::Dropped);
+        }
+        let unit = Value::Unit;
+        let value = value_of(outcome, &unit);
+        if let Err(refusal) = self.refuse_reply(here.space, client, value) {
+            return Err(SpaceError::Refused(refusal));
+        }
+        let payload = match encode_reply(alloc, call, status_of(outcome), value) {
+            Ok(payload) => payload,
+            Err(ItemError::Fault(_)) => unreachable!(),
+            Err(ItemError::OutOfMemory) => return Err(SpaceError::OutOfMemory),
+        };
+        let Ok(reps) = counted_refs(alloc, value) else {
+            return Err(SpaceError::OutOfMemory);
+        };
+        let session = &mut self.sessions[client.get() as usize - 1];
+        let Ok(_) = hand(
+            alloc,
+            session,
+            &mut self.pins,
+            client,
+            payload,
+            Kind::Limited,
+            reps.as_slice(),
+        ) else {
+            return Err(SpaceError::OutOfMemory);
+        };
+        end_job(&mut self.table, &mut self.running, here.space, job);
+        Ok(ReplyFate::HandedOn)
+    }
+}
