@@ -1,6 +1,6 @@
 //! Laws over the definitions: each is the contract of a function that does nothing.
 
-ghost use Rattle.nob_model.specs.Laws.{DeedsLaw, EntriesLaw, TurnLaw, SettledLaw, TurnsLaw, ObjectsLaw, ActLaw, SendLaw, SettleLaw, CleanLaw, ClaimLaw, WithdrawLaw, LeastLaw, ReplyLaw};
+ghost use Rattle.nob_model.specs.Laws.{DeedsLaw, EntriesLaw, TurnLaw, SettledLaw, TurnsLaw, ObjectsLaw, HoldsLaw, ActLaw, SendLaw, SettleLaw, CleanLaw, ClaimLaw, WithdrawLaw, LeastLaw, ReplyLaw};
 
 /// What a list of right entries did is a list of right deeds, and each list of right deeds is what some right entries
 /// did.
@@ -17,6 +17,12 @@ pub fn premises()
     ensures settled { SettledLaw }
     ensures turns { TurnsLaw }
     ensures objects { ObjectsLaw }
+{}
+
+/// After a list of right deeds the holds of a reference, which are defined for every list as what came into the hand or
+/// is lent, less what was released, are what is in the hand and what is lent.
+pub fn holds()
+    ensures { HoldsLaw }
 {}
 
 /// What a space could do next is what the right answer doesn't refuse, limits and free numbers aside: Act, Transmit
