@@ -9,3 +9,4 @@ pub mod Listed
 pub mod Surrogates
 pub mod Asking
 pub mod Unasked
+pub mod Inbox
