@@ -21,9 +21,10 @@ use Rattle.nob_model_words.specs.declared.deed.Cause.{Cause}
 use Rattle.nob_model_words.specs.declared.deed.Cause.TheVariants as causes
 use Rattle.nob_model_words.specs.Sessions.{is_peer, closed, payload_at}
 use Rattle.nob_model_words.specs.Objects.{exports, is_exported, is_withdrawn, is_live}
+use Rattle.nob_model_work.specs.Work.{work}
 use Rattle.nob_model_history.specs.Histories.{history_of}
 use Rattle.nob_model_history.specs.Ends.{calls_at}
-use Rattle.nob_model_history.specs.Holds.{times, gains, releases, hand}
+use Rattle.nob_model_history.specs.Holds.{times, gains, releases, hand, lent_in}
 use Rattle.nob_model_history.specs.Premises.{ObjectsInTurn}
 use Rattle.nob_model_history.proofs.Arriving.{payloads_are}
 use Rattle.nob_model_history.proofs.Dirtying.{same_flip, same_self}
@@ -31,6 +32,7 @@ use Rattle.nob_model_history.proofs.Living.{exported_are}
 use Rattle.nob_model_history.proofs.Turning.{same_ref}
 use Rattle.nob_model.specs.Right.{right_after}
 use Rattle.nob_model.specs.Lists.{IsRightDeed, AreRightDeeds}
+use Rattle.nob_model.specs.Laws.{HoldsLaw}
 use Rattle.nob_model.proofs.Doing.{was_answered}
 use Rattle.nob_model.proofs.Accepted.{release_tells, fault_tells, arrive_end_tells, tick_end_tells, close_tells}
 use Rattle.nob_model.proofs.Premises.{in_turn, objects_in_turn}
@@ -114,6 +116,13 @@ no_more_released s n limits rep (deed ∷ D) right = no_more_released s n limits
 -- no counted reference was released more often than it came into the hand
 pub released : (s n : ℕ) (limits : Limits) (D : List Deed) → AreRightDeeds s n limits D → (rep : WireRep) → is_counted rep ≡ true → times rep (releases D) ≤ times rep (gains D)
 released s n limits D right rep counted = no_more_released s n limits rep D right
+
+less_more : (gained lent gone : ℕ) → gone ≤ gained → (gained + lent) - gone ≡ (gained - gone) + lent
+less_more gained lent gone most = omega (arith, most)
+
+-- the holds of a reference are those in the hand and those that are lent
+pub holds_law : HoldsLaw
+holds_law s n limits D right rep = less_more (times rep (gains D)) (times rep (lent_in s (work s n D))) (times rep (releases D)) (no_more_released s n limits rep D right)
 
 -- ---- sessions
 

@@ -1,6 +1,7 @@
 -- The laws of right lists, and of what a space could do next.
-use Rattle.std.specs.Prelude.{◌≡◌, ◌≢◌, ◌≤◌, ◌↔◌, ℕ, Bool, true, false, List, MatchOption, Result, Ok, Err}
+use Rattle.std.specs.Prelude.{◌+◌, ◌≡◌, ◌≢◌, ◌≤◌, ◌↔◌, ℕ, Bool, true, false, List, MatchOption, Result, Ok, Err}
 use Rattle.nob_ids.specs.declared.limits.Limits.{Limits}
+use Rattle.nob_ids.specs.declared.wire_rep.WireRep.{WireRep}
 use Rattle.nob_model_types.specs.declared.answer.Answer.{Answer}
 use Rattle.nob_model_types.specs.declared.answer.Answer.TheVariants as answers
 use Rattle.nob_model_types.specs.declared.refusal.Refusal.{Refusal}
@@ -9,7 +10,9 @@ use Rattle.nob_model_types.specs.declared.entry.Entry.{Entry}
 use Rattle.nob_model_words.specs.declared.deed.Deed.{Deed}
 use Rattle.nob_model_words.specs.Deeds.{deeds}
 use Rattle.nob_model_history.specs.declared.history.History.{History}
+use Rattle.nob_model_work.specs.Work.{work}
 use Rattle.nob_model_history.specs.Histories.{history_of}
+use Rattle.nob_model_history.specs.Holds.{times, hand, lent_in, holds}
 use Rattle.nob_model_history.specs.Premises.{InTurn, SettlesSent, TookTurns, ObjectsInTurn}
 use Rattle.nob_model_history.specs.Transit.{is_some_of}
 use Rattle.nob_model.specs.Right.{right_act, right_frames, right_settle, right_clean, right_claim, right_withdraw, right_take_reply}
@@ -39,6 +42,10 @@ TurnsLaw = (s n : ℕ) (limits : Limits) (D : List Deed) → AreRightDeeds s n l
 -- in a list of right deeds objects were exported and withdrawn in turn
 abbrev pub ObjectsLaw : Type 0
 ObjectsLaw = (s n : ℕ) (limits : Limits) (D : List Deed) → AreRightDeeds s n limits D → ObjectsInTurn s D
+
+-- after a list of right deeds the holds of a reference are those in the hand and those that are lent
+abbrev pub HoldsLaw : Type 0
+HoldsLaw = (s n : ℕ) (limits : Limits) (D : List Deed) → AreRightDeeds s n limits D → (rep : WireRep) → holds s rep (history_of s n D) ≡ hand rep D + times rep (lent_in s (work s n D))
 
 -- whether a result is no refusal, limits and free numbers aside
 abbrev pub is_possible : Result Answer Refusal → Bool
