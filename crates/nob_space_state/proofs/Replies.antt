@@ -33,6 +33,7 @@ use Rattle.nob_model_history.specs.Holds.{times, hand, gains, releases, is_lent,
 use Rattle.nob_model.specs.Lists.{IsRightDeed}
 use Rattle.nob_model.specs.Right.{most_in_hand, is_handful, right_take_reply, take_of, answer_of_stage}
 use Rattle.nob_model.specs.Right as right
+use Rattle.nob_model.specs.Next.{is_not_ready, reply_ready}
 use Rattle.nob_model.specs.Sending.{refuse_if, unless}
 use Rattle.nob_model.proofs.Carrying.{Carries, all_carry, all_found}
 use Rattle.nob_model.proofs.Lending.{IsAllLent, all_lent}
@@ -370,3 +371,14 @@ reply_told k item replies call status value is =
     let told = reply_is k item replies in
     let same : call ≡ k = reply_call call k status told.0 value told.1 (sym is ∙ told.2) in
     is ∙ ap (λ j. items.Reply j status value) same
+
+-- whether a reply is ready, by the state
+pub ready_there : {s n : ℕ} {limits : Limits} {st : State} {D : List Deed} → Stands s n limits st D → (k : ℕ) → reply_ready k (history_of s n D) ≡ not (is_not_ready (take_answer k st))
+ready_there stands k = ap (λ answer. not (is_not_ready answer)) (take_right stands k)
+
+-- where a Reply is ready something is said of it
+pub ready_reply : (t : Table) (reps : List WireRep) (k : ℕ) (item : Item) → replies_to k item ≡ true → not (is_not_ready (answer_of_item t reps item)) ≡ true
+ready_reply t reps k item is =
+    let told = reply_is k item is in
+    subst (λ (i : Item). not (is_not_ready (answer_of_item t reps i)) ≡ true) (sym told.2)
+    (elim (is_overfull t reps) as (λ b. not (is_not_ready (unless (refuse_if b refusals.Limit) (answers.Replied told.0 told.1))) ≡ true) [ true ↦ refl | false ↦ refl ])

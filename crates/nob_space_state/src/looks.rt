@@ -1,6 +1,11 @@
 //! Looks at the state: sessions and references. None takes memory.
 
-ghost use Rattle.std.specs.Prelude.{◌≡◌, ◌==◌, not};
+ghost use Rattle.std.specs.Prelude.{◌≡◌, ℕ, ◌==◌, not, List};
+ghost use Rattle.nob_ids.specs.declared.limits.Limits.{Limits as LimitsOf};
+ghost use Rattle.nob_model_words.specs.declared.deed.Deed.{Deed};
+ghost use Rattle.nob_model_history.specs.Listing.{is_listed};
+ghost use Rattle.nob_space_state.specs.Parts.{state_of};
+ghost use Rattle.nob_space_state.specs.Stands.{Stands};
 ghost use Rattle.nob_table.specs.Standings as standings;
 ghost use Rattle.nob_table.specs.Table.{standing};
 ghost use Rattle.nob_space_state.specs.Looks.{has_closed, has_holds, names_none, is_cut, has_clients};
@@ -53,6 +58,14 @@ impl Parts {
         ensures { result ≡ has_clients self.now.dirty index }
     {
         !self.dirty.is_empty(index)
+    }
+
+    /// Whether a client is listed at an index: it was granted the object, and hasn't given it up. Linear in the
+    /// listings.
+    pub fn lists(&self, index: u64, client: SpaceId) -> bool
+        ensures { (s n : ℕ) (limits : LimitsOf) (D : List Deed) → Stands s n limits (state_of self.now) D → result ≡ is_listed s index client D }
+    {
+        self.dirty.lists(index, client)
     }
 
     /// Whether a reference is in transit from here. Linear in the pins.

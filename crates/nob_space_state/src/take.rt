@@ -10,6 +10,7 @@ ghost use Rattle.nob_model_history.specs.declared.history.History.{History};
 ghost use Rattle.nob_model_history.specs.Histories.{history_of};
 ghost use Rattle.nob_model_history.specs.Holds.{times as times_word};
 ghost use Rattle.nob_model.specs.Right as right;
+ghost use Rattle.nob_model.specs.Next.{reply_ready};
 ghost use Rattle.nob_space_state.specs.Parts.{state_of};
 ghost use Rattle.nob_space_state.specs.Stands.{Stands, IsState, TableShows, Keeps, Did, Answers};
 ghost use Rattle.nob_space_state.specs.Taking.{reps_of, is_full, is_reply, take_answer, answer_of, deed_of, CanTake, with_more, with_fewer};
@@ -70,6 +71,25 @@ impl Parts {
         ensures { result ≡ list_any (λ copy. is_full self.now.table (reps_of copies.now) copy.rep) copies.now }
     {
         copies.iter().any(|copy| self.is_full(&copy.rep, copies))
+    }
+
+    /// Whether TakeReply of a call would say anything but that the reply isn't ready: of a call that was never made, or
+    /// is taken, too. It takes no memory. Linear in the calls and the ready replies.
+    pub fn reply_ready(&self, call: CallNo) -> bool
+        ensures { (s n : ℕ) (limits : LimitsOf) (D : List Deed) → Stands s n limits (state_of self.now) D → result ≡ reply_ready call (history_of s n D) }
+    {
+        let Some(at) = self.call_at(call) else {
+            return true;
+        };
+        match self.reply_at(call) {
+            Some(_) => return true,
+            None => {}
+        }
+        match self.calls[at].stage {
+            Stage::Sent => false,
+            Stage::Answered => false,
+            Stage::Ended => true,
+        }
     }
 
     /// TakeReply of a call: its reply, whose references come into the hand, or that there will be none. It takes no
