@@ -17,10 +17,8 @@ use crate::parts::Parts;
 use nob_ids::{JobNo, SpaceId};
 use nob_item::Item;
 use nob_model::candidates::{is_running, target_of};
+use nob_model::right::LAST_NUMBER;
 use nob_model::{Here, Job, Message, Refusal, Run};
-
-// The greatest number of a job.
-const LAST_JOB: u64 = 1 << 48;
 
 impl Parts {
     // Whether no job that runs has the target of a message.
@@ -47,7 +45,7 @@ impl Parts {
         let Some(place) = self.first_free() else {
             return Err(SpaceError::Refused(Refusal::Nothing));
         };
-        if self.jobs_made >= LAST_JOB {
+        if self.jobs_made >= LAST_NUMBER {
             return Err(SpaceError::Refused(Refusal::Limit));
         }
         let message = &self.ready[place];

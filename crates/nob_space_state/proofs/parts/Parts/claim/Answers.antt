@@ -15,27 +15,27 @@ use Rattle.nob_space_state.proofs.parts.Parts.claim.Goals as goal
 pub returns-in_default-clause-answer : goal.returns-in_default-clause-answer
 returns-in_default-clause-answer c limits D stands = claim_right stands ∙ claim_none (state_of c.args.self.now) (no_place (is_free (state_of c.args.self.now).work) c.args.self.now.ready.items (sym (c.in_default.ensures {u = tt})))
 
-pub returns-then-self-ge-LAST_JOB-clause-answer : goal.returns-then-self-ge-LAST_JOB-clause-answer
-returns-then-self-ge-LAST_JOB-clause-answer c limits D stands =
+pub returns-then-self-ge-LAST_NUMBER-clause-answer : goal.returns-then-self-ge-LAST_NUMBER-clause-answer
+returns-then-self-ge-LAST_NUMBER-clause-answer c limits D stands =
     let place = sym (c.in-Some.ensures {u = tt}) in
     let there = place_first (is_free (state_of c.args.self.now).work) c.args.self.now.ready.items c.in-Some.place place in
-    claim_right stands ∙ claim_limit (state_of c.args.self.now) there.0 there.1 c.if-self-ge-LAST_JOB.true
+    claim_right stands ∙ claim_limit (state_of c.args.self.now) there.0 there.1 c.if-self-ge-LAST_NUMBER.true
 
 pub returns-in-Err-clause-answer : goal.returns-in-Err-clause-answer
 returns-in-Err-clause-answer c limits D stands =
     let there = at_place (is_free (state_of c.args.self.now).work) c.args.self.now.ready.items c.in-Some.place c.index-message.result.now (sym (c.in-Some.ensures {u = tt})) c.index-message.ensures in
-    subst (AnswersOrWants (λ (job : Job). answers.Job job) (Err c.in-Err.error)) (sym (claim_right stands ∙ claim_job (state_of c.args.self.now) c.index-message.result.now there.0 c.if-self-ge-LAST_JOB.false))
+    subst (AnswersOrWants (λ (job : Job). answers.Job job) (Err c.in-Err.error)) (sym (claim_right stands ∙ claim_job (state_of c.args.self.now) c.index-message.result.now there.0 c.if-self-ge-LAST_NUMBER.false))
     (subst (λ j. AnswersOrWants (λ (job : Job). answers.Job job) (Err c.in-Err.error) (job_of j c.index-message.result.now.from c.index-message.result.now.item)) c.new.ensures (c.in-Err.ensures {u = tt}))
 
 pub returns-then-is_err-clause-answer : goal.returns-then-is_err-clause-answer
 returns-then-is_err-clause-answer c limits D stands =
     let there = at_place (is_free (state_of c.args.self.now).work) c.args.self.now.ready.items c.in-Some.place c.index-message.result.now (sym (c.in-Some.ensures {u = tt})) c.index-message.ensures in
-    subst IsOk (sym (claim_right stands ∙ claim_job (state_of c.args.self.now) c.index-message.result.now there.0 c.if-self-ge-LAST_JOB.false ∙ ap (λ j. job_of j c.index-message.result.now.from c.index-message.result.now.item) (sym c.new.ensures) ∙ c.in-Ok.ensures {u = tt})) refl
+    subst IsOk (sym (claim_right stands ∙ claim_job (state_of c.args.self.now) c.index-message.result.now there.0 c.if-self-ge-LAST_NUMBER.false ∙ ap (λ j. job_of j c.index-message.result.now.from c.index-message.result.now.item) (sym c.new.ensures) ∙ c.in-Ok.ensures {u = tt})) refl
 
 pub returns-clause-answer : goal.returns-clause-answer
 returns-clause-answer c limits D stands =
     let there = at_place (is_free (state_of c.args.self.now).work) c.args.self.now.ready.items c.in-Some.place c.index-message.result.now (sym (c.in-Some.ensures {u = tt})) c.index-message.ensures in
-    claim_right stands ∙ claim_job (state_of c.args.self.now) c.index-message.result.now there.0 c.if-self-ge-LAST_JOB.false ∙ ap (λ j. job_of j c.index-message.result.now.from c.index-message.result.now.item) (sym c.new.ensures) ∙ c.in-Ok.ensures {u = tt}
+    claim_right stands ∙ claim_job (state_of c.args.self.now) c.index-message.result.now there.0 c.if-self-ge-LAST_NUMBER.false ∙ ap (λ j. job_of j c.index-message.result.now.from c.index-message.result.now.item) (sym c.new.ensures) ∙ c.in-Ok.ensures {u = tt}
 
 pub returns-clause-stands : goal.returns-clause-stands
 returns-clause-stands c limits D stands =
