@@ -1,0 +1,10 @@
+pub mod Doing
+pub mod Accepted
+pub mod Premises
+pub mod Orderly
+pub mod Possible
+pub mod Claiming
+pub mod Made
+pub mod Carrying
+pub mod Replying
+pub mod Lending

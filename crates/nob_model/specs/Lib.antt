@@ -17,4 +17,6 @@ pub mod Sending
 pub mod Acting
 pub mod Candidates
 pub mod Right
+pub mod Lists
 pub mod Next
+pub mod Laws

@@ -112,8 +112,8 @@ pub fn to_clean(
     first_idle(alloc, here, history)
 }
 
-// The index that an item calls.
-fn target_of(item: &Item) -> u64
+/// The index that an item calls: 0 where it is no Call.
+pub fn target_of(item: &Item) -> u64
     ensures { result ≡ words.target_of item.now }
 {
     match item {
@@ -122,8 +122,8 @@ fn target_of(item: &Item) -> u64
     }
 }
 
-// Whether one of these jobs has a target.
-fn is_running(target: u64, runs: &[Run]) -> bool
+/// Whether one of these jobs has a target. Linear in them.
+pub fn is_running(target: u64, runs: &[Run]) -> bool
     ensures { result ≡ list_any (λ run. words.target_of run.message.item == target) runs.now }
 {
     runs.iter()

@@ -5,6 +5,7 @@
 
 pub mod acting;
 pub mod candidates;
+pub mod laws;
 pub mod next;
 pub mod right;
 pub mod sending;

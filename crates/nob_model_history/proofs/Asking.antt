@@ -1,10 +1,10 @@
 -- The surrogates once a Call or a Reply was acted on: those that it asks for stand behind the others.
-use Rattle.std.proofs.Common.{◌≡◌, ℕ, ◌&&◌, ◌||◌, not, Bool, true, false, cond, List, [], ◌∷◌, ◌++◌, filter, Option, Some, None, refl, sym, ap, subst, ◌∙◌, append_assoc}
-use Rattle.std.specs.Prelude.{◌==◌, ⊤}
+use Rattle.std.proofs.Common.{◌≡◌, ℕ, ◌&&◌, ◌||◌, not, Bool, true, false, cond, List, [], ◌∷◌, ◌++◌, filter, Option, Some, refl, sym, ap, ◌∙◌, append_assoc}
+use Rattle.std.specs.Prelude.{⊤}
 use Rattle.std.specs.List.{AllByRecursion, list_any}
 use Rattle.std.proofs.lemmas.List.{append-nil}
 use Rattle.std.proofs.lemmas.List.Elements.{filter-append}
-use Rattle.std.proofs.lemmas.Bool.{and_parts, and_from, and_left, and_right, or_parts, or_from, or_left, or_right}
+use Rattle.std.proofs.lemmas.Bool.{and_parts, and_from, and_left, and_right, or_left, or_right}
 use Rattle.nob_ids.specs.Names.{is_same}
 use Rattle.nob_ids.specs.declared.wire_rep.WireRep.{WireRep}
 use Rattle.nob_item.specs.Kinds.{counted_in}
@@ -15,10 +15,10 @@ use Rattle.nob_model_words.specs.declared.turns.Turns.{Turns}
 use Rattle.nob_model_words.specs.Sessions.{closed, item_at}
 use Rattle.nob_model_words.specs.Turns.{turns, turns_after, is_standing, wants_dirty, with_dirty, carries}
 use Rattle.nob_model_work.specs.Work.{work}
-use Rattle.nob_model_work.specs.Gifts.{gifts, gifts_of_act, dirties_for, once}
+use Rattle.nob_model_work.specs.Gifts.{gifts_of_act, dirties_for, once}
 use Rattle.nob_model_history.specs.Histories.{history_of}
 use Rattle.nob_model_history.specs.Premises.{TookTurns}
-use Rattle.nob_model_history.specs.Transit.{dirties, once_last, by_last_dirty, surrogates}
+use Rattle.nob_model_history.specs.Transit.{dirties, once_last, surrogates}
 use Rattle.nob_model_history.proofs.Pinning.{filter_and, filter_same}
 use Rattle.nob_model_history.proofs.Dirtying.{dirties_more, message_asks, once_last_push, same_flip, same_self}
 use Rattle.nob_model_history.proofs.Turning.{same_ref, shapes, after_dirty, wanted_none}

@@ -8,3 +8,5 @@ pub mod Living
 pub mod Listed
 pub mod Surrogates
 pub mod Asking
+pub mod Unasked
+pub mod Inbox

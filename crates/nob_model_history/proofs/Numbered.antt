@@ -1,7 +1,7 @@
 -- The calls on an end hand on what was sent to its peer, in order, and nothing else.
-use Rattle.std.proofs.Common.{◌≡◌, ℕ, suc, ◌+◌, Bool, true, false, cond, List, [], ◌∷◌, ◌++◌, length, map, filter, Ok, refl, sym, ap, subst, ◌∙◌, append_assoc, arith}
+use Rattle.std.proofs.Common.{◌≡◌, ℕ, ◌+◌, Bool, true, false, cond, List, [], ◌∷◌, ◌++◌, length, map, filter, Ok, refl, sym, ap, ◌∙◌, append_assoc}
 use Rattle.std.specs.Prelude.{◌==◌}
-use Rattle.std.proofs.lemmas.List.{append-nil, length-append, length-map, map-append}
+use Rattle.std.proofs.lemmas.List.{append-nil, length-map, map-append}
 use Rattle.std.proofs.lemmas.List.Elements.{filter-append}
 use Rattle.nob_ids.specs.declared.reason.Reason.{Reason}
 use Rattle.nob_item.specs.declared.item.Item.{Item}
@@ -14,11 +14,11 @@ use Rattle.nob_model_words.specs.declared.deed.Cause.{Cause}
 use Rattle.nob_model_words.specs.declared.deed.Cause.TheVariants as causes
 use Rattle.nob_model_work.specs.declared.gifts.Gift.{Gift}
 use Rattle.nob_model_work.specs.Work.{work}
-use Rattle.nob_model_work.specs.Gifts.{gifts, all_gifts}
+use Rattle.nob_model_work.specs.Gifts.{gifts}
 use Rattle.nob_model_history.specs.declared.transit.SentItem.{SentItem}
 use Rattle.nob_model_history.specs.Histories.{history_of}
-use Rattle.nob_model_history.specs.Ends.{items_to, payload_of, kind_of, with_sends, own_calls, call_of_closing, calls_of, calls_at}
-use Rattle.nob_model_history.specs.Transit.{count_to, with_gifts, sent_of, sent}
+use Rattle.nob_model_history.specs.Ends.{items_to, payload_of, kind_of, with_sends, own_calls, call_of_closing, calls_at}
+use Rattle.nob_model_history.specs.Transit.{count_to, with_gifts, sent}
 
 -- ---- what is handed
 

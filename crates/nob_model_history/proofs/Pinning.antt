@@ -1,5 +1,5 @@
 -- The bundles of pins, by one deed more.
-use Rattle.std.proofs.Common.{◌≡◌, ℕ, zero, suc, ◌+◌, ◌≤◌, ◌<◌, ◌&&◌, ◌||◌, not, Bool, true, false, cond, List, [], ◌∷◌, ◌++◌, length, map, filter, Option, Some, None, refl, sym, ap, subst, ◌∙◌, append_assoc, arith}
+use Rattle.std.proofs.Common.{◌≡◌, ℕ, ◌+◌, ◌≤◌, ◌&&◌, ◌||◌, not, Bool, true, false, cond, List, [], ◌∷◌, ◌++◌, length, filter, Option, Some, refl, sym, ap, subst, ◌∙◌, arith}
 use Rattle.std.specs.Prelude.{◌==◌}
 use Rattle.std.specs.List.{AllByRecursion}
 use Rattle.std.proofs.lemmas.List.{append-nil, length-append}
@@ -19,9 +19,9 @@ use Rattle.nob_model_work.specs.Work.{work}
 use Rattle.nob_model_work.specs.Gifts.{gifts, gifts_of, gifts_of_act}
 use Rattle.nob_model_history.specs.declared.transit.SentItem.{SentItem}
 use Rattle.nob_model_history.specs.Histories.{history_of}
-use Rattle.nob_model_history.specs.Transit.{count_to, with_gifts, sent, is_pinned, is_settled, is_settle_of, is_some_of, bundles, has_bundle}
+use Rattle.nob_model_history.specs.Transit.{count_to, sent, is_pinned, is_settled, is_settle_of, is_some_of, bundles, has_bundle}
 use Rattle.nob_model_history.specs.Premises.{SettlesSent}
-use Rattle.nob_model_history.proofs.Sending.{new_items, sent_more, counted_sent, new_numbers, AreCounted}
+use Rattle.nob_model_history.proofs.Sending.{new_items, sent_more, counted_sent, new_numbers}
 
 -- ---- filters
 

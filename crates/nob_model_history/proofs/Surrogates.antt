@@ -1,10 +1,8 @@
 -- The surrogates on open sessions, by one deed more.
-use Rattle.std.proofs.Common.{◌≡◌, ℕ, ◌&&◌, ◌||◌, not, Bool, true, false, cond, List, [], ◌∷◌, ◌++◌, filter, Option, Some, None, refl, sym, ap, subst, ◌∙◌, append_assoc}
+use Rattle.std.proofs.Common.{◌≡◌, ℕ, ◌&&◌, ◌||◌, not, Bool, true, false, cond, List, [], ◌∷◌, ◌++◌, filter, refl, sym, ap, subst, ◌∙◌}
 use Rattle.std.specs.Prelude.{◌==◌}
-use Rattle.std.specs.List.{AllByRecursion, list_any}
 use Rattle.std.proofs.lemmas.List.{append-nil}
-use Rattle.std.proofs.lemmas.List.Elements.{filter-append}
-use Rattle.std.proofs.lemmas.Bool.{eqb-true, eqb-false, eq-eqb, ne_eqb, and_parts, and_left, and_right, or_from, both_ways, false_from_ne_true}
+use Rattle.std.proofs.lemmas.Bool.{and_left, and_right, or_from}
 use Rattle.nob_ids.specs.Names.{is_same}
 use Rattle.nob_ids.specs.declared.reason.Reason.{Reason}
 use Rattle.nob_ids.specs.declared.wire_rep.WireRep.{WireRep}
@@ -20,7 +18,7 @@ use Rattle.nob_model_work.specs.Gifts.{gifts, gifts_of}
 use Rattle.nob_model_history.specs.Histories.{history_of}
 use Rattle.nob_model_history.specs.Transit.{dirties, once_last, by_last_dirty, surrogates}
 use Rattle.nob_model_history.proofs.Pinning.{filter_and, filter_same}
-use Rattle.nob_model_history.proofs.Dirtying.{asked_in, dirties_more, once_last_push, same_flip}
+use Rattle.nob_model_history.proofs.Dirtying.{asked_in, dirties_more}
 use Rattle.nob_model_history.proofs.Turning.{same_ref, after_clean}
 
 -- whether a reference has a surrogate on a session that is open here

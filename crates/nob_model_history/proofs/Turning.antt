@@ -1,6 +1,6 @@
 -- Client and owner take turns: how a reference stands after each deed of a right list.
-use Rattle.std.proofs.Common.{◌≡◌, ℕ, ◌+◌, ◌&&◌, ◌||◌, not, Bool, true, false, cond, List, [], ◌∷◌, Option, Some, None, refl, sym, ap, subst, ◌∙◌, arith, ◌⊎◌, inl, inr}
-use Rattle.std.specs.Prelude.{◌==◌, ⊤}
+use Rattle.std.proofs.Common.{◌≡◌, ℕ, ◌+◌, ◌&&◌, Bool, true, false, cond, List, [], ◌∷◌, Option, Some, None, refl, sym, ap, subst, ◌∙◌, arith, ◌⊎◌, inl, inr}
+use Rattle.std.specs.Prelude.{◌==◌}
 use Rattle.std.proofs.lemmas.Bool.{eqb-true, eq-eqb, ne_eqb, and_parts, and_left, and_right, or_parts, both_ways, not-true}
 use Rattle.nob_ids.specs.Names.{is_same}
 use Rattle.nob_ids.specs.declared.wire_rep.WireRep.{WireRep}
@@ -121,7 +121,8 @@ same_ref a b same =
     let make : ℕ → ℕ → WireRep = λ owner index. record { owner = owner; index = index } in
     ap (λ (owner : ℕ). make owner a.index) (eqb-true a.owner b.owner parts.0) ∙ ap (λ (index : ℕ). make b.owner index) (eqb-true a.index b.index parts.1)
 
-named_ref : (rep : WireRep) (p index : ℕ) → names rep p index ≡ true → record { owner = p; index = index } ≡ rep
+-- a reference that is named by its owner and index
+pub named_ref : (rep : WireRep) (p index : ℕ) → names rep p index ≡ true → record { owner = p; index = index } ≡ rep
 named_ref rep p index named =
     let parts = and_parts (rep.owner == p) (rep.index == index) named in
     let make : ℕ → ℕ → WireRep = λ owner index. record { owner = owner; index = index } in

@@ -1,4 +1,4 @@
--- What holds of every list of right answers, as far as the laws of one deed more need it.
+-- What holds of every list of right answers, as far as the laws of one deed more need it: nob_model proves that it does.
 use Rattle.std.specs.Prelude.{◌≡◌, ◌≤◌, ⊤, ℕ, suc, ◌+◌, Bool, true, false, List, [], ◌∷◌, length, Option, Some, None}
 use Rattle.nob_frame.specs.Kinds.{is_data}
 use Rattle.nob_ids.specs.declared.wire_rep.WireRep.{WireRep}

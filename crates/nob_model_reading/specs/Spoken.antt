@@ -5,9 +5,9 @@ use Rattle.nob_model_text.specs.declared.unread.Unread.{Unread}
 use Rattle.nob_model_text.specs.Events.{IsSpoken, event_text}
 use Rattle.nob_model_text.specs.Reading.{Reads}
 
--- the text is the event's, whatever stands for a frame's bytes: so the event is no arrival
+-- the text is the event's, and a script can have it
 abbrev pub Speaks : List ℕ → Event → Type 0
-Speaks text event = (bytes : List ℕ) → text ≡ event_text bytes event
+Speaks text event = IsSpoken event × (text ≡ event_text [] event)
 
 -- where the text is this event's, and a script can have it, it is read, unless memory runs out
 abbrev pub ReadsSpoken : List ℕ → Result Event Unread → Event → Type 0

@@ -37,9 +37,9 @@ IsTold answers.Withdrawn = Unit {0}
 IsTold (answers.Frames frames) = ⊥
 IsTold (answers.Took count) = count < 2 ^ 64
 
--- the text is the answer's, whatever stands for a transmit's frames: so the answer is no transmit's
+-- the text is the answer's, and the answer has one of its own
 abbrev pub Tells : List ℕ → Answer → Type 0
-Tells text answer = (frames : List ℕ) → text ≡ answer_text frames answer
+Tells text answer = IsTold answer × (text ≡ answer_text [] answer)
 
 -- where the text is this answer's, and the answer has one of its own, it is read, unless memory runs out
 abbrev pub ReadsTold : List ℕ → Result Answer Unread → Answer → Type 0

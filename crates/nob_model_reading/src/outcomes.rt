@@ -1,6 +1,6 @@
 //! Texts to what a call and the end of a job are about.
 
-ghost use Rattle.std.specs.Prelude.{◌≡◌, ◌++◌, ◌∷◌, ◌<◌, ◌^◌, ℕ, List, IfOk, codes};
+ghost use Rattle.std.specs.Prelude.{◌≡◌, ◌++◌, ◌∷◌, ◌<◌, ◌^◌, ℕ, IfOk, codes};
 ghost use Rattle.std.specs.Fmt.{decimal};
 ghost use Rattle.nob_ids.specs.declared.wire_rep.WireRep.{WireRep as RepOf};
 ghost use Rattle.nob_pickle.specs.declared.value.Value.{Value as ValueOf};
@@ -8,6 +8,7 @@ ghost use Rattle.nob_model_types.specs.declared.event.Outcome.{Outcome as Outcom
 ghost use Rattle.nob_model_text.specs.Reading.{Reads};
 ghost use Rattle.nob_model_text.specs.Values as values;
 ghost use Rattle.nob_model_text.specs.Events as spec;
+ghost use Rattle.nob_model_reading.specs.Spoken.{Speaks};
 
 use crate::parts::after_space;
 use nob_ids::JobNo;
@@ -17,7 +18,7 @@ use std::alloc::Global;
 
 // The outcome that a text spells.
 pub fn whole_outcome(alloc: Global, text: &[u8]) -> Result<Outcome, Unread>
-    ensures found { IfOk result (λ outcome. text.now ≡ spec.outcome_text outcome) }
+    ensures found { IfOk result (λ outcome. spec.IsOutcome outcome × (text.now ≡ spec.outcome_text outcome)) }
     ensures only { (outcome : OutcomeOf) → spec.IsOutcome outcome → text.now ≡ spec.outcome_text outcome → Reads (λ o. o ≡ outcome) result }
 {
     match text {
@@ -34,7 +35,7 @@ pub fn whole_outcome(alloc: Global, text: &[u8]) -> Result<Outcome, Unread>
 
 // The call that a text spells behind its word.
 pub fn call_of(alloc: Global, text: &[u8]) -> Result<Event, Unread>
-    ensures found { IfOk result (λ event. (bytes : List ℕ) → codes "call " ++ text.now ≡ spec.event_text bytes event) }
+    ensures found { IfOk result (λ event. Speaks (codes "call " ++ text.now) event) }
     ensures only { (target : RepOf) (method : ℕ) (value : ValueOf) → spec.IsRep target → method < 2 ^ 16 → values.HasText value
         → text.now ≡ values.rep_text target ++ 32 ∷ (decimal method ++ 32 ∷ values.value_text value)
         → Reads (λ event. event ≡ Event.Call target method value) result }
@@ -57,7 +58,7 @@ pub fn call_of(alloc: Global, text: &[u8]) -> Result<Event, Unread>
 
 // The end of a job that a text spells behind its word.
 pub fn finish_of(alloc: Global, text: &[u8]) -> Result<Event, Unread>
-    ensures found { IfOk result (λ event. (bytes : List ℕ) → codes "finish " ++ text.now ≡ spec.event_text bytes event) }
+    ensures found { IfOk result (λ event. Speaks (codes "finish " ++ text.now) event) }
     ensures only { (job : ℕ) (outcome : OutcomeOf) → job < 2 ^ 64 → spec.IsOutcome outcome → text.now ≡ decimal job ++ 32 ∷ spec.outcome_text outcome
         → Reads (λ event. event ≡ Event.Finish job outcome) result }
 {

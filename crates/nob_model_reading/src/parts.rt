@@ -15,7 +15,7 @@ use std::alloc::Global;
 
 /// The number that a text spells.
 pub fn whole_number(alloc: Global, text: &[u8]) -> Result<u64, Unread>
-    ensures found { IfOk result (λ n. text.now ≡ decimal n) }
+    ensures found { IfOk result (λ n. (n < 2 ^ 64) × (text.now ≡ decimal n)) }
     ensures only { (n : ℕ) → n < 2 ^ 64 → text.now ≡ decimal n → Reads (λ m. m ≡ n) result }
 {
     match number_of(alloc, text)? {
@@ -26,7 +26,7 @@ pub fn whole_number(alloc: Global, text: &[u8]) -> Result<u64, Unread>
 
 /// The space that a text spells.
 pub fn whole_space(alloc: Global, text: &[u8]) -> Result<SpaceId, Unread>
-    ensures found { IfOk result (λ space. text.now ≡ decimal space) }
+    ensures found { IfOk result (λ space. IsSpace space × (text.now ≡ decimal space)) }
     ensures only { (space : ℕ) → IsSpace space → text.now ≡ decimal space → Reads (λ s. s ≡ space) result }
 {
     let number = whole_number(alloc, text)?;
@@ -38,7 +38,7 @@ pub fn whole_space(alloc: Global, text: &[u8]) -> Result<SpaceId, Unread>
 
 // The reference that a text spells.
 pub fn whole_rep(alloc: Global, text: &[u8]) -> Result<WireRep, Unread>
-    ensures found { IfOk result (λ rep. text.now ≡ rep_text rep) }
+    ensures found { IfOk result (λ rep. IsRep rep × (text.now ≡ rep_text rep)) }
     ensures only { (rep : RepOf) → IsRep rep → text.now ≡ rep_text rep → Reads (λ r. (r.owner ≡ rep.owner) × (r.index ≡ rep.index)) result }
 {
     let (owner, index, rest) = rep_numbers_at(alloc, text)?;

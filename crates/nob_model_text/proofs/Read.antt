@@ -204,6 +204,12 @@ pub deep_more : (lists : ℕ) (vs : List Value) (v : Value) → most_nested (for
 deep_more lists [] v all one = omega (arith, one)
 deep_more lists (w ∷ vs) v all one = omega (arith, all, deep_more lists vs v (omega (arith, all)) one)
 
+-- ---- their numbers
+
+pub typed_more : (vs : List Value) (v : Value) → AreTyped (forest vs) → IsTyped (tree v) → AreTyped (forest (vs ++ v ∷ []))
+typed_more [] v all one = (one, tt)
+typed_more (w ∷ vs) v all one = (all.0, typed_more vs v all.1 one)
+
 -- ---- the whole text
 
 pub not_empty : (rest : List ℕ) (b : Bool) → rest ≡ [] → b ≡ (length rest == 0) → b ≡ false → ⊥

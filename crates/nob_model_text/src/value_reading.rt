@@ -27,7 +27,7 @@ const MOST_LISTS: u32 = 1_000;
 /// The value that a text spells: `None` where it spells none, as one in which more than 1,000 lists stand in one
 /// another. Only memory fails it. It recurses once for each level of the value.
 pub fn value_of(alloc: Global, text: &[u8]) -> Result<Option<Value>, AllocError>
-    ensures found { IfOk result (λ r. IfSome r (λ value. (text.now ≡ spec.value_text value) × (spec.nested (tree value) ≤ 1000))) }
+    ensures found { IfOk result (λ r. IfSome r (λ value. spec.HasText value × (text.now ≡ spec.value_text value))) }
     ensures only { IfOk result (λ r. (value : ValueOf) → spec.HasText value → text.now ≡ spec.value_text value → r ≡ Some value) }
 {
     match whole_value(alloc, text) {
@@ -39,7 +39,7 @@ pub fn value_of(alloc: Global, text: &[u8]) -> Result<Option<Value>, AllocError>
 
 /// The same, where a text that spells none is an error.
 pub fn whole_value(alloc: Global, text: &[u8]) -> Result<Value, Unread>
-    ensures found { IfOk result (λ value. (text.now ≡ spec.value_text value) × (spec.nested (tree value) ≤ 1000)) }
+    ensures found { IfOk result (λ value. spec.HasText value × (text.now ≡ spec.value_text value)) }
     ensures only { (value : ValueOf) → spec.HasText value → text.now ≡ spec.value_text value → Reads (λ v. v ≡ value) result }
 {
     let (value, rest) = value_at(alloc, text, MOST_LISTS)?;
@@ -56,6 +56,7 @@ fn value_at(alloc: Global, text: &[u8], lists: u32) -> Result<(Value, &[u8]), Un
     ensures only { (t : Tree) (rest : List ℕ) → spec.IsTyped t → spec.nested t ≤ lists → Stops rest → text.now ≡ spec.tree_text t ++ rest
         → Reads (λ parts. (tree parts.0 ≡ t) × (parts.1.now ≡ rest)) result }
     ensures deep { IfOk result (λ parts. spec.nested (tree parts.0) ≤ lists) }
+    ensures typed { IfOk result (λ parts. spec.IsTyped (tree parts.0)) }
 {
     let Some((first, rest)) = text.split_first() else {
         return Err(Unread::NoText);
@@ -70,6 +71,7 @@ fn value_by(alloc: Global, first: u8, text: &[u8], lists: u32) -> Result<(Value,
     ensures only { (t : Tree) (rest : List ℕ) → spec.IsTyped t → spec.nested t ≤ lists → Stops rest → first ∷ text.now ≡ spec.tree_text t ++ rest
         → Reads (λ parts. (tree parts.0 ≡ t) × (parts.1.now ≡ rest)) result }
     ensures deep { IfOk result (λ parts. spec.nested (tree parts.0) ≤ lists) }
+    ensures typed { IfOk result (λ parts. spec.IsTyped (tree parts.0)) }
 {
     match first {
         b'u' => Ok((Value::Unit, text)),
@@ -88,6 +90,7 @@ fn list_value(alloc: Global, text: &[u8], lists: u32) -> Result<(Value, &[u8]), 
     ensures only { (ts : Trees) (rest : List ℕ) → spec.AreTyped ts → spec.most_nested ts < lists → text.now ≡ spec.inside_text ts ++ rest
         → Reads (λ parts. (tree parts.0 ≡ trees.list ts) × (parts.1.now ≡ rest)) result }
     ensures deep { IfOk result (λ parts. spec.nested (tree parts.0) ≤ lists) }
+    ensures typed { IfOk result (λ parts. spec.IsTyped (tree parts.0)) }
 {
     if lists == 0 {
         return Err(Unread::NoText);
@@ -103,6 +106,7 @@ fn elements_at(alloc: Global, text: &[u8], lists: u32) -> Result<(Values, &[u8])
     ensures only { (ts : Trees) (rest : List ℕ) → spec.AreTyped ts → spec.most_nested ts ≤ lists → text.now ≡ spec.inside_text ts ++ rest
         → Reads (λ parts. (parts.0 ≡ ts) × (parts.1.now ≡ rest)) result }
     ensures deep { IfOk result (λ parts. spec.most_nested parts.0 ≤ lists) }
+    ensures typed { IfOk result (λ parts. spec.AreTyped parts.0) }
 {
     if let Some(rest) = after_end(text) {
         return Ok((Values::from_vec(Vec::new(alloc)), rest));
@@ -117,6 +121,7 @@ fn some_elements_at(alloc: Global, text: &[u8], lists: u32) -> Result<(Values, &
     ensures only { (t : Tree) (ts : Trees) (rest : List ℕ) → spec.AreTyped (more t ts) → spec.most_nested (more t ts) ≤ lists → text.now ≡ spec.inside_text (more t ts) ++ rest
         → Reads (λ parts. (parts.0 ≡ more t ts) × (parts.1.now ≡ rest)) result }
     ensures deep { IfOk result (λ parts. spec.most_nested parts.0 ≤ lists) }
+    ensures typed { IfOk result (λ parts. spec.AreTyped parts.0) }
 {
     let mut values = Vec::new(alloc);
     let (first, after_first) = value_at(alloc, text, lists)?;
@@ -159,6 +164,7 @@ fn int_value(alloc: Global, text: &[u8]) -> Result<(Value, &[u8]), Unread>
     ensures only { (n : ℤ) (rest : List ℕ) → FitsSigned w64 n → Stops rest → text.now ≡ signed_decimal n ++ rest
         → Reads (λ parts. (tree parts.0 ≡ int n) × (parts.1.now ≡ rest)) result }
     ensures deep { IfOk result (λ parts. spec.nested (tree parts.0) ≡ 0) }
+    ensures typed { IfOk result (λ parts. spec.IsTyped (tree parts.0)) }
 {
     let (number, rest) = int_at(alloc, text)?;
     Ok((Value::Int(number), rest))
@@ -170,9 +176,18 @@ fn bytes_value(alloc: Global, text: &[u8]) -> Result<(Value, &[u8]), Unread>
     ensures only { (bs rest : List ℕ) → IsBytes bs → Stops rest → text.now ≡ encode_lower bs ++ rest
         → Reads (λ parts. (tree parts.0 ≡ bytes bs) × (parts.1.now ≡ rest)) result }
     ensures deep { IfOk result (λ parts. spec.nested (tree parts.0) ≡ 0) }
+    ensures typed { IfOk result (λ parts. spec.IsTyped (tree parts.0)) }
 {
     let (items, rest) = bytes_at(alloc, text)?;
-    Ok((Value::Bytes(Bytes::from_vec(items)), rest))
+    Ok((Value::Bytes(bytes_of_vec(items)), rest))
+}
+
+// Bytes that own their memory.
+fn bytes_of_vec(items: Vec<u8>) -> Bytes
+    ensures value { result ≡ items.items }
+    ensures typed { IsBytes result }
+{
+    Bytes::from_vec(items)
 }
 
 // The reference at the front of a text as a value, and what is left.
@@ -181,6 +196,7 @@ fn rep_value(alloc: Global, text: &[u8]) -> Result<(Value, &[u8]), Unread>
     ensures only { (rep : RepOf) (rest : List ℕ) → IsSpace rep.owner → rep.index < 2 ^ 64 → Stops rest → text.now ≡ spec.rep_text rep ++ rest
         → Reads (λ parts. (tree parts.0 ≡ ref rep) × (parts.1.now ≡ rest)) result }
     ensures deep { IfOk result (λ parts. spec.nested (tree parts.0) ≡ 0) }
+    ensures typed { IfOk result (λ parts. spec.IsTyped (tree parts.0)) }
 {
     let (owner, index, rest) = rep_numbers_at(alloc, text)?;
     let Some(rep) = rep_of(owner, index) else {

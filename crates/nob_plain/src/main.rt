@@ -2,11 +2,16 @@
 //! trace, from standard input, and answers each step by the plain program of nob_model. It is slow on purpose.
 #![tactic(auto)]
 
-mod problem;
+ghost use Rattle.std.specs.Prelude.{◌≡◌, true, false};
+ghost use Rattle.nob_trace.specs.Reading.{Answers};
+ghost use Rattle.nob_plain.specs.Outputs.{BeginsAsTrace, IsOutput, IsRefused};
+
+mod fault;
 mod script;
 mod trace;
 
-use crate::problem::Problem;
+use crate::fault::refusal_line;
+use nob_trace::TraceError;
 use std::alloc::Global;
 use std::io::{Read, Write};
 use std::process::ExitCode;
@@ -25,11 +30,10 @@ fn run(rt: &HostRuntime) -> io::Result<()> {
     let is_copy = has_words(rt)?;
     let mut input = Vec::new(alloc);
     rt.stdin().read_to_end(&mut input)?;
-    let text = match output_of(alloc, input.as_slice(), is_copy) {
-        Ok(text) => text,
-        Err(problem) => problem.text(alloc)?,
-    };
-    rt.stdout().write_all(text.as_bytes())
+    match output_of(alloc, input.as_slice(), is_copy) {
+        Ok(text) => rt.stdout().write_all(text.as_slice()),
+        Err(error) => rt.stdout().write_all(refusal_line(error)),
+    }
 }
 
 // Whether the command line has words beside the program's name: then traces are written as they were read.
@@ -40,12 +44,25 @@ fn has_words(rt: &HostRuntime) -> io::Result<bool> {
 }
 
 // What is written for an input: a trace is judged or written again, any other input is a script.
-fn output_of(alloc: Global, input: &[u8], is_copy: bool) -> Result<String, Problem> {
+fn output_of(alloc: Global, input: &[u8], is_copy: bool) -> Result<Vec<u8>, TraceError>
+    ensures { Answers (λ text. IsOutput is_copy input.now text.items) (IsRefused is_copy input.now) result }
+{
     if is_copy {
-        return trace::copied(alloc, input);
+        return trace::copy_of(alloc, input);
     }
-    if input.starts_with(b"trace ") {
-        return trace::judged(alloc, input);
+    if begins_as_trace(input) {
+        return trace::verdict_of(alloc, input);
     }
-    Ok(script::answered(alloc, input)?)
+    Ok(script::answers_of(alloc, input)?)
+}
+
+// Whether an input begins as a trace does.
+fn begins_as_trace(input: &[u8]) -> bool
+    ensures yes { result ≡ true → BeginsAsTrace input.now }
+    ensures no { result ≡ false → BeginsAsTrace input.now → ⊥ }
+{
+    match input {
+        [b't', b'r', b'a', b'c', b'e', b' ', ..] => true,
+        _ => false,
+    }
 }

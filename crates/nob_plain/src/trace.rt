@@ -1,61 +1,159 @@
 //! Traces, judged or written again.
 
-use crate::problem::Problem;
+ghost use Rattle.std.specs.Prelude.{◌≡◌, ◌↔◌, ◌++◌, ℕ, List, true, length, map, IfOk, MatchOption};
+ghost use Rattle.std.specs.List.{AllByRecursion, flat_map};
+ghost use Rattle.std.specs.String.{string_bytes};
+ghost use Rattle.nob_trace.specs.declared.stamped.Stamped.{Stamped as StampedOf};
+ghost use Rattle.nob_trace.specs.declared.trace.Trace.{Trace as TraceOf};
+ghost use Rattle.nob_trace.specs.Entries.{TransmitFits, result_text as spelling};
+ghost use Rattle.nob_trace.specs.Traces as traces;
+ghost use Rattle.nob_trace.specs.Reading as reading;
+ghost use Rattle.nob_model.specs.Right as model;
+ghost use Rattle.nob_plain.specs.Outputs.{IsCopy, IsJudged, IsUncopied};
+ghost use Rattle.nob_plain.specs.Verdicts as spec;
+
 use nob_ids::{Limits, SpaceId};
-use nob_model::{Entry, Here, right};
-use nob_trace::{Stamped, decode, decode_all, encode, result_text};
-use std::alloc::Global;
+use nob_model::{Answer, Entry, Here, Refusal, right};
+use nob_trace::{Stamped, Trace, TraceError, decode, decode_all, encode, result_text};
+use std::alloc::{AllocError, Global};
 
 /// `right` and how many entries the one trace has, or `wrong` and the place, from 1, of the first whose result isn't
-/// right.
-pub fn judged(alloc: Global, input: &[u8]) -> Result<String, Problem> {
+/// right; or what the first line that isn't as it should be is refused for. An entry costs time and memory in
+/// proportion to all entries before it, and more.
+pub fn verdict_of(alloc: Global, input: &[u8]) -> Result<Vec<u8>, TraceError>
+    ensures { reading.Answers (λ text. IsJudged input.now text.items) (reading.TraceProblem input.now) result }
+{
     let trace = decode(alloc, input)?;
+    Ok(verdict_on(alloc, &trace)?.into_bytes())
+}
+
+// What is said of a trace.
+fn verdict_on(alloc: Global, trace: &Trace) -> Result<String, AllocError>
+    ensures { IfOk result (λ text. spec.IsVerdict trace.now (string_bytes text)) }
+{
     let here = Here {
         space: trace.space,
         n: trace.n.get(),
     };
-    let limits = trace.limits;
-    let space = trace.space;
-    let mut entries = Vec::new(alloc);
-    let mut place = 0u64;
-    for stamped in trace.entries.into_vec() {
-        place = place.saturating_add(1);
-        if !is_right(alloc, here, &limits, entries.as_slice(), &stamped)? {
-            return Ok(format!(in alloc; "wrong {place}\n")?);
+    let all = trace.entries.as_slice();
+    let mut before = Vec::new(alloc);
+    for (place, entry) in all.iter().enumerate() {
+        if !is_right(alloc, &here, &trace.limits, before.as_slice(), entry)? {
+            return wrong_line(alloc, place);
         }
-        entries.insert(0, entry_of(space, stamped))?;
+        before.insert(0, entry_at(trace.space, entry)?)?;
     }
-    Ok(format!(in alloc; "right {place}\n")?)
+    right_line(alloc, all.len())
 }
 
-// The entry at its space.
-fn entry_of(space: SpaceId, stamped: Stamped) -> Entry {
-    Entry {
-        space,
-        event: stamped.event,
-        result: stamped.result,
+// An entry of a trace as an entry of its space.
+fn entry_at(space: SpaceId, entry: &Stamped) -> Result<Entry, AllocError>
+    ensures { IfOk result (λ made. made ≡ spec.entry_at space entry.now) }
+{
+    let event = entry.event.copy()?;
+    match &entry.result {
+        Ok(answer) => Ok(Entry {
+            space,
+            event,
+            result: Ok(answer.copy()?),
+        }),
+        Err(refusal) => Ok(Entry {
+            space,
+            event,
+            result: Err(*refusal),
+        }),
     }
 }
 
-// Whether an entry's result is the right one after the entries before it, the newest first.
+// What is said where so many results are right.
+fn right_line(alloc: Global, count: usize) -> Result<String, AllocError>
+    ensures { IfOk result (λ text. string_bytes text ≡ spec.right_line count) }
+{
+    format!(in alloc; "right {count}\n")
+}
+
+// What is said where so many results are right and the next one isn't.
+fn wrong_line(alloc: Global, count: usize) -> Result<String, AllocError>
+    ensures { IfOk result (λ text. string_bytes text ≡ spec.wrong_line count) }
+{
+    let place = count as u128 + 1;
+    format!(in alloc; "wrong {place}\n")
+}
+
+// Whether an entry's result is the right one after the entries before it, the newest of which stands first.
 fn is_right(
     alloc: Global,
-    here: Here,
+    here: &Here,
     limits: &Limits,
     entries: &[Entry],
     stamped: &Stamped,
-) -> Result<bool, Problem> {
-    let wanted = right::right(alloc, &here, limits, entries, &stamped.event)?;
-    let wanted = result_text(alloc, &wanted)?;
-    let written = result_text(alloc, &stamped.result)?;
-    Ok(wanted.as_str() == written.as_str())
+) -> Result<bool, AllocError>
+    ensures { IfOk result (λ is_right. (is_right ≡ true) ↔ spec.HaveOneText stamped.now.result (model.right here.now.space here.now.n limits.now entries.now stamped.now.event)) }
+{
+    let answer = right::right(alloc, here, limits, entries, &stamped.event)?;
+    have_one_text(alloc, &stamped.result, &answer)
 }
 
-/// The traces of an input, one after the other, as they are written.
-pub fn copied(alloc: Global, input: &[u8]) -> Result<String, Problem> {
+// Whether two results have a text in traces, and it is the same.
+fn have_one_text(
+    alloc: Global,
+    one: &Result<Answer, Refusal>,
+    other: &Result<Answer, Refusal>,
+) -> Result<bool, AllocError>
+    ensures { IfOk result (λ have. (have ≡ true) ↔ spec.HaveOneText one.now other.now) }
+{
+    let Some(one) = spelling_of(alloc, one)? else {
+        return Ok(false);
+    };
+    let Some(other) = spelling_of(alloc, other)? else {
+        return Ok(false);
+    };
+    Ok(one.as_bytes() == other.as_bytes())
+}
+
+// The text of a result in a trace: `None` where it has none.
+fn spelling_of(
+    alloc: Global,
+    response: &Result<Answer, Refusal>,
+) -> Result<Option<String>, AllocError>
+    ensures { IfOk result (λ text. MatchOption text (TransmitFits response.now → ⊥) (λ text. TransmitFits response.now × (string_bytes text ≡ spelling response.now))) }
+{
+    match result_text(alloc, response) {
+        Ok(text) => Ok(Some(text)),
+        Err(TraceError::Fault(_)) => Ok(None),
+        Err(TraceError::OutOfMemory) => Err(AllocError),
+    }
+}
+
+/// The traces of an input, one after the other, as they are written; or what the first line that isn't as it should be
+/// is refused for.
+pub fn copy_of(alloc: Global, input: &[u8]) -> Result<Vec<u8>, TraceError>
+    ensures { reading.Answers (λ text. IsCopy input.now text.items) (IsUncopied input.now) result }
+{
+    let all = decode_all(alloc, input)?;
+    Ok(texts_of(alloc, all.as_slice())?.into_bytes())
+}
+
+// The texts of traces, one after the other.
+fn texts_of(alloc: Global, all: &[Trace]) -> Result<String, AllocError>
+    requires { AllByRecursion traces.IsTrace all.now }
+    ensures { IfOk result (λ text. string_bytes text ≡ flat_map traces.trace_text all.now) }
+{
     let mut text = String::new(alloc);
-    for trace in decode_all(alloc, input)?.as_slice() {
-        text.push_str(encode(alloc, trace)?.as_str())?;
+    for trace in all {
+        put_trace(alloc, &mut text, trace)?;
     }
     Ok(text)
+}
+
+// Puts the text of a trace behind a text.
+fn put_trace(alloc: Global, text: &mut String, trace: &Trace) -> Result<(), AllocError>
+    requires { traces.IsTrace trace.now }
+    ensures { IfOk result (λ _. string_bytes text.new ≡ string_bytes text.old ++ traces.trace_text trace.now) }
+{
+    match encode(alloc, trace) {
+        Ok(spelling) => text.push_str(spelling.as_str()),
+        Err(TraceError::Fault(_)) => unreachable!(),
+        Err(TraceError::OutOfMemory) => Err(AllocError),
+    }
 }

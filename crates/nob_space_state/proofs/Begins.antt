@@ -1,5 +1,5 @@
 -- The state of a space that has done nothing.
-use Rattle.std.proofs.Common.{◌≡◌, ℕ, ◌+◌, ◌≤◌, Bool, true, false, List, [], ◌∷◌, ◌++◌, length, ◌&&◌, nat_le, slice_get, Option, Some, None, refl, sym, ap, subst, ◌∙◌, arith}
+use Rattle.std.proofs.Common.{◌≡◌, ℕ, ◌+◌, false, List, [], ◌∷◌, ◌++◌, length, ◌&&◌, nat_le, slice_get, Some, None, refl, ap, subst, ◌∙◌, arith}
 use Rattle.std.proofs.lemmas.Option.{none-some}
 use Prim.Native.Nat.{zero, suc}
 use Rattle.nob_ids.specs.declared.limits.Limits.{Limits}
@@ -68,14 +68,5 @@ begins_stands s n limits st each opened me exported dirties surrogates nothing l
   work = work;
   calls = calls;
   jobs = jobs;
-  orderly = record {
-    exported = λ index. no_index index;
-    once = nobody_twice;
-    released = λ rep counted. omega arith;
-    withdrawn = λ index gone. absurd (cc);
-    strangers = λ p none. refl;
-    payloads = λ p k. refl;
-    settles = tt;
-    acts = tt;
-  };
+  right = tt;
 }

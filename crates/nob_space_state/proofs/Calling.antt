@@ -56,6 +56,8 @@ use Rattle.nob_model.specs.Sending.{◌or_else◌, refuse_if, unless, is_own_and
 use Rattle.nob_space_state.specs.Parts.{State}
 use Rattle.nob_space_state.specs.Looks.{end_with, has_closed, has_holds, names_none}
 use Rattle.nob_space_state.specs.Sending.{ref_refusal, refs_refusal, value_refusal, next_refusal, send_refusal, has_last_call, call_refusal, AddsPins}
+use Rattle.nob_model.specs.Lists.{IsRightDeed}
+use Rattle.nob_space_state.proofs.Orderly.{orderly}
 use Rattle.nob_space_state.specs.Stands.{Stands, TableStands}
 use Rattle.nob_space_state.proofs.Quiet.{loans_made}
 use Rattle.nob_space_state.proofs.Ends.{end_there, ends_changed, ends_kept}
@@ -172,8 +174,6 @@ call_hands s n target method value call D peer = record {
   makes_no_call = λ q calls. refl;
   closes_nothing = λ q. refl;
   settles_nothing = λ q k. refl;
-  settles = λ settles. settles;
-  acts = λ acts. acts;
   payloads = λ q k. refl;
   same_turns = λ rep. refl;
   exports = refl;
@@ -295,7 +295,7 @@ module _ {s n : ℕ} {limits : Limits} {st : State} {D : List Deed} (stands : St
         work = stands.work;
         calls = stands.calls;
         jobs = stands.jobs;
-        orderly = stands.orderly;
+        right = stands.right;
       }
 
   -- one item is sent: its deed is done
@@ -303,9 +303,9 @@ module _ {s n : ℕ} {limits : Limits} {st : State} {D : List Deed} (stands : St
       → payload ≡ payload_of item → kind ≡ kind_of item → number ≡ old.end.handed + 1
       → (session.Stands s p limits old.end (calls_at p (history_of s n D)) → session.Stands s p limits new.end (ends.Send payload kind (Ok number) ∷ calls_at p (history_of s n D)))
       → AddsPins st.pins.bundles table_of_pins.bundles p (old.end.handed + 1) (counted_in item)
-      → TableStands s n t (history_of s n (deed ∷ D)) → W ≡ work s n (deed ∷ D) → made ≡ calls_made (deed ∷ D)
+      → TableStands s n t (history_of s n (deed ∷ D)) → W ≡ work s n (deed ∷ D) → made ≡ calls_made (deed ∷ D) → IsRightDeed s n limits deed D
       → Stands s n limits (record { sessions = set st.sessions (p - 1) new; table = t; dirty = st.dirty; pins = table_of_pins; work = W; calls = made; jobs = st.jobs }) (deed ∷ D)
-  stands_sent {deed} {item} payload kind number W t made hands still spelled limited next answer adds table in_hand calls =
+  stands_sent {deed} {item} payload kind number W t made hands still spelled limited next answer adds table in_hand calls its =
       let there = end_there s n limits st.sessions (history_of s n D) p old stands.ends peer is in
       let count : old.end.handed ≡ length (handed (calls_at p (history_of s n D))) = ap (λ (end : End). end.handed) there.2 in
       let after : session.Stands s p limits new.end (calls_at p (history_of s n (deed ∷ D))) =
@@ -317,11 +317,11 @@ module _ {s n : ℕ} {limits : Limits} {st : State} {D : List Deed} (stands : St
       stands_handed hands (set st.sessions (p - 1) new) t table_of_pins W made stands
       (ends_changed s n limits st.sessions (history_of s n D) (history_of s n (deed ∷ D)) p new stands.ends there.0 after (λ q other. sym (calls_elsewhere hands q (nat_eq_equiv.symm p q ∙ other))))
       table
-      (pins_then hands st.pins.bundles table_of_pins.bundles stands.orderly.settles still stands.pins (subst (λ k. AddsPins st.pins.bundles table_of_pins.bundles p (k + 1) (counted_in item)) count adds))
-      in_hand calls
+      (pins_then hands st.pins.bundles table_of_pins.bundles (orderly stands).settles still stands.pins (subst (λ k. AddsPins st.pins.bundles table_of_pins.bundles p (k + 1) (counted_in item)) count adds))
+      in_hand calls its
 
 -- after a Call
-pub call_stands : {s n : ℕ} {limits : Limits} {st : State} {D : List Deed} → Stands s n limits st D → (target : WireRep) (method : ℕ) (value : Value) (old new : Roomy) (table_of_pins : pins.Table) → IsJudged s n st target value → old ≡ get_or st.sessions (target.owner - 1) old
+pub call_stands : {s n : ℕ} {limits : Limits} {st : State} {D : List Deed} → Stands s n limits st D → (target : WireRep) (method : ℕ) (value : Value) (old new : Roomy) (table_of_pins : pins.Table) → ((call : ℕ) → call ≡ st.calls + 1 → IsRightDeed s n limits (Call target method value call) D) → IsJudged s n st target value → old ≡ get_or st.sessions (target.owner - 1) old
     → (payload : List ℕ) (number call : ℕ) (reps : List WireRep) (calls : List OwnCall)
     → call ≡ st.calls + 1 → bytes_of (items.Call call target.index method value) ≡ Ok payload → number ≡ old.end.handed + 1
     → (session.Stands s target.owner limits old.end (calls_at target.owner (history_of s n D)) → session.Stands s target.owner limits new.end (ends.Send payload Limited (Ok number) ∷ calls_at target.owner (history_of s n D)))
@@ -329,7 +329,7 @@ pub call_stands : {s n : ℕ} {limits : Limits} {st : State} {D : List Deed} →
     → calls ≡ st.work.calls ++ record { call = call; to = target.owner; stage = stages.Sent } ∷ []
     → Stands s n limits (record { sessions = set st.sessions (target.owner - 1) new; table = st.table; dirty = st.dirty; pins = table_of_pins; work = record { waiting = st.work.waiting; ready = st.work.ready; running = st.work.running; replies = st.work.replies; calls = calls }; calls = st.calls + 1; jobs = st.jobs }) (Call target method value call ∷ D)
 unfolding after_call
-call_stands {s} {n} {limits} {st} {D} stands target method value old new table_of_pins judged is payload number call reps calls call_is spelled next answer refs adds more =
+call_stands {s} {n} {limits} {st} {D} stands target method value old new table_of_pins its judged is payload number call reps calls call_is spelled next answer refs adds more =
     let W : InHand = record { waiting = st.work.waiting; ready = st.work.ready; running = st.work.running; replies = st.work.replies; calls = calls } in
     let in_hand : W ≡ after_call target.owner call st.work = λ i. record { waiting = st.work.waiting; ready = st.work.ready; running = st.work.running; replies = st.work.replies; calls = more i } in
     stands_sent stands target.owner old new table_of_pins judged.peer is payload Limited number W st.table (st.calls + 1)
@@ -337,4 +337,4 @@ call_stands {s} {n} {limits} {st} {D} stands target method value old new table_o
     (sym (ap bytes_if spelled)) refl next answer (subst (λ rs. AddsPins st.pins.bundles table_of_pins.bundles target.owner (old.end.handed + 1) rs) refs adds)
     (call_shows stands target method value call judged.peer)
     (in_hand ∙ ap (after_call target.owner call) stands.work ∙ sym (call_work s n target method value call D))
-    (ap (λ k. k + 1) stands.calls)
+    (ap (λ k. k + 1) stands.calls) (its call call_is)

@@ -1,8 +1,8 @@
 -- What a call on one end leaves: the ends, and the state with one deed more that is nothing but that call.
-use Rattle.std.proofs.Common.{◌≡◌, ℕ, ◌+◌, ◌-◌, ◌≤◌, ◌<◌, Bool, true, false, not, ◌&&◌, ◌==◌, List, [], ◌∷◌, length, map, nat_le, get_or, slice_get, Option, Some, None, Ok, Err, if◌then◌else◌, refl, sym, ap, subst, ◌∙◌, arith}
+use Rattle.std.proofs.Common.{◌≡◌, ℕ, ◌+◌, ◌-◌, ◌≤◌, true, false, not, ◌&&◌, ◌==◌, List, [], ◌∷◌, length, map, get_or, slice_get, Some, None, Ok, Err, if◌then◌else◌, refl, sym, ap, subst, ◌∙◌, arith}
 use Prim.Native.Nat.{zero, suc}
 use lib.ListN.{set}
-use Rattle.std.specs.List.{sum_by, list_any, IsDistinct}
+use Rattle.std.specs.List.{sum_by, list_any}
 use Rattle.std.proofs.lemmas.List.{length-set}
 use Rattle.std.proofs.lemmas.Option.{slice_get_read}
 use Rattle.std.proofs.lemmas.Cmp.{nat_eq_equiv}
@@ -10,7 +10,7 @@ use Rattle.nob_model_types.specs.declared.answer.Answer.TheVariants as answers
 use Rattle.nob_model_types.specs.declared.refusal.Refusal.TheVariants as refusals
 use Rattle.nob_model_end.specs.Right.{right_transmit}
 use Rattle.std.proofs.lemmas.Bool.Decides.{nat_tests, Decides-eqb}
-use Rattle.nob_ids.specs.Names.{is_counted, is_same}
+use Rattle.nob_ids.specs.Names.{is_same}
 use Rattle.nob_table.proofs.Flat.{get_set_other}
 use Rattle.nob_table.specs.Standings as standings
 use Rattle.nob_model_end.specs.declared.entry.EndEntry.TheVariants as ends
@@ -23,12 +23,10 @@ use Rattle.nob_session.specs.Stands as session
 use Rattle.nob_session.specs.Stands.{Roomy, end_of}
 use Rattle.nob_table.specs.Counts.{is_held}
 use Rattle.nob_table.specs.Table.{standing}
-use Rattle.nob_model_end.specs.End.{accepted}
-use Rattle.nob_model_end.specs.declared.entry.EndEntry.{EndEntry}
 use Rattle.nob_model_words.specs.declared.deed.Deed.{Deed}
 use Rattle.nob_model_words.specs.declared.deed.Deed.TheVariants.{Transmit}
 use Rattle.nob_model_words.specs.Objects as objects
-use Rattle.nob_model_words.specs.Sessions.{closed, is_peer, payload_at}
+use Rattle.nob_model_words.specs.Sessions.{closed, is_peer}
 use Rattle.nob_model_words.specs.Turns.{turns}
 use Rattle.nob_model_words.specs.Messages.{copy_after, message_after}
 use Rattle.nob_model_work.specs.Work.{work, work_after, with_loans, run_after}
@@ -36,13 +34,13 @@ use Rattle.nob_model_work.specs.Gifts.{gifts, gifts_of}
 use Rattle.nob_model_history.specs.declared.history.History.{History}
 use Rattle.nob_model_history.specs.Histories.{history_of}
 use Rattle.nob_model_history.specs.Ends.{calls_at}
-use Rattle.nob_model_history.specs.Holds.{hand, times, lent_in, gains, releases}
+use Rattle.nob_model_history.specs.Holds.{times, lent_in, gains, releases}
 use Rattle.nob_model_history.specs.Listing.{is_listed}
-use Rattle.nob_model_history.specs.Premises.{SettlesSent}
 use Rattle.nob_model_history.specs.Transit as transit
 use Rattle.nob_model.specs.Right.{calls_made, jobs_made, right_frames}
 use Rattle.nob_space_state.specs.Parts.{State, with_sessions}
-use Rattle.nob_space_state.specs.Stands.{Stands, EndsStand, IsOrderly, ActsOnPeers, bundle, far_state}
+use Rattle.nob_model.specs.Lists.{IsRightDeed}
+use Rattle.nob_space_state.specs.Stands.{Stands, EndsStand, bundle, far_state}
 use Rattle.nob_space_state.proofs.Quiet.{loans_made}
 
 -- one element changes
@@ -89,8 +87,6 @@ pub record IsStill (s n : ℕ) (deed : Deed) (D : List Deed) : Type 0 where
   pub work : work s n (deed ∷ D) ≡ work s n D
   pub calls_made : calls_made (deed ∷ D) ≡ calls_made D
   pub jobs_made : jobs_made (deed ∷ D) ≡ jobs_made D
-  pub settles : SettlesSent s n D → SettlesSent s n (deed ∷ D)
-  pub acts : ActsOnPeers s n D → ActsOnPeers s n (deed ∷ D)
 
 pub transmit_is_still : (s n p : ℕ) (frames : List Frame) (D : List Deed) → IsStill s n (Transmit p frames) D
 unfolding gifts gifts_of work_after with_loans message_after run_after copy_after
@@ -107,8 +103,6 @@ transmit_is_still s n p frames D = record {
   work = loans_made s n D;
   calls_made = refl;
   jobs_made = refl;
-  settles = λ settles. settles;
-  acts = λ acts. acts;
 }
 
 -- the calls on the ends after a Transmit
@@ -118,10 +112,9 @@ transmit_calls s n p q frames D = refl
 
 module _ {s n : ℕ} {limits : Limits} {st : State} {deed : Deed} {D : List Deed} (still : IsStill s n deed D) (stands : Stands s n limits st D) where
   -- a state with other ends
-  pub stands_still : (sessions : List Roomy) → EndsStand s n limits sessions (history_of s n (deed ∷ D)) → ((p k : ℕ) → payload_at p (k + 1) (deed ∷ D) ≡ slice_get (accepted (calls_at p (history_of s n (deed ∷ D)))) k)
+  pub stands_still : (sessions : List Roomy) → EndsStand s n limits sessions (history_of s n (deed ∷ D)) → IsRightDeed s n limits deed D
       → Stands s n limits (with_sessions sessions st) (deed ∷ D)
-  stands_still sessions ends_stand payloads =
-      let right : IsOrderly s n D = stands.orderly in
+  stands_still sessions ends_stand its =
       record {
         ends = ends_stand;
         table = record {
@@ -141,16 +134,7 @@ module _ {s n : ℕ} {limits : Limits} {st : State} {deed : Deed} {D : List Deed
         work = stands.work ∙ sym still.work;
         calls = stands.calls ∙ sym still.calls_made;
         jobs = stands.jobs ∙ sym still.jobs_made;
-        orderly = record {
-          exported = λ index. ap (λ reps. list_any (is_same (own_ref s index)) reps) still.exports ∙ right.exported index ∙ ap (λ reps. nat_le 1 index && nat_le index (length reps)) (sym still.exports);
-          once = subst (IsDistinct is_same) (sym still.exports) right.once;
-          released = λ rep counted. subst (λ reps. times rep reps ≤ times rep (gains (deed ∷ D))) (sym still.releases) (subst (λ reps. times rep (releases D) ≤ times rep reps) (sym still.gains) (right.released rep counted));
-          withdrawn = λ index gone. ap (λ reps. list_any (is_same (own_ref s index)) reps) still.exports ∙ right.withdrawn index (sym (still.withdrawn index) ∙ gone);
-          strangers = λ p none. still.closed p ∙ right.strangers p none;
-          payloads = payloads;
-          settles = still.settles right.settles;
-          acts = still.acts right.acts;
-        };
+        right = (its, stands.right);
       }
 
 -- the end with a peer stands in its place
@@ -185,20 +169,16 @@ module _ {s n : ℕ} {limits : Limits} {st : State} {D : List Deed} (stands : St
         work = stands.work;
         calls = stands.calls;
         jobs = stands.jobs;
-        orderly = stands.orderly;
+        right = stands.right;
       }
 
-  -- a Transmit accepts nothing
-  transmit_accepted : (q : ℕ) (frames : List Frame) → accepted (calls_at q (history_of s n (Transmit p frames ∷ D))) ≡ accepted (calls_at q (history_of s n D))
-  transmit_accepted q frames = ap accepted (transmit_calls s n p q frames D) ∙ elim (p == q) as (λ b. accepted (if b then ends.Transmit frames ∷ calls_at q (history_of s n D) else calls_at q (history_of s n D)) ≡ accepted (calls_at q (history_of s n D))) [ true ↦ refl | false ↦ refl ]
-
   -- after a Transmit
-  pub transmit_stands : (frames : List Frame) → session.Stands s p limits new.end (ends.Transmit frames ∷ calls_at p (history_of s n D)) → Stands s n limits (with_sessions (set st.sessions (p - 1) new) st) (Transmit p frames ∷ D)
-  transmit_stands frames after =
+  pub transmit_stands : (frames : List Frame) → IsRightDeed s n limits (Transmit p frames) D → session.Stands s p limits new.end (ends.Transmit frames ∷ calls_at p (history_of s n D)) → Stands s n limits (with_sessions (set st.sessions (p - 1) new) st) (Transmit p frames ∷ D)
+  transmit_stands frames its after =
       let there = end_there s n limits st.sessions (history_of s n D) p old stands.ends peer is in
       let here : calls_at p (history_of s n (Transmit p frames ∷ D)) ≡ ends.Transmit frames ∷ calls_at p (history_of s n D) = transmit_calls s n p p frames D ∙ rw (nat_eq_equiv.refl p) refl in
       stands_still (transmit_is_still s n p frames D) stands (set st.sessions (p - 1) new)
       (ends_changed s n limits st.sessions (history_of s n D) (history_of s n (Transmit p frames ∷ D)) p new stands.ends there.0
       (subst (λ calls. session.Stands s p limits new.end calls) (sym here) after)
       (λ q other. sym (transmit_calls s n p q frames D ∙ rw (nat_eq_equiv.symm p q, other) refl)))
-      (λ q k. stands.orderly.payloads q k ∙ ap (λ payloads. slice_get payloads k) (sym (transmit_accepted q frames)))
+      its

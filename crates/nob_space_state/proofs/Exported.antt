@@ -1,17 +1,15 @@
 -- Export and Withdraw: what is right is what the state tells, and what they leave stands for one deed more.
-use Rattle.std.proofs.Common.{◌≡◌, ℕ, ◌+◌, ◌-◌, ◌≤◌, Bool, true, false, not, ◌&&◌, ◌||◌, ◌==◌, nat_le, List, [], ◌∷◌, ◌++◌, Option, Some, None, Ok, Err, length, slice_get, if◌then◌else◌, refl, sym, ap, subst, ◌∙◌, arith, rules}
+use Rattle.std.proofs.Common.{◌≡◌, ℕ, ◌+◌, ◌-◌, ◌≤◌, Bool, true, false, not, ◌&&◌, ◌||◌, ◌==◌, nat_le, List, [], ◌∷◌, Some, None, length, if◌then◌else◌, refl, sym, ap, subst, ◌∙◌, arith}
 use Rattle.std.proofs.lemmas.Option.{none-some}
 use Rattle.std.proofs.lemmas.List.{length-append}
 use Rattle.std.proofs.lemmas.List.Folds.{list_any-append}
-use Rattle.std.proofs.lemmas.Map.Keys.{IsDistinct-push}
 use Rattle.std.proofs.lemmas.Map.Entries.{length-keys_of}
-use Rattle.std.proofs.lemmas.Bool.Decides.{nat_tests, Decides-eqb}
+use Rattle.std.proofs.lemmas.Bool.Decides.{nat_tests}
 use Rattle.std.proofs.lemmas.Cmp.{nat_eq_equiv}
 use Rattle.std.specs.List.{list_any}
 use Rattle.nob_ids.specs.Names.{is_counted, is_same}
 use Rattle.nob_ids.specs.declared.limits.Limits.{Limits}
 use Rattle.nob_ids.specs.declared.wire_rep.WireRep.{WireRep}
-use Rattle.nob_dirty.specs.Sets.{has_index}
 use Rattle.nob_dirty.proofs.Membership.{empty_there}
 use Rattle.nob_pins.specs.Bundles.{count_of}
 use Rattle.nob_table.specs.declared.counts.Counts.{Counts}
@@ -27,29 +25,29 @@ use Rattle.nob_table.proofs.Same.{same_laws, same_is, same_refl}
 use Rattle.nob_model_types.specs.declared.answer.Answer.TheVariants as answers
 use Rattle.nob_model_types.specs.declared.refusal.Refusal.TheVariants as refusals
 use Rattle.nob_model_types.specs.declared.refusal.Use.TheVariants as uses
-use Rattle.nob_model_end.specs.End.{accepted}
 use Rattle.nob_model_words.specs.declared.deed.Deed.{Deed}
 use Rattle.nob_model_words.specs.declared.deed.Deed.TheVariants.{Export, Withdraw}
 use Rattle.nob_model_words.specs.Objects as objects
 use Rattle.nob_model_work.specs.Work.{work}
 use Rattle.nob_model_history.specs.Histories.{history_of}
-use Rattle.nob_model_history.specs.Holds.{is_held, hand, times, gains, releases, lent_in}
+use Rattle.nob_model_history.specs.Holds.{hand, times, gains, releases, lent_in}
 use Rattle.nob_model_history.specs.Listing.{is_listed, is_any_listed}
-use Rattle.nob_model_history.specs.Transit as transit
 use Rattle.nob_model.specs.Right.{right_export, right_withdraw, withdraw_refused, own_ref, most_objects, last_number}
 use Rattle.nob_model.specs.Sending.{◌or_else◌, refuse_if, unless}
 use Rattle.nob_space_state.specs.Judging.{export_refusal, withdraw_refusal}
-use Rattle.nob_space_state.specs.Looks.{has_holds, names_none, has_clients}
+use Rattle.nob_space_state.specs.Looks.{has_holds, has_clients}
 use Rattle.nob_space_state.specs.Parts.{State, with_table}
-use Rattle.nob_space_state.specs.Stands.{Stands, IsOrderly, TableShows}
-use Rattle.nob_space_state.proofs.Hands.{times_more, gains_more}
+use Rattle.nob_space_state.specs.Stands.{Stands}
+use Rattle.nob_model.specs.Lists.{IsRightDeed}
+use Rattle.nob_space_state.proofs.Orderly.{orderly}
+use Rattle.nob_space_state.proofs.Hands.{times_more}
 use Rattle.nob_space_state.proofs.Shows.{no_holds}
 use Rattle.nob_space_state.proofs.Listed.{nobody_listed, somebody_listed}
 use Rattle.nob_space_state.proofs.Pinned.{pins_there}
 use Rattle.nob_space_state.proofs.Quiet.{IsQuiet, export_is_quiet, withdraw_is_quiet}
 use Rattle.nob_space_state.proofs.Rows.{live_count, own_row, own_there, differ}
 use Rattle.nob_space_state.proofs.Stood.{stands_quiet}
-use Rattle.nob_space_state.proofs.Told.{held_there, own_is}
+use Rattle.nob_space_state.proofs.Told.{held_there}
 
 withdraw_chain : (agent here held pinned listed : Bool) → unless (refuse_if agent (refusals.StillUsed uses.Agent) or_else refuse_if (not here) refusals.NoObject or_else refuse_if held (refusals.StillUsed uses.Held) or_else refuse_if pinned (refusals.StillUsed uses.InTransit) or_else refuse_if listed (refusals.StillUsed uses.Listed)) answers.Withdrawn
     ≡ unless (if agent then Some (refusals.StillUsed uses.Agent) else if not agent && (true && not here) then Some refusals.NoObject else if held then Some (refusals.StillUsed uses.Held) else if pinned then Some (refusals.StillUsed uses.InTransit) else if listed then Some (refusals.StillUsed uses.Listed) else None) answers.Withdrawn
@@ -83,7 +81,7 @@ module _ {s n : ℕ} {limits : Limits} {st : State} {D : List Deed} (stands : St
       → right_export s (history_of s n D) ≡ unless (export_refusal st) (answers.Exported (own_ref s (length (objects.exports D) + 1)))
   unfolding right_export export_refusal
   export_right once members =
-      let live : table.live st.table ≡ length (objects.live s D) = sym (length-keys_of st.table.objects) ∙ live_count stands.table stands.orderly.once once members in
+      let live : table.live st.table ≡ length (objects.live s D) = sym (length-keys_of st.table.objects) ∙ live_count stands.table (orderly stands).once once members in
       rw (sym live, sym stands.table.exported) refl
 
   -- what is right for a Withdraw is what the state tells
@@ -156,12 +154,12 @@ next_index index k = grind (arith, nat_tests)
 module _ {s n : ℕ} {limits : Limits} {st : State} {D : List Deed} (stands : Stands s n limits st D) (u : Table) where
   -- the next index was never given
   next_is_new : objects.is_exported s (length (objects.exports D) + 1) D ≡ false
-  next_is_new = stands.orderly.exported (length (objects.exports D) + 1) ∙ not_next (length (objects.exports D))
+  next_is_new = (orderly stands).exported (length (objects.exports D) + 1) ∙ not_next (length (objects.exports D))
 
   -- nor withdrawn
   next_is_kept : objects.is_withdrawn (length (objects.exports D) + 1) D ≡ false
   next_is_kept = elim (objects.is_withdrawn (length (objects.exports D) + 1) D) as (λ b. objects.is_withdrawn (length (objects.exports D) + 1) D ≡ b → b ≡ false) [
-    | true ↦ λ gone. absurd (differ (stands.orderly.withdrawn _ gone) next_is_new)
+    | true ↦ λ gone. absurd (differ ((orderly stands).withdrawn _ gone) next_is_new)
     | false ↦ λ _. refl
   ] refl
 
@@ -173,15 +171,14 @@ module _ {s n : ℕ} {limits : Limits} {st : State} {D : List Deed} (stands : St
       (own_there st.table (own_ref s (length (objects.exports D) + 1)) mine).1 dead
 
   -- after an Export
-  pub export_stands : ExportLeaves st.table u → Becomes st.table u (own_ref s (length (objects.exports D) + 1)) exported_standing → u.exported ≡ st.table.exported + 1
+  pub export_stands : IsRightDeed s n limits (Export (own_ref s (length (objects.exports D) + 1))) D → ExportLeaves st.table u → Becomes st.table u (own_ref s (length (objects.exports D) + 1)) exported_standing → u.exported ≡ st.table.exported + 1
       → Stands s n limits (with_table u st) (Export (own_ref s (length (objects.exports D) + 1)) ∷ D)
-  export_stands leaves becomes more =
+  export_stands its leaves becomes more =
       let rep : WireRep = own_ref s (length (objects.exports D) + 1) in
       let quiet : IsQuiet s n (Export (own_ref s (length (objects.exports D) + 1))) D = export_is_quiet s n (own_ref s (length (objects.exports D) + 1)) D in
-      let right : IsOrderly s n D = stands.orderly in
       let counted : is_counted (own_ref s (length (objects.exports D) + 1)) ≡ true = grind (arith, nat_tests) in
       let empty : times rep (gains D) - times rep (releases D) ≡ 0 = sym (stands.table.hands rep counted) ∙ ap (λ (c : Counts). c.hand) next_unheld in
-      let low : times rep (releases D) ≤ times rep (gains D) = right.released rep counted in
+      let low : times rep (releases D) ≤ times rep (gains D) = (orderly stands).released rep counted in
       let more_hand : times rep (rep ∷ gains D) ≡ times rep (gains D) + 1 = times_more rep rep (gains D) ∙ rw (same_refl rep) refl in
       stands_quiet quiet u stands
       (own_row s n (history_of s n D) (history_of s n (Export rep ∷ D)) (λ w. hand w D) (λ w. times w (lent_in s (work s n D))) (λ w. hand w (Export rep ∷ D)) (λ w. times w (lent_in s (work s n (Export rep ∷ D)))) st.table u rep stands.table (nat_eq_equiv.refl s) leaves.surrogates
@@ -194,23 +191,13 @@ module _ {s n : ℕ} {limits : Limits} {st : State} {D : List Deed} (stands : St
       (λ _. sym (ap (λ (c : Counts). c.lent) next_unheld) ∙ stands.table.loans rep counted ∙ ap (λ w. times rep (lent_in s w)) (sym quiet.work))
       (λ other _ differs. ap (λ j. j - times other (releases D)) (sym (times_more rep other (gains D) ∙ rw differs refl)))
       (λ other _ differs. ap (λ w. times other (lent_in s w)) (sym quiet.work)))
-      record {
-        exported = λ index. exported_more s D rep index ∙ rw (right.exported index, nat_eq_equiv.refl s, length-append (objects.exports D) (rep ∷ [])) (next_index index (length (objects.exports D)));
-        once = IsDistinct-push same_laws (objects.exports D) rep right.once next_is_new;
-        released = λ other counted. gains_more rep other D (right.released other counted);
-        withdrawn = λ index gone. exported_more s D rep index ∙ rw (right.withdrawn index gone) refl;
-        strangers = right.strangers;
-        payloads = λ p j. right.payloads p j ∙ ap (λ calls. slice_get (accepted calls) j) (sym (quiet.calls p));
-        settles = right.settles;
-        acts = right.acts;
-      }
+      its
 
   -- after a Withdraw
-  pub withdraw_stands : (index : ℕ) → WithdrawalLeaves st.table u → Becomes st.table u (own_ref s index) withdrawn → withdraw_refusal s st index ≡ None → Stands s n limits (with_table u st) (Withdraw index ∷ D)
-  withdraw_stands index leaves becomes free =
+  pub withdraw_stands : (index : ℕ) → IsRightDeed s n limits (Withdraw index) D → WithdrawalLeaves st.table u → Becomes st.table u (own_ref s index) withdrawn → withdraw_refusal s st index ≡ None → Stands s n limits (with_table u st) (Withdraw index ∷ D)
+  withdraw_stands index its leaves becomes free =
       let rep : WireRep = own_ref s index in
       let quiet : IsQuiet s n (Withdraw index) D = withdraw_is_quiet s n index D in
-      let right : IsOrderly s n D = stands.orderly in
       let passes : (objects.is_live s index D ≡ true) × (has_holds st.table rep ≡ false) = withdraw_finds stands index free in
       let bare : (standing st.table rep).counts ≡ table_counts.no_counts = no_holds (standing st.table rep).counts passes.1 in
       stands_quiet quiet u stands
@@ -224,19 +211,7 @@ module _ {s n : ℕ} {limits : Limits} {st : State} {D : List Deed} (stands : St
       (λ counted. sym (ap (λ (c : Counts). c.lent) bare) ∙ stands.table.loans rep counted ∙ ap (λ w. times rep (lent_in s w)) (sym quiet.work))
       (λ other _ differs. refl)
       (λ other _ differs. ap (λ w. times other (lent_in s w)) (sym quiet.work)))
-      record {
-        exported = right.exported;
-        once = right.once;
-        released = right.released;
-        withdrawn = λ other gone. elim (index == other) as (λ b. index == other ≡ b → (b || objects.is_withdrawn other D) ≡ true → objects.is_exported s other D ≡ true) [
-          | true ↦ λ same _. subst (λ j. objects.is_exported s j D ≡ true) ((Decides-eqb index other).0 same) (live_exported s D index passes.0)
-          | false ↦ λ _ before. right.withdrawn other before
-        ] refl gone;
-        strangers = right.strangers;
-        payloads = λ p j. right.payloads p j ∙ ap (λ calls. slice_get (accepted calls) j) (sym (quiet.calls p));
-        settles = right.settles;
-        acts = right.acts;
-      }
+      its
 
 -- the table's refusal of an Export is the space's
 module _ (st : State) where

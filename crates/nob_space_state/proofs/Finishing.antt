@@ -43,7 +43,9 @@ use Rattle.nob_space_state.specs.Parts.{State}
 use Rattle.nob_space_state.specs.Looks.{has_closed}
 use Rattle.nob_space_state.specs.Returns.{HasLent, GivesBack}
 use Rattle.nob_space_state.specs.Sending.{value_refusal, send_refusal, reply_refusal, AddsPins}
-use Rattle.nob_space_state.specs.Stands.{Stands, TableShows, TableStands, IsOrderly}
+use Rattle.nob_model.specs.Lists.{IsRightDeed}
+use Rattle.nob_space_state.specs.Stands.{Stands, TableShows, TableStands}
+use Rattle.nob_space_state.proofs.Orderly.{orderly}
 use Rattle.nob_space_state.proofs.Calling.{value_there, send_there, pickle_there, or_none, stands_sent}
 use Rattle.nob_space_state.proofs.Pinned.{times_both}
 use Rattle.nob_space_state.proofs.Quiet.{loans_made}
@@ -125,7 +127,7 @@ counted_runs s n (run ∷ runs) all =
 module _ {s n : ℕ} {limits : Limits} {st : State} {D : List Deed} (stands : Stands s n limits st D) (j : ℕ) where
   -- the messages at hand are sound
   pub state_sound : AreSound s n st.work
-  state_sound = subst (AreSound s n) (sym stands.work) (work_sound s n D stands.orderly.acts)
+  state_sound = subst (AreSound s n) (sym stands.work) (work_sound s n D (orderly stands).acts)
 
   -- what the jobs of a number have lent, the table has
   pub jobs_lent : HasLent st.table (lent_by s j st.work.running)
@@ -191,8 +193,6 @@ finish_hands s n j p call target method value outcome run D found from item peer
   makes_no_call = λ q calls. refl;
   closes_nothing = λ q. refl;
   settles_nothing = λ q k. refl;
-  settles = λ settles. settles;
-  acts = λ acts. acts;
   payloads = λ q k. refl;
   same_turns = λ rep. refl;
   exports = refl;
@@ -244,13 +244,12 @@ module _ {s n : ℕ} {limits : Limits} {st : State} {D : List Deed} (stands : St
 -- ---- a reply that is dropped
 
 module _ {s n : ℕ} {limits : Limits} {st : State} {D : List Deed} (stands : Stands s n limits st D) (j : ℕ) where
-  pub drop_stands : (u : Table) (runs : List Run) → GivesBack st.table u (lent_by s j st.work.running) → runs ≡ filter (λ run. not (is_run j run)) st.work.running
+  pub drop_stands : (u : Table) (runs : List Run) → IsRightDeed s n limits (DropReply j) D → GivesBack st.table u (lent_by s j st.work.running) → runs ≡ filter (λ run. not (is_run j run)) st.work.running
       → Stands s n limits (record { sessions = st.sessions; table = u; dirty = st.dirty; pins = st.pins; work = record { waiting = st.work.waiting; ready = st.work.ready; running = runs; replies = st.work.replies; calls = st.work.calls }; calls = st.calls; jobs = st.jobs }) (DropReply j ∷ D)
   unfolding gifts gifts_of after_finish
-  drop_stands u runs back ended =
+  drop_stands u runs its back ended =
       let W : InHand = record { waiting = st.work.waiting; ready = st.work.ready; running = runs; replies = st.work.replies; calls = st.work.calls } in
       let after : W ≡ after_finish j st.work = λ i. record { waiting = st.work.waiting; ready = st.work.ready; running = ended i; replies = st.work.replies; calls = st.work.calls } in
-      let right : IsOrderly s n D = stands.orderly in
       let shows = table_back stands j u back in
       let in_hand : W ≡ work s n (DropReply j ∷ D) = after ∙ ap (after_finish j) stands.work ∙ sym (drop_work s n j D) in
       record {
@@ -270,16 +269,7 @@ module _ {s n : ℕ} {limits : Limits} {st : State} {D : List Deed} (stands : St
         work = in_hand;
         calls = stands.calls;
         jobs = stands.jobs;
-        orderly = record {
-          exported = right.exported;
-          once = right.once;
-          released = right.released;
-          withdrawn = right.withdrawn;
-          strangers = right.strangers;
-          payloads = right.payloads;
-          settles = right.settles;
-          acts = right.acts;
-        };
+        right = (its, stands.right);
       }
 
 -- the table after a Finish
@@ -297,7 +287,7 @@ finish_wants {s} {n} {limits} {st} {D} stands j outcome run found still value is
     finish_of_open stands j outcome run found still ∙ ap (λ refusal. unless refusal answers.Finished) (ap (reply_refusal s run.message.from st) (sym is) ∙ none)
 
 -- after a Finish
-pub finish_stands : {s n : ℕ} {limits : Limits} {st : State} {D : List Deed} → Stands s n limits st D → (j : ℕ) (outcome : Outcome) (run : Run) → find (is_run j) st.work.running ≡ Some run → has_closed st.sessions run.message.from ≡ false
+pub finish_stands : {s n : ℕ} {limits : Limits} {st : State} {D : List Deed} → Stands s n limits st D → (j : ℕ) (outcome : Outcome) → IsRightDeed s n limits (Finish j outcome) D → (run : Run) → find (is_run j) st.work.running ≡ Some run → has_closed st.sessions run.message.from ≡ false
     → (call target method : ℕ) (argument : Value) → run.message.item ≡ items.Call call target method argument
     → (old new : Roomy) (table_of_pins : pins.Table) → old ≡ get_or st.sessions (run.message.from - 1) old
     → (payload : List ℕ) (status number : ℕ) (value : Value) (reps : List WireRep) (u : Table) (runs : List Run)
@@ -307,7 +297,7 @@ pub finish_stands : {s n : ℕ} {limits : Limits} {st : State} {D : List Deed} �
     → GivesBack st.table u (lent_by s j st.work.running) → runs ≡ filter (λ one. not (is_run j one)) st.work.running
     → Stands s n limits (record { sessions = set st.sessions (run.message.from - 1) new; table = u; dirty = st.dirty; pins = table_of_pins; work = record { waiting = st.work.waiting; ready = st.work.ready; running = runs; replies = st.work.replies; calls = st.work.calls }; calls = st.calls; jobs = st.jobs }) (Finish j outcome ∷ D)
 unfolding after_finish
-finish_stands {s} {n} {limits} {st} {D} stands j outcome run found still call target method argument item old new table_of_pins is payload status number value reps u runs status_is value_is spelled next answer refs adds back ended =
+finish_stands {s} {n} {limits} {st} {D} stands j outcome its run found still call target method argument item old new table_of_pins is payload status number value reps u runs status_is value_is spelled next answer refs adds back ended =
     let W : InHand = record { waiting = st.work.waiting; ready = st.work.ready; running = runs; replies = st.work.replies; calls = st.work.calls } in
     let after : W ≡ after_finish j st.work = λ i. record { waiting = st.work.waiting; ready = st.work.ready; running = ended i; replies = st.work.replies; calls = st.work.calls } in
     let peer : is_peer s n run.message.from ≡ true = (run_sound stands j outcome run found).0.peer in
@@ -319,7 +309,7 @@ finish_stands {s} {n} {limits} {st} {D} stands j outcome run found still call ta
     (sym (ap bytes_if bytes)) (limited_reply call outcome) next answer (subst (λ (rs : List WireRep). AddsPins st.pins.bundles table_of_pins.bundles run.message.from (old.end.handed + 1) rs) counted adds)
     (finish_shows stands hands u back)
     (after ∙ ap (after_finish j) stands.work ∙ sym (finish_work s n j outcome D))
-    stands.calls
+    stands.calls its
 
 -- what is no Call doesn't run
 pub runs_call : (item : Item) → IsCall item → ((call : ℕ) (target method : ℕ) (value : Value) → item ≡ items.Call call target method value → ⊥) → ⊥

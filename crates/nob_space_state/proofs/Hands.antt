@@ -1,8 +1,8 @@
 -- Dup and Release: what is right is what the state tells, and what they leave stands for one deed more.
-use Rattle.std.proofs.Common.{◌≡◌, ℕ, ◌+◌, ◌-◌, ◌≤◌, ◌<◌, Bool, true, false, not, ◌&&◌, ◌||◌, ◌==◌, nat_le, List, [], ◌∷◌, Option, Some, None, Ok, Err, length, filter, slice_get, cond, if◌then◌else◌, refl, sym, ap, subst, ◌∙◌, arith, rules}
+use Rattle.std.proofs.Common.{◌≡◌, ℕ, ◌+◌, ◌-◌, ◌≤◌, Bool, true, false, not, ◌||◌, ◌==◌, nat_le, List, ◌∷◌, Option, Some, None, length, filter, cond, if◌then◌else◌, refl, sym, ap, ◌∙◌, arith}
 use Rattle.std.proofs.lemmas.Option.{none-some}
-use Rattle.std.proofs.lemmas.Bool.Decides.{nat_tests, Decides-eqb}
-use Rattle.nob_ids.specs.Names.{is_counted, is_same}
+use Rattle.std.proofs.lemmas.Bool.Decides.{nat_tests}
+use Rattle.nob_ids.specs.Names.{is_same}
 use Rattle.nob_ids.specs.declared.limits.Limits.{Limits}
 use Rattle.nob_ids.specs.declared.wire_rep.WireRep.{WireRep}
 use Rattle.nob_table.specs.declared.counts.Counts.{Counts}
@@ -13,26 +13,23 @@ use Rattle.nob_table.specs.Counts as table_counts
 use Rattle.nob_table.specs.Rows.{row_at}
 use Rattle.nob_table.specs.Standings.{is_known, own_standing, far_standing, state_of}
 use Rattle.nob_table.specs.Table.{Table, standing, was_given, hold_fault, release_fault}
-use Rattle.nob_table.proofs.Same.{same_laws, same_is}
-use Rattle.nob_model_end.specs.End.{accepted}
-use Rattle.nob_model_types.specs.declared.answer.Answer.{Answer}
+use Rattle.nob_table.proofs.Same.{same_laws}
 use Rattle.nob_model_types.specs.declared.answer.Answer.TheVariants as answers
-use Rattle.nob_model_types.specs.declared.refusal.Refusal.{Refusal}
 use Rattle.nob_model_types.specs.declared.refusal.Refusal.TheVariants as refusals
 use Rattle.nob_model_words.specs.declared.deed.Deed.{Deed}
 use Rattle.nob_model_words.specs.declared.deed.Deed.TheVariants.{Dup, Release}
-use Rattle.nob_model_words.specs.Sessions.{closed}
 use Rattle.nob_model_work.specs.Work.{work}
-use Rattle.nob_model_words.specs.Turns.{is_own}
 use Rattle.nob_model_history.specs.Histories.{history_of}
-use Rattle.nob_model_history.specs.Holds.{is_held, hand, times, gains, releases, lent_in}
-use Rattle.nob_model.specs.Right.{right_dup, right_release, is_not_live, most_in_hand}
+use Rattle.nob_model_history.specs.Holds.{hand, times, gains, releases, lent_in}
+use Rattle.nob_model.specs.Right.{right_dup, right_release, most_in_hand}
 use Rattle.nob_model.specs.Sending.{◌or_else◌, refuse_if, unless}
 use Rattle.nob_space_state.specs.Judging.{dup_refusal, release_refusal}
 use Rattle.nob_space_state.specs.Looks.{has_holds, names_none, is_cut}
 use Rattle.nob_space_state.specs.Holds.{one_more, one_fewer}
 use Rattle.nob_space_state.specs.Parts.{State, with_table}
-use Rattle.nob_space_state.specs.Stands.{Stands, IsOrderly, TableShows}
+use Rattle.nob_space_state.specs.Stands.{Stands, TableShows}
+use Rattle.nob_model.specs.Lists.{IsRightDeed}
+use Rattle.nob_space_state.proofs.Orderly.{orderly}
 use Rattle.nob_space_state.proofs.Quiet.{IsQuiet, dup_is_quiet, release_is_quiet}
 use Rattle.nob_space_state.proofs.Stood.{shows_quiet, stands_quiet}
 use Rattle.nob_space_state.proofs.Told.{closed_there, held_there, gone_there}
@@ -144,57 +141,19 @@ hand_releases rep other D = elim (is_same rep other) as (λ b. is_same rep other
 
 module _ {s n : ℕ} {limits : Limits} {st : State} {D : List Deed} (stands : Stands s n limits st D) (rep : WireRep) (t : Table) where
   -- after a Dup
-  pub dup_stands : TableShows s n t (history_of s n D) (one_more rep (λ w. hand w D)) (λ w. times w (lent_in s (work s n D))) → Stands s n limits (with_table t st) (Dup rep ∷ D)
-  dup_stands shows =
+  pub dup_stands : IsRightDeed s n limits (Dup rep) D → TableShows s n t (history_of s n D) (one_more rep (λ w. hand w D)) (λ w. times w (lent_in s (work s n D))) → Stands s n limits (with_table t st) (Dup rep ∷ D)
+  dup_stands its shows =
       let quiet : IsQuiet s n (Dup rep) D = dup_is_quiet s n rep D in
-      let right : IsOrderly s n D = stands.orderly in
       stands_quiet quiet t stands
       (shows_quiet quiet (λ w. hand w (Dup rep ∷ D)) (λ w. times w (lent_in s (work s n (Dup rep ∷ D)))) shows refl (λ index. refl)
-      (λ other counted. hand_gains rep other D (right.released other counted)) (λ other counted. ap (λ w. times other (lent_in s w)) (sym quiet.work)))
-      record {
-        exported = right.exported;
-        once = right.once;
-        released = λ other counted. gains_more rep other D (right.released other counted);
-        withdrawn = right.withdrawn;
-        strangers = right.strangers;
-        payloads = λ p k. right.payloads p k ∙ ap (λ calls. slice_get (accepted calls) k) (sym (quiet.calls p));
-        settles = right.settles;
-        acts = right.acts;
-      }
+      (λ other counted. hand_gains rep other D ((orderly stands).released other counted)) (λ other counted. ap (λ w. times other (lent_in s w)) (sym quiet.work)))
+      its
 
   -- after a Release
-  pub release_stands : TableShows s n t (history_of s n D) (one_fewer rep (λ w. hand w D)) (λ w. times w (lent_in s (work s n D))) → (is_counted rep ≡ true → 0 < hand rep D) → Stands s n limits (with_table t st) (Release rep ∷ D)
-  release_stands shows some =
+  pub release_stands : IsRightDeed s n limits (Release rep) D → TableShows s n t (history_of s n D) (one_fewer rep (λ w. hand w D)) (λ w. times w (lent_in s (work s n D))) → Stands s n limits (with_table t st) (Release rep ∷ D)
+  release_stands its shows =
       let quiet : IsQuiet s n (Release rep) D = release_is_quiet s n rep D in
-      let right : IsOrderly s n D = stands.orderly in
       stands_quiet quiet t stands
       (shows_quiet quiet (λ w. hand w (Release rep ∷ D)) (λ w. times w (lent_in s (work s n (Release rep ∷ D)))) shows refl (λ index. refl)
       (λ other counted. hand_releases rep other D) (λ other counted. ap (λ w. times other (lent_in s w)) (sym quiet.work)))
-      record {
-        exported = right.exported;
-        once = right.once;
-        released = λ other counted.
-            let low : times other (releases D) ≤ times other (gains D) = right.released other counted in
-            let more : times other (rep ∷ releases D) ≡ (if is_same rep other then times other (releases D) + 1 else times other (releases D)) = times_more rep other (releases D) in
-            elim (is_same rep other) as (λ b. is_same rep other ≡ b → times other (rep ∷ releases D) ≡ (if b then times other (releases D) + 1 else times other (releases D)) → times other (rep ∷ releases D) ≤ times other (gains D)) [
-              | true ↦ λ same e.
-                  let is : rep ≡ other = same_is rep other same in
-                  let held : 0 < times other (gains D) - times other (releases D) = subst (λ w. 0 < hand w D) is (some (subst (λ w. is_counted w ≡ true) (sym is) counted)) in
-                  omega (arith, e, low, held)
-              | false ↦ λ differs e. omega (arith, e, low)
-            ] refl more;
-        withdrawn = right.withdrawn;
-        strangers = right.strangers;
-        payloads = λ p k. right.payloads p k ∙ ap (λ calls. slice_get (accepted calls) k) (sym (quiet.calls p));
-        settles = right.settles;
-        acts = right.acts;
-      }
-
-module _ {s n : ℕ} {limits : Limits} {st : State} {D : List Deed} (stands : Stands s n limits st D) (rep : WireRep) where
-  -- what isn't refused a Release is in hand
-  pub hand_there : release_refusal s st rep ≡ None → is_counted rep ≡ true → 0 < hand rep D
-  unfolding release_refusal
-  hand_there free counted =
-      let some : (standing st.table rep).counts.hand == 0 ≡ false = release_passes (names_none s st.table rep) (rep.index == 0) ((standing st.table rep).counts.hand == 0) free in
-      let here : (standing st.table rep).counts.hand ≡ hand rep D = stands.table.hands rep counted in
-      grind (arith, nat_tests, some, here)
+      its

@@ -1,4 +1,5 @@
 pub mod Words
+pub mod Orderly
 pub mod Told
 pub mod Shows
 pub mod Quiet
@@ -10,8 +11,13 @@ pub mod Exported
 pub mod Begins
 pub mod Ends
 pub mod Hands
+pub mod Firsts
+pub mod Fixed
+pub mod Claiming
 pub mod Sent
 pub mod Calling
+pub mod Taking
+pub mod Replies
 pub mod Running
 pub mod Returned
 pub mod Finishing

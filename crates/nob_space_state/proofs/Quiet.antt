@@ -1,11 +1,6 @@
 -- Deeds that give nothing, act on nothing and close nothing: what they leave as it is.
-use Rattle.std.proofs.Common.{◌≡◌, ℕ, ◌+◌, Bool, true, false, not, ◌&&◌, ◌||◌, ◌==◌, List, [], ◌∷◌, ◌++◌, map, length, slice_get, refl, sym, ap, subst, ◌∙◌, if◌then◌else◌}
-use Rattle.nob_ids.specs.declared.limits.Limits.{Limits}
+use Rattle.std.proofs.Common.{◌≡◌, ℕ, Bool, true, false, ◌||◌, List, [], ◌∷◌, map, refl, ap}
 use Rattle.nob_ids.specs.declared.wire_rep.WireRep.{WireRep}
-use Rattle.nob_session.specs.Stands.{Roomy, end_of}
-use Rattle.nob_table.specs.Table.{Table}
-use Rattle.nob_pins.specs.Bundles.{Pinned}
-use Rattle.nob_model_end.specs.declared.entry.EndEntry.{EndEntry}
 use Rattle.nob_model_words.specs.declared.deed.Deed.{Deed}
 use Rattle.nob_model_words.specs.declared.deed.Deed.TheVariants.{Export, Dup, Release, Withdraw}
 use Rattle.nob_model_words.specs.declared.message.Loan.{Loan}
@@ -19,13 +14,11 @@ use Rattle.nob_model_work.specs.declared.work.InHand.{InHand}
 use Rattle.nob_model_work.specs.declared.work.Run.{Run}
 use Rattle.nob_model_work.specs.Work.{work, work_after, with_loans, run_after}
 use Rattle.nob_model_work.specs.Gifts.{gifts, gifts_of}
-use Rattle.nob_model_history.specs.declared.history.History.{History}
 use Rattle.nob_model_history.specs.Histories.{history_of}
 use Rattle.nob_model_history.specs.Ends.{calls_at}
 use Rattle.nob_model_history.specs.Transit.{bundles, dirties}
 use Rattle.nob_model_history.specs.Listing.{is_listed}
 use Rattle.nob_model.specs.Right.{calls_made, jobs_made}
-use Rattle.nob_space_state.specs.Stands.{EndsStand, PinsStand}
 
 -- a function of which two steps are one, over a list
 pub map_again : {A : Type 0} (f : A → A) → ((x : A) → f (f x) ≡ f x) → (xs : List A) → map f (map f xs) ≡ map f xs

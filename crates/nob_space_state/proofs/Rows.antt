@@ -1,9 +1,7 @@
 -- What a change of an own object's row makes of what the table shows.
-use Rattle.std.proofs.Common.{◌≡◌, ℕ, ◌+◌, ◌-◌, Bool, true, false, not, ◌&&◌, ◌||◌, ◌==◌, List, [], ◌∷◌, length, cond, Option, Some, None, if◌then◌else◌, refl, sym, ap, subst, ◌∙◌}
+use Rattle.std.proofs.Common.{◌≡◌, ℕ, Bool, true, false, not, ◌&&◌, ◌==◌, List, [], ◌∷◌, length, cond, Option, Some, None, if◌then◌else◌, refl, sym, ap, subst, ◌∙◌}
 use Rattle.std.proofs.lemmas.Map.Made.{length-from_same_keys}
 use Rattle.std.proofs.lemmas.Map.Views.{any-filter_same}
-use Rattle.std.proofs.lemmas.Cmp.{nat_eq_equiv}
-use Rattle.std.proofs.lemmas.Bool.Decides.{Decides-eqb}
 use Rattle.std.specs.List.{IsDistinct, AllByRecursion, list_any, filter}
 use Rattle.nob_ids.specs.Names.{is_same, is_counted}
 use Rattle.nob_ids.specs.declared.wire_rep.WireRep.{WireRep}
@@ -14,7 +12,7 @@ use Rattle.nob_table.specs.declared.standing.Surrogate.{Surrogate}
 use Rattle.nob_table.specs.Counts.{no_counts}
 use Rattle.nob_table.specs.Rows.{row_at, IsOnce}
 use Rattle.nob_table.specs.Standings.{is_live, is_surrogate, own_standing, far_standing, state_of}
-use Rattle.nob_table.specs.Table.{Table, standing, live, live_reps, was_given, Becomes, SameSurrogates}
+use Rattle.nob_table.specs.Table.{Table, standing, live_reps, was_given, Becomes, SameSurrogates}
 use Rattle.nob_table.proofs.Same.{same_laws, same_is}
 use Rattle.nob_model_words.specs.Objects as objects
 use Rattle.nob_model_words.specs.Turns.{is_own, turns}

@@ -23,7 +23,7 @@ use Rattle.nob_model_words.specs.Messages.{new_copy, new_message, copy_after, me
 use Rattle.nob_model_work.specs.declared.work.InHand.{InHand}
 use Rattle.nob_model_work.specs.declared.work.Run.{Run}
 use Rattle.nob_model_work.specs.Work.{work, work_after, with_loans, run_after, is_none_of, make_ready, make_reply, wait, with_calls, call_after_reply, without_first, without_waiting, after_message, after_act, after_settlement, after_settle, after_claim, after_finish, after_take, after_end, after_call, after_close}
-use Rattle.nob_space_state.specs.Stands.{ActsOnPeers}
+use Rattle.nob_space_state.proofs.Orderly.{ActsOnPeers}
 
 -- ---- lists
 

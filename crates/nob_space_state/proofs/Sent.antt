@@ -1,6 +1,6 @@
 -- A deed that hands one item to one peer: what it sends and pins, and the state that it leaves.
-use Rattle.std.proofs.Common.{◌≡◌, ℕ, ◌+◌, ◌≤◌, Bool, true, false, cond, not, ◌&&◌, ◌||◌, ◌==◌, List, [], ◌∷◌, ◌++◌, length, map, filter, slice_get, nat_le, None, Ok, if◌then◌else◌, refl, sym, ap, subst, ◌∙◌, arith}
-use Rattle.std.specs.List.{sum_by, list_any, IsDistinct}
+use Rattle.std.proofs.Common.{◌≡◌, ℕ, ◌+◌, Bool, true, false, cond, not, ◌&&◌, ◌||◌, ◌==◌, List, [], ◌∷◌, ◌++◌, length, map, filter, None, Ok, if◌then◌else◌, refl, sym, ap, ◌∙◌, arith}
+use Rattle.std.specs.List.{sum_by, list_any}
 use Rattle.std.proofs.lemmas.List.{append-nil, map-append}
 use Rattle.std.proofs.lemmas.List.Sums.{sum_by-cons, sum_by_push}
 use Rattle.std.proofs.lemmas.List.Sorted.{sum_by_pushed}
@@ -30,7 +30,7 @@ use Rattle.nob_model_work.specs.Gifts.{gifts}
 use Rattle.nob_model_history.specs.declared.transit.SentItem.{SentItem}
 use Rattle.nob_model_history.specs.Histories.{history_of}
 use Rattle.nob_model_history.specs.Ends.{items_to, kind_of, payload_of, with_sends, own_calls, calls_at}
-use Rattle.nob_model_history.specs.Holds.{times, gains, releases}
+use Rattle.nob_model_history.specs.Holds.{gains, releases}
 use Rattle.nob_model_history.specs.Listing.{is_listed}
 use Rattle.nob_model_history.specs.Premises.{SettlesSent}
 use Rattle.nob_model_history.specs.Transit as transit
@@ -42,7 +42,8 @@ use Rattle.nob_model_history.proofs.Sending.{new_items}
 use Rattle.nob_model.specs.Right.{own_ref, calls_made, jobs_made}
 use Rattle.nob_space_state.specs.Parts.{State}
 use Rattle.nob_space_state.specs.Sending.{AddsPins}
-use Rattle.nob_space_state.specs.Stands.{Stands, EndsStand, TableShows, TableStands, PinsStand, IsOrderly, ActsOnPeers, bundle, far_state}
+use Rattle.nob_model.specs.Lists.{IsRightDeed}
+use Rattle.nob_space_state.specs.Stands.{Stands, EndsStand, TableShows, TableStands, PinsStand, bundle, far_state}
 
 -- an item that goes to a peer
 abbrev pub gift_to : ℕ → Item → Gift
@@ -55,8 +56,6 @@ pub record HandsOne (s n : ℕ) (deed : Deed) (D : List Deed) (p : ℕ) (item : 
   pub makes_no_call : (q : ℕ) (calls : List EndEntry) → own_calls q deed calls ≡ calls
   pub closes_nothing : (q : ℕ) → closed q (deed ∷ D) ≡ closed q D
   pub settles_nothing : (q k : ℕ) → is_settled q k (deed ∷ D) ≡ is_settled q k D
-  pub settles : SettlesSent s n D → SettlesSent s n (deed ∷ D)
-  pub acts : ActsOnPeers s n D → ActsOnPeers s n (deed ∷ D)
   pub payloads : (q k : ℕ) → payload_at q k (deed ∷ D) ≡ payload_at q k D
   pub same_turns : (rep : WireRep) → turns s n rep (deed ∷ D) ≡ turns s n rep D
   pub exports : objects.exports (deed ∷ D) ≡ objects.exports D
@@ -143,25 +142,12 @@ module _ {s n p : ℕ} {item : Item} {deed : Deed} {D : List Deed} (hands : Hand
     places = λ rep. shows.places rep ∙ ap (λ reps. if standings.is_surrogate (standing t rep).state then transit.last_place rep reps else None) (sym dirties_then);
   }
 
-  -- what holds of every list of right answers holds with the deed too
-  orderly_then : IsOrderly s n D → IsOrderly s n (deed ∷ D)
-  orderly_then right = record {
-    exported = λ index. ap (λ reps. list_any (is_same (own_ref s index)) reps) hands.exports ∙ right.exported index ∙ ap (λ reps. nat_le 1 index && nat_le index (length reps)) (sym hands.exports);
-    once = subst (IsDistinct is_same) (sym hands.exports) right.once;
-    released = λ rep counted. subst (λ reps. times rep reps ≤ times rep (gains (deed ∷ D))) (sym hands.same_releases) (subst (λ reps. times rep (releases D) ≤ times rep reps) (sym hands.same_gains) (right.released rep counted));
-    withdrawn = λ index gone. ap (λ reps. list_any (is_same (own_ref s index)) reps) hands.exports ∙ right.withdrawn index (sym (hands.withdrawn index) ∙ gone);
-    strangers = λ q none. hands.closes_nothing q ∙ right.strangers q none;
-    payloads = λ q k. hands.payloads q (k + 1) ∙ right.payloads q k ∙ ap (λ all. slice_get all k) (sym (accepted_then q));
-    settles = hands.settles right.settles;
-    acts = hands.acts right.acts;
-  }
-
   -- the state with other ends, holds, pins and work in hand
   pub stands_handed : {limits : Limits} {st : State} (sessions : List Roomy) (t : Table) (table_of_pins : pins.Table) (W : InHand) (made : ℕ) → Stands s n limits st D
       → EndsStand s n limits sessions (history_of s n (deed ∷ D)) → TableStands s n t (history_of s n (deed ∷ D)) → PinsStand table_of_pins.bundles (history_of s n (deed ∷ D))
-      → W ≡ work s n (deed ∷ D) → made ≡ calls_made (deed ∷ D)
+      → W ≡ work s n (deed ∷ D) → made ≡ calls_made (deed ∷ D) → IsRightDeed s n limits deed D
       → Stands s n limits (record { sessions = sessions; table = t; dirty = st.dirty; pins = table_of_pins; work = W; calls = made; jobs = st.jobs }) (deed ∷ D)
-  stands_handed {limits} {st} sessions t table_of_pins W made stands ends_stand table_stands pins_stand in_hand calls = record {
+  stands_handed {limits} {st} sessions t table_of_pins W made stands ends_stand table_stands pins_stand in_hand calls its = record {
     ends = ends_stand;
     table = table_stands;
     listed = λ index client. stands.listed index client ∙ sym (hands.listed index client);
@@ -169,7 +155,7 @@ module _ {s n p : ℕ} {item : Item} {deed : Deed} {D : List Deed} (hands : Hand
     work = in_hand;
     calls = calls;
     jobs = stands.jobs ∙ sym hands.jobs;
-    orderly = orderly_then stands.orderly;
+    right = (its, stands.right);
   }
 
 -- no sum, no bundle

@@ -1,5 +1,5 @@
 -- A state that stands for a list stands for it with a quiet deed more, once its table does.
-use Rattle.std.proofs.Common.{◌≡◌, ℕ, ◌+◌, ◌-◌, ◌≤◌, Bool, true, false, not, ◌&&◌, List, [], ◌∷◌, length, map, slice_get, if◌then◌else◌, Some, None, refl, sym, ap, subst, ◌∙◌}
+use Rattle.std.proofs.Common.{◌≡◌, ℕ, ◌+◌, true, List, ◌∷◌, length, map, if◌then◌else◌, None, sym, ap, ◌∙◌}
 use Rattle.std.specs.List.{sum_by}
 use Rattle.nob_ids.specs.Names.{is_counted}
 use Rattle.nob_ids.specs.declared.limits.Limits.{Limits}
@@ -12,11 +12,11 @@ use Rattle.nob_model_words.specs.declared.deed.Deed.{Deed}
 use Rattle.nob_model_words.specs.Objects as objects
 use Rattle.nob_model_words.specs.Turns.{turns}
 use Rattle.nob_model_words.specs.Sessions.{closed}
-use Rattle.nob_model_end.specs.End.{accepted}
 use Rattle.nob_model_history.specs.Histories.{history_of}
 use Rattle.nob_model_history.specs.Transit as transit
+use Rattle.nob_model.specs.Lists.{IsRightDeed}
 use Rattle.nob_space_state.specs.Parts.{State, with_table}
-use Rattle.nob_space_state.specs.Stands.{Stands, EndsStand, TableShows, TableStands, PinsStand, IsOrderly, bundle, far_state}
+use Rattle.nob_space_state.specs.Stands.{Stands, TableShows, TableStands, bundle, far_state}
 use Rattle.nob_space_state.proofs.Quiet.{IsQuiet}
 
 module _ {s n : ℕ} {deed : Deed} {D : List Deed} (quiet : IsQuiet s n deed D) where
@@ -39,8 +39,8 @@ module _ {s n : ℕ} {deed : Deed} {D : List Deed} (quiet : IsQuiet s n deed D) 
   }
 
   -- a state with another table
-  pub stands_quiet : {limits : Limits} {st : State} (t : Table) → Stands s n limits st D → TableStands s n t (history_of s n (deed ∷ D)) → IsOrderly s n (deed ∷ D) → Stands s n limits (with_table t st) (deed ∷ D)
-  stands_quiet {limits} {st} t stands table orderly = record {
+  pub stands_quiet : {limits : Limits} {st : State} (t : Table) → Stands s n limits st D → TableStands s n t (history_of s n (deed ∷ D)) → IsRightDeed s n limits deed D → Stands s n limits (with_table t st) (deed ∷ D)
+  stands_quiet {limits} {st} t stands table its = record {
     ends = record {
       each = stands.ends.each;
       ends = λ place end there. stands.ends.ends place end there ∙ ap (λ calls. end_of s (place + 1) limits calls) (sym (quiet.calls (place + 1)));
@@ -51,5 +51,5 @@ module _ {s n : ℕ} {deed : Deed} {D : List Deed} (quiet : IsQuiet s n deed D) 
     work = stands.work ∙ sym quiet.work;
     calls = stands.calls ∙ sym quiet.calls_made;
     jobs = stands.jobs ∙ sym quiet.jobs_made;
-    orderly = orderly;
+    right = (its, stands.right);
   }

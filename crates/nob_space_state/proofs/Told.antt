@@ -1,11 +1,11 @@
 -- Looks at a state tell words of each list that it stands for.
-use Rattle.std.proofs.Common.{◌≡◌, ℕ, ◌+◌, ◌-◌, ◌≤◌, Bool, true, false, not, ◌&&◌, ◌==◌, List, [], ◌∷◌, length, slice_get, Option, Some, None, if◌then◌else◌, inl, inr, is_none, refl, sym, ap, subst, ◌∙◌, arith, rules}
+use Rattle.std.proofs.Common.{◌≡◌, ℕ, ◌+◌, ◌-◌, ◌≤◌, true, false, not, ◌&&◌, ◌==◌, List, slice_get, Some, None, if◌then◌else◌, inl, inr, refl, sym, ap, subst, ◌∙◌, arith}
 use Rattle.std.proofs.lemmas.Option.{slice_get_cases, none-some}
 use Rattle.std.proofs.lemmas.Bool.Decides.{nat_tests, Decides-eqb}
 use Rattle.nob_ids.specs.Names.{is_counted}
 use Rattle.nob_ids.specs.declared.limits.Limits.{Limits}
 use Rattle.nob_ids.specs.declared.wire_rep.WireRep.{WireRep}
-use Rattle.nob_session.specs.Stands.{Roomy, end_of, is_open_end}
+use Rattle.nob_session.specs.Stands.{Roomy, is_open_end}
 use Rattle.nob_table.specs.Counts as counts
 use Rattle.nob_table.specs.Table.{standing}
 use Rattle.nob_table.specs.Standings as standings
@@ -13,13 +13,13 @@ use Rattle.nob_model_end.specs.End.{is_open}
 use Rattle.nob_model_words.specs.declared.deed.Deed.{Deed}
 use Rattle.nob_model_words.specs.Objects as objects
 use Rattle.nob_model_words.specs.Sessions.{is_peer, closed}
-use Rattle.nob_model_words.specs.Turns.{is_own}
 use Rattle.nob_model_history.specs.Histories.{history_of}
 use Rattle.nob_model_history.specs.Ends.{calls_at}
 use Rattle.nob_model_history.specs.Holds.{is_held, hand, times, gains, releases, lent_in}
 use Rattle.nob_model.specs.Right.{own_ref, is_not_live}
 use Rattle.nob_space_state.specs.Parts.{State}
-use Rattle.nob_space_state.specs.Looks.{is_closed_end, has_closed, has_holds, names_none, is_cut}
+use Rattle.nob_space_state.specs.Looks.{is_closed_end, has_closed}
+use Rattle.nob_space_state.proofs.Orderly.{orderly}
 use Rattle.nob_space_state.specs.Stands.{Stands}
 use Rattle.nob_space_state.proofs.Words.{open_calls}
 
@@ -58,13 +58,13 @@ module _ {s n : ℕ} {limits : Limits} {st : State} {D : List Deed} (stands : St
   closed_at p low =
       elim (slice_get st.sessions (p - 1)) as (λ end. slice_get st.sessions (p - 1) ≡ end → is_closed_end end ≡ closed p D) [
         | Some end ↦ λ there. ended_there p end low there
-        | None ↦ λ nowhere. sym (stands.orderly.strangers p (no_peer p low nowhere))
+        | None ↦ λ nowhere. sym ((orderly stands).strangers p (no_peer p low nowhere))
       ] refl
 
   -- the end with a space has closed exactly where the session has: one without a place never had a session
   pub closed_there : (p : ℕ) → has_closed st.sessions p ≡ closed p D
   closed_there p = elim (p == 0) as (λ z. p == 0 ≡ z → is_closed_end (if z then None else slice_get st.sessions (p - 1)) ≡ closed p D) [
-    | true ↦ λ none. sym (stands.orderly.strangers p (nobody p none))
+    | true ↦ λ none. sym ((orderly stands).strangers p (nobody p none))
     | false ↦ λ some. closed_at p (grind (arith, nat_tests, some))
   ] refl
 
@@ -73,7 +73,7 @@ module _ {s n : ℕ} {limits : Limits} {st : State} {D : List Deed} (stands : St
   held_there rep counted =
       let in_hand : (standing st.table rep).counts.hand ≡ hand rep D = stands.table.hands rep counted in
       let on_loan : (standing st.table rep).counts.lent ≡ times rep (lent_in s (history_of s n D).work) = stands.table.loans rep counted in
-      rw (in_hand, on_loan) (counts_held (times rep (gains D)) (times rep (lent_in s (history_of s n D).work)) (times rep (releases D)) (stands.orderly.released rep counted))
+      rw (in_hand, on_loan) (counts_held (times rep (gains D)) (times rep (lent_in s (history_of s n D).work)) (times rep (releases D)) ((orderly stands).released rep counted))
 
   -- an own reference is live where the table has it so
   pub gone_there : (rep : WireRep) → not (rep.index == 0) && ((rep.owner == s) && not (standings.is_live (standing st.table rep).state)) ≡ is_not_live s rep (history_of s n D)

@@ -1,24 +1,15 @@
 -- What single words have to say to each other, on every list.
-use Rattle.std.proofs.Common.{◌≡◌, ℕ, ◌+◌, ◌-◌, Bool, true, false, not, ◌&&◌, ◌||◌, ◌==◌, List, [], ◌∷◌, ◌++◌, map, filter, Option, Some, None, Ok, refl, sym, ap, ◌∙◌, if◌then◌else◌}
-use Rattle.nob_ids.specs.declared.wire_rep.WireRep.{WireRep}
+use Rattle.std.proofs.Common.{◌≡◌, ℕ, Bool, true, false, not, ◌&&◌, ◌||◌, ◌==◌, List, [], ◌∷◌, None, Ok, refl, ap, ◌∙◌, if◌then◌else◌}
 use Rattle.nob_item.specs.declared.item.Item.{Item}
-use Rattle.nob_model_end.specs.End.{is_open, handed}
+use Rattle.nob_model_end.specs.End.{is_open}
 use Rattle.nob_model_end.specs.declared.entry.Arrived.TheVariants as arrived
 use Rattle.nob_model_end.specs.declared.entry.EndEntry.{EndEntry}
 use Rattle.nob_model_end.specs.declared.entry.EndEntry.TheVariants as ends
 use Rattle.nob_model_words.specs.declared.deed.Deed.{Deed}
 use Rattle.nob_model_words.specs.declared.deed.Deed.TheVariants.{Act, Transmit, Arrive, Tick, Closing}
 use Rattle.nob_model_words.specs.declared.deed.Cause.TheVariants as causes
-use Rattle.nob_model_words.specs.declared.message.Loan.{Loan}
-use Rattle.nob_model_words.specs.declared.message.Loan.TheVariants as loans
-use Rattle.nob_model_words.specs.declared.message.RefCopy.{RefCopy}
-use Rattle.nob_model_words.specs.declared.message.Message.{Message}
 use Rattle.nob_model_words.specs.Sessions.{closed}
-use Rattle.nob_model_words.specs.Messages.{loan_after, copy_after, message_after}
-use Rattle.nob_model_work.specs.declared.gifts.Gift.{Gift}
-use Rattle.nob_model_work.specs.declared.work.InHand.{InHand}
-use Rattle.nob_model_work.specs.declared.work.Run.{Run}
-use Rattle.nob_model_work.specs.Work.{work, work_after, with_loans, run_after}
+use Rattle.nob_model_work.specs.Work.{work}
 use Rattle.nob_model_work.specs.Gifts.{gifts, all_gifts}
 use Rattle.nob_model_history.specs.Ends.{items_to, with_sends, own_calls, call_of_closing, calls_of, calls_at}
 use Rattle.nob_model_history.specs.Histories.{history_of}

@@ -1,5 +1,5 @@
 -- What is answered to the events on objects and on what is in hand, by the state.
-use Rattle.std.specs.Prelude.{ℕ, ◌-◌, Bool, true, false, ◌&&◌, ◌||◌, ◌==◌, not, nat_le, Option, Some, None, if◌then◌else◌}
+use Rattle.std.specs.Prelude.{ℕ, ◌||◌, ◌==◌, not, nat_le, Option, Some, None, if◌then◌else◌}
 use Rattle.nob_ids.specs.declared.wire_rep.WireRep.{WireRep}
 use Rattle.nob_table.specs.Table.{standing, live}
 use Rattle.nob_model_types.specs.declared.refusal.Refusal.{Refusal}

@@ -6,5 +6,6 @@ pub mod Looks
 pub mod Judging
 pub mod Sending
 pub mod Parts
+pub mod Taking
 pub mod Stands
 pub mod Returns

@@ -1,6 +1,5 @@
 -- What the state tells of sessions and references.
-use Rattle.std.specs.Prelude.{ℕ, ◌-◌, Bool, true, false, ◌&&◌, ◌==◌, not, List, slice_get, Option, Some, None, if◌then◌else◌}
-use Rattle.nob_ids.specs.Names.{is_counted}
+use Rattle.std.specs.Prelude.{ℕ, ◌-◌, Bool, false, ◌&&◌, ◌==◌, not, List, slice_get, Option, Some, None, if◌then◌else◌}
 use Rattle.nob_ids.specs.declared.wire_rep.WireRep.{WireRep}
 use Rattle.std.specs.List.{list_any}
 use Rattle.nob_dirty.specs.declared.sets.Listing.{Listing}

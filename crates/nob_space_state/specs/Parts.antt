@@ -55,3 +55,16 @@ with_sessions sessions st =
       calls = st.calls;
       jobs = st.jobs;
     }
+
+-- the state with other work in hand, and so many calls and jobs made
+abbrev pub with_work : InHand → (calls jobs : ℕ) → State → State
+with_work work calls jobs st =
+    record {
+      sessions = st.sessions;
+      table = st.table;
+      dirty = st.dirty;
+      pins = st.pins;
+      work = work;
+      calls = calls;
+      jobs = jobs;
+    }

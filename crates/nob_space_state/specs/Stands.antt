@@ -1,12 +1,11 @@
 -- For which lists of what a space did its state stands: one equation for each part, by the words that are read off
 -- the whole list. The newest stands FIRST.
-use Rattle.std.specs.Prelude.{◌≡◌, ◌≤◌, ℕ, ◌+◌, Bool, true, false, ◌&&◌, ◌==◌, not, nat_le, List, [], ◌∷◌, length, slice_get, map, Option, Some, None, Result, Ok, Err, IsOk, if◌then◌else◌}
-use Rattle.std.specs.List.{sum_by, IsDistinct}
-use Rattle.nob_ids.specs.Names.{is_counted, is_same}
+use Rattle.std.specs.Prelude.{◌≡◌, ℕ, ◌+◌, Bool, true, false, List, [], ◌∷◌, length, slice_get, map, Some, None, Result, Ok, Err, IsOk, if◌then◌else◌}
+use Rattle.std.specs.List.{sum_by}
+use Rattle.nob_ids.specs.Names.{is_counted}
 use Rattle.nob_ids.specs.declared.limits.Limits.{Limits}
 use Rattle.nob_ids.specs.declared.wire_rep.WireRep.{WireRep}
 use Rattle.nob_item.specs.Kinds.{counted_in}
-use Rattle.nob_model_end.specs.End.{accepted}
 use Rattle.nob_session.specs.Stands as session
 use Rattle.nob_session.specs.Stands.{Roomy}
 use Rattle.nob_table.specs.declared.standing.State.{State as TableState}
@@ -14,15 +13,13 @@ use Rattle.nob_table.specs.declared.standing.State.TheVariants as states
 use Rattle.nob_table.specs.Counts.{is_held}
 use Rattle.nob_table.specs.Standings as standings
 use Rattle.nob_table.specs.Table.{Table, standing, place_of}
-use Rattle.nob_dirty.specs.declared.sets.Listing.{Listing}
 use Rattle.nob_dirty.specs.Sets.{lists}
 use Rattle.nob_pins.specs.Bundles.{Pinned, bundle_of}
 use Rattle.nob_model_types.specs.declared.answer.Answer.{Answer}
 use Rattle.nob_model_types.specs.declared.refusal.Refusal.{Refusal}
 use Rattle.nob_model_words.specs.declared.deed.Deed.{Deed}
-use Rattle.nob_model_words.specs.declared.deed.Deed.TheVariants.{Act}
 use Rattle.nob_model_words.specs.declared.turns.Turns.{Turns}
-use Rattle.nob_model_words.specs.Sessions.{is_peer, closed, payload_at}
+use Rattle.nob_model_words.specs.Sessions.{closed}
 use Rattle.nob_model_words.specs.Objects as objects
 use Rattle.nob_model_words.specs.Turns.{is_own, is_pending, is_granted, is_refused, turns}
 use Rattle.nob_model_work.specs.Work.{work}
@@ -30,11 +27,11 @@ use Rattle.nob_model_history.specs.declared.history.History.{History}
 use Rattle.nob_model_history.specs.declared.transit.SentItem.{SentItem}
 use Rattle.nob_model_history.specs.Histories.{history_of}
 use Rattle.nob_model_history.specs.Ends.{calls_at}
-use Rattle.nob_model_history.specs.Holds.{times, gains, releases, hand, lent_in}
+use Rattle.nob_model_history.specs.Holds.{times, hand, lent_in}
 use Rattle.nob_model_history.specs.Transit as transit
 use Rattle.nob_model_history.specs.Listing.{is_listed}
-use Rattle.nob_model_history.specs.Premises.{SettlesSent}
 use Rattle.nob_model.specs.Right.{own_ref, calls_made, jobs_made}
+use Rattle.nob_model.specs.Lists.{AreRightDeeds}
 use Rattle.nob_space_state.specs.declared.error.SpaceError.{SpaceError}
 use Rattle.nob_space_state.specs.declared.error.SpaceError.TheVariants as errors
 use Rattle.nob_space_state.specs.Parts.{State}
@@ -73,32 +70,7 @@ bundle item = bundle_of item.to item.number (counted_in item.item)
 abbrev pub PinsStand : List Pinned → History → Type 0
 PinsStand bundles h = (f : Pinned → ℕ) → sum_by f bundles ≡ sum_by f (map bundle (transit.bundles h))
 
--- each item that was acted on came from a peer
-abbrev pub ActsOnPeers : (s n : ℕ) → List Deed → Type 0
-ActsOnPeers s n [] = Unit {0}
-ActsOnPeers s n (Act p k ∷ D) = (is_peer s n p ≡ true) × ActsOnPeers s n D
-ActsOnPeers s n (_ ∷ D) = ActsOnPeers s n D
-
--- what holds of every list of right answers, and no state shows
-pub record IsOrderly (s n : ℕ) (D : List Deed) : Type 0 where
-  -- the indexes that were given are 1, 2, .. without a gap
-  pub exported : (index : ℕ) → objects.is_exported s index D ≡ (nat_le 1 index && nat_le index (length (objects.exports D)))
-  -- no index was given twice
-  pub once : IsDistinct is_same (objects.exports D)
-  -- no counted reference was released more often than it came into the hand
-  pub released : (rep : WireRep) → is_counted rep ≡ true → times rep (releases D) ≤ times rep (gains D)
-  -- what was withdrawn was exported
-  pub withdrawn : (index : ℕ) → objects.is_withdrawn index D ≡ true → objects.is_exported s index D ≡ true
-  -- no session with a space that is no peer closed
-  pub strangers : (p : ℕ) → is_peer s n p ≡ false → closed p D ≡ false
-  -- the payload of an item is the one that was accepted in its turn
-  pub payloads : (p k : ℕ) → payload_at p (k + 1) D ≡ slice_get (accepted (calls_at p (history_of s n D))) k
-  -- what was settled was sent
-  pub settles : SettlesSent s n D
-  -- what was acted on came from peers
-  pub acts : ActsOnPeers s n D
-
--- a state of space s among n, with these limits, stands for a list of what the space did
+-- a state of space s among n, with these limits, stands for a list of what the space did: each deed was right after those before
 pub record Stands (s n : ℕ) (limits : Limits) (state : State) (D : List Deed) : Type 0 where
   pub ends : EndsStand s n limits state.sessions (history_of s n D)
   pub table : TableStands s n state.table (history_of s n D)
@@ -107,7 +79,7 @@ pub record Stands (s n : ℕ) (limits : Limits) (state : State) (D : List Deed) 
   pub work : state.work ≡ work s n D
   pub calls : state.calls ≡ calls_made D
   pub jobs : state.jobs ≡ jobs_made D
-  pub orderly : IsOrderly s n D
+  pub right : AreRightDeeds s n limits D
 
 -- a state of space s among n: there is a list that it stands for
 abbrev pub IsState : (s n : ℕ) → State → Type 0

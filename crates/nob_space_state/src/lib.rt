@@ -4,12 +4,15 @@
 mod calls;
 mod error;
 mod finish;
+mod jobs;
 mod looks;
 mod objects;
 mod parts;
 mod sending;
 mod sessions;
+mod take;
 
 pub use error::SpaceError;
 pub use finish::ReplyFate;
 pub use parts::Parts;
+pub use take::CallResult;

@@ -1,5 +1,5 @@
 -- Events and results of traces by what is read of them.
-use Rattle.std.proofs.Common.{◌≡◌, ℕ, List, [], ◌∷◌, ◌++◌, codes, Result, Ok, Err, sym, ◌∙◌}
+use Rattle.std.proofs.Common.{◌≡◌, ℕ, List, [], ◌∷◌, Result, Ok, Err}
 use Rattle.nob_model_types.specs.declared.event.Event.{Event}
 use Rattle.nob_model_types.specs.declared.event.Event.TheVariants as events
 use Rattle.nob_model_types.specs.declared.answer.Answer.{Answer}
@@ -11,49 +11,43 @@ use Rattle.nob_model_text.specs.Events.{event_text}
 use Rattle.nob_model_text.specs.Answers.{answer_text}
 use Rattle.nob_model_reading.specs.Spoken.{Speaks}
 use Rattle.nob_model_reading.specs.Told.{IsTold, Tells}
-use Rattle.nob_trace.specs.Entries.{ArrivalFits, TransmitFits, IsTracedResult, arrival_text, transmit_text, result_text}
+use Rattle.nob_trace.specs.Entries.{IsTracedEvent, IsTracedResult, arrival_text, transmit_text, result_text}
 
-longer : (bytes : List ℕ) → codes "arrive " ++ [] ≡ codes "arrive " ++ 0 ∷ bytes → ⊥
-longer bytes is = absurd cc
+-- an event of a script is one of a trace
+pub no_arrival : (text : List ℕ) (event : Event) → Speaks text event → IsTracedEvent event × (text ≡ event_text (arrival_text event) event)
+no_arrival text events.Export speaks = speaks
+no_arrival text (events.Dup r) speaks = speaks
+no_arrival text (events.Release r) speaks = speaks
+no_arrival text (events.Call t m v) speaks = speaks
+no_arrival text (events.TakeReply c) speaks = speaks
+no_arrival text events.Claim speaks = speaks
+no_arrival text (events.Finish j o) speaks = speaks
+no_arrival text (events.Act p) speaks = speaks
+no_arrival text events.Settle speaks = speaks
+no_arrival text events.Clean speaks = speaks
+no_arrival text (events.Withdraw x) speaks = speaks
+no_arrival text (events.Transmit p) speaks = speaks
+no_arrival text (events.Arrive f) speaks = absurd speaks.0
+no_arrival text (events.Tick p) speaks = speaks
+no_arrival text (events.Close p) speaks = speaks
 
--- an event whose text doesn't depend on a frame's is no arrival
-pub no_arrival : (text : List ℕ) (event : Event) → Speaks text event → ArrivalFits event × (text ≡ event_text (arrival_text event) event)
-no_arrival text events.Export speaks = (tt, speaks [])
-no_arrival text (events.Dup r) speaks = (tt, speaks [])
-no_arrival text (events.Release r) speaks = (tt, speaks [])
-no_arrival text (events.Call t m v) speaks = (tt, speaks [])
-no_arrival text (events.TakeReply c) speaks = (tt, speaks [])
-no_arrival text events.Claim speaks = (tt, speaks [])
-no_arrival text (events.Finish j o) speaks = (tt, speaks [])
-no_arrival text (events.Act p) speaks = (tt, speaks [])
-no_arrival text events.Settle speaks = (tt, speaks [])
-no_arrival text events.Clean speaks = (tt, speaks [])
-no_arrival text (events.Withdraw x) speaks = (tt, speaks [])
-no_arrival text (events.Transmit p) speaks = (tt, speaks [])
-no_arrival text (events.Arrive f) speaks = absurd (longer [] (sym (speaks []) ∙ speaks (0 ∷ [])))
-no_arrival text (events.Tick p) speaks = (tt, speaks [])
-no_arrival text (events.Close p) speaks = (tt, speaks [])
-
-filled : (bytes : List ℕ) → [] ≡ 0 ∷ bytes → ⊥
-filled bytes is = absurd cc
-
--- an answer whose text doesn't depend on frames has none
-pub no_frames : (text : List ℕ) (answer : Answer) → Tells text answer → TransmitFits (Ok answer) × (text ≡ answer_text (transmit_text answer) answer)
-no_frames text (answers.Exported r) tells = (tt, tells [])
-no_frames text answers.Done tells = (tt, tells [])
-no_frames text (answers.Called c) tells = (tt, tells [])
-no_frames text (answers.Replied s v) tells = (tt, tells [])
-no_frames text answers.Ended tells = (tt, tells [])
-no_frames text (answers.Job j) tells = (tt, tells [])
-no_frames text answers.Finished tells = (tt, tells [])
-no_frames text answers.Dropped tells = (tt, tells [])
-no_frames text (answers.Acted n) tells = (tt, tells [])
-no_frames text (answers.Closed r) tells = (tt, tells [])
-no_frames text (answers.Settled p n) tells = (tt, tells [])
-no_frames text (answers.Cleaned r) tells = (tt, tells [])
-no_frames text answers.Withdrawn tells = (tt, tells [])
-no_frames text (answers.Frames fs) tells = absurd (filled [] (sym (tells []) ∙ tells (0 ∷ [])))
-no_frames text (answers.Took n) tells = (tt, tells [])
+-- an answer that has a text of its own is one of a trace
+pub no_frames : (text : List ℕ) (answer : Answer) → Tells text answer → IsTracedResult (Ok answer) × (text ≡ answer_text (transmit_text answer) answer)
+no_frames text (answers.Exported r) tells = tells
+no_frames text answers.Done tells = tells
+no_frames text (answers.Called c) tells = tells
+no_frames text (answers.Replied s v) tells = tells
+no_frames text answers.Ended tells = tells
+no_frames text (answers.Job j) tells = tells
+no_frames text answers.Finished tells = tells
+no_frames text answers.Dropped tells = tells
+no_frames text (answers.Acted n) tells = tells
+no_frames text (answers.Closed r) tells = tells
+no_frames text (answers.Settled p n) tells = tells
+no_frames text (answers.Cleaned r) tells = tells
+no_frames text answers.Withdrawn tells = tells
+no_frames text (answers.Frames fs) tells = absurd tells.0
+no_frames text (answers.Took n) tells = tells
 
 -- a result whose text begins neither as a refusal nor as frames is an answer of its own text
 pub by_answer : (P : Result Answer Refusal → Type 0) (text : List ℕ) (r : Result Answer Refusal) → IsTracedResult r → text ≡ result_text r

@@ -1,6 +1,6 @@
 -- The spelling of a frame is bytes, and its text begins with a digit.
 use Prim.Native.Nat.{zero}
-use Rattle.std.proofs.Common.{◌≡◌, ℕ, suc, ◌<◌, List, [], ◌∷◌, ◌++◌, length, refl, arith}
+use Rattle.std.proofs.Common.{◌≡◌, ℕ, suc, ◌<◌, List, [], ◌∷◌, ◌++◌, length, refl, subst, arith}
 use Rattle.std.specs.Int.{bytes_high_first, byte_at}
 use Rattle.hex.specs.Hex.{encode_with, IsBytes}
 use Rattle.nob_frame.specs.declared.frame.Frame.{Frame}
@@ -53,6 +53,14 @@ heading_bytes frame =
 
 pub spelling_bytes : (frame : Frame) → IsFramed frame → IsBytes (spelling frame)
 spelling_bytes frame framed = bytes_both (heading (header_of frame)) frame.payload (heading_bytes frame) framed.1
+
+bytes_behind : (front rest : List ℕ) → IsBytes (front ++ rest) → IsBytes rest
+bytes_behind [] rest all = all
+bytes_behind (b ∷ front) rest all = bytes_behind front rest (λ i. all (suc i))
+
+-- where the bytes that spell a frame are bytes, those of its payload are
+pub payload_bytes : (bytes : List ℕ) (frame : Frame) → IsBytes bytes → bytes ≡ spelling frame → IsBytes frame.payload
+payload_bytes bytes frame all is = bytes_behind (heading (header_of frame)) frame.payload (subst IsBytes is all)
 
 pub begins : (frame : Frame) → (rest : List ℕ) × (frame_text frame ≡ 52 ∷ rest)
 unfolding heading encode_with

@@ -8,3 +8,4 @@ pub mod Cases
 pub mod Written
 pub mod ReadLines
 pub mod ReadTraces
+pub mod Writable

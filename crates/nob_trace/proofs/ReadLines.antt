@@ -9,7 +9,7 @@ use Rattle.nob_trace.specs.declared.fault.TraceFault.TheVariants as faults
 use Rattle.nob_trace.specs.declared.fault.TraceError.{TraceError}
 use Rattle.nob_trace.specs.declared.fault.TraceError.TheVariants.{Fault, OutOfMemory}
 use Rattle.nob_trace.specs.Stamps.{Rise, last_stamp}
-use Rattle.nob_trace.specs.Entries.{entry_text, HasSpelling, IsTraced}
+use Rattle.nob_trace.specs.Entries.{entry_text, IsTraced}
 use Rattle.nob_trace.specs.Traces.{entries_text}
 use Rattle.nob_trace.specs.Reading.{Answers, BeginsWithLine, Breaks, EntriesFault, Explains, IsNoEntry, Lacks}
 use Rattle.nob_trace.proofs.Parting.{has_one, one_parting}
@@ -20,7 +20,7 @@ use Rattle.nob_trace.proofs.Rising.{rise_push}
 pub record FoundSoFar (text : List ℕ) (count : ℕ) (done : List Stamped) (left : List ℕ) : Type 0 where
   pub few : length done ≤ count
   pub rise : Rise 0 done
-  pub spelt : AllByRecursion HasSpelling done
+  pub traced : AllByRecursion IsTraced done
   pub text_is : text ≡ entries_text done ++ left
 
 -- whatever entries the lines spell, they are those that were read and others that the rest spells
@@ -41,12 +41,12 @@ entries_push (x ∷ done) e after =
     ∙ ap (λ (bs : List ℕ). entry_text x ++ 10 ∷ bs) (entries_push done e after)
     ∙ sym (append_assoc (entry_text x) (10 ∷ entries_text (done ++ e ∷ [])) after)
 
-pub found_next : (text : List ℕ) (count : ℕ) (done : List Stamped) (left line rest : List ℕ) (e : Stamped) → length done < count → BeginsWithLine left line rest → HasSpelling e × (line ≡ entry_text e) → last_stamp 0 done < e.stamp
+pub found_next : (text : List ℕ) (count : ℕ) (done : List Stamped) (left line rest : List ℕ) (e : Stamped) → length done < count → BeginsWithLine left line rest → IsTraced e × (line ≡ entry_text e) → last_stamp 0 done < e.stamp
     → FoundSoFar text count done left → FoundSoFar text count (done ++ e ∷ []) rest
 found_next text count done left line rest e less begins one above so_far = record {
   few = omega (arith, less, length-append done (e ∷ []));
   rise = rise_push 0 done e so_far.rise above;
-  spelt = all_push HasSpelling done e so_far.spelt one.0;
+  traced = all_push IsTraced done e so_far.traced one.0;
   text_is = so_far.text_is ∙ ap (λ (bs : List ℕ). entries_text done ++ bs) (begins.1 ∙ ap (λ (bs : List ℕ). bs ++ 10 ∷ rest) one.1) ∙ entries_push done e rest;
 }
 
@@ -124,7 +124,7 @@ only_end text count done left full so_far all rest long rise traced spelt = end_
 -- ---- faults
 
 pub breaks : (text : List ℕ) (count : ℕ) (done : List Stamped) (left : List ℕ) → length done < count → FoundSoFar text count done left → Breaks text count done left
-breaks text count done left less so_far = record { few = less; rise = so_far.rise; lines_are = so_far.text_is }
+breaks text count done left less so_far = record { few = less; rise = so_far.rise; traced = so_far.traced; lines_are = so_far.text_is }
 
 -- a line's fault is that of the lines
 entry_fault : (text : List ℕ) (count : ℕ) (done : List Stamped) (left line rest : List ℕ) (fault : TraceFault) → Breaks text count done left → BeginsWithLine left line rest → (fault ≡ faults.Entry) × IsNoEntry line → EntriesFault text count fault

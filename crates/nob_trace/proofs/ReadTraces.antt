@@ -10,7 +10,7 @@ use Rattle.nob_trace.specs.declared.fault.TraceFault.{TraceFault}
 use Rattle.nob_trace.specs.declared.fault.TraceFault.TheVariants as faults
 use Rattle.nob_trace.specs.declared.fault.TraceError.{TraceError}
 use Rattle.nob_trace.specs.declared.fault.TraceError.TheVariants.{Fault, OutOfMemory}
-use Rattle.nob_trace.specs.Traces.{head_of, head_text, entries_text, trace_text, IsHead, IsTrace, IsWritable}
+use Rattle.nob_trace.specs.Traces.{head_of, head_text, entries_text, trace_text, IsHead, IsTrace}
 use Rattle.nob_trace.specs.Reading.{Answers, BeginsWithLine, EntriesFault, Explains, IsNoHead, Lacks, TextFault}
 use Rattle.nob_trace.proofs.Parting.{has_one, one_parting}
 use Rattle.nob_trace.proofs.Signs as signs
@@ -48,11 +48,11 @@ head_fault P text line lines (Ok x) e begins is wrong = absurd is
 head_fault P text line lines (Err f) (Fault fault) begins is wrong = subst (λ (g : TraceError). Answers P (TextFault text) (Err g)) (sym is) (TextFault.bad line lines begins wrong.1 wrong.0)
 head_fault P text line lines (Err f) OutOfMemory begins is wrong = subst (λ (g : TraceError). Answers P (TextFault text) (Err g)) (sym is) tt
 
-pub lines_fault : {X : Type 0} (P : X → Type 0) (text line lines : List ℕ) (head : Head) (r : Result X TraceError) (e : TraceError) → BeginsWithLine text line lines → line ≡ head_text head → IsErrAnd r (λ f. f ≡ e)
+pub lines_fault : {X : Type 0} (P : X → Type 0) (text line lines : List ℕ) (head : Head) (r : Result X TraceError) (e : TraceError) → BeginsWithLine text line lines → IsHead head × (line ≡ head_text head) → IsErrAnd r (λ f. f ≡ e)
     → Explains (EntriesFault lines head.count) e → Answers P (TextFault text) r
 lines_fault P text line lines head (Ok x) e begins spelt is wrong = absurd is
 lines_fault P text line lines head (Err f) (Fault fault) begins spelt is wrong =
-    subst (λ (g : TraceError). Answers P (TextFault text) (Err g)) (sym is) (TextFault.lines head lines (begins.1 ∙ ap (λ (bs : List ℕ). bs ++ 10 ∷ lines) spelt) wrong)
+    subst (λ (g : TraceError). Answers P (TextFault text) (Err g)) (sym is) (TextFault.lines head lines spelt.0 (begins.1 ∙ ap (λ (bs : List ℕ). bs ++ 10 ∷ lines) spelt.1) wrong)
 lines_fault P text line lines head (Err f) OutOfMemory begins spelt is wrong = subst (λ (g : TraceError). Answers P (TextFault text) (Err g)) (sym is) tt
 
 -- a fault of what a text begins with, as another statement of it
@@ -64,7 +64,7 @@ map_fault P F G (Err f) OutOfMemory is wrong map = subst (λ (g : TraceError). A
 -- ---- traces one after the other
 
 pub record FoundAll (text : List ℕ) (done : List Trace) (left : List ℕ) : Type 0 where
-  pub writable : AllByRecursion IsWritable done
+  pub are : AllByRecursion IsTrace done
   pub text_is : text ≡ flat_map trace_text done ++ left
 
 abbrev pub OnlyAll : List ℕ → List Trace → List ℕ → Type 0
@@ -79,9 +79,9 @@ texts_push [] t after = ap (λ (bs : List ℕ). bs ++ after) (sym (append-nil (t
 texts_push (x ∷ done) t after =
     append_assoc (trace_text x) (flat_map trace_text done) (trace_text t ++ after) ∙ ap (λ (bs : List ℕ). trace_text x ++ bs) (texts_push done t after) ∙ sym (append_assoc (trace_text x) (flat_map trace_text (done ++ t ∷ [])) after)
 
-pub found_next : (text left after : List ℕ) (done : List Trace) (t : Trace) → IsWritable t × (left ≡ trace_text t ++ after) → FoundAll text done left → FoundAll text (done ++ t ∷ []) after
+pub found_next : (text left after : List ℕ) (done : List Trace) (t : Trace) → IsTrace t × (left ≡ trace_text t ++ after) → FoundAll text done left → FoundAll text (done ++ t ∷ []) after
 found_next text left after done t one so_far = record {
-  writable = all_push IsWritable done t so_far.writable one.0;
+  are = all_push IsTrace done t so_far.are one.0;
   text_is = so_far.text_is ∙ ap (λ (bs : List ℕ). flat_map trace_text done ++ bs) one.1 ∙ texts_push done t after;
 }
 

@@ -3,7 +3,6 @@ use Rattle.std.proofs.Common.{◌≡◌, ℕ, List, [], ◌∷◌, ◌++◌, ref
 use Rattle.std.specs.List.{AllByRecursion}
 use Rattle.std.proofs.lemmas.List.{append-nil}
 use Rattle.nob_frame.specs.declared.frame.Frame.{Frame}
-use Rattle.nob_frame.specs.Spelling.{Fits}
 use Rattle.nob_model_text.specs.Fronts.{Stops}
 use Rattle.nob_model_text.specs.declared.unread.Unread.{Unread}
 use Rattle.nob_model_text.specs.declared.unread.Unread.TheVariants.{OutOfMemory}
@@ -12,7 +11,7 @@ use Rattle.nob_trace.proofs.FrameBytes.{begins}
 
 -- the text is what was read and the rest
 abbrev pub FoundSoFar : List ℕ → List Frame → List ℕ → Type 0
-FoundSoFar text done left = AllByRecursion Fits done × (text ≡ spaced_text done ++ left)
+FoundSoFar text done left = AllByRecursion IsFramed done × (text ≡ spaced_text done ++ left)
 
 -- whatever the text spells is what was read and something that the rest spells
 abbrev pub OnlySoFar : List ℕ → List Frame → List ℕ → Type 0
@@ -31,9 +30,9 @@ spaced_push [] f after = ap (λ (bs : List ℕ). 32 ∷ (bs ++ after)) (sym (app
 spaced_push (x ∷ done) f after =
     ap (λ (bs : List ℕ). 32 ∷ bs) (append_assoc (frame_text x) (spaced_text done) (32 ∷ (frame_text f ++ after)) ∙ ap (λ (bs : List ℕ). frame_text x ++ bs) (spaced_push done f after) ∙ sym (append_assoc (frame_text x) (spaced_text (done ++ f ∷ [])) after))
 
-pub found_next : (text left next after : List ℕ) (done : List Frame) (f : Frame) → left ≡ 32 ∷ next → Fits f × (next ≡ frame_text f ++ after) → FoundSoFar text done left → FoundSoFar text (done ++ f ∷ []) after
+pub found_next : (text left next after : List ℕ) (done : List Frame) (f : Frame) → left ≡ 32 ∷ next → IsFramed f × (next ≡ frame_text f ++ after) → FoundSoFar text done left → FoundSoFar text (done ++ f ∷ []) after
 found_next text left next after done f space one so_far = (
-  all_push Fits done f so_far.0 one.0,
+  all_push IsFramed done f so_far.0 one.0,
   so_far.1 ∙ ap (λ (bs : List ℕ). spaced_text done ++ bs) (space ∙ ap (λ (bs : List ℕ). 32 ∷ bs) one.1) ∙ spaced_push done f after,
 )
 

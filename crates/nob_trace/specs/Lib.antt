@@ -4,3 +4,4 @@ pub mod Entries
 pub mod Traces
 pub mod Reading
 pub mod Writing
+pub mod Laws

@@ -10,7 +10,7 @@ use Rattle.nob_trace.specs.declared.fault.TraceError.{TraceError}
 use Rattle.nob_trace.specs.declared.fault.TraceError.TheVariants.{Fault, OutOfMemory}
 use Rattle.nob_trace.specs.Entries.{entry_text, IsTraced}
 use Rattle.nob_trace.specs.Stamps.{Rise, last_stamp}
-use Rattle.nob_trace.specs.Traces.{head_text, entries_text, trace_text, IsHead}
+use Rattle.nob_trace.specs.Traces.{head_text, entries_text, trace_text, IsHead, IsTrace}
 
 -- the byte isn't among the bytes
 abbrev pub Lacks : ℕ → List ℕ → Type 0
@@ -28,17 +28,18 @@ IsNoHead line = (head : Head) → IsHead head → line ≢ head_text head
 abbrev pub IsNoEntry : List ℕ → Type 0
 IsNoEntry line = (entry : Stamped) → IsTraced entry → line ≢ entry_text entry
 
--- lines that should begin with so many entries: these fewer ones stand there, and then these lines are left
+-- lines that should begin with so many entries: these fewer ones stand there, each such that a trace can have it, and then these lines are left
 pub record Breaks (lines : List ℕ) (count : ℕ) (entries : List Stamped) (left : List ℕ) : Type 0 where
   pub few : length entries < count
   pub rise : Rise 0 entries
+  pub traced : AllByRecursion IsTraced entries
   pub lines_are : lines ≡ entries_text entries ++ left
 
 -- why lines don't begin with so many entries, whose stamps rise: the first line that breaks off, spells no entry, or has no greater stamp
 abbrev pub EntriesFault : List ℕ → ℕ → TraceFault → Type 0
 EntriesFault lines count faults.Short = (entries : List Stamped) × (left : List ℕ) × Breaks lines count entries left × Lacks 10 left
 EntriesFault lines count faults.Entry = (entries : List Stamped) × (left line rest : List ℕ) × Breaks lines count entries left × BeginsWithLine left line rest × IsNoEntry line
-EntriesFault lines count faults.Stamp = (entries : List Stamped) × (left rest : List ℕ) × (entry : Stamped) × Breaks lines count entries left × (left ≡ entry_text entry ++ 10 ∷ rest) × (entry.stamp ≤ last_stamp 0 entries)
+EntriesFault lines count faults.Stamp = (entries : List Stamped) × (left rest : List ℕ) × (entry : Stamped) × Breaks lines count entries left × IsTraced entry × (left ≡ entry_text entry ++ 10 ∷ rest) × (entry.stamp ≤ last_stamp 0 entries)
 EntriesFault lines count faults.Trailing = ⊥
 
 -- why a text doesn't begin with a trace
@@ -48,17 +49,18 @@ pub data TextFault (text : List ℕ) (fault : TraceFault) : Type 0 where
   -- the first line spells none
   bad : (line rest : List ℕ) → BeginsWithLine text line rest → IsNoHead line → fault ≡ faults.Entry → TextFault text fault
   -- the lines behind it don't begin with the entries that it promises
-  lines : (head : Head) (rest : List ℕ) → text ≡ head_text head ++ 10 ∷ rest → EntriesFault rest head.count fault → TextFault text fault
+  lines : (head : Head) (rest : List ℕ) → IsHead head → text ≡ head_text head ++ 10 ∷ rest → EntriesFault rest head.count fault → TextFault text fault
 
 -- what is wrong with a text that should be one trace
 pub data TraceProblem (text : List ℕ) (fault : TraceFault) : Type 0 where
   -- it doesn't begin with a trace
   front : TextFault text fault → TraceProblem text fault
   -- bytes stand behind the trace with which it begins
-  behind : (trace : Trace) (rest : List ℕ) → text ≡ trace_text trace ++ rest → rest ≢ [] → fault ≡ faults.Trailing → TraceProblem text fault
+  behind : (trace : Trace) (rest : List ℕ) → IsTrace trace → text ≡ trace_text trace ++ rest → rest ≢ [] → fault ≡ faults.Trailing → TraceProblem text fault
 
 -- what is wrong with a text that should be traces, one after the other: behind these something stands that doesn't begin with a trace
 pub record TracesProblem (text : List ℕ) (fault : TraceFault) (traces : List Trace) (left : List ℕ) : Type 0 where
+  pub are : AllByRecursion IsTrace traces
   pub text_is : text ≡ flat_map trace_text traces ++ left
   pub some : left ≢ []
   pub fault_is : TextFault left fault

@@ -12,7 +12,7 @@ ghost use Rattle.nob_model_text.specs.Answers.{answer_text};
 ghost use Rattle.nob_model_reading.specs.Told.{IsTold};
 ghost use Rattle.nob_trace.specs.declared.stamped.Stamped.{Stamped as StampedOf};
 ghost use Rattle.nob_trace.specs.Frames.{IsFramed, frame_text};
-ghost use Rattle.nob_trace.specs.Entries.{ArrivalFits, TransmitFits, HasSpelling, IsTraced, IsTracedEvent, IsTracedResult, arrival_text, entry_text, result_text};
+ghost use Rattle.nob_trace.specs.Entries.{IsTraced, IsTracedEvent, IsTracedResult, arrival_text, entry_text, result_text};
 ghost use Rattle.nob_trace.specs.Reading.{Lacks};
 
 use crate::frame_reading::{whole_frame, whole_frames};
@@ -25,7 +25,7 @@ use std::alloc::Global;
 
 // The entry that a line spells.
 pub fn entry_of(alloc: Global, line: &[u8]) -> Result<Stamped, Unread>
-    ensures found { IfOk result (λ entry. HasSpelling entry × (line.now ≡ entry_text entry)) }
+    ensures found { IfOk result (λ entry. IsTraced entry × (line.now ≡ entry_text entry)) }
     ensures only { (entry : StampedOf) → IsTraced entry → line.now ≡ entry_text entry → Reads (λ e. e ≡ entry) result }
 {
     let (stamp, behind) = number_at(alloc, line)?;
@@ -60,7 +60,7 @@ fn sides_of(text: &[u8]) -> Result<(&[u8], &[u8]), Unread>
 
 // The event of a trace that a text spells.
 fn traced_event(alloc: Global, text: &[u8]) -> Result<Event, Unread>
-    ensures found { IfOk result (λ event. ArrivalFits event × (text.now ≡ event_text (arrival_text event) event)) }
+    ensures found { IfOk result (λ event. IsTracedEvent event × (text.now ≡ event_text (arrival_text event) event)) }
     ensures only { (event : EventOf) → IsTracedEvent event → text.now ≡ event_text (arrival_text event) event → Reads (λ e. e ≡ event) result }
 {
     match after_arrive(text) {
@@ -81,7 +81,7 @@ fn after_arrive(text: &[u8]) -> Option<&[u8]>
 
 // The arrival that a text spells behind its word.
 fn arrival_of(alloc: Global, text: &[u8]) -> Result<Event, Unread>
-    ensures found { IfOk result (λ event. ArrivalFits event × (codes "arrive " ++ text.now ≡ event_text (arrival_text event) event)) }
+    ensures found { IfOk result (λ event. IsTracedEvent event × (codes "arrive " ++ text.now ≡ event_text (arrival_text event) event)) }
     ensures only { (frame : FrameOf) → IsFramed frame → text.now ≡ frame_text frame → Reads (λ e. e ≡ Event.Arrive frame) result }
 {
     match whole_frame(alloc, text) {
@@ -92,7 +92,7 @@ fn arrival_of(alloc: Global, text: &[u8]) -> Result<Event, Unread>
 
 // The event of a script that a text spells.
 fn script_event(alloc: Global, text: &[u8]) -> Result<Event, Unread>
-    ensures found { IfOk result (λ event. ArrivalFits event × (text.now ≡ event_text (arrival_text event) event)) }
+    ensures found { IfOk result (λ event. IsTracedEvent event × (text.now ≡ event_text (arrival_text event) event)) }
     ensures only { (event : EventOf) → IsSpoken event → text.now ≡ event_text [] event → Reads (λ e. e ≡ event) result }
 {
     match whole_event(alloc, text) {
@@ -103,7 +103,7 @@ fn script_event(alloc: Global, text: &[u8]) -> Result<Event, Unread>
 
 // The result in a trace that a text spells.
 fn traced_result(alloc: Global, text: &[u8]) -> Result<Result<Answer, Refusal>, Unread>
-    ensures found { IfOk result (λ response. TransmitFits response × (text.now ≡ result_text response)) }
+    ensures found { IfOk result (λ response. IsTracedResult response × (text.now ≡ result_text response)) }
     ensures only { (response : ResultOf AnswerOf RefusalOf) → IsTracedResult response → text.now ≡ result_text response → Reads (λ r. r ≡ response) result }
 {
     if begins_as_refusal(text) {
@@ -139,7 +139,7 @@ fn begins_as_frames(text: &[u8]) -> bool
 
 // The refusal that a text spells, as a result. It takes no memory.
 fn refusal_result(text: &[u8]) -> Result<Result<Answer, Refusal>, Unread>
-    ensures found { IfOk result (λ response. TransmitFits response × (text.now ≡ result_text response)) }
+    ensures found { IfOk result (λ response. IsTracedResult response × (text.now ≡ result_text response)) }
     ensures only { (refusal : RefusalOf) → text.now ≡ result_text (Err refusal) → Reads (λ r. r ≡ Err refusal) result }
 {
     match refusal_of(text) {
@@ -150,7 +150,7 @@ fn refusal_result(text: &[u8]) -> Result<Result<Answer, Refusal>, Unread>
 
 // The frames that a text spells, as a result.
 fn frames_result(alloc: Global, text: &[u8]) -> Result<Result<Answer, Refusal>, Unread>
-    ensures found { IfOk result (λ response. TransmitFits response × (text.now ≡ result_text response)) }
+    ensures found { IfOk result (λ response. IsTracedResult response × (text.now ≡ result_text response)) }
     ensures only { (frames : List FrameOf) → IsTracedResult (Ok (Answer.Frames frames)) → text.now ≡ result_text (Ok (Answer.Frames frames)) → Reads (λ r. r ≡ Ok (Answer.Frames frames)) result }
 {
     match whole_frames(alloc, text) {
@@ -161,7 +161,7 @@ fn frames_result(alloc: Global, text: &[u8]) -> Result<Result<Answer, Refusal>, 
 
 // The answer without frames that a text spells, as a result.
 fn answer_result(alloc: Global, text: &[u8]) -> Result<Result<Answer, Refusal>, Unread>
-    ensures found { IfOk result (λ response. TransmitFits response × (text.now ≡ result_text response)) }
+    ensures found { IfOk result (λ response. IsTracedResult response × (text.now ≡ result_text response)) }
     ensures only { (answer : AnswerOf) → IsTold answer → text.now ≡ answer_text [] answer → Reads (λ r. r ≡ Ok answer) result }
 {
     match whole_answer(alloc, text) {

@@ -3,7 +3,8 @@
 ghost use Rattle.std.specs.Prelude.{◌≡◌, ◌++◌, List, ℕ, IfOk};
 ghost use Rattle.std.specs.List.{AllByRecursion};
 ghost use Rattle.nob_frame.specs.declared.frame.Frame.{Frame as FrameOf};
-ghost use Rattle.nob_frame.specs.Spelling.{Fits, Spelt};
+ghost use Rattle.hex.specs.Hex.{IsBytes};
+ghost use Rattle.nob_frame.specs.Spelling.{Spelt};
 ghost use Rattle.nob_model_text.specs.Fronts.{Stops};
 ghost use Rattle.nob_model_text.specs.Reading.{Reads};
 ghost use Rattle.nob_trace.specs.Frames.{IsFramed, frame_text, frames_text, spaced_text};
@@ -16,7 +17,7 @@ use std::alloc::Global;
 
 // The frame that a text spells.
 pub fn whole_frame(alloc: Global, text: &[u8]) -> Result<Frame, Unread>
-    ensures found { IfOk result (λ frame. Fits frame × (text.now ≡ frame_text frame)) }
+    ensures found { IfOk result (λ frame. IsFramed frame × (text.now ≡ frame_text frame)) }
     ensures only { (frame : FrameOf) → IsFramed frame → text.now ≡ frame_text frame → Reads (λ f. f ≡ frame) result }
 {
     let (frame, rest) = frame_at(alloc, text)?;
@@ -28,7 +29,7 @@ pub fn whole_frame(alloc: Global, text: &[u8]) -> Result<Frame, Unread>
 
 // The frames of a transmit that a text spells.
 pub fn whole_frames(alloc: Global, text: &[u8]) -> Result<Frames, Unread>
-    ensures found { IfOk result (λ frames. AllByRecursion Fits frames × (text.now ≡ frames_text frames)) }
+    ensures found { IfOk result (λ frames. AllByRecursion IsFramed frames × (text.now ≡ frames_text frames)) }
     ensures only { (frames : List FrameOf) → AllByRecursion IsFramed frames → text.now ≡ frames_text frames → Reads (λ fs. fs ≡ frames) result }
 {
     if text == b"frames none".as_slice() {
@@ -43,7 +44,7 @@ pub fn whole_frames(alloc: Global, text: &[u8]) -> Result<Frames, Unread>
 
 // The frames, each behind a space, that a text spells.
 fn spaced_frames(alloc: Global, text: &[u8]) -> Result<Frames, Unread>
-    ensures found { IfOk result (λ frames. AllByRecursion Fits frames × (text.now ≡ spaced_text frames)) }
+    ensures found { IfOk result (λ frames. AllByRecursion IsFramed frames × (text.now ≡ spaced_text frames)) }
     ensures only { (frames : List FrameOf) → AllByRecursion IsFramed frames → text.now ≡ spaced_text frames → Reads (λ fs. fs ≡ frames) result }
 {
     let mut frames = Vec::new(alloc);
@@ -58,7 +59,7 @@ fn spaced_frames(alloc: Global, text: &[u8]) -> Result<Frames, Unread>
 
 // The frame at the front of a text, and what is left.
 fn frame_at(alloc: Global, text: &[u8]) -> Result<(Frame, &[u8]), Unread>
-    ensures found { IfOk result (λ parts. Fits parts.0 × (text.now ≡ frame_text parts.0 ++ parts.1.now)) }
+    ensures found { IfOk result (λ parts. IsFramed parts.0 × (text.now ≡ frame_text parts.0 ++ parts.1.now)) }
     ensures only { (frame : FrameOf) (rest : List ℕ) → IsFramed frame → Stops rest → text.now ≡ frame_text frame ++ rest
         → Reads (λ parts. (parts.0 ≡ frame) × (parts.1.now ≡ rest)) result }
 {
@@ -69,7 +70,7 @@ fn frame_at(alloc: Global, text: &[u8]) -> Result<(Frame, &[u8]), Unread>
 
 // The frame that bytes spell.
 fn frame_of_bytes(alloc: Global, bytes: &[u8]) -> Result<Frame, Unread>
-    ensures found { IfOk result (λ frame. Spelt bytes.now frame) }
+    ensures found { IfOk result (λ frame. Spelt bytes.now frame × IsBytes frame.payload) }
     ensures only { (frame : FrameOf) → Spelt bytes.now frame → Reads (λ f. f ≡ frame) result }
 {
     match nob_frame::decode(alloc, bytes) {

@@ -14,7 +14,7 @@ use std::alloc::Global;
 
 // What a first line says.
 pub fn head_of(alloc: Global, line: &[u8]) -> Result<Head, Unread>
-    ensures found { IfOk result (λ head. line.now ≡ spec.head_text head) }
+    ensures found { IfOk result (λ head. spec.IsHead head × (line.now ≡ spec.head_text head)) }
     ensures only { (head : HeadOf) → spec.IsHead head → line.now ≡ spec.head_text head → Reads (λ h. h ≡ head) result }
 {
     let (space, n, behind) = numbers_at(alloc, line)?;

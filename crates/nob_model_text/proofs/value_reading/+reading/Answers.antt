@@ -5,7 +5,7 @@ use Rattle.nob_pickle.specs.Shape.{tree, forest}
 use Rattle.nob_pickle.specs.declared.value.Value.{Value}
 use Rattle.nob_model_text.specs.Reading.{Reads}
 use Rattle.nob_model_text.specs.Values.{behind_text, tree_text, inside_text, AreTyped, most_nested}
-use Rattle.nob_model_text.proofs.Read.{deep_more, found_first, found_next, found_end, only_first, only_next, only_end, unread_first, unread_next, no_end, by_error, passed, FoundSoFar, OnlySoFar, by_unit, by_int, by_bytes, by_rep, by_list, by_none, some_text, by_end, by_elements}
+use Rattle.nob_model_text.proofs.Read.{deep_more, typed_more, found_first, found_next, found_end, only_first, only_next, only_end, unread_first, unread_next, no_end, by_error, passed, FoundSoFar, OnlySoFar, by_unit, by_int, by_bytes, by_rep, by_list, by_none, some_text, by_end, by_elements}
 use Rattle.nob_model_text.proofs.value_reading.+reading.Goals as goal
 
 pub value_by-returns-in-117-clause-only : goal.value_by-returns-in-117-clause-only
@@ -57,8 +57,8 @@ some_elements_at-returns-in_err-first-clause-only t c u ts end typed deep spelt 
 pub some_elements_at-loop-next-init : goal.some_elements_at-loop-next-init
 some_elements_at-loop-next-init t c =
     let items : c.push.new.self.items ≡ [] ++ c.in_ok-first.first ∷ [] = c.in_ok-push.ensures.items ∙ ap (λ (vs : List Value). vs ++ c.in_ok-first.first ∷ []) c.new-values.ensures.items in
-    subst (λ (vs : List Value). FoundSoFar c.args.text.now (forest vs) c.in_ok-first.after_first.now × OnlySoFar c.args.lists c.args.text.now (forest vs) c.in_ok-first.after_first.now × (most_nested (forest vs) ≤ c.args.lists)) (sym items)
-    (found_first c.args.text.now c.in_ok-first.after_first.now c.in_ok-first.first c.in_ok-first.ensures.found, only_first c.args.lists c.args.text.now c.in_ok-first.after_first.now c.in_ok-first.first c.in_ok-first.ensures.only, deep_more c.args.lists [] c.in_ok-first.first (omega arith) c.in_ok-first.ensures.deep)
+    subst (λ (vs : List Value). FoundSoFar c.args.text.now (forest vs) c.in_ok-first.after_first.now × OnlySoFar c.args.lists c.args.text.now (forest vs) c.in_ok-first.after_first.now × (most_nested (forest vs) ≤ c.args.lists) × AreTyped (forest vs)) (sym items)
+    (found_first c.args.text.now c.in_ok-first.after_first.now c.in_ok-first.first c.in_ok-first.ensures.found, only_first c.args.lists c.args.text.now c.in_ok-first.after_first.now c.in_ok-first.first c.in_ok-first.ensures.only, deep_more c.args.lists [] c.in_ok-first.first (omega arith) c.in_ok-first.ensures.deep, typed_more [] c.in_ok-first.first tt c.in_ok-first.ensures.typed)
 
 pub some_elements_at-returns-in_err-value-clause-only : goal.some_elements_at-returns-in_err-value-clause-only
 some_elements_at-returns-in_err-value-clause-only t c u ts end typed deep spelt =
@@ -72,8 +72,8 @@ some_elements_at-loop-next-preserved t c =
     let after = c.in_ok-value.after.now in
     let vs = c.loop-next.values.items in
     let v = c.in_ok-value.value in
-    subst (λ (ws : List Value). FoundSoFar c.args.text.now (forest ws) after × OnlySoFar c.args.lists c.args.text.now (forest ws) after × (most_nested (forest ws) ≤ c.args.lists)) (sym c.in_ok-push-2.ensures.items)
-    (found_next c.args.text.now left next after vs v c.in-Some.ensures c.in_ok-value.ensures.found c.loop-next.invariant.0, only_next c.args.lists c.args.text.now left next after vs v c.in-Some.ensures c.in_ok-value.ensures.only c.loop-next.invariant.1, deep_more c.args.lists vs v c.loop-next.invariant.2 c.in_ok-value.ensures.deep)
+    subst (λ (ws : List Value). FoundSoFar c.args.text.now (forest ws) after × OnlySoFar c.args.lists c.args.text.now (forest ws) after × (most_nested (forest ws) ≤ c.args.lists) × AreTyped (forest ws)) (sym c.in_ok-push-2.ensures.items)
+    (found_next c.args.text.now left next after vs v c.in-Some.ensures c.in_ok-value.ensures.found c.loop-next.invariant.0, only_next c.args.lists c.args.text.now left next after vs v c.in-Some.ensures c.in_ok-value.ensures.only c.loop-next.invariant.1, deep_more c.args.lists vs v c.loop-next.invariant.2 c.in_ok-value.ensures.deep, typed_more vs v c.loop-next.invariant.3 c.in_ok-value.ensures.typed)
 
 pub some_elements_at-returns-in_default-after_end-clause-only : goal.some_elements_at-returns-in_default-after_end-clause-only
 some_elements_at-returns-in_default-after_end-clause-only t c u ts end typed deep spelt =

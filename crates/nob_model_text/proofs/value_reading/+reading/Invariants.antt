@@ -1,7 +1,7 @@
 use Rattle.std.proofs.Common.{◌≡◌, ◌+◌, ◌*◌, ◌++◌, ◌≤◌, List, ℕ, length}
 use Rattle.nob_pickle.specs.Trees.{Trees}
 use Rattle.nob_pickle.specs.Shape.{forest}
-use Rattle.nob_model_text.specs.Values.{most_nested}
+use Rattle.nob_model_text.specs.Values.{most_nested, AreTyped}
 use Rattle.nob_model_text.proofs.Read.{FoundSoFar, OnlySoFar}
 use Rattle.nob_model_text.proofs.value_reading.+reading.Given as goal
 
@@ -22,7 +22,7 @@ decreases-some_elements_at l = 5 * l.lists + 3
 
 -- what was read and what is left are all, and what the whole spells is what was read and what the rest spells
 abbrev pub invariant-some_elements_at-loop-next : goal.invariant-some_elements_at-loop-next
-invariant-some_elements_at-loop-next l = FoundSoFar l.text (forest l.values.items) l.left × OnlySoFar l.lists l.text (forest l.values.items) l.left × (most_nested (forest l.values.items) ≤ l.lists)
+invariant-some_elements_at-loop-next l = FoundSoFar l.text (forest l.values.items) l.left × OnlySoFar l.lists l.text (forest l.values.items) l.left × (most_nested (forest l.values.items) ≤ l.lists) × AreTyped (forest l.values.items)
 
 abbrev pub decreases-some_elements_at-loop-next : goal.decreases-some_elements_at-loop-next
 decreases-some_elements_at-loop-next l = length l.left

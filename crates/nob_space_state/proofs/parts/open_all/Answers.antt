@@ -1,6 +1,5 @@
-use Rattle.std.proofs.Common.{◌≡◌, ◌+◌, ◌≤◌, ◌∷◌, ◌++◌, [], length, rules, sym, ap, subst, ◌∙◌, arith}
+use Rattle.std.proofs.Common.{◌+◌, ◌≤◌, ◌∷◌, [], length, rules, sym, ap, subst, ◌∙◌, arith}
 use Rattle.std.proofs.lemmas.List.{length-append}
-use Rattle.nob_session.specs.Stands.{Stands}
 use Rattle.nob_space_state.specs.Stands.{AreOpened}
 use Rattle.nob_space_state.proofs.Begins.{opened_push}
 use Rattle.nob_space_state.proofs.parts.open_all.Goals as goal

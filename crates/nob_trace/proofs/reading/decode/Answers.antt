@@ -12,7 +12,7 @@ returns-in_err-trace-clause-found c =
 
 pub returns-then-not-is_empty-clause-found : goal.returns-then-not-is_empty-clause-found
 returns-then-not-is_empty-clause-found c =
-    TraceProblem.behind c.in_ok-trace.trace c.in_ok-trace.rest.now c.in_ok-trace.ensures.found.1 (λ e. not_empty c.in_ok-trace.rest.now c.is_empty.result e c.is_empty.ensures c.if-not-is_empty.true) refl
+    TraceProblem.behind c.in_ok-trace.trace c.in_ok-trace.rest.now c.in_ok-trace.ensures.found.0 c.in_ok-trace.ensures.found.1 (λ e. not_empty c.in_ok-trace.rest.now c.is_empty.result e c.is_empty.ensures c.if-not-is_empty.true) refl
 
 pub returns-then-not-is_empty-clause-only : goal.returns-then-not-is_empty-clause-only
 returns-then-not-is_empty-clause-only c trace is spelt =

@@ -11,7 +11,7 @@ use Rattle.nob_trace.proofs.reading.decode_all.Goals as goal
 pub returns-in_err-trace-clause-found : goal.returns-in_err-trace-clause-found
 returns-in_err-trace-clause-found c =
     map_fault _ (TextFault c.loop-left.left.now) (λ fault. (all : List Trace) × (left : List ℕ) × TracesProblem c.args.text.now fault all left) c.from_residual.result c.in_err-trace.field-0.0 c.from_residual.ensures.1 c.in_err-trace.ensures.found
-    (λ f wrong. (c.loop-left.all.items, c.loop-left.left.now, record { text_is = c.loop-left.invariant.0.text_is; some = λ e. not_empty c.loop-left.left.now c.is_empty.result e c.is_empty.ensures c.loop-left-test.true; fault_is = wrong }))
+    (λ f wrong. (c.loop-left.all.items, c.loop-left.left.now, record { are = c.loop-left.invariant.0.are; text_is = c.loop-left.invariant.0.text_is; some = λ e. not_empty c.loop-left.left.now c.is_empty.result e c.is_empty.ensures c.loop-left-test.true; fault_is = wrong }))
 
 pub returns-in_err-trace-clause-only : goal.returns-in_err-trace-clause-only
 returns-in_err-trace-clause-only c all are spelt =

@@ -1,7 +1,7 @@
 use Rattle.std.proofs.Common.{◌<◌, ◌≤◌, ℕ, List, length, sym, subst, arith}
 use Rattle.nob_trace.specs.declared.stamped.Stamped.{Stamped}
 use Rattle.nob_trace.specs.Stamps.{last_stamp}
-use Rattle.nob_trace.proofs.ReadLines.{FoundSoFar, OnlySoFar, by_error, found_next, no_line, no_stamp, only_next, passed, unread_next}
+use Rattle.nob_trace.proofs.ReadLines.{FoundSoFar, OnlySoFar, by_error, found_next, no_line, no_stamp, only_end, only_next, passed, unread_next}
 use Rattle.nob_trace.proofs.reading.entries_at.Goals as goal
 
 pub returns-in_default-clause-only : goal.returns-in_default-clause-only
@@ -29,3 +29,8 @@ loop-alloc-preserved c =
       found_next c.args.text.now c.args.count c.loop-alloc.all c.loop-alloc.left.now c.in-Some.line.now c.in-Some.rest.now c.in_ok-entry.entry less c.in-Some.ensures c.in_ok-entry.ensures.found above c.loop-alloc.invariant.0,
       only_next c.args.text.now c.args.count c.loop-alloc.all c.loop-alloc.left.now c.in-Some.line.now c.in-Some.rest.now c.in_ok-entry.entry less c.in-Some.ensures c.in_ok-entry.ensures.only c.loop-alloc.invariant.1,
     )
+
+pub returns-clause-only : goal.returns-clause-only
+returns-clause-only c all rest long rise traced spelt =
+    let full : c.args.count ≤ length c.loop-alloc.all = let l = c.len.ensures in let t = c.loop-alloc-test.false in omega (arith, l, t) in
+    only_end c.args.text.now c.args.count c.loop-alloc.all c.loop-alloc.left.now full c.loop-alloc.invariant.1 all rest long rise traced spelt

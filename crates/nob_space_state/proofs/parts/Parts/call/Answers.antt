@@ -19,6 +19,7 @@ use Rattle.nob_space_state.specs.Stands.{Stands}
 use Rattle.nob_space_state.proofs.Calling.{call_judged, call_right, call_ok, call_wants, call_spelled, call_stands, few_calls, peer_range, next_free, stands_unsent}
 use Rattle.nob_space_state.proofs.Ends.{end_there}
 use Rattle.nob_space_state.proofs.Sent.{next_unpinned}
+use Rattle.nob_space_state.proofs.Orderly.{call_is}
 use Rattle.nob_space_state.proofs.parts.Parts.call.Goals as goal
 
 pub returns-in-Err-clause-answer : goal.returns-in-Err-clause-answer
@@ -108,7 +109,9 @@ returns-clause-stands c limits D stands =
       calls = c.args.self.now.calls_made + 1;
       jobs = c.args.self.now.jobs_made;
     }) (did.Call c.args.target.now c.args.method c.args.value.now c.new-call.result ∷ D)) (sym c.get.ensures.value)
-    (call_stands stands c.args.target.now c.args.method c.args.value.now c.index_mut-session.result.now c.hand.new.session c.hand.new.pins judged is
+    (call_stands stands c.args.target.now c.args.method c.args.value.now c.index_mut-session.result.now c.hand.new.session c.hand.new.pins
+    (λ call is_next. call_is c.args.here.now.space c.args.here.now.n limits D c.args.target.now c.args.method c.args.value.now call (call_ok stands c.args.target.now c.args.value.now (c.in_default.ensures {u = tt}) ∙ ap (λ (k : ℕ). Ok (answers.Called k)) (sym is_next)))
+    judged is
     c.in-Ok.payload.items c.in-Ok-hand.field-0 c.new-call.result c.in-Ok-counted_refs.reps.items c.push.new.self.items
     c.new-call.ensures (c.in-Ok.ensures {u = tt}).exact sent.number
     (λ before. sent.answer c.args.here.now.space c.args.target.now.owner limits (calls_at c.args.target.now.owner (history_of c.args.here.now.space c.args.here.now.n D)) before)

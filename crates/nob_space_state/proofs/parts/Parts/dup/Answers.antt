@@ -1,10 +1,11 @@
-use Rattle.std.proofs.Common.{◌≡◌, None, Some, refl, sym, ap, ◌∙◌}
+use Rattle.std.proofs.Common.{sym, ap, ◌∙◌}
 use Rattle.std.proofs.lemmas.Option.{none-some}
 use Rattle.nob_model_types.specs.declared.answer.Answer.TheVariants as answers
 use Rattle.nob_model.specs.Sending.{unless}
 use Rattle.nob_space_state.specs.Parts.{state_of}
 use Rattle.nob_space_state.proofs.Shows.{shows_hand_more}
 use Rattle.nob_space_state.proofs.Hands.{dup_right, dup_finds_room, dup_stands}
+use Rattle.nob_space_state.proofs.Orderly.{dup_is}
 use Rattle.nob_space_state.proofs.parts.Parts.dup.Goals as goal
 
 pub returns-in-Err-clause-answer : goal.returns-in-Err-clause-answer
@@ -18,5 +19,5 @@ returns-clause-answer c limits D stands = dup_right stands c.args.rep.now ∙ ap
 
 pub returns-clause-stands : goal.returns-clause-stands
 returns-clause-stands c limits D stands =
-    dup_stands stands c.args.rep.now c.hold.new.self
+    dup_stands stands c.args.rep.now c.hold.new.self (dup_is c.args.here.now.space c.args.here.now.n limits D c.args.rep.now (returns-clause-answer c limits D stands))
     (shows_hand_more _ _ _ _ _ c.args.self.now.table c.hold.new.self c.args.rep.now stands.table c.hold.ensures.left (c.in-Ok.ensures {u = tt}).answer (c.in-Ok.ensures {u = tt}).held)

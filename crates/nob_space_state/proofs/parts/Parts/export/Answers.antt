@@ -1,4 +1,4 @@
-use Rattle.std.proofs.Common.{◌≡◌, ◌+◌, ◌∷◌, List, None, Some, Ok, IsOk, length, refl, sym, ap, subst, ◌∙◌}
+use Rattle.std.proofs.Common.{◌≡◌, ◌+◌, ◌∷◌, Ok, IsOk, length, refl, sym, ap, subst, ◌∙◌}
 use Rattle.nob_ids.specs.declared.wire_rep.WireRep.{WireRep}
 use Rattle.nob_table.specs.Standings.{exported_standing}
 use Rattle.nob_table.specs.Table.{Becomes, IsRefusal, export_fault}
@@ -10,6 +10,7 @@ use Rattle.nob_model.specs.Sending.{unless}
 use Rattle.nob_space_state.specs.Parts.{state_of, with_table}
 use Rattle.nob_space_state.specs.Stands.{Stands}
 use Rattle.nob_space_state.proofs.Exported.{export_right, export_free, export_full, export_wants, export_stands, next_there}
+use Rattle.nob_space_state.proofs.Orderly.{export_is}
 use Rattle.nob_space_state.proofs.parts.Parts.export.Goals as goal
 
 pub returns-in-Ok-clause-answer : goal.returns-in-Ok-clause-answer
@@ -23,7 +24,7 @@ pub returns-in-Ok-clause-stands : goal.returns-in-Ok-clause-stands
 returns-in-Ok-clause-stands c limits D stands =
     let rep : c.in-Ok.rep ≡ own_ref c.args.here.now.space (length (exports D) + 1) = (c.in-Ok.ensures {u = tt}).rep ∙ next_there stands in
     subst (λ (w : WireRep). Stands c.args.here.now.space c.args.here.now.n limits (with_table c.export.new.self (state_of c.args.self.now)) (did.Export w ∷ D)) (sym rep)
-    (export_stands stands c.export.new.self (c.in-Ok.ensures {u = tt}).left (subst (λ (w : WireRep). Becomes c.args.self.now.table c.export.new.self w exported_standing) rep (c.in-Ok.ensures {u = tt}).exported) (c.in-Ok.ensures {u = tt}).next)
+    (export_stands stands c.export.new.self (export_is c.args.here.now.space c.args.here.now.n limits D (own_ref c.args.here.now.space (length (exports D) + 1)) (returns-in-Ok-clause-answer c limits D stands ∙ ap (λ (w : WireRep). Ok (answers.Exported w)) rep)) (c.in-Ok.ensures {u = tt}).left (subst (λ (w : WireRep). Becomes c.args.self.now.table c.export.new.self w exported_standing) rep (c.in-Ok.ensures {u = tt}).exported) (c.in-Ok.ensures {u = tt}).next)
 
 pub returns-in-Err-Fault-clause-answer : goal.returns-in-Err-Fault-clause-answer
 returns-in-Err-Fault-clause-answer c limits D stands =

@@ -22,6 +22,7 @@ use Rattle.nob_space_state.proofs.Calling.{peer_range, next_free, stands_unsent}
 use Rattle.nob_space_state.proofs.Ends.{end_there}
 use Rattle.nob_space_state.proofs.Finishing.{finish_of_none, finish_of_closed, finish_of_open, finish_stands, finish_wants, drop_stands, jobs_lent, limited_status, reply_judged, reply_spelled, run_sound, runs_call, runs_number, still_open}
 use Rattle.nob_space_state.proofs.Sent.{next_unpinned}
+use Rattle.nob_space_state.proofs.Orderly.{drop_is, finish_is}
 use Rattle.nob_space_state.proofs.parts.Parts.finish.Goals as goal
 
 pub returns-in_default-clause-answer : goal.returns-in_default-clause-answer
@@ -45,7 +46,7 @@ returns-then-has_closed-clause-answer c limits D stands =
     finish_of_closed stands c.args.job c.args.outcome.now c.in-Some.run'.now found (sym c.has_closed.ensures ∙ c.if-has_closed.true)
 
 pub returns-then-has_closed-clause-stands : goal.returns-then-has_closed-clause-stands
-returns-then-has_closed-clause-stands c limits D stands = drop_stands stands c.args.job c.end_job.new.table c.end_job.new.running.items c.end_job.ensures.back c.end_job.ensures.ended
+returns-then-has_closed-clause-stands c limits D stands = drop_stands stands c.args.job c.end_job.new.table c.end_job.new.running.items (drop_is c.args.here.now.space c.args.here.now.n limits D c.args.job c.args.outcome.now (returns-then-has_closed-clause-answer c limits D stands)) c.end_job.ensures.back c.end_job.ensures.ended
 
 pub returns-in-Err-clause-answer : goal.returns-in-Err-clause-answer
 returns-in-Err-clause-answer c limits D stands =
@@ -146,7 +147,7 @@ returns-clause-stands c limits D stands =
       calls = c.args.self.now.calls_made;
       jobs = c.args.self.now.jobs_made;
     }) (did.Finish c.args.job c.args.outcome.now ∷ D)) (sym c.get.ensures.value)
-    (finish_stands stands c.args.job c.args.outcome.now c.in-Some.run'.now found still c.in-Call.call c.in-Call.target c.in-Call.method c.in-Call.value c.in-Call.is
+    (finish_stands stands c.args.job c.args.outcome.now (finish_is c.args.here.now.space c.args.here.now.n limits D c.args.job c.args.outcome.now (returns-clause-answer c limits D stands)) c.in-Some.run'.now found still c.in-Call.call c.in-Call.target c.in-Call.method c.in-Call.value c.in-Call.is
     c.index_mut-session.result.now c.hand.new.session c.hand.new.pins is
     c.in-Ok.payload.items c.status_of.result c.in-Ok-hand.field-0 c.value_of-value.result.now c.in-Ok-counted_refs.reps.items c.end_job-2.new.table c.end_job-2.new.running.items
     c.status_of.ensures c.value_of-value.ensures (c.in-Ok.ensures {u = tt}).exact sent.number

@@ -1,6 +1,4 @@
-use Rattle.std.proofs.Common.{◌≡◌, ◌↔◌, Bool, true, false, not, refl, sym, ◌∙◌}
-use Rattle.std.specs.List.{list_any}
-use Rattle.nob_dirty.specs.Sets.{has_index, IsEmptyAt}
+use Rattle.std.proofs.Common.{◌≡◌, ◌↔◌, Bool, true, false, not, refl}
 use Rattle.nob_dirty.proofs.Membership.{empty_there}
 use Rattle.nob_space_state.proofs.parts.Parts.has_clients.Goals as goal
 

@@ -1,5 +1,4 @@
-use Rattle.std.proofs.Common.{◌≡◌, refl}
-use Rattle.nob_space_state.specs.Parts.{state_of}
+use Rattle.std.proofs.Common.{refl}
 use Rattle.nob_space_state.proofs.Begins.{begins_stands}
 use Rattle.nob_space_state.proofs.parts.Parts.new.Goals as goal
 

@@ -1,10 +1,11 @@
-use Rattle.std.proofs.Common.{◌≡◌, None, Some, refl, sym, ap, ◌∙◌}
+use Rattle.std.proofs.Common.{sym, ap, ◌∙◌}
 use Rattle.std.proofs.lemmas.Option.{none-some}
 use Rattle.nob_model_types.specs.declared.answer.Answer.TheVariants as answers
 use Rattle.nob_model.specs.Sending.{unless}
 use Rattle.nob_space_state.specs.Parts.{state_of}
 use Rattle.nob_space_state.proofs.Shows.{shows_hand_fewer}
-use Rattle.nob_space_state.proofs.Hands.{release_right, release_finds_hold, release_stands, hand_there}
+use Rattle.nob_space_state.proofs.Hands.{release_right, release_finds_hold, release_stands}
+use Rattle.nob_space_state.proofs.Orderly.{release_is}
 use Rattle.nob_space_state.proofs.parts.Parts.release.Goals as goal
 
 pub returns-in-Err-clause-answer : goal.returns-in-Err-clause-answer
@@ -18,6 +19,5 @@ returns-clause-answer c limits D stands = release_right stands c.args.rep.now �
 
 pub returns-clause-stands : goal.returns-clause-stands
 returns-clause-stands c limits D stands =
-    release_stands stands c.args.rep.now c.release.new.self
+    release_stands stands c.args.rep.now c.release.new.self (release_is c.args.here.now.space c.args.here.now.n limits D c.args.rep.now (returns-clause-answer c limits D stands))
     (shows_hand_fewer _ _ _ _ _ c.args.self.now.table c.release.new.self c.args.rep.now stands.table c.release.ensures.left (c.in-Ok.ensures {u = tt}).answer (c.in-Ok.ensures {u = tt}).released)
-    (hand_there stands c.args.rep.now (c.in_default.ensures {u = tt}))

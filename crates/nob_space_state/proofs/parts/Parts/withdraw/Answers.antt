@@ -1,12 +1,11 @@
-use Rattle.std.proofs.Common.{◌≡◌, None, Some, refl, sym, ap, subst, ◌∙◌}
+use Rattle.std.proofs.Common.{sym, ap, subst, ◌∙◌}
 use Rattle.std.proofs.lemmas.Option.{none-some}
-use Rattle.nob_table.specs.Table.{Becomes, withdraw_fault, own}
+use Rattle.nob_table.specs.Table.{Becomes}
 use Rattle.nob_table.specs.Standings.{withdrawn}
 use Rattle.nob_model_types.specs.declared.answer.Answer.TheVariants as answers
-use Rattle.nob_model.specs.Right.{own_ref}
 use Rattle.nob_model.specs.Sending.{unless}
-use Rattle.nob_space_state.specs.Parts.{state_of}
 use Rattle.nob_space_state.proofs.Exported.{withdraw_right, withdraw_free, withdraw_stands}
+use Rattle.nob_space_state.proofs.Orderly.{withdraw_is}
 use Rattle.nob_space_state.proofs.parts.Parts.withdraw.Goals as goal
 
 pub returns-in-Err-clause-answer : goal.returns-in-Err-clause-answer
@@ -20,6 +19,6 @@ returns-clause-answer c limits D stands = withdraw_right stands c.args.index ∙
 
 pub returns-clause-stands : goal.returns-clause-stands
 returns-clause-stands c limits D stands =
-    withdraw_stands stands c.withdraw.new.self c.args.index (c.in-Ok.ensures {u = tt}).left
+    withdraw_stands stands c.withdraw.new.self c.args.index (withdraw_is c.args.here.now.space c.args.here.now.n limits D c.args.index (returns-clause-answer c limits D stands)) (c.in-Ok.ensures {u = tt}).left
     (subst (λ me. Becomes c.args.self.now.table c.withdraw.new.self (record { owner = me; index = c.args.index }) withdrawn) stands.table.me (c.in-Ok.ensures {u = tt}).withdrawn)
     (c.in_default.ensures {u = tt})

@@ -1,0 +1,4 @@
+pub mod Lists
+pub mod Judging
+pub mod Playing
+pub mod Choosing

@@ -1,0 +1,4 @@
+pub mod Faults
+pub mod Verdicts
+pub mod Worlds
+pub mod Outputs

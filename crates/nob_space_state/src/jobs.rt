@@ -1,0 +1,101 @@
+//! The jobs of a space: Claim.
+
+ghost use Rattle.std.specs.Prelude.{◌≡◌, ℕ, ◌+◌, ◌<◌, List, ◌∷◌, Some, None, OnErr, IfOk};
+ghost use Rattle.std.specs.List.{list_any, position};
+ghost use Rattle.nob_ids.specs.declared.limits.Limits.{Limits as LimitsOf};
+ghost use Rattle.nob_model_types.specs.declared.answer.Answer.TheVariants as answers;
+ghost use Rattle.nob_model_words.specs.declared.deed.Deed.{Deed};
+ghost use Rattle.nob_model_words.specs.declared.deed.Deed.TheVariants as did;
+ghost use Rattle.nob_model_history.specs.Histories.{history_of};
+ghost use Rattle.nob_model.specs.Candidates as candidates;
+ghost use Rattle.nob_model.specs.Right as right;
+ghost use Rattle.nob_space_state.specs.Parts.{state_of};
+ghost use Rattle.nob_space_state.specs.Stands.{Stands, Keeps, Did, AnswersOrWants};
+
+use crate::error::SpaceError;
+use crate::parts::Parts;
+use nob_ids::{JobNo, SpaceId};
+use nob_item::Item;
+use nob_model::candidates::{is_running, target_of};
+use nob_model::{Here, Job, Message, Refusal, Run};
+
+// The greatest number of a job.
+const LAST_JOB: u64 = 1 << 48;
+
+impl Parts {
+    // Whether no job that runs has the target of a message.
+    fn is_free(&self, message: &Message) -> bool
+        ensures { result ≡ candidates.is_free (state_of self.now).work message.now }
+    {
+        !is_running(target_of(&message.item), self.running.as_slice())
+    }
+
+    // The place of the first ready job whose target isn't running.
+    fn first_free(&self) -> Option<usize>
+        ensures { result ≡ position (candidates.is_free (state_of self.now).work) self.now.ready.items }
+    {
+        self.ready.iter().position(|message| self.is_free(message))
+    }
+
+    /// Claim: the first ready job, in order of becoming ready, whose target isn't running; its value is copied. Linear
+    /// in the ready jobs times those that run.
+    pub fn claim(&mut self, here: &Here) -> Result<Job, SpaceError>
+        ensures answer { (limits : LimitsOf) (D : List Deed) → Stands here.now.space here.now.n limits (state_of self.old) D → AnswersOrWants (λ job. answers.Job job) result (right.right_claim (history_of here.now.space here.now.n D)) }
+        ensures stands { IfOk result (λ job. Did here.now.space here.now.n (state_of self.old) (state_of self.new) (did.Claim job)) }
+        ensures err { OnErr result (Keeps here.now.space here.now.n (state_of self.old) (state_of self.new)) }
+    {
+        let Some(place) = self.first_free() else {
+            return Err(SpaceError::Refused(Refusal::Nothing));
+        };
+        if self.jobs_made >= LAST_JOB {
+            return Err(SpaceError::Refused(Refusal::Limit));
+        }
+        let message = &self.ready[place];
+        let job = match job_of(JobNo::new(self.jobs_made + 1), message.from, &message.item) {
+            Ok(job) => job,
+            Err(error) => return Err(error),
+        };
+        if self.running.reserve(1).is_err() {
+            return Err(SpaceError::OutOfMemory);
+        }
+        let message = self.ready.remove(place);
+        let run = Run {
+            job: job.job,
+            message,
+        };
+        match self.running.insert(0, run) {
+            Ok(()) => {}
+            Err(_) => unreachable!(),
+        }
+        self.jobs_made += 1;
+        Ok(job)
+    }
+}
+
+// The job of a number that an item is.
+#[tactic(auto, unfolding(nob_model::specs::Right::job_of))]
+fn job_of(job: JobNo, client: SpaceId, item: &Item) -> Result<Job, SpaceError>
+    ensures { AnswersOrWants (λ job. answers.Job job) result (right.job_of job client item.now) }
+{
+    match item {
+        Item::Call {
+            call,
+            target,
+            method,
+            value,
+        } => {
+            let Ok(value) = value.copy() else {
+                return Err(SpaceError::OutOfMemory);
+            };
+            Ok(Job {
+                job,
+                client,
+                call: *call,
+                target: *target,
+                method: *method,
+                value,
+            })
+        }
+        _ => Err(SpaceError::Refused(Refusal::Nothing)),
+    }
+}

@@ -1,0 +1,141 @@
+//! TakeReply: what a call brought.
+
+ghost use Rattle.std.specs.Prelude.{◌≡◌, ◌≤◌, ℕ, ◌+◌, ◌<◌, List, ◌∷◌, filter, find, map, not, length, Some, None, OnErr, OnOk, IfOk};
+ghost use Rattle.std.specs.List.{list_any, position};
+ghost use Rattle.nob_ids.specs.declared.limits.Limits.{Limits as LimitsOf};
+ghost use Rattle.nob_ids.specs.declared.wire_rep.WireRep.{WireRep as Rep};
+ghost use Rattle.nob_model_words.specs.declared.deed.Deed.{Deed};
+ghost use Rattle.nob_model_work.specs.Work.{is_call};
+ghost use Rattle.nob_model_history.specs.declared.history.History.{History};
+ghost use Rattle.nob_model_history.specs.Histories.{history_of};
+ghost use Rattle.nob_model_history.specs.Holds.{times as times_word};
+ghost use Rattle.nob_model.specs.Right as right;
+ghost use Rattle.nob_space_state.specs.Parts.{state_of};
+ghost use Rattle.nob_space_state.specs.Stands.{Stands, IsState, TableShows, Keeps, Did, Answers};
+ghost use Rattle.nob_space_state.specs.Taking.{reps_of, is_full, is_reply, take_answer, answer_of, deed_of, CanTake, with_more, with_fewer};
+
+use crate::parts::Parts;
+use nob_ids::{CallNo, WireRep};
+use nob_item::Item;
+use nob_model::{Here, Message, RefCopy, Refusal, Stage};
+use nob_model_words::message::replies_to;
+use nob_pickle::Value;
+use nob_table::{ObjectTable, Part};
+
+// The greatest hand.
+const MOST_IN_HAND: u64 = u32::MAX as u64;
+
+/// What a call brought.
+#[derive(Debug, Drop)]
+pub enum CallResult {
+    /// Its reply: the status and the value.
+    Replied {
+        /// 0 where the method answered, 1 to 2 where it didn't, and 3 where a reference of it was lost.
+        status: u8,
+        /// The value.
+        value: Value,
+    },
+    /// Nothing, and it never will: the session closed before.
+    Ended,
+}
+
+impl Parts {
+    // The place of a call.
+    fn call_at(&self, call: CallNo) -> Option<usize>
+        ensures { result ≡ position (is_call call) self.now.calls.items }
+    {
+        self.calls.iter().position(|own| own.call == call)
+    }
+
+    // The place of the ready reply to a call.
+    fn reply_at(&self, call: CallNo) -> Option<usize>
+        ensures { result ≡ position (is_reply call) self.now.replies.items }
+    {
+        self.replies
+            .iter()
+            .position(|message| replies_to(call, &message.item))
+    }
+
+    // Whether the hand of a reference would pass its limit by the references of copies.
+    fn is_full(&self, rep: &WireRep, copies: &[RefCopy]) -> bool
+        ensures { result ≡ is_full self.now.table (reps_of copies.now) rep.now }
+    {
+        let before = self.hand(rep);
+        let more = times(rep, copies);
+        u64::from(before) + more as u64 > MOST_IN_HAND
+    }
+
+    // Whether one of their hands would.
+    fn is_overfull(&self, copies: &[RefCopy]) -> bool
+        ensures { result ≡ list_any (λ copy. is_full self.now.table (reps_of copies.now) copy.rep) copies.now }
+    {
+        copies.iter().any(|copy| self.is_full(&copy.rep, copies))
+    }
+
+    /// TakeReply of a call: its reply, whose references come into the hand, or that there will be none. It takes no
+    /// memory. Linear in the calls and the ready replies.
+    pub fn take_reply(&mut self, here: &Here, call: CallNo) -> Result<CallResult, Refusal>
+        requires { IsState here.now.space here.now.n (state_of self.old) }
+        ensures answer { (limits : LimitsOf) (D : List Deed) → Stands here.now.space here.now.n limits (state_of self.old) D → Answers answer_of result (right.right_take_reply call (history_of here.now.space here.now.n D)) }
+        ensures stands { IfOk result (λ brought. Did here.now.space here.now.n (state_of self.old) (state_of self.new) (deed_of call brought)) }
+        ensures err { OnErr result (Keeps here.now.space here.now.n (state_of self.old) (state_of self.new)) }
+    {
+        let Some(at) = self.call_at(call) else {
+            return Err(Refusal::NoCall);
+        };
+        let Some(place) = self.reply_at(call) else {
+            match self.calls[at].stage {
+                Stage::Sent => return Err(Refusal::NotReady),
+                Stage::Answered => return Err(Refusal::NotReady),
+                Stage::Ended => {}
+            }
+            self.calls.retain(|own| own.call != call);
+            return Ok(CallResult::Ended);
+        };
+        if self.is_overfull(self.replies[place].copies.as_slice()) {
+            return Err(Refusal::Limit);
+        }
+        let Message { item, copies, .. } = self.replies.remove(place);
+        take_over(&mut self.table, copies.as_slice());
+        self.calls.retain(|own| own.call != call);
+        match item {
+            Item::Reply { status, value, .. } => Ok(CallResult::Replied { status, value }),
+            _ => unreachable!(),
+        }
+    }
+}
+
+// How often a reference stands among copies.
+fn times(rep: &WireRep, copies: &[RefCopy]) -> usize
+    ensures times { result ≡ times_word rep.now (reps_of copies.now) }
+    ensures bound { result ≤ length copies.now }
+{
+    match copies {
+        [] => 0,
+        [copy, others @ ..] => {
+            let more = times(rep, others);
+            if copy.rep == *rep { more + 1 } else { more }
+        }
+    }
+}
+
+// The references of copies, which are lent, come into the hand.
+fn take_over(table: &mut ObjectTable, copies: &[RefCopy])
+    requires { CanTake table.old (reps_of copies.now) }
+    ensures { (s n : ℕ) (h : History) (H L : Rep → ℕ) → TableShows s n table.old h H L → TableShows s n table.new h (with_more (reps_of copies.now) H) (with_fewer (reps_of copies.now) L) }
+{
+    match copies {
+        [] => {}
+        [copy, others @ ..] => {
+            match table.hold(copy.rep, Part::Hand) {
+                Ok(()) => {}
+                Err(_) => unreachable!(),
+            }
+            match table.release(copy.rep, Part::Lent) {
+                Ok(()) => {}
+                Err(_) => unreachable!(),
+            }
+            take_over(table, others);
+        }
+    }
+}

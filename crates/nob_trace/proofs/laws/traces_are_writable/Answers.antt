@@ -1,0 +1,5 @@
+use Rattle.nob_trace.proofs.Writable.{entries}
+use Rattle.nob_trace.proofs.laws.traces_are_writable.Goals as goal
+
+pub returns : goal.returns
+returns c trace is = entries trace.entries is.entries
