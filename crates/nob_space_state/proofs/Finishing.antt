@@ -328,3 +328,11 @@ runs_number item call target method value number is = subst HasCallNumber is num
 -- a reply that isn't refused is of a value that may be sent, and finds a number
 pub reply_judged : (s client : ℕ) (st : State) (value : Value) → reply_refusal s client st value ≡ None → (value_refusal s st value ≡ None) × (send_refusal client Limited st ≡ None)
 reply_judged s client st value none = or_none _ _ none
+
+-- the end with the client of the job that was found is open, so it hasn't closed
+pub still_open : (j : ℕ) (runs : List Run) (sessions : List Roomy) (run other : Run) → find (is_run j) runs ≡ Some run → has_closed sessions run.message.from ≡ false → find (is_run j) runs ≡ Some other → has_closed sessions other.message.from ≡ true → ⊥
+still_open j runs sessions run other found still again cut =
+    let both : Some run ≡ Some other = sym found ∙ again in
+    let one : run ≡ other = cc in
+    let bad : true ≡ false = sym cut ∙ ap (λ (r : Run). has_closed sessions r.message.from) (sym one) ∙ still in
+    absurd (cc)

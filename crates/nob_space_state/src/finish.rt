@@ -1,18 +1,20 @@
 //! The event Finish, and how what a message has lent is given back.
 
-ghost use Rattle.std.specs.Prelude.{◌≡◌, ℕ, ◌-◌, ◌<◌, ◌≤◌, List, [], ◌∷◌, Some, None, Ok, Err, filter, flat_map, find, not, option_map, OnErr, IfOk, IfSome, MatchOption, MatchResult};
+ghost use Rattle.std.specs.Prelude.{◌≡◌, ℕ, ◌-◌, ◌<◌, ◌≤◌, List, [], ◌∷◌, true, Some, None, Ok, Err, filter, flat_map, find, not, option_map, OnErr, IfOk, IfSome, MatchOption, MatchResult};
 ghost use Rattle.nob_ids.specs.declared.limits.Limits.{Limits as LimitsOf};
 ghost use Rattle.nob_ids.specs.declared.wire_rep.WireRep.{WireRep as WireRepOf};
 ghost use Rattle.nob_model_types.specs.declared.event.Outcome.{Outcome as OutcomeOf};
 ghost use Rattle.nob_model_words.specs.declared.deed.Deed.{Deed};
 ghost use Rattle.nob_model_work.specs.Gifts as words;
 ghost use Rattle.nob_pickle.specs.declared.value.Value.TheVariants as values;
+ghost use Rattle.nob_model_work.specs.declared.work.Run.{Run as RunOf};
 ghost use Rattle.nob_model_work.specs.Work.{is_run};
 ghost use Rattle.nob_model_history.specs.Histories.{history_of};
 ghost use Rattle.nob_model_history.specs.declared.history.History.{History};
 ghost use Rattle.nob_model_history.specs.Holds.{times, copies_lent, target_lent, loans_of, is_lent};
 ghost use Rattle.nob_model.specs.Right as right;
 ghost use Rattle.nob_table.specs.Table.{standing};
+ghost use Rattle.nob_space_state.specs.Looks.{has_closed};
 ghost use Rattle.nob_space_state.specs.Parts.{state_of};
 ghost use Rattle.nob_space_state.specs.Sending.{reply_refusal, finish_answer, finish_deed};
 ghost use Rattle.nob_space_state.specs.Returns.{HasLent, GivesBack};
@@ -184,6 +186,8 @@ impl Parts {
         requires { IsState here.now.space here.now.n (state_of self.old) }
         ensures answer { (limits : LimitsOf) (D : List Deed) → Stands here.now.space here.now.n limits (state_of self.old) D → AnswersOrWants finish_answer result (right.right_finish here.now.space job outcome.now (history_of here.now.space here.now.n D)) }
         ensures stands { IfOk result (λ fate. Did here.now.space here.now.n (state_of self.old) (state_of self.new) (finish_deed job outcome.now fate)) }
+        // A reply is dropped without memory.
+        ensures dropped { (run : RunOf) → find (is_run job) self.old.running.items ≡ Some run → has_closed self.old.sessions.items run.message.from ≡ true → result ≡ Ok ReplyFate.Dropped }
         ensures err { OnErr result (Keeps here.now.space here.now.n (state_of self.old) (state_of self.new)) }
     {
         let Some(run) = find_run(job, self.running.as_slice()) else {

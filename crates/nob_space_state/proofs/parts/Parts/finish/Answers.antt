@@ -1,5 +1,6 @@
 use Rattle.std.proofs.Common.{◌≡◌, ℕ, ◌+◌, ◌-◌, ◌∷◌, List, true, false, Some, None, IsOk, find, nat_le, get_or, sym, ap, subst, ◌∙◌, refl, arith}
 use lib.ListN.{set}
+use Rattle.std.proofs.lemmas.Option.{none-some}
 use Rattle.nob_item.specs.Judging.{Fails}
 use Rattle.nob_item.specs.Writing.{bytes_of}
 use Rattle.nob_item.specs.declared.item.Item.TheVariants as items
@@ -19,7 +20,7 @@ use Rattle.nob_space_state.specs.Sending.{reply_refusal, AddsPins}
 use Rattle.nob_space_state.specs.Stands.{Stands}
 use Rattle.nob_space_state.proofs.Calling.{peer_range, next_free, stands_unsent}
 use Rattle.nob_space_state.proofs.Ends.{end_there}
-use Rattle.nob_space_state.proofs.Finishing.{finish_of_none, finish_of_closed, finish_of_open, finish_stands, finish_wants, drop_stands, jobs_lent, limited_status, reply_judged, reply_spelled, run_sound, runs_call, runs_number}
+use Rattle.nob_space_state.proofs.Finishing.{finish_of_none, finish_of_closed, finish_of_open, finish_stands, finish_wants, drop_stands, jobs_lent, limited_status, reply_judged, reply_spelled, run_sound, runs_call, runs_number, still_open}
 use Rattle.nob_space_state.proofs.Sent.{next_unpinned}
 use Rattle.nob_space_state.proofs.Orderly.{drop_is, finish_is}
 use Rattle.nob_space_state.proofs.parts.Parts.finish.Goals as goal
@@ -153,3 +154,36 @@ returns-clause-stands c limits D stands =
     (λ before. sent.answer c.args.here.now.space c.in-Some.run'.now.message.from limits (calls_at c.in-Some.run'.now.message.from (history_of c.args.here.now.space c.args.here.now.n D)) before)
     (c.in-Ok-counted_refs.ensures {u = tt}) (subst (λ (reps : List WireRep). AddsPins c.args.self.now.pins.bundles c.hand.new.pins.bundles c.in-Some.run'.now.message.from (c.index_mut-session.result.now.end.handed + 1) reps) c.as_slice-2.ensures.value sent.pins)
     c.end_job-2.ensures.back c.end_job-2.ensures.ended)
+
+pub returns-in_default-clause-dropped : goal.returns-in_default-clause-dropped
+returns-in_default-clause-dropped c run found cut = absurd (none-some run (subst (λ (runs : List Run). None ≡ find (is_run c.args.job) runs) c.as_slice.ensures.value (c.in_default.ensures {u = tt}) ∙ found))
+
+pub returns-in-Err-clause-dropped : goal.returns-in-Err-clause-dropped
+returns-in-Err-clause-dropped c run again cut =
+    let found : find (is_run c.args.job) c.args.self.now.running.items ≡ Some c.in-Some.run'.now = subst (λ (runs : List Run). find (is_run c.args.job) runs ≡ Some c.in-Some.run'.now) c.as_slice.ensures.value (sym (c.in-Some.ensures {u = tt})) in
+    let still : has_closed c.args.self.now.sessions.items c.in-Some.run'.now.message.from ≡ false = sym c.has_closed.ensures ∙ c.if-has_closed.false in
+    absurd (still_open c.args.job c.args.self.now.running.items c.args.self.now.sessions.items c.in-Some.run'.now run found still again cut)
+
+pub returns-in-Err-OutOfMemory-clause-dropped : goal.returns-in-Err-OutOfMemory-clause-dropped
+returns-in-Err-OutOfMemory-clause-dropped c run again cut =
+    let found : find (is_run c.args.job) c.args.self.now.running.items ≡ Some c.in-Some.run'.now = subst (λ (runs : List Run). find (is_run c.args.job) runs ≡ Some c.in-Some.run'.now) c.as_slice.ensures.value (sym (c.in-Some.ensures {u = tt})) in
+    let still : has_closed c.args.self.now.sessions.items c.in-Some.run'.now.message.from ≡ false = sym c.has_closed.ensures ∙ c.if-has_closed.false in
+    absurd (still_open c.args.job c.args.self.now.running.items c.args.self.now.sessions.items c.in-Some.run'.now run found still again cut)
+
+pub returns-in_default-counted_refs-clause-dropped : goal.returns-in_default-counted_refs-clause-dropped
+returns-in_default-counted_refs-clause-dropped c run again cut =
+    let found : find (is_run c.args.job) c.args.self.now.running.items ≡ Some c.in-Some.run'.now = subst (λ (runs : List Run). find (is_run c.args.job) runs ≡ Some c.in-Some.run'.now) c.as_slice.ensures.value (sym (c.in-Some.ensures {u = tt})) in
+    let still : has_closed c.args.self.now.sessions.items c.in-Some.run'.now.message.from ≡ false = sym c.has_closed.ensures ∙ c.if-has_closed.false in
+    absurd (still_open c.args.job c.args.self.now.running.items c.args.self.now.sessions.items c.in-Some.run'.now run found still again cut)
+
+pub returns-in_default-hand-clause-dropped : goal.returns-in_default-hand-clause-dropped
+returns-in_default-hand-clause-dropped c run again cut =
+    let found : find (is_run c.args.job) c.args.self.now.running.items ≡ Some c.in-Some.run'.now = subst (λ (runs : List Run). find (is_run c.args.job) runs ≡ Some c.in-Some.run'.now) c.as_slice.ensures.value (sym (c.in-Some.ensures {u = tt})) in
+    let still : has_closed c.args.self.now.sessions.items c.in-Some.run'.now.message.from ≡ false = sym c.has_closed.ensures ∙ c.if-has_closed.false in
+    absurd (still_open c.args.job c.args.self.now.running.items c.args.self.now.sessions.items c.in-Some.run'.now run found still again cut)
+
+pub returns-clause-dropped : goal.returns-clause-dropped
+returns-clause-dropped c run again cut =
+    let found : find (is_run c.args.job) c.args.self.now.running.items ≡ Some c.in-Some.run'.now = subst (λ (runs : List Run). find (is_run c.args.job) runs ≡ Some c.in-Some.run'.now) c.as_slice.ensures.value (sym (c.in-Some.ensures {u = tt})) in
+    let still : has_closed c.args.self.now.sessions.items c.in-Some.run'.now.message.from ≡ false = sym c.has_closed.ensures ∙ c.if-has_closed.false in
+    absurd (still_open c.args.job c.args.self.now.running.items c.args.self.now.sessions.items c.in-Some.run'.now run found still again cut)
