@@ -4,3 +4,5 @@ pub mod Premises
 pub mod Orderly
 pub mod Possible
 pub mod Claiming
+pub mod Waiting
+pub mod Calling
