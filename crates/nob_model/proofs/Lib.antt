@@ -6,3 +6,4 @@ pub mod Possible
 pub mod Claiming
 pub mod Waiting
 pub mod Calling
+pub mod Guarding

@@ -13,11 +13,13 @@ use Rattle.nob_model_types.specs.declared.entry.Entry.{Entry}
 use Rattle.nob_model_words.specs.declared.deed.Deed.{Deed}
 use Rattle.nob_model_words.specs.Deeds.{deeds}
 use Rattle.nob_model_words.specs.Sessions.{acted}
+use Rattle.nob_model_words.specs.Objects.{is_live}
 use Rattle.nob_model_history.specs.declared.history.History.{History}
 use Rattle.nob_model_work.specs.Work.{work}
 use Rattle.nob_model_history.specs.Histories.{history_of}
 use Rattle.nob_model_history.specs.Ends.{calls_at}
 use Rattle.nob_model_history.specs.Holds.{times, hand, lent_in, holds}
+use Rattle.nob_model_history.specs.Listing.{is_listed}
 use Rattle.nob_model_history.specs.Premises.{InTurn, SettlesSent, TookTurns, ObjectsInTurn}
 use Rattle.nob_model_history.specs.Transit.{is_some_of}
 use Rattle.nob_model.specs.Right.{right_act, right_frames, right_settle, right_clean, right_claim, right_withdraw, right_take_reply}
@@ -47,6 +49,10 @@ TurnsLaw = (s n : ℕ) (limits : Limits) (D : List Deed) → AreRightDeeds s n l
 -- in a list of right deeds objects were exported and withdrawn in turn
 abbrev pub ObjectsLaw : Type 0
 ObjectsLaw = (s n : ℕ) (limits : Limits) (D : List Deed) → AreRightDeeds s n limits D → ObjectsInTurn s D
+
+-- after a list of right deeds whoever is listed is listed for a live object
+abbrev pub ListedLaw : Type 0
+ListedLaw = (s n : ℕ) (limits : Limits) (D : List Deed) → AreRightDeeds s n limits D → (index c : ℕ) → is_listed s index c D ≡ true → is_live s index D ≡ true
 
 -- after a list of right deeds the holds of a reference are those in the hand and those that are lent
 abbrev pub HoldsLaw : Type 0

@@ -1,6 +1,6 @@
 //! Laws over the definitions: each is the contract of a function that does nothing.
 
-ghost use Rattle.nob_model.specs.Laws.{DeedsLaw, EntriesLaw, TurnLaw, SettledLaw, TurnsLaw, ObjectsLaw, ActedLaw, CallsLaw, HoldsLaw, ActLaw, SendLaw, SettleLaw, CleanLaw, ClaimLaw, WithdrawLaw, LeastLaw, ReplyLaw};
+ghost use Rattle.nob_model.specs.Laws.{DeedsLaw, EntriesLaw, TurnLaw, SettledLaw, TurnsLaw, ObjectsLaw, ActedLaw, CallsLaw, ListedLaw, HoldsLaw, ActLaw, SendLaw, SettleLaw, CleanLaw, ClaimLaw, WithdrawLaw, LeastLaw, ReplyLaw};
 
 /// What a list of right entries did is a list of right deeds, and each list of right deeds is what some right entries
 /// did.
@@ -32,6 +32,12 @@ pub fn acted()
 #[tactic(auto, using(crate::proofs::Calling::calls_law))]
 pub fn calls()
     ensures { CallsLaw }
+{}
+
+/// After a list of right deeds whoever is listed is listed for a live object.
+#[tactic(auto, using(crate::proofs::Guarding::listed_law))]
+pub fn listed()
+    ensures { ListedLaw }
 {}
 
 /// After a list of right deeds the holds of a reference, which are defined for every list as what came into the hand or
