@@ -58,7 +58,8 @@ use Rattle.nob_model.proofs.Waiting.{all_weaker, all_filter, settled_message}
 
 -- ---- one send
 
-refused_none : (refusal : Refusal) → Some refusal ≡ None → ⊥
+-- a refusal is there
+pub refused_none : (refusal : Refusal) → Some refusal ≡ None → ⊥
 refused_none refusal e = cc
 
 free_step : (shut full short : Bool) (number : ℕ) → refusal_in (cond shut (Err end_refusals.Closed) (cond full (Err end_refusals.QueueFull) (cond short (Err end_refusals.SeqEnd) (Ok number)))) ≡ None → Ok number ≡ cond shut (Err end_refusals.Closed) (cond full (Err end_refusals.QueueFull) (cond short (Err end_refusals.SeqEnd) (Ok number)))

@@ -1,5 +1,5 @@
 -- The laws of right lists, and of what a space could do next.
-use Rattle.std.specs.Prelude.{◌+◌, ◌≡◌, ◌≢◌, ◌≤◌, ◌↔◌, ℕ, Bool, true, false, List, [], ◌∷◌, ⊤, Option, MatchOption, Result, Ok, Err}
+use Rattle.std.specs.Prelude.{◌+◌, ◌≡◌, ◌≢◌, ◌≤◌, ◌↔◌, ◌==◌, ℕ, Bool, true, false, List, [], ◌∷◌, ⊤, Option, MatchOption, Result, Ok, Err}
 use Rattle.nob_ids.specs.declared.limits.Limits.{Limits}
 use Rattle.nob_ids.specs.declared.wire_rep.WireRep.{WireRep}
 use Rattle.nob_item.specs.declared.item.Item.{Item}
@@ -21,8 +21,8 @@ use Rattle.nob_model_history.specs.Ends.{calls_at}
 use Rattle.nob_model_history.specs.Holds.{times, hand, lent_in, holds}
 use Rattle.nob_model_history.specs.Listing.{is_listed}
 use Rattle.nob_model_history.specs.Premises.{InTurn, SettlesSent, TookTurns, ObjectsInTurn}
-use Rattle.nob_model_history.specs.Transit.{is_some_of}
-use Rattle.nob_model.specs.Right.{right_act, right_frames, right_settle, right_clean, right_claim, right_withdraw, right_take_reply}
+use Rattle.nob_model_history.specs.Transit.{is_some_of, pins}
+use Rattle.nob_model.specs.Right.{own_ref, right_act, right_frames, right_settle, right_clean, right_claim, right_withdraw, right_take_reply}
 use Rattle.nob_model.specs.Lists.{AreRight, AreRightDeeds}
 use Rattle.nob_model.specs.Next.{can_act, can_send, can_settle, can_clean, can_claim, can_withdraw, to_withdraw, reply_ready}
 
@@ -53,6 +53,10 @@ ObjectsLaw = (s n : ℕ) (limits : Limits) (D : List Deed) → AreRightDeeds s n
 -- after a list of right deeds whoever is listed is listed for a live object
 abbrev pub ListedLaw : Type 0
 ListedLaw = (s n : ℕ) (limits : Limits) (D : List Deed) → AreRightDeeds s n limits D → (index c : ℕ) → is_listed s index c D ≡ true → is_live s index D ≡ true
+
+-- after a list of right deeds an object that has pins at its owner is live
+abbrev pub PinnedLaw : Type 0
+PinnedLaw = (s n : ℕ) (limits : Limits) (D : List Deed) → AreRightDeeds s n limits D → (index : ℕ) → (pins (own_ref s index) (history_of s n D) == 0) ≡ false → is_live s index D ≡ true
 
 -- after a list of right deeds the holds of a reference are those in the hand and those that are lent
 abbrev pub HoldsLaw : Type 0

@@ -1,6 +1,6 @@
 //! Laws over the definitions: each is the contract of a function that does nothing.
 
-ghost use Rattle.nob_model.specs.Laws.{DeedsLaw, EntriesLaw, TurnLaw, SettledLaw, TurnsLaw, ObjectsLaw, ActedLaw, CallsLaw, ListedLaw, HoldsLaw, ActLaw, SendLaw, SettleLaw, CleanLaw, ClaimLaw, WithdrawLaw, LeastLaw, ReplyLaw};
+ghost use Rattle.nob_model.specs.Laws.{DeedsLaw, EntriesLaw, TurnLaw, SettledLaw, TurnsLaw, ObjectsLaw, ActedLaw, CallsLaw, ListedLaw, PinnedLaw, HoldsLaw, ActLaw, SendLaw, SettleLaw, CleanLaw, ClaimLaw, WithdrawLaw, LeastLaw, ReplyLaw};
 
 /// What a list of right entries did is a list of right deeds, and each list of right deeds is what some right entries
 /// did.
@@ -34,10 +34,11 @@ pub fn calls()
     ensures { CallsLaw }
 {}
 
-/// After a list of right deeds whoever is listed is listed for a live object.
-#[tactic(auto, using(crate::proofs::Guarding::listed_law))]
-pub fn listed()
-    ensures { ListedLaw }
+/// After a list of right deeds an object that somebody is listed for is live, and so is one that has pins at its owner.
+#[tactic(auto, using(crate::proofs::Guarding::listed_law, crate::proofs::Guarding::pinned_law))]
+pub fn guarded()
+    ensures listed { ListedLaw }
+    ensures pinned { PinnedLaw }
 {}
 
 /// After a list of right deeds the holds of a reference, which are defined for every list as what came into the hand or
