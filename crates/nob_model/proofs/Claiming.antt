@@ -1,7 +1,12 @@
--- Ready jobs are Calls, so the message to claim is one.
-use Rattle.std.proofs.Common.{◌≡◌, ℕ, ◌+◌, Bool, true, false, cond, List, [], ◌∷◌, ◌++◌, map, filter, find, Option, Some, None, Result, Err, refl, sym, ap}
-use Rattle.std.specs.Prelude.{⊤, nat_le, is_some, MatchOption}
-use Rattle.std.specs.List.{AllByRecursion}
+-- Ready jobs are Calls, so the message to claim is one; and a Claim starts the message that it named.
+use Rattle.std.proofs.Common.{◌≡◌, ℕ, ◌+◌, not, Bool, true, false, cond, List, [], ◌∷◌, ◌++◌, map, filter, find, Option, Some, None, Result, Err, refl, sym, ap, ◌∙◌}
+use Rattle.std.specs.Prelude.{◌==◌, ⊤, nat_le, is_some, MatchOption}
+use Rattle.std.specs.List.{AllByRecursion, list_any}
+use Rattle.std.proofs.lemmas.Bool.{eqb-true, eq-eqb, and_parts, and_from, both_ways, false_from_ne_true}
+use Rattle.std.proofs.lemmas.Cmp.{int_eq_equiv, nat_list_eq_equiv}
+use Rattle.nob_ids.specs.declared.limits.Limits.{Limits}
+use Rattle.nob_pickle.specs.Shape.{tree}
+use Rattle.nob_pickle.specs.Trees.{Tree, Trees, unit, int, bytes, list, ref, none, more}
 use Rattle.nob_item.specs.declared.item.Item.{Item}
 use Rattle.nob_item.specs.declared.item.Item.TheVariants as items
 use Rattle.nob_model_types.specs.declared.answer.Answer.{Answer}
@@ -12,12 +17,17 @@ use Rattle.nob_model_words.specs.declared.deed.Deed.{Deed}
 use Rattle.nob_model_words.specs.declared.deed.Deed.TheVariants as did
 use Rattle.nob_model_words.specs.declared.message.Message.{Message}
 use Rattle.nob_model_words.specs.Sessions.{item_at}
-use Rattle.nob_model_words.specs.Messages.{new_message, message_after, is_of, is_not_from, is_job, is_lost_message}
+use Rattle.nob_model_words.specs.Messages.{new_message, message_after, is_of, is_not_from, is_call_of, is_job, is_lost_message}
+use Rattle.nob_model_words.specs.Same.{same_tree, same_trees}
+use Rattle.nob_model_history.proofs.Dirtying.{same_self}
 use Rattle.nob_model_work.specs.declared.work.InHand.{InHand}
 use Rattle.nob_model_work.specs.Work.{without_first, wait, make_ready, make_reply, is_none_of, after_message, after_act, after_settlement, without_waiting, after_settle, after_claim, after_finish, after_take, after_end, after_call, after_close, work_after, with_loans, work}
 use Rattle.nob_model_history.specs.Histories.{history_of}
-use Rattle.nob_model.specs.Candidates.{is_free, to_claim}
-use Rattle.nob_model.specs.Right.{last_number, jobs_made, job_of, claim_of, right_claim}
+use Rattle.nob_model.specs.Candidates.{target_of, is_free, to_claim}
+use Rattle.nob_model.specs.Right.{last_number, jobs_made, job_of, claim_of, right_claim, right_after}
+use Rattle.nob_model.specs.Lists.{IsRightDeed}
+use Rattle.nob_model.proofs.Doing.{was_answered}
+use Rattle.nob_model.proofs.Accepted.{found_passes, claim_tells}
 use Rattle.nob_model.specs.Laws.{is_possible, ClaimLaw}
 
 -- whether an item is a Call
@@ -159,3 +169,67 @@ claim_found made (Some message) is = limit_step (nat_le last_number made) (job_o
 pub claim_law : ClaimLaw
 unfolding right_claim
 claim_law s n D = claim_found (jobs_made D) (to_claim (history_of s n D)) (found_call (is_free (work s n D)) (work s n D).ready (ready_calls s n D))
+
+-- ---- the message that a Claim starts
+
+mutual
+  -- a tree is the same as itself
+  self_tree : (t : Tree) → same_tree t t ≡ true
+  self_tree unit = refl
+  self_tree (int a) = int_eq_equiv.refl a
+  self_tree (bytes a) = nat_list_eq_equiv.refl a
+  self_tree (list a) = self_trees a
+  self_tree (ref a) = same_self a
+
+  self_trees : (ts : Trees) → same_trees ts ts ≡ true
+  self_trees none = refl
+  self_trees (more t ts) = and_from (same_tree t t) (same_trees ts ts) (self_tree t) (self_trees ts)
+
+-- a message that is the Call of a job has its contents
+job_message : (job : Job) (message : Message) → job.client ≡ message.from → message.item ≡ items.Call job.call job.target job.method job.value → is_job job message ≡ true
+job_message job message client item =
+    and_from (message.from == job.client) (is_call_of job message.item) (eq-eqb message.from job.client (sym client))
+    (ap (is_call_of job) item ∙ and_from _ _ (and_from _ _ (and_from _ _ (eq-eqb job.call job.call refl) (eq-eqb job.target job.target refl)) (eq-eqb job.method job.method refl)) (self_tree (tree job.value)))
+
+-- an item with the contents of a job calls its target
+job_target : (job : Job) (item : Item) → is_call_of job item ≡ true → target_of item ≡ job.target
+job_target job (items.Call call target method value) is = eqb-true target job.target (and_parts (call == job.call) (target == job.target) (and_parts _ _ (and_parts _ _ is).0).0).1
+job_target job (items.Reply call status value) is = cc
+job_target job (items.Settle item) is = cc
+job_target job (items.Dirty index) is = cc
+job_target job (items.DirtyOk index) is = cc
+job_target job (items.DirtyNo index) is = cc
+job_target job (items.Clean index) is = cc
+
+-- what isn't free hasn't the contents of a job whose target is
+not_free_other : (W : InHand) (job : Job) (message : Message) → target_of message.item ≡ job.target → is_free W message ≡ true → (other : Message) → is_free W other ≡ false → is_job job other ≡ false
+not_free_other W job message target free other busy =
+    let same : is_job job other ≡ true → target_of other.item ≡ target_of message.item = λ is. job_target job other.item (and_parts (other.from == job.client) (is_call_of job other.item) is).1 ∙ sym target in
+    false_from_ne_true (is_job job other) (λ is. both_ways (is_free W other) busy (ap (λ (t : ℕ). not (list_any (λ run. target_of run.message.item == t) W.running)) (same is) ∙ free))
+
+some_same : {A : Type 0} (x y : A) → Some x ≡ Some y → x ≡ y
+some_same x y e = cc
+
+none_some : {A : Type 0} (x : A) → None ≡ Some x → ⊥
+none_some x e = cc
+
+by_step : {A : Type 0} (test other : A → Bool) (found first : A) (rest again : Option A) → ((x : A) → test x ≡ false → other x ≡ false) → other found ≡ true → (rest ≡ Some found → again ≡ Some found) → (b : Bool) → test first ≡ b → cond b (Some first) rest ≡ Some found → cond (other first) (Some first) again ≡ Some found
+by_step test other found first rest again unlike passes behind true is here =
+    let same : first ≡ found = some_same first found here in
+    ap (λ (b : Bool). cond b (Some first) again) (ap other same ∙ passes) ∙ ap Some same
+by_step test other found first rest again unlike passes behind false is here = ap (λ (b : Bool). cond b (Some first) again) (unlike first is) ∙ behind here
+
+-- what a search finds another finds too, if it passes there, and what doesn't pass here doesn't pass there
+found_by : {A : Type 0} (test other : A → Bool) (xs : List A) (found : A) → ((x : A) → test x ≡ false → other x ≡ false) → other found ≡ true → find test xs ≡ Some found → find other xs ≡ Some found
+found_by test other [] found unlike passes here = absurd (none_some found here)
+found_by test other (x ∷ xs) found unlike passes here = by_step test other found x (find test xs) (find other xs) unlike passes (found_by test other xs found unlike passes) (test x) refl here
+
+-- a right Claim starts the message that it named: the first ready job whose target isn't running
+pub claimed_message : (s n : ℕ) (limits : Limits) (job : Job) (D : List Deed) → IsRightDeed s n limits (did.Claim job) D → (message : Message) × (to_claim (history_of s n D) ≡ Some message) × (find (is_job job) (work s n D).ready ≡ Some message)
+unfolding right_after
+claimed_message s n limits job D right =
+    let told = claim_tells job (history_of s n D) (was_answered s n limits (did.Claim job) D right) in
+    let message : Message = told.0 in
+    let target : target_of message.item ≡ job.target = ap target_of told.4 in
+    let free = found_passes (is_free (work s n D)) (work s n D).ready message told.1 in
+    (message, told.1, found_by (is_free (work s n D)) (is_job job) (work s n D).ready message (not_free_other (work s n D) job message target free) (job_message job message told.3 told.4) told.1)

@@ -8,3 +8,6 @@ pub mod Made
 pub mod Carrying
 pub mod Replying
 pub mod Lending
+pub mod Waiting
+pub mod Calling
+pub mod Guarding

@@ -1,7 +1,10 @@
 -- The laws of right lists, and of what a space could do next.
-use Rattle.std.specs.Prelude.{◌+◌, ◌≡◌, ◌≢◌, ◌≤◌, ◌↔◌, ℕ, Bool, true, false, List, MatchOption, Result, Ok, Err}
+use Rattle.std.specs.Prelude.{◌+◌, ◌≡◌, ◌≢◌, ◌≤◌, ◌↔◌, ◌==◌, ℕ, Bool, true, false, List, [], ◌∷◌, ⊤, Option, MatchOption, Result, Ok, Err}
 use Rattle.nob_ids.specs.declared.limits.Limits.{Limits}
 use Rattle.nob_ids.specs.declared.wire_rep.WireRep.{WireRep}
+use Rattle.nob_item.specs.declared.item.Item.{Item}
+use Rattle.nob_model_end.specs.Right as end
+use Rattle.nob_model_end.specs.declared.entry.EndEntry.{EndEntry}
 use Rattle.nob_model_types.specs.declared.answer.Answer.{Answer}
 use Rattle.nob_model_types.specs.declared.answer.Answer.TheVariants as answers
 use Rattle.nob_model_types.specs.declared.refusal.Refusal.{Refusal}
@@ -9,13 +12,17 @@ use Rattle.nob_model_types.specs.declared.refusal.Refusal.TheVariants as refusal
 use Rattle.nob_model_types.specs.declared.entry.Entry.{Entry}
 use Rattle.nob_model_words.specs.declared.deed.Deed.{Deed}
 use Rattle.nob_model_words.specs.Deeds.{deeds}
+use Rattle.nob_model_words.specs.Sessions.{acted}
+use Rattle.nob_model_words.specs.Objects.{is_live}
 use Rattle.nob_model_history.specs.declared.history.History.{History}
 use Rattle.nob_model_work.specs.Work.{work}
 use Rattle.nob_model_history.specs.Histories.{history_of}
+use Rattle.nob_model_history.specs.Ends.{calls_at}
 use Rattle.nob_model_history.specs.Holds.{times, hand, lent_in, holds}
+use Rattle.nob_model_history.specs.Listing.{is_listed}
 use Rattle.nob_model_history.specs.Premises.{InTurn, SettlesSent, TookTurns, ObjectsInTurn}
-use Rattle.nob_model_history.specs.Transit.{is_some_of}
-use Rattle.nob_model.specs.Right.{right_act, right_frames, right_settle, right_clean, right_claim, right_withdraw, right_take_reply}
+use Rattle.nob_model_history.specs.Transit.{is_some_of, pins}
+use Rattle.nob_model.specs.Right.{own_ref, right_act, right_frames, right_settle, right_clean, right_claim, right_withdraw, right_take_reply}
 use Rattle.nob_model.specs.Lists.{AreRight, AreRightDeeds}
 use Rattle.nob_model.specs.Next.{can_act, can_send, can_settle, can_clean, can_claim, can_withdraw, to_withdraw, reply_ready}
 
@@ -43,9 +50,35 @@ TurnsLaw = (s n : ℕ) (limits : Limits) (D : List Deed) → AreRightDeeds s n l
 abbrev pub ObjectsLaw : Type 0
 ObjectsLaw = (s n : ℕ) (limits : Limits) (D : List Deed) → AreRightDeeds s n limits D → ObjectsInTurn s D
 
+-- after a list of right deeds whoever is listed is listed for a live object
+abbrev pub ListedLaw : Type 0
+ListedLaw = (s n : ℕ) (limits : Limits) (D : List Deed) → AreRightDeeds s n limits D → (index c : ℕ) → is_listed s index c D ≡ true → is_live s index D ≡ true
+
+-- after a list of right deeds an object that has pins at its owner is live
+abbrev pub PinnedLaw : Type 0
+PinnedLaw = (s n : ℕ) (limits : Limits) (D : List Deed) → AreRightDeeds s n limits D → (index : ℕ) → (pins (own_ref s index) (history_of s n D) == 0) ≡ false → is_live s index D ≡ true
+
 -- after a list of right deeds the holds of a reference are those in the hand and those that are lent
 abbrev pub HoldsLaw : Type 0
 HoldsLaw = (s n : ℕ) (limits : Limits) (D : List Deed) → AreRightDeeds s n limits D → (rep : WireRep) → holds s rep (history_of s n D) ≡ hand rep D + times rep (lent_in s (work s n D))
+
+-- items have the numbers n, n + 1, .. in order
+abbrev pub AreFrom : ℕ → List (ℕ × Option Item) → Type 0
+AreFrom n [] = ⊤
+AreFrom n (pair ∷ pairs) = (pair.0 ≡ n) × AreFrom (n + 1) pairs
+
+-- in a list of right deeds the items from a peer that were acted on have the numbers 1, 2, .. in order
+abbrev pub ActedLaw : Type 0
+ActedLaw = (s n : ℕ) (limits : Limits) (D : List Deed) → AreRightDeeds s n limits D → (p : ℕ) → AreFrom 1 (acted p D)
+
+-- each call on an end of a session is right after the calls before
+abbrev pub AreRightCalls : (me peer : ℕ) → Limits → List EndEntry → Type 0
+AreRightCalls me peer limits [] = ⊤
+AreRightCalls me peer limits (call ∷ calls) = end.IsRight me peer limits call calls × AreRightCalls me peer limits calls
+
+-- in a list of right deeds the calls on the end with each peer are right
+abbrev pub CallsLaw : Type 0
+CallsLaw = (s n : ℕ) (limits : Limits) (D : List Deed) → AreRightDeeds s n limits D → (p : ℕ) → AreRightCalls s p limits (calls_at p (history_of s n D))
 
 -- whether a result is no refusal, limits and free numbers aside
 abbrev pub is_possible : Result Answer Refusal → Bool

@@ -1,6 +1,6 @@
 //! Laws over the definitions: each is the contract of a function that does nothing.
 
-ghost use Rattle.nob_model.specs.Laws.{DeedsLaw, EntriesLaw, TurnLaw, SettledLaw, TurnsLaw, ObjectsLaw, HoldsLaw, ActLaw, SendLaw, SettleLaw, CleanLaw, ClaimLaw, WithdrawLaw, LeastLaw, ReplyLaw};
+ghost use Rattle.nob_model.specs.Laws.{DeedsLaw, EntriesLaw, TurnLaw, SettledLaw, TurnsLaw, ObjectsLaw, ActedLaw, CallsLaw, ListedLaw, PinnedLaw, HoldsLaw, ActLaw, SendLaw, SettleLaw, CleanLaw, ClaimLaw, WithdrawLaw, LeastLaw, ReplyLaw};
 
 /// What a list of right entries did is a list of right deeds, and each list of right deeds is what some right entries
 /// did.
@@ -19,6 +19,26 @@ pub fn premises()
     ensures settled { SettledLaw }
     ensures turns { TurnsLaw }
     ensures objects { ObjectsLaw }
+{}
+
+/// In every list of right deeds the items from each peer that were acted on have the numbers 1, 2, .. in order.
+#[tactic(auto, using(crate::proofs::Waiting::acted_law))]
+pub fn acted()
+    ensures { ActedLaw }
+{}
+
+/// In every list of right deeds the calls on the end with each peer are right calls on that end. The law of a pair of
+/// ends asks this of both, and that each arriving frame was given by the other.
+#[tactic(auto, using(crate::proofs::Calling::calls_law))]
+pub fn calls()
+    ensures { CallsLaw }
+{}
+
+/// After a list of right deeds an object that somebody is listed for is live, and so is one that has pins at its owner.
+#[tactic(auto, using(crate::proofs::Guarding::listed_law, crate::proofs::Guarding::pinned_law))]
+pub fn guarded()
+    ensures listed { ListedLaw }
+    ensures pinned { PinnedLaw }
 {}
 
 /// After a list of right deeds the holds of a reference, which are defined for every list as what came into the hand or
