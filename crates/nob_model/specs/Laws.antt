@@ -92,7 +92,7 @@ abbrev pub gives_frame : Result Answer Refusal → Bool
 gives_frame (Ok (answers.Frames frames)) = is_some_of frames
 gives_frame _ = false
 
--- there is an item from p to act on exactly where Act is no refusal
+-- there is an item from p to act on exactly where Act is no refusal, limits and free numbers aside
 abbrev pub ActLaw : Type 0
 ActLaw = (s n p : ℕ) (h : History) → can_act s n p h ≡ is_possible (right_act s n p h)
 
@@ -100,15 +100,15 @@ ActLaw = (s n p : ℕ) (h : History) → can_act s n p h ≡ is_possible (right_
 abbrev pub SendLaw : Type 0
 SendLaw = (s n p window : ℕ) (h : History) → can_send s n p window h ≡ gives_frame (right_frames s n p window h)
 
--- there is a message to settle exactly where Settle is no refusal
+-- there is a message to settle exactly where Settle is no refusal, limits and free numbers aside
 abbrev pub SettleLaw : Type 0
 SettleLaw = (s n : ℕ) (h : History) → can_settle s n h ≡ is_possible (right_settle s n h)
 
--- there is a surrogate to give up exactly where Clean is no refusal
+-- there is a surrogate to give up exactly where Clean is no refusal, limits and free numbers aside
 abbrev pub CleanLaw : Type 0
 CleanLaw = (s n : ℕ) (h : History) → can_clean s n h ≡ is_possible (right_clean s n h)
 
--- there is a job to claim exactly where Claim is no refusal
+-- there is a job to claim exactly where Claim is no refusal, limits and free numbers aside
 abbrev pub ClaimLaw : Type 0
 ClaimLaw = (s n : ℕ) (D : List Deed) → can_claim (history_of s n D) ≡ is_possible (right_claim (history_of s n D))
 

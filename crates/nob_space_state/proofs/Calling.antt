@@ -59,7 +59,7 @@ use Rattle.nob_space_state.specs.Sending.{ref_refusal, refs_refusal, value_refus
 use Rattle.nob_model.specs.Lists.{IsRightDeed}
 use Rattle.nob_space_state.proofs.Orderly.{orderly}
 use Rattle.nob_space_state.specs.Stands.{Stands, TableStands}
-use Rattle.nob_space_state.proofs.Quiet.{loans_made}
+use Rattle.nob_model.proofs.Made.{loans_made}
 use Rattle.nob_space_state.proofs.Ends.{end_there, ends_changed, ends_kept}
 use Rattle.nob_space_state.proofs.Sent.{HandsOne, calls_here, calls_elsewhere, pins_then, shows_handed, stands_handed}
 use Rattle.nob_space_state.proofs.Told.{held_there, gone_there, closed_there}

@@ -32,8 +32,10 @@ use Rattle.nob_model.specs.Candidates.{target_of, is_free}
 use Rattle.nob_space_state.specs.Parts.{State, with_work}
 use Rattle.nob_model.specs.Lists.{IsRightDeed}
 use Rattle.nob_space_state.specs.Stands.{Stands}
-use Rattle.nob_space_state.proofs.Firsts.{narrower_first, without_all, times_without}
-use Rattle.nob_space_state.proofs.Fixed.{AreFixed, work_fixed, fixed_stays}
+use Rattle.nob_space_state.proofs.Firsts.{narrower_first, times_without}
+use Rattle.nob_model.proofs.Accepted.{found_passes}
+use Rattle.nob_model.proofs.Carrying.{all_found, all_without}
+use Rattle.nob_model.proofs.Made.{AreFixed, work_fixed, fixed_stays}
 use Rattle.nob_space_state.proofs.Pinned.{times_both}
 
 mutual
@@ -122,32 +124,16 @@ claim_lends s j rep W m found =
     let after = times_lent s rep (claimed j m W) in
     omega (arith, ready, running, before, after)
 
--- what is first in a list passes what all pass
-all_first : {A : Type 0} (P : A → Type 0) (test : A → Bool) (xs : List A) (m : A) → find test xs ≡ Some m → AllByRecursion P xs → P m
-all_first P test [] m found all = absurd (none-some m found)
-all_first {A} P test (x ∷ xs) m found all = elim (test x) as (λ b. cond b (Some x) (find test xs) ≡ Some m → P m) [
-  | true ↦ λ here. (let is : x ≡ m = cc in subst P is all.0)
-  | false ↦ λ there. all_first P test xs m there all.1
-] found
-
--- what is found passes the test
-pub found_passes : {A : Type 0} (test : A → Bool) (xs : List A) (m : A) → find test xs ≡ Some m → test m ≡ true
-found_passes test [] m found = absurd (none-some m found)
-found_passes {A} test (x ∷ xs) m found = elim (test x) as (λ b. test x ≡ b → cond b (Some x) (find test xs) ≡ Some m → test m ≡ true) [
-  | true ↦ λ e here. (let is : x ≡ m = cc in subst (λ y. test y ≡ true) is e)
-  | false ↦ λ e there. found_passes test xs m there
-] refl found
-
 module _ (s n : ℕ) (D : List Deed) (m : Message) (job : Job) (j : ℕ) (found : find (is_free (work s n D)) (work s n D).ready ≡ Some m) (is : IsOf j m job) where
   -- the work in hand after a Claim is fixed
   claimed_fixed : AreFixed s n (Claim job ∷ D) (claimed job.job m (work s n D))
   unfolding message_after run_after copy_after
   claimed_fixed =
       let fixed : AreFixed s n D (work s n D) = work_fixed s n D in
-      let its : message_after s n D m ≡ m = all_first (λ message. message_after s n D message ≡ message) (is_free (work s n D)) (work s n D).ready m found fixed.ready in
+      let its : message_after s n D m ≡ m = all_found (λ message. message_after s n D message ≡ message) (is_free (work s n D)) (work s n D).ready m found fixed.ready in
       record {
         waiting = fixed.waiting;
-        ready = without_all (λ message. message_after s n D message ≡ message) (is_free (work s n D)) (work s n D).ready fixed.ready;
+        ready = all_without (λ message. message_after s n D message ≡ message) (is_free (work s n D)) (work s n D).ready fixed.ready;
         running = (ap (λ (w : Message). record { job = job.job; message = w }) its, fixed.running);
         replies = fixed.replies;
       }

@@ -41,7 +41,7 @@ use Rattle.nob_model.specs.Right.{calls_made, jobs_made, right_frames}
 use Rattle.nob_space_state.specs.Parts.{State, with_sessions}
 use Rattle.nob_model.specs.Lists.{IsRightDeed}
 use Rattle.nob_space_state.specs.Stands.{Stands, EndsStand, bundle, far_state}
-use Rattle.nob_space_state.proofs.Quiet.{loans_made}
+use Rattle.nob_model.proofs.Made.{loans_made}
 
 -- one element changes
 set_here : {X : Type 0} (xs : List X) (at : ℕ) (y z : X) → slice_get (set xs at y) at ≡ Some z → z ≡ y

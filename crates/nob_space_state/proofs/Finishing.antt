@@ -48,7 +48,7 @@ use Rattle.nob_space_state.specs.Stands.{Stands, TableShows, TableStands}
 use Rattle.nob_space_state.proofs.Orderly.{orderly}
 use Rattle.nob_space_state.proofs.Calling.{value_there, send_there, pickle_there, or_none, stands_sent}
 use Rattle.nob_space_state.proofs.Pinned.{times_both}
-use Rattle.nob_space_state.proofs.Quiet.{loans_made}
+use Rattle.nob_model.proofs.Made.{loans_made}
 use Rattle.nob_space_state.proofs.Running.{IsCall, IsSoundRun, AreSound, HasCallNumber, all_filter, all_found, work_sound}
 use Rattle.nob_space_state.proofs.Sent.{HandsOne, shows_handed}
 use Rattle.nob_space_state.proofs.Told.{closed_there}

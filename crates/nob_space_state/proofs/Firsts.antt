@@ -66,11 +66,6 @@ narrower_first {A} wide narrow (x ∷ xs) m within found passes = elim (wide x) 
       rw later (rest.0, ap (λ ys. x ∷ ys) rest.1)
 ] refl found
 
--- what all elements hold, all but one hold
-pub without_all : {A : Type 0} (P : A → Type 0) (test : A → Bool) (xs : List A) → AllByRecursion P xs → AllByRecursion P (without_first test xs)
-without_all P test [] all = all
-without_all P test (x ∷ xs) all = elim (test x) as (λ b. AllByRecursion P (if b then xs else x ∷ without_first test xs)) [ true ↦ all.1 | false ↦ (all.0, without_all P test xs all.1) ]
-
 -- what the first that passes brings to a list, and what the others bring
 pub times_without : {A : Type 0} (f : A → List WireRep) (test : A → Bool) (rep : WireRep) (xs : List A) (m : A) → find test xs ≡ Some m
     → times rep (flat_map f xs) ≡ times rep (f m) + times rep (flat_map f (without_first test xs))

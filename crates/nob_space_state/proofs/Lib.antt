@@ -12,7 +12,6 @@ pub mod Begins
 pub mod Ends
 pub mod Hands
 pub mod Firsts
-pub mod Fixed
 pub mod Claiming
 pub mod Sent
 pub mod Calling

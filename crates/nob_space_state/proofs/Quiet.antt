@@ -19,42 +19,7 @@ use Rattle.nob_model_history.specs.Ends.{calls_at}
 use Rattle.nob_model_history.specs.Transit.{bundles, dirties}
 use Rattle.nob_model_history.specs.Listing.{is_listed}
 use Rattle.nob_model.specs.Right.{calls_made, jobs_made}
-
--- a function of which two steps are one, over a list
-pub map_again : {A : Type 0} (f : A → A) → ((x : A) → f (f x) ≡ f x) → (xs : List A) → map f (map f xs) ≡ map f xs
-map_again f again [] = refl
-map_again f again (x ∷ xs) = rw (again x, map_again f again xs) refl
-
--- loans that were made are made
-loan_again : (usable : Bool) (loan : Loan) → loan_after usable (loan_after usable loan) ≡ loan_after usable loan
-loan_again true loans.Due = refl
-loan_again false loans.Due = refl
-loan_again usable loans.Lent = refl
-loan_again usable loans.Never = refl
-
-copy_again : (s n : ℕ) (D : List Deed) (copy : RefCopy) → copy_after s n D (copy_after s n D copy) ≡ copy_after s n D copy
-unfolding copy_after
-copy_again s n D copy = ap (λ loan. record { rep = copy.rep; loan = loan }) (loan_again (is_own s copy.rep || is_usable s n copy.rep D) copy.loan)
-
-message_again : (s n : ℕ) (D : List Deed) (message : Message) → message_after s n D (message_after s n D message) ≡ message_after s n D message
-unfolding message_after
-message_again s n D message = ap (λ copies. record { from = message.from; number = message.number; item = message.item; copies = copies }) (map_again (λ copy. copy_after s n D copy) (copy_again s n D) message.copies)
-
-run_again : (s n : ℕ) (D : List Deed) (run : Run) → run_after s n D (run_after s n D run) ≡ run_after s n D run
-unfolding run_after
-run_again s n D run = ap (λ message. record { job = run.job; message = message }) (message_again s n D run.message)
-
-loans_again : (s n : ℕ) (D : List Deed) (w : InHand) → with_loans s n D (with_loans s n D w) ≡ with_loans s n D w
-unfolding with_loans
-loans_again s n D w =
-    let messages : (ms : List Message) → map (λ message. message_after s n D message) (map (λ message. message_after s n D message) ms) ≡ map (λ message. message_after s n D message) ms = map_again (λ message. message_after s n D message) (message_again s n D) in
-    rw (messages w.waiting, messages w.ready, messages w.replies, map_again (λ run. run_after s n D run) (run_again s n D) w.running) refl
-
--- in the work in hand all loans are made that can be made
-pub loans_made : (s n : ℕ) (D : List Deed) → with_loans s n D (work s n D) ≡ work s n D
-unfolding with_loans
-loans_made s n [] = refl
-loans_made s n (deed ∷ D) = loans_again s n (deed ∷ D) (work_after s n deed D (work s n D))
+use Rattle.nob_model.proofs.Made.{loans_made}
 
 -- what a quiet deed leaves as it is
 pub record IsQuiet (s n : ℕ) (deed : Deed) (D : List Deed) : Type 0 where

@@ -35,7 +35,7 @@ use Rattle.nob_model.specs.Right.{most_in_hand, is_handful, right_take_reply, ta
 use Rattle.nob_model.specs.Right as right
 use Rattle.nob_model.specs.Next.{is_not_ready, reply_ready}
 use Rattle.nob_model.specs.Sending.{refuse_if, unless}
-use Rattle.nob_model.proofs.Carrying.{Carries, all_carry, all_found}
+use Rattle.nob_model.proofs.Carrying.{Carries, all_carry, all_found, all_without}
 use Rattle.nob_model.proofs.Lending.{IsAllLent, all_lent}
 use Rattle.nob_model.proofs.Made.{AreFixed, work_fixed, fixed_stays}
 use Rattle.nob_model.proofs.Replying.{answered_once}
@@ -43,7 +43,7 @@ use Rattle.nob_space_state.specs.Parts.{State, with_table, with_work}
 use Rattle.nob_space_state.specs.Stands.{Stands, TableShows}
 use Rattle.nob_space_state.specs.Taking.{reps_of, is_full, is_overfull, is_reply, answer_of_item, answer_of_reply, answer_of_call, take_answer, CanTake, with_more, with_fewer}
 use Rattle.nob_space_state.proofs.Claiming.{times_lent}
-use Rattle.nob_space_state.proofs.Firsts.{without_all, times_without, some_same}
+use Rattle.nob_space_state.proofs.Firsts.{times_without, some_same}
 use Rattle.nob_space_state.proofs.Orderly.{orderly}
 use Rattle.nob_space_state.proofs.Pinned.{times_both}
 use Rattle.nob_space_state.proofs.Rows.{differ}
@@ -257,7 +257,7 @@ module _ {s n : ℕ} {limits : Limits} {st : State} {D : List Deed} (stands : St
           waiting = fixed.waiting;
           ready = fixed.ready;
           running = fixed.running;
-          replies = without_all (λ message. message_after s n D message ≡ message) (is_reply k) (work s n D).replies fixed.replies;
+          replies = all_without (λ message. message_after s n D message ≡ message) (is_reply k) (work s n D).replies fixed.replies;
         }
 
     -- the work in hand after it was taken
