@@ -39,8 +39,8 @@ pub enum ReplyFate {
     Dropped,
 }
 
-// Gives back one loan of a reference.
-fn give_back(table: &mut ObjectTable, rep: WireRep)
+/// Gives back one loan of a reference. Constant time on average.
+pub fn give_back(table: &mut ObjectTable, rep: WireRep)
     requires { 0 < (standing table.old rep).counts.lent }
     ensures { GivesBack table.old table.new (rep ∷ []) }
 {
@@ -92,8 +92,8 @@ fn give_back_target(table: &mut ObjectTable, me: SpaceId, item: &Item)
     );
 }
 
-// Gives back what a message has lent: the target of a Call, and its copies.
-pub(crate) fn give_back_message(table: &mut ObjectTable, me: SpaceId, message: &Message)
+/// Gives back what a message has lent: the target of a Call, and its copies. Linear in them.
+pub fn give_back_message(table: &mut ObjectTable, me: SpaceId, message: &Message)
     requires { HasLent table.old (loans_of me message.now) }
     ensures { GivesBack table.old table.new (loans_of me message.now) }
 {

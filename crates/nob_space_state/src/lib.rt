@@ -13,6 +13,7 @@ mod sessions;
 mod take;
 
 pub use error::SpaceError;
-pub use finish::ReplyFate;
+pub use finish::{ReplyFate, give_back, give_back_message};
 pub use parts::Parts;
+pub use sending::{hand, send_reserved};
 pub use take::CallResult;

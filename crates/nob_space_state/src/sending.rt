@@ -41,9 +41,9 @@ impl Parts {
         Ok(())
     }
 
-    // Why a value may not be sent. It takes no memory.
+    /// Why a value may not be sent. It takes no memory. Linear in the value.
     #[tactic(auto, unfolding(crate::specs::Sending::value_refusal))]
-    pub(crate) fn refuse_value(&self, me: SpaceId, value: &Value) -> Result<(), Refusal>
+    pub fn refuse_value(&self, me: SpaceId, value: &Value) -> Result<(), Refusal>
         ensures { MatchResult result (λ _. value_refusal me (state_of self.now) value.now ≡ None) (λ refusal. value_refusal me (state_of self.now) value.now ≡ Some refusal) }
     {
         let Ok(()) = nob_pickle::fits(value) else {
@@ -59,8 +59,8 @@ impl Parts {
         Ok(())
     }
 
-    // Why an item of a kind can't be sent to a peer.
-    pub(crate) fn refuse_send(&self, peer: SpaceId, kind: Kind) -> Result<(), Refusal>
+    /// Why an item of a kind can't be sent to a peer. Constant time.
+    pub fn refuse_send(&self, peer: SpaceId, kind: Kind) -> Result<(), Refusal>
         ensures { MatchResult result (λ _. send_refusal peer kind (state_of self.now) ≡ None) (λ refusal. send_refusal peer kind (state_of self.now) ≡ Some refusal) }
     {
         match self.sessions.get(peer.get() as usize - 1) {
@@ -94,9 +94,9 @@ pub(crate) fn counted_refs(alloc: Global, value: &Value) -> Result<Vec<WireRep>,
     Ok(reps)
 }
 
-// Hands an item to the peer of a session that has room for it: the number that it gets. The caller has seen by `next`
-// that it gets one.
-pub(crate) fn send_reserved(session: &mut Session, payload: Vec<u8>, kind: Kind) -> ItemNo
+/// Hands an item to the peer of a session that has room for it: the number that it gets. The caller has seen by `next`
+/// that it gets one. Constant time.
+pub fn send_reserved(session: &mut Session, payload: Vec<u8>, kind: Kind) -> ItemNo
     requires payload { (0 < vec_len payload) × (vec_len payload ≤ 16384) }
     requires next { IsOk (next_of kind session.old.end) }
     requires room { 0 < session.old.room }
@@ -133,9 +133,10 @@ fn pins_on(
     pins
 }
 
-// Hands an item with references to a peer, and pins them: the number that the item gets. The caller has seen by `next`
-// that it gets one. Only memory fails it; without references none is wanted where the session has room.
-pub(crate) fn hand(
+/// Hands an item with references to a peer, and pins them: the number that the item gets. The caller has seen by `next`
+/// that it gets one. Only memory fails it; without references none is wanted where the session has room. Linear in the
+/// references.
+pub fn hand(
     alloc: Global,
     session: &mut Session,
     pins: &mut PinTable,
