@@ -2,8 +2,7 @@
 use Rattle.std.proofs.Common.{◌≡◌, ℕ, ◌+◌, ◌-◌, ◌<◌, ◌≤◌, Bool, true, false, cond, not, ◌&&◌, ◌||◌, ◌==◌, List, [], ◌∷◌, ◌++◌, map, filter, flat_map, take, drop, length, get_or, slice_get, None, Ok, Err, Some, refl, sym, ap, subst, ◌∙◌, arith, if◌then◌else◌}
 use Prim.Native.Nat.{zero, suc}
 use lib.ListN.{set}
-use Rattle.std.specs.List.{AllByRecursion, sum_by, list_any}
-use Rattle.std.specs.List.Sorted.{IsPermutation}
+use Rattle.std.specs.List.{AllByRecursion, sum_by}
 use Rattle.std.proofs.lemmas.Bool.Decides.{nat_tests}
 use Rattle.std.proofs.lemmas.Cmp.{nat_eq_equiv}
 use Rattle.std.proofs.lemmas.Grind.{flat_map-append}
@@ -16,8 +15,6 @@ use Rattle.nob_ids.specs.declared.limits.Limits.{Limits}
 use Rattle.nob_ids.specs.declared.reason.Reason.{Reason}
 use Rattle.nob_ids.specs.declared.reason.Reason.TheVariants.{Asked}
 use Rattle.nob_ids.specs.declared.wire_rep.WireRep.{WireRep}
-use Rattle.nob_dirty.specs.Sets.{lists, LeavesAll}
-use Rattle.nob_dirty.specs.declared.sets.Listing.{Listing}
 use Rattle.nob_pins.specs.Bundles.{Pinned, of_others, TakesOutAll}
 use Rattle.nob_session.specs.Stands as session
 use Rattle.nob_session.specs.Stands.{End, Roomy}
@@ -30,7 +27,7 @@ use Rattle.nob_table.specs.declared.counts.Counts.{Counts}
 use Rattle.nob_table.specs.declared.standing.Standing.{Standing}
 use Rattle.nob_table.specs.declared.standing.State.TheVariants as states
 use Rattle.nob_table.specs.Standings.{after_close, in_state, unknown, is_live, is_surrogate}
-use Rattle.nob_table.specs.Table.{Table, standing, place_of, is_of}
+use Rattle.nob_table.specs.Table.{Table, standing, place_of}
 use Rattle.nob_model_words.specs.declared.deed.Deed.{Deed}
 use Rattle.nob_model_words.specs.declared.deed.Deed.TheVariants.{Closing}
 use Rattle.nob_model_words.specs.declared.deed.Cause.{Cause}
@@ -51,7 +48,7 @@ use Rattle.nob_model_history.specs.declared.history.History.{History}
 use Rattle.nob_model_history.specs.Ends.{calls_at, call_of_closing}
 use Rattle.nob_model_history.specs.Histories.{history_of}
 use Rattle.nob_model_history.specs.Holds.{hand, times, loans_of, lent_in}
-use Rattle.nob_model_history.specs.Listing.{is_listed, is_entered}
+use Rattle.nob_model_history.specs.Listing.{is_entered}
 use Rattle.nob_model_history.specs.Transit as transit
 use Rattle.nob_model_history.specs.declared.transit.SentItem.{SentItem}
 use Rattle.nob_model_history.proofs.Pinning.{bundles_closed}
@@ -62,7 +59,7 @@ use Rattle.nob_model.specs.Right.{own_ref, right_closing}
 use Rattle.nob_space_state.specs.Closing.{is_from, lent_from, lent_in_vain, LosesOwner, TableLoses, ClosesDown}
 use Rattle.nob_space_state.specs.Looks.{has_closed}
 use Rattle.nob_space_state.specs.Parts.{State, with_sessions}
-use Rattle.nob_space_state.specs.Returns.{HasLent, GivesBack}
+use Rattle.nob_space_state.specs.Returns.{HasLent}
 use Rattle.nob_space_state.specs.Stands.{Stands, EndsStand, TableShows, TableStands, PinsStand, bundle, far_state}
 use Rattle.nob_space_state.proofs.Claiming.{times_lent}
 use Rattle.nob_space_state.proofs.Ends.{end_there, ends_changed}

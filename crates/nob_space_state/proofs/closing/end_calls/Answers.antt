@@ -1,4 +1,4 @@
-use Rattle.std.proofs.Common.{◌≡◌, ◌+◌, ◌<◌, ◌++◌, length, map, take, drop, get_or, rules, sym, ap, subst, ◌∙◌, arith}
+use Rattle.std.proofs.Common.{◌≡◌, ◌+◌, ◌<◌, ◌++◌, length, map, take, drop, get_or, rules, ap, subst, ◌∙◌, arith}
 use Prim.Native.Nat.{suc}
 use lib.ListN.{set}
 use Rattle.nob_model_work.specs.Work.{call_after_close}
