@@ -21,3 +21,4 @@ pub mod Running
 pub mod Returned
 pub mod Finishing
 pub mod Closings
+pub mod Arrivals

@@ -68,7 +68,7 @@ impl Parts {
     // What the closing of a session leaves of the parts: messages that wait and ready jobs from the peer are thrown away
     // and what they have lent is given back, its references are lost, it is listed nowhere, what was sent to it has no
     // pins any more, and the calls to it that have no ready reply end.
-    fn close_down(&mut self, me: SpaceId, closed: &Closed)
+    pub(crate) fn close_down(&mut self, me: SpaceId, closed: &Closed)
         requires { HasLent self.old.table (lent_in_vain me closed.now.peer (state_of self.old).work) }
         ensures { ClosesDown me closed.now.peer (state_of self.old) (state_of self.new) }
     {

@@ -24,8 +24,11 @@ returns c =
       jobs_made = c.args.self.now.jobs_made;
     })) c.peer-peer.ensures record {
       sessions = refl;
-      table = (c.throw_away-2.new.table, back_then c.args.self.now.table c.throw_away.new.table c.throw_away-2.new.table (lent_from c.args.me c.peer-peer.result c.args.self.now.waiting.items) (lent_from c.args.me c.peer-peer.result c.args.self.now.ready.items) c.throw_away.ensures.back c.throw_away-2.ensures.back,
-        record { closed = c.close.ensures.closed; places = c.close.ensures.places; left = c.close.ensures.left });
+      table = (
+        c.throw_away-2.new.table,
+        back_then c.args.self.now.table c.throw_away.new.table c.throw_away-2.new.table (lent_from c.args.me c.peer-peer.result c.args.self.now.waiting.items) (lent_from c.args.me c.peer-peer.result c.args.self.now.ready.items) c.throw_away.ensures.back c.throw_away-2.ensures.back,
+        record { closed = c.close.ensures.closed; places = c.close.ensures.places; left = c.close.ensures.left },
+      );
       listed = c.close-2.ensures.leaves;
       pins = subst (λ (p : ℕ). TakesOutAll c.args.self.now.pins.bundles c.close-3.new.self.bundles p) (sym c.peer-peer.ensures) c.close-3.ensures;
       work = thrown_work c.peer-peer.result (state_of c.args.self.now).work c.throw_away.new.messages.items c.throw_away-2.new.messages.items c.end_calls.new.calls.items c.throw_away.ensures.left c.throw_away-2.ensures.left
