@@ -22,3 +22,4 @@ pub mod Returned
 pub mod Finishing
 pub mod Closings
 pub mod Arrivals
+pub mod Unpinned

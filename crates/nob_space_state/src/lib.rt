@@ -11,6 +11,7 @@ mod objects;
 mod parts;
 mod sending;
 mod sessions;
+mod shut;
 mod take;
 
 pub use error::SpaceError;
