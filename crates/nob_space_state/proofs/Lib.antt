@@ -23,3 +23,4 @@ pub mod Finishing
 pub mod Closings
 pub mod Arrivals
 pub mod Unpinned
+pub mod Nexts

@@ -7,6 +7,7 @@ mod error;
 mod finish;
 mod jobs;
 mod looks;
+mod next;
 mod objects;
 mod parts;
 mod sending;
