@@ -48,4 +48,19 @@ impl Parts {
     {
         self.first_free().is_some()
     }
+
+    /// The least index of a live object that Withdraw would take. Linear in the live objects without holds, times the
+    /// pins and the listings.
+    pub fn to_withdraw(&self, here: &Here) -> Option<u64>
+        ensures { (limits : LimitsOf) (D : List Deed) → Stands here.now.space here.now.n limits (state_of self.now) D → result ≡ next.to_withdraw here.now.space (history_of here.now.space here.now.n D) }
+    {
+        let mut from = 0;
+        while let Some(index) = self.table.first_unheld(from) {
+            match self.refuse_withdraw(here.space, index) {
+                Ok(()) => return Some(index),
+                Err(_) => from = index + 1,
+            }
+        }
+        None
+    }
 }

@@ -122,6 +122,7 @@ impl ObjectTable {
     pub fn first_unheld(&self, index: u64) -> Option<u64>
         ensures first { MatchOption result (NeverUnheld self.now index) (λ found. IsFirstUnheld self.now index found) }
         ensures given { IfSome result (λ found. (1 ≤ found) × (found ≤ self.now.exported)) }
+        ensures low { IfSome result (λ found. found ≤ most_index) }
     {
         self.objects.first_unheld(index)
     }

@@ -1,4 +1,4 @@
-use Rattle.std.proofs.Common.{◌≡◌, ℕ, ◌-◌, List, true, is_some, get_or, sym, ap, subst, ◌∙◌}
+use Rattle.std.proofs.Common.{◌≡◌, ◌-◌, List, true, is_some, get_or, sym, ap, subst, ◌∙◌}
 use Rattle.nob_session.specs.Stands.{Roomy}
 use Rattle.nob_model_words.specs.Sessions.{is_peer}
 use Rattle.nob_model_history.specs.Ends.{calls_at}
