@@ -1,0 +1,4 @@
+pub mod Spares
+pub mod Noting
+pub mod Fixing
+pub mod Forgetting
