@@ -1,5 +1,5 @@
 -- Clean: what is right is what the state tells, and what it leaves.
-use Rattle.std.proofs.Common.{◌≡◌, ℕ, ◌+◌, ◌-◌, ◌≤◌, ◌<◌, Bool, true, false, not, ◌&&◌, ◌==◌, nat_le, List, [], ◌∷◌, length, map, get_or, slice_get, Some, None, Ok, Err, IsOk, if◌then◌else◌, refl, sym, ap, subst, ◌∙◌, arith}
+use Rattle.std.proofs.Common.{◌≡◌, ℕ, ◌+◌, ◌-◌, ◌<◌, Bool, true, false, not, ◌&&◌, nat_le, List, [], ◌∷◌, length, get_or, None, Ok, Err, IsOk, if◌then◌else◌, refl, sym, ap, subst, ◌∙◌, arith}
 use lib.ListN.{set}
 use Rattle.std.proofs.lemmas.Bool.Decides.{nat_tests}
 use Rattle.std.proofs.lemmas.Bool.{and_parts}
@@ -22,21 +22,19 @@ use Rattle.nob_table.specs.declared.standing.State.TheVariants as states
 use Rattle.nob_table.specs.Standings as standings
 use Rattle.nob_table.specs.Standings.{unknown}
 use Rattle.nob_table.specs.Table.{Table, standing, place_of, Becomes, Places, RemovalLeaves}
-use Rattle.nob_table.proofs.Same.{same_is, same_laws}
+use Rattle.nob_table.proofs.Same.{same_laws}
 use Rattle.nob_model_types.specs.declared.answer.Answer.TheVariants as answers
 use Rattle.nob_model_types.specs.declared.event.Event.TheVariants as events
 use Rattle.nob_model_types.specs.declared.refusal.Refusal.TheVariants as refusals
 use Rattle.nob_model_words.specs.Deeds.{deed_by}
 use Rattle.nob_model_words.specs.declared.deed.Deed.{Deed}
 use Rattle.nob_model_words.specs.declared.deed.Deed.TheVariants.{Clean}
-use Rattle.nob_model_words.specs.Messages.{copy_after, message_after}
-use Rattle.nob_model_words.specs.Objects as objects
-use Rattle.nob_model_words.specs.Sessions.{is_peer, closed}
+use Rattle.nob_model_words.specs.Sessions.{closed}
 use Rattle.nob_model_words.specs.Turns.{turns, is_own, is_usable, is_granted, with_clean}
-use Rattle.nob_model_work.specs.Work.{work, work_after, with_loans, run_after}
+use Rattle.nob_model_work.specs.Work.{work, work_after}
 use Rattle.nob_model_work.specs.Gifts.{gifts, gifts_of}
 use Rattle.nob_model_history.specs.Histories.{history_of}
-use Rattle.nob_model_history.specs.Ends.{calls_at, payload_of, with_sends}
+use Rattle.nob_model_history.specs.Ends.{calls_at, payload_of}
 use Rattle.nob_model_history.specs.Holds.{hand, times, lent_in}
 use Rattle.nob_model_history.specs.Transit as transit
 use Rattle.nob_model_history.proofs.Turning.{granted_answered}

@@ -21,17 +21,15 @@ use Rattle.nob_table.proofs.Same.{same_is, same_laws}
 use Rattle.nob_model_words.specs.declared.deed.Deed.{Deed}
 use Rattle.nob_model_words.specs.declared.deed.Deed.TheVariants as did
 use Rattle.nob_model_words.specs.declared.turns.Turns.{Turns}
-use Rattle.nob_model_words.specs.declared.turns.OwnerAnswer.TheVariants as said
 use Rattle.nob_model_words.specs.Sessions.{is_peer, closed, item_at}
 use Rattle.nob_model_words.specs.Turns.{turns, is_own, is_usable, is_pending, is_granted, is_refused, wants_dirty}
 use Rattle.nob_model_work.specs.Work.{work}
-use Rattle.nob_model_work.specs.Gifts.{gifts, gifts_of_act, dirties_for, once}
+use Rattle.nob_model_work.specs.Gifts.{gifts, gifts_of_act, once}
 use Rattle.nob_model_history.specs.Histories.{history_of}
-use Rattle.nob_model_history.specs.Holds as holds
-use Rattle.nob_model_history.specs.Transit.{dirties, once_last, by_last_dirty, later_place, last_place, pins, is_idle, first_idle}
+use Rattle.nob_model_history.specs.Transit.{dirties, once_last, by_last_dirty, later_place, last_place, is_idle, first_idle}
 use Rattle.nob_model_history.proofs.Dirtying.{asked_in, dirties_more, message_asks, RisesIn, IsBefore, places_rise}
 use Rattle.nob_model_history.proofs.Turning.{pending_waits, waiting_stands}
-use Rattle.nob_model_history.proofs.Unasked.{acts_on_message, dirties_same}
+use Rattle.nob_model_history.proofs.Unasked.{dirties_same}
 use Rattle.nob_model.proofs.Carrying.{all_filter}
 use Rattle.nob_space_state.specs.Parts.{State}
 use Rattle.nob_space_state.specs.Stands.{Stands, far_state}

@@ -1,5 +1,4 @@
-use Rattle.std.proofs.Common.{◌≡◌, ◌-◌, ◌<◌, ◌≤◌, ℕ, ◌∷◌, get_or, Ok, IsOk, sym, subst, ◌∙◌, ap, arith}
-use Rattle.nob_model_types.specs.declared.answer.Answer.TheVariants as answers
+use Rattle.std.proofs.Common.{◌≡◌, ◌-◌, ◌<◌, ℕ, ◌∷◌, get_or, sym, subst, ◌∙◌, arith}
 use lib.ListN.{set}
 use Rattle.nob_model_end.specs.Right.{last_item}
 use Rattle.nob_model_history.specs.Ends.{calls_at}

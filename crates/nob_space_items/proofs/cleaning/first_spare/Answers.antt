@@ -1,4 +1,4 @@
-use Rattle.std.proofs.Common.{rules, ◌≡◌, ◌<◌, ℕ, sym, ◌∙◌, arith}
+use Rattle.std.proofs.Common.{sym, ◌∙◌}
 use Rattle.nob_space_state.specs.Parts.{state_of}
 use Rattle.nob_space_items.proofs.Spares.{is_unpinned, none_next, none_past}
 use Rattle.nob_space_items.proofs.cleaning.first_spare.Goals as goal
