@@ -3,5 +3,7 @@
 #![tactic(auto)]
 
 mod cleaning;
+mod settling;
 
 pub use cleaning::clean;
+pub use settling::SettledItem;

@@ -1,0 +1,203 @@
+//! Settling the messages that wait for their references: Settle.
+
+ghost use Rattle.std.specs.Prelude.{◌≡◌, ◌<◌, ◌≤◌, ℕ, ◌+◌, List, ◌∷◌, true, None, Some, Ok, vec_len, is_some, option_map, IfOk, IfSome, OnOk, OnErr, MatchResult};
+ghost use Rattle.std.specs.List.{list_all, list_any, position};
+ghost use Rattle.std.specs.Vec.{vec_capacity};
+ghost use Rattle.nob_ids.specs.declared.limits.Limits.{Limits as LimitsOf};
+ghost use Rattle.nob_item.specs.Judging.{is_call_number, is_item_number};
+ghost use Rattle.nob_item.specs.declared.item.Item.TheVariants as items;
+ghost use Rattle.nob_model_end.specs.Right.{last_item};
+ghost use Rattle.nob_model_end.specs.declared.entry.EndEntry.{EndEntry};
+ghost use Rattle.nob_model_end.specs.declared.entry.EndEntry.TheVariants.{Send};
+ghost use Rattle.nob_model_types.specs.declared.answer.Answer.TheVariants as answers;
+ghost use Rattle.nob_model_words.specs.declared.deed.Deed.{Deed};
+ghost use Rattle.nob_model_words.specs.declared.deed.Deed.TheVariants as did;
+
+ghost use Rattle.nob_model_history.specs.Histories.{history_of};
+ghost use Rattle.nob_model_history.specs.Ends.{payload_of};
+ghost use Rattle.nob_model_history.specs.Holds.{loans_of};
+ghost use Rattle.nob_model.specs.Right as right;
+ghost use Rattle.nob_session.specs.Stands as ends;
+ghost use Rattle.nob_session.specs.Stands.{is_open_end};
+ghost use Rattle.nob_space_state.specs.Parts.{state_of};
+ghost use Rattle.nob_space_state.specs.Returns.{HasLent, GivesBack};
+ghost use Rattle.nob_space_state.specs.Stands.{Stands, IsState, Keeps, Did, AnswersOrWants};
+ghost use Rattle.nob_space_items.specs.Settling.{is_denied, is_lost_here, is_resolved_here, is_settleable, has_lost, lost_call, reply_to_lost, items_given, given_count, with_note, loans_ended};
+
+use nob_ids::{CallNo, ItemNo, SpaceId, WireRep};
+use nob_item::{Item, ItemError, encode, encode_reply};
+use nob_model::{Here, Kind, Message, RefCopy, Refusal};
+use nob_model_words::message::RefCopies;
+use nob_pickle::Value;
+use nob_session::Session;
+use nob_space_state::{Parts, SpaceError, give_back_message, send_reserved};
+use nob_table::{ObjectTable, State};
+use std::alloc::{AllocError, Global};
+
+/// A Call or a Reply that is settled: its references are all resolved.
+#[derive(Clone, Copy, Debug, PartialEq, Eq)]
+pub struct SettledItem {
+    /// The space that sent it.
+    pub peer: SpaceId,
+    /// The number of its item.
+    pub item: ItemNo,
+}
+
+// Whether it is a surrogate that its owner has refused.
+fn is_denied(state: State) -> bool
+    ensures { result ≡ is_denied state }
+{
+    match state {
+        State::Refused => true,
+        _ => false,
+    }
+}
+
+// Whether a reference is lost.
+fn is_lost(parts: &Parts, here: &Here, rep: &WireRep) -> bool
+    ensures { result ≡ is_lost_here here.now.space here.now.n (state_of parts.now) rep.now }
+{
+    if rep.owner == here.space {
+        return false;
+    }
+    if !here.is_peer(rep.owner) {
+        return true;
+    }
+    if parts.has_closed(rep.owner) {
+        return true;
+    }
+    let standing = parts.table.state(*rep);
+    is_denied(standing.state)
+}
+
+// Whether a reference is resolved.
+fn is_resolved(parts: &Parts, here: &Here, rep: &WireRep) -> bool
+    ensures { result ≡ is_resolved_here here.now.space here.now.n (state_of parts.now) rep.now }
+{
+    if rep.owner == here.space {
+        return true;
+    }
+    let standing = parts.table.state(*rep);
+    let state = standing.state;
+    if state.is_granted() {
+        return true;
+    }
+    is_lost(parts, here, rep)
+}
+
+// Whether all references of a message are resolved.
+fn is_settleable(parts: &Parts, here: &Here, message: &Message) -> bool
+    ensures { result ≡ is_settleable here.now.space here.now.n (state_of parts.now) message.now }
+{
+    message
+        .copies
+        .as_slice()
+        .iter()
+        .all(|copy| is_resolved(parts, here, &copy.rep))
+}
+
+// Whether a message carries a reference that is lost.
+fn has_lost(parts: &Parts, here: &Here, message: &Message) -> bool
+    ensures { result ≡ has_lost here.now.space here.now.n (state_of parts.now) message.now }
+{
+    message
+        .copies
+        .as_slice()
+        .iter()
+        .any(|copy| is_lost(parts, here, &copy.rep))
+}
+
+// The place of the first message that waits whose references are all resolved.
+fn first_settleable(parts: &Parts, here: &Here) -> Option<usize>
+    ensures { result ≡ position (is_settleable here.now.space here.now.n (state_of parts.now)) parts.now.waiting.items }
+{
+    parts
+        .waiting
+        .iter()
+        .position(|message| is_settleable(parts, here, message))
+}
+
+// The number of a Call with a lost reference.
+fn lost_call(item: &Item, lost: bool) -> Option<CallNo>
+    ensures { result ≡ lost_call item.now lost }
+{
+    match item {
+        Item::Call { call, .. } => {
+            if lost {
+                return Some(*call);
+            }
+            None
+        }
+        _ => None,
+    }
+}
+
+// How many items settling gives.
+fn given_count(call: Option<CallNo>) -> u64
+    ensures { result ≡ given_count call }
+{
+    match call {
+        Some(_) => 2,
+        None => 1,
+    }
+}
+
+// The payload that carries a Settle. Only memory fails it.
+fn payload_of_settle(alloc: Global, item: ItemNo) -> Result<Vec<u8>, AllocError>
+    requires { is_item_number item ≡ true }
+    ensures spelled { IfOk result (λ payload. payload.items ≡ payload_of (items.Settle item)) }
+    ensures size { IfOk result (λ payload. (0 < vec_len payload) × (vec_len payload ≤ 16384)) }
+{
+    match encode(alloc, &Item::Settle(item)) {
+        Ok(payload) => Ok(payload),
+        Err(ItemError::Fault(_)) => unreachable!(),
+        Err(ItemError::OutOfMemory) => Err(AllocError),
+    }
+}
+
+// The payload that carries the Reply to a Call with a lost reference. Only memory fails it.
+fn payload_of_reply(alloc: Global, call: CallNo) -> Result<Vec<u8>, AllocError>
+    requires { is_call_number call ≡ true }
+    ensures spelled { IfOk result (λ payload. payload.items ≡ payload_of (reply_to_lost call)) }
+    ensures size { IfOk result (λ payload. (0 < vec_len payload) × (vec_len payload ≤ 16384)) }
+{
+    match encode_reply(alloc, call, 3, &Value::Unit) {
+        Ok(payload) => Ok(payload),
+        Err(ItemError::Fault(_)) => unreachable!(),
+        Err(ItemError::OutOfMemory) => Err(AllocError),
+    }
+}
+
+// The same where there is such a Call.
+fn payload_if(alloc: Global, call: Option<CallNo>) -> Result<Option<Vec<u8>>, AllocError>
+    requires { IfSome call (λ k. is_call_number k ≡ true) }
+    ensures spelled { IfOk result (λ reply. option_map (λ payload. payload.items) reply ≡ option_map (λ k. payload_of (reply_to_lost k)) call) }
+    ensures size { IfOk result (λ reply. IfSome reply (λ payload. (0 < vec_len payload) × (vec_len payload ≤ 16384))) }
+{
+    let Some(call) = call else {
+        return Ok(None);
+    };
+    match payload_of_reply(alloc, call) {
+        Ok(payload) => Ok(Some(payload)),
+        Err(error) => Err(error),
+    }
+}
+
+// Hands a Settle to the peer of a session, and a Reply where there is one. Only memory fails it.
+fn hand_notes(session: &mut Session, settle: Vec<u8>, reply: Option<Vec<u8>>) -> Result<(), AllocError>
+    requires settle { (0 < vec_len settle) × (vec_len settle ≤ 16384) }
+    requires reply { IfSome reply (λ payload. (0 < vec_len payload) × (vec_len payload ≤ 16384)) }
+    requires open { is_open_end session.old.end ≡ true }
+    requires free { session.old.end.handed + given_count (option_map (λ payload. 0) reply) ≤ last_item }
+    ensures answer { (me peer : ℕ) (limits : LimitsOf) (L : List EndEntry) → ends.Stands me peer limits session.old.end L → OnOk result (ends.Stands me peer limits session.new.end (with_note (session.old.end.handed + 2) (option_map (λ payload. payload.items) reply) (Send settle.items Kind.Note (Ok (session.old.end.handed + 1)) ∷ L))) }
+    ensures err { OnErr result (session.new.end ≡ session.old.end) }
+{
+    if session.reserve(2).is_err() {
+        return Err(AllocError);
+    }
+    send_reserved(session, settle, Kind::Note);
+    if let Some(payload) = reply {
+        send_reserved(session, payload, Kind::Note);
+    }
+    Ok(())
+}
