@@ -2,3 +2,5 @@ pub mod Spares
 pub mod Noting
 pub mod Fixing
 pub mod Forgetting
+pub mod Putting
+pub mod Resolving

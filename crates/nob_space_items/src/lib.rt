@@ -6,4 +6,4 @@ mod cleaning;
 mod settling;
 
 pub use cleaning::clean;
-pub use settling::SettledItem;
+pub use settling::{SettledItem, settle};

@@ -1,6 +1,6 @@
 //! Settling the messages that wait for their references: Settle.
 
-ghost use Rattle.std.specs.Prelude.{◌≡◌, ◌<◌, ◌≤◌, ℕ, ◌+◌, List, ◌∷◌, true, None, Some, Ok, vec_len, is_some, option_map, IfOk, IfSome, OnOk, OnErr, MatchResult};
+ghost use Rattle.std.specs.Prelude.{◌≡◌, ◌<◌, ◌≤◌, ℕ, ◌+◌, List, [], ◌∷◌, ◌++◌, if◌then◌else◌, true, None, Some, Ok, vec_len, is_some, option_map, IfOk, IfSome, OnOk, OnErr, MatchResult};
 ghost use Rattle.std.specs.List.{list_all, list_any, position};
 ghost use Rattle.std.specs.Vec.{vec_capacity};
 ghost use Rattle.nob_ids.specs.declared.limits.Limits.{Limits as LimitsOf};
@@ -13,6 +13,7 @@ ghost use Rattle.nob_model_types.specs.declared.answer.Answer.TheVariants as ans
 ghost use Rattle.nob_model_words.specs.declared.deed.Deed.{Deed};
 ghost use Rattle.nob_model_words.specs.declared.deed.Deed.TheVariants as did;
 
+ghost use Rattle.nob_model_work.specs.Work.{after_settlement, lost_reply};
 ghost use Rattle.nob_model_history.specs.Histories.{history_of};
 ghost use Rattle.nob_model_history.specs.Ends.{payload_of};
 ghost use Rattle.nob_model_history.specs.Holds.{loans_of};
@@ -22,7 +23,7 @@ ghost use Rattle.nob_session.specs.Stands.{is_open_end};
 ghost use Rattle.nob_space_state.specs.Parts.{state_of};
 ghost use Rattle.nob_space_state.specs.Returns.{HasLent, GivesBack};
 ghost use Rattle.nob_space_state.specs.Stands.{Stands, IsState, Keeps, Did, AnswersOrWants};
-ghost use Rattle.nob_space_items.specs.Settling.{is_denied, is_lost_here, is_resolved_here, is_settleable, has_lost, lost_call, reply_to_lost, items_given, given_count, with_note, loans_ended};
+ghost use Rattle.nob_space_items.specs.Settling.{is_denied, is_lost_here, is_resolved_here, is_settleable, has_lost, lost_call, reply_to_lost, items_given, given_count, with_note, loans_ended, after_put};
 
 use nob_ids::{CallNo, ItemNo, SpaceId, WireRep};
 use nob_item::{Item, ItemError, encode, encode_reply};
@@ -133,8 +134,8 @@ fn lost_call(item: &Item, lost: bool) -> Option<CallNo>
 }
 
 // How many items settling gives.
-fn given_count(call: Option<CallNo>) -> u64
-    ensures { result ≡ given_count call }
+fn given_count(call: &Option<CallNo>) -> u64
+    ensures { result ≡ given_count call.now }
 {
     match call {
         Some(_) => 2,
@@ -200,4 +201,132 @@ fn hand_notes(session: &mut Session, settle: Vec<u8>, reply: Option<Vec<u8>>) ->
         send_reserved(session, payload, Kind::Note);
     }
     Ok(())
+}
+
+// Puts a Call that is settled to the ready jobs, or ends it where a reference of it is lost: then what it lent is given
+// back.
+fn put_call(table: &mut ObjectTable, ready: &mut Vec<Message>, me: SpaceId, message: Message, lost: bool)
+    requires lent { lost ≡ true → HasLent table.old (loans_of me message) }
+    requires room { vec_len ready.old < vec_capacity ready.old }
+    ensures back { GivesBack table.old table.new (if lost then loans_of me message else []) }
+    ensures put { ready.new.items ≡ (if lost then ready.old.items else ready.old.items ++ message ∷ []) }
+{
+    if lost {
+        give_back_message(table, me, &message);
+        return;
+    }
+    match ready.push(message) {
+        Ok(()) => {}
+        Err(_) => unreachable!(),
+    }
+}
+
+// Puts a Reply that is settled to the ready replies, or one of status 3 where a reference of it is lost: then what it
+// lent is given back.
+fn put_reply(
+    alloc: Global,
+    table: &mut ObjectTable,
+    replies: &mut Vec<Message>,
+    me: SpaceId,
+    message: Message,
+    call: CallNo,
+    lost: bool,
+)
+    requires lent { lost ≡ true → HasLent table.old (loans_of me message) }
+    requires room { vec_len replies.old < vec_capacity replies.old }
+    ensures back { GivesBack table.old table.new (if lost then loans_of me message else []) }
+    ensures put { replies.new.items ≡ replies.old.items ++ (if lost then lost_reply message call else message) ∷ [] }
+{
+    if !lost {
+        match replies.push(message) {
+            Ok(()) => {}
+            Err(_) => unreachable!(),
+        }
+        return;
+    }
+    give_back_message(table, me, &message);
+    let reply = Message {
+        from: message.from,
+        number: message.number,
+        item: Item::Reply {
+            call,
+            status: 3,
+            value: Value::Unit,
+        },
+        copies: RefCopies::from_vec(Vec::new(alloc)),
+    };
+    match replies.push(reply) {
+        Ok(()) => {}
+        Err(_) => unreachable!(),
+    }
+}
+
+// Puts a message that is settled where it goes.
+fn put_settled(parts: &mut Parts, alloc: Global, me: SpaceId, message: Message, lost: bool)
+    requires lent { HasLent parts.old.table (loans_ended me message message.item lost) }
+    requires ready { vec_len parts.old.ready < vec_capacity parts.old.ready }
+    requires replies { vec_len parts.old.replies < vec_capacity parts.old.replies }
+    ensures back { GivesBack parts.old.table parts.new.table (loans_ended me message message.item lost) }
+    ensures put { state_of parts.new ≡ after_put parts.new.table (after_settlement message message.item lost (state_of parts.old).work) (state_of parts.old) }
+{
+    match &message.item {
+        Item::Call { .. } => put_call(&mut parts.table, &mut parts.ready, me, message, lost),
+        Item::Reply { call, .. } => {
+            let call = *call;
+            put_reply(
+                alloc,
+                &mut parts.table,
+                &mut parts.replies,
+                me,
+                message,
+                call,
+                lost,
+            )
+        }
+        _ => give_back_message(&mut parts.table, me, &message),
+    }
+}
+
+/// Settle: the first message, in order of acting, whose references are all resolved, that is own, granted on an open
+/// session, or lost, is settled: its sender is told so by an item. A Call becomes a ready job and a Reply a ready reply;
+/// where a reference is lost a Call is answered by a Reply of status 3 and is over, a Reply becomes one of status 3, and
+/// what they lent is given back. Nothing where there is none, SeqEnd where the session has too few numbers left.
+/// Linear in the messages that wait and their references.
+pub fn settle(parts: &mut Parts, alloc: Global, here: &Here) -> Result<SettledItem, SpaceError>
+    requires { IsState here.now.space here.now.n (state_of parts.old) }
+    ensures answer { (limits : LimitsOf) (D : List Deed) → Stands here.now.space here.now.n limits (state_of parts.old) D → AnswersOrWants (λ settled. answers.Settled settled.peer settled.item) result (right.right_settle here.now.space here.now.n (history_of here.now.space here.now.n D)) }
+    ensures stands { IfOk result (λ settled. Did here.now.space here.now.n (state_of parts.old) (state_of parts.new) (did.Settle settled.peer settled.item)) }
+    ensures err { OnErr result (Keeps here.now.space here.now.n (state_of parts.old) (state_of parts.new)) }
+{
+    let Some(place) = first_settleable(parts, here) else {
+        return Err(SpaceError::Refused(Refusal::Nothing));
+    };
+    let message = &parts.waiting[place];
+    let peer = message.from;
+    let item = message.number;
+    let lost = has_lost(parts, here, message);
+    let call = lost_call(&message.item, lost);
+    let at = peer.get() as usize - 1;
+    if parts.sessions[at].free_numbers() < given_count(&call) {
+        return Err(SpaceError::Refused(Refusal::SeqEnd));
+    }
+    let Ok(settle) = payload_of_settle(alloc, item) else {
+        return Err(SpaceError::OutOfMemory);
+    };
+    let Ok(reply) = payload_if(alloc, call) else {
+        return Err(SpaceError::OutOfMemory);
+    };
+    if parts.ready.reserve(1).is_err() {
+        return Err(SpaceError::OutOfMemory);
+    }
+    if parts.replies.reserve(1).is_err() {
+        return Err(SpaceError::OutOfMemory);
+    }
+    let session = &mut parts.sessions[at];
+    let Ok(()) = hand_notes(session, settle, reply) else {
+        return Err(SpaceError::OutOfMemory);
+    };
+    let message = parts.waiting.remove(place);
+    put_settled(parts, alloc, here.space, message, lost);
+    Ok(SettledItem { peer, item })
 }
