@@ -45,10 +45,9 @@ use Rattle.nob_model.specs.Right.{right_after, right_clean, clean_of, own_ref}
 use Rattle.nob_space_state.specs.Parts.{State}
 use Rattle.nob_space_state.specs.Stands.{Stands, TableStands, far_state}
 use Rattle.nob_space_state.proofs.Ends.{end_there}
-use Rattle.nob_space_state.proofs.Told.{ended_there}
 use Rattle.nob_space_state.proofs.Shows.{one_row, no_holds}
 use Rattle.nob_space_items.specs.Cleaning.{NoneSpareBelow, IsFirstSpare}
-use Rattle.nob_space_items.proofs.Noting.{GivesNotes, same_dirties, sent_next, stands_noted}
+use Rattle.nob_space_items.proofs.Noting.{GivesNotes, same_dirties, sent_next, stands_noted, open_there}
 use Rattle.nob_space_items.proofs.Spares.{asked_there, idle_there, first_there, none_there}
 
 -- ---- what is right
@@ -99,15 +98,9 @@ module _ {s n : ℕ} {limits : Limits} {st : State} {D : List Deed} (stands : St
     -- so it has a number for the Clean
     pub clean_next : 0 < last_item - end.end.handed → IsOk (next_of Note end.end)
     clean_next some =
-        let peer = (asked_there stands rep first).1 in
-        let there = end_there s n limits st.sessions (history_of s n D) rep.owner end stands.ends peer is in
-        let still : is_open_end end.end ≡ true = not_false (is_open_end end.end) (ended_there stands rep.owner end there.0 there.1 ∙ granted_there.1) in
+        let still : is_open_end end.end ≡ true = open_there stands rep.owner end (asked_there stands rep first).1 is granted_there.1 in
         let free : nat_le last_item end.end.handed ≡ false = grind (arith, nat_tests, some) in
         rw (still, free) refl
-      where
-        not_false : (b : Bool) → not b ≡ false → b ≡ true
-        not_false true e = refl
-        not_false false e = let bad : true ≡ false = e in absurd (cc)
 
     -- a Clean gives the owner a note
     clean_notes : GivesNotes s n (Clean rep) D rep.owner (items.Clean rep.index ∷ [])

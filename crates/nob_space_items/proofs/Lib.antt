@@ -4,3 +4,5 @@ pub mod Fixing
 pub mod Forgetting
 pub mod Putting
 pub mod Resolving
+pub mod Settlements
+pub mod Numbering

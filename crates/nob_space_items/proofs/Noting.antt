@@ -1,5 +1,5 @@
 -- A deed that gives one peer items without references: what is sent, and the state that it leaves.
-use Rattle.std.proofs.Common.{◌≡◌, ℕ, ◌+◌, ◌-◌, true, false, cond, not, ◌&&◌, ◌==◌, List, [], ◌∷◌, ◌++◌, length, map, filter, get_or, None, Ok, refl, sym, ap, subst, ◌∙◌, if◌then◌else◌}
+use Rattle.std.proofs.Common.{◌≡◌, ℕ, ◌+◌, ◌-◌, Bool, true, false, cond, not, ◌&&◌, ◌==◌, List, [], ◌∷◌, ◌++◌, length, map, filter, get_or, None, Ok, refl, sym, ap, subst, ◌∙◌, if◌then◌else◌}
 use lib.ListN.{set}
 use Rattle.std.specs.List.{AllByRecursion, sum_by, list_any}
 use Rattle.std.proofs.lemmas.List.{append-nil}
@@ -14,7 +14,7 @@ use Rattle.nob_model_end.specs.declared.entry.EndEntry.{EndEntry}
 use Rattle.nob_model_end.specs.declared.entry.EndEntry.TheVariants as ends
 use Rattle.nob_model_end.specs.declared.entry.Kind.{Kind}
 use Rattle.nob_session.specs.Stands as session
-use Rattle.nob_session.specs.Stands.{End, Roomy, end_of}
+use Rattle.nob_session.specs.Stands.{End, Roomy, end_of, is_open_end}
 use Rattle.nob_table.specs.Counts.{is_held}
 use Rattle.nob_table.specs.Standings as standings
 use Rattle.nob_table.specs.Table.{Table, standing}
@@ -43,6 +43,7 @@ use Rattle.nob_space_state.specs.Parts.{State}
 use Rattle.nob_space_state.specs.Stands.{Stands, TableShows, TableStands, bundle, far_state}
 use Rattle.nob_space_state.proofs.Ends.{end_there, ends_changed}
 use Rattle.nob_space_state.proofs.Sent.{gift_to}
+use Rattle.nob_space_state.proofs.Told.{ended_there}
 
 -- what a deed leaves that takes nothing, closes nothing and gives one peer items without references
 pub record GivesNotes (s n : ℕ) (deed : Deed) (D : List Deed) (p : ℕ) (items : List Item) : Type 0 where
@@ -148,3 +149,13 @@ module _ {s n p : ℕ} {items : List Item} {deed : Deed} {D : List Deed} (notes 
         jobs = stands.jobs ∙ sym notes.jobs;
         right = (its, stands.right);
       }
+
+-- the end with a peer is open where the session hasn't closed
+pub open_there : {s n : ℕ} {limits : Limits} {st : State} {D : List Deed} → Stands s n limits st D → (p : ℕ) (end : Roomy) → is_peer s n p ≡ true → end ≡ get_or st.sessions (p - 1) end → closed p D ≡ false → is_open_end end.end ≡ true
+open_there {s} {n} {limits} {st} {D} stands p end peer is still =
+    let there = end_there s n limits st.sessions (history_of s n D) p end stands.ends peer is in
+    not_false (is_open_end end.end) (ended_there stands p end there.0 there.1 ∙ still)
+  where
+    not_false : (b : Bool) → not b ≡ false → b ≡ true
+    not_false true e = refl
+    not_false false e = let bad : true ≡ false = e in absurd (cc)

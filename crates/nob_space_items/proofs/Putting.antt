@@ -47,6 +47,13 @@ other_put s m (items.Clean index) lost W no_call no_reply = (refl, refl)
 
 -- ---- what is lent
 
+-- what waits lends at least what the first that was found lends
+pub waiting_lends : (s : ℕ) (rep : WireRep) (test : Message → Bool) (m : Message) (W : InHand) → find test W.waiting ≡ Some m → times rep (loans_of s m) ≤ times rep (lent_in s W)
+waiting_lends s rep test m W found =
+    let a = times_both rep (flat_map (loans_of s) W.waiting) (flat_map (loans_of s) W.ready ++ (flat_map (λ (run : Run). loans_of s run.message) W.running ++ flat_map (loans_of s) W.replies)) in
+    let b = times_without (loans_of s) test rep W.waiting m found in
+    omega (arith, a, b)
+
 -- what waits lends what the first that was found lends, and what the others do
 without_lends : (s p k : ℕ) (rep : WireRep) (m : Message) (W : InHand) → find (is_of p k) W.waiting ≡ Some m → times rep (lent_in s W) ≡ times rep (loans_of s m) + times rep (lent_in s (without_waiting p k W))
 without_lends s p k rep m W found =

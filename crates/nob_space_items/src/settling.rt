@@ -12,7 +12,6 @@ ghost use Rattle.nob_model_end.specs.declared.entry.EndEntry.TheVariants.{Send};
 ghost use Rattle.nob_model_types.specs.declared.answer.Answer.TheVariants as answers;
 ghost use Rattle.nob_model_words.specs.declared.deed.Deed.{Deed};
 ghost use Rattle.nob_model_words.specs.declared.deed.Deed.TheVariants as did;
-
 ghost use Rattle.nob_model_work.specs.Work.{after_settlement, lost_reply};
 ghost use Rattle.nob_model_history.specs.Histories.{history_of};
 ghost use Rattle.nob_model_history.specs.Ends.{payload_of};
@@ -185,7 +184,11 @@ fn payload_if(alloc: Global, call: Option<CallNo>) -> Result<Option<Vec<u8>>, Al
 }
 
 // Hands a Settle to the peer of a session, and a Reply where there is one. Only memory fails it.
-fn hand_notes(session: &mut Session, settle: Vec<u8>, reply: Option<Vec<u8>>) -> Result<(), AllocError>
+fn hand_notes(
+    session: &mut Session,
+    settle: Vec<u8>,
+    reply: Option<Vec<u8>>,
+) -> Result<(), AllocError>
     requires settle { (0 < vec_len settle) × (vec_len settle ≤ 16384) }
     requires reply { IfSome reply (λ payload. (0 < vec_len payload) × (vec_len payload ≤ 16384)) }
     requires open { is_open_end session.old.end ≡ true }
@@ -205,7 +208,13 @@ fn hand_notes(session: &mut Session, settle: Vec<u8>, reply: Option<Vec<u8>>) ->
 
 // Puts a Call that is settled to the ready jobs, or ends it where a reference of it is lost: then what it lent is given
 // back.
-fn put_call(table: &mut ObjectTable, ready: &mut Vec<Message>, me: SpaceId, message: Message, lost: bool)
+fn put_call(
+    table: &mut ObjectTable,
+    ready: &mut Vec<Message>,
+    me: SpaceId,
+    message: Message,
+    lost: bool,
+)
     requires lent { lost ≡ true → HasLent table.old (loans_of me message) }
     requires room { vec_len ready.old < vec_capacity ready.old }
     ensures back { GivesBack table.old table.new (if lost then loans_of me message else []) }
