@@ -1,5 +1,5 @@
 -- A message that waits has the number of an item.
-use Rattle.std.proofs.Common.{◌≡◌, ℕ, ◌+◌, ◌≤◌, ◌<◌, Bool, true, false, cond, not, nat_le, nat_lt, ◌&&◌, ◌==◌, List, [], ◌∷◌, ◌++◌, length, drop, find, Option, Some, None, Result, Ok, Err, IsSome, if◌then◌else◌, refl, sym, ap, subst, ◌∙◌, arith}
+use Rattle.std.proofs.Common.{◌≡◌, ℕ, ◌+◌, ◌≤◌, ◌<◌, Bool, true, false, not, nat_le, nat_lt, ◌&&◌, ◌==◌, List, [], ◌∷◌, ◌++◌, length, drop, find, Option, Some, None, Ok, Err, IsSome, if◌then◌else◌, refl, arith}
 use Prim.Native.Nat.{zero, suc}
 use Rattle.std.specs.List.{AllByRecursion}
 use Rattle.std.proofs.lemmas.Bool.{and_parts}
@@ -12,7 +12,6 @@ use Rattle.nob_item.specs.declared.item.Item.{Item}
 use Rattle.nob_item.specs.declared.item.Item.TheVariants as items
 use Rattle.nob_model_end.specs.End.{is_open, accepted, takes, waiting, transmitted}
 use Rattle.nob_model_end.specs.Right.{last_item, inbox_limit, first_of, is_accepted, is_of_pair}
-use Rattle.nob_model_end.specs.declared.entry.Arrived.{Arrived}
 use Rattle.nob_model_end.specs.declared.entry.Arrived.TheVariants as arrived
 use Rattle.nob_model_end.specs.declared.entry.EndEntry.{EndEntry}
 use Rattle.nob_model_end.specs.declared.entry.EndEntry.TheVariants as ends

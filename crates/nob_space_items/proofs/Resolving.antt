@@ -28,9 +28,8 @@ use Rattle.nob_model_words.specs.declared.turns.OwnerAnswer.TheVariants as said
 use Rattle.nob_model_words.specs.declared.turns.Turns.{Turns}
 use Rattle.nob_model_words.specs.Messages.{is_lost_message}
 use Rattle.nob_model_words.specs.Sessions.{is_peer, closed}
-use Rattle.nob_model_words.specs.Turns.{turns, is_own, is_usable, is_lost, is_resolved, is_pending, is_granted, is_refused, is_yes, is_no}
+use Rattle.nob_model_words.specs.Turns.{turns, is_usable, is_lost, is_resolved, is_pending, is_granted, is_refused, is_yes, is_no}
 use Rattle.nob_model_work.specs.declared.work.InHand.{InHand}
-use Rattle.nob_model_work.specs.Work.{work}
 use Rattle.nob_model_history.specs.Histories.{history_of}
 use Rattle.nob_model_history.specs.Ends.{calls_at}
 use Rattle.nob_model_history.proofs.Turning.{pending_waits, waiting_stands}

@@ -1,5 +1,5 @@
 -- Settle: what it leaves stands for one deed more.
-use Rattle.std.proofs.Common.{◌≡◌, ℕ, ◌+◌, ◌-◌, ◌≤◌, Bool, true, false, cond, not, ◌==◌, List, [], ◌∷◌, ◌++◌, length, map, filter, find, get_or, Option, Some, None, IfSome, Ok, if◌then◌else◌, refl, sym, ap, subst, ◌∙◌, arith}
+use Rattle.std.proofs.Common.{◌≡◌, ℕ, ◌+◌, ◌-◌, ◌≤◌, Bool, true, false, cond, List, [], ◌∷◌, ◌++◌, length, map, filter, find, get_or, Option, Some, None, IfSome, Ok, if◌then◌else◌, refl, sym, ap, subst, ◌∙◌, arith}
 use lib.ListN.{set}
 use Rattle.std.specs.List.{AllByRecursion}
 use Rattle.std.specs.Option.{option_map}
@@ -7,7 +7,6 @@ use Rattle.std.proofs.lemmas.List.{length-append}
 use Rattle.std.proofs.lemmas.Option.{none-some}
 use Rattle.nob_ids.specs.Names.{is_counted}
 use Rattle.nob_ids.specs.declared.limits.Limits.{Limits}
-use Rattle.nob_ids.specs.declared.wire_rep.WireRep.{WireRep}
 use Rattle.nob_item.specs.Judging.{is_call_number}
 use Rattle.nob_item.specs.Kinds.{counted_in}
 use Rattle.nob_item.specs.declared.item.Item.{Item}
@@ -23,7 +22,7 @@ use Rattle.nob_table.specs.Table.{Table, standing}
 use Rattle.nob_model_words.specs.declared.deed.Deed.{Deed}
 use Rattle.nob_model_words.specs.declared.deed.Deed.TheVariants.{Settle}
 use Rattle.nob_model_words.specs.declared.message.Message.{Message}
-use Rattle.nob_model_words.specs.Messages.{is_of, is_lost_message}
+use Rattle.nob_model_words.specs.Messages.{is_of}
 use Rattle.nob_model_words.specs.Sessions.{is_peer, closed}
 use Rattle.nob_model_work.specs.declared.gifts.Gift.{Gift}
 use Rattle.nob_model_work.specs.declared.work.InHand.{InHand}
@@ -32,15 +31,13 @@ use Rattle.nob_model_work.specs.Gifts.{gifts, gifts_of, gifts_of_settle, lost_ca
 use Rattle.nob_model_history.specs.Histories.{history_of}
 use Rattle.nob_model_history.specs.Ends.{calls_at, payload_of, with_sends}
 use Rattle.nob_model_history.specs.Holds.{hand, times, loans_of, lent_in}
-use Rattle.nob_model.specs.Candidates.{to_settle}
 use Rattle.nob_model.specs.Lists.{IsRightDeed}
 use Rattle.nob_model.proofs.Accepted.{found_passes}
 use Rattle.nob_model.proofs.Made.{work_fixed, fixed_stays}
 use Rattle.nob_model.proofs.Waiting.{settled_message}
 use Rattle.nob_space_state.specs.Parts.{State}
 use Rattle.nob_space_state.specs.Returns.{HasLent, GivesBack}
-use Rattle.nob_space_state.specs.Stands.{Stands, TableShows, TableStands}
-use Rattle.nob_space_state.proofs.Ends.{end_there}
+use Rattle.nob_space_state.specs.Stands.{Stands, TableStands}
 use Rattle.nob_space_state.proofs.Finishing.{none_of, counted_append, counted_copies, counted_target}
 use Rattle.nob_space_state.proofs.Firsts.{some_same}
 use Rattle.nob_space_state.proofs.Rows.{differ}

@@ -1,5 +1,5 @@
 -- Which message is settled, and what that gives and gives back, by the state.
-use Rattle.std.specs.Prelude.{ℕ, ◌+◌, Bool, true, false, ◌&&◌, ◌||◌, ◌==◌, not, List, [], ◌∷◌, Option, Some, None, Ok, if◌then◌else◌}
+use Rattle.std.specs.Prelude.{ℕ, Bool, true, false, ◌&&◌, ◌||◌, ◌==◌, not, List, [], ◌∷◌, Option, Some, None, Ok, if◌then◌else◌}
 use Rattle.std.specs.List.{list_any, list_all}
 use Rattle.nob_ids.specs.declared.wire_rep.WireRep.{WireRep}
 use Rattle.nob_item.specs.declared.item.Item.{Item}
@@ -15,7 +15,6 @@ use Rattle.nob_table.specs.Table.{Table, standing}
 use Rattle.nob_model_words.specs.declared.message.Message.{Message}
 use Rattle.nob_model_words.specs.Sessions.{is_peer}
 use Rattle.nob_model_work.specs.declared.work.InHand.{InHand}
-use Rattle.nob_model_history.specs.Ends.{payload_of}
 use Rattle.nob_model_history.specs.Holds.{loans_of}
 use Rattle.nob_space_state.specs.Looks.{has_closed}
 use Rattle.nob_space_state.specs.Parts.{State}

@@ -1,6 +1,4 @@
-use Rattle.std.proofs.Common.{◌≡◌, ℕ, ◌+◌, ◌∷◌, [], ◌++◌, List, Ok, sym, ap, subst, ◌∙◌, arith}
-use Rattle.nob_ids.specs.declared.limits.Limits.{Limits}
-use Rattle.nob_model_end.specs.declared.entry.EndEntry.{EndEntry}
+use Rattle.std.proofs.Common.{◌≡◌, ℕ, ◌+◌, ◌∷◌, Ok, sym, ap, subst, ◌∙◌, arith}
 use Rattle.nob_model_end.specs.declared.entry.EndEntry.TheVariants.{Send}
 use Rattle.nob_model_end.specs.declared.entry.Kind.TheVariants.{Note}
 use Rattle.nob_session.specs.Stands.{End}

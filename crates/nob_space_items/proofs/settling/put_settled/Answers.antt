@@ -1,4 +1,4 @@
-use Rattle.std.proofs.Common.{sym, ap, subst}
+use Rattle.std.proofs.Common.{ap, subst}
 use Rattle.nob_space_state.specs.Parts.{state_of}
 use Rattle.nob_space_state.specs.Returns.{GivesBack}
 use Rattle.nob_space_items.specs.Settling.{after_put}

@@ -1,15 +1,13 @@
-use Rattle.std.proofs.Common.{◌≡◌, ◌-◌, ◌<◌, ◌≤◌, ℕ, ◌+◌, ◌∷◌, List, get_or, find, true, Some, Ok, IfSome, sym, subst, ◌∙◌, ap, arith}
+use Rattle.std.proofs.Common.{◌≡◌, ◌-◌, ◌≤◌, ℕ, ◌∷◌, List, get_or, find, true, IfSome, sym, subst, ◌∙◌, ap, arith}
 use lib.ListN.{set}
-use Rattle.std.specs.List.{remove}
 use Rattle.std.specs.Option.{option_map}
 use Rattle.nob_item.specs.Judging.{is_call_number}
 use Rattle.nob_model_end.specs.Right.{last_item}
-use Rattle.nob_model_types.specs.declared.answer.Answer.TheVariants as answers
 use Rattle.nob_model_history.specs.Ends.{calls_at}
 use Rattle.nob_model_history.specs.Histories.{history_of}
 use Rattle.nob_model_words.specs.declared.deed.Deed.TheVariants as did
 use Rattle.nob_model_words.specs.declared.message.Message.{Message}
-use Rattle.nob_model_work.specs.Work.{work, after_settlement}
+use Rattle.nob_model_work.specs.Work.{after_settlement}
 use Rattle.nob_session.specs.Stands.{Roomy}
 use Rattle.nob_space_state.specs.Parts.{State, state_of}
 use Rattle.nob_space_state.specs.Returns.{HasLent, GivesBack}
@@ -17,7 +15,7 @@ use Rattle.nob_space_state.specs.Stands.{Stands}
 use Rattle.nob_space_state.proofs.Calling.{peer_range}
 use Rattle.nob_space_state.proofs.Ends.{end_there, stands_kept}
 use Rattle.nob_space_state.proofs.Firsts.{some_same, no_place, at_place}
-use Rattle.nob_space_items.specs.Settling.{is_settleable, has_lost, lost_call, given_count, loans_ended, after_put}
+use Rattle.nob_space_items.specs.Settling.{is_settleable, has_lost, lost_call, given_count, loans_ended}
 use Rattle.nob_space_items.proofs.Resolving.{message_sound, settle_none, settle_full, settle_right, settle_wants, some_given}
 use Rattle.nob_space_items.proofs.Settlements.{settle_lent, settle_open, settle_stands, same_count, lost_numbered}
 use Rattle.nob_space_items.proofs.Numbering.{number_there}
