@@ -139,6 +139,13 @@ impl ObjectTable {
         self.peers.len()
     }
 
+    /// How many Dirties were sent: the place that the surrogate of the next one gets. Constant time.
+    pub fn dirty_count(&self) -> u128
+        ensures { result ≡ self.now.dirties }
+    {
+        self.dirties
+    }
+
     /// One hold more on the reference, in this part: a live object's, a surrogate's, or a lost reference's that is
     /// held already. B1 where it is none of these, B3 where the part is full. Constant time on average.
     pub fn hold(&mut self, rep: WireRep, part: Part) -> Result<(), TableFault>
