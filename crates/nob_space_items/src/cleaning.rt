@@ -28,7 +28,7 @@ use nob_table::ObjectTable;
 use std::alloc::{AllocError, Global};
 
 // The first surrogate, in the order of the last Dirties, that is granted and has neither holds nor pins.
-fn first_spare(parts: &Parts) -> Option<WireRep>
+pub(crate) fn first_spare(parts: &Parts) -> Option<WireRep>
     requires { ArePlacedApart parts.now.table }
     ensures { MatchOption result (NoneSpareBelow (state_of parts.now) parts.now.table.dirties) (λ rep. IsFirstSpare (state_of parts.now) rep) }
 {

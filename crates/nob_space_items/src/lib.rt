@@ -3,7 +3,9 @@
 #![tactic(auto)]
 
 mod cleaning;
+mod next;
 mod settling;
 
 pub use cleaning::clean;
+pub use next::{can_clean, can_settle};
 pub use settling::{SettledItem, settle};

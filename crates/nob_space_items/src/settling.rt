@@ -108,7 +108,7 @@ fn has_lost(parts: &Parts, here: &Here, message: &Message) -> bool
 }
 
 // The place of the first message that waits whose references are all resolved.
-fn first_settleable(parts: &Parts, here: &Here) -> Option<usize>
+pub(crate) fn first_settleable(parts: &Parts, here: &Here) -> Option<usize>
     ensures { result ≡ position (is_settleable here.now.space here.now.n (state_of parts.now)) parts.now.waiting.items }
 {
     parts

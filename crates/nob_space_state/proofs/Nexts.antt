@@ -41,7 +41,7 @@ pub act_there : {s n : ℕ} {limits : Limits} {st : State} {D : List Deed} → S
 act_there {s} {n} {limits} {st} {D} stands p peer still = rw (peer, sym (closed_there stands p), still) refl
 
 -- a place was found where an element was
-place_found : {A : Type 0} (test : A → Bool) (xs : List A) → is_some (position test xs) ≡ is_some (find test xs)
+pub place_found : {A : Type 0} (test : A → Bool) (xs : List A) → is_some (position test xs) ≡ is_some (find test xs)
 place_found test xs = elim (position test xs) as (λ place. position test xs ≡ place → is_some place ≡ is_some (find test xs)) [
   | Some i ↦ λ there. sym (ap is_some (place_first test xs i there).1)
   | None ↦ λ nowhere. sym (ap is_some (no_place test xs nowhere))
