@@ -3,6 +3,8 @@
 
 mod space;
 mod steps;
+mod work;
 
 pub use nob_space_state::SpaceError;
 pub use space::Space;
+pub use work::Work;

@@ -1,6 +1,6 @@
 //! A space.
 
-ghost use Rattle.std.specs.Prelude.{◌≡◌, ◌≢◌, ◌≤◌, ℕ, List, [], false, Err, IfOk, OnErr};
+ghost use Rattle.std.specs.Prelude.{◌≡◌, ◌≢◌, ◌≤◌, ◌-◌, ℕ, List, [], false, Some, Err, IfOk, OnErr, slice_get};
 ghost use Rattle.nob_model_types.specs.declared.entry.Entry.{Entry};
 ghost use Rattle.nob_model_words.specs.Deeds.{deeds};
 ghost use Rattle.nob_model_history.specs.Histories.{history};
@@ -11,8 +11,10 @@ ghost use Rattle.nob_space.specs.Spaces.{StandsFor, SameSpace, with_entry, wants
 ghost use Rattle.nob_space.specs.Steps.{AnswersRight};
 
 use crate::steps;
+use crate::work::{Work, acts, sends};
 use nob_ids::{CallNo, Limits, SpaceId};
 use nob_model::{Answer, Event, Here};
+use nob_space_items::{can_clean, can_settle};
 use nob_space_state::{Parts, SpaceError};
 use std::alloc::{AllocError, Global};
 use std::marker::Model;
@@ -98,6 +100,33 @@ impl Space {
         ensures { (L : List Entry) → StandsFor self.now L → result ≡ next.reply_ready call (history self.now.id self.now.n L) }
     {
         self.parts.reply_ready(call)
+    }
+
+    /// What the space could do next: to ask it that would be no refusal, limits, free numbers and want of memory aside.
+    /// It takes no memory. Linear in the messages that wait and their references, the ready jobs times those that run,
+    /// and, times the pins and the listings, in the surrogates and the objects without holds.
+    pub fn work(&self) -> Work
+        ensures act { (L : List Entry) → StandsFor self.now L → (p : ℕ) → 1 ≤ p → p ≤ 32 → slice_get result.act (p - 1) ≡ Some (next.can_act self.now.id self.now.n p (history self.now.id self.now.n L)) }
+        ensures send { (L : List Entry) → StandsFor self.now L → (p : ℕ) → 1 ≤ p → p ≤ 32 → slice_get result.send (p - 1) ≡ Some (next.can_send self.now.id self.now.n p self.now.limits.window (history self.now.id self.now.n L)) }
+        ensures settle { (L : List Entry) → StandsFor self.now L → result.settle ≡ next.can_settle self.now.id self.now.n (history self.now.id self.now.n L) }
+        ensures clean { (L : List Entry) → StandsFor self.now L → result.clean ≡ next.can_clean self.now.id self.now.n (history self.now.id self.now.n L) }
+        ensures claim { (L : List Entry) → StandsFor self.now L → result.claim ≡ next.can_claim (history self.now.id self.now.n L) }
+        ensures withdraw { (L : List Entry) → StandsFor self.now L → result.withdraw ≡ next.to_withdraw self.now.id (history self.now.id self.now.n L) }
+    {
+        let act = acts(&self.parts, &self.here);
+        let send = sends(&self.parts, &self.here);
+        let settle = can_settle(&self.parts, &self.here);
+        let clean = can_clean(&self.parts, &self.here);
+        let claim = self.parts.can_claim();
+        let withdraw = self.parts.to_withdraw(&self.here);
+        Work {
+            act,
+            send,
+            settle,
+            clean,
+            claim,
+            withdraw,
+        }
     }
 
     /// One event: its answer, or why the space refuses it. After a refusal, or where memory was wanted, the space is as

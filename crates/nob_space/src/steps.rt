@@ -217,7 +217,10 @@ pub(crate) fn settle(parts: &mut Parts, alloc: Global, here: &Here) -> Result<An
     ensures answer { StepAnswers here.now.space here.now.n (state_of parts.old) events.Settle result }
     ensures stands { StepStands here.now.space here.now.n (state_of parts.old) (state_of parts.new) events.Settle result }
 {
-    unreachable!()
+    match nob_space_items::settle(parts, alloc, here) {
+        Ok(settled) => Ok(Answer::Settled(settled.peer, settled.item)),
+        Err(error) => Err(error),
+    }
 }
 
 // Clean.
@@ -227,7 +230,10 @@ pub(crate) fn clean(parts: &mut Parts, alloc: Global, here: &Here) -> Result<Ans
     ensures answer { StepAnswers here.now.space here.now.n (state_of parts.old) events.Clean result }
     ensures stands { StepStands here.now.space here.now.n (state_of parts.old) (state_of parts.new) events.Clean result }
 {
-    unreachable!()
+    match nob_space_items::clean(parts, alloc, here) {
+        Ok(rep) => Ok(Answer::Cleaned(rep)),
+        Err(error) => Err(error),
+    }
 }
 
 // One event.

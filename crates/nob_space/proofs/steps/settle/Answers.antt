@@ -1,4 +1,0 @@
-use Rattle.nob_space.proofs.steps.settle.Goals as goal
-
-pub unreachable-requires : goal.unreachable-requires
-unreachable-requires c = ?
