@@ -1,6 +1,5 @@
 -- What is lent stays as it is where no reference becomes usable.
-use Rattle.std.proofs.Common.{◌≡◌, ℕ, Bool, true, false, ◌||◌, List, [], ◌∷◌, map, refl, ap, subst}
-use Rattle.std.specs.List.{AllByRecursion}
+use Rattle.std.proofs.Common.{◌≡◌, ℕ, Bool, true, false, ◌||◌, List, map, refl, ap, subst}
 use Rattle.nob_ids.specs.declared.wire_rep.WireRep.{WireRep}
 use Rattle.nob_model_words.specs.declared.deed.Deed.{Deed}
 use Rattle.nob_model_words.specs.declared.message.Loan.{Loan}
@@ -12,6 +11,7 @@ use Rattle.nob_model_words.specs.Messages.{loan_after, copy_after, message_after
 use Rattle.nob_model_work.specs.declared.work.InHand.{InHand}
 use Rattle.nob_model_work.specs.declared.work.Run.{Run}
 use Rattle.nob_model_work.specs.Work.{run_after}
+use Rattle.nob_model.proofs.Waiting.{all_weaker}
 use Rattle.nob_model.proofs.Made.{AreFixed, all_fixed, fixed_map}
 
 -- a loan that stays where a reference may be usable stays where it isn't
@@ -22,10 +22,6 @@ loan_stays before false loans.Lent less fixed = refl
 loan_stays before false loans.Never less fixed = refl
 
 module _ (s n : ℕ) (D E : List Deed) (less : (rep : WireRep) → is_usable s n rep E ≡ true → is_usable s n rep D ≡ true) where
-  all_stay : {X : Type 0} (P Q : X → Type 0) → ((x : X) → P x → Q x) → (xs : List X) → AllByRecursion P xs → AllByRecursion Q xs
-  all_stay P Q f [] all = tt
-  all_stay P Q f (x ∷ xs) all = (f x all.0, all_stay P Q f xs all.1)
-
   own_or : (own before after : Bool) → (after ≡ true → before ≡ true) → (own || after) ≡ true → (own || before) ≡ true
   own_or true before after f is = refl
   own_or false before after f is = f is
@@ -41,7 +37,7 @@ module _ (s n : ℕ) (D E : List Deed) (less : (rep : WireRep) → is_usable s n
   message_stays message fixed =
       let copies : map (λ copy. copy_after s n D copy) message.copies ≡ message.copies = ap (λ (m : Message). m.copies) fixed in
       ap (λ (cs : List RefCopy). record { from = message.from; number = message.number; item = message.item; copies = cs })
-      (fixed_map (λ copy. copy_after s n E copy) message.copies (all_stay (λ copy. copy_after s n D copy ≡ copy) (λ copy. copy_after s n E copy ≡ copy) copy_stays message.copies (all_fixed (λ copy. copy_after s n D copy) message.copies copies)))
+      (fixed_map (λ copy. copy_after s n E copy) message.copies (all_weaker (λ copy. copy_after s n D copy ≡ copy) (λ copy. copy_after s n E copy ≡ copy) copy_stays message.copies (all_fixed (λ copy. copy_after s n D copy) message.copies copies)))
 
   run_stays : (run : Run) → run_after s n D run ≡ run → run_after s n E run ≡ run
   unfolding run_after
@@ -50,8 +46,8 @@ module _ (s n : ℕ) (D E : List Deed) (less : (rep : WireRep) → is_usable s n
   -- what is fixed stays fixed
   pub still_fixed : (W : InHand) → AreFixed s n D W → AreFixed s n E W
   still_fixed W fixed = record {
-    waiting = all_stay _ _ message_stays W.waiting fixed.waiting;
-    ready = all_stay _ _ message_stays W.ready fixed.ready;
-    running = all_stay _ _ run_stays W.running fixed.running;
-    replies = all_stay _ _ message_stays W.replies fixed.replies;
+    waiting = all_weaker _ _ message_stays W.waiting fixed.waiting;
+    ready = all_weaker _ _ message_stays W.ready fixed.ready;
+    running = all_weaker _ _ run_stays W.running fixed.running;
+    replies = all_weaker _ _ message_stays W.replies fixed.replies;
   }

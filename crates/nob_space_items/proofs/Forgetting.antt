@@ -1,8 +1,8 @@
 -- Clean: what is right is what the state tells, and what it leaves.
-use Rattle.std.proofs.Common.{◌≡◌, ℕ, ◌+◌, ◌-◌, ◌<◌, Bool, true, false, not, ◌&&◌, nat_le, List, [], ◌∷◌, length, get_or, None, Ok, Err, IsOk, if◌then◌else◌, refl, sym, ap, subst, ◌∙◌, arith}
+use Rattle.std.proofs.Common.{◌≡◌, ℕ, ◌+◌, ◌-◌, ◌<◌, true, false, not, ◌&&◌, nat_le, List, [], ◌∷◌, length, get_or, None, Ok, Err, IsOk, if◌then◌else◌, refl, sym, ap, subst, ◌∙◌, arith}
 use lib.ListN.{set}
 use Rattle.std.proofs.lemmas.Bool.Decides.{nat_tests}
-use Rattle.std.proofs.lemmas.Bool.{and_parts}
+use Rattle.std.proofs.lemmas.Bool.{and_parts, not-true}
 use Rattle.nob_ids.specs.Names.{is_counted, is_same}
 use Rattle.nob_ids.specs.declared.limits.Limits.{Limits}
 use Rattle.nob_ids.specs.declared.wire_rep.WireRep.{WireRep}
@@ -89,11 +89,7 @@ module _ {s n : ℕ} {limits : Limits} {st : State} {D : List Deed} (stands : St
     granted_there : (is_granted (turns s n rep D) ≡ true) × (closed rep.owner D ≡ false)
     granted_there =
         let usable = and_parts _ _ (and_parts _ _ (and_parts _ _ (idle_there stands rep first)).0).0 in
-        (usable.0, not_true (closed rep.owner D) usable.1)
-      where
-        not_true : (b : Bool) → not b ≡ true → b ≡ false
-        not_true true e = let bad : false ≡ true = e in absurd (cc)
-        not_true false e = refl
+        (usable.0, not-true (closed rep.owner D) usable.1)
 
     -- so it has a number for the Clean
     pub clean_next : 0 < last_item - end.end.handed → IsOk (next_of Note end.end)
@@ -163,12 +159,8 @@ module _ {s n : ℕ} {limits : Limits} {st : State} {D : List Deed} (stands : St
       ] refl;
     }
       where
-        not_held : (b : Bool) → not b ≡ true → b ≡ false
-        not_held true e = let bad : false ≡ true = e in absurd (cc)
-        not_held false e = refl
-
         idle_parts : (state : TableState) (counts : Counts) → standings.is_idle (record { state = state; counts = counts }) ≡ true → (counts ≡ no_counts) × (standings.is_live state ≡ false)
-        idle_parts states.Granted counts idle = (no_holds counts (not_held (is_held counts) idle), refl)
+        idle_parts states.Granted counts idle = (no_holds counts (not-true (is_held counts) idle), refl)
         idle_parts (_) counts idle = let bad : false ≡ true = idle in absurd (cc)
 
         idle_row : ((standing st.table rep).counts ≡ no_counts) × (standings.is_live (standing st.table rep).state ≡ false)

@@ -1,8 +1,9 @@
 -- A deed that gives one peer items without references: what is sent, and the state that it leaves.
-use Rattle.std.proofs.Common.{◌≡◌, ℕ, ◌+◌, ◌-◌, Bool, true, false, cond, not, ◌&&◌, ◌==◌, List, [], ◌∷◌, ◌++◌, length, map, filter, get_or, None, Ok, refl, sym, ap, subst, ◌∙◌, if◌then◌else◌}
+use Rattle.std.proofs.Common.{◌≡◌, ℕ, ◌+◌, ◌-◌, true, false, cond, not, ◌&&◌, ◌==◌, List, [], ◌∷◌, ◌++◌, length, map, filter, get_or, None, Ok, refl, sym, ap, subst, ◌∙◌, if◌then◌else◌}
 use lib.ListN.{set}
 use Rattle.std.specs.List.{AllByRecursion, sum_by, list_any}
 use Rattle.std.proofs.lemmas.List.{append-nil}
+use Rattle.std.proofs.lemmas.Bool.{not-false}
 use Rattle.std.proofs.lemmas.Cmp.{nat_eq_equiv}
 use Rattle.nob_ids.specs.Names.{is_counted, is_same}
 use Rattle.nob_ids.specs.declared.limits.Limits.{Limits}
@@ -154,8 +155,4 @@ module _ {s n p : ℕ} {items : List Item} {deed : Deed} {D : List Deed} (notes 
 pub open_there : {s n : ℕ} {limits : Limits} {st : State} {D : List Deed} → Stands s n limits st D → (p : ℕ) (end : Roomy) → is_peer s n p ≡ true → end ≡ get_or st.sessions (p - 1) end → closed p D ≡ false → is_open_end end.end ≡ true
 open_there {s} {n} {limits} {st} {D} stands p end peer is still =
     let there = end_there s n limits st.sessions (history_of s n D) p end stands.ends peer is in
-    not_false (is_open_end end.end) (ended_there stands p end there.0 there.1 ∙ still)
-  where
-    not_false : (b : Bool) → not b ≡ false → b ≡ true
-    not_false true e = refl
-    not_false false e = let bad : true ≡ false = e in absurd (cc)
+    not-false (is_open_end end.end) (ended_there stands p end there.0 there.1 ∙ still)

@@ -31,6 +31,7 @@ use Rattle.nob_model_history.proofs.Dirtying.{asked_in, dirties_more, message_as
 use Rattle.nob_model_history.proofs.Turning.{pending_waits, waiting_stands}
 use Rattle.nob_model_history.proofs.Unasked.{dirties_same}
 use Rattle.nob_model.proofs.Carrying.{all_filter}
+use Rattle.nob_model.proofs.Waiting.{all_weaker}
 use Rattle.nob_space_state.specs.Parts.{State}
 use Rattle.nob_space_state.specs.Stands.{Stands, far_state}
 use Rattle.nob_space_state.proofs.Told.{held_there}
@@ -83,10 +84,6 @@ all_pass P test (x ∷ xs) all = elim (test x) as (λ b. test x ≡ b → AllByR
   | true ↦ λ e. ((all.0, e), all_pass P test xs all.1)
   | false ↦ λ e. all_pass P test xs all.1
 ] refl
-
-all_weaker : {X : Type 0} (P Q : X → Type 0) → ((x : X) → P x → Q x) → (xs : List X) → AllByRecursion P xs → AllByRecursion Q xs
-all_weaker P Q f [] h = tt
-all_weaker P Q f (x ∷ xs) h = (f x h.0, all_weaker P Q f xs h.1)
 
 all_once : (P : WireRep → Type 0) (reps : List WireRep) → AllByRecursion P reps → AllByRecursion P (once reps)
 all_once P [] all = tt

@@ -11,10 +11,9 @@ use Rattle.nob_model_end.specs.declared.entry.Kind.TheVariants.{Note}
 use Rattle.nob_table.specs.declared.standing.State.{State as TableState}
 use Rattle.nob_table.specs.declared.standing.State.TheVariants as states
 use Rattle.nob_table.specs.Standings.{is_granted}
-use Rattle.nob_table.specs.Table.{Table, standing}
+use Rattle.nob_table.specs.Table.{standing}
 use Rattle.nob_model_words.specs.declared.message.Message.{Message}
 use Rattle.nob_model_words.specs.Sessions.{is_peer}
-use Rattle.nob_model_work.specs.declared.work.InHand.{InHand}
 use Rattle.nob_model_history.specs.Holds.{loans_of}
 use Rattle.nob_space_state.specs.Looks.{has_closed}
 use Rattle.nob_space_state.specs.Parts.{State}
@@ -69,16 +68,3 @@ abbrev pub loans_ended : ℕ → Message → Item → Bool → List WireRep
 loans_ended s message (items.Call call target method value) lost = if lost then loans_of s message else []
 loans_ended s message (items.Reply call status value) lost = if lost then loans_of s message else []
 loans_ended s message (_) lost = loans_of s message
-
--- the state with another table and other work in hand
-abbrev pub after_put : Table → InHand → State → State
-after_put t work st =
-    record {
-      sessions = st.sessions;
-      table = t;
-      dirty = st.dirty;
-      pins = st.pins;
-      work = work;
-      calls = st.calls;
-      jobs = st.jobs;
-    }

@@ -87,7 +87,8 @@ fn forget(table: &mut ObjectTable, rep: &WireRep)
 
 /// Clean: the first surrogate, in the order of the last Dirties, that is granted on an open session and has neither
 /// holds nor pins is given up: its owner is told so by an item. Nothing where there is none, SeqEnd where the session
-/// with its owner has no number left. Linear in the surrogates, times the pins of those that nothing holds.
+/// with its owner has no number left. Linear in the surrogates and the pins, once more for each surrogate that nothing
+/// holds but that has pins.
 pub fn clean(parts: &mut Parts, alloc: Global, here: &Here) -> Result<WireRep, SpaceError>
     requires { IsState here.now.space here.now.n (state_of parts.old) }
     ensures answer { (limits : LimitsOf) (D : List Deed) → Stands here.now.space here.now.n limits (state_of parts.old) D → AnswersOrWants (λ rep. answers.Cleaned rep) result (right.right_clean here.now.space here.now.n (history_of here.now.space here.now.n D)) }

@@ -19,10 +19,10 @@ ghost use Rattle.nob_model_history.specs.Holds.{loans_of};
 ghost use Rattle.nob_model.specs.Right as right;
 ghost use Rattle.nob_session.specs.Stands as ends;
 ghost use Rattle.nob_session.specs.Stands.{is_open_end};
-ghost use Rattle.nob_space_state.specs.Parts.{state_of};
+ghost use Rattle.nob_space_state.specs.Parts.{state_of, with_table, with_work};
 ghost use Rattle.nob_space_state.specs.Returns.{HasLent, GivesBack};
 ghost use Rattle.nob_space_state.specs.Stands.{Stands, IsState, Keeps, Did, AnswersOrWants};
-ghost use Rattle.nob_space_items.specs.Settling.{is_denied, is_lost_here, is_resolved_here, is_settleable, has_lost, lost_call, reply_to_lost, items_given, given_count, with_note, loans_ended, after_put};
+ghost use Rattle.nob_space_items.specs.Settling.{is_denied, is_lost_here, is_resolved_here, is_settleable, has_lost, lost_call, reply_to_lost, items_given, given_count, with_note, loans_ended};
 
 use nob_ids::{CallNo, ItemNo, SpaceId, WireRep};
 use nob_item::{Item, ItemError, encode, encode_reply};
@@ -276,7 +276,7 @@ fn put_settled(parts: &mut Parts, alloc: Global, me: SpaceId, message: Message, 
     requires ready { vec_len parts.old.ready < vec_capacity parts.old.ready }
     requires replies { vec_len parts.old.replies < vec_capacity parts.old.replies }
     ensures back { GivesBack parts.old.table parts.new.table (loans_ended me message message.item lost) }
-    ensures put { state_of parts.new ≡ after_put parts.new.table (after_settlement message message.item lost (state_of parts.old).work) (state_of parts.old) }
+    ensures put { state_of parts.new ≡ with_work (after_settlement message message.item lost (state_of parts.old).work) parts.old.calls_made parts.old.jobs_made (with_table parts.new.table (state_of parts.old)) }
 {
     match &message.item {
         Item::Call { .. } => put_call(&mut parts.table, &mut parts.ready, me, message, lost),
