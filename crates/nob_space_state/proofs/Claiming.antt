@@ -1,5 +1,5 @@
 -- Claim: what it takes, and what it leaves stands for one deed more.
-use Rattle.std.proofs.Common.{◌≡◌, ℕ, ◌+◌, ◌≤◌, ◌<◌, Bool, true, false, not, ◌&&◌, ◌==◌, nat_le, List, ◌∷◌, ◌++◌, find, flat_map, Some, None, Ok, Err, refl, sym, ap, subst, ◌∙◌, arith}
+use Rattle.std.proofs.Common.{◌≡◌, ℕ, ◌+◌, ◌≤◌, ◌<◌, Bool, true, false, not, ◌&&◌, ◌==◌, nat_le, List, ◌∷◌, ◌++◌, find, flat_map, Some, None, Result, Ok, Err, IsOk, if◌then◌else◌, refl, sym, ap, subst, ◌∙◌, arith}
 use Rattle.std.specs.List.{list_any}
 use Rattle.std.proofs.lemmas.Bool.Decides.{nat_tests}
 use Rattle.std.proofs.lemmas.Cmp.{nat_eq_equiv, int_eq_equiv}
@@ -11,7 +11,11 @@ use Rattle.nob_pickle.specs.Shape.{tree}
 use Rattle.nob_pickle.specs.declared.value.Value.{Value}
 use Rattle.nob_pickle.specs.Trees.{Tree, Trees, unit, int, bytes, list, ref, none, more}
 use Rattle.nob_table.proofs.Same.{same_refl}
+use Rattle.nob_model_types.specs.declared.answer.Answer.{Answer}
 use Rattle.nob_model_types.specs.declared.answer.Answer.TheVariants as answers
+use Rattle.nob_model_types.specs.declared.refusal.Refusal.{Refusal}
+use Rattle.nob_space_state.specs.declared.error.SpaceError.{SpaceError}
+use Rattle.nob_space_state.specs.declared.error.SpaceError.TheVariants as errors
 use Rattle.nob_model_types.specs.declared.answer.Job.{Job}
 use Rattle.nob_model_types.specs.declared.refusal.Refusal.TheVariants as refusals
 use Rattle.nob_model_words.specs.declared.deed.Deed.{Deed}
@@ -30,7 +34,7 @@ use Rattle.nob_model.specs.Right.{right_claim, claim_of, job_of, last_number}
 use Rattle.nob_model.specs.Candidates.{target_of, is_free}
 use Rattle.nob_space_state.specs.Parts.{State, with_work}
 use Rattle.nob_model.specs.Lists.{IsRightDeed}
-use Rattle.nob_space_state.specs.Stands.{Stands}
+use Rattle.nob_space_state.specs.Stands.{Stands, AnswersOrWants}
 use Rattle.nob_space_state.proofs.Firsts.{narrower_first, times_without}
 use Rattle.nob_model.proofs.Accepted.{found_passes}
 use Rattle.nob_model.proofs.Carrying.{all_found, all_without}
@@ -210,3 +214,13 @@ claim_done {s} {n} {limits} {st} {D} stands m job ready running its found is oth
     let after : Stands s n limits (with_work (claimed job.job m st.work) st.calls (st.jobs + 1) st) (Claim job ∷ D) = claim_stands s n D m job (st.jobs + 1) here (job_is_of (st.jobs + 1) m job is) its stands in
     subst (λ ms. Stands s n limits (with_work (with_jobs ms running st.work) st.calls (st.jobs + 1) st) (Claim job ∷ D)) (sym others)
     (subst (λ rs. Stands s n limits (with_work (with_jobs (without_first (is_free st.work) st.work.ready) rs st.work) st.calls (st.jobs + 1) st) (Claim job ∷ D)) (sym runs) after)
+
+-- an error is the right one, or a want of memory, of what is the same
+pub wants_same : {A B : Type 0} (answer : A → Answer) (again : B → Answer) (one other : Result Answer Refusal) (error : SpaceError) → one ≡ other → AnswersOrWants answer (Err error) one → AnswersOrWants again (Err error) other
+wants_same answer again one other (errors.Refused refusal) same is = sym same ∙ is
+wants_same answer again one other errors.OutOfMemory same is = subst IsOk same is
+
+-- a job that may be claimed is that of the message
+pub claimed_is : (made : ℕ) (message : Message) (job : Job) → claim_of made (Some message) ≡ Ok (answers.Job job) → job_of (made + 1) message.from message.item ≡ Ok (answers.Job job)
+unfolding claim_of
+claimed_is made message job = elim (nat_le last_number made) as (λ b. (if b then Err refusals.Limit else job_of (made + 1) message.from message.item) ≡ Ok (answers.Job job) → job_of (made + 1) message.from message.item ≡ Ok (answers.Job job)) [ true ↦ λ e. absurd (cc) | false ↦ λ e. e ]

@@ -1,6 +1,6 @@
 //! The jobs of a space: Claim.
 
-ghost use Rattle.std.specs.Prelude.{◌≡◌, ℕ, ◌+◌, ◌<◌, List, ◌∷◌, Some, None, OnErr, IfOk};
+ghost use Rattle.std.specs.Prelude.{◌≡◌, ℕ, ◌+◌, ◌<◌, List, ◌∷◌, Some, None, OnOk, OnErr, IfOk, find};
 ghost use Rattle.std.specs.List.{list_any, position};
 ghost use Rattle.nob_ids.specs.declared.limits.Limits.{Limits as LimitsOf};
 ghost use Rattle.nob_model_types.specs.declared.answer.Answer.TheVariants as answers;
@@ -35,12 +35,12 @@ impl Parts {
         self.ready.iter().position(|message| self.is_free(message))
     }
 
-    /// Claim: the first ready job, in order of becoming ready, whose target isn't running; its value is copied. Linear
-    /// in the ready jobs times those that run.
-    pub fn claim(&mut self, here: &Here) -> Result<Job, SpaceError>
-        ensures answer { (limits : LimitsOf) (D : List Deed) → Stands here.now.space here.now.n limits (state_of self.old) D → AnswersOrWants (λ job. answers.Job job) result (right.right_claim (history_of here.now.space here.now.n D)) }
-        ensures stands { IfOk result (λ job. Did here.now.space here.now.n (state_of self.old) (state_of self.new) (did.Claim job)) }
-        ensures err { OnErr result (Keeps here.now.space here.now.n (state_of self.old) (state_of self.new)) }
+    // The place of the ready job that Claim takes, and that job; its value is copied.
+    #[tactic(auto, unfolding(nob_model::specs::Right::claim_of))]
+    fn next_job(&self) -> Result<(usize, Job), SpaceError>
+        ensures low { OnOk result (self.now.jobs_made < right.last_number) }
+        ensures place { IfOk result (λ next. position (candidates.is_free (state_of self.now).work) self.now.ready.items ≡ Some next.0) }
+        ensures answer { AnswersOrWants (λ next. answers.Job next.1) result (right.claim_of self.now.jobs_made (find (candidates.is_free (state_of self.now).work) self.now.ready.items)) }
     {
         let Some(place) = self.first_free() else {
             return Err(SpaceError::Refused(Refusal::Nothing));
@@ -49,8 +49,33 @@ impl Parts {
             return Err(SpaceError::Refused(Refusal::Limit));
         }
         let message = &self.ready[place];
-        let job = match job_of(JobNo::new(self.jobs_made + 1), message.from, &message.item) {
-            Ok(job) => job,
+        let number = JobNo::new(self.jobs_made + 1);
+        match job_of(number, message.from, &message.item) {
+            Ok(job) => Ok((place, job)),
+            Err(error) => Err(error),
+        }
+    }
+
+    /// The job that Claim would give now; its value is copied. It is refused, or wants memory, as Claim. Linear in the
+    /// ready jobs times those that run.
+    pub fn job_to_claim(&self) -> Result<Job, SpaceError>
+        ensures { (s n : ℕ) (limits : LimitsOf) (D : List Deed) → Stands s n limits (state_of self.now) D → AnswersOrWants (λ job. answers.Job job) result (right.right_claim (history_of s n D)) }
+    {
+        match self.next_job() {
+            Ok((_, job)) => Ok(job),
+            Err(error) => Err(error),
+        }
+    }
+
+    /// Claim: the first ready job, in order of becoming ready, whose target isn't running; its value is copied. Linear
+    /// in the ready jobs times those that run.
+    pub fn claim(&mut self, here: &Here) -> Result<Job, SpaceError>
+        ensures answer { (limits : LimitsOf) (D : List Deed) → Stands here.now.space here.now.n limits (state_of self.old) D → AnswersOrWants (λ job. answers.Job job) result (right.right_claim (history_of here.now.space here.now.n D)) }
+        ensures stands { IfOk result (λ job. Did here.now.space here.now.n (state_of self.old) (state_of self.new) (did.Claim job)) }
+        ensures err { OnErr result (Keeps here.now.space here.now.n (state_of self.old) (state_of self.new)) }
+    {
+        let (place, job) = match self.next_job() {
+            Ok((place, job)) => (place, job),
             Err(error) => return Err(error),
         };
         if self.running.reserve(1).is_err() {
