@@ -1,5 +1,10 @@
 -- TakeReply: what is right is what the state tells, and what it leaves stands for one deed more.
 use Rattle.std.proofs.Common.{◌≡◌, ℕ, ◌+◌, ◌-◌, ◌≤◌, Bool, true, false, not, ◌||◌, nat_lt, cond, List, [], ◌∷◌, ◌++◌, find, filter, flat_map, length, Option, Some, None, Ok, Err, if◌then◌else◌, refl, sym, ap, subst, ◌∙◌, arith}
+use Rattle.std.specs.Prelude.{Result}
+use Rattle.nob_model_types.specs.declared.answer.Answer.{Answer}
+use Rattle.nob_model_types.specs.declared.refusal.Refusal.{Refusal}
+use Rattle.nob_model_work.specs.declared.work.Stage.{Stage}
+use Rattle.nob_model_work.specs.declared.work.Stage.TheVariants as stages
 use Rattle.std.specs.List.{AllByRecursion, list_any}
 use Rattle.std.proofs.lemmas.Option.{none-some}
 use Rattle.std.proofs.lemmas.Bool.{or_parts, eqb-true}
@@ -380,3 +385,19 @@ ready_reply t reps k item is =
     let told = reply_is k item is in
     subst (λ (i : Item). not (is_not_ready (answer_of_item t reps i)) ≡ true) (sym told.2)
     (elim (is_overfull t reps) as (λ b. not (is_not_ready (unless (refuse_if b refusals.Limit) (answers.Replied told.0 told.1))) ≡ true) [ true ↦ refl | false ↦ refl ])
+
+-- ---- the value that is brought
+
+-- what is refused brings none
+pub refused_brings_none : {answer : Result Answer Refusal} (status : ℕ) (value : Value) (refusal : Refusal) → answer ≡ Ok (answers.Replied status value) → answer ≡ Err refusal → ⊥
+refused_brings_none status value refusal is refused = (let bad : Ok (answers.Replied status value) ≡ Err refusal = sym is ∙ refused in cc)
+
+-- nor does a call without a ready reply
+pub stage_brings_none : (status : ℕ) (value : Value) (stage : Stage) → answer_of_stage stage ≡ Ok (answers.Replied status value) → ⊥
+stage_brings_none status value stages.Sent is = cc
+stage_brings_none status value stages.Answered is = cc
+stage_brings_none status value stages.Ended is = cc
+
+-- two replies that are brought have one value
+pub brings_same : {answer : Result Answer Refusal} (status other : ℕ) (value again : Value) → answer ≡ Ok (answers.Replied status value) → answer ≡ Ok (answers.Replied other again) → value ≡ again
+brings_same status other value again one two = (let same : Ok (answers.Replied status value) ≡ Ok (answers.Replied other again) = sym one ∙ two in cc)

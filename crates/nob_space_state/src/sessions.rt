@@ -36,6 +36,22 @@ impl Parts {
         }
     }
 
+    /// The frames that Transmit would give now. It is refused, or wants memory, as Transmit. Linear in them.
+    pub fn frames(&self, here: &Here, peer: SpaceId) -> Result<Frames, SpaceError>
+        ensures { (limits : LimitsOf) (D : List Deed) → Stands here.now.space here.now.n limits (state_of self.now) D → AnswersOrWants (λ frames. answers.Frames frames) result (right.right_frames here.now.space here.now.n peer limits.window (history_of here.now.space here.now.n D)) }
+    {
+        if !here.is_peer(peer) {
+            return Err(SpaceError::Refused(Refusal::NoPeer));
+        }
+        let Some(session) = self.sessions.get(peer.get() as usize - 1) else {
+            return Err(SpaceError::Refused(Refusal::NoPeer));
+        };
+        match session.frames() {
+            Ok(frames) => Ok(Frames::from_vec(frames)),
+            Err(_) => Err(SpaceError::OutOfMemory),
+        }
+    }
+
     /// Tick: the session with a peer counts one tick more. Where its retries are used up it closes: for which reason. It
     /// takes no memory. Constant time, save where it closes (`close_for`).
     pub fn tick(&mut self, here: &Here, peer: SpaceId) -> Result<Option<Reason>, Refusal>

@@ -1,9 +1,11 @@
 //! TakeReply: what a call brought.
 
-ghost use Rattle.std.specs.Prelude.{◌≡◌, ◌≤◌, ℕ, ◌+◌, ◌<◌, List, ◌∷◌, filter, find, map, not, length, Some, None, OnErr, OnOk, IfOk};
+ghost use Rattle.std.specs.Prelude.{◌≡◌, ◌≤◌, ℕ, ◌+◌, ◌<◌, List, ◌∷◌, filter, find, map, not, length, Some, None, Ok, IsOk, OnErr, OnOk, IfOk};
 ghost use Rattle.std.specs.List.{list_any, position};
 ghost use Rattle.nob_ids.specs.declared.limits.Limits.{Limits as LimitsOf};
 ghost use Rattle.nob_ids.specs.declared.wire_rep.WireRep.{WireRep as Rep};
+ghost use Rattle.nob_pickle.specs.declared.value.Value.{Value as ValueOf};
+ghost use Rattle.nob_model_types.specs.declared.answer.Answer.TheVariants as answers;
 ghost use Rattle.nob_model_words.specs.declared.deed.Deed.{Deed};
 ghost use Rattle.nob_model_work.specs.Work.{is_call};
 ghost use Rattle.nob_model_history.specs.declared.history.History.{History};
@@ -22,6 +24,7 @@ use nob_model::{Here, Message, RefCopy, Refusal, Stage};
 use nob_model_words::message::replies_to;
 use nob_pickle::Value;
 use nob_table::{ObjectTable, Part};
+use std::alloc::AllocError;
 
 // The greatest hand.
 const MOST_IN_HAND: u64 = u32::MAX as u64;
@@ -89,6 +92,30 @@ impl Parts {
             Stage::Sent => false,
             Stage::Answered => false,
             Stage::Ended => true,
+        }
+    }
+
+    /// The value that TakeReply of a call would bring, copied: `None` where it would bring none. Only memory fails it,
+    /// and not where TakeReply is refused. Linear in the calls, the ready replies and the value.
+    pub fn reply_value(&self, call: CallNo) -> Result<Option<Value>, AllocError>
+        ensures value { IfOk result (λ copy. (status : ℕ) (value : ValueOf) → take_answer call (state_of self.now) ≡ Ok (answers.Replied status value) → copy ≡ Some value) }
+        ensures memory { OnErr result (IsOk (take_answer call (state_of self.now))) }
+    {
+        let Some(_) = self.call_at(call) else {
+            return Ok(None);
+        };
+        let Some(place) = self.reply_at(call) else {
+            return Ok(None);
+        };
+        if self.is_overfull(self.replies[place].copies.as_slice()) {
+            return Ok(None);
+        }
+        let Item::Reply { value, .. } = &self.replies[place].item else {
+            return Ok(None);
+        };
+        match value.copy() {
+            Ok(value) => Ok(Some(value)),
+            Err(error) => Err(error),
         }
     }
 

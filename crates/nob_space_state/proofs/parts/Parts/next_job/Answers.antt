@@ -1,10 +1,9 @@
-use Rattle.std.proofs.Common.{◌≡◌, ℕ, Err, sym, ap, subst, ◌∙◌}
+use Rattle.std.proofs.Common.{ℕ, sym, ap, ◌∙◌}
 use Rattle.nob_model_types.specs.declared.answer.Answer.TheVariants as answers
 use Rattle.nob_model_types.specs.declared.answer.Job.{Job}
 use Rattle.nob_model.specs.Candidates.{is_free}
 use Rattle.nob_model.specs.Right.{job_of}
 use Rattle.nob_space_state.specs.Parts.{state_of}
-use Rattle.nob_space_state.specs.Stands.{AnswersOrWants}
 use Rattle.nob_space_state.proofs.Claiming.{claim_none, claim_limit, claim_job, wants_same}
 use Rattle.nob_space_state.proofs.Firsts.{no_place, at_place, place_first}
 use Rattle.nob_space_state.proofs.parts.Parts.next_job.Goals as goal
