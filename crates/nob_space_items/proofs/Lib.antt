@@ -1,3 +1,4 @@
 pub mod Judged
 pub mod Taken
 pub mod Noted
+pub mod Answered
