@@ -20,3 +20,5 @@ pub mod Replies
 pub mod Running
 pub mod Returned
 pub mod Finishing
+pub mod Closings
+pub mod Arrivals

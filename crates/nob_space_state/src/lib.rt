@@ -2,6 +2,7 @@
 #![tactic(auto)]
 
 mod calls;
+mod closing;
 mod error;
 mod finish;
 mod jobs;
