@@ -2,3 +2,4 @@ pub mod Judged
 pub mod Taken
 pub mod Noted
 pub mod Answered
+pub mod Owners

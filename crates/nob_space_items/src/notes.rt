@@ -139,3 +139,22 @@ pub(crate) fn act_on_dirty(
     };
     Ok(())
 }
+
+// Acts on a DirtyNo: the reference that was asked for is refused. It takes no memory.
+pub(crate) fn act_on_dirty_no(
+    parts: &mut Parts,
+    here: &Here,
+    peer: SpaceId,
+    number: ItemNo,
+    index: u64,
+)
+    requires state { IsState here.now.space here.now.n (state_of parts.old) }
+    requires front { (limits : LimitsOf) (D : List Deed) → Stands here.now.space here.now.n limits (state_of parts.old) D → IsFront here.now.space here.now.n peer number (items.DirtyNo index) D }
+    ensures stands { Did here.now.space here.now.n (state_of parts.old) (state_of parts.new) (did.Act peer number) }
+{
+    match parts.table.refuse(WireRep { owner: peer, index }) {
+        Ok(()) => {}
+        Err(_) => unreachable!(),
+    }
+    parts.sessions[peer.get() as usize - 1].take();
+}
