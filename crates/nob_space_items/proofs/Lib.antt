@@ -3,3 +3,4 @@ pub mod Taken
 pub mod Noted
 pub mod Answered
 pub mod Owners
+pub mod Chosen

@@ -84,6 +84,25 @@ module _ {s n p k : ℕ} {item : Item} {D : List Deed} (front : IsFront s n p k 
       some_waits number [] found = absurd (none-some _ found)
       some_waits number (payload ∷ payloads) found = omega arith
 
+-- ---- notes that nothing keeps in the inbox
+
+module _ {s n p k : ℕ} {D : List Deed} (number : ℕ) where
+  pub settle_free : (item : Item) → item ≡ items.Settle number → IsFront s n p k item D → right_act s n p (history_of s n D) ≡ Ok (answers.Acted k)
+  unfolding act_refusal
+  settle_free item is front = act_free (subst (λ (one : Item). IsFront s n p k one D) is front) refl
+
+  pub granted_free : (item : Item) → item ≡ items.DirtyOk number → IsFront s n p k item D → right_act s n p (history_of s n D) ≡ Ok (answers.Acted k)
+  unfolding act_refusal
+  granted_free item is front = act_free (subst (λ (one : Item). IsFront s n p k one D) is front) refl
+
+  pub refused_free : (item : Item) → item ≡ items.DirtyNo number → IsFront s n p k item D → right_act s n p (history_of s n D) ≡ Ok (answers.Acted k)
+  unfolding act_refusal
+  refused_free item is front = act_free (subst (λ (one : Item). IsFront s n p k one D) is front) refl
+
+  pub clean_free : (item : Item) → item ≡ items.Clean number → IsFront s n p k item D → right_act s n p (history_of s n D) ≡ Ok (answers.Acted k)
+  unfolding act_refusal
+  clean_free item is front = act_free (subst (λ (one : Item). IsFront s n p k one D) is front) refl
+
 -- ---- the ends
 
 module _ (s n p k : ℕ) (D : List Deed) where
