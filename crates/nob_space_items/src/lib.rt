@@ -1,3 +1,6 @@
 //! What a space does about the items that came: acting on them, settling the messages that wait for their references,
 //! and giving surrogates up.
 #![tactic(auto)]
+
+mod few;
+mod messages;
