@@ -1,7 +1,8 @@
 //! Acting on a Call or a Reply.
 
-ghost use Rattle.std.specs.Prelude.{◌≡◌, ◌≤◌, length, Some, None, MatchResult};
-ghost use Rattle.std.specs.List.{list_all};
+ghost use Rattle.std.specs.Prelude.{◌≡◌, ◌≤◌, ◌&&◌, not, length, Some, None, MatchResult};
+ghost use Rattle.std.specs.List.{list_all, list_any};
+ghost use Rattle.nob_ids.specs.Names.{is_same};
 ghost use Rattle.nob_item.specs.Kinds.{counted_in};
 ghost use Rattle.nob_model.specs.Acting as acting;
 ghost use Rattle.nob_table.specs.Standings as standings;
@@ -34,6 +35,39 @@ fn is_wanted(parts: &Parts, here: &Here, rep: &WireRep) -> bool
     let surrogate = is_surrogate(standing.state);
     let closed = parts.has_closed(rep.owner);
     here.is_peer(rep.owner) && !closed && !surrogate
+}
+
+// Whether a reference stands among some.
+fn has(reps: &[WireRep], rep: &WireRep) -> bool
+    ensures { result ≡ list_any (is_same rep.now) reps.now }
+{
+    reps.iter().any(|other| *rep == *other)
+}
+
+// Whether a reference gets a Dirty that none of those before got.
+fn is_next(parts: &Parts, here: &Here, before: &[WireRep], rep: &WireRep) -> bool
+    ensures { result ≡ (specs.is_wanted here.now.space here.now.n (state_of parts.now) rep.now && not (list_any (is_same rep.now) before.now)) }
+{
+    is_wanted(parts, here, rep) && !has(before, rep)
+}
+
+// The references of an item that get Dirties, each once, in reading order. An item carries 32 at most.
+fn wanted_refs(parts: &Parts, here: &Here, item: &Item) -> FewRefs
+    requires { length (counted_in item.now) ≤ 32 }
+    ensures { result ≡ specs.wanted here.now.space here.now.n (state_of parts.now) (counted_in item.now) }
+{
+    let mut wanted = FewRefs::new(WireRep {
+        owner: here.space,
+        index: 0,
+    });
+    let mut number = 0;
+    while let Some(rep) = counted_ref(item, number) {
+        if is_next(parts, here, wanted.as_slice(), &rep) {
+            wanted.push(rep);
+        }
+        number += 1;
+    }
+    wanted
 }
 
 // How many messages there are.
