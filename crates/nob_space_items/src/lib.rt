@@ -2,5 +2,6 @@
 //! and giving surrogates up.
 #![tactic(auto)]
 
+mod dirties;
 mod few;
 mod messages;
