@@ -1,3 +1,4 @@
 pub mod Wanted
 pub mod Asked
 pub mod Refused
+pub mod Sends

@@ -47,13 +47,18 @@ pub record CanSendAll (ends : List Roomy) (reps : List WireRep) : Type 0 where
   pub owners : AllByRecursion (λ rep. (1 ≤ rep.owner) × (rep.owner ≤ length ends)) reps
   pub each : (place : ℕ) (end : Roomy) → slice_get ends place ≡ Some end → 1 ≤ owned_by (place + 1) reps → CanSend (owned_by (place + 1) reps) end
 
+-- an end has sent the Dirty for a reference
+pub record SendsOne (old new : Roomy) (rep : WireRep) : Type 0 where
+  pub ending : new.end.ending ≡ old.end.ending
+  pub handed : new.end.handed ≡ old.end.handed + 1
+  pub room : old.room ≤ new.room + 1
+  pub answer : (me peer : ℕ) (limits : Limits) (L : List EndEntry) → session.Stands me peer limits old.end L → session.Stands me peer limits new.end (Send (payload_of (items.Dirty rep.index)) Note (Ok (old.end.handed + 1)) ∷ L)
+
 -- the end with the owner of a reference has sent its Dirty, and every other end is as before
 pub record SendsNext (old new : List Roomy) (rep : WireRep) : Type 0 where
   pub each : length new ≡ length old
   pub elsewhere : (place : ℕ) → place + 1 == rep.owner ≡ false → slice_get new place ≡ slice_get old place
-  pub here : (end : Roomy) → slice_get new (rep.owner - 1) ≡ Some end → (before : Roomy) × (slice_get old (rep.owner - 1) ≡ Some before)
-      × (end.end.ending ≡ before.end.ending) × (end.end.handed ≡ before.end.handed + 1) × (before.room ≤ end.room + 1)
-      × ((me peer : ℕ) (limits : Limits) (L : List EndEntry) → session.Stands me peer limits before.end L → session.Stands me peer limits end.end (Send (payload_of (items.Dirty rep.index)) Note (Ok (before.end.handed + 1)) ∷ L))
+  pub here : (end : Roomy) → slice_get new (rep.owner - 1) ≡ Some end → (before : Roomy) × (slice_get old (rep.owner - 1) ≡ Some before) × SendsOne before end rep
 
 -- each end has sent the Dirties for those of these references that its peer owns, in order
 pub record SendsAll (old new : List Roomy) (reps : List WireRep) : Type 0 where

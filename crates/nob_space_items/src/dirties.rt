@@ -1,15 +1,9 @@
 //! Dirties that are sent for references.
 
-ghost use Rattle.std.specs.Prelude.{◌≡◌, ℕ, ◌+◌, ◌-◌, ◌<◌, ◌≤◌, List, [], ◌∷◌, Some, Ok, IfOk, vec_len};
-ghost use Rattle.nob_ids.specs.declared.limits.Limits.{Limits as LimitsOf};
-ghost use Rattle.nob_item.specs.declared.item.Item.TheVariants as items;
-ghost use Rattle.nob_model_end.specs.declared.entry.EndEntry.{EndEntry};
-ghost use Rattle.nob_model_end.specs.declared.entry.EndEntry.TheVariants.{Send};
-ghost use Rattle.nob_session.specs.Stands as ends;
-ghost use Rattle.nob_model_history.specs.Ends.{payload_of};
+ghost use Rattle.std.specs.Prelude.{◌≡◌, ◌+◌, ◌-◌, ◌≤◌, [], ◌∷◌, Some, IfOk};
 ghost use Rattle.nob_table.specs.Standings.{pending_standing};
 ghost use Rattle.nob_table.specs.Table.{Becomes, Places, SameObjects, surrogate_total};
-ghost use Rattle.nob_space_items.specs.Asking.{CanAsk, AsksFor, CanSend, CanSendAll, SendsNext, SendsAll};
+ghost use Rattle.nob_space_items.specs.Asking.{CanAsk, AsksFor, CanSend, CanSendAll, SendsOne, SendsNext, SendsAll};
 
 use nob_ids::WireRep;
 use nob_item::{Item, ItemError, encode};
@@ -81,10 +75,7 @@ fn place_of(rep: &WireRep) -> usize
 // Sends one Dirty to the peer of a session that has a number and room for it.
 fn send_dirty(session: &mut Session, dirty: NewDirty)
     requires { CanSend 1 session.old }
-    ensures ending { session.new.end.ending ≡ session.old.end.ending }
-    ensures handed { session.new.end.handed ≡ session.old.end.handed + 1 }
-    ensures left { session.old.room ≤ session.new.room + 1 }
-    ensures answer { (me peer : ℕ) (limits : LimitsOf) (L : List EndEntry) → ends.Stands me peer limits session.old.end L → ends.Stands me peer limits session.new.end (Send (payload_of (items.Dirty dirty.index)) Kind.Note (Ok (session.old.end.handed + 1)) ∷ L) }
+    ensures { SendsOne session.old session.new dirty }
 {
     let NewDirty { payload, .. } = dirty;
     send_reserved(session, payload, Kind::Note);
