@@ -1,3 +1,4 @@
 pub mod Fronts
 pub mod Messages
 pub mod Asking
+pub mod Lending

@@ -2,6 +2,8 @@
 //! and giving surrogates up.
 #![tactic(auto)]
 
+mod copies;
 mod dirties;
 mod few;
+mod loans;
 mod messages;
