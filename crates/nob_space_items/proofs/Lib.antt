@@ -3,3 +3,5 @@ pub mod Asked
 pub mod Refused
 pub mod Sends
 pub mod Lends
+pub mod Mapped
+pub mod Grown

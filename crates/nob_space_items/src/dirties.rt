@@ -5,6 +5,7 @@ ghost use Rattle.nob_table.specs.Standings.{pending_standing};
 ghost use Rattle.nob_table.specs.Table.{Becomes, Places, SameObjects, surrogate_total};
 ghost use Rattle.nob_space_items.specs.Asking.{CanAsk, AsksFor, CanSend, CanSendAll, SendsOne, SendsNext, SendsAll};
 
+use crate::growing::place_of;
 use nob_ids::WireRep;
 use nob_item::{Item, ItemError, encode};
 use nob_model::Kind;
@@ -63,13 +64,6 @@ pub(crate) fn new_dirties(alloc: Global, reps: &[WireRep]) -> Result<Vec<NewDirt
         dirties.push(NewDirty::new(alloc, *rep)?)?;
     }
     Ok(dirties)
-}
-
-// The place of the end with a reference's owner.
-fn place_of(rep: &WireRep) -> usize
-    ensures { result ≡ rep.now.owner - 1 }
-{
-    rep.owner.get() as usize - 1
 }
 
 // Sends one Dirty to the peer of a session that has a number and room for it.

@@ -5,5 +5,7 @@
 mod copies;
 mod dirties;
 mod few;
+mod growing;
 mod loans;
 mod messages;
+mod putting;
