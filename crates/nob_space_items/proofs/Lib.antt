@@ -5,3 +5,4 @@ pub mod Sends
 pub mod Lends
 pub mod Mapped
 pub mod Grown
+pub mod Message

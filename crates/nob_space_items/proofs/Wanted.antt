@@ -28,7 +28,7 @@ once_push x (y ∷ xs) =
     ]
 
 -- each once are the same references
-any_once : (rep : WireRep) (xs : List WireRep) → list_any (is_same rep) (once xs) ≡ list_any (is_same rep) xs
+pub any_once : (rep : WireRep) (xs : List WireRep) → list_any (is_same rep) (once xs) ≡ list_any (is_same rep) xs
 any_once rep [] = refl
 any_once rep (y ∷ xs) = elim (is_same rep y) as (λ b. is_same rep y ≡ b → (b || list_any (is_same rep) (filter (λ other. not (is_same y other)) (once xs))) ≡ (b || list_any (is_same rep) xs)) [
   | true ↦ λ _. refl
