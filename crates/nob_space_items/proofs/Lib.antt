@@ -6,3 +6,4 @@ pub mod Lends
 pub mod Mapped
 pub mod Grown
 pub mod Message
+pub mod Asks

@@ -171,7 +171,7 @@ loans_put s n E m (items.Clean index) W = refl
 
 -- ---- how a reference stands on an open session
 
-far_by : (held : Bool) (t : Turns) (pending granted refused : Bool) → turning.Stands t pending granted refused → far_state false held t ≡ (if pending then states.Pending else if granted then states.Granted else if refused then states.Refused else states.Unknown)
+pub far_by : (held : Bool) (t : Turns) (pending granted refused : Bool) → turning.Stands t pending granted refused → far_state false held t ≡ (if pending then states.Pending else if granted then states.Granted else if refused then states.Refused else states.Unknown)
 far_by held t pending granted refused stands = λ i. if stands.0 i then states.Pending else if stands.1 i then states.Granted else if stands.2 i then states.Refused else states.Unknown
 
 granted_by : (last : OwnerAnswer) → (standings.is_granted (if words.is_yes last then states.Granted else if words.is_no last then states.Refused else states.Unknown) ≡ words.is_yes last) × (is_refused_state (if words.is_yes last then states.Granted else if words.is_no last then states.Refused else states.Unknown) ≡ words.is_no last)
