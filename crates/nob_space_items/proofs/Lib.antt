@@ -4,3 +4,12 @@ pub mod Noted
 pub mod Answered
 pub mod Owners
 pub mod Chosen
+pub mod Wanted
+pub mod Asked
+pub mod Refused
+pub mod Sends
+pub mod Lends
+pub mod Mapped
+pub mod Grown
+pub mod Message
+pub mod Asks

@@ -4,3 +4,10 @@
 
 mod faults;
 mod notes;
+mod copies;
+mod dirties;
+mod few;
+mod growing;
+mod loans;
+mod messages;
+mod putting;
