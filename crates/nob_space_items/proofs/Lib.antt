@@ -13,3 +13,5 @@ pub mod Mapped
 pub mod Grown
 pub mod Message
 pub mod Asks
+pub mod Granted
+pub mod Granting

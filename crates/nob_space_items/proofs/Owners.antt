@@ -79,7 +79,7 @@ note_is false index = refl
 
 -- an answer without a fault is awaited
 module _ {s n p k : ℕ} {D : List Deed} (granted : Bool) (index : ℕ) (front : IsFront s n p k (answer_note granted index) D) where
-  awaited : is_pending (turns s n (own_ref p index) D) ≡ true
+  pub awaited : is_pending (turns s n (own_ref p index) D) ≡ true
   unfolding fault_of
   awaited = split granted front.sound
     where
@@ -89,7 +89,7 @@ module _ {s n p k : ℕ} {D : List Deed} (granted : Bool) (index : ℕ) (front :
 
   module _ (there : item_at p k D ≡ Some (answer_note granted index)) where
     -- the turns of the reference have that answer more, and the others stay
-    turned : (rep : WireRep) → turns s n rep (Act p k ∷ D) ≡ (if is_same (own_ref p index) rep then with_answer (said_by granted) (turns s n rep D) else turns s n rep D)
+    pub turned : (rep : WireRep) → turns s n rep (Act p k ∷ D) ≡ (if is_same (own_ref p index) rep then with_answer (said_by granted) (turns s n rep D) else turns s n rep D)
     turned rep =
         ap (λ found. turns_after s n p rep found D (turns s n rep D)) there
         ∙ elim granted as (λ b. turns_after s n p rep (Some (answer_note b index)) D (turns s n rep D) ≡ (if names rep p index then with_answer (said_by b) (turns s n rep D) else turns s n rep D)) [ true ↦ refl | false ↦ refl ]

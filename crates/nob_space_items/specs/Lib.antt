@@ -6,3 +6,4 @@ pub mod Asking
 pub mod Lending
 pub mod Putting
 pub mod Growing
+pub mod Granting

@@ -2,12 +2,13 @@
 //! and giving surrogates up.
 #![tactic(auto)]
 
-mod faults;
-mod notes;
 mod copies;
 mod dirties;
+mod faults;
 mod few;
+mod grants;
 mod growing;
 mod loans;
 mod messages;
+mod notes;
 mod putting;
