@@ -7,3 +7,4 @@ pub mod Mapped
 pub mod Grown
 pub mod Message
 pub mod Asks
+pub mod Received

@@ -4,3 +4,4 @@ pub mod Asking
 pub mod Lending
 pub mod Putting
 pub mod Growing
+pub mod Receiving

@@ -9,3 +9,4 @@ mod growing;
 mod loans;
 mod messages;
 mod putting;
+mod receiving;
