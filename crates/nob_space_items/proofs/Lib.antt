@@ -8,3 +8,5 @@ pub mod Grown
 pub mod Message
 pub mod Asks
 pub mod Received
+pub mod Read
+pub mod ReadItems
