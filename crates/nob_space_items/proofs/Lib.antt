@@ -10,3 +10,5 @@ pub mod Asks
 pub mod Received
 pub mod Read
 pub mod ReadItems
+pub mod Bounded
+pub mod Ready

@@ -46,7 +46,7 @@ use Rattle.nob_space_items.proofs.Message.{act_calls, act_work, act_listed, act_
 
 module _ (s : ℕ) (rep : WireRep) where
   -- all that is lent, by the lists
-  times_lent : (W : InHand) → times rep (lent_in s W) ≡ times rep (flat_map (loans_of s) W.waiting) + (times rep (flat_map (loans_of s) W.ready) + (times rep (flat_map (λ (run : Run). loans_of s run.message) W.running) + times rep (flat_map (loans_of s) W.replies)))
+  pub times_lent : (W : InHand) → times rep (lent_in s W) ≡ times rep (flat_map (loans_of s) W.waiting) + (times rep (flat_map (loans_of s) W.ready) + (times rep (flat_map (λ (run : Run). loans_of s run.message) W.running) + times rep (flat_map (loans_of s) W.replies)))
   times_lent W =
       let running : List WireRep = flat_map (λ (run : Run). loans_of s run.message) W.running in
       let replies : List WireRep = flat_map (loans_of s) W.replies in
