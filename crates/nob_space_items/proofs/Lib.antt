@@ -15,3 +15,8 @@ pub mod Message
 pub mod Asks
 pub mod Granted
 pub mod Granting
+pub mod Received
+pub mod Read
+pub mod ReadItems
+pub mod Bounded
+pub mod Ready

@@ -7,3 +7,4 @@ pub mod Lending
 pub mod Putting
 pub mod Growing
 pub mod Granting
+pub mod Receiving

@@ -1,12 +1,13 @@
 -- Acting on a Call or a Reply, by the state: which of its references get Dirties, and why it stays in the inbox.
-use Rattle.std.specs.Prelude.{ℕ, ◌+◌, ◌-◌, Bool, true, false, ◌&&◌, ◌||◌, ◌==◌, not, nat_le, nat_lt, List, length, map, filter, Option, Some, None, if◌then◌else◌}
+use Rattle.std.specs.Prelude.{◌≡◌, ℕ, ◌+◌, ◌-◌, Bool, true, false, ◌&&◌, ◌||◌, ◌==◌, not, nat_le, nat_lt, List, length, map, filter, Option, Some, None, is_some, if◌then◌else◌}
 use Rattle.std.specs.List.{list_all}
 use Rattle.nob_ids.specs.declared.wire_rep.WireRep.{WireRep}
 use Rattle.nob_session.specs.Stands.{Roomy}
 use Rattle.nob_table.specs.declared.standing.State.{State as TableState}
 use Rattle.nob_table.specs.declared.standing.State.TheVariants as states
 use Rattle.nob_table.specs.Standings.{is_surrogate, is_granted}
-use Rattle.nob_table.specs.Table.{standing, surrogate_total}
+use Rattle.nob_table.specs.Rows.{IsOnce}
+use Rattle.nob_table.specs.Table.{Table, standing, surrogate_total, place_of}
 use Rattle.nob_model_end.specs.Right.{last_item}
 use Rattle.nob_model_types.specs.declared.refusal.Refusal.{Refusal}
 use Rattle.nob_model_types.specs.declared.refusal.Refusal.TheVariants as refusals
@@ -73,3 +74,7 @@ new_loan s n st rep = if is_lost s n st rep then loans.Never else if is_at_hand 
 -- the copies of references as they come in a message
 abbrev pub new_copies : (s n : ℕ) → State → List WireRep → List RefCopy
 new_copies s n st reps = map (λ rep. record { rep = rep; loan = new_loan s n st rep }) reps
+
+-- what a table knows of its surrogates: none has two rows, and those that have a place are those that stand as one
+abbrev pub KnowsSurrogates : Table → Type 0
+KnowsSurrogates t = IsOnce t.surrogates × ((rep : WireRep) → is_some (place_of t rep) ≡ is_surrogate (standing t rep).state)

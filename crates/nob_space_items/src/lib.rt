@@ -12,3 +12,4 @@ mod loans;
 mod messages;
 mod notes;
 mod putting;
+mod receiving;
