@@ -20,3 +20,4 @@ pub mod Read
 pub mod ReadItems
 pub mod Bounded
 pub mod Ready
+pub mod Crowds
