@@ -21,3 +21,4 @@ pub mod ReadItems
 pub mod Bounded
 pub mod Ready
 pub mod Crowds
+pub mod Obtained

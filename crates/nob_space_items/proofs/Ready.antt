@@ -254,9 +254,10 @@ module _ {s n : ℕ} {limits : Limits} {st : State} {D : List Deed} (stands : St
         each = all_of (λ rep. (is_far st1.table rep ≡ true) × (is_unknown (standing st1.table rep).state ≡ true)) all (λ rep there.
             let asked : IsAsked s n rep = any_of (IsAsked s n) rep all (all_asked stands p k item front message) there in
             let counted = asked.0 in
-            let peer = asked.1 in
-            (ap (λ m. not (rep.owner == m) && not (rep.index == 0)) me ∙ grind (arith, nat_tests, counted, peer),
-              ap (λ (it : Standing). is_unknown it.state) (grown_standing rep) ∙ ap is_unknown (wanted_unknown stands p k item front message rep there)));
+            let peer = asked.1 in (
+              ap (λ m. not (rep.owner == m) && not (rep.index == 0)) me ∙ grind (arith, nat_tests, counted, peer),
+              ap (λ (it : Standing). is_unknown it.state) (grown_standing rep) ∙ ap is_unknown (wanted_unknown stands p k item front message rep there),
+            ));
         apart = distinct_filtered is_same (is_wanted s n st) (once (counted_in item)) (once_apart (counted_in item));
         few = omega (arith, fits, total);
         room = places;

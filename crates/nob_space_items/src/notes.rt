@@ -23,6 +23,7 @@ ghost use Rattle.nob_space_state.specs.Stands.{Stands, IsState, Keeps, Did, Answ
 ghost use Rattle.nob_space_items.specs.Fronts.{IsFront};
 ghost use Rattle.nob_space_items.specs.Notes.{dirty_answer, EntersIf};
 
+use crate::grants::{lend_times, lend_to_all};
 use nob_dirty::DirtySets;
 use nob_ids::{ItemNo, SpaceId, WireRep};
 use nob_item::{Item, encode};
@@ -156,5 +157,28 @@ pub(crate) fn act_on_dirty_no(
         Ok(()) => {}
         Err(_) => unreachable!(),
     }
+    parts.sessions[peer.get() as usize - 1].take();
+}
+
+// Acts on a DirtyOk: the reference that was asked for is granted, and lent to the messages that wait for it. It takes
+// no memory.
+pub(crate) fn act_on_dirty_ok(
+    parts: &mut Parts,
+    here: &Here,
+    peer: SpaceId,
+    number: ItemNo,
+    index: u64,
+)
+    requires state { IsState here.now.space here.now.n (state_of parts.old) }
+    requires front { (limits : LimitsOf) (D : List Deed) → Stands here.now.space here.now.n limits (state_of parts.old) D → IsFront here.now.space here.now.n peer number (items.DirtyOk index) D }
+    ensures stands { Did here.now.space here.now.n (state_of parts.old) (state_of parts.new) (did.Act peer number) }
+{
+    let rep = WireRep { owner: peer, index };
+    match parts.table.grant(rep) {
+        Ok(()) => {}
+        Err(_) => unreachable!(),
+    }
+    let due = lend_to_all(&rep, &mut parts.waiting);
+    lend_times(&mut parts.table, &rep, due);
     parts.sessions[peer.get() as usize - 1].take();
 }
