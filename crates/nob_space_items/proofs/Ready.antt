@@ -197,12 +197,7 @@ at_hand s n st rep lent = elim (is_lost s n st rep) as (λ b. (if b then loans.N
   | false ↦ λ e. elim (is_at_hand s st rep) as (λ b. (if b then loans.Lent else loans.Due) ≡ loans.Lent → b ≡ true) [ true ↦ λ _. refl | false ↦ λ bad. absurd (cc) ] e
 ] lent
 
-module _ {s n : ℕ} {limits : Limits} {st : State} {D : List Deed} (stands : Stands s n limits st D) (p k : ℕ) (item : Item) (front : IsFront s n p k item D) (message : IsMessage item)
-    (free : message_refusal st (wanted s n st (counted_in item)) ≡ None) (small : n < 65536) (st1 : State) (grows : Grows st st1) where
-  -- the table is as it was
-  pub grown_standing : (rep : WireRep) → standing st1.table rep ≡ standing st.table rep
-  grown_standing rep = (let same = grows.table.items in λ i. table.stands (same.me i) (same.exported i) (same.objects i) (same.counted i) (same.surrogates i) rep)
-
+module _ {s n : ℕ} {limits : Limits} {st : State} {D : List Deed} (stands : Stands s n limits st D) (p k : ℕ) (item : Item) (front : IsFront s n p k item D) (message : IsMessage item) where
   -- the owners of those that get Dirties are among the spaces
   pub owners_among : (count : ℕ) → count ≡ n → AreAmong count (wanted s n st (counted_in item))
   owners_among count is = weaker (wanted s n st (counted_in item)) (all_peers stands p k item front message)
@@ -210,6 +205,12 @@ module _ {s n : ℕ} {limits : Limits} {st : State} {D : List Deed} (stands : St
       weaker : (all : List WireRep) → AllByRecursion (λ (rep : WireRep). is_peer s n rep.owner ≡ true) all → AreAmong count all
       weaker [] peers = tt
       weaker (rep ∷ rest) peers = ((let peer = peers.0 in (grind (arith, nat_tests, peer), grind (arith, nat_tests, peer, is))), weaker rest peers.1)
+
+module _ {s n : ℕ} {limits : Limits} {st : State} {D : List Deed} (stands : Stands s n limits st D) (p k : ℕ) (item : Item) (front : IsFront s n p k item D) (message : IsMessage item)
+    (free : message_refusal st (wanted s n st (counted_in item)) ≡ None) (small : n < 18446744073709551616) (st1 : State) (grows : Grows st st1) where
+  -- the table is as it was
+  pub grown_standing : (rep : WireRep) → standing st1.table rep ≡ standing st.table rep
+  grown_standing rep = (let same = grows.table.items in λ i. table.stands (same.me i) (same.exported i) (same.objects i) (same.counted i) (same.surrogates i) rep)
 
   -- the ends can send the Dirties
   pub ends_ready : HaveRoom (length (wanted s n st (counted_in item))) st1.sessions (wanted s n st (counted_in item)) → CanSendAll st1.sessions (wanted s n st (counted_in item))
@@ -220,7 +221,7 @@ module _ {s n : ℕ} {limits : Limits} {st : State} {D : List Deed} (stands : St
       let numbers : AllByRecursion (λ rep. has_numbers_for st all rep ≡ true) all = all_passes (has_numbers_for st all) all parts.1 in
       let facts = all_both (λ rep. is_wanted s n st rep ≡ true) (λ rep. (has_numbers_for st all rep ≡ true) × HasRoom (length all) st1.sessions rep) all wants (all_both (λ rep. has_numbers_for st all rep ≡ true) (HasRoom (length all) st1.sessions) all numbers room) in
       record {
-        owners = owners_among (length st1.sessions) (grows.sessions.each ∙ stands.ends.each);
+        owners = owners_among stands p k item front message (length st1.sessions) (grows.sessions.each ∙ stands.ends.each);
         each = λ place end there some.
             let before = grows.sessions.ends place end there in
             let found = owned_some (λ rep. (is_wanted s n st rep ≡ true) × ((has_numbers_for st all rep ≡ true) × HasRoom (length all) st1.sessions rep)) (place + 1) all facts some in
