@@ -8,3 +8,4 @@ pub mod Putting
 pub mod Growing
 pub mod Granting
 pub mod Receiving
+pub mod Acts

@@ -2,6 +2,7 @@
 //! and giving surrogates up.
 #![tactic(auto)]
 
+mod acting;
 mod copies;
 mod dirties;
 mod faults;
@@ -13,3 +14,5 @@ mod messages;
 mod notes;
 mod putting;
 mod receiving;
+
+pub use acting::{ActResult, act};
