@@ -1,5 +1,5 @@
 -- Acting on a Dirty: what is answered, and what it leaves.
-use Rattle.std.proofs.Common.{◌≡◌, ℕ, ◌+◌, ◌-◌, ◌<◌, Bool, true, false, cond, not, ◌&&◌, ◌||◌, ◌==◌, nat_le, List, [], ◌∷◌, ◌++◌, length, map, filter, get_or, Option, Some, None, Ok, Err, IsOk, if◌then◌else◌, refl, sym, ap, subst, ◌∙◌, arith}
+use Rattle.std.proofs.Common.{◌≡◌, ℕ, ◌+◌, ◌-◌, Bool, true, false, cond, not, ◌&&◌, ◌||◌, ◌==◌, nat_le, List, [], ◌∷◌, ◌++◌, length, map, filter, get_or, Some, None, Ok, Err, IsOk, if◌then◌else◌, refl, sym, ap, subst, ◌∙◌, arith}
 use lib.ListN.{set}
 use Rattle.std.specs.List.{sum_by}
 use Rattle.std.proofs.lemmas.List.{append-nil}
@@ -7,8 +7,6 @@ use Rattle.std.proofs.lemmas.Bool.Decides.{nat_tests, Decides-eqb}
 use Rattle.std.proofs.lemmas.Cmp.{nat_eq_equiv}
 use Rattle.nob_ids.specs.declared.limits.Limits.{Limits}
 use Rattle.nob_ids.specs.declared.reason.Reason.TheVariants.{BadReference}
-use Rattle.nob_ids.specs.declared.wire_rep.WireRep.{WireRep}
-use Rattle.nob_item.specs.declared.item.Item.{Item}
 use Rattle.nob_item.specs.declared.item.Item.TheVariants as items
 use Rattle.nob_dirty.specs.declared.sets.Listing.{Listing}
 use Rattle.nob_dirty.specs.Sets.{lists}
@@ -40,7 +38,7 @@ use Rattle.nob_model_history.proofs.Numbered.{calls_more}
 use Rattle.nob_model_history.proofs.Pinning.{bundles_kept, no_settle}
 use Rattle.nob_model_history.proofs.Sending.{new_items}
 use Rattle.nob_model.specs.Acting.{act_refusal, fault_of, is_unknown}
-use Rattle.nob_model.specs.Sending.{refusal_in, has_numbers, send_refused}
+use Rattle.nob_model.specs.Sending.{refusal_in, send_refused}
 use Rattle.nob_model.proofs.Guarding.{listed_law}
 use Rattle.nob_space_state.specs.Parts.{State}
 use Rattle.nob_space_state.specs.Sending.{send_refusal}
@@ -50,7 +48,7 @@ use Rattle.nob_space_state.proofs.Ends.{end_there, ends_changed, ends_kept}
 use Rattle.nob_space_state.proofs.Sent.{gift_to}
 use Rattle.nob_space_items.specs.Fronts.{IsFront}
 use Rattle.nob_space_items.specs.Notes.{dirty_answer, EntersIf}
-use Rattle.nob_space_items.proofs.Noted.{act_gives, fault_none, listed_is, not_false}
+use Rattle.nob_space_items.proofs.Noted.{act_gives, fault_none, listed_is}
 use Rattle.nob_space_items.proofs.Taken.{act_is, front_is, note_stands}
 
 -- ---- why it stays in the inbox

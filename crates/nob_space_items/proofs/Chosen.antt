@@ -1,5 +1,5 @@
 -- Act: which item it takes, and what is answered.
-use Rattle.std.proofs.Common.{◌≡◌, ℕ, ◌-◌, Bool, true, false, List, [], ◌∷◌, get_or, Option, Some, None, Result, Ok, Err, IsOk, if◌then◌else◌, refl, sym, ap, subst, ◌∙◌}
+use Rattle.std.proofs.Common.{◌≡◌, ℕ, ◌-◌, true, false, List, get_or, Option, Some, None, Ok, Err, refl, sym, ap, subst, ◌∙◌}
 use Rattle.nob_ids.specs.declared.limits.Limits.{Limits}
 use Rattle.nob_ids.specs.declared.reason.Reason.{Reason}
 use Rattle.nob_ids.specs.declared.reason.Reason.TheVariants.{BadItem}
@@ -19,7 +19,7 @@ use Rattle.nob_model_words.specs.Sessions.{is_peer, closed, item_spelt}
 use Rattle.nob_model_history.specs.declared.history.History.{History}
 use Rattle.nob_model_history.specs.Histories.{history_of}
 use Rattle.nob_model_history.specs.Ends.{calls_at}
-use Rattle.nob_model.specs.Acting.{fault_of, answer_of_act, act_on, act_refusal}
+use Rattle.nob_model.specs.Acting.{fault_of, act_on}
 use Rattle.nob_model.specs.Right.{right_act, act_of, right_after}
 use Rattle.nob_model.specs.Lists.{IsRightDeed}
 use Rattle.nob_space_state.specs.Looks.{has_closed}

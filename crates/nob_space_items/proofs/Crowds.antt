@@ -1,6 +1,6 @@
 -- How many messages there are at a space: no more than the limit, on every list of right deeds.
-use Rattle.std.proofs.Common.{◌≡◌, ℕ, ◌+◌, ◌≤◌, Bool, true, false, cond, not, ◌||◌, nat_le, List, [], ◌∷◌, ◌++◌, length, map, filter, find, Option, Some, None, if◌then◌else◌, refl, sym, ap, subst, ◌∙◌, arith}
-use Prim.Native.Nat.{zero, suc}
+use Rattle.std.proofs.Common.{◌≡◌, ℕ, ◌+◌, ◌≤◌, Bool, true, false, cond, not, ◌||◌, nat_le, List, [], ◌∷◌, length, filter, find, Option, Some, None, if◌then◌else◌, refl, sym, subst, arith}
+use Prim.Native.Nat.{suc}
 use Rattle.std.proofs.lemmas.Bool.Decides.{nat_tests}
 use Rattle.std.proofs.lemmas.List.{length-append, length-map}
 use Rattle.std.proofs.lemmas.Option.{none-some}
@@ -8,20 +8,18 @@ use Rattle.nob_ids.specs.declared.limits.Limits.{Limits}
 use Rattle.nob_item.specs.declared.item.Item.{Item}
 use Rattle.nob_item.specs.declared.item.Item.TheVariants as items
 use Rattle.nob_model_types.specs.declared.answer.Job.{Job}
-use Rattle.nob_model_types.specs.declared.refusal.Refusal.{Refusal}
 use Rattle.nob_model_types.specs.declared.refusal.Refusal.TheVariants as refusals
 use Rattle.nob_model_words.specs.declared.deed.Deed.{Deed}
-use Rattle.nob_model_words.specs.declared.deed.Deed.TheVariants.{Call, TakeReply, TakeEnd, Claim, Finish, DropReply, Act, Settle, Closing}
+use Rattle.nob_model_words.specs.declared.deed.Deed.TheVariants.{TakeReply, Claim, Finish, DropReply, Act, Settle, Closing}
 use Rattle.nob_model_words.specs.declared.message.Message.{Message}
 use Rattle.nob_model_words.specs.Sessions.{item_at}
 use Rattle.nob_model_words.specs.Messages.{new_message, message_after, is_of, is_not_from, is_job, is_lost_message}
 use Rattle.nob_model_work.specs.declared.work.InHand.{InHand}
 use Rattle.nob_model_work.specs.declared.work.Run.{Run}
 use Rattle.nob_model_work.specs.Work.{work, work_after, with_loans, run_after, wait, make_ready, make_reply, with_calls, call_after_reply, is_none_of, lost_reply, is_run, is_not_reply, without_first, without_waiting, after_message, after_act, after_settlement, after_settle, after_claim, after_finish, after_take, after_end, after_call, after_close}
-use Rattle.nob_model_history.specs.declared.history.History.{History}
 use Rattle.nob_model_history.specs.Histories.{history_of}
 use Rattle.nob_model.specs.Acting.{messages, is_too_much, message_refusal, act_refusal}
-use Rattle.nob_model.specs.Lists.{IsRightDeed, AreRightDeeds}
+use Rattle.nob_model.specs.Lists.{AreRightDeeds}
 use Rattle.nob_model.specs.Right.{right_after}
 use Rattle.nob_model.proofs.Accepted.{act_tells}
 use Rattle.nob_model.proofs.Doing.{was_answered}

@@ -1,16 +1,13 @@
 -- What granting a reference makes of the work in hand, and of what is lent.
-use Rattle.std.proofs.Common.{◌≡◌, ℕ, ◌+◌, ◌*◌, ◌<◌, ◌≤◌, Bool, true, false, cond, not, ◌&&◌, ◌||◌, ◌==◌, nat_le, List, [], ◌∷◌, ◌++◌, length, map, filter, flat_map, find, Option, Some, None, if◌then◌else◌, refl, sym, ap, subst, ◌∙◌, arith}
+use Rattle.std.proofs.Common.{◌≡◌, ℕ, ◌+◌, Bool, true, false, cond, not, ◌&&◌, ◌||◌, List, [], ◌∷◌, ◌++◌, length, map, filter, flat_map, Some, if◌then◌else◌, refl, sym, ap, subst, ◌∙◌, arith}
 use Prim.Native.Nat.{zero, suc}
 use lib.ListN.{replicate}
-use Rattle.std.specs.List.{AllByRecursion, list_any}
+use Rattle.std.specs.List.{AllByRecursion}
 use Rattle.std.proofs.lemmas.List.{replicate-append-replicate}
-use Rattle.std.proofs.lemmas.Bool.Decides.{nat_tests}
 use Rattle.nob_ids.specs.Names.{is_same}
 use Rattle.nob_ids.specs.declared.limits.Limits.{Limits}
 use Rattle.nob_ids.specs.declared.wire_rep.WireRep.{WireRep}
-use Rattle.nob_item.specs.declared.item.Item.{Item}
 use Rattle.nob_item.specs.declared.item.Item.TheVariants as items
-use Rattle.nob_table.proofs.Same.{same_laws}
 use Rattle.nob_model_words.specs.declared.deed.Deed.{Deed}
 use Rattle.nob_model_words.specs.declared.deed.Deed.TheVariants.{Act}
 use Rattle.nob_model_words.specs.declared.message.Loan.{Loan}
@@ -18,8 +15,7 @@ use Rattle.nob_model_words.specs.declared.message.Loan.TheVariants as loans
 use Rattle.nob_model_words.specs.declared.message.Message.{Message}
 use Rattle.nob_model_words.specs.declared.message.RefCopy.{RefCopy}
 use Rattle.nob_model_words.specs.declared.turns.OwnerAnswer.TheVariants as said
-use Rattle.nob_model_words.specs.declared.turns.Turns.{Turns}
-use Rattle.nob_model_words.specs.Sessions.{is_peer, closed, item_at}
+use Rattle.nob_model_words.specs.Sessions.{closed, item_at}
 use Rattle.nob_model_words.specs.Turns.{turns, is_own, is_usable, is_granted, is_pending, with_answer}
 use Rattle.nob_model_words.specs.Messages.{loan_after, copy_after, message_after}
 use Rattle.nob_model_work.specs.declared.work.InHand.{InHand}
@@ -30,7 +26,7 @@ use Rattle.nob_model_history.proofs.Turning.{after_answer, same_ref}
 use Rattle.nob_model.specs.Right.{own_ref}
 use Rattle.nob_model.specs.Lists.{AreRightDeeds}
 use Rattle.nob_model.proofs.Lending.{AreLent, IsAllLent, all_lent}
-use Rattle.nob_model.proofs.Made.{all_fixed, fixed_map, work_fixed}
+use Rattle.nob_model.proofs.Made.{all_fixed, work_fixed}
 use Rattle.nob_space_state.proofs.Claiming.{times_lent}
 use Rattle.nob_space_state.proofs.Pinned.{times_both}
 use Rattle.nob_space_state.proofs.Returned.{times_one}

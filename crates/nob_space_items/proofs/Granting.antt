@@ -9,9 +9,8 @@ use Rattle.nob_ids.specs.declared.wire_rep.WireRep.{WireRep}
 use Rattle.nob_model_words.specs.declared.message.Loan.{Loan}
 use Rattle.nob_model_words.specs.declared.message.Loan.TheVariants as loans
 use Rattle.nob_model_words.specs.declared.message.Message.{Message}
-use Rattle.nob_model_words.specs.declared.message.RefCopy.{RefCopy}
 use Rattle.nob_model_words.specs.Messages.{loan_after}
-use Rattle.nob_space_items.specs.Granting.{is_due, waits_for, granted_copy, granted_message, due_to, due_to_all}
+use Rattle.nob_space_items.specs.Granting.{is_due, due_to, due_to_all}
 use Rattle.nob_space_items.proofs.Mapped.{changed_next}
 
 -- ---- lists

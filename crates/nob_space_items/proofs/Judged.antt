@@ -1,5 +1,5 @@
 -- The faults of an item, by the state, are those by every list that the state stands for.
-use Rattle.std.proofs.Common.{◌≡◌, ℕ, ◌+◌, ◌≤◌, Bool, true, false, not, cond, ◌&&◌, ◌||◌, ◌==◌, nat_le, nat_lt, List, [], ◌∷◌, length, drop, map, filter, slice_get, Option, Some, None, if◌then◌else◌, refl, sym, ap, subst, ◌∙◌, arith}
+use Rattle.std.proofs.Common.{◌≡◌, ℕ, ◌+◌, ◌≤◌, Bool, true, false, not, cond, ◌&&◌, ◌||◌, ◌==◌, nat_lt, List, [], ◌∷◌, length, drop, map, filter, slice_get, Option, Some, None, if◌then◌else◌, refl, sym, ap, ◌∙◌, arith}
 use Prim.Native.Nat.{zero, suc}
 use Rattle.std.specs.List.{list_any, sum_by}
 use lib.Seq.{drop-nil}
@@ -12,7 +12,7 @@ use Rattle.nob_ids.specs.declared.limits.Limits.{Limits}
 use Rattle.nob_ids.specs.declared.reason.Reason.TheVariants.{BadReference, OutOfPlace}
 use Rattle.nob_ids.specs.declared.wire_rep.WireRep.{WireRep}
 use Rattle.nob_pickle.specs.Spelling.{refs_in}
-use Rattle.nob_item.specs.Kinds.{counted_in, refs_carried}
+use Rattle.nob_item.specs.Kinds.{counted_in}
 use Rattle.nob_item.specs.Spelling.{Fits}
 use Rattle.nob_item.specs.declared.item.Item.{Item}
 use Rattle.nob_item.specs.declared.item.Item.TheVariants as items
@@ -46,7 +46,7 @@ use Rattle.nob_space_state.specs.Stands.{Stands, bundle, far_state}
 use Rattle.nob_space_state.proofs.Calling.{few_refs}
 use Rattle.nob_space_state.proofs.Orderly.{orderly}
 use Rattle.nob_space_state.proofs.Told.{gone_there}
-use Rattle.nob_space_items.specs.Judging.{carries_none, was_never_given, awaits_answer, item_fault}
+use Rattle.nob_space_items.specs.Judging.{was_never_given, awaits_answer, item_fault}
 
 -- ---- a walk over a list, until one passes
 

@@ -1,7 +1,7 @@
 -- Acting on notes: what each leaves.
-use Rattle.std.proofs.Common.{◌≡◌, ℕ, ◌+◌, ◌-◌, ◌<◌, Bool, true, false, cond, not, ◌&&◌, ◌||◌, ◌==◌, List, [], ◌∷◌, ◌++◌, length, map, filter, get_or, Option, Some, None, if◌then◌else◌, refl, sym, ap, subst, ◌∙◌, arith}
+use Rattle.std.proofs.Common.{◌≡◌, ℕ, ◌+◌, ◌-◌, Bool, true, false, cond, not, ◌&&◌, ◌||◌, ◌==◌, List, [], ◌∷◌, ◌++◌, map, filter, get_or, Some, None, if◌then◌else◌, refl, sym, ap, subst, ◌∙◌, arith}
 use lib.ListN.{set}
-use Rattle.std.specs.List.{sum_by, list_any}
+use Rattle.std.specs.List.{sum_by}
 use Rattle.std.proofs.lemmas.List.{append-nil}
 use Rattle.std.proofs.lemmas.List.Sums.{sum_by-cons}
 use Rattle.std.proofs.lemmas.List.Sorted.{sum_by_pushed}
@@ -10,11 +10,10 @@ use Rattle.std.proofs.lemmas.Cmp.{nat_eq_equiv}
 use Rattle.nob_ids.specs.declared.limits.Limits.{Limits}
 use Rattle.nob_ids.specs.declared.reason.Reason.{Reason}
 use Rattle.nob_ids.specs.declared.reason.Reason.TheVariants.{OutOfPlace}
-use Rattle.nob_ids.specs.declared.wire_rep.WireRep.{WireRep}
 use Rattle.nob_item.specs.declared.item.Item.{Item}
 use Rattle.nob_item.specs.declared.item.Item.TheVariants as items
 use Rattle.nob_dirty.specs.declared.sets.Listing.{Listing}
-use Rattle.nob_dirty.specs.Sets.{lists, Leaves}
+use Rattle.nob_dirty.specs.Sets.{Leaves}
 use Rattle.nob_model_end.specs.declared.entry.EndEntry.{EndEntry}
 use Rattle.nob_model_end.specs.declared.entry.EndEntry.TheVariants as ends
 use Rattle.nob_session.specs.Stands as session
@@ -38,7 +37,7 @@ use Rattle.nob_model_history.proofs.Pinning.{bundles_kept, bundles_settled, no_s
 use Rattle.nob_model_history.proofs.Sending.{new_items}
 use Rattle.nob_model.specs.Acting.{act_refusal, fault_of, fault_if}
 use Rattle.nob_space_state.specs.Parts.{State}
-use Rattle.nob_space_state.specs.Stands.{Stands, PinsStand, bundle}
+use Rattle.nob_space_state.specs.Stands.{Stands, bundle}
 use Rattle.nob_space_items.specs.Fronts.{IsFront}
 use Rattle.nob_space_items.proofs.Judged.{bundle_there}
 use Rattle.nob_space_items.proofs.Taken.{act_is, front_is, ends_taken, note_stands}

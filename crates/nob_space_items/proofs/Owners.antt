@@ -1,9 +1,7 @@
 -- Acting on what an owner answered to a Dirty: what it leaves.
-use Rattle.std.proofs.Common.{◌≡◌, ℕ, ◌+◌, ◌-◌, ◌<◌, Bool, true, false, cond, not, ◌&&◌, ◌||◌, ◌==◌, List, [], ◌∷◌, ◌++◌, length, map, filter, get_or, Option, Some, None, Ok, if◌then◌else◌, refl, sym, ap, subst, ◌∙◌, arith}
+use Rattle.std.proofs.Common.{◌≡◌, ℕ, ◌-◌, Bool, true, false, not, ◌&&◌, ◌||◌, ◌==◌, List, [], ◌∷◌, length, map, get_or, Some, None, if◌then◌else◌, refl, sym, ap, subst, ◌∙◌}
 use lib.ListN.{set}
 use Rattle.std.specs.List.{sum_by}
-use Rattle.std.proofs.lemmas.Option.{none-some}
-use Rattle.std.proofs.lemmas.Bool.Decides.{nat_tests}
 use Rattle.std.proofs.lemmas.Cmp.{nat_eq_equiv}
 use Rattle.nob_ids.specs.Names.{is_same, is_counted}
 use Rattle.nob_ids.specs.declared.limits.Limits.{Limits}
@@ -26,8 +24,8 @@ use Rattle.nob_model_words.specs.declared.deed.Deed.TheVariants.{Act}
 use Rattle.nob_model_words.specs.declared.turns.OwnerAnswer.{OwnerAnswer}
 use Rattle.nob_model_words.specs.declared.turns.OwnerAnswer.TheVariants as said
 use Rattle.nob_model_words.specs.declared.turns.Turns.{Turns}
-use Rattle.nob_model_words.specs.Sessions.{is_peer, closed, item_at}
-use Rattle.nob_model_words.specs.Turns.{turns, turns_after, is_own, is_pending, is_granted, is_refused, is_usable, is_yes, is_no, names, with_answer}
+use Rattle.nob_model_words.specs.Sessions.{closed, item_at}
+use Rattle.nob_model_words.specs.Turns.{turns, turns_after, is_own, is_pending, is_granted, names, with_answer}
 use Rattle.nob_model_words.specs.Messages.{loan_after, copy_after, message_after}
 use Rattle.nob_model_work.specs.declared.work.InHand.{InHand}
 use Rattle.nob_model_work.specs.Work.{work, with_loans, run_after}
@@ -35,17 +33,16 @@ use Rattle.nob_model_work.specs.Gifts.{gifts_of_act}
 use Rattle.nob_model_history.specs.Histories.{history_of}
 use Rattle.nob_model_history.specs.Ends.{calls_at}
 use Rattle.nob_model_history.specs.Holds.{hand, times, lent_in}
-use Rattle.nob_model_history.specs.Listing.{is_listed, is_entered, is_entered_after}
+use Rattle.nob_model_history.specs.Listing.{is_entered, is_entered_after}
 use Rattle.nob_model_history.specs.Transit as transit
 use Rattle.nob_model_history.proofs.Turning.{after_answer, named_ref}
 use Rattle.nob_model_history.proofs.Turning as turning
 use Rattle.nob_model_history.proofs.Unasked.{is_message}
 use Rattle.nob_model.specs.Acting.{act_refusal, fault_of}
-use Rattle.nob_model.specs.Acting as model
 use Rattle.nob_model.specs.Right.{own_ref}
 use Rattle.nob_model.proofs.Made.{loans_made}
 use Rattle.nob_space_state.specs.Parts.{State}
-use Rattle.nob_space_state.specs.Stands.{Stands, TableShows, TableStands, bundle, far_state}
+use Rattle.nob_space_state.specs.Stands.{Stands, TableShows, bundle, far_state}
 use Rattle.nob_space_state.proofs.Shows.{one_row}
 use Rattle.nob_space_items.specs.Fronts.{IsFront}
 use Rattle.nob_space_items.specs.Judging.{awaits_answer}

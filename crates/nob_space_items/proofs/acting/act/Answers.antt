@@ -1,13 +1,10 @@
-use Rattle.std.proofs.Common.{◌≡◌, ℕ, ◌-◌, Bool, true, List, Some, None, Ok, Err, IsTrue, Bor, inr, get_or, refl, sym, ap, subst, ◌∙◌}
-use Rattle.nob_ids.specs.declared.limits.Limits.{Limits}
+use Rattle.std.proofs.Common.{Some, None, inr, refl, sym, ap, subst, ◌∙◌}
 use Rattle.nob_ids.specs.declared.reason.Reason.TheVariants.{BadItem}
-use Rattle.nob_model_end.specs.Right.{right_front}
-use Rattle.nob_model_words.specs.Sessions.{is_peer, item_of}
+use Rattle.nob_model_words.specs.Sessions.{item_of}
 use Rattle.nob_item.specs.Judging.{Fails}
 use Rattle.nob_item.specs.declared.fault.ItemError.{ItemError}
-use Rattle.nob_item.specs.Reading.{item_read, wants_memory}
+use Rattle.nob_item.specs.Reading.{item_read}
 use Rattle.nob_space_items.specs.Acts.{FrontWants}
-use Rattle.nob_space_items.specs.Fronts.{IsFront}
 use Rattle.nob_space_items.proofs.Chosen.{act_no_peer, act_of_closed, act_of_none, act_of_garbled, act_of_faulty, is_front, front_there, closing_is}
 use Rattle.nob_space_items.proofs.acting.act.Goals as goal
 

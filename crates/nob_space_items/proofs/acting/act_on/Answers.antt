@@ -1,5 +1,4 @@
-use Rattle.std.proofs.Common.{◌≡◌, None, refl}
-use Rattle.nob_space_items.proofs.Taken.{act_free, settle_free, granted_free, refused_free, clean_free}
+use Rattle.nob_space_items.proofs.Taken.{settle_free, granted_free, refused_free, clean_free}
 use Rattle.nob_space_items.proofs.acting.act_on.Goals as goal
 
 pub returns-in-Settle-clause-answer : goal.returns-in-Settle-clause-answer

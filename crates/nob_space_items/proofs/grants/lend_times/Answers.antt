@@ -1,7 +1,6 @@
 use Rattle.std.proofs.Common.{◌≡◌, ◌+◌, ◌-◌, ◌++◌, ◌∷◌, [], ap, sym, subst, ◌∙◌, arith}
 use lib.ListN.{replicate}
 use Rattle.std.proofs.lemmas.List.{replicate-append-replicate}
-use Rattle.nob_ids.specs.declared.wire_rep.WireRep.{WireRep}
 use Rattle.nob_space_items.specs.Lending.{CanLend, Lends}
 use Rattle.nob_space_items.proofs.Granted.{replicate_next}
 use Rattle.nob_space_items.proofs.Lends.{first_lendable, then_lendable, lends_then}

@@ -1,4 +1,4 @@
-use Rattle.std.proofs.Common.{◌≡◌, ◌-◌, ◌≤◌}
+use Rattle.std.proofs.Common.{◌-◌, ◌≤◌}
 use lib.ListN.{replicate}
 use Rattle.nob_space_items.specs.Lending.{Lends}
 use Rattle.nob_space_items.proofs.grants.lend_times.Given as goal

@@ -1,5 +1,4 @@
-use Rattle.std.proofs.Common.{◌≡◌, ℕ, ◌+◌, ◌<◌, ◌≤◌, ◌++◌, List, length, map, filter, take, drop, rules, Bool, true, false, cond, get_or, refl, sym, ap, subst, ◌∙◌, arith}
-use lib.ListN.{set}
+use Rattle.std.proofs.Common.{◌≡◌, ◌+◌, ◌<◌, ◌++◌, List, length, map, take, drop, rules, true, false, get_or, sym, ap, subst, ◌∙◌, arith}
 use Rattle.nob_model_words.specs.declared.message.Message.{Message}
 use Rattle.nob_model_words.specs.declared.message.RefCopy.{RefCopy}
 use Rattle.nob_model_words.specs.declared.message.Loan.{Loan}

@@ -1,6 +1,5 @@
-use Rattle.std.proofs.Common.{◌≡◌, ℕ, ◌+◌, ◌<◌, ◌≤◌, ◌++◌, List, length, map, take, drop, rules, get_or, refl, sym, ap, subst, ◌∙◌, arith}
-use Rattle.nob_model_words.specs.declared.message.Message.{Message}
-use Rattle.nob_space_items.specs.Granting.{granted_message, due_to, due_to_all}
+use Rattle.std.proofs.Common.{◌+◌, ◌<◌, length, take, rules, sym, ap, ◌∙◌, arith}
+use Rattle.nob_space_items.specs.Granting.{granted_message, due_to_all}
 use Rattle.nob_space_items.proofs.Granting.{here_is, due_next, due_first}
 use Rattle.nob_space_items.proofs.Mapped.{changed_next}
 use Rattle.nob_space_items.proofs.grants.lend_to_all.Goals as goal

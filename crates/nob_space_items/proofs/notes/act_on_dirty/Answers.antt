@@ -1,5 +1,4 @@
-use Rattle.std.proofs.Common.{◌≡◌, ℕ, ◌-◌, Bool, IsOk, get_or, refl, sym, ap, subst, ◌∙◌}
-use Rattle.nob_space_state.specs.Parts.{state_of}
+use Rattle.std.proofs.Common.{◌≡◌, ◌-◌, IsOk, get_or, refl, sym, subst, ◌∙◌}
 use Rattle.nob_space_state.proofs.Ends.{end_there}
 use Rattle.nob_model_history.specs.Histories.{history_of}
 use Rattle.nob_space_items.proofs.Answered.{dirty_refusal, dirty_next, dirty_stands, dirty_kept}

@@ -1,4 +1,4 @@
-use Rattle.std.proofs.Common.{◌≡◌, ◌∷◌, true, false, Some, None, if◌then◌else◌, refl, sym, ap, subst, ◌∙◌}
+use Rattle.std.proofs.Common.{◌∷◌, false, Some, None, if◌then◌else◌, sym, ap, subst, ◌∙◌}
 use Rattle.std.proofs.lemmas.Option.{none-some}
 use Rattle.nob_table.specs.declared.fault.TableFault.TheVariants.{Absent}
 use Rattle.nob_model_words.specs.declared.deed.Deed.TheVariants.{Act}

@@ -1,4 +1,4 @@
-use Rattle.std.proofs.Common.{◌≡◌, ℕ, true, Some, None, if◌then◌else◌, sym, ap, subst, ◌∙◌}
+use Rattle.std.proofs.Common.{ℕ, true, Some, None, if◌then◌else◌, sym, ap, subst, ◌∙◌}
 use lib.ListN.{replicate}
 use Rattle.std.proofs.lemmas.Option.{none-some}
 use Rattle.nob_table.specs.declared.fault.TableFault.TheVariants.{Absent}

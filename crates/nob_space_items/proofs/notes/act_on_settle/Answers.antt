@@ -1,5 +1,4 @@
-use Rattle.std.proofs.Common.{◌≡◌, ℕ, ◌∙◌, sym, subst, true, false}
-use Rattle.nob_model_words.specs.declared.deed.Deed.TheVariants as did
+use Rattle.std.proofs.Common.{◌≡◌, ◌∙◌, sym, true, false}
 use Rattle.nob_space_items.proofs.Noted.{settle_known, settle_stands}
 use Rattle.nob_space_items.proofs.notes.act_on_settle.Goals as goal
 

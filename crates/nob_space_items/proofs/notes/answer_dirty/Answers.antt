@@ -1,6 +1,4 @@
-use Rattle.std.proofs.Common.{◌≡◌, ℕ, ◌+◌, ◌∷◌, List, Ok, refl, sym, ap, subst, ◌∙◌}
-use Rattle.nob_item.specs.Writing.{bytes_of}
-use Rattle.nob_item.specs.declared.item.Item.{Item}
+use Rattle.std.proofs.Common.{◌≡◌, ℕ, ◌+◌, ◌∷◌, List, Ok, sym, ap, subst, ◌∙◌}
 use Rattle.nob_model_end.specs.declared.entry.EndEntry.TheVariants as calls
 use Rattle.nob_model_end.specs.declared.entry.Kind.TheVariants as kinds
 use Rattle.nob_session.specs.Stands as ends
