@@ -57,7 +57,7 @@ pub record AllInHand (P : Message → Type 0) (W : InHand) : Type 0 where
 
 module _ (s n : ℕ) (P : Message → Type 0)
     (kept : (D : List Deed) (m : Message) → P m → P (message_after s n D m))
-    (new : (p k : ℕ) (item : Item) (D : List Deed) → P (new_message s n p k item D))
+    (new : (p k : ℕ) (item : Item) (D : List Deed) → item_at p k D ≡ Some item → P (new_message s n p k item (Act p k ∷ D)))
     (lost : (m : Message) (call : ℕ) → P (lost_reply m call)) where
   -- one ready job more, one message more that waits, one ready reply more
   hold_ready : (m : Message) (W : InHand) → P m → AllInHand P W → AllInHand P (make_ready m W)
@@ -80,10 +80,10 @@ module _ (s n : ℕ) (P : Message → Type 0)
   hold_message m (items.Reply call status value) W its all = hold_calls (call_after_reply m.from call) (if is_none_of m.copies then make_reply m W else wait m W) (elim (is_none_of m.copies) as (λ b. AllInHand P (if b then make_reply m W else wait m W)) [ true ↦ hold_reply m W its all | false ↦ hold_wait m W its all ])
   hold_message m (_) W its all = all
 
-  hold_act : (p k : ℕ) (D : List Deed) (found : Option Item) (W : InHand) → AllInHand P W → AllInHand P (after_act s n p k D found W)
+  hold_act : (p k : ℕ) (D : List Deed) (found : Option Item) (W : InHand) → item_at p k D ≡ found → AllInHand P W → AllInHand P (after_act s n p k D found W)
   unfolding after_act
-  hold_act p k D None W all = all
-  hold_act p k D (Some item) W all = hold_message (new_message s n p k item (Act p k ∷ D)) item W (new p k item (Act p k ∷ D)) all
+  hold_act p k D None W is all = all
+  hold_act p k D (Some item) W is all = hold_message (new_message s n p k item (Act p k ∷ D)) item W (new p k item D is) all
 
   -- a message that was settled
   hold_settled : (m : Message) (item : Item) (is_lost : Bool) (W : InHand) → P m → AllInHand P W → AllInHand P (after_settlement m item is_lost W)
@@ -115,7 +115,7 @@ module _ (s n : ℕ) (P : Message → Type 0)
   hold_deed (Claim job) D W all = hold_claim job (find (is_job job) W.ready) W refl all
   hold_deed (Finish job outcome) D W all = record { waiting = all.waiting; ready = all.ready; running = all_filter (λ (run : Run). P run.message) (λ run. not (is_run job run)) W.running all.running; replies = all.replies }
   hold_deed (DropReply job) D W all = record { waiting = all.waiting; ready = all.ready; running = all_filter (λ (run : Run). P run.message) (λ run. not (is_run job run)) W.running all.running; replies = all.replies }
-  hold_deed (Act p k) D W all = hold_act p k D (item_at p k D) W all
+  hold_deed (Act p k) D W all = hold_act p k D (item_at p k D) W refl all
   hold_deed (Settle p k) D W all = hold_settle p k D (find (is_of p k) W.waiting) W refl all
   hold_deed (Closing p reason cause) D W all = record { waiting = all_filter P (is_not_from p) W.waiting all.waiting; ready = all_filter P (is_not_from p) W.ready all.ready; running = all.running; replies = all.replies }
   hold_deed (_) D W all = all
@@ -153,4 +153,4 @@ reps_new s n D (rep ∷ reps) = ap (λ others. rep ∷ others) (reps_new s n D r
 -- all messages in hand do
 pub all_carry : (s n : ℕ) (D : List Deed) → AllInHand Carries (work s n D)
 unfolding message_after
-all_carry s n D = all_in_hand s n Carries (λ D m its. reps_kept s n D m.copies ∙ its) (λ p k item D. reps_new s n D (counted_in item)) (λ m call. refl) D
+all_carry s n D = all_in_hand s n Carries (λ D m its. reps_kept s n D m.copies ∙ its) (λ p k item D is. reps_new s n (Act p k ∷ D) (counted_in item)) (λ m call. refl) D

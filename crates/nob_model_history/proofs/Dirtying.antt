@@ -148,7 +148,7 @@ rises_later : (x : WireRep) (xs reps : List WireRep) → RisesIn xs reps → Ris
 rises_later x xs [] rises = tt
 rises_later x xs (rep ∷ reps) rises = (all_weaker _ _ (λ other before. later_before (last_place rep xs) (last_place other xs) (is_same rep x) (is_same other x) before) reps rises.0, rises_later x xs reps rises.1)
 
-none_placed : (x : WireRep) (xs : List WireRep) → list_any (is_same x) xs ≡ false → last_place x xs ≡ None
+pub none_placed : (x : WireRep) (xs : List WireRep) → list_any (is_same x) xs ≡ false → last_place x xs ≡ None
 none_placed x [] none = refl
 none_placed x (y ∷ xs) none = let parts = or_parts (is_same x y) (list_any (is_same x) xs) none in ap (λ (found : Option ℕ). later_place found (is_same x y)) (none_placed x xs parts.1) ∙ ap (λ (b : Bool). cond b (Some 0) None) parts.0
 

@@ -1,6 +1,6 @@
 //! Messages: Calls and Replies that were acted on, with the references that came in them.
 
-ghost use Rattle.std.specs.Prelude.{◌≡◌, IfOk, map};
+ghost use Rattle.std.specs.Prelude.{◌≡◌, ◌<◌, IfOk, length, map, set};
 ghost use Rattle.std.specs.List.{list_any};
 ghost use Rattle.nob_model_words.specs.Turns.{is_lost};
 ghost use Rattle.nob_model_words.specs.Messages as words;
@@ -63,6 +63,14 @@ impl RefCopies {
         ensures { result.now ≡ self.now }
     {
         self.copies.as_slice()
+    }
+
+    /// Writes the copy at a place. It takes no memory. The caller's condition: there is one.
+    pub fn set(&mut self, place: usize, copy: RefCopy)
+        requires { place < length self.old }
+        ensures { self.new ≡ set self.old place copy }
+    {
+        self.copies[place] = copy;
     }
 }
 

@@ -102,6 +102,13 @@ impl PinTable {
         give_up_all(&mut self.bundles, closed);
     }
 
+    /// Whether there is a bundle of a peer and item. Linear in the bundles.
+    pub fn has(&self, peer: SpaceId, item: ItemNo) -> bool
+        ensures { result ≡ has_bundle self.now.bundles peer item }
+    {
+        self.bundles.iter().any(|bundle| bundle.is_of(peer, item))
+    }
+
     /// How often the reference is in transit, repeats included; a count past `u64::MAX` is that. Linear in the pins.
     pub fn count(&self, rep: WireRep) -> u64
         ensures { result ≡ min (count_of self.now.bundles rep) (2 ^ 64 - 1) }

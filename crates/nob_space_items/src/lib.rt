@@ -2,10 +2,23 @@
 //! and giving surrogates up.
 #![tactic(auto)]
 
+mod acting;
 mod cleaning;
+mod copies;
+mod dirties;
+mod faults;
+mod few;
+mod grants;
+mod growing;
+mod loans;
+mod messages;
 mod next;
+mod notes;
+mod putting;
+mod receiving;
 mod settling;
 
+pub use acting::{ActResult, act};
 pub use cleaning::clean;
 pub use next::{can_clean, can_settle};
 pub use settling::{SettledItem, settle};

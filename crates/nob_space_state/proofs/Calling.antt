@@ -124,7 +124,7 @@ module _ {s n : ℕ} {limits : Limits} {st : State} {D : List Deed} (stands : St
   value_there value = λ i. refuse_if (is_faulty (pickle_of value)) refusals.TooBig or_else refs_there (refs_in value) i
 
   -- the end with a peer
-  end_of_peer : (p : ℕ) → is_peer s n p ≡ true → (end : Roomy) × (end_with st.sessions p ≡ Some end) × session.Stands s p limits end.end (calls_at p (history_of s n D))
+  pub end_of_peer : (p : ℕ) → is_peer s n p ≡ true → (end : Roomy) × (end_with st.sessions p ≡ Some end) × session.Stands s p limits end.end (calls_at p (history_of s n D))
   end_of_peer p peer =
       let some : p == 0 ≡ false = grind (arith, nat_tests, peer) in
       let low : 1 ≤ p = grind (arith, nat_tests, peer) in

@@ -46,7 +46,7 @@ use Rattle.nob_space_state.specs.Stands.{Stands, EndsStand, bundle, far_state}
 use Rattle.nob_model.proofs.Made.{loans_made}
 
 -- one element changes
-set_here : {X : Type 0} (xs : List X) (at : ℕ) (y z : X) → slice_get (set xs at y) at ≡ Some z → z ≡ y
+pub set_here : {X : Type 0} (xs : List X) (at : ℕ) (y z : X) → slice_get (set xs at y) at ≡ Some z → z ≡ y
 set_here [] at y z there = absurd (cc)
 set_here (x ∷ xs) zero y z there = cc
 set_here (x ∷ xs) (suc at) y z there = set_here xs at y z there

@@ -31,7 +31,7 @@ use Rattle.nob_space_state.proofs.Pinned.{times_both}
 use Rattle.nob_space_state.proofs.Shows.{one_row, forgets_counts, shows_lent_fewer}
 
 -- how often a reference stands in a list of one
-times_one : (rep other : WireRep) → times other (rep ∷ []) ≡ (if is_same rep other then 1 else 0)
+pub times_one : (rep other : WireRep) → times other (rep ∷ []) ≡ (if is_same rep other then 1 else 0)
 times_one rep other = rw (same_laws.symm rep other) (elim (is_same other rep) as (λ b. length (cond b (rep ∷ []) []) ≡ (if b then 1 else 0)) [ true ↦ refl | false ↦ refl ])
 
 -- one fewer is less by how often it stands in the list of one

@@ -99,7 +99,7 @@ module _ (t : Table) (rep : WireRep) (reps : List WireRep) (can : CanTake t (rep
       }
 
 -- holds that are the same
-shows_same : {s n : ℕ} {t : Table} {h : History} {H L : WireRep → ℕ} (H' L' : WireRep → ℕ) → ((rep : WireRep) → H rep ≡ H' rep) → ((rep : WireRep) → L rep ≡ L' rep) → TableShows s n t h H L → TableShows s n t h H' L'
+pub shows_same : {s n : ℕ} {t : Table} {h : History} {H L : WireRep → ℕ} (H' L' : WireRep → ℕ) → ((rep : WireRep) → H rep ≡ H' rep) → ((rep : WireRep) → L rep ≡ L' rep) → TableShows s n t h H L → TableShows s n t h H' L'
 shows_same {s} {n} {t} {h} {H} {L} H' L' hands lents shows = record {
   me = shows.me;
   exported = shows.exported;

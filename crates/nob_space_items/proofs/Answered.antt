@@ -1,0 +1,220 @@
+-- Acting on a Dirty: what is answered, and what it leaves.
+use Rattle.std.proofs.Common.{◌≡◌, ℕ, ◌+◌, ◌-◌, Bool, true, false, cond, not, ◌&&◌, ◌||◌, ◌==◌, nat_le, List, [], ◌∷◌, ◌++◌, length, map, filter, get_or, Some, None, Ok, Err, IsOk, if◌then◌else◌, refl, sym, ap, subst, ◌∙◌, arith}
+use lib.ListN.{set}
+use Rattle.std.specs.List.{sum_by}
+use Rattle.std.proofs.lemmas.List.{append-nil}
+use Rattle.std.proofs.lemmas.Bool.Decides.{nat_tests, Decides-eqb}
+use Rattle.std.proofs.lemmas.Cmp.{nat_eq_equiv}
+use Rattle.nob_ids.specs.declared.limits.Limits.{Limits}
+use Rattle.nob_ids.specs.declared.reason.Reason.TheVariants.{BadReference}
+use Rattle.nob_item.specs.declared.item.Item.TheVariants as items
+use Rattle.nob_dirty.specs.declared.sets.Listing.{Listing}
+use Rattle.nob_dirty.specs.Sets.{lists}
+use Rattle.nob_model_end.specs.End.{handed, is_open}
+use Rattle.nob_model_end.specs.Right.{last_item}
+use Rattle.nob_model_end.specs.declared.entry.EndEntry.{EndEntry}
+use Rattle.nob_model_end.specs.declared.entry.EndEntry.TheVariants as ends
+use Rattle.nob_model_end.specs.declared.entry.Kind.TheVariants.{Note}
+use Rattle.nob_model_end.specs.declared.refusal.EndRefusal.TheVariants as end_refusals
+use Rattle.nob_session.specs.Calls.{next_of}
+use Rattle.nob_session.specs.Stands as session
+use Rattle.nob_session.specs.Stands.{End, Roomy}
+use Rattle.nob_model_types.specs.declared.refusal.Refusal.TheVariants as refusals
+use Rattle.nob_model_words.specs.declared.deed.Deed.{Deed}
+use Rattle.nob_model_words.specs.declared.deed.Deed.TheVariants.{Act}
+use Rattle.nob_model_words.specs.Objects as objects
+use Rattle.nob_model_words.specs.Sessions.{is_peer, closed, item_at}
+use Rattle.nob_model_words.specs.Turns.{turns, turns_after}
+use Rattle.nob_model_work.specs.declared.gifts.Gift.{Gift}
+use Rattle.nob_model_work.specs.Work.{work}
+use Rattle.nob_model_work.specs.Gifts.{gifts, gifts_of_act, answer_to}
+use Rattle.nob_model_history.specs.Histories.{history_of}
+use Rattle.nob_model_history.specs.Ends.{calls_at, items_to, kind_of, own_calls, payload_of, with_sends}
+use Rattle.nob_model_history.specs.Listing.{is_listed, is_entered}
+use Rattle.nob_model_history.specs.Transit as transit
+use Rattle.nob_model_history.specs.Transit.{is_pinned, sent}
+use Rattle.nob_model_history.proofs.Inbox.{open_calls}
+use Rattle.nob_model_history.proofs.Numbered.{calls_more}
+use Rattle.nob_model_history.proofs.Pinning.{bundles_kept, no_settle}
+use Rattle.nob_model_history.proofs.Sending.{new_items}
+use Rattle.nob_model.specs.Acting.{act_refusal, fault_of, is_unknown}
+use Rattle.nob_model.specs.Sending.{refusal_in, send_refused}
+use Rattle.nob_model.proofs.Guarding.{listed_law}
+use Rattle.nob_space_state.specs.Parts.{State}
+use Rattle.nob_space_state.specs.Sending.{send_refusal}
+use Rattle.nob_space_state.specs.Stands.{Stands, bundle}
+use Rattle.nob_space_state.proofs.Calling.{send_there, next_free}
+use Rattle.nob_space_state.proofs.Ends.{end_there, ends_changed, ends_kept}
+use Rattle.nob_space_state.proofs.Sent.{gift_to}
+use Rattle.nob_space_items.specs.Fronts.{IsFront}
+use Rattle.nob_space_items.specs.Notes.{dirty_answer, EntersIf}
+use Rattle.nob_space_items.proofs.Noted.{act_gives, fault_none, listed_is}
+use Rattle.nob_space_items.proofs.Taken.{act_is, front_is, note_stands}
+
+-- ---- why it stays in the inbox
+
+-- a note finds a number on an open session unless all are used up
+note_number : (still full over : Bool) (number : ℕ) → still ≡ true → full ≡ not over
+    → refusal_in (if not still then Err end_refusals.Closed else (if full then Err end_refusals.SeqEnd else Ok number)) ≡ (if not over then Some refusals.SeqEnd else None)
+note_number true true true number e is = absurd (cc)
+note_number true true false number e is = refl
+note_number true false true number e is = refl
+note_number true false false number e is = absurd (cc)
+note_number false full over number e is = absurd (cc)
+
+-- the answer to a Dirty finds a number where a note does
+dirty_refused : (s n p k index : ℕ) (D : List Deed) → closed p D ≡ false → send_refused p Note (history_of s n D) ≡ act_refusal s n p (items.Dirty index) (history_of s n D)
+unfolding act_refusal
+dirty_refused s n p k index D up =
+    let count : ℕ = length (handed (calls_at p (history_of s n D))) in
+    note_number (is_open (calls_at p (history_of s n D))) (nat_le last_item count) (nat_le (count + 1) last_item) (count + 1) (open_calls s n p D ∙ ap not up) (grind (arith, nat_tests))
+
+module _ {s n p k : ℕ} {limits : Limits} {st : State} {D : List Deed} (stands : Stands s n limits st D) (index : ℕ) (front : IsFront s n p k (items.Dirty index) D) where
+  -- why a Dirty stays in the inbox
+  pub dirty_refusal : act_refusal s n p (items.Dirty index) (history_of s n D) ≡ send_refusal p Note st
+  dirty_refusal = sym (dirty_refused s n p k index D front.is_open) ∙ send_there stands p Note front.peer
+
+  -- the end has a number for the answer
+  pub dirty_next : (old : Roomy) → old ≡ get_or st.sessions (p - 1) old → send_refusal p Note st ≡ None → IsOk (next_of Note old.end)
+  dirty_next old is free = let there = end_there s n limits st.sessions (history_of s n D) p old stands.ends front.peer is in next_free p Note st old there.0 there.1 free
+
+-- ---- what it gives
+
+-- a Dirty for an index that was given is answered
+answer_given : (p index : ℕ) (live given : Bool) → given ≡ true → (if live then gift_to p (items.DirtyOk index) ∷ [] else if given then gift_to p (items.DirtyNo index) ∷ [] else []) ≡ gift_to p (dirty_answer live index) ∷ []
+answer_given p index true given e = refl
+answer_given p index false true e = refl
+answer_given p index false false e = absurd (cc)
+
+was_given : (agent given : Bool) → (agent || not given) ≡ false → given ≡ true
+was_given true given e = absurd (cc)
+was_given false true e = refl
+was_given false false e = absurd (cc)
+
+module _ {s n p k : ℕ} {index : ℕ} {D : List Deed} (front : IsFront s n p k (items.Dirty index) D) (there : item_at p k D ≡ Some (items.Dirty index)) where
+  dirty_gives : gifts s n (Act p k) D (work s n D) ≡ gift_to p (dirty_answer (objects.is_live s index D) index) ∷ []
+  unfolding gifts_of_act answer_to fault_of
+  dirty_gives =
+      let given : objects.is_exported s index D ≡ true = was_given (index == 0) (objects.is_exported s index D) (fault_none (is_unknown s index (history_of s n D)) BadReference front.sound) in
+      act_gives s n p k (items.Dirty index) D there
+      ∙ ap (filter (λ (gift : Gift). is_peer s n gift.to)) (answer_given p index (objects.is_live s index D) (objects.is_exported s index D) given)
+      ∙ rw front.peer refl
+
+  -- on the end with its sender the answer is sent, and then the Dirty is taken
+  calls_answered : (q : ℕ) → calls_at q (history_of s n (Act p k ∷ D)) ≡ own_calls q (Act p k) (with_sends (map (λ (gift : Gift). gift.item) (cond (p == q) (gift_to p (dirty_answer (objects.is_live s index D) index) ∷ []) [])) (calls_at q (history_of s n D)))
+  calls_answered q = calls_more s n q (Act p k) D ∙ ap (λ (more : List Gift). own_calls q (Act p k) (with_sends (items_to q more) (calls_at q (history_of s n D)))) dirty_gives
+
+  note_kind : (live : Bool) → kind_of (dirty_answer live index) ≡ Note
+  note_kind true = refl
+  note_kind false = refl
+
+  calls_here : calls_at p (history_of s n (Act p k ∷ D)) ≡ ends.Take ∷ ends.Send (payload_of (dirty_answer (objects.is_live s index D) index)) Note (Ok (length (handed (calls_at p (history_of s n D))) + 1)) ∷ calls_at p (history_of s n D)
+  calls_here =
+      calls_answered p
+      ∙ ap (λ (b : Bool). if b then ends.Take ∷ with_sends (map (λ (gift : Gift). gift.item) (cond b (gift_to p (dirty_answer (objects.is_live s index D) index) ∷ []) [])) (calls_at p (history_of s n D)) else with_sends (map (λ (gift : Gift). gift.item) (cond b (gift_to p (dirty_answer (objects.is_live s index D) index) ∷ []) [])) (calls_at p (history_of s n D))) (nat_eq_equiv.refl p)
+      ∙ ap (λ kind. ends.Take ∷ ends.Send (payload_of (dirty_answer (objects.is_live s index D) index)) kind (Ok (length (handed (calls_at p (history_of s n D))) + 1)) ∷ calls_at p (history_of s n D)) (note_kind (objects.is_live s index D))
+
+  calls_elsewhere : (q : ℕ) → p == q ≡ false → calls_at q (history_of s n (Act p k ∷ D)) ≡ calls_at q (history_of s n D)
+  calls_elsewhere q other =
+      calls_answered q
+      ∙ ap (λ (b : Bool). if b then ends.Take ∷ with_sends (map (λ (gift : Gift). gift.item) (cond b (gift_to p (dirty_answer (objects.is_live s index D) index) ∷ []) [])) (calls_at q (history_of s n D)) else with_sends (map (λ (gift : Gift). gift.item) (cond b (gift_to p (dirty_answer (objects.is_live s index D) index) ∷ []) [])) (calls_at q (history_of s n D))) other
+
+  -- the answer carries nothing, so nothing is pinned
+  answer_unpinned : (live : Bool) → filter (is_pinned D) (new_items (sent (history_of s n D)) (gift_to p (dirty_answer live index) ∷ [])) ≡ []
+  answer_unpinned true = refl
+  answer_unpinned false = refl
+
+  bundles_answered : transit.bundles (history_of s n (Act p k ∷ D)) ≡ transit.bundles (history_of s n D)
+  bundles_answered =
+      bundles_kept s n (Act p k) D (no_settle p k D (λ j. ap (transit.is_settle_of j) there)) (λ q. refl)
+      ∙ ap (λ (more : List Gift). transit.bundles (history_of s n D) ++ filter (is_pinned D) (new_items (sent (history_of s n D)) more)) dirty_gives
+      ∙ ap (λ more. transit.bundles (history_of s n D) ++ more) (answer_unpinned (objects.is_live s index D))
+      ∙ append-nil (transit.bundles (history_of s n D))
+
+-- ---- who is listed
+
+entered_if : (here own shut entered : Bool) → (own ≡ true → shut ≡ false) → ((not shut && entered) || (here && own)) ≡ (not shut && (if own then (if here then true else entered) else entered))
+entered_if true true true entered up = absurd (let bad : true ≡ false = up refl in absurd (cc))
+entered_if true true false true up = refl
+entered_if true true false false up = refl
+entered_if true false true entered up = refl
+entered_if true false false true up = refl
+entered_if true false false false up = refl
+entered_if false own true entered up = refl
+entered_if false true false true up = refl
+entered_if false true false false up = refl
+entered_if false false false true up = refl
+entered_if false false false false up = refl
+
+unentered_if : (here own shut entered : Bool) → (here ≡ true → (not shut && entered) ≡ false) → (not shut && entered) ≡ (not shut && (if own then (if here then false else entered) else entered))
+unentered_if true true shut entered none = none refl ∙ and_false shut
+  where
+    and_false : (b : Bool) → false ≡ (not b && false)
+    and_false true = refl
+    and_false false = refl
+unentered_if true false shut entered none = refl
+unentered_if false true shut entered none = refl
+unentered_if false false shut entered none = refl
+
+module _ {s n p k : ℕ} {limits : Limits} {st : State} {D : List Deed} (stands : Stands s n limits st D) (index : ℕ) (front : IsFront s n p k (items.Dirty index) D) (there : item_at p k D ≡ Some (items.Dirty index)) where
+  -- nobody is listed for an object that isn't live
+  unlisted : objects.is_live s index D ≡ false → (i c : ℕ) → index == i ≡ true → is_listed s i c D ≡ false
+  unlisted gone i c here = elim (is_listed s i c D) as (λ b. is_listed s i c D ≡ b → b ≡ false) [
+    | true ↦ λ listed.
+        let live : objects.is_live s index D ≡ true = subst (λ j. objects.is_live s j D ≡ true) (sym ((Decides-eqb index i).0 here)) (listed_law s n limits D stands.right i c listed) in
+        let bad : true ≡ false = sym live ∙ gone in absurd (cc)
+    | false ↦ λ _. refl
+  ] refl
+
+  listed_answered : (dirty : List Listing) (live : Bool) → objects.is_live s index D ≡ live → EntersIf live st.dirty dirty index p → (i c : ℕ) → lists dirty i c ≡ is_listed s i c (Act p k ∷ D)
+  listed_answered dirty true live enters i c =
+      enters i c ∙ ap (λ b. b || (index == i && p == c)) (stands.listed i c)
+      ∙ entered_if (index == i) (p == c) (closed c D) (is_entered s i c D) (λ own. subst (λ q. closed q D ≡ false) ((Decides-eqb p c).0 own) front.is_open)
+      ∙ ap (λ b. not (closed c D) && (if p == c then (if index == i then b else is_entered s i c D) else is_entered s i c D)) (sym live)
+      ∙ sym (listed_is s n p k (items.Dirty index) D there i c)
+  listed_answered dirty false gone same i c =
+      same i c ∙ stands.listed i c
+      ∙ unentered_if (index == i) (p == c) (closed c D) (is_entered s i c D) (λ here. unlisted gone i c here)
+      ∙ ap (λ b. not (closed c D) && (if p == c then (if index == i then b else is_entered s i c D) else is_entered s i c D)) (sym gone)
+      ∙ sym (listed_is s n p k (items.Dirty index) D there i c)
+
+module _ {s n p k : ℕ} {limits : Limits} {st : State} {D : List Deed} (stands : Stands s n limits st D) (place : ℕ) (at : place ≡ p) (old new : Roomy) (is : old ≡ get_or st.sessions (place - 1) old) where
+  -- after a Dirty
+  pub dirty_stands : (index : ℕ) → IsFront s n p k (items.Dirty index) D → send_refusal p Note st ≡ None → (live : Bool) → live ≡ objects.is_live s index D → (dirty : List Listing) → EntersIf live st.dirty dirty index p
+      → ((me peer : ℕ) (limits : Limits) (L : List EndEntry) → session.Stands me peer limits old.end L → session.Stands me peer limits new.end (ends.Take ∷ ends.Send (payload_of (dirty_answer live index)) Note (Ok (old.end.handed + 1)) ∷ L))
+      → Stands s n limits (record { sessions = set st.sessions (place - 1) new; table = st.table; dirty = dirty; pins = st.pins; work = st.work; calls = st.calls; jobs = st.jobs }) (Act p k ∷ D)
+  dirty_stands index front free live live_is dirty enters answer =
+      let there : item_at p k D ≡ Some (items.Dirty index) = front_is front limits stands.right in
+      let seen : old ≡ get_or st.sessions (p - 1) old = subst (λ q. old ≡ get_or st.sessions (q - 1) old) at is in
+      let end = end_there s n limits st.sessions (history_of s n D) p old stands.ends front.peer seen in
+      let count : old.end.handed ≡ length (handed (calls_at p (history_of s n D))) = ap (λ (e : End). e.handed) end.2 in
+      let after : session.Stands s p limits new.end (calls_at p (history_of s n (Act p k ∷ D))) =
+      subst (λ calls. session.Stands s p limits new.end calls) (sym (calls_here front there))
+      (subst (λ m. session.Stands s p limits new.end (ends.Take ∷ ends.Send (payload_of (dirty_answer (objects.is_live s index D) index)) Note (Ok (m + 1)) ∷ calls_at p (history_of s n D))) count
+      (subst (λ b. session.Stands s p limits new.end (ends.Take ∷ ends.Send (payload_of (dirty_answer b index)) Note (Ok (old.end.handed + 1)) ∷ calls_at p (history_of s n D))) live_is (answer s p limits (calls_at p (history_of s n D)) end.2))) in
+      subst (λ q. Stands s n limits (record { sessions = set st.sessions (q - 1) new; table = st.table; dirty = dirty; pins = st.pins; work = st.work; calls = st.calls; jobs = st.jobs }) (Act p k ∷ D)) (sym at)
+      (note_stands s n p k (items.Dirty index) D there refl (λ rep. ap (λ found. turns_after s n p rep found D (turns s n rep D)) there)
+      (set st.sessions (p - 1) new) dirty st.pins stands
+      (ends_changed s n limits st.sessions (history_of s n D) (history_of s n (Act p k ∷ D)) p new stands.ends end.0 after (λ q other. sym (calls_elsewhere front there q (nat_eq_equiv.symm p q ∙ other))))
+      (listed_answered stands index front there dirty live (sym live_is) enters)
+      (λ f. stands.pins f ∙ ap (λ sent_items. sum_by f (map bundle sent_items)) (sym (bundles_answered front there)))
+      (act_is front limits (dirty_refusal stands index front ∙ free)))
+
+module _ {s n p : ℕ} {limits : Limits} {st : State} {D : List Deed} (stands : Stands s n limits st D) (place : ℕ) (at : place ≡ p) (old new : Roomy) (is : old ≡ get_or st.sessions (place - 1) old) where
+  -- where memory is wanted nothing is changed
+  pub dirty_kept : is_peer s n p ≡ true → (dirty : List Listing) → ((i c : ℕ) → lists dirty i c ≡ lists st.dirty i c) → new.end ≡ old.end
+      → Stands s n limits (record { sessions = set st.sessions (place - 1) new; table = st.table; dirty = dirty; pins = st.pins; work = st.work; calls = st.calls; jobs = st.jobs }) D
+  dirty_kept peer dirty same end_same =
+      let seen : old ≡ get_or st.sessions (p - 1) old = subst (λ q. old ≡ get_or st.sessions (q - 1) old) at is in
+      let end = end_there s n limits st.sessions (history_of s n D) p old stands.ends peer seen in
+      subst (λ q. Stands s n limits (record { sessions = set st.sessions (q - 1) new; table = st.table; dirty = dirty; pins = st.pins; work = st.work; calls = st.calls; jobs = st.jobs }) D) (sym at)
+      record {
+        ends = ends_kept s n limits st.sessions (history_of s n D) p old new stands.ends end.0 end.1 end_same;
+        table = stands.table;
+        listed = λ i c. same i c ∙ stands.listed i c;
+        pins = stands.pins;
+        work = stands.work;
+        calls = stands.calls;
+        jobs = stands.jobs;
+        right = stands.right;
+      }

@@ -1,0 +1,94 @@
+use Rattle.std.proofs.Common.{rules, arith, ◌≡◌, ◌<◌, ◌≤◌, List, length, None, Ok, IsOk, refl, ap, sym, subst, ◌∙◌}
+use Rattle.nob_ids.specs.declared.wire_rep.WireRep.{WireRep}
+use Rattle.nob_item.specs.Kinds.{counted_in}
+use Rattle.nob_model_words.specs.declared.deed.Deed.{Deed}
+use Rattle.nob_model_words.specs.declared.message.RefCopy.{RefCopy}
+use Rattle.nob_model.specs.Acting.{answer_of_act}
+use Rattle.nob_model_history.specs.Histories.{history_of}
+use Rattle.nob_space_state.specs.Parts.{state_of}
+use Rattle.nob_space_items.specs.Growing.{AreAmong, HaveRoom}
+use Rattle.nob_space_items.specs.Messages.{wanted, message_refusal}
+use Rattle.nob_space_items.specs.Receiving.{CanReceive, Receives}
+use Rattle.nob_space_items.proofs.Message.{message_answer, act_is}
+use Rattle.nob_space_items.proofs.ReadItems.{item_few}
+use Rattle.nob_space_items.proofs.Ready.{owners_among, can_receive, grown_receives}
+use Rattle.nob_space_items.proofs.Received.{message_of, receives_stand}
+use Rattle.nob_space_items.proofs.messages.act_on_message.Goals as goal
+
+pub judge_message-requires : goal.judge_message-requires
+judge_message-requires c = (let front = c.requires.front c.requires.state.0 c.requires.state.1 c.requires.state.2 in record { few = item_few front.bytes c.args.item front.spelt })
+
+pub returns-in-Err-clause-answer : goal.returns-in-Err-clause-answer
+returns-in-Err-clause-answer c limits D stands =
+    message_answer c.args.here.now.space c.args.here.now.n c.args.peer c.args.number c.args.item D (c.requires.front limits D stands) c.requires.message
+    ∙ ap (answer_of_act c.args.number None) ((c.in-Err.ensures {u = tt}).answer limits D stands)
+
+pub returns-in_default-clause-answer : goal.returns-in_default-clause-answer
+returns-in_default-clause-answer c limits D stands =
+    subst IsOk (sym (message_answer c.args.here.now.space c.args.here.now.n c.args.peer c.args.number c.args.item D (c.requires.front limits D stands) c.requires.message
+    ∙ ap (answer_of_act c.args.number None) ((c.in-Ok.ensures {u = tt}).answer limits D stands))) refl
+
+pub returns-in_default-new_copies-clause-answer : goal.returns-in_default-new_copies-clause-answer
+returns-in_default-new_copies-clause-answer c limits D stands =
+    subst IsOk (sym (message_answer c.args.here.now.space c.args.here.now.n c.args.peer c.args.number c.args.item D (c.requires.front limits D stands) c.requires.message
+    ∙ ap (answer_of_act c.args.number None) ((c.in-Ok.ensures {u = tt}).answer limits D stands))) refl
+
+pub grow-requires : goal.grow-requires
+grow-requires c =
+    let D : List Deed = c.requires.state.1 in
+    let stands = c.requires.state.2 in
+    subst (AreAmong (length c.args.parts.now.sessions.items)) (sym (c.as_slice-2.ensures ∙ (c.in-Ok.ensures {u = tt}).wanted))
+    (owners_among stands c.args.peer c.args.number c.args.item (c.requires.front c.requires.state.0 D stands) c.requires.message (length c.args.parts.now.sessions.items) stands.ends.each)
+
+pub returns-in_default-grow-clause-answer : goal.returns-in_default-grow-clause-answer
+returns-in_default-grow-clause-answer c limits D stands =
+    subst IsOk (sym (message_answer c.args.here.now.space c.args.here.now.n c.args.peer c.args.number c.args.item D (c.requires.front limits D stands) c.requires.message
+    ∙ ap (answer_of_act c.args.number None) ((c.in-Ok.ensures {u = tt}).answer limits D stands))) refl
+
+pub receive-requires-clause-can : goal.receive-requires-clause-can
+receive-requires-clause-can c =
+    let s = c.args.here.now.space in
+    let n = c.args.here.now.n in
+    let D : List Deed = c.requires.state.1 in
+    let stands = c.requires.state.2 in
+    let st = state_of c.args.parts.now in
+    let new = state_of c.grow.new.parts in
+    let fits : length c.args.parts.now.sessions.items < 18446744073709551616 = search rules in
+    let each = stands.ends.each in
+    let small : n < 18446744073709551616 = omega (arith, fits, each) in
+    let reps_are : c.in-Ok.wanted ≡ wanted s n st (counted_in c.args.item) = (c.in-Ok.ensures {u = tt}).wanted in
+    let given : c.as_slice-2.result.now ≡ wanted s n st (counted_in c.args.item) = c.as_slice-2.ensures ∙ reps_are in
+    let dirties_are : c.in-Ok-new_dirties.dirties.items ≡ wanted s n st (counted_in c.args.item) = (c.in-Ok-new_dirties.ensures {u = tt}) ∙ c.as_slice.ensures ∙ reps_are in
+    let can : CanReceive s new (message_of s n st c.args.peer c.args.number c.args.item) (wanted s n st (counted_in c.args.item)) =
+    can_receive stands c.args.peer c.args.number c.args.item (c.requires.front c.requires.state.0 D stands) c.requires.message
+    (subst (λ (reps : List WireRep). message_refusal st reps ≡ None) reps_are (c.in-Ok.ensures {u = tt}).free) small new c.grow.ensures.same
+    (subst (λ (reps : List WireRep). HaveRoom (length reps) new.sessions reps) given (c.in-Ok-grow.ensures {u = tt}).sessions)
+    (subst (λ (reps : List WireRep). length reps ≤ new.table.surrogate_room) given (c.in-Ok-grow.ensures {u = tt}).table) in
+    subst (λ (copies : List RefCopy). CanReceive s new (record { from = c.args.peer; number = c.args.number; item = c.args.item; copies = copies }) c.in-Ok-new_dirties.dirties.items) (sym (c.in-Ok-new_copies.ensures {u = tt}))
+    (subst (CanReceive s new (message_of s n st c.args.peer c.args.number c.args.item)) (sym dirties_are) can)
+
+pub returns-clause-answer : goal.returns-clause-answer
+returns-clause-answer c limits D stands =
+    message_answer c.args.here.now.space c.args.here.now.n c.args.peer c.args.number c.args.item D (c.requires.front limits D stands) c.requires.message
+    ∙ ap (answer_of_act c.args.number None) ((c.in-Ok.ensures {u = tt}).answer limits D stands)
+
+pub returns-clause-stands : goal.returns-clause-stands
+returns-clause-stands c limits D stands =
+    let s = c.args.here.now.space in
+    let n = c.args.here.now.n in
+    let st = state_of c.args.parts.now in
+    let grown = state_of c.grow.new.parts in
+    let new = state_of c.receive.new.parts in
+    let front = c.requires.front limits D stands in
+    let fits : length c.args.parts.now.sessions.items < 18446744073709551616 = search rules in
+    let each = stands.ends.each in
+    let small : n < 18446744073709551616 = omega (arith, fits, each) in
+    let reps_are : c.in-Ok.wanted ≡ wanted s n st (counted_in c.args.item) = (c.in-Ok.ensures {u = tt}).wanted in
+    let dirties_are : c.in-Ok-new_dirties.dirties.items ≡ wanted s n st (counted_in c.args.item) = (c.in-Ok-new_dirties.ensures {u = tt}) ∙ c.as_slice.ensures ∙ reps_are in
+    let receives : Receives s grown new (message_of s n st c.args.peer c.args.number c.args.item) (wanted s n st (counted_in c.args.item)) =
+    subst (Receives s grown new (message_of s n st c.args.peer c.args.number c.args.item)) dirties_are
+    (subst (λ (copies : List RefCopy). Receives s grown new (record { from = c.args.peer; number = c.args.number; item = c.args.item; copies = copies }) c.in-Ok-new_dirties.dirties.items) (c.in-Ok-new_copies.ensures {u = tt}) c.receive.ensures) in
+    receives_stand stands c.args.peer c.args.number c.args.item front c.requires.message
+    (grown_receives stands c.args.peer c.args.number c.args.item front c.requires.message
+    (subst (λ (reps : List WireRep). message_refusal st reps ≡ None) reps_are (c.in-Ok.ensures {u = tt}).free) small grown c.grow.ensures.same new receives)
+    (act_is s n limits D c.args.peer c.args.number (returns-clause-answer c limits D stands))

@@ -1,0 +1,119 @@
+//! The event Act: the item at the front of an inbox is acted on.
+
+ghost use Rattle.std.specs.Prelude.{◌≡◌, ℕ, List, ◌∷◌, OnOk, OnErr, IfOk};
+ghost use Rattle.nob_ids.specs.declared.limits.Limits.{Limits as LimitsOf};
+ghost use Rattle.nob_item.specs.Spelling.{Fits};
+ghost use Rattle.nob_model_end.specs.Right.{right_front};
+ghost use Rattle.nob_model_types.specs.declared.answer.Answer.TheVariants as answers;
+ghost use Rattle.nob_model_words.specs.declared.deed.Deed.{Deed};
+ghost use Rattle.nob_model_words.specs.declared.deed.Deed.TheVariants as did;
+ghost use Rattle.nob_model_history.specs.Ends.{calls_at};
+ghost use Rattle.nob_model_history.specs.Histories.{history_of};
+ghost use Rattle.nob_model.specs.Right as right;
+ghost use Rattle.nob_space_state.specs.Parts.{state_of};
+ghost use Rattle.nob_space_state.specs.Stands.{Stands, IsState, Keeps, Did, AnswersOrWants};
+ghost use Rattle.nob_space_items.specs.Acts.{ActsOrWants, act_deed};
+ghost use Rattle.nob_space_items.specs.Fronts.{IsFront};
+
+use crate::faults::fault_of_item;
+use crate::messages::act_on_message;
+use crate::notes::{act_on_clean, act_on_dirty, act_on_dirty_no, act_on_dirty_ok, act_on_settle};
+use nob_ids::{ItemNo, Reason, SpaceId};
+use nob_item::{Item, ItemError, decode};
+use nob_model::{Here, Refusal};
+use nob_pins::Settled;
+use nob_space_state::{Parts, SpaceError};
+use std::alloc::Global;
+
+/// What acting on the item at the front of an inbox came to.
+#[derive(Clone, Copy, Debug, PartialEq, Eq)]
+pub enum ActResult {
+    /// The item of this number was acted on.
+    Acted(ItemNo),
+    /// The item has a fault, for which the session closed.
+    Closed(Reason),
+}
+
+// Acts on an item without a fault.
+fn act_on(
+    parts: &mut Parts,
+    alloc: Global,
+    here: &Here,
+    peer: SpaceId,
+    number: ItemNo,
+    item: Item,
+) -> Result<(), SpaceError>
+    requires state { IsState here.now.space here.now.n (state_of parts.old) }
+    requires front { (limits : LimitsOf) (D : List Deed) → Stands here.now.space here.now.n limits (state_of parts.old) D → IsFront here.now.space here.now.n peer number item D }
+    ensures answer { (limits : LimitsOf) (D : List Deed) → Stands here.now.space here.now.n limits (state_of parts.old) D → AnswersOrWants (λ _. answers.Acted number) result (right.right_act here.now.space here.now.n peer (history_of here.now.space here.now.n D)) }
+    ensures stands { OnOk result (Did here.now.space here.now.n (state_of parts.old) (state_of parts.new) (did.Act peer number)) }
+    ensures err { OnErr result (Keeps here.now.space here.now.n (state_of parts.old) (state_of parts.new)) }
+{
+    match &item {
+        Item::Call { .. } | Item::Reply { .. } => {}
+        Item::Settle(_) => {
+            let Some(settled) = Settled::of_note(peer, &item) else {
+                unreachable!();
+            };
+            act_on_settle(parts, here, number, &settled);
+            return Ok(());
+        }
+        Item::Dirty(index) => return act_on_dirty(parts, alloc, here, peer, number, *index),
+        Item::DirtyOk(index) => {
+            act_on_dirty_ok(parts, here, peer, number, *index);
+            return Ok(());
+        }
+        Item::DirtyNo(index) => {
+            act_on_dirty_no(parts, here, peer, number, *index);
+            return Ok(());
+        }
+        Item::Clean(index) => {
+            act_on_clean(parts, here, peer, number, *index);
+            return Ok(());
+        }
+    }
+    act_on_message(parts, alloc, here, peer, number, item)
+}
+
+/// Act: the item at the front of the inbox from a peer is acted on. One with a fault closes the session instead. A
+/// Call or a Reply stays in the inbox where it would pass a limit, and an item that asks for Dirties or an answer where
+/// a session has no number for them. It takes memory to read a Call or a Reply, for what an item leaves, and for what
+/// is sent.
+pub fn act(
+    parts: &mut Parts,
+    alloc: Global,
+    here: &Here,
+    peer: SpaceId,
+) -> Result<ActResult, SpaceError>
+    requires { IsState here.now.space here.now.n (state_of parts.old) }
+    ensures answer { (limits : LimitsOf) (D : List Deed) → Stands here.now.space here.now.n limits (state_of parts.old) D → ActsOrWants (right_front (calls_at peer (history_of here.now.space here.now.n D))) result (right.right_act here.now.space here.now.n peer (history_of here.now.space here.now.n D)) }
+    ensures stands { IfOk result (λ done. Did here.now.space here.now.n (state_of parts.old) (state_of parts.new) (act_deed peer done)) }
+    ensures err { OnErr result (Keeps here.now.space here.now.n (state_of parts.old) (state_of parts.new)) }
+{
+    if !here.is_peer(peer) {
+        return Err(SpaceError::Refused(Refusal::NoPeer));
+    }
+    if parts.has_closed(peer) {
+        return Err(SpaceError::Refused(Refusal::Closed));
+    }
+    let Some(front) = parts.sessions[peer.get() as usize - 1].front() else {
+        return Err(SpaceError::Refused(Refusal::Nothing));
+    };
+    let (number, payload) = front;
+    let item = match decode(alloc, payload) {
+        Ok(item) => item,
+        Err(ItemError::OutOfMemory) => return Err(SpaceError::OutOfMemory),
+        Err(ItemError::Fault(_)) => {
+            parts.close_for(here, peer, Reason::BadItem);
+            return Ok(ActResult::Closed(Reason::BadItem));
+        }
+    };
+    if let Some(reason) = fault_of_item(parts, here.space, peer, &item) {
+        parts.close_for(here, peer, reason);
+        return Ok(ActResult::Closed(reason));
+    }
+    match act_on(parts, alloc, here, peer, number, item) {
+        Ok(()) => Ok(ActResult::Acted(number)),
+        Err(error) => Err(error),
+    }
+}

@@ -1,0 +1,97 @@
+//! The references of a message as they come.
+
+ghost use Rattle.std.specs.Prelude.{◌≡◌, IfOk};
+ghost use Rattle.nob_table.specs.Standings as standings;
+ghost use Rattle.nob_item.specs.Kinds.{counted_in};
+ghost use Rattle.nob_space_state.specs.Parts.{state_of};
+ghost use Rattle.nob_space_items.specs.Messages as specs;
+
+use nob_ids::WireRep;
+use nob_item::{Item, counted_refs};
+use nob_model::{Here, Loan, RefCopy};
+use nob_model_words::message::RefCopies;
+use nob_space_state::Parts;
+use nob_table::State;
+use std::alloc::{AllocError, Global};
+
+// Whether a standing is that of a surrogate that its owner has refused.
+fn is_refused(state: State) -> bool
+    ensures { result ≡ specs.is_refused state }
+{
+    match state {
+        State::Refused => true,
+        State::Unknown
+        | State::Live
+        | State::Withdrawn
+        | State::Pending
+        | State::Granted
+        | State::Lost => false,
+    }
+}
+
+// Whether a standing is that of a surrogate that its owner has granted.
+fn is_granted(state: State) -> bool
+    ensures { result ≡ standings.is_granted state }
+{
+    match state {
+        State::Granted => true,
+        State::Unknown
+        | State::Live
+        | State::Withdrawn
+        | State::Pending
+        | State::Refused
+        | State::Lost => false,
+    }
+}
+
+// Whether a reference is lost.
+fn is_lost(parts: &Parts, here: &Here, rep: &WireRep) -> bool
+    ensures { result ≡ specs.is_lost here.now.space here.now.n (state_of parts.now) rep.now }
+{
+    let standing = parts.table.state(*rep);
+    let refused = is_refused(standing.state);
+    let closed = parts.has_closed(rep.owner);
+    let peer = here.is_peer(rep.owner);
+    rep.owner != here.space && (!peer || closed || refused)
+}
+
+// Whether a reference is own or usable.
+fn is_at_hand(parts: &Parts, here: &Here, rep: &WireRep) -> bool
+    ensures { result ≡ specs.is_at_hand here.now.space (state_of parts.now) rep.now }
+{
+    let standing = parts.table.state(*rep);
+    rep.owner == here.space || is_granted(standing.state)
+}
+
+// The loan of a reference as it comes in a message.
+fn new_loan(parts: &Parts, here: &Here, rep: &WireRep) -> Loan
+    ensures { result ≡ specs.new_loan here.now.space here.now.n (state_of parts.now) rep.now }
+{
+    if is_lost(parts, here, rep) {
+        return Loan::Never;
+    }
+    if is_at_hand(parts, here, rep) {
+        return Loan::Lent;
+    }
+    Loan::Due
+}
+
+// The copies of an item's references as they come in it. Only memory fails it.
+pub(crate) fn new_copies(
+    parts: &Parts,
+    alloc: Global,
+    here: &Here,
+    item: &Item,
+) -> Result<RefCopies, AllocError>
+    ensures { IfOk result (λ copies. copies ≡ specs.new_copies here.now.space here.now.n (state_of parts.now) (counted_in item.now)) }
+{
+    let reps = counted_refs(alloc, item)?;
+    let mut copies = Vec::with_capacity(alloc, reps.len())?;
+    for rep in reps.as_slice() {
+        copies.push(RefCopy {
+            rep: *rep,
+            loan: new_loan(parts, here, rep),
+        })?;
+    }
+    Ok(RefCopies::from_vec(copies))
+}

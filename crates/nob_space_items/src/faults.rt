@@ -1,0 +1,134 @@
+//! The faults of an item, by the state. None takes memory.
+
+ghost use Rattle.std.specs.Prelude.{◌≡◌, ◌==◌, not};
+ghost use Rattle.std.specs.List.{list_any};
+ghost use Rattle.nob_item.specs.Spelling.{Fits};
+ghost use Rattle.nob_model.specs.Acting as words;
+ghost use Rattle.nob_model.specs.Right.{own_ref};
+ghost use Rattle.nob_space_state.specs.Looks.{names_none};
+ghost use Rattle.nob_space_state.specs.Parts.{state_of};
+ghost use Rattle.nob_space_items.specs.Judging.{carries_none, was_never_given, awaits_answer, item_fault};
+
+use nob_ids::{CallNo, Reason, SpaceId, WireRep};
+use nob_item::{Item, counted_ref};
+use nob_model::{Here, OwnCall, Stage};
+use nob_space_state::Parts;
+use nob_table::State;
+
+// Whether an item carries a reference to an object of this space that isn't live.
+fn carries_none(parts: &Parts, me: SpaceId, item: &Item) -> bool
+    requires { Fits item.now }
+    ensures { result ≡ carries_none me (state_of parts.now) item.now }
+{
+    let mut number = 0;
+    while let Some(rep) = counted_ref(item, number) {
+        if parts.is_gone(me, &rep) {
+            return true;
+        }
+        number += 1;
+    }
+    false
+}
+
+// Whether no Reply to a call was acted on, and it hasn't ended.
+fn is_sent(stage: Stage) -> bool
+    ensures { result ≡ words.is_sent stage }
+{
+    matches!(stage, Stage::Sent)
+}
+
+// Whether a call was made to a peer and waits for its Reply.
+fn awaits_reply(peer: SpaceId, call: CallNo, own: &OwnCall) -> bool
+    ensures { result ≡ words.awaits_reply peer call own.now }
+{
+    own.call == call && own.to == peer && is_sent(own.stage)
+}
+
+// Whether one of these calls was made to a peer under this number and waits for its Reply.
+fn is_awaited(peer: SpaceId, call: CallNo, calls: &[OwnCall]) -> bool
+    ensures { result ≡ list_any (words.awaits_reply peer call) calls.now }
+{
+    calls.iter().any(|own| awaits_reply(peer, call, own))
+}
+
+// Whether an index was never given to an object of this space.
+fn was_never_given(parts: &Parts, me: SpaceId, index: u64) -> bool
+    ensures { result ≡ was_never_given me index (state_of parts.now) }
+{
+    let standing = parts.table.state(WireRep { owner: me, index });
+    matches!(standing.state, State::Unknown)
+}
+
+// Whether a Dirty to a peer for the object of an index waits for its answer.
+fn awaits_answer(parts: &Parts, peer: SpaceId, index: u64) -> bool
+    ensures { result ≡ awaits_answer peer index (state_of parts.now) }
+{
+    let standing = parts.table.state(WireRep { owner: peer, index });
+    let state = standing.state;
+    index != 0 && state.is_pending()
+}
+
+// A fault where a test holds.
+fn fault_if(test: bool, reason: Reason) -> Option<Reason>
+    ensures { result ≡ words.fault_if test reason }
+{
+    if test { Some(reason) } else { None }
+}
+
+// The fault of a Call of a target.
+fn fault_of_call(parts: &Parts, me: SpaceId, target: u64, item: &Item) -> Option<Reason>
+    requires { Fits item.now }
+    ensures { result ≡ words.first_fault (words.fault_if (names_none me parts.now.table (own_ref me target)) Reason.BadReference) (words.fault_if (carries_none me (state_of parts.now) item.now) Reason.BadReference) }
+{
+    let rep = WireRep {
+        owner: me,
+        index: target,
+    };
+    if parts.is_gone(me, &rep) {
+        return Some(Reason::BadReference);
+    }
+    fault_if(carries_none(parts, me, item), Reason::BadReference)
+}
+
+// The fault of a Reply to a call.
+fn fault_of_reply(
+    parts: &Parts,
+    me: SpaceId,
+    peer: SpaceId,
+    call: CallNo,
+    item: &Item,
+) -> Option<Reason>
+    requires { Fits item.now }
+    ensures { result ≡ words.first_fault (words.fault_if (not (list_any (words.awaits_reply peer call) parts.now.calls.items)) Reason.OutOfPlace) (words.fault_if (carries_none me (state_of parts.now) item.now) Reason.BadReference) }
+{
+    if !is_awaited(peer, call, parts.calls.as_slice()) {
+        return Some(Reason::OutOfPlace);
+    }
+    fault_if(carries_none(parts, me, item), Reason::BadReference)
+}
+
+// The first fault of an item from a peer. Linear in the item, the calls and the pins.
+#[tactic(auto, unfolding(crate::specs::Judging::item_fault))]
+pub(crate) fn fault_of_item(
+    parts: &Parts,
+    me: SpaceId,
+    peer: SpaceId,
+    item: &Item,
+) -> Option<Reason>
+    requires { Fits item.now }
+    ensures { result ≡ item_fault me peer item.now (state_of parts.now) }
+{
+    match item {
+        Item::Call { target, .. } => fault_of_call(parts, me, *target, item),
+        Item::Reply { call, .. } => fault_of_reply(parts, me, peer, *call, item),
+        Item::Settle(sent) => fault_if(!parts.pins.has(peer, *sent), Reason::OutOfPlace),
+        Item::Dirty(index) | Item::Clean(index) => fault_if(
+            was_never_given(parts, me, *index),
+            Reason::BadReference,
+        ),
+        Item::DirtyOk(index) | Item::DirtyNo(index) => fault_if(
+            !awaits_answer(parts, peer, *index),
+            Reason::OutOfPlace,
+        ),
+    }
+}

@@ -1,0 +1,59 @@
+//! Room that is made before a message is acted on.
+
+ghost use Rattle.std.specs.Prelude.{◌≡◌, ◌-◌, ◌<◌, ◌≤◌, length, vec_len, OnOk};
+ghost use Rattle.std.specs.Vec.{vec_capacity};
+ghost use Rattle.nob_table.specs.Table.{Stays};
+ghost use Rattle.nob_space_state.specs.Parts.{state_of};
+ghost use Rattle.nob_space_items.specs.Growing.{AreAmong, SameEnds, HaveRoom, Grows};
+
+use nob_ids::WireRep;
+use nob_session::Session;
+use nob_space_state::Parts;
+use std::alloc::AllocError;
+
+// The place of the end with a reference's owner.
+pub(crate) fn place_of(rep: &WireRep) -> usize
+    ensures { result ≡ rep.now.owner - 1 }
+{
+    rep.owner.get() as usize - 1
+}
+
+// Makes room for so many items at the sessions with the owners of references.
+fn grow_sessions(
+    sessions: &mut Vec<Session>,
+    reps: &[WireRep],
+    count: usize,
+) -> Result<(), AllocError>
+    requires { AreAmong (length sessions.old.items) reps.now }
+    ensures same { SameEnds sessions.old.items sessions.new.items }
+    ensures room { OnOk result (HaveRoom count sessions.new.items reps.now) }
+{
+    match reps {
+        [] => Ok(()),
+        [rep, others @ ..] => {
+            let session = &mut sessions[place_of(rep)];
+            if session.reserve(count).is_err() {
+                return Err(AllocError);
+            }
+            grow_sessions(sessions, others, count)
+        }
+    }
+}
+
+// Makes room for a message, and for the Dirties of these references of it.
+pub(crate) fn grow(parts: &mut Parts, reps: &[WireRep]) -> Result<(), AllocError>
+    requires { AreAmong (length parts.old.sessions.items) reps.now }
+    ensures same { Grows (state_of parts.old) (state_of parts.new) }
+    ensures sessions { OnOk result (HaveRoom (length reps.now) parts.new.sessions.items reps.now) }
+    ensures table { OnOk result (length reps.now ≤ parts.new.table.surrogate_room) }
+    ensures waiting { OnOk result (vec_len parts.new.waiting < vec_capacity parts.new.waiting) }
+    ensures ready { OnOk result (vec_len parts.new.ready < vec_capacity parts.new.ready) }
+    ensures replies { OnOk result (vec_len parts.new.replies < vec_capacity parts.new.replies) }
+{
+    parts.table.reserve(0, reps.len())?;
+    grow_sessions(&mut parts.sessions, reps, reps.len())?;
+    parts.waiting.reserve(1)?;
+    parts.ready.reserve(1)?;
+    parts.replies.reserve(1)?;
+    Ok(())
+}

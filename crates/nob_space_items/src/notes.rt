@@ -1,0 +1,184 @@
+//! Acting on notes: the items with which spaces keep their books of who holds what.
+
+ghost use Rattle.std.specs.Prelude.{◌≡◌, ℕ, ◌+◌, ◌<◌, List, ◌∷◌, Ok, length, IsOk, OnOk, OnErr};
+ghost use Rattle.nob_ids.specs.declared.limits.Limits.{Limits as LimitsOf};
+ghost use Rattle.nob_item.specs.declared.item.Item.TheVariants as items;
+ghost use Rattle.nob_dirty.specs.Sets.{ListsSame};
+ghost use Rattle.nob_model_end.specs.declared.entry.EndEntry.{EndEntry};
+ghost use Rattle.nob_model_end.specs.declared.entry.EndEntry.TheVariants as calls;
+ghost use Rattle.nob_model_end.specs.declared.entry.Kind.TheVariants as kinds;
+ghost use Rattle.nob_session.specs.Calls.{next_of};
+ghost use Rattle.nob_session.specs.Stands as ends;
+ghost use Rattle.nob_table.specs.Standings as standings;
+ghost use Rattle.nob_table.specs.Table.{standing};
+ghost use Rattle.nob_model_types.specs.declared.answer.Answer.TheVariants as answers;
+ghost use Rattle.nob_model_words.specs.declared.deed.Deed.{Deed};
+ghost use Rattle.nob_model_words.specs.declared.deed.Deed.TheVariants as did;
+ghost use Rattle.nob_model_history.specs.Histories.{history_of};
+ghost use Rattle.nob_model_history.specs.Ends.{payload_of};
+ghost use Rattle.nob_model.specs.Right as right;
+ghost use Rattle.nob_model.specs.Right.{own_ref};
+ghost use Rattle.nob_space_state.specs.Parts.{state_of};
+ghost use Rattle.nob_space_state.specs.Stands.{Stands, IsState, Keeps, Did, AnswersOrWants};
+ghost use Rattle.nob_space_items.specs.Fronts.{IsFront};
+ghost use Rattle.nob_space_items.specs.Notes.{dirty_answer, EntersIf};
+
+use crate::grants::{lend_times, lend_to_all};
+use nob_dirty::DirtySets;
+use nob_ids::{ItemNo, SpaceId, WireRep};
+use nob_item::{Item, encode};
+use nob_model::{Here, Kind};
+use nob_pins::Settled;
+use nob_session::Session;
+use nob_space_state::{Parts, SpaceError, send_reserved};
+use nob_table::State;
+use std::alloc::{AllocError, Global};
+
+// Acts on a Clean: its sender is listed no longer at the index. It takes no memory.
+pub(crate) fn act_on_clean(
+    parts: &mut Parts,
+    here: &Here,
+    peer: SpaceId,
+    number: ItemNo,
+    index: u64,
+)
+    requires state { IsState here.now.space here.now.n (state_of parts.old) }
+    requires front { (limits : LimitsOf) (D : List Deed) → Stands here.now.space here.now.n limits (state_of parts.old) D → IsFront here.now.space here.now.n peer number (items.Clean index) D }
+    ensures stands { Did here.now.space here.now.n (state_of parts.old) (state_of parts.new) (did.Act peer number) }
+{
+    parts.dirty.clean(index, peer);
+    parts.sessions[peer.get() as usize - 1].take();
+}
+
+// Acts on a Settle: the pins of the item that it settles end. It takes no memory.
+pub(crate) fn act_on_settle(parts: &mut Parts, here: &Here, number: ItemNo, settled: &Settled)
+    requires state { IsState here.now.space here.now.n (state_of parts.old) }
+    requires front { (limits : LimitsOf) (D : List Deed) → Stands here.now.space here.now.n limits (state_of parts.old) D → IsFront here.now.space here.now.n settled.now.peer number (items.Settle settled.now.item) D }
+    ensures stands { Did here.now.space here.now.n (state_of parts.old) (state_of parts.new) (did.Act settled.now.peer number) }
+{
+    let peer = settled.peer();
+    match parts.pins.settle(settled) {
+        Ok(()) => {}
+        Err(_) => unreachable!(),
+    }
+    parts.sessions[peer.get() as usize - 1].take();
+}
+
+// Whether the object of an index of this space is live.
+fn is_live(parts: &Parts, me: SpaceId, index: u64) -> bool
+    ensures { result ≡ standings.is_live (standing parts.now.table (own_ref me index)).state }
+{
+    let standing = parts.table.state(WireRep { owner: me, index });
+    matches!(standing.state, State::Live)
+}
+
+// What a client that asks for an object is told.
+fn dirty_answer(live: bool, index: u64) -> Item
+    ensures { result ≡ dirty_answer live index }
+{
+    if live {
+        Item::DirtyOk(index)
+    } else {
+        Item::DirtyNo(index)
+    }
+}
+
+// Answers the Dirty that waits first at a session, and takes it: its sender is entered where the object is live. Only
+// memory fails it.
+fn answer_dirty(
+    alloc: Global,
+    session: &mut Session,
+    dirty: &mut DirtySets,
+    peer: SpaceId,
+    index: u64,
+    live: bool,
+) -> Result<(), AllocError>
+    requires next { IsOk (next_of kinds.Note session.old.end) }
+    requires waits { 0 < length session.old.end.waiting }
+    ensures session { (me other : ℕ) (limits : LimitsOf) (L : List EndEntry) → ends.Stands me other limits session.old.end L → OnOk result (ends.Stands me other limits session.new.end (calls.Take ∷ calls.Send (payload_of (dirty_answer live index)) kinds.Note (Ok (session.old.end.handed + 1)) ∷ L)) }
+    ensures listed { OnOk result (EntersIf live dirty.old dirty.new index peer) }
+    ensures err { OnErr result ((session.new.end ≡ session.old.end) × ListsSame dirty.old dirty.new) }
+{
+    let Ok(payload) = encode(alloc, &dirty_answer(live, index)) else {
+        return Err(AllocError);
+    };
+    if session.reserve(1).is_err() {
+        return Err(AllocError);
+    }
+    if live {
+        dirty.dirty(index, peer)?;
+    }
+    send_reserved(session, payload, Kind::Note);
+    session.take();
+    Ok(())
+}
+
+// Acts on a Dirty: its sender is entered at the index where the object is live, and told so; else it is told that
+// there is none. The Dirty stays in the inbox where its sender's session has no number for the answer, and for want
+// of memory.
+pub(crate) fn act_on_dirty(
+    parts: &mut Parts,
+    alloc: Global,
+    here: &Here,
+    peer: SpaceId,
+    number: ItemNo,
+    index: u64,
+) -> Result<(), SpaceError>
+    requires state { IsState here.now.space here.now.n (state_of parts.old) }
+    requires front { (limits : LimitsOf) (D : List Deed) → Stands here.now.space here.now.n limits (state_of parts.old) D → IsFront here.now.space here.now.n peer number (items.Dirty index) D }
+    ensures answer { (limits : LimitsOf) (D : List Deed) → Stands here.now.space here.now.n limits (state_of parts.old) D → AnswersOrWants (λ _. answers.Acted number) result (right.right_act here.now.space here.now.n peer (history_of here.now.space here.now.n D)) }
+    ensures stands { OnOk result (Did here.now.space here.now.n (state_of parts.old) (state_of parts.new) (did.Act peer number)) }
+    ensures err { OnErr result (Keeps here.now.space here.now.n (state_of parts.old) (state_of parts.new)) }
+{
+    if let Err(refusal) = parts.refuse_send(peer, Kind::Note) {
+        return Err(SpaceError::Refused(refusal));
+    }
+    let live = is_live(parts, here.space, index);
+    let session = &mut parts.sessions[peer.get() as usize - 1];
+    let Ok(()) = answer_dirty(alloc, session, &mut parts.dirty, peer, index, live) else {
+        return Err(SpaceError::OutOfMemory);
+    };
+    Ok(())
+}
+
+// Acts on a DirtyNo: the reference that was asked for is refused. It takes no memory.
+pub(crate) fn act_on_dirty_no(
+    parts: &mut Parts,
+    here: &Here,
+    peer: SpaceId,
+    number: ItemNo,
+    index: u64,
+)
+    requires state { IsState here.now.space here.now.n (state_of parts.old) }
+    requires front { (limits : LimitsOf) (D : List Deed) → Stands here.now.space here.now.n limits (state_of parts.old) D → IsFront here.now.space here.now.n peer number (items.DirtyNo index) D }
+    ensures stands { Did here.now.space here.now.n (state_of parts.old) (state_of parts.new) (did.Act peer number) }
+{
+    match parts.table.refuse(WireRep { owner: peer, index }) {
+        Ok(()) => {}
+        Err(_) => unreachable!(),
+    }
+    parts.sessions[peer.get() as usize - 1].take();
+}
+
+// Acts on a DirtyOk: the reference that was asked for is granted, and lent to the messages that wait for it. It takes
+// no memory.
+pub(crate) fn act_on_dirty_ok(
+    parts: &mut Parts,
+    here: &Here,
+    peer: SpaceId,
+    number: ItemNo,
+    index: u64,
+)
+    requires state { IsState here.now.space here.now.n (state_of parts.old) }
+    requires front { (limits : LimitsOf) (D : List Deed) → Stands here.now.space here.now.n limits (state_of parts.old) D → IsFront here.now.space here.now.n peer number (items.DirtyOk index) D }
+    ensures stands { Did here.now.space here.now.n (state_of parts.old) (state_of parts.new) (did.Act peer number) }
+{
+    let rep = WireRep { owner: peer, index };
+    match parts.table.grant(rep) {
+        Ok(()) => {}
+        Err(_) => unreachable!(),
+    }
+    let due = lend_to_all(&rep, &mut parts.waiting);
+    lend_times(&mut parts.table, &rep, due);
+    parts.sessions[peer.get() as usize - 1].take();
+}

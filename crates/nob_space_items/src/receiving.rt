@@ -1,0 +1,39 @@
+//! Acting on a Call or a Reply once there is room for all.
+
+ghost use Rattle.std.specs.Prelude.{◌≡◌, ◌<◌, ◌≤◌, length, vec_len};
+ghost use Rattle.std.specs.Vec.{vec_capacity};
+ghost use Rattle.nob_space_state.specs.Parts.{state_of};
+ghost use Rattle.nob_space_items.specs.Receiving.{HasFront, Takes, CanReceive, Receives};
+
+use crate::dirties::{NewDirty, send_dirties};
+use crate::loans::lend_message;
+use crate::putting::put_message;
+use nob_ids::SpaceId;
+use nob_model::{Here, Message};
+use nob_session::Session;
+use nob_space_state::Parts;
+
+// Takes the item in front of the inbox from a peer.
+fn take_front(sessions: &mut Vec<Session>, peer: SpaceId)
+    requires peer { peer ≤ length sessions.old.items }
+    requires front { HasFront sessions.old.items peer }
+    ensures { Takes sessions.old.items sessions.new.items peer }
+{
+    let session = &mut sessions[peer.get() as usize - 1];
+    session.take();
+}
+
+// Receives a message for which there is room: the Dirties are sent, its loans are made, and it is put where it goes.
+pub(crate) fn receive(parts: &mut Parts, here: &Here, message: Message, dirties: Vec<NewDirty>)
+    requires can { CanReceive here.now.space (state_of parts.old) message dirties.items }
+    requires waiting { vec_len parts.old.waiting < vec_capacity parts.old.waiting }
+    requires ready { vec_len parts.old.ready < vec_capacity parts.old.ready }
+    requires replies { vec_len parts.old.replies < vec_capacity parts.old.replies }
+    ensures { Receives here.now.space (state_of parts.old) (state_of parts.new) message dirties.items }
+{
+    let peer = message.from;
+    send_dirties(&mut parts.sessions, &mut parts.table, dirties);
+    lend_message(&mut parts.table, here.space, &message);
+    put_message(parts, message);
+    take_front(&mut parts.sessions, peer);
+}
