@@ -36,7 +36,7 @@ use Rattle.nob_space_state.proofs.Ends.{end_there, ends_changed}
 use Rattle.nob_space_state.proofs.Pinned.{times_both}
 use Rattle.nob_space_state.proofs.Taking.{shows_same}
 use Rattle.nob_space_items.specs.Fronts.{IsFront}
-use Rattle.nob_space_items.specs.Messages.{wanted, new_copies}
+use Rattle.nob_space_items.specs.Messages.{wanted_refs, new_copies}
 use Rattle.nob_space_items.specs.Putting.{IsMessage}
 use Rattle.nob_space_items.specs.Receiving.{Receives}
 use Rattle.nob_space_items.proofs.Asks.{asks_show}
@@ -98,10 +98,10 @@ abbrev pub message_of : (s n : ℕ) → State → (p k : ℕ) → Item → Messa
 message_of s n st p k item = record { from = p; number = k; item = item; copies = new_copies s n st (counted_in item) }
 
 module _ {s n : ℕ} {limits : Limits} {st new : State} {D : List Deed} (stands : Stands s n limits st D) (p k : ℕ) (item : Item) (front : IsFront s n p k item D) (message : IsMessage item)
-    (receives : Receives s st new (message_of s n st p k item) (wanted s n st (counted_in item))) where
+    (receives : Receives s st new (message_of s n st p k item) (wanted_refs s n st (counted_in item))) where
   -- the Dirties are sent and the item isn't taken yet
   abbrev between : History
-  between = record { deeds = TakeEnd 0 ∷ D; work = work s n D; all_gifts = map dirty_for (wanted s n st (counted_in item)) ∷ all_gifts s n D }
+  between = record { deeds = TakeEnd 0 ∷ D; work = work s n D; all_gifts = map dirty_for (wanted_refs s n st (counted_in item)) ∷ all_gifts s n D }
 
   ends_between : EndsStand s n limits receives.sent between
   ends_between = record {

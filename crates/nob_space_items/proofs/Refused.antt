@@ -54,8 +54,8 @@ use Rattle.nob_space_state.specs.Stands.{Stands, far_state}
 use Rattle.nob_space_state.proofs.Calling.{end_of_peer}
 use Rattle.nob_space_state.proofs.Rows.{distinct_filtered}
 use Rattle.nob_space_state.proofs.Told.{closed_there}
-use Rattle.nob_space_items.specs.Messages.{is_wanted, wanted, owned_by, has_free, has_numbers_for, is_too_much, message_refusal}
-use Rattle.nob_space_items.proofs.Asked.{IsAsked, dirties_asked, any_of, any_last, last_distinct, filter_passes, filter_all, once_all}
+use Rattle.nob_space_items.specs.Messages.{is_wanted, wanted_refs, owner_count, has_free, has_numbers_for, is_too_much, message_refusal}
+use Rattle.nob_space_items.proofs.Asked.{IsAsked, dirties_asked, any_of, any_last, last_distinct, filter_passes, once_all}
 
 -- ---- numbers
 
@@ -82,7 +82,7 @@ free_count before count low = elim (nat_le (before + count) last_item) as (λ b.
 ] refl
 
 -- how many Dirties go to a peer
-count_to_owner : (p : ℕ) (reps : List WireRep) → length (items_to p (map dirty_for reps)) ≡ owned_by p reps
+count_to_owner : (p : ℕ) (reps : List WireRep) → length (items_to p (map dirty_for reps)) ≡ owner_count p reps
 unfolding dirty_for
 count_to_owner p [] = refl
 count_to_owner p (rep ∷ reps) = elim (rep.owner == p) as (λ b. length (map (λ (gift : Gift). gift.item) (cond b (dirty_for rep ∷ filter (λ (gift : Gift). gift.to == p) (map dirty_for reps)) (filter (λ (gift : Gift). gift.to == p) (map dirty_for reps)))) ≡ length (cond b (rep ∷ filter (λ (other : WireRep). other.owner == p) reps) (filter (λ (other : WireRep). other.owner == p) reps))) [
@@ -143,7 +143,7 @@ module _ {s n : ℕ} {limits : Limits} {st : State} {D : List Deed} (stands : St
   ] refl
 
   -- the references that get Dirties
-  pub wanted_there : (item : Item) → wanted s n st (counted_in item) ≡ filter (λ (rep : WireRep). wants_dirty s n rep D (turns s n rep D)) (once (counted_in item))
+  pub wanted_there : (item : Item) → wanted_refs s n st (counted_in item) ≡ filter (λ (rep : WireRep). wants_dirty s n rep D (turns s n rep D)) (once (counted_in item))
   wanted_there item =
       filter_agree (is_wanted s n st) (λ (rep : WireRep). wants_dirty s n rep D (turns s n rep D)) (once (counted_in item))
       (once_all (λ rep. is_wanted s n st rep ≡ wants_dirty s n rep D (turns s n rep D)) (counted_in item) (weaker (counted_in item) (filter_passes is_counted (refs_carried item))))
@@ -153,7 +153,7 @@ module _ {s n : ℕ} {limits : Limits} {st : State} {D : List Deed} (stands : St
       weaker (rep ∷ reps) all = (wanted_at rep all.0, weaker reps all.1)
 
   -- the Dirties
-  pub dirties_there : (item : Item) → new_dirties s n item (history_of s n D) ≡ map dirty_for (wanted s n st (counted_in item))
+  pub dirties_there : (item : Item) → new_dirties s n item (history_of s n D) ≡ map dirty_for (wanted_refs s n st (counted_in item))
   unfolding dirties_for
   dirties_there item = ap (map dirty_for) (sym (wanted_there item))
 
@@ -186,9 +186,9 @@ module _ {s n : ℕ} {limits : Limits} {st : State} {D : List Deed} (stands : St
       let there = end_of_peer stands rep.owner peer in
       let before : there.0.end.handed ≡ length (handed (calls_at rep.owner (history_of s n D))) = ap (λ (end : End). end.handed) there.2 in
       ap (λ count. nat_le (length (handed (calls_at rep.owner (history_of s n D))) + count) last_item) (count_to_owner rep.owner reps)
-      ∙ free_count (length (handed (calls_at rep.owner (history_of s n D)))) (owned_by rep.owner reps) (handed_low s rep.owner limits (calls_at rep.owner (history_of s n D)) (calls_law s n limits D stands.right rep.owner))
-      ∙ ap (λ k. nat_le (owned_by rep.owner reps) (last_item - k)) (sym before)
-      ∙ sym (ap (has_free (owned_by rep.owner reps)) there.1)
+      ∙ free_count (length (handed (calls_at rep.owner (history_of s n D)))) (owner_count rep.owner reps) (handed_low s rep.owner limits (calls_at rep.owner (history_of s n D)) (calls_law s n limits D stands.right rep.owner))
+      ∙ ap (λ k. nat_le (owner_count rep.owner reps) (last_item - k)) (sym before)
+      ∙ sym (ap (has_free (owner_count rep.owner reps)) there.1)
 
   -- so for all
   numbers_all : (reps rest : List WireRep) → AllByRecursion (λ rep. is_wanted s n st rep ≡ true) rest → list_all (has_numbers_among (map dirty_for reps) (history_of s n D)) (map dirty_for rest) ≡ list_all (has_numbers_for st reps) rest
@@ -196,10 +196,10 @@ module _ {s n : ℕ} {limits : Limits} {st : State} {D : List Deed} (stands : St
   numbers_all reps (rep ∷ rest) all = λ i. numbers_at reps rep (and_parts _ _ (and_parts _ _ all.0).0).0 i && numbers_all reps rest all.1 i
 
   -- what keeps a Call or a Reply in the inbox
-  pub message_there : (item : Item) → IsOnce st.table.surrogates → ((rep : WireRep) → is_some (place_of st.table rep) ≡ standings.is_surrogate (standing st.table rep).state) → acting.message_refusal s n item (history_of s n D) ≡ message_refusal st (wanted s n st (counted_in item))
+  pub message_there : (item : Item) → IsOnce st.table.surrogates → ((rep : WireRep) → is_some (place_of st.table rep) ≡ standings.is_surrogate (standing st.table rep).state) → acting.message_refusal s n item (history_of s n D) ≡ message_refusal st (wanted_refs s n st (counted_in item))
   unfolding acting.message_refusal acting.is_too_much message_refusal
   message_there item apart placed =
-      let reps : List WireRep = wanted s n st (counted_in item) in
+      let reps : List WireRep = wanted_refs s n st (counted_in item) in
       let in_hand : work s n D ≡ st.work = sym stands.work in
       let known : length (surrogates s n (history_of s n D)) ≡ surrogate_total st.table = sym (surrogates_there apart placed) in
       let asked : new_dirties s n item (history_of s n D) ≡ map dirty_for reps = dirties_there item in
