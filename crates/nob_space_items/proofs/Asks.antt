@@ -1,7 +1,7 @@
 -- What the table shows once the Dirties of a message are sent.
-use Rattle.std.proofs.Common.{◌≡◌, ℕ, ◌+◌, ◌≤◌, ◌<◌, ◌^◌, Bool, true, false, not, ◌&&◌, ◌||◌, ◌==◌, cond, List, [], ◌∷◌, ◌++◌, length, filter, Option, Some, None, if◌then◌else◌, refl, sym, ap, subst, ◌∙◌, arith}
-use Rattle.std.specs.List.{AllByRecursion, IsDistinct, list_any}
-use Rattle.std.proofs.lemmas.Bool.{and_parts, or_parts}
+use Rattle.std.proofs.Common.{◌≡◌, ℕ, ◌+◌, Bool, true, false, ◌||◌, ◌==◌, cond, List, [], ◌∷◌, ◌++◌, length, Option, Some, None, if◌then◌else◌, refl, sym, ap, ◌∙◌, arith}
+use Rattle.std.specs.List.{AllByRecursion, list_any}
+use Rattle.std.proofs.lemmas.Bool.{or_parts}
 use Rattle.std.proofs.lemmas.Bool.Decides.{nat_tests}
 use Rattle.std.proofs.lemmas.List.{append-nil, append_assoc, length-append}
 use Rattle.nob_ids.specs.Names.{is_same, is_counted}
@@ -10,7 +10,6 @@ use Rattle.nob_ids.specs.declared.wire_rep.WireRep.{WireRep}
 use Rattle.nob_item.specs.Kinds.{counted_in, refs_carried}
 use Rattle.nob_item.specs.declared.item.Item.{Item}
 use Rattle.nob_table.specs.declared.counts.Counts.{Counts}
-use Rattle.nob_table.specs.declared.standing.State.{State as TableState}
 use Rattle.nob_table.specs.declared.standing.State.TheVariants as states
 use Rattle.nob_table.specs.declared.standing.Standing.{Standing}
 use Rattle.nob_table.specs.declared.standing.Surrogate.{Surrogate}
@@ -19,21 +18,17 @@ use Rattle.nob_table.specs.Counts.{is_held, no_counts}
 use Rattle.nob_table.specs.Rows.{row_at}
 use Rattle.nob_table.specs.Standings as standings
 use Rattle.nob_table.specs.Standings.{is_unknown, is_surrogate, own_standing, far_standing, pending_standing}
-use Rattle.nob_table.specs.Table.{Table, standing, place_of, is_far, was_given}
-use Rattle.nob_table.proofs.Same.{same_laws}
+use Rattle.nob_table.specs.Table.{Table, standing, place_of, was_given}
 use Rattle.nob_model_words.specs.declared.deed.Deed.{Deed}
 use Rattle.nob_model_words.specs.declared.deed.Deed.TheVariants.{Act}
-use Rattle.nob_model_words.specs.declared.turns.Turns.{Turns}
-use Rattle.nob_model_words.specs.Objects as objects
 use Rattle.nob_model_words.specs.Sessions.{is_peer, closed}
-use Rattle.nob_model_words.specs.Turns.{turns, with_dirty, is_own, is_pending, is_granted, is_refused, is_standing}
+use Rattle.nob_model_words.specs.Turns.{turns, with_dirty, is_own}
 use Rattle.nob_model_work.specs.Gifts.{once}
 use Rattle.nob_model_work.specs.Work.{work}
 use Rattle.nob_model_history.specs.Histories.{history_of}
 use Rattle.nob_model_history.specs.Holds.{hand, times, lent_in}
 use Rattle.nob_model_history.specs.Transit.{dirties, last_place}
 use Rattle.nob_model_history.proofs.Dirtying.{place_push, same_flip}
-use Rattle.nob_model_history.proofs.Turning as turning
 use Rattle.nob_model.specs.Right.{own_ref}
 use Rattle.nob_space_state.specs.Parts.{State}
 use Rattle.nob_space_state.specs.Stands.{Stands, TableShows, far_state}

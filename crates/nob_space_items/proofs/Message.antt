@@ -1,5 +1,5 @@
 -- What acting on a Call or a Reply does to the words, one word after the other.
-use Rattle.std.proofs.Common.{◌≡◌, ℕ, ◌+◌, Bool, true, false, not, ◌&&◌, ◌||◌, ◌==◌, cond, List, [], ◌∷◌, ◌++◌, length, map, filter, Option, Some, None, Ok, Err, inl, inr, if◌then◌else◌, refl, sym, ap, subst, ◌∙◌}
+use Rattle.std.proofs.Common.{◌≡◌, ℕ, Bool, true, false, not, ◌&&◌, ◌||◌, ◌==◌, cond, List, [], ◌∷◌, ◌++◌, map, filter, Option, Some, None, Ok, inl, inr, if◌then◌else◌, refl, sym, ap, ◌∙◌}
 use Rattle.std.specs.List.{AllByRecursion, list_any}
 use Rattle.std.proofs.lemmas.Bool.{and_parts, or_parts, not-true}
 use Rattle.std.proofs.lemmas.List.{append-nil, map-append}
@@ -7,7 +7,7 @@ use Rattle.std.proofs.lemmas.Map.Views.{any-filter_same}
 use Rattle.nob_ids.specs.Names.{is_same, is_counted}
 use Rattle.nob_ids.specs.declared.limits.Limits.{Limits}
 use Rattle.nob_ids.specs.declared.wire_rep.WireRep.{WireRep}
-use Rattle.nob_item.specs.Kinds.{counted_in, is_note, refs_carried}
+use Rattle.nob_item.specs.Kinds.{counted_in, refs_carried}
 use Rattle.nob_item.specs.declared.item.Item.{Item}
 use Rattle.nob_item.specs.declared.item.Item.TheVariants as items
 use Rattle.nob_table.specs.declared.standing.State.TheVariants as states
@@ -15,8 +15,6 @@ use Rattle.nob_table.specs.Counts.{is_held}
 use Rattle.nob_table.specs.Standings as standings
 use Rattle.nob_table.specs.Table.{standing}
 use Rattle.nob_table.proofs.Same.{same_is}
-use Rattle.nob_model_end.specs.declared.entry.EndEntry.{EndEntry}
-use Rattle.nob_model_end.specs.declared.entry.EndEntry.TheVariants as ends
 use Rattle.nob_model_types.specs.declared.answer.Answer.TheVariants as answers
 use Rattle.nob_model_types.specs.declared.event.Event.TheVariants as events
 use Rattle.nob_model_words.specs.declared.deed.Deed.{Deed}
@@ -30,7 +28,7 @@ use Rattle.nob_model_words.specs.declared.turns.OwnerAnswer.{OwnerAnswer}
 use Rattle.nob_model_words.specs.declared.turns.OwnerAnswer.TheVariants as said
 use Rattle.nob_model_words.specs.Deeds.{deed_by}
 use Rattle.nob_model_words.specs.Messages.{new_message, new_copy, loan_after, copy_after, message_after}
-use Rattle.nob_model_words.specs.Sessions.{is_peer, closed, item_at, item_spelt}
+use Rattle.nob_model_words.specs.Sessions.{is_peer, closed, item_at}
 use Rattle.nob_model_words.specs.Turns.{turns, turns_after, with_dirty, is_own, is_pending, is_granted, is_refused, is_standing, is_usable, wants_dirty, carries}
 use Rattle.nob_model_words.specs.Turns as words
 use Rattle.nob_model_work.specs.declared.gifts.Gift.{Gift}

@@ -1,5 +1,5 @@
 -- A message that nothing keeps, for which room was made, can be received.
-use Rattle.std.proofs.Common.{◌≡◌, ℕ, suc, ◌+◌, ◌-◌, ◌*◌, ◌≤◌, ◌<◌, ◌^◌, Bool, true, false, not, ◌&&◌, ◌||◌, ◌==◌, cond, List, [], ◌∷◌, ◌++◌, length, map, filter, slice_get, get_or, Option, Some, None, if◌then◌else◌, refl, sym, ap, subst, ◌∙◌, arith}
+use Rattle.std.proofs.Common.{◌≡◌, ℕ, ◌+◌, ◌-◌, ◌*◌, ◌≤◌, ◌<◌, Bool, true, false, not, ◌&&◌, ◌||◌, ◌==◌, cond, List, [], ◌∷◌, length, map, filter, slice_get, Option, Some, None, if◌then◌else◌, refl, sym, ap, subst, ◌∙◌, arith}
 use Rattle.std.specs.Prelude.{nat_le, nat_lt}
 use Rattle.std.specs.List.{AllByRecursion, IsDistinct, list_any, list_all}
 use Rattle.std.proofs.lemmas.Bool.{and_parts, or_parts, not-true, not-false}
@@ -9,20 +9,19 @@ use Rattle.std.proofs.lemmas.Option.{slice_get_read}
 use Rattle.nob_ids.specs.Names.{is_same, is_counted}
 use Rattle.nob_ids.specs.declared.limits.Limits.{Limits}
 use Rattle.nob_ids.specs.declared.reason.Reason.{Reason}
-use Rattle.nob_ids.specs.declared.reason.Reason.TheVariants.{BadReference, OutOfPlace}
+use Rattle.nob_ids.specs.declared.reason.Reason.TheVariants.{BadReference}
 use Rattle.nob_ids.specs.declared.wire_rep.WireRep.{WireRep}
 use Rattle.nob_item.specs.Kinds.{counted_in, refs_carried}
 use Rattle.nob_item.specs.declared.item.Item.{Item}
 use Rattle.nob_item.specs.declared.item.Item.TheVariants as items
 use Rattle.nob_model_end.specs.End.{waiting, takes}
-use Rattle.nob_model_end.specs.Right.{last_item, first_of, right_front}
+use Rattle.nob_model_end.specs.Right.{first_of, right_front}
 use Rattle.nob_model_end.specs.declared.entry.EndEntry.{EndEntry}
 use Rattle.nob_session.specs.Stands as session
 use Rattle.nob_session.specs.Stands.{Roomy, End, is_open_end}
 use Rattle.nob_table.specs.declared.standing.Standing.{Standing}
 use Rattle.nob_table.specs.declared.standing.State.{State as TableState}
 use Rattle.nob_table.specs.declared.standing.State.TheVariants as states
-use Rattle.nob_table.specs.Counts.{no_counts}
 use Rattle.nob_table.specs.Standings as standings
 use Rattle.nob_table.specs.Standings.{is_known, is_unknown, pending_standing}
 use Rattle.nob_table.specs.Order.{place_in}
@@ -37,7 +36,6 @@ use Rattle.nob_model_words.specs.declared.message.RefCopy.{RefCopy}
 use Rattle.nob_model_words.specs.declared.message.Message.{Message}
 use Rattle.nob_model_words.specs.Objects as objects
 use Rattle.nob_model_words.specs.Sessions.{is_peer}
-use Rattle.nob_model_words.specs.Turns.{is_own}
 use Rattle.nob_model_work.specs.declared.gifts.Gift.{Gift}
 use Rattle.nob_model_work.specs.Gifts.{once, dirty_for}
 use Rattle.nob_model_work.specs.Work.{work, after_message}
@@ -47,7 +45,7 @@ use Rattle.nob_model_history.specs.Ends.{calls_at, items_to, with_sends}
 use Rattle.nob_model_history.specs.Holds.{times, lent_in, loans_of, target_lent, copies_lent, is_lent}
 use Rattle.nob_model_history.specs.Transit.{dirties}
 use Rattle.nob_model_history.proofs.Inbox.{sends_front}
-use Rattle.nob_model.specs.Acting.{messages, most_messages, most_surrogates, fault_of, fault_if, first_fault, names_not_live}
+use Rattle.nob_model.specs.Acting.{messages, fault_of, first_fault, names_not_live}
 use Rattle.nob_model.specs.Right.{own_ref}
 use Rattle.nob_model.proofs.Premises.{no_fault}
 use Rattle.nob_model.specs.Sending.{is_own_and_not_live}
@@ -56,9 +54,9 @@ use Rattle.nob_space_state.specs.Looks.{end_with, has_closed, is_closed_end}
 use Rattle.nob_space_state.specs.Stands.{Stands}
 use Rattle.nob_space_state.proofs.Rows.{distinct_filtered}
 use Rattle.nob_space_state.proofs.Told.{own_is}
-use Rattle.nob_space_items.specs.Asking.{AsksFor, place_after, CanAsk, CanSend, CanSendAll, SendsAll}
+use Rattle.nob_space_items.specs.Asking.{AsksFor, place_after, CanAsk, CanSendAll, SendsAll}
 use Rattle.nob_space_items.specs.Fronts.{IsFront}
-use Rattle.nob_space_items.specs.Growing.{AreAmong, SameEnds, HasRoom, HaveRoom, Grows}
+use Rattle.nob_space_items.specs.Growing.{AreAmong, HasRoom, HaveRoom, Grows}
 use Rattle.nob_space_items.specs.Lending.{CanLend}
 use Rattle.nob_space_items.specs.Messages.{is_wanted, wanted_refs, owner_count, has_free, has_numbers_for, is_too_much, message_refusal, new_loan, new_copies, is_lost, is_at_hand}
 use Rattle.nob_space_items.specs.Putting.{IsMessage}
@@ -252,9 +250,10 @@ module _ {s n : ℕ} {limits : Limits} {st : State} {D : List Deed} (stands : St
         each = all_of (λ rep. (is_far st1.table rep ≡ true) × (is_unknown (standing st1.table rep).state ≡ true)) all (λ rep there.
             let asked : IsAsked s n rep = any_of (IsAsked s n) rep all (all_asked stands p k item front message) there in
             let counted = asked.0 in
-            let peer = asked.1 in
-            (ap (λ m. not (rep.owner == m) && not (rep.index == 0)) me ∙ grind (arith, nat_tests, counted, peer),
-              ap (λ (it : Standing). is_unknown it.state) (grown_standing rep) ∙ ap is_unknown (wanted_unknown stands p k item front message rep there)));
+            let peer = asked.1 in (
+              ap (λ m. not (rep.owner == m) && not (rep.index == 0)) me ∙ grind (arith, nat_tests, counted, peer),
+              ap (λ (it : Standing). is_unknown it.state) (grown_standing rep) ∙ ap is_unknown (wanted_unknown stands p k item front message rep there),
+            ));
         apart = distinct_filtered is_same (is_wanted s n st) (once (counted_in item)) (once_apart (counted_in item));
         few = omega (arith, fits, total);
         room = places;

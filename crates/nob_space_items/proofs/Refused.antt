@@ -1,10 +1,9 @@
 -- What keeps a Call or a Reply in the inbox is what the state tells.
-use Rattle.std.proofs.Common.{◌≡◌, ℕ, suc, ◌+◌, ◌-◌, ◌<◌, ◌≤◌, Bool, true, false, not, ◌&&◌, ◌||◌, ◌==◌, cond, List, [], ◌∷◌, ◌++◌, length, map, filter, Option, Some, None, Ok, Err, is_some, option_map, if◌then◌else◌, refl, sym, ap, subst, ◌∙◌, arith}
+use Rattle.std.proofs.Common.{◌≡◌, ℕ, suc, ◌+◌, ◌-◌, ◌≤◌, Bool, true, false, not, ◌&&◌, ◌||◌, ◌==◌, cond, List, [], ◌∷◌, ◌++◌, length, map, filter, Option, Some, None, Ok, Err, is_some, option_map, if◌then◌else◌, refl, sym, ap, ◌∙◌, arith}
 use Rattle.std.specs.Prelude.{nat_le, nat_lt}
-use Rattle.std.specs.List.{AllByRecursion, IsDistinct, list_any, list_all}
+use Rattle.std.specs.List.{AllByRecursion, list_any, list_all}
 use Rattle.std.proofs.lemmas.Bool.{and_parts}
 use Rattle.std.proofs.lemmas.Bool.Decides.{nat_tests}
-use Rattle.std.proofs.lemmas.Cmp.{nat_eq_equiv}
 use Rattle.std.proofs.lemmas.List.{length-append, length-map}
 use Rattle.std.proofs.lemmas.Map.Entries.{length-keys_of}
 use Rattle.std.proofs.lemmas.Map.Made.{length-from_same_keys}
@@ -19,8 +18,7 @@ use Rattle.nob_model_end.specs.Right.{last_item, queue_limit, is_limited}
 use Rattle.nob_model_end.specs.declared.refusal.EndRefusal.TheVariants as end_refusals
 use Rattle.nob_model_end.specs.declared.entry.EndEntry.{EndEntry}
 use Rattle.nob_model_end.specs.declared.entry.EndEntry.TheVariants as ends
-use Rattle.nob_session.specs.Stands as session
-use Rattle.nob_session.specs.Stands.{Roomy, End}
+use Rattle.nob_session.specs.Stands.{End}
 use Rattle.nob_table.specs.Rows.{IsOnce, reps_of, row_at}
 use Rattle.nob_table.specs.declared.standing.Surrogate.{Surrogate}
 use Rattle.nob_table.specs.Standings as standings
@@ -29,7 +27,6 @@ use Rattle.nob_table.specs.Counts.{is_held}
 use Rattle.nob_table.specs.Table.{standing, place_of, surrogate_total}
 use Rattle.nob_table.proofs.Same.{same_is, same_laws}
 use Rattle.nob_table.proofs.Stands.{any_key}
-use Rattle.nob_model_types.specs.declared.refusal.Refusal.{Refusal}
 use Rattle.nob_model_types.specs.declared.refusal.Refusal.TheVariants as refusals
 use Rattle.nob_model_words.specs.declared.deed.Deed.{Deed}
 use Rattle.nob_model_words.specs.declared.turns.Turns.{Turns}
@@ -46,15 +43,14 @@ use Rattle.nob_model_history.proofs.Surrogates.{has_surrogate}
 use Rattle.nob_model.specs.Acting as acting
 use Rattle.nob_model.specs.Acting.{messages, most_messages, most_surrogates, new_dirties, has_numbers_among, all_have_numbers}
 use Rattle.nob_model.specs.Laws.{AreRightCalls}
-use Rattle.nob_model.specs.Sending.{has_numbers}
 use Rattle.nob_model.proofs.Calling.{calls_law}
 use Rattle.nob_space_state.specs.Parts.{State}
-use Rattle.nob_space_state.specs.Looks.{end_with, has_closed}
+use Rattle.nob_space_state.specs.Looks.{has_closed}
 use Rattle.nob_space_state.specs.Stands.{Stands, far_state}
 use Rattle.nob_space_state.proofs.Calling.{end_of_peer}
 use Rattle.nob_space_state.proofs.Rows.{distinct_filtered}
 use Rattle.nob_space_state.proofs.Told.{closed_there}
-use Rattle.nob_space_items.specs.Messages.{is_wanted, wanted_refs, owner_count, has_free, has_numbers_for, is_too_much, message_refusal}
+use Rattle.nob_space_items.specs.Messages.{is_wanted, wanted_refs, owner_count, has_free, has_numbers_for, message_refusal}
 use Rattle.nob_space_items.proofs.Asked.{IsAsked, dirties_asked, any_of, any_last, last_distinct, filter_passes, once_all}
 
 -- ---- numbers

@@ -1,10 +1,9 @@
-use Rattle.std.proofs.Common.{rules, arith, ◌≡◌, ◌<◌, ◌≤◌, List, length, None, Ok, IsOk, refl, ap, sym, subst, ◌∙◌}
+use Rattle.std.proofs.Common.{rules, arith, ◌≡◌, ◌<◌, ◌≤◌, List, length, None, IsOk, refl, ap, sym, subst, ◌∙◌}
 use Rattle.nob_ids.specs.declared.wire_rep.WireRep.{WireRep}
 use Rattle.nob_item.specs.Kinds.{counted_in}
 use Rattle.nob_model_words.specs.declared.deed.Deed.{Deed}
 use Rattle.nob_model_words.specs.declared.message.RefCopy.{RefCopy}
 use Rattle.nob_model.specs.Acting.{answer_of_act}
-use Rattle.nob_model_history.specs.Histories.{history_of}
 use Rattle.nob_space_state.specs.Parts.{state_of}
 use Rattle.nob_space_items.specs.Growing.{AreAmong, HaveRoom}
 use Rattle.nob_space_items.specs.Messages.{wanted_refs, message_refusal}
