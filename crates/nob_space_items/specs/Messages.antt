@@ -25,12 +25,12 @@ abbrev pub is_wanted : (s n : ℕ) → State → WireRep → Bool
 is_wanted s n st rep = is_peer s n rep.owner && not (has_closed st.sessions rep.owner) && not (is_surrogate (standing st.table rep).state)
 
 -- those of some references that get a Dirty, each once, in reading order
-abbrev pub wanted : (s n : ℕ) → State → List WireRep → List WireRep
-wanted s n st reps = filter (is_wanted s n st) (once reps)
+abbrev pub wanted_refs : (s n : ℕ) → State → List WireRep → List WireRep
+wanted_refs s n st reps = filter (is_wanted s n st) (once reps)
 
 -- how many of some references a space owns
-abbrev pub owned_by : ℕ → List WireRep → ℕ
-owned_by p reps = length (filter (λ rep. rep.owner == p) reps)
+abbrev pub owner_count : ℕ → List WireRep → ℕ
+owner_count p reps = length (filter (λ rep. rep.owner == p) reps)
 
 -- whether an end, where there is one, has so many numbers free
 abbrev pub has_free : ℕ → Option Roomy → Bool
@@ -39,7 +39,7 @@ has_free count (Some end) = nat_le count (last_item - end.end.handed)
 
 -- whether the session with an owner has numbers free for the Dirties of all those that it owns
 abbrev pub has_numbers_for : State → List WireRep → WireRep → Bool
-has_numbers_for st reps rep = has_free (owned_by rep.owner reps) (end_with st.sessions rep.owner)
+has_numbers_for st reps rep = has_free (owner_count rep.owner reps) (end_with st.sessions rep.owner)
 
 -- whether one message more, or surrogates of these references, would pass a limit
 abbrev pub is_too_much : State → List WireRep → Bool

@@ -1,4 +1,4 @@
-use Rattle.std.proofs.Common.{◌≡◌, ◌++◌, ◌≤◌, map, take, drop, length}
+use Rattle.std.proofs.Common.{◌≡◌, ◌++◌, map, take, drop}
 use Rattle.nob_model_work.specs.Work.{call_after_reply}
 use Rattle.nob_space_items.proofs.putting.answer_calls.Given as goal
 
