@@ -2,7 +2,7 @@ pub mod Spares
 pub mod Noting
 pub mod Fixing
 pub mod Forgetting
-pub mod Putting
+pub mod Placed
 pub mod Resolving
 pub mod Settlements
 pub mod Numbering
