@@ -207,7 +207,10 @@ pub(crate) fn act(
     ensures answer { StepAnswers here.now.space here.now.n (state_of parts.old) (events.Act peer) result }
     ensures stands { StepStands here.now.space here.now.n (state_of parts.old) (state_of parts.new) (events.Act peer) result }
 {
-    unreachable!()
+    match nob_space_items::act(parts, alloc, here, peer) {
+        Ok(done) => Ok(done.to_answer()),
+        Err(error) => Err(error),
+    }
 }
 
 // Settle.

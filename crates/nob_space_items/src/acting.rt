@@ -12,7 +12,7 @@ ghost use Rattle.nob_model_history.specs.Histories.{history_of};
 ghost use Rattle.nob_model.specs.Right as right;
 ghost use Rattle.nob_space_state.specs.Parts.{state_of};
 ghost use Rattle.nob_space_state.specs.Stands.{Stands, IsState, Keeps, Did, AnswersOrWants};
-ghost use Rattle.nob_space_items.specs.Acts.{ActsOrWants, act_deed};
+ghost use Rattle.nob_space_items.specs.Acts.{ActsOrWants, act_answer, act_deed};
 ghost use Rattle.nob_space_items.specs.Fronts.{IsFront};
 
 use crate::faults::fault_of_item;
@@ -20,7 +20,7 @@ use crate::messages::act_on_message;
 use crate::notes::{act_on_clean, act_on_dirty, act_on_dirty_no, act_on_dirty_ok, act_on_settle};
 use nob_ids::{ItemNo, Reason, SpaceId};
 use nob_item::{Item, ItemError, decode};
-use nob_model::{Here, Refusal};
+use nob_model::{Answer, Here, Refusal};
 use nob_pins::Settled;
 use nob_space_state::{Parts, SpaceError};
 use std::alloc::Global;
@@ -32,6 +32,18 @@ pub enum ActResult {
     Acted(ItemNo),
     /// The item has a fault, for which the session closed.
     Closed(Reason),
+}
+
+impl ActResult {
+    /// What a space answers: that the item was acted on, or that the session closed.
+    pub fn to_answer(&self) -> Answer
+        ensures { result ≡ act_answer self.now }
+    {
+        match self {
+            ActResult::Acted(item) => Answer::Acted(*item),
+            ActResult::Closed(reason) => Answer::Closed(*reason),
+        }
+    }
 }
 
 // Acts on an item without a fault.

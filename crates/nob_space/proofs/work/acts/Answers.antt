@@ -1,7 +1,5 @@
-use Rattle.std.proofs.Common.{◌≡◌, ℕ, ◌+◌, ◌<◌, ◌≤◌, List, Bool, length, rules, refl, sym, ap, subst, ◌∙◌, arith}
+use Rattle.std.proofs.Common.{◌≡◌, ℕ, ◌<◌, ◌≤◌, length, refl, subst, ◌∙◌, arith}
 use Rattle.std.proofs.lemmas.List.{length-set}
-use Rattle.nob_ids.specs.declared.limits.Limits.{Limits}
-use Rattle.nob_model_words.specs.declared.deed.Deed.{Deed}
 use Rattle.nob_model_history.specs.Histories.{history_of}
 use Rattle.nob_model.specs.Next as next
 use Rattle.nob_space.proofs.Places.{written_more}
