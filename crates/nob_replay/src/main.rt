@@ -1,6 +1,7 @@
 //! The program `nob_replay`: a trace, read from standard input, run on a space.
 #![tactic(auto)]
 
+use nob_model::{Answer, Event};
 use nob_space::{Space, SpaceError};
 use nob_trace::{Stamped, TraceError, decode};
 use nob_verdicts::{have_one_text, refusal_line, right_line, wrong_line};
@@ -46,9 +47,17 @@ fn verdict_on(alloc: Global, space: &mut Space, entries: &[Stamped]) -> Result<S
     right_line(alloc, entries.len())
 }
 
+// What a space answers to an event. Where it wanted memory it is asked once more: it is as it was.
+fn ask(space: &mut Space, event: &Event) -> Result<Answer, SpaceError> {
+    match space.step(event) {
+        Err(SpaceError::OutOfMemory) => space.step(event),
+        result => result,
+    }
+}
+
 // Whether a space answers an event as the trace has it.
 fn answers(alloc: Global, space: &mut Space, entry: &Stamped) -> Result<bool, AllocError> {
-    let result = match space.step(&entry.event) {
+    let result = match ask(space, &entry.event) {
         Ok(answer) => Ok(answer),
         Err(SpaceError::Refused(refusal)) => Err(refusal),
         Err(SpaceError::OutOfMemory) => return Err(AllocError),
