@@ -9,3 +9,5 @@ pub mod Growing
 pub mod Granting
 pub mod Receiving
 pub mod Acts
+pub mod Cleaning
+pub mod Settling

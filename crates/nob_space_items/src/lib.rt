@@ -3,6 +3,7 @@
 #![tactic(auto)]
 
 mod acting;
+mod cleaning;
 mod copies;
 mod dirties;
 mod faults;
@@ -11,8 +12,13 @@ mod grants;
 mod growing;
 mod loans;
 mod messages;
+mod next;
 mod notes;
 mod putting;
 mod receiving;
+mod settling;
 
 pub use acting::{ActResult, act};
+pub use cleaning::clean;
+pub use next::{can_clean, can_settle};
+pub use settling::{SettledItem, settle};

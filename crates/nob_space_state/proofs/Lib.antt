@@ -22,3 +22,5 @@ pub mod Returned
 pub mod Finishing
 pub mod Closings
 pub mod Arrivals
+pub mod Unpinned
+pub mod Nexts

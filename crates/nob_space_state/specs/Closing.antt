@@ -1,5 +1,5 @@
 -- What the closing of a session makes of the state.
-use Rattle.std.specs.Prelude.{◌≡◌, ℕ, Bool, ◌==◌, List, ◌∷◌, ◌++◌, filter, flat_map, Option, Some, None, if◌then◌else◌}
+use Rattle.std.specs.Prelude.{◌≡◌, ℕ, ◌<◌, Bool, true, ◌==◌, List, ◌∷◌, ◌++◌, filter, flat_map, Option, Some, None, if◌then◌else◌}
 use Rattle.nob_ids.specs.declared.limits.Limits.{Limits}
 use Rattle.nob_ids.specs.declared.reason.Reason.{Reason}
 use Rattle.nob_ids.specs.declared.wire_rep.WireRep.{WireRep}
@@ -17,6 +17,7 @@ use Rattle.nob_model_words.specs.declared.deed.Cause.TheVariants as causes
 use Rattle.nob_model_words.specs.declared.deed.Deed.{Deed}
 use Rattle.nob_model_words.specs.declared.deed.Deed.TheVariants as did
 use Rattle.nob_model_words.specs.declared.deed.Deed.TheVariants.{Closing}
+use Rattle.nob_model_words.specs.Sessions.{is_peer, closed}
 use Rattle.nob_model_words.specs.declared.message.Message.{Message}
 use Rattle.nob_model_work.specs.declared.work.InHand.{InHand}
 use Rattle.nob_model_work.specs.Work as work
@@ -81,3 +82,7 @@ arrive_answer (arrived.Closed ending) = answers.Closed ending.reason
 abbrev pub arrive_deed : Frame → Arrived → Deed
 arrive_deed frame (arrived.Took count) = did.Arrive frame count
 arrive_deed frame (arrived.Closed ending) = Closing frame.from ending.reason (causes.Frame frame)
+
+-- the state stands for a list in which each session of space s among n has closed, with the peers below a number
+abbrev pub IsShutBelow : (s n : ℕ) → ℕ → State → Type 0
+IsShutBelow s n bound state = (limits : Limits) × (D : List Deed) × Stands s n limits state D × ((p : ℕ) → is_peer s n p ≡ true → p < bound → closed p D ≡ true)

@@ -7,10 +7,12 @@ mod error;
 mod finish;
 mod jobs;
 mod looks;
+mod next;
 mod objects;
 mod parts;
 mod sending;
 mod sessions;
+mod shut;
 mod take;
 
 pub use error::SpaceError;
