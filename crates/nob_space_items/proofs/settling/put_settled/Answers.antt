@@ -1,7 +1,7 @@
 use Rattle.std.proofs.Common.{ap, subst}
 use Rattle.nob_space_state.specs.Parts.{state_of, with_table, with_work}
 use Rattle.nob_space_state.specs.Returns.{GivesBack}
-use Rattle.nob_space_items.proofs.SettledWork.{call_put, reply_put, other_put}
+use Rattle.nob_space_items.proofs.Putting.{call_put, reply_put, other_put}
 use Rattle.nob_space_items.proofs.settling.put_settled.Goals as goal
 
 pub returns-in-Call-clause-put : goal.returns-in-Call-clause-put
