@@ -162,8 +162,8 @@ fn judge_message(parts: &Parts, here: &Here, item: &Item) -> Result<FewRefs, Ref
 
 /// Acts on a Call or a Reply from a peer that has no fault: its references that have no surrogate get Dirties, its
 /// loans are made as far as they can be, and it waits for its references or is ready. It stays in the inbox where a limit
-/// or the numbers of a session forbid it. Quadratic in its references, of which there are 32 at most, and linear in the
-/// calls.
+/// or the numbers of a session forbid it, and then nothing was sent. Linear in its value times its references, of which
+/// there are 32 at most, and in the calls.
 pub(crate) fn act_on_message(
     parts: &mut Parts,
     alloc: Global,
