@@ -668,9 +668,10 @@ fn is_replied(peer: SpaceId, call: CallNo, replies: &[Message]) -> bool
     replies.iter().any(|message| message.from == peer && replies_to(call, &message.item))
 }
 
-// A call after the session with a peer closed.
+/// A call after the session with a peer closed, where these replies are ready: it ends if it was made to the peer and no
+/// reply to it is ready. Linear in the replies.
 #[tactic(auto, unfolding(crate::specs::Work::call_after_close))]
-fn call_after_close(peer: SpaceId, replies: &[Message], own: &OwnCall) -> OwnCall
+pub fn call_after_close(peer: SpaceId, replies: &[Message], own: &OwnCall) -> OwnCall
     ensures { result ≡ words.call_after_close peer replies.now own.now }
 {
     if own.to == peer && !is_replied(peer, own.call, replies) {

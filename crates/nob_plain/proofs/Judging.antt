@@ -6,7 +6,8 @@ use Rattle.nob_model.specs.Right.{right}
 use Rattle.nob_trace.specs.declared.stamped.Stamped.{Stamped}
 use Rattle.nob_trace.specs.declared.trace.Trace.{Trace}
 use Rattle.nob_trace.proofs.Written.{first_ahead}
-use Rattle.nob_plain.specs.Verdicts.{AreRight, HaveOneText, IsVerdict, entry_at, right_line, wrong_line}
+use Rattle.nob_plain.specs.Verdicts.{AreRight, IsVerdict, entry_at}
+use Rattle.nob_verdicts.specs.Texts.{HaveOneText, right_line, wrong_line}
 
 -- the entries before a place, the newest of which stands first
 abbrev pub before_place : List Stamped → ℕ → List Stamped

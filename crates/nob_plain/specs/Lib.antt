@@ -1,4 +1,3 @@
-pub mod Faults
 pub mod Verdicts
 pub mod Worlds
 pub mod Outputs

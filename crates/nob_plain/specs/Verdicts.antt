@@ -1,6 +1,5 @@
 -- What is said of a trace: whether each result in it is the right one.
-use Rattle.std.specs.Prelude.{◌≡◌, ℕ, ◌+◌, List, [], ◌∷◌, ◌++◌, length, map, reverse, codes, Result}
-use Rattle.std.specs.Fmt.{decimal}
+use Rattle.std.specs.Prelude.{◌≡◌, ℕ, List, [], ◌∷◌, ◌++◌, length, map, reverse, Result}
 use Rattle.nob_model_types.specs.declared.event.Event.{Event}
 use Rattle.nob_model_types.specs.declared.answer.Answer.{Answer}
 use Rattle.nob_model_types.specs.declared.refusal.Refusal.{Refusal}
@@ -8,7 +7,7 @@ use Rattle.nob_model_types.specs.declared.entry.Entry.{Entry}
 use Rattle.nob_model.specs.Right.{right}
 use Rattle.nob_trace.specs.declared.stamped.Stamped.{Stamped}
 use Rattle.nob_trace.specs.declared.trace.Trace.{Trace}
-use Rattle.nob_trace.specs.Entries.{TransmitFits, result_text}
+use Rattle.nob_verdicts.specs.Texts.{HaveOneText, right_line, wrong_line}
 
 -- an entry of a trace as an entry of its space
 abbrev pub entry_at : ℕ → Stamped → Entry
@@ -18,10 +17,6 @@ entry_at space entry = record { space = space; event = entry.event; result = ent
 abbrev pub right_after : Trace → List Stamped → Event → Result Answer Refusal
 right_after trace before event = right trace.space trace.n trace.limits (map (entry_at trace.space) before) event
 
--- two results have a text in traces, and it is the same
-abbrev pub HaveOneText : Result Answer Refusal → Result Answer Refusal → Type 0
-HaveOneText one other = TransmitFits one × TransmitFits other × (result_text one ≡ result_text other)
-
 -- an entry's result is the right one after these entries, the newest of which stands first
 abbrev pub IsRight : Trace → List Stamped → Stamped → Type 0
 IsRight trace before entry = HaveOneText entry.result (right_after trace before entry.event)
@@ -30,14 +25,6 @@ IsRight trace before entry = HaveOneText entry.result (right_after trace before 
 abbrev pub AreRight : Trace → List Stamped → Type 0
 AreRight trace [] = Unit {0}
 AreRight trace (entry ∷ before) = IsRight trace before entry × AreRight trace before
-
--- what is said where so many results are right
-abbrev pub right_line : ℕ → List ℕ
-right_line count = codes "right " ++ (decimal count ++ codes "\n")
-
--- what is said where so many results are right and the next one isn't
-abbrev pub wrong_line : ℕ → List ℕ
-wrong_line count = codes "wrong " ++ (decimal (count + 1) ++ codes "\n")
 
 -- what is said of a trace
 pub data IsVerdict (trace : Trace) (text : List ℕ) : Type 0 where

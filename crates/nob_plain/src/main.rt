@@ -6,12 +6,11 @@ ghost use Rattle.std.specs.Prelude.{◌≡◌, true, false};
 ghost use Rattle.nob_trace.specs.Reading.{Answers};
 ghost use Rattle.nob_plain.specs.Outputs.{BeginsAsTrace, IsOutput, IsRefused};
 
-mod fault;
 mod script;
 mod trace;
 
-use crate::fault::refusal_line;
 use nob_trace::TraceError;
+use nob_verdicts::refusal_line;
 use std::alloc::Global;
 use std::io::{Read, Write};
 use std::process::ExitCode;

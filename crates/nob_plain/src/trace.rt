@@ -1,20 +1,21 @@
 //! Traces, judged or written again.
 
-ghost use Rattle.std.specs.Prelude.{◌≡◌, ◌↔◌, ◌++◌, ℕ, List, true, length, map, IfOk, MatchOption};
+ghost use Rattle.std.specs.Prelude.{◌≡◌, ◌↔◌, ◌++◌, ℕ, List, true, length, map, IfOk};
 ghost use Rattle.std.specs.List.{AllByRecursion, flat_map};
 ghost use Rattle.std.specs.String.{string_bytes};
 ghost use Rattle.nob_trace.specs.declared.stamped.Stamped.{Stamped as StampedOf};
 ghost use Rattle.nob_trace.specs.declared.trace.Trace.{Trace as TraceOf};
-ghost use Rattle.nob_trace.specs.Entries.{TransmitFits, result_text as spelling};
 ghost use Rattle.nob_trace.specs.Traces as traces;
 ghost use Rattle.nob_trace.specs.Reading as reading;
 ghost use Rattle.nob_model.specs.Right as model;
 ghost use Rattle.nob_plain.specs.Outputs.{IsCopy, IsJudged, IsUncopied};
 ghost use Rattle.nob_plain.specs.Verdicts as spec;
+ghost use Rattle.nob_verdicts.specs.Texts.{HaveOneText};
 
 use nob_ids::{Limits, SpaceId};
-use nob_model::{Answer, Entry, Here, Refusal, right};
-use nob_trace::{Stamped, Trace, TraceError, decode, decode_all, encode, result_text};
+use nob_model::{Entry, Here, right};
+use nob_trace::{Stamped, Trace, TraceError, decode, decode_all, encode};
+use nob_verdicts::{have_one_text, right_line, wrong_line};
 use std::alloc::{AllocError, Global};
 
 /// `right` and how many entries the one trace has, or `wrong` and the place, from 1, of the first whose result isn't
@@ -65,21 +66,6 @@ fn entry_at(space: SpaceId, entry: &Stamped) -> Result<Entry, AllocError>
     }
 }
 
-// What is said where so many results are right.
-fn right_line(alloc: Global, count: usize) -> Result<String, AllocError>
-    ensures { IfOk result (λ text. string_bytes text ≡ spec.right_line count) }
-{
-    format!(in alloc; "right {count}\n")
-}
-
-// What is said where so many results are right and the next one isn't.
-fn wrong_line(alloc: Global, count: usize) -> Result<String, AllocError>
-    ensures { IfOk result (λ text. string_bytes text ≡ spec.wrong_line count) }
-{
-    let place = count as u128 + 1;
-    format!(in alloc; "wrong {place}\n")
-}
-
 // Whether an entry's result is the right one after the entries before it, the newest of which stands first.
 fn is_right(
     alloc: Global,
@@ -88,41 +74,10 @@ fn is_right(
     entries: &[Entry],
     stamped: &Stamped,
 ) -> Result<bool, AllocError>
-    ensures { IfOk result (λ is_right. (is_right ≡ true) ↔ spec.HaveOneText stamped.now.result (model.right here.now.space here.now.n limits.now entries.now stamped.now.event)) }
+    ensures { IfOk result (λ is_right. (is_right ≡ true) ↔ HaveOneText stamped.now.result (model.right here.now.space here.now.n limits.now entries.now stamped.now.event)) }
 {
     let answer = right::right(alloc, here, limits, entries, &stamped.event)?;
     have_one_text(alloc, &stamped.result, &answer)
-}
-
-// Whether two results have a text in traces, and it is the same.
-fn have_one_text(
-    alloc: Global,
-    one: &Result<Answer, Refusal>,
-    other: &Result<Answer, Refusal>,
-) -> Result<bool, AllocError>
-    ensures { IfOk result (λ have. (have ≡ true) ↔ spec.HaveOneText one.now other.now) }
-{
-    let Some(one) = spelling_of(alloc, one)? else {
-        return Ok(false);
-    };
-    let Some(other) = spelling_of(alloc, other)? else {
-        return Ok(false);
-    };
-    Ok(one.as_bytes() == other.as_bytes())
-}
-
-// The text of a result in a trace: `None` where it has none.
-fn spelling_of(
-    alloc: Global,
-    response: &Result<Answer, Refusal>,
-) -> Result<Option<String>, AllocError>
-    ensures { IfOk result (λ text. MatchOption text (TransmitFits response.now → ⊥) (λ text. TransmitFits response.now × (string_bytes text ≡ spelling response.now))) }
-{
-    match result_text(alloc, response) {
-        Ok(text) => Ok(Some(text)),
-        Err(TraceError::Fault(_)) => Ok(None),
-        Err(TraceError::OutOfMemory) => Err(AllocError),
-    }
 }
 
 /// The traces of an input, one after the other, as they are written; or what the first line that isn't as it should be

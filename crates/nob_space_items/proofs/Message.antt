@@ -60,7 +60,7 @@ use Rattle.nob_space_state.specs.Stands.{Stands, far_state}
 use Rattle.nob_space_state.proofs.Told.{closed_there}
 use Rattle.nob_space_items.specs.Fronts.{IsFront}
 use Rattle.nob_space_items.specs.Messages.{is_wanted, wanted_refs, new_loan, new_copies, is_refused as is_refused_state}
-use Rattle.nob_space_items.specs.Putting.{IsMessage}
+use Rattle.nob_space_items.specs.Placing.{IsMessage}
 use Rattle.nob_space_items.proofs.Asked.{any_of, filter_passes}
 use Rattle.nob_space_items.proofs.Refused.{wanted_there, dirties_there}
 use Rattle.nob_space_items.proofs.Wanted.{any_once}

@@ -59,7 +59,7 @@ use Rattle.nob_space_items.specs.Fronts.{IsFront}
 use Rattle.nob_space_items.specs.Growing.{AreAmong, HasRoom, HaveRoom, Grows}
 use Rattle.nob_space_items.specs.Lending.{CanLend}
 use Rattle.nob_space_items.specs.Messages.{is_wanted, wanted_refs, owner_count, has_free, has_numbers_for, is_too_much, message_refusal, new_loan, new_copies, is_lost, is_at_hand}
-use Rattle.nob_space_items.specs.Putting.{IsMessage}
+use Rattle.nob_space_items.specs.Placing.{IsMessage}
 use Rattle.nob_space_items.specs.Receiving.{HasFront, CanReceive, Receives}
 use Rattle.nob_space_items.proofs.Asked.{IsAsked, any_of, filter_passes, append_all}
 use Rattle.nob_space_items.proofs.Asks.{all_asked, wanted_unknown}

@@ -1,7 +1,9 @@
+pub mod Cleaning
+pub mod Settling
 pub mod Fronts
 pub mod Messages
 pub mod Asking
 pub mod Lending
-pub mod Putting
+pub mod Placing
 pub mod Growing
 pub mod Receiving

@@ -2,11 +2,18 @@
 //! and giving surrogates up.
 #![tactic(auto)]
 
+mod cleaning;
 mod copies;
 mod dirties;
 mod few;
 mod growing;
 mod loans;
 mod messages;
-mod putting;
+mod next;
+mod placing;
 mod receiving;
+mod settling;
+
+pub use cleaning::clean;
+pub use next::{can_clean, can_settle};
+pub use settling::{SettledItem, settle};

@@ -17,7 +17,7 @@ ghost use Rattle.nob_space_state.specs.Stands.{Stands, IsState, Keeps, Did, Answ
 ghost use Rattle.nob_space_items.specs.Fronts.{IsFront};
 ghost use Rattle.nob_space_items.specs.Messages as specs;
 ghost use Rattle.nob_space_items.specs.Messages.{KnowsSurrogates};
-ghost use Rattle.nob_space_items.specs.Putting.{IsMessage};
+ghost use Rattle.nob_space_items.specs.Placing.{IsMessage};
 
 use crate::copies::new_copies;
 use crate::dirties::new_dirties;

@@ -13,6 +13,8 @@ use Rattle.std.proofs.lemmas.Bool.Decides.{nat_tests, Decides-eqb}
 use Rattle.nob_ids.specs.Names.{is_same}
 use Rattle.nob_table.proofs.Flat.{get_set_other}
 use Rattle.nob_table.specs.Standings as standings
+use Rattle.nob_model_end.specs.declared.entry.Arrived.TheVariants as arrived
+use Rattle.nob_model_end.specs.declared.entry.EndEntry.{EndEntry}
 use Rattle.nob_model_end.specs.declared.entry.EndEntry.TheVariants as ends
 use Rattle.nob_model.specs.Right.{own_ref}
 use Rattle.nob_space_state.proofs.Rows.{differ}
@@ -24,7 +26,7 @@ use Rattle.nob_session.specs.Stands.{Roomy, end_of}
 use Rattle.nob_table.specs.Counts.{is_held}
 use Rattle.nob_table.specs.Table.{standing}
 use Rattle.nob_model_words.specs.declared.deed.Deed.{Deed}
-use Rattle.nob_model_words.specs.declared.deed.Deed.TheVariants.{Transmit}
+use Rattle.nob_model_words.specs.declared.deed.Deed.TheVariants.{Transmit, Tick, Arrive}
 use Rattle.nob_model_words.specs.Objects as objects
 use Rattle.nob_model_words.specs.Sessions.{closed, is_peer}
 use Rattle.nob_model_words.specs.Turns.{turns}
@@ -105,10 +107,55 @@ transmit_is_still s n p frames D = record {
   jobs_made = refl;
 }
 
--- the calls on the ends after a Transmit
-pub transmit_calls : (s n p q : ℕ) (frames : List Frame) (D : List Deed) → calls_at q (history_of s n (Transmit p frames ∷ D)) ≡ (if p == q then ends.Transmit frames ∷ calls_at q (history_of s n D) else calls_at q (history_of s n D))
+pub tick_is_still : (s n p : ℕ) (D : List Deed) → IsStill s n (Tick p) D
+unfolding gifts gifts_of work_after with_loans message_after run_after copy_after
+tick_is_still s n p D = record {
+  closed = λ p. refl;
+  turns = λ rep. refl;
+  exports = refl;
+  withdrawn = λ index. refl;
+  gains = refl;
+  releases = refl;
+  listed = λ index client. refl;
+  bundles = refl;
+  dirties = refl;
+  work = loans_made s n D;
+  calls_made = refl;
+  jobs_made = refl;
+}
+
+pub arrive_is_still : (s n : ℕ) (frame : Frame) (count : ℕ) (D : List Deed) → IsStill s n (Arrive frame count) D
+unfolding gifts gifts_of work_after with_loans message_after run_after copy_after
+arrive_is_still s n frame count D = record {
+  closed = λ p. refl;
+  turns = λ rep. refl;
+  exports = refl;
+  withdrawn = λ index. refl;
+  gains = refl;
+  releases = refl;
+  listed = λ index client. refl;
+  bundles = refl;
+  dirties = refl;
+  work = loans_made s n D;
+  calls_made = refl;
+  jobs_made = refl;
+}
+
+-- a deed is nothing but this call on the end with p
+abbrev pub IsOneCall : (s n p : ℕ) → Deed → EndEntry → List Deed → Type 0
+IsOneCall s n p deed entry D = (q : ℕ) → calls_at q (history_of s n (deed ∷ D)) ≡ (if p == q then entry ∷ calls_at q (history_of s n D) else calls_at q (history_of s n D))
+
+pub transmit_calls : (s n p : ℕ) (frames : List Frame) (D : List Deed) → IsOneCall s n p (Transmit p frames) (ends.Transmit frames) D
 unfolding gifts gifts_of
-transmit_calls s n p q frames D = refl
+transmit_calls s n p frames D = λ q. refl
+
+pub tick_calls : (s n p : ℕ) (D : List Deed) → IsOneCall s n p (Tick p) (ends.Tick (Ok None)) D
+unfolding gifts gifts_of
+tick_calls s n p D = λ q. refl
+
+pub arrive_calls : (s n : ℕ) (frame : Frame) (count : ℕ) (D : List Deed) → IsOneCall s n frame.from (Arrive frame count) (ends.Arrive frame (Ok (arrived.Took count))) D
+unfolding gifts gifts_of
+arrive_calls s n frame count D = λ q. refl
 
 module _ {s n : ℕ} {limits : Limits} {st : State} {deed : Deed} {D : List Deed} (still : IsStill s n deed D) (stands : Stands s n limits st D) where
   -- a state with other ends
@@ -147,6 +194,10 @@ end_there s n limits ends h p end stands peer is =
     let at : p - 1 + 1 ≡ p = omega (arith, low) in
     (low, there, subst (λ q. session.Stands s q limits end.end (calls_at q h)) at (stands.ends (p - 1) end there))
 
+-- the end that was read at a peer's place
+pub at_peer : (ends : List Roomy) (k p : ℕ) (end : Roomy) → k ≡ p → end ≡ get_or ends (k - 1) end → end ≡ get_or ends (p - 1) end
+at_peer ends k p end same is = subst (λ j. end ≡ get_or ends (j - 1) end) same is
+
 -- what is right for a Transmit
 pub frames_right : (s n p window : ℕ) (h : History) → is_peer s n p ≡ true → right_frames s n p window h ≡ Ok (answers.Frames (right_transmit s p window (calls_at p h)))
 unfolding right_frames
@@ -172,13 +223,13 @@ module _ {s n : ℕ} {limits : Limits} {st : State} {D : List Deed} (stands : St
         right = stands.right;
       }
 
-  -- after a Transmit
-  pub transmit_stands : (frames : List Frame) → IsRightDeed s n limits (Transmit p frames) D → session.Stands s p limits new.end (ends.Transmit frames ∷ calls_at p (history_of s n D)) → Stands s n limits (with_sessions (set st.sessions (p - 1) new) st) (Transmit p frames ∷ D)
-  transmit_stands frames its after =
+  -- after one call on that end
+  pub called_stands : (deed : Deed) (entry : EndEntry) → IsStill s n deed D → IsOneCall s n p deed entry D → IsRightDeed s n limits deed D → session.Stands s p limits new.end (entry ∷ calls_at p (history_of s n D)) → Stands s n limits (with_sessions (set st.sessions (p - 1) new) st) (deed ∷ D)
+  called_stands deed entry still calls its after =
       let there = end_there s n limits st.sessions (history_of s n D) p old stands.ends peer is in
-      let here : calls_at p (history_of s n (Transmit p frames ∷ D)) ≡ ends.Transmit frames ∷ calls_at p (history_of s n D) = transmit_calls s n p p frames D ∙ rw (nat_eq_equiv.refl p) refl in
-      stands_still (transmit_is_still s n p frames D) stands (set st.sessions (p - 1) new)
-      (ends_changed s n limits st.sessions (history_of s n D) (history_of s n (Transmit p frames ∷ D)) p new stands.ends there.0
+      let here : calls_at p (history_of s n (deed ∷ D)) ≡ entry ∷ calls_at p (history_of s n D) = calls p ∙ rw (nat_eq_equiv.refl p) refl in
+      stands_still still stands (set st.sessions (p - 1) new)
+      (ends_changed s n limits st.sessions (history_of s n D) (history_of s n (deed ∷ D)) p new stands.ends there.0
       (subst (λ calls. session.Stands s p limits new.end calls) (sym here) after)
-      (λ q other. sym (transmit_calls s n p q frames D ∙ rw (nat_eq_equiv.symm p q, other) refl)))
+      (λ q other. sym (calls q ∙ rw (nat_eq_equiv.symm p q, other) refl)))
       its

@@ -95,7 +95,7 @@ module _ {s n : ℕ} {limits : Limits} {st : State} {D : List Deed} (stands : St
   ] refl
 
 -- what a chain that ends in no refusal has passed
-withdraw_passes : (agent here held pinned listed : Bool) → (if agent then Some (refusals.StillUsed uses.Agent) else if not agent && (true && not here) then Some refusals.NoObject else if held then Some (refusals.StillUsed uses.Held) else if pinned then Some (refusals.StillUsed uses.InTransit) else if listed then Some (refusals.StillUsed uses.Listed) else None) ≡ None → (here ≡ true) × (held ≡ false)
+pub withdraw_passes : (agent here held pinned listed : Bool) → (if agent then Some (refusals.StillUsed uses.Agent) else if not agent && (true && not here) then Some refusals.NoObject else if held then Some (refusals.StillUsed uses.Held) else if pinned then Some (refusals.StillUsed uses.InTransit) else if listed then Some (refusals.StillUsed uses.Listed) else None) ≡ None → (here ≡ true) × (held ≡ false)
 withdraw_passes true here held pinned listed e = absurd (none-some _ (sym e))
 withdraw_passes false false held pinned listed e = absurd (none-some _ (sym e))
 withdraw_passes false true true pinned listed e = absurd (none-some _ (sym e))

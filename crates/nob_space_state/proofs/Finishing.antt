@@ -93,22 +93,22 @@ lent_less s j rep W =
 
 -- ---- what is lent is counted
 
-none_of : (rep : WireRep) (reps : List WireRep) → is_counted rep ≡ false → AllByRecursion (λ (w : WireRep). is_counted w ≡ true) reps → times rep reps ≡ 0
+pub none_of : (rep : WireRep) (reps : List WireRep) → is_counted rep ≡ false → AllByRecursion (λ (w : WireRep). is_counted w ≡ true) reps → times rep reps ≡ 0
 none_of rep [] uncounted all = refl
 none_of rep (w ∷ reps) uncounted all = elim (is_same rep w) as (λ b. is_same rep w ≡ b → length (cond b (w ∷ filter (is_same rep) reps) (filter (is_same rep) reps)) ≡ 0) [
   | true ↦ λ same. let is : rep ≡ w = same_is rep w same in let bad : true ≡ false = sym all.0 ∙ ap is_counted (sym is) ∙ uncounted in absurd (cc)
   | false ↦ λ _. none_of rep reps uncounted all.1
 ] refl
 
-counted_append : (xs ys : List WireRep) → AllByRecursion (λ (w : WireRep). is_counted w ≡ true) xs → AllByRecursion (λ (w : WireRep). is_counted w ≡ true) ys → AllByRecursion (λ (w : WireRep). is_counted w ≡ true) (xs ++ ys)
+pub counted_append : (xs ys : List WireRep) → AllByRecursion (λ (w : WireRep). is_counted w ≡ true) xs → AllByRecursion (λ (w : WireRep). is_counted w ≡ true) ys → AllByRecursion (λ (w : WireRep). is_counted w ≡ true) (xs ++ ys)
 counted_append [] ys all more = more
 counted_append (x ∷ xs) ys all more = (all.0, counted_append xs ys all.1 more)
 
-counted_copies : (copies : List RefCopy) → AllByRecursion (λ (copy : RefCopy). is_counted copy.rep ≡ true) copies → AllByRecursion (λ (w : WireRep). is_counted w ≡ true) (copies_lent copies)
+pub counted_copies : (copies : List RefCopy) → AllByRecursion (λ (copy : RefCopy). is_counted copy.rep ≡ true) copies → AllByRecursion (λ (w : WireRep). is_counted w ≡ true) (copies_lent copies)
 counted_copies [] all = tt
 counted_copies (copy ∷ copies) all = elim (is_lent copy.loan) as (λ b. AllByRecursion (λ (w : WireRep). is_counted w ≡ true) (map (λ (one : RefCopy). one.rep) (cond b (copy ∷ filter (λ (one : RefCopy). is_lent one.loan) copies) (filter (λ (one : RefCopy). is_lent one.loan) copies)))) [ true ↦ (all.0, counted_copies copies all.1) | false ↦ counted_copies copies all.1 ]
 
-counted_target : (s : ℕ) (item : Item) → AllByRecursion (λ (w : WireRep). is_counted w ≡ true) (target_lent s item)
+pub counted_target : (s : ℕ) (item : Item) → AllByRecursion (λ (w : WireRep). is_counted w ≡ true) (target_lent s item)
 counted_target s (items.Call call target method value) = elim (target == 0) as (λ b. target == 0 ≡ b → AllByRecursion (λ (w : WireRep). is_counted w ≡ true) (if b then [] else record { owner = s; index = target } ∷ [])) [ true ↦ λ _. tt | false ↦ λ some. (ap not some, tt) ] refl
 counted_target s (items.Reply call status value) = tt
 counted_target s (items.Settle item) = tt

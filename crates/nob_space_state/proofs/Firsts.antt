@@ -5,7 +5,7 @@ use Rattle.std.proofs.lemmas.Option.{none-some, slice_get_read, slice_get_past, 
 use Rattle.std.proofs.lemmas.Bool.Decides.{nat_tests}
 use Rattle.std.proofs.lemmas.List.Folds.{find_at}
 use Rattle.std.proofs.lemmas.List.Quantifiers.{position-Some}
-use Rattle.std.specs.List.{position, position_or_len, remove, AllByRecursion}
+use Rattle.std.specs.List.{position, position_or_len, remove}
 use Rattle.nob_ids.specs.declared.wire_rep.WireRep.{WireRep}
 use Rattle.nob_model_work.specs.Work.{without_first}
 use Rattle.nob_model_history.specs.Holds.{times}

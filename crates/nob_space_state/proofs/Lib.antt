@@ -20,3 +20,7 @@ pub mod Replies
 pub mod Running
 pub mod Returned
 pub mod Finishing
+pub mod Closings
+pub mod Arrivals
+pub mod Unpinned
+pub mod Nexts

@@ -4,6 +4,7 @@ use Rattle.std.specs.Prelude.{⊤}
 use Rattle.std.specs.List.{IsDistinct}
 use Rattle.nob_ids.specs.Names.{is_counted, is_same}
 use Rattle.nob_ids.specs.declared.limits.Limits.{Limits}
+use Rattle.nob_ids.specs.declared.reason.Reason.{Reason}
 use Rattle.nob_ids.specs.declared.wire_rep.WireRep.{WireRep}
 use Rattle.nob_frame.specs.declared.frame.Frame.{Frame}
 use Rattle.nob_pickle.specs.declared.value.Value.{Value}
@@ -13,6 +14,7 @@ use Rattle.nob_model_types.specs.declared.answer.Job.{Job}
 use Rattle.nob_model_types.specs.declared.event.Event.TheVariants as events
 use Rattle.nob_model_types.specs.declared.event.Outcome.{Outcome}
 use Rattle.nob_model_words.specs.Deeds.{deed_by}
+use Rattle.nob_model_words.specs.declared.deed.Cause.TheVariants as causes
 use Rattle.nob_model_words.specs.declared.deed.Deed.{Deed}
 use Rattle.nob_model_words.specs.declared.deed.Deed.TheVariants as did
 use Rattle.nob_model_words.specs.declared.deed.Deed.TheVariants.{Act}
@@ -22,7 +24,7 @@ use Rattle.nob_model_history.specs.Histories.{history_of}
 use Rattle.nob_model_history.specs.Ends.{calls_at}
 use Rattle.nob_model_history.specs.Holds.{times, gains, releases}
 use Rattle.nob_model_history.specs.Premises.{SettlesSent}
-use Rattle.nob_model.specs.Right.{right_after, right_export, right_dup, right_release, right_withdraw, right_call, right_take_reply, right_claim, right_finish, right_frames}
+use Rattle.nob_model.specs.Right.{right_after, right_export, right_dup, right_release, right_withdraw, right_call, right_take_reply, right_claim, right_finish, right_frames, right_closing, right_ticks, right_arrival}
 use Rattle.nob_model.specs.Lists.{IsRightDeed, AreRightDeeds}
 use Rattle.nob_model.proofs.Accepted.{act_tells}
 use Rattle.nob_model.proofs.Doing.{was_answered}
@@ -124,3 +126,23 @@ module _ (s n : ℕ) (limits : Limits) (D : List Deed) where
   pub transmit_is : (p : ℕ) (frames : List Frame) → right_frames s n p limits.window (history_of s n D) ≡ Ok (answers.Frames frames) → IsRightDeed s n limits (did.Transmit p frames) D
   unfolding right_after
   transmit_is p frames is = (events.Transmit p, ap (deed_by (events.Transmit p)) is)
+
+  pub close_is : (p : ℕ) (reason : Reason) → right_closing s n p (history_of s n D) ≡ Ok (answers.Closed reason) → IsRightDeed s n limits (did.Closing p reason causes.Asked) D
+  unfolding right_after
+  close_is p reason is = (events.Close p, ap (deed_by (events.Close p)) is)
+
+  pub tick_is : (p : ℕ) → right_ticks s n p limits.retry (history_of s n D) ≡ Ok answers.Done → IsRightDeed s n limits (did.Tick p) D
+  unfolding right_after
+  tick_is p is = (events.Tick p, ap (deed_by (events.Tick p)) is)
+
+  pub ticks_close_is : (p : ℕ) (reason : Reason) → right_ticks s n p limits.retry (history_of s n D) ≡ Ok (answers.Closed reason) → IsRightDeed s n limits (did.Closing p reason causes.Ticks) D
+  unfolding right_after
+  ticks_close_is p reason is = (events.Tick p, ap (deed_by (events.Tick p)) is)
+
+  pub arrive_is : (frame : Frame) (count : ℕ) → right_arrival s n frame (history_of s n D) ≡ Ok (answers.Took count) → IsRightDeed s n limits (did.Arrive frame count) D
+  unfolding right_after
+  arrive_is frame count is = (events.Arrive frame, ap (deed_by (events.Arrive frame)) is)
+
+  pub arrive_close_is : (frame : Frame) (reason : Reason) → right_arrival s n frame (history_of s n D) ≡ Ok (answers.Closed reason) → IsRightDeed s n limits (did.Closing frame.from reason (causes.Frame frame)) D
+  unfolding right_after
+  arrive_close_is frame reason is = (events.Arrive frame, ap (deed_by (events.Arrive frame)) is)

@@ -1,5 +1,5 @@
 -- TakeReply: what is right is what the state tells, and what it leaves stands for one deed more.
-use Rattle.std.proofs.Common.{◌≡◌, ℕ, ◌+◌, ◌-◌, ◌≤◌, ◌<◌, Bool, true, false, not, ◌&&◌, ◌||◌, ◌==◌, nat_lt, cond, List, [], ◌∷◌, ◌++◌, find, filter, flat_map, map, length, Option, Some, None, Result, Ok, Err, if◌then◌else◌, refl, sym, ap, subst, ◌∙◌, arith}
+use Rattle.std.proofs.Common.{◌≡◌, ℕ, ◌+◌, ◌-◌, ◌≤◌, Bool, true, false, not, ◌||◌, nat_lt, cond, List, [], ◌∷◌, ◌++◌, find, filter, flat_map, length, Option, Some, None, Ok, Err, if◌then◌else◌, refl, sym, ap, subst, ◌∙◌, arith}
 use Rattle.std.specs.List.{AllByRecursion, list_any}
 use Rattle.std.proofs.lemmas.Option.{none-some}
 use Rattle.std.proofs.lemmas.Bool.{or_parts, eqb-true}
@@ -13,10 +13,8 @@ use Rattle.nob_item.specs.Kinds.{counted_in, refs_carried}
 use Rattle.nob_item.specs.declared.item.Item.{Item}
 use Rattle.nob_item.specs.declared.item.Item.TheVariants as items
 use Rattle.nob_table.specs.Table.{Table, standing}
-use Rattle.nob_table.proofs.Same.{same_is, same_refl}
-use Rattle.nob_model_types.specs.declared.answer.Answer.{Answer}
+use Rattle.nob_table.proofs.Same.{same_is}
 use Rattle.nob_model_types.specs.declared.answer.Answer.TheVariants as answers
-use Rattle.nob_model_types.specs.declared.refusal.Refusal.{Refusal}
 use Rattle.nob_model_types.specs.declared.refusal.Refusal.TheVariants as refusals
 use Rattle.nob_model_words.specs.declared.deed.Deed.{Deed}
 use Rattle.nob_model_words.specs.declared.deed.Deed.TheVariants.{TakeReply, TakeEnd}
@@ -39,11 +37,11 @@ use Rattle.nob_model.proofs.Carrying.{Carries, all_carry, all_found, all_without
 use Rattle.nob_model.proofs.Lending.{IsAllLent, all_lent}
 use Rattle.nob_model.proofs.Made.{AreFixed, work_fixed, fixed_stays}
 use Rattle.nob_model.proofs.Replying.{answered_once}
-use Rattle.nob_space_state.specs.Parts.{State, with_table, with_work}
+use Rattle.nob_space_state.specs.Parts.{State}
 use Rattle.nob_space_state.specs.Stands.{Stands, TableShows}
 use Rattle.nob_space_state.specs.Taking.{reps_of, is_full, is_overfull, is_reply, answer_of_item, answer_of_reply, answer_of_call, take_answer, CanTake, with_more, with_fewer}
 use Rattle.nob_space_state.proofs.Claiming.{times_lent}
-use Rattle.nob_space_state.proofs.Firsts.{times_without, some_same}
+use Rattle.nob_space_state.proofs.Firsts.{times_without}
 use Rattle.nob_space_state.proofs.Orderly.{orderly}
 use Rattle.nob_space_state.proofs.Pinned.{times_both}
 use Rattle.nob_space_state.proofs.Rows.{differ}

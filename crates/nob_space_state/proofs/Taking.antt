@@ -1,16 +1,14 @@
 -- TakeReply: what is right is what the state tells, and what it leaves stands for one deed more.
-use Rattle.std.proofs.Common.{◌≡◌, ℕ, ◌+◌, ◌-◌, ◌≤◌, ◌<◌, Bool, true, false, not, ◌&&◌, ◌||◌, ◌==◌, nat_lt, cond, List, [], ◌∷◌, ◌++◌, find, filter, flat_map, map, length, take, drop, get_or, slice_get, Option, Some, None, Result, Ok, Err, if◌then◌else◌, refl, sym, ap, subst, ◌∙◌, arith}
-use Rattle.std.specs.List.{AllByRecursion, list_any}
-use Rattle.std.proofs.lemmas.Option.{none-some}
+use Rattle.std.proofs.Common.{◌≡◌, ℕ, ◌+◌, ◌-◌, ◌≤◌, true, false, ◌==◌, List, [], ◌∷◌, length, take, drop, get_or, None, if◌then◌else◌, refl, sym, ap, subst, ◌∙◌, arith}
 use Rattle.std.proofs.lemmas.Bool.Decides.{nat_tests}
-use Rattle.nob_ids.specs.Names.{is_same, is_counted}
+use Rattle.nob_ids.specs.Names.{is_same}
 use Rattle.nob_ids.specs.declared.wire_rep.WireRep.{WireRep}
 use Rattle.nob_table.specs.declared.counts.Counts.{Counts}
 use Rattle.nob_table.specs.declared.counts.Part.TheVariants.{Hand, Lent}
 use Rattle.nob_table.specs.declared.standing.Standing.{Standing}
 use Rattle.nob_table.specs.Counts.{is_held, more, fewer}
 use Rattle.nob_table.specs.Rows.{row_at}
-use Rattle.nob_table.specs.Standings.{is_known, with_counts, unless_lost, after_hold, after_release}
+use Rattle.nob_table.specs.Standings.{is_known, after_hold, after_release}
 use Rattle.nob_table.specs.Table.{Table, standing, was_given, Becomes, ChangeLeaves, hold_fault, release_fault}
 use Rattle.nob_table.proofs.Same.{same_is, same_refl}
 use Rattle.nob_model_words.specs.declared.message.RefCopy.{RefCopy}
@@ -22,7 +20,6 @@ use Rattle.nob_space_state.specs.Holds.{one_more, one_fewer}
 use Rattle.nob_space_state.specs.Taking.{reps_of, CanTake, with_more, with_fewer}
 use Rattle.nob_space_state.specs.Stands.{TableShows}
 use Rattle.nob_space_state.proofs.Hands.{held_known, times_more}
-use Rattle.nob_space_state.proofs.Rows.{differ}
 use Rattle.nob_space_state.proofs.Shows.{shows_hand_more, shows_lent_fewer, forgets_counts}
 
 -- what is lent is known

@@ -43,7 +43,7 @@ module _ {s n : ℕ} {limits : Limits} {st : State} {D : List Deed} (stands : St
       elim (closed p D) as (λ b. is_open_end end.end ≡ not b → not (is_open_end end.end) ≡ b) [ true ↦ λ e. rw e refl | false ↦ λ e. rw e refl ] still
 
   -- a space that has no place is no peer
-  no_peer : (p : ℕ) → 1 ≤ p → slice_get st.sessions (p - 1) ≡ None → is_peer s n p ≡ false
+  pub no_peer : (p : ℕ) → 1 ≤ p → slice_get st.sessions (p - 1) ≡ None → is_peer s n p ≡ false
   no_peer p low nowhere = elim (slice_get_cases st.sessions (p - 1)).1 [
     | inl found ↦ absurd (none-some found.0 (sym nowhere ∙ found.2))
     | inr past ↦ let far : n ≤ p - 1 = subst (λ k. k ≤ p - 1) stands.ends.each past.0 in grind (arith, nat_tests, low, far)

@@ -9,3 +9,4 @@ pub mod Parts
 pub mod Taking
 pub mod Stands
 pub mod Returns
+pub mod Closing

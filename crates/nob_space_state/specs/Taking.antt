@@ -1,7 +1,6 @@
 -- What is answered to a TakeReply, by the state, and what it makes of the table.
-use Rattle.std.specs.Prelude.{◌≡◌, ◌≤◌, ℕ, ◌+◌, ◌-◌, Bool, List, map, find, nat_lt, Option, Some, None, Result, Ok, Err}
+use Rattle.std.specs.Prelude.{◌≤◌, ℕ, ◌+◌, ◌-◌, Bool, List, map, find, nat_lt, Option, Some, None, Result, Err}
 use Rattle.std.specs.List.{list_any}
-use Rattle.nob_ids.specs.Names.{is_counted}
 use Rattle.nob_ids.specs.declared.wire_rep.WireRep.{WireRep}
 use Rattle.nob_item.specs.declared.item.Item.{Item}
 use Rattle.nob_item.specs.declared.item.Item.TheVariants as items

@@ -29,7 +29,7 @@ impl Parts {
     }
 
     // The place of the first ready job whose target isn't running.
-    fn first_free(&self) -> Option<usize>
+    pub(crate) fn first_free(&self) -> Option<usize>
         ensures { result ≡ position (candidates.is_free (state_of self.now).work) self.now.ready.items }
     {
         self.ready.iter().position(|message| self.is_free(message))

@@ -2,14 +2,17 @@
 #![tactic(auto)]
 
 mod calls;
+mod closing;
 mod error;
 mod finish;
 mod jobs;
 mod looks;
+mod next;
 mod objects;
 mod parts;
 mod sending;
 mod sessions;
+mod shut;
 mod take;
 
 pub use error::SpaceError;

@@ -90,7 +90,7 @@ impl Parts {
 
     // Why a Withdraw of an index is refused.
     #[tactic(auto, unfolding(crate::specs::Judging::withdraw_refusal))]
-    fn refuse_withdraw(&self, me: SpaceId, index: u64) -> Result<(), Refusal>
+    pub(crate) fn refuse_withdraw(&self, me: SpaceId, index: u64) -> Result<(), Refusal>
         ensures { MatchResult result (λ _. withdraw_refusal me (state_of self.now) index ≡ None) (λ refusal. withdraw_refusal me (state_of self.now) index ≡ Some refusal) }
     {
         if index == 0 {

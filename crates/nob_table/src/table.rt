@@ -122,6 +122,7 @@ impl ObjectTable {
     pub fn first_unheld(&self, index: u64) -> Option<u64>
         ensures first { MatchOption result (NeverUnheld self.now index) (λ found. IsFirstUnheld self.now index found) }
         ensures given { IfSome result (λ found. (1 ≤ found) × (found ≤ self.now.exported)) }
+        ensures low { IfSome result (λ found. found ≤ most_index) }
     {
         self.objects.first_unheld(index)
     }
@@ -136,6 +137,13 @@ impl ObjectTable {
         ensures apart { (rep other : WireRep) → IsSome (place_of self.now rep) → place_of self.now rep ≡ place_of self.now other → IsTrue (is_same rep other) }
     {
         self.peers.len()
+    }
+
+    /// How many Dirties were sent: the place that the surrogate of the next one gets. Constant time.
+    pub fn dirty_count(&self) -> u128
+        ensures { result ≡ self.now.dirties }
+    {
+        self.dirties
     }
 
     /// One hold more on the reference, in this part: a live object's, a surrogate's, or a lost reference's that is

@@ -1,4 +1,4 @@
-use Rattle.std.proofs.Common.{rules, ◌≡◌, ◌-◌, List, length, take, drop, sym, subst}
+use Rattle.std.proofs.Common.{rules, ◌-◌, List, length, take, drop, sym, subst}
 use Rattle.nob_ids.specs.declared.wire_rep.WireRep.{WireRep}
 use Rattle.nob_space_state.specs.Stands.{TableShows}
 use Rattle.nob_space_state.specs.Taking.{reps_of, CanTake, with_more, with_fewer}

@@ -1,21 +1,15 @@
-use Rattle.std.proofs.Common.{rules, ◌≡◌, ℕ, ◌==◌, List, not, filter, find, true, false, Some, None, Ok, Err, get_or, refl, sym, ap, subst, ◌∙◌}
+use Rattle.std.proofs.Common.{rules, ◌≡◌, List, not, true, false, sym, ap, subst, ◌∙◌}
 use Rattle.std.proofs.lemmas.Fn.{filter_same}
-use Rattle.nob_ids.specs.declared.wire_rep.WireRep.{WireRep}
-use Rattle.nob_item.specs.declared.item.Item.{Item}
-use Rattle.nob_item.specs.declared.item.Item.TheVariants as items
-use Rattle.nob_model_types.specs.declared.answer.Answer.TheVariants as answers
 use Rattle.nob_model_words.specs.declared.message.Message.{Message}
 use Rattle.nob_model_words.specs.declared.message.RefCopy.{RefCopy}
-use Rattle.nob_model_words.specs.Messages.{replies_to}
 use Rattle.nob_model_work.specs.declared.work.OwnCall.{OwnCall}
-use Rattle.nob_model_work.specs.declared.work.Stage.{Stage}
 use Rattle.nob_model_work.specs.Work.{is_call, work}
 use Rattle.nob_model.specs.Right.{answer_of_stage}
 use Rattle.nob_model_history.specs.Histories.{history_of}
 use Rattle.nob_model_history.specs.Holds.{hand, times, lent_in}
-use Rattle.nob_space_state.specs.Parts.{State, state_of}
-use Rattle.nob_space_state.specs.Stands.{Stands, TableShows}
-use Rattle.nob_space_state.specs.Taking.{reps_of, is_full, is_overfull, is_reply, CanTake, with_more, with_fewer}
+use Rattle.nob_space_state.specs.Parts.{state_of}
+use Rattle.nob_space_state.specs.Stands.{TableShows}
+use Rattle.nob_space_state.specs.Taking.{reps_of, is_overfull, is_reply, CanTake, with_more, with_fewer}
 use Rattle.nob_model.proofs.Accepted.{found_passes}
 use Rattle.nob_space_state.proofs.Firsts.{no_place, at_place, place_first, some_same}
 use Rattle.nob_space_state.proofs.Orderly.{take_is, end_is}

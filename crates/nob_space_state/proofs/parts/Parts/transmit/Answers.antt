@@ -1,6 +1,7 @@
 use Rattle.std.proofs.Common.{◌≡◌, ℕ, ◌-◌, ◌∷◌, List, true, Ok, IsOk, get_or, refl, sym, ap, subst, ◌∙◌}
 use lib.ListN.{set}
 use Rattle.nob_frame.specs.declared.frame.Frame.{Frame}
+use Rattle.nob_model_end.specs.declared.entry.EndEntry.TheVariants as ends
 use Rattle.nob_model_words.specs.Sessions.{is_peer}
 use Rattle.nob_model_words.specs.declared.deed.Deed.TheVariants as did
 use Rattle.nob_model_types.specs.declared.answer.Answer.TheVariants as answers
@@ -8,7 +9,7 @@ use Rattle.nob_model_history.specs.Histories.{history_of}
 use Rattle.nob_model_history.specs.Ends.{calls_at}
 use Rattle.nob_space_state.specs.Parts.{state_of, with_sessions}
 use Rattle.nob_space_state.specs.Stands.{Stands}
-use Rattle.nob_space_state.proofs.Ends.{end_there, frames_right, frames_no_peer, stands_kept, transmit_stands}
+use Rattle.nob_space_state.proofs.Ends.{end_there, frames_right, frames_no_peer, stands_kept, transmit_is_still, transmit_calls, called_stands}
 use Rattle.nob_space_state.proofs.Orderly.{transmit_is}
 use Rattle.nob_space_state.proofs.parts.Parts.transmit.Goals as goal
 
@@ -32,7 +33,7 @@ returns-in-Ok-clause-stands c limits D stands =
     let there = end_there c.args.here.now.space c.args.here.now.n limits c.args.self.now.sessions.items (history_of c.args.here.now.space c.args.here.now.n D) c.args.peer c.index_mut.result.now stands.ends peer is in
     let told = (c.in-Ok.ensures {u = tt}).answer c.args.here.now.space c.args.peer limits (calls_at c.args.peer (history_of c.args.here.now.space c.args.here.now.n D)) there.2 in
     let after : Stands c.args.here.now.space c.args.here.now.n limits (with_sessions (set c.args.self.now.sessions.items (c.args.peer - 1) c.transmit.new.self) (state_of c.args.self.now)) (did.Transmit c.args.peer c.in-Ok.frames.items ∷ D) =
-    transmit_stands stands c.args.peer c.index_mut.result.now c.transmit.new.self peer is c.in-Ok.frames.items (transmit_is c.args.here.now.space c.args.here.now.n limits D c.args.peer c.in-Ok.frames.items (returns-in-Ok-clause-answer c limits D stands ∙ ap (λ (frames : List Frame). Ok (answers.Frames frames)) c.from_vec.ensures)) told.1 in
+    called_stands stands c.args.peer c.index_mut.result.now c.transmit.new.self peer is (did.Transmit c.args.peer c.in-Ok.frames.items) (ends.Transmit c.in-Ok.frames.items) (transmit_is_still c.args.here.now.space c.args.here.now.n c.args.peer c.in-Ok.frames.items D) (transmit_calls c.args.here.now.space c.args.here.now.n c.args.peer c.in-Ok.frames.items D) (transmit_is c.args.here.now.space c.args.here.now.n limits D c.args.peer c.in-Ok.frames.items (returns-in-Ok-clause-answer c limits D stands ∙ ap (λ (frames : List Frame). Ok (answers.Frames frames)) c.from_vec.ensures)) told.1 in
     subst (λ (k : ℕ). Stands c.args.here.now.space c.args.here.now.n limits (with_sessions (set c.args.self.now.sessions.items (k - 1) c.transmit.new.self) (state_of c.args.self.now)) (did.Transmit c.args.peer c.from_vec.result ∷ D)) (sym c.get.ensures.value)
     (subst (λ (frames : List Frame). Stands c.args.here.now.space c.args.here.now.n limits (with_sessions (set c.args.self.now.sessions.items (c.args.peer - 1) c.transmit.new.self) (state_of c.args.self.now)) (did.Transmit c.args.peer frames ∷ D)) (sym c.from_vec.ensures) after)
 

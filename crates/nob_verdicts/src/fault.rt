@@ -1,7 +1,7 @@
 //! What is written of an input that is refused.
 
 ghost use Rattle.std.specs.Prelude.{◌≡◌};
-ghost use Rattle.nob_plain.specs.Faults as spec;
+ghost use Rattle.nob_verdicts.specs.Faults as spec;
 
 use nob_trace::{TraceError, TraceFault};
 

@@ -1,0 +1,27 @@
+use Rattle.std.proofs.Common.{◌≡◌, ℕ, ◌+◌, ◌<◌, ◌≤◌, List, Bool, length, rules, refl, sym, ap, subst, ◌∙◌, arith}
+use Rattle.std.proofs.lemmas.List.{length-set}
+use Rattle.nob_ids.specs.declared.limits.Limits.{Limits}
+use Rattle.nob_model_words.specs.declared.deed.Deed.{Deed}
+use Rattle.nob_model_history.specs.Histories.{history_of}
+use Rattle.nob_model.specs.Next as next
+use Rattle.nob_space.proofs.Places.{written_more}
+use Rattle.nob_space.proofs.work.acts.Goals as goal
+
+pub loop-place-init : goal.loop-place-init
+loop-place-init c = record { each = refl; told = λ limits D stands p low high. absurd (omega (arith, low, high)) }
+
+pub loop-place-preserved : goal.loop-place-preserved
+loop-place-preserved c =
+    let each : length c.loop-place.all ≡ 32 = c.loop-place.invariant.each in
+    let low : c.loop-place.place < 32 = c.loop-place-test.true in
+    record {
+      each = length-set c.loop-place.all c.loop-place.place c.can_act.result ∙ each;
+      told = λ limits D stands. written_more (λ p. next.can_act c.args.here.now.space c.args.here.now.n p (history_of c.args.here.now.space c.args.here.now.n D)) c.loop-place.place c.loop-place.all c.can_act.result (omega (arith, each, low))
+          (subst (λ (k : ℕ). c.can_act.result ≡ next.can_act c.args.here.now.space c.args.here.now.n k (history_of c.args.here.now.space c.args.here.now.n D)) (c.in-Some.ensures {u = tt}).value (c.can_act.ensures limits D stands))
+          (c.loop-place.invariant.told limits D stands);
+    }
+
+pub returns : goal.returns
+returns c limits D stands p low high =
+    let past : 32 ≤ c.loop-place.place = c.loop-place-test.false in
+    c.loop-place.invariant.told limits D stands p low (omega (arith, past, high))

@@ -1,0 +1,10 @@
+//! A space: what it answers to each event, for every list of what it did before.
+#![tactic(auto)]
+
+mod space;
+mod steps;
+mod work;
+
+pub use nob_space_state::SpaceError;
+pub use space::Space;
+pub use work::Work;

@@ -1,0 +1,157 @@
+//! A space.
+
+ghost use Rattle.std.specs.Prelude.{◌≡◌, ◌≢◌, ◌≤◌, ◌-◌, ℕ, List, [], false, Some, Err, IfOk, OnErr, slice_get};
+ghost use Rattle.nob_model_types.specs.declared.entry.Entry.{Entry};
+ghost use Rattle.nob_model_words.specs.Deeds.{deeds};
+ghost use Rattle.nob_model_history.specs.Histories.{history};
+ghost use Rattle.nob_model_history.specs.Listing.{is_listed};
+ghost use Rattle.nob_model.specs.Next as next;
+ghost use Rattle.nob_model.specs.Right.{right};
+ghost use Rattle.nob_space.specs.Spaces.{StandsFor, SameSpace, with_entry, wants_memory};
+ghost use Rattle.nob_space.specs.Steps.{AnswersRight};
+
+use crate::steps;
+use crate::work::{Work, acts, sends};
+use nob_ids::{CallNo, Limits, SpaceId};
+use nob_model::{Answer, Event, Here};
+use nob_space_items::{can_clean, can_settle};
+use nob_space_state::{Parts, SpaceError};
+use std::alloc::{AllocError, Global};
+use std::marker::Model;
+
+/// A space among the spaces from 1 to `n`: it owns objects, holds references to those of others, and has a session with
+/// each other space. Contracts see its number, its limits and its state, and for which lists of entries that stands. It
+/// holds pins, so it can't be let go: `shut` ends it.
+pub struct Space {
+    here: Here,
+    limits: Limits,
+    alloc: Global,
+    parts: Parts,
+}
+
+impl Model for Space {
+    ghost use Rattle.nob_space.specs.Spaces.{Owner, IsOwner};
+    ghost use Rattle.nob_space_state.specs.Parts.{state_of};
+
+    ghost Value = { Owner };
+
+    ghost use Rattle.std.specs.Coded.{codes};
+    ghost use Rattle.nob_pickle.specs.Marks.{trees_code};
+
+    ghost coded = { Prim.hlevel (codes, trees_code) };
+
+    ghost view = { λ space. record { id = space.here.space; n = space.here.n; limits = space.limits; state = state_of space.parts } };
+
+    ghost invariant = { λ space. IsOwner space.here.space space.here.n space.limits (state_of space.parts) };
+}
+
+impl Space {
+    /// A space that has done nothing: its sessions with all others are open. Only memory fails it. The caller's
+    /// condition: there are 32 spaces at most. Linear in them.
+    pub fn new(alloc: Global, id: SpaceId, n: u16, limits: Limits) -> Result<Space, AllocError>
+        requires { n ≤ 32 }
+        ensures id { IfOk result (λ space. space.id ≡ id) }
+        ensures n { IfOk result (λ space. space.n ≡ n) }
+        ensures limits { IfOk result (λ space. space.limits ≡ limits) }
+        ensures stands { IfOk result (λ space. StandsFor space []) }
+    {
+        let here = Here { space: id, n };
+        let parts = Parts::new(alloc, &here, limits)?;
+        Ok(Space {
+            here,
+            limits,
+            alloc,
+            parts,
+        })
+    }
+
+    /// The number of the space.
+    pub fn id(&self) -> SpaceId
+        ensures { result ≡ self.now.id }
+    {
+        self.here.space
+    }
+
+    /// How many spaces there are.
+    pub fn n(&self) -> u16
+        ensures { result ≡ self.now.n }
+    {
+        self.here.n
+    }
+
+    /// The limits of its sessions.
+    pub fn limits(&self) -> Limits
+        ensures { result ≡ self.now.limits }
+    {
+        self.limits
+    }
+
+    /// Whether a client is listed for the object of an index: it asked for it, was granted it, and hasn't given it up.
+    /// Linear in the listings.
+    pub fn lists(&self, index: u64, client: SpaceId) -> bool
+        ensures { (L : List Entry) → StandsFor self.now L → result ≡ is_listed self.now.id index client (deeds L) }
+    {
+        self.parts.lists(index, client)
+    }
+
+    /// Whether TakeReply of a call would say anything but that the reply isn't ready. Linear in the calls and the ready
+    /// replies.
+    pub fn reply_ready(&self, call: CallNo) -> bool
+        ensures { (L : List Entry) → StandsFor self.now L → result ≡ next.reply_ready call (history self.now.id self.now.n L) }
+    {
+        self.parts.reply_ready(call)
+    }
+
+    /// What the space could do next: to ask it that would be no refusal, limits, free numbers and want of memory aside.
+    /// It takes no memory. Linear in the messages that wait and their references, the ready jobs times those that run,
+    /// and, times the pins and the listings, in the surrogates and the objects without holds.
+    pub fn work(&self) -> Work
+        ensures act { (L : List Entry) → StandsFor self.now L → (p : ℕ) → 1 ≤ p → p ≤ 32 → slice_get result.act (p - 1) ≡ Some (next.can_act self.now.id self.now.n p (history self.now.id self.now.n L)) }
+        ensures send { (L : List Entry) → StandsFor self.now L → (p : ℕ) → 1 ≤ p → p ≤ 32 → slice_get result.send (p - 1) ≡ Some (next.can_send self.now.id self.now.n p self.now.limits.window (history self.now.id self.now.n L)) }
+        ensures settle { (L : List Entry) → StandsFor self.now L → result.settle ≡ next.can_settle self.now.id self.now.n (history self.now.id self.now.n L) }
+        ensures clean { (L : List Entry) → StandsFor self.now L → result.clean ≡ next.can_clean self.now.id self.now.n (history self.now.id self.now.n L) }
+        ensures claim { (L : List Entry) → StandsFor self.now L → result.claim ≡ next.can_claim (history self.now.id self.now.n L) }
+        ensures withdraw { (L : List Entry) → StandsFor self.now L → result.withdraw ≡ next.to_withdraw self.now.id (history self.now.id self.now.n L) }
+    {
+        let act = acts(&self.parts, &self.here);
+        let send = sends(&self.parts, &self.here);
+        let settle = can_settle(&self.parts, &self.here);
+        let clean = can_clean(&self.parts, &self.here);
+        let claim = self.parts.can_claim();
+        let withdraw = self.parts.to_withdraw(&self.here);
+        Work {
+            act,
+            send,
+            settle,
+            clean,
+            claim,
+            withdraw,
+        }
+    }
+
+    /// One event: its answer, or why the space refuses it. After a refusal, or where memory was wanted, the space is as
+    /// it was. What it costs is said at each event of the state.
+    pub fn step(&mut self, event: &Event) -> Result<Answer, SpaceError>
+        ensures answer { (L : List Entry) → StandsFor self.old L → AnswersRight event.now result (right self.old.id self.old.n self.old.limits L event.now) }
+        ensures stands { (L : List Entry) → StandsFor self.old L → StandsFor self.new (with_entry self.old.id event.now result L) }
+        ensures err { OnErr result ((L : List Entry) → StandsFor self.old L → StandsFor self.new L) }
+        ensures same { SameSpace self.old self.new }
+        ensures memory { wants_memory event.now ≡ false → result ≢ Err SpaceError.OutOfMemory }
+    {
+        let here = self.here;
+        let alloc = self.alloc;
+        steps::step(&mut self.parts, alloc, &here, event)
+    }
+
+    /// Closes each session that is open, as if it was asked to, and ends the space: each of its pins is given up. It takes
+    /// no memory, and tells no peer.
+    pub fn shut(self) {
+        let Space {
+            here,
+            limits: _,
+            alloc: _,
+            parts,
+        } = self;
+        parts.shut(&here);
+    }
+}

@@ -1,0 +1,150 @@
+-- A message that waits has the number of an item.
+use Rattle.std.proofs.Common.{◌≡◌, ℕ, ◌+◌, ◌≤◌, ◌<◌, Bool, true, false, not, nat_le, nat_lt, ◌&&◌, ◌==◌, List, [], ◌∷◌, ◌++◌, length, drop, find, Option, Some, None, Ok, Err, IsSome, if◌then◌else◌, refl, arith}
+use Prim.Native.Nat.{zero, suc}
+use Rattle.std.specs.List.{AllByRecursion}
+use Rattle.std.proofs.lemmas.Bool.{and_parts}
+use Rattle.std.proofs.lemmas.Bool.Decides.{nat_tests}
+use Rattle.std.proofs.lemmas.List.{length-append}
+use Rattle.nob_ids.specs.declared.limits.Limits.{Limits}
+use Rattle.nob_frame.specs.Kinds.{is_data, is_close}
+use Rattle.nob_item.specs.Judging.{is_item_number}
+use Rattle.nob_item.specs.declared.item.Item.{Item}
+use Rattle.nob_item.specs.declared.item.Item.TheVariants as items
+use Rattle.nob_model_end.specs.End.{is_open, accepted, takes, waiting, transmitted}
+use Rattle.nob_model_end.specs.Right.{last_item, inbox_limit, first_of, is_accepted, is_of_pair}
+use Rattle.nob_model_end.specs.declared.entry.Arrived.TheVariants as arrived
+use Rattle.nob_model_end.specs.declared.entry.EndEntry.{EndEntry}
+use Rattle.nob_model_end.specs.declared.entry.EndEntry.TheVariants as ends
+use Rattle.nob_model_end.specs.declared.entry.Ending.{Ending}
+use Rattle.nob_model_end.specs.declared.refusal.EndRefusal.{EndRefusal}
+use Rattle.nob_model_types.specs.declared.answer.Job.{Job}
+use Rattle.nob_model_words.specs.declared.deed.Deed.{Deed}
+use Rattle.nob_model_words.specs.declared.deed.Deed.TheVariants.{Call, TakeReply, TakeEnd, Claim, Finish, DropReply, Act, Settle, Closing}
+use Rattle.nob_model_words.specs.declared.message.Message.{Message}
+use Rattle.nob_model_words.specs.Messages.{new_message, message_after, is_of, is_not_from, is_job, is_lost_message}
+use Rattle.nob_model_words.specs.Sessions.{item_at}
+use Rattle.nob_model_work.specs.declared.work.InHand.{InHand}
+use Rattle.nob_model_work.specs.Work.{work, work_after, with_loans, is_none_of, wait, make_ready, make_reply, is_not_reply, after_message, after_act, after_settlement, after_settle, after_claim, after_call, after_take, after_end, after_finish, after_close, without_waiting}
+use Rattle.nob_model_history.specs.Histories.{history_of}
+use Rattle.nob_model_history.specs.Ends.{calls_at}
+use Rattle.nob_model.specs.Laws.{AreRightCalls}
+use Rattle.nob_model.specs.Lists.{AreRightDeeds, IsRightDeed}
+use Rattle.nob_model.proofs.Calling.{calls_law}
+use Rattle.nob_model.proofs.Carrying.{all_push, all_filter, all_without, all_found, all_mapped}
+use Rattle.nob_model.proofs.Waiting.{act_number, are_waiting, IsOpenIn}
+
+-- ---- as many items as have numbers
+
+-- where something is left of a list behind a place, the list is longer
+some_left : (n k : ℕ) (all : List (List ℕ)) → IsSome (first_of n (drop k all)) → k < length all
+some_left n zero [] some = absurd (cc)
+some_left n (suc k) [] some = absurd (cc)
+some_left n zero (x ∷ xs) some = omega arith
+some_left n (suc k) (x ∷ xs) some = let less = some_left n k xs some in omega (arith, less)
+
+some_waits : (b : Bool) (n k : ℕ) (all : List (List ℕ)) → IsSome (first_of n (if b then drop k all else [])) → k < length all
+some_waits true n k all some = some_left n k all some
+some_waits false n k all some = absurd (cc)
+
+-- an item that an arriving frame brought was accepted
+took_accepted : (strange closed close bad fits : Bool) (refusal : EndRefusal) (one other : Ending) (k : ℕ)
+    → Ok (arrived.Took (suc k)) ≡ (if strange then Err refusal else (if closed then Ok (arrived.Took 0) else (if close then Ok (arrived.Closed one) else (if bad then Ok (arrived.Closed other) else (if fits then Ok (arrived.Took 1) else Ok (arrived.Took 0)))))) → fits ≡ true
+took_accepted true closed close bad fits refusal one other k e = absurd (cc)
+took_accepted false true close bad fits refusal one other k e = absurd (cc)
+took_accepted false false true bad fits refusal one other k e = absurd (cc)
+took_accepted false false false true fits refusal one other k e = absurd (cc)
+took_accepted false false false false true refusal one other k e = refl
+took_accepted false false false false false refusal one other k e = absurd (cc)
+
+-- what was taken was accepted, and all that was has a number
+counts_right : (me peer : ℕ) (limits : Limits) (L : List EndEntry) → AreRightCalls me peer limits L → (takes L ≤ length (accepted L)) × (length (accepted L) ≤ last_item)
+counts_right me peer limits [] right = (omega arith, omega arith)
+counts_right me peer limits (ends.Take ∷ L) right =
+    let before = counts_right me peer limits L right.1 in
+    let more = some_waits (is_open L) (takes L + 1) (takes L) (accepted L) right.0 in
+    (omega (arith, more), before.1)
+counts_right me peer limits (ends.Arrive frame (Ok (arrived.Took (suc k))) ∷ L) right =
+    let before = counts_right me peer limits L right.1 in
+    let fits : is_accepted frame L ≡ true = took_accepted (not (is_of_pair me peer frame)) (not (is_open L)) (is_close frame.kind) (nat_lt (transmitted L + 1) frame.ack) (is_accepted frame L) _ _ _ k right.0 in
+    let three = and_parts (is_data frame.kind && (frame.seq == length (accepted L) + 1) && nat_le frame.seq last_item) (nat_lt (length (waiting L)) inbox_limit) fits in
+    let two = and_parts (is_data frame.kind && (frame.seq == length (accepted L) + 1)) (nat_le frame.seq last_item) three.0 in
+    let next = (and_parts (is_data frame.kind) (frame.seq == length (accepted L) + 1) two.0).1 in
+    let under = two.1 in
+    let bound : length (accepted L) + 1 ≤ last_item = grind (arith, nat_tests, next, under) in
+    let more : length (accepted L ++ frame.payload ∷ []) ≡ length (accepted L) + 1 = length-append (accepted L) (frame.payload ∷ []) in
+    (let low = before.0 in omega (arith, low, more), omega (arith, bound, more))
+counts_right me peer limits (call ∷ L) right = counts_right me peer limits L right.1
+
+-- ---- counted from 1
+
+-- its number is counted from 1
+abbrev IsNumbered : Message → Type 0
+IsNumbered m = 1 ≤ m.number
+
+message_low : (p k : ℕ) (m : Message) (item : Item) (W : InHand) → IsNumbered m → AllByRecursion IsNumbered W.waiting → AllByRecursion IsNumbered (after_message m item W).waiting
+unfolding after_message
+message_low p k m (items.Call call target method value) W its all = elim (is_none_of m.copies) as (λ b. AllByRecursion IsNumbered (if b then make_ready m W else wait m W).waiting) [ true ↦ all | false ↦ all_push IsNumbered W.waiting m all its ]
+message_low p k m (items.Reply call status value) W its all = elim (is_none_of m.copies) as (λ b. AllByRecursion IsNumbered (if b then make_reply m W else wait m W).waiting) [ true ↦ all | false ↦ all_push IsNumbered W.waiting m all its ]
+message_low p k m (items.Settle item) W its all = all
+message_low p k m (items.Dirty index) W its all = all
+message_low p k m (items.DirtyOk index) W its all = all
+message_low p k m (items.DirtyNo index) W its all = all
+message_low p k m (items.Clean index) W its all = all
+
+settled_low : (m : Message) (item : Item) (lost : Bool) (W : InHand) → AllByRecursion IsNumbered W.waiting → AllByRecursion IsNumbered (after_settlement m item lost W).waiting
+unfolding after_settlement
+settled_low m (items.Call call target method value) true W all = all
+settled_low m (items.Call call target method value) false W all = all
+settled_low m (items.Reply call status value) true W all = all
+settled_low m (items.Reply call status value) false W all = all
+settled_low m (items.Settle item) lost W all = all
+settled_low m (items.Dirty index) lost W all = all
+settled_low m (items.DirtyOk index) lost W all = all
+settled_low m (items.DirtyNo index) lost W all = all
+settled_low m (items.Clean index) lost W all = all
+
+module _ (s n : ℕ) (limits : Limits) where
+  act_low : (p k : ℕ) (D : List Deed) (item : Option Item) (W : InHand) → 1 ≤ k → AllByRecursion IsNumbered W.waiting → AllByRecursion IsNumbered (after_act s n p k D item W).waiting
+  unfolding after_act
+  act_low p k D None W low all = all
+  act_low p k D (Some item) W low all = message_low p k (new_message s n p k item (Act p k ∷ D)) item W low all
+
+  settle_low : (p k : ℕ) (D : List Deed) (found : Option Message) (W : InHand) → AllByRecursion IsNumbered W.waiting → AllByRecursion IsNumbered (after_settle s n p k D found W).waiting
+  unfolding after_settle
+  settle_low p k D None W all = all
+  settle_low p k D (Some m) W all = settled_low m m.item (is_lost_message s n D m) (without_waiting p k W) (all_without IsNumbered (is_of p k) W.waiting all)
+
+  claim_low : (job : Job) (found : Option Message) (W : InHand) → AllByRecursion IsNumbered W.waiting → AllByRecursion IsNumbered (after_claim job found W).waiting
+  unfolding after_claim
+  claim_low job None W all = all
+  claim_low job (Some m) W all = all
+
+  deed_low : (deed : Deed) (D : List Deed) (W : InHand) → IsRightDeed s n limits deed D → AllByRecursion IsNumbered W.waiting → AllByRecursion IsNumbered (work_after s n deed D W).waiting
+  unfolding work_after after_call after_take after_end after_finish after_close
+  deed_low (Call target method value call) D W right all = all
+  deed_low (TakeReply call status value) D W right all = all_filter IsNumbered (is_not_reply call) W.waiting all
+  deed_low (TakeEnd call) D W right all = all
+  deed_low (Claim job) D W right all = claim_low job (find (is_job job) W.ready) W all
+  deed_low (Finish job outcome) D W right all = all
+  deed_low (DropReply job) D W right all = all
+  deed_low (Act p k) D W right all = let next = act_number s n limits p k D right in act_low p k D (item_at p k D) W (omega (arith, next)) all
+  deed_low (Settle p k) D W right all = settle_low p k D (find (is_of p k) W.waiting) W all
+  deed_low (Closing p reason cause) D W right all = all_filter IsNumbered (is_not_from p) W.waiting all
+  deed_low (_) D W right all = all
+
+  all_low : (D : List Deed) → AreRightDeeds s n limits D → AllByRecursion IsNumbered (work s n D).waiting
+  unfolding with_loans message_after
+  all_low [] right = tt
+  all_low (deed ∷ D) right = all_mapped IsNumbered (λ message. message_after s n (deed ∷ D) message) (λ message low. low) (work_after s n deed D (work s n D)).waiting (deed_low deed D (work s n D) right.0 (all_low D right.1))
+
+  -- a message that waits has the number of an item
+  pub number_there : (D : List Deed) (test : Message → Bool) (m : Message) → AreRightDeeds s n limits D → find test (work s n D).waiting ≡ Some m → is_item_number m.number ≡ true
+  number_there D test m right found =
+      let low = all_found IsNumbered test (work s n D).waiting m found (all_low D right) in
+      let open_in : IsOpenIn s n D m = all_found (IsOpenIn s n D) test (work s n D).waiting m found (are_waiting s n limits D right).0 in
+      let counts = counts_right s m.from limits (calls_at m.from (history_of s n D)) (calls_law s n limits D right m.from) in
+      let taken = open_in.1 in
+      let few = counts.0 in
+      let under = counts.1 in
+      let high : m.number ≤ last_item = omega (arith, taken, few, under) in
+      grind (arith, nat_tests, low, high)

@@ -1,0 +1,114 @@
+//! Giving surrogates up: Clean.
+
+ghost use Rattle.std.specs.Prelude.{◌≡◌, ◌<◌, ◌≤◌, ℕ, List, ◌∷◌, ◌+◌, vec_len, true, None, Ok, IsOk, IfOk, OnErr, MatchOption};
+ghost use Rattle.nob_ids.specs.declared.limits.Limits.{Limits as LimitsOf};
+ghost use Rattle.nob_item.specs.declared.item.Item.TheVariants as items;
+ghost use Rattle.nob_model_types.specs.declared.answer.Answer.TheVariants as answers;
+ghost use Rattle.nob_model_words.specs.declared.deed.Deed.{Deed};
+ghost use Rattle.nob_model_words.specs.declared.deed.Deed.TheVariants as did;
+ghost use Rattle.nob_model_history.specs.Histories.{history_of};
+ghost use Rattle.nob_model_history.specs.Ends.{payload_of};
+ghost use Rattle.nob_model.specs.Right as right;
+ghost use Rattle.nob_space_state.specs.Parts.{state_of};
+ghost use Rattle.nob_space_state.specs.Stands.{Stands, IsState, Keeps, Did, AnswersOrWants};
+ghost use Rattle.nob_model_end.specs.declared.entry.EndEntry.{EndEntry};
+ghost use Rattle.nob_model_end.specs.declared.entry.EndEntry.TheVariants.{Send};
+ghost use Rattle.nob_session.specs.Calls.{next_of};
+ghost use Rattle.nob_session.specs.Stands as ends;
+ghost use Rattle.nob_table.specs.Standings.{is_idle, unknown};
+ghost use Rattle.nob_table.specs.Table.{standing, Becomes, Places, RemovalLeaves};
+ghost use Rattle.nob_space_items.specs.Cleaning.{NoneSpareBelow, IsFirstSpare, ArePlacedApart};
+
+use nob_ids::{ItemNo, WireRep};
+use nob_item::{Item, ItemError, encode};
+use nob_model::{Here, Kind, Refusal};
+use nob_session::Session;
+use nob_space_state::{Parts, SpaceError, send_reserved};
+use nob_table::ObjectTable;
+use std::alloc::{AllocError, Global};
+
+// The first surrogate, in the order of the last Dirties, that is granted and has neither holds nor pins.
+pub(crate) fn first_spare(parts: &Parts) -> Option<WireRep>
+    requires { ArePlacedApart parts.now.table }
+    ensures { MatchOption result (NoneSpareBelow (state_of parts.now) parts.now.table.dirties) (λ rep. IsFirstSpare (state_of parts.now) rep) }
+{
+    let end = parts.table.dirty_count();
+    let mut place = 0;
+    while place < end {
+        let Some((at, rep)) = parts.table.first_idle(place) else {
+            return None;
+        };
+        if !parts.is_pinned(&rep) {
+            return Some(rep);
+        }
+        place = at + 1;
+    }
+    None
+}
+
+// The payload that carries a Clean. Only memory fails it.
+fn payload_of_clean(alloc: Global, index: u64) -> Result<Vec<u8>, AllocError>
+    ensures spelled { IfOk result (λ payload. payload.items ≡ payload_of (items.Clean index)) }
+    ensures size { IfOk result (λ payload. (0 < vec_len payload) × (vec_len payload ≤ 16384)) }
+{
+    match encode(alloc, &Item::Clean(index)) {
+        Ok(payload) => Ok(payload),
+        Err(ItemError::Fault(_)) => unreachable!(),
+        Err(ItemError::OutOfMemory) => Err(AllocError),
+    }
+}
+
+// Hands a note to the peer of a session: the number that it gets. Only memory fails it.
+fn hand_note(session: &mut Session, payload: Vec<u8>) -> Result<ItemNo, AllocError>
+    requires payload { (0 < vec_len payload) × (vec_len payload ≤ 16384) }
+    requires next { IsOk (next_of Kind.Note session.old.end) }
+    ensures number { IfOk result (λ number. number ≡ session.old.end.handed + 1) }
+    ensures answer { (me peer : ℕ) (limits : LimitsOf) (L : List EndEntry) → ends.Stands me peer limits session.old.end L → IfOk result (λ number. ends.Stands me peer limits session.new.end (Send payload.items Kind.Note (Ok number) ∷ L)) }
+    ensures err { OnErr result (session.new.end ≡ session.old.end) }
+{
+    if session.reserve(1).is_err() {
+        return Err(AllocError);
+    }
+    Ok(send_reserved(session, payload, Kind::Note))
+}
+
+// Takes a surrogate that can be given up out of the table.
+fn forget(table: &mut ObjectTable, rep: &WireRep)
+    requires { is_idle (standing table.old rep.now) ≡ true }
+    ensures row { Becomes table.old table.new rep.now unknown }
+    ensures place { Places table.old table.new rep.now None }
+    ensures left { RemovalLeaves table.old table.new }
+{
+    match table.remove(*rep) {
+        Ok(()) => {}
+        Err(_) => unreachable!(),
+    }
+}
+
+/// Clean: the first surrogate, in the order of the last Dirties, that is granted on an open session and has neither
+/// holds nor pins is given up: its owner is told so by an item. Nothing where there is none, SeqEnd where the session
+/// with its owner has no number left. Linear in the surrogates and the pins, once more for each surrogate that nothing
+/// holds but that has pins.
+pub fn clean(parts: &mut Parts, alloc: Global, here: &Here) -> Result<WireRep, SpaceError>
+    requires { IsState here.now.space here.now.n (state_of parts.old) }
+    ensures answer { (limits : LimitsOf) (D : List Deed) → Stands here.now.space here.now.n limits (state_of parts.old) D → AnswersOrWants (λ rep. answers.Cleaned rep) result (right.right_clean here.now.space here.now.n (history_of here.now.space here.now.n D)) }
+    ensures stands { IfOk result (λ rep. Did here.now.space here.now.n (state_of parts.old) (state_of parts.new) (did.Clean rep)) }
+    ensures err { OnErr result (Keeps here.now.space here.now.n (state_of parts.old) (state_of parts.new)) }
+{
+    let Some(rep) = first_spare(parts) else {
+        return Err(SpaceError::Refused(Refusal::Nothing));
+    };
+    let place = rep.owner.get() as usize - 1;
+    if parts.sessions[place].free_numbers() == 0 {
+        return Err(SpaceError::Refused(Refusal::SeqEnd));
+    }
+    let Ok(payload) = payload_of_clean(alloc, rep.index) else {
+        return Err(SpaceError::OutOfMemory);
+    };
+    let session = &mut parts.sessions[place];
+    let Ok(_) = hand_note(session, payload) else {
+        return Err(SpaceError::OutOfMemory);
+    };
+    forget(&mut parts.table, &rep);
+    Ok(rep)
+}

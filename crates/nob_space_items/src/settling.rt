@@ -1,0 +1,341 @@
+//! Settling the messages that wait for their references: Settle.
+
+ghost use Rattle.std.specs.Prelude.{◌≡◌, ◌<◌, ◌≤◌, ℕ, ◌+◌, List, [], ◌∷◌, ◌++◌, if◌then◌else◌, true, None, Some, Ok, vec_len, is_some, option_map, IfOk, IfSome, OnOk, OnErr, MatchResult};
+ghost use Rattle.std.specs.List.{list_all, list_any, position};
+ghost use Rattle.std.specs.Vec.{vec_capacity};
+ghost use Rattle.nob_ids.specs.declared.limits.Limits.{Limits as LimitsOf};
+ghost use Rattle.nob_item.specs.Judging.{is_call_number, is_item_number};
+ghost use Rattle.nob_item.specs.declared.item.Item.TheVariants as items;
+ghost use Rattle.nob_model_end.specs.Right.{last_item};
+ghost use Rattle.nob_model_end.specs.declared.entry.EndEntry.{EndEntry};
+ghost use Rattle.nob_model_end.specs.declared.entry.EndEntry.TheVariants.{Send};
+ghost use Rattle.nob_model_types.specs.declared.answer.Answer.TheVariants as answers;
+ghost use Rattle.nob_model_words.specs.declared.deed.Deed.{Deed};
+ghost use Rattle.nob_model_words.specs.declared.deed.Deed.TheVariants as did;
+ghost use Rattle.nob_model_work.specs.Work.{after_settlement, lost_reply};
+ghost use Rattle.nob_model_history.specs.Histories.{history_of};
+ghost use Rattle.nob_model_history.specs.Ends.{payload_of};
+ghost use Rattle.nob_model_history.specs.Holds.{loans_of};
+ghost use Rattle.nob_model.specs.Right as right;
+ghost use Rattle.nob_session.specs.Stands as ends;
+ghost use Rattle.nob_session.specs.Stands.{is_open_end};
+ghost use Rattle.nob_space_state.specs.Parts.{state_of, with_table, with_work};
+ghost use Rattle.nob_space_state.specs.Returns.{HasLent, GivesBack};
+ghost use Rattle.nob_space_state.specs.Stands.{Stands, IsState, Keeps, Did, AnswersOrWants};
+ghost use Rattle.nob_space_items.specs.Settling.{is_denied, is_lost_here, is_resolved_here, is_settleable, has_lost, lost_call, reply_to_lost, items_given, given_count, with_note, loans_ended};
+
+use nob_ids::{CallNo, ItemNo, SpaceId, WireRep};
+use nob_item::{Item, ItemError, encode, encode_reply};
+use nob_model::{Here, Kind, Message, RefCopy, Refusal};
+use nob_model_words::message::RefCopies;
+use nob_pickle::Value;
+use nob_session::Session;
+use nob_space_state::{Parts, SpaceError, give_back_message, send_reserved};
+use nob_table::{ObjectTable, State};
+use std::alloc::{AllocError, Global};
+
+/// A Call or a Reply that is settled: its references are all resolved.
+#[derive(Clone, Copy, Debug, PartialEq, Eq)]
+pub struct SettledItem {
+    /// The space that sent it.
+    pub peer: SpaceId,
+    /// The number of its item.
+    pub item: ItemNo,
+}
+
+// Whether it is a surrogate that its owner has refused.
+fn is_denied(state: State) -> bool
+    ensures { result ≡ is_denied state }
+{
+    match state {
+        State::Refused => true,
+        _ => false,
+    }
+}
+
+// Whether a reference is lost.
+fn is_lost(parts: &Parts, here: &Here, rep: &WireRep) -> bool
+    ensures { result ≡ is_lost_here here.now.space here.now.n (state_of parts.now) rep.now }
+{
+    if rep.owner == here.space {
+        return false;
+    }
+    if !here.is_peer(rep.owner) {
+        return true;
+    }
+    if parts.has_closed(rep.owner) {
+        return true;
+    }
+    let standing = parts.table.state(*rep);
+    is_denied(standing.state)
+}
+
+// Whether a reference is resolved.
+fn is_resolved(parts: &Parts, here: &Here, rep: &WireRep) -> bool
+    ensures { result ≡ is_resolved_here here.now.space here.now.n (state_of parts.now) rep.now }
+{
+    if rep.owner == here.space {
+        return true;
+    }
+    let standing = parts.table.state(*rep);
+    let state = standing.state;
+    if state.is_granted() {
+        return true;
+    }
+    is_lost(parts, here, rep)
+}
+
+// Whether all references of a message are resolved.
+fn is_settleable(parts: &Parts, here: &Here, message: &Message) -> bool
+    ensures { result ≡ is_settleable here.now.space here.now.n (state_of parts.now) message.now }
+{
+    message
+        .copies
+        .as_slice()
+        .iter()
+        .all(|copy| is_resolved(parts, here, &copy.rep))
+}
+
+// Whether a message carries a reference that is lost.
+fn has_lost(parts: &Parts, here: &Here, message: &Message) -> bool
+    ensures { result ≡ has_lost here.now.space here.now.n (state_of parts.now) message.now }
+{
+    message
+        .copies
+        .as_slice()
+        .iter()
+        .any(|copy| is_lost(parts, here, &copy.rep))
+}
+
+// The place of the first message that waits whose references are all resolved.
+pub(crate) fn first_settleable(parts: &Parts, here: &Here) -> Option<usize>
+    ensures { result ≡ position (is_settleable here.now.space here.now.n (state_of parts.now)) parts.now.waiting.items }
+{
+    parts
+        .waiting
+        .iter()
+        .position(|message| is_settleable(parts, here, message))
+}
+
+// The number of a Call with a lost reference.
+fn lost_call(item: &Item, lost: bool) -> Option<CallNo>
+    ensures { result ≡ lost_call item.now lost }
+{
+    match item {
+        Item::Call { call, .. } => {
+            if lost {
+                return Some(*call);
+            }
+            None
+        }
+        _ => None,
+    }
+}
+
+// How many items settling gives.
+fn given_count(call: &Option<CallNo>) -> u64
+    ensures { result ≡ given_count call.now }
+{
+    match call {
+        Some(_) => 2,
+        None => 1,
+    }
+}
+
+// The payload that carries a Settle. Only memory fails it.
+fn payload_of_settle(alloc: Global, item: ItemNo) -> Result<Vec<u8>, AllocError>
+    requires { is_item_number item ≡ true }
+    ensures spelled { IfOk result (λ payload. payload.items ≡ payload_of (items.Settle item)) }
+    ensures size { IfOk result (λ payload. (0 < vec_len payload) × (vec_len payload ≤ 16384)) }
+{
+    match encode(alloc, &Item::Settle(item)) {
+        Ok(payload) => Ok(payload),
+        Err(ItemError::Fault(_)) => unreachable!(),
+        Err(ItemError::OutOfMemory) => Err(AllocError),
+    }
+}
+
+// The payload that carries the Reply to a Call with a lost reference. Only memory fails it.
+fn payload_of_reply(alloc: Global, call: CallNo) -> Result<Vec<u8>, AllocError>
+    requires { is_call_number call ≡ true }
+    ensures spelled { IfOk result (λ payload. payload.items ≡ payload_of (reply_to_lost call)) }
+    ensures size { IfOk result (λ payload. (0 < vec_len payload) × (vec_len payload ≤ 16384)) }
+{
+    match encode_reply(alloc, call, 3, &Value::Unit) {
+        Ok(payload) => Ok(payload),
+        Err(ItemError::Fault(_)) => unreachable!(),
+        Err(ItemError::OutOfMemory) => Err(AllocError),
+    }
+}
+
+// The same where there is such a Call.
+fn payload_if(alloc: Global, call: Option<CallNo>) -> Result<Option<Vec<u8>>, AllocError>
+    requires { IfSome call (λ k. is_call_number k ≡ true) }
+    ensures spelled { IfOk result (λ reply. option_map (λ payload. payload.items) reply ≡ option_map (λ k. payload_of (reply_to_lost k)) call) }
+    ensures size { IfOk result (λ reply. IfSome reply (λ payload. (0 < vec_len payload) × (vec_len payload ≤ 16384))) }
+{
+    let Some(call) = call else {
+        return Ok(None);
+    };
+    match payload_of_reply(alloc, call) {
+        Ok(payload) => Ok(Some(payload)),
+        Err(error) => Err(error),
+    }
+}
+
+// Hands a Settle to the peer of a session, and a Reply where there is one. Only memory fails it.
+fn hand_notes(
+    session: &mut Session,
+    settle: Vec<u8>,
+    reply: Option<Vec<u8>>,
+) -> Result<(), AllocError>
+    requires settle { (0 < vec_len settle) × (vec_len settle ≤ 16384) }
+    requires reply { IfSome reply (λ payload. (0 < vec_len payload) × (vec_len payload ≤ 16384)) }
+    requires open { is_open_end session.old.end ≡ true }
+    requires free { session.old.end.handed + given_count (option_map (λ payload. 0) reply) ≤ last_item }
+    ensures answer { (me peer : ℕ) (limits : LimitsOf) (L : List EndEntry) → ends.Stands me peer limits session.old.end L → OnOk result (ends.Stands me peer limits session.new.end (with_note (session.old.end.handed + 2) (option_map (λ payload. payload.items) reply) (Send settle.items Kind.Note (Ok (session.old.end.handed + 1)) ∷ L))) }
+    ensures err { OnErr result (session.new.end ≡ session.old.end) }
+{
+    if session.reserve(2).is_err() {
+        return Err(AllocError);
+    }
+    send_reserved(session, settle, Kind::Note);
+    if let Some(payload) = reply {
+        send_reserved(session, payload, Kind::Note);
+    }
+    Ok(())
+}
+
+// Puts a Call that is settled to the ready jobs, or ends it where a reference of it is lost: then what it lent is given
+// back.
+fn put_call(
+    table: &mut ObjectTable,
+    ready: &mut Vec<Message>,
+    me: SpaceId,
+    message: Message,
+    lost: bool,
+)
+    requires lent { lost ≡ true → HasLent table.old (loans_of me message) }
+    requires room { vec_len ready.old < vec_capacity ready.old }
+    ensures back { GivesBack table.old table.new (if lost then loans_of me message else []) }
+    ensures put { ready.new.items ≡ (if lost then ready.old.items else ready.old.items ++ message ∷ []) }
+{
+    if lost {
+        give_back_message(table, me, &message);
+        return;
+    }
+    match ready.push(message) {
+        Ok(()) => {}
+        Err(_) => unreachable!(),
+    }
+}
+
+// Puts a Reply that is settled to the ready replies, or one of status 3 where a reference of it is lost: then what it
+// lent is given back.
+fn put_reply(
+    alloc: Global,
+    table: &mut ObjectTable,
+    replies: &mut Vec<Message>,
+    me: SpaceId,
+    message: Message,
+    call: CallNo,
+    lost: bool,
+)
+    requires lent { lost ≡ true → HasLent table.old (loans_of me message) }
+    requires room { vec_len replies.old < vec_capacity replies.old }
+    ensures back { GivesBack table.old table.new (if lost then loans_of me message else []) }
+    ensures put { replies.new.items ≡ replies.old.items ++ (if lost then lost_reply message call else message) ∷ [] }
+{
+    if !lost {
+        match replies.push(message) {
+            Ok(()) => {}
+            Err(_) => unreachable!(),
+        }
+        return;
+    }
+    give_back_message(table, me, &message);
+    let reply = Message {
+        from: message.from,
+        number: message.number,
+        item: Item::Reply {
+            call,
+            status: 3,
+            value: Value::Unit,
+        },
+        copies: RefCopies::from_vec(Vec::new(alloc)),
+    };
+    match replies.push(reply) {
+        Ok(()) => {}
+        Err(_) => unreachable!(),
+    }
+}
+
+// Puts a message that is settled where it goes.
+fn put_settled(parts: &mut Parts, alloc: Global, me: SpaceId, message: Message, lost: bool)
+    requires lent { HasLent parts.old.table (loans_ended me message message.item lost) }
+    requires ready { vec_len parts.old.ready < vec_capacity parts.old.ready }
+    requires replies { vec_len parts.old.replies < vec_capacity parts.old.replies }
+    ensures back { GivesBack parts.old.table parts.new.table (loans_ended me message message.item lost) }
+    ensures put { state_of parts.new ≡ with_work (after_settlement message message.item lost (state_of parts.old).work) parts.old.calls_made parts.old.jobs_made (with_table parts.new.table (state_of parts.old)) }
+{
+    match &message.item {
+        Item::Call { .. } => put_call(&mut parts.table, &mut parts.ready, me, message, lost),
+        Item::Reply { call, .. } => {
+            let call = *call;
+            put_reply(
+                alloc,
+                &mut parts.table,
+                &mut parts.replies,
+                me,
+                message,
+                call,
+                lost,
+            )
+        }
+        _ => give_back_message(&mut parts.table, me, &message),
+    }
+}
+
+/// Settle: the first message, in order of acting, whose references are all resolved, that is own, granted on an open
+/// session, or lost, is settled: its sender is told so by an item. A Call becomes a ready job and a Reply a ready reply;
+/// where a reference is lost a Call is answered by a Reply of status 3 and is over, a Reply becomes one of status 3, and
+/// what they lent is given back. Nothing where there is none, SeqEnd where the session has too few numbers left.
+/// Linear in the messages that wait and their references.
+pub fn settle(parts: &mut Parts, alloc: Global, here: &Here) -> Result<SettledItem, SpaceError>
+    requires { IsState here.now.space here.now.n (state_of parts.old) }
+    ensures answer { (limits : LimitsOf) (D : List Deed) → Stands here.now.space here.now.n limits (state_of parts.old) D → AnswersOrWants (λ settled. answers.Settled settled.peer settled.item) result (right.right_settle here.now.space here.now.n (history_of here.now.space here.now.n D)) }
+    ensures stands { IfOk result (λ settled. Did here.now.space here.now.n (state_of parts.old) (state_of parts.new) (did.Settle settled.peer settled.item)) }
+    ensures err { OnErr result (Keeps here.now.space here.now.n (state_of parts.old) (state_of parts.new)) }
+{
+    let Some(place) = first_settleable(parts, here) else {
+        return Err(SpaceError::Refused(Refusal::Nothing));
+    };
+    let message = &parts.waiting[place];
+    let peer = message.from;
+    let item = message.number;
+    let lost = has_lost(parts, here, message);
+    let call = lost_call(&message.item, lost);
+    let at = peer.get() as usize - 1;
+    if parts.sessions[at].free_numbers() < given_count(&call) {
+        return Err(SpaceError::Refused(Refusal::SeqEnd));
+    }
+    let Ok(settle) = payload_of_settle(alloc, item) else {
+        return Err(SpaceError::OutOfMemory);
+    };
+    let Ok(reply) = payload_if(alloc, call) else {
+        return Err(SpaceError::OutOfMemory);
+    };
+    if parts.ready.reserve(1).is_err() {
+        return Err(SpaceError::OutOfMemory);
+    }
+    if parts.replies.reserve(1).is_err() {
+        return Err(SpaceError::OutOfMemory);
+    }
+    let session = &mut parts.sessions[at];
+    let Ok(()) = hand_notes(session, settle, reply) else {
+        return Err(SpaceError::OutOfMemory);
+    };
+    let message = parts.waiting.remove(place);
+    put_settled(parts, alloc, here.space, message, lost);
+    Ok(SettledItem { peer, item })
+}

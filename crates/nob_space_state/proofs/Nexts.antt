@@ -1,0 +1,115 @@
+-- What could be done next, by the state.
+use Rattle.std.proofs.Common.{◌≡◌, ℕ, ◌+◌, ◌<◌, ◌≤◌, ◌==◌, not, nat_lt, Bool, true, false, List, find, Option, Some, None, Ok, is_some, option_map, refl, sym, ap, subst, ◌∙◌, arith}
+use Rattle.std.specs.Prelude.{◌≢◌, MatchOption}
+use Rattle.std.specs.List.{position}
+use Rattle.std.proofs.lemmas.Bool.Decides.{nat_tests, Decides-eqb}
+use Rattle.std.proofs.lemmas.Cmp.{nat_eq_equiv}
+use Rattle.std.proofs.lemmas.Option.{none-some}
+use Rattle.nob_pins.specs.Bundles.{count_of}
+use Rattle.nob_table.specs.Standings.{is_live, is_unheld}
+use Rattle.nob_table.specs.Table.{standing, own, NeverUnheld, IsFirstUnheld}
+use Rattle.nob_model_types.specs.declared.answer.Answer.TheVariants as answers
+use Rattle.nob_model_types.specs.declared.refusal.Refusal.{Refusal}
+use Rattle.nob_ids.specs.declared.limits.Limits.{Limits}
+use Rattle.nob_model_end.specs.Right.{right_front}
+use Rattle.nob_model_words.specs.declared.deed.Deed.{Deed}
+use Rattle.nob_model_words.specs.Sessions.{is_peer}
+use Rattle.nob_model_work.specs.declared.work.InHand.{InHand}
+use Rattle.nob_model_history.specs.Ends.{calls_at}
+use Rattle.nob_model_history.specs.Histories.{history_of}
+use Rattle.nob_model.specs.Candidates.{is_free}
+use Rattle.nob_model.specs.Next.{can_act, can_claim, to_withdraw}
+use Rattle.nob_model.specs.Right.{own_ref, right_withdraw}
+use Rattle.nob_model.specs.Sending.{unless}
+use Rattle.nob_model.proofs.Possible.{least_law}
+use Rattle.nob_space_state.specs.Judging.{withdraw_refusal}
+use Rattle.nob_space_state.specs.Looks.{has_closed, has_clients, has_holds}
+use Rattle.nob_space_state.specs.Parts.{State}
+use Rattle.nob_space_state.specs.Stands.{Stands}
+use Rattle.nob_space_state.proofs.Firsts.{no_place, place_first}
+use Rattle.nob_space_state.proofs.Exported.{withdraw_passes, withdraw_right}
+use Rattle.nob_space_state.proofs.Rows.{differ}
+use Rattle.nob_space_state.proofs.Told.{closed_there}
+
+-- something is there where something else was made of it
+pub mapped_some : {A B : Type 0} (f : A → B) (found : Option A) → is_some found ≡ is_some (option_map f found)
+mapped_some f (Some x) = refl
+mapped_some f None = refl
+
+-- there is an item to act on where the inbox of an open session has a front
+pub act_there : {s n : ℕ} {limits : Limits} {st : State} {D : List Deed} → Stands s n limits st D → (p : ℕ) → is_peer s n p ≡ true → has_closed st.sessions p ≡ false → can_act s n p (history_of s n D) ≡ is_some (right_front (calls_at p (history_of s n D)))
+act_there {s} {n} {limits} {st} {D} stands p peer still = rw (peer, sym (closed_there stands p), still) refl
+
+-- a place was found where an element was
+pub place_found : {A : Type 0} (test : A → Bool) (xs : List A) → is_some (position test xs) ≡ is_some (find test xs)
+place_found test xs = elim (position test xs) as (λ place. position test xs ≡ place → is_some place ≡ is_some (find test xs)) [
+  | Some i ↦ λ there. sym (ap is_some (place_first test xs i there).1)
+  | None ↦ λ nowhere. sym (ap is_some (no_place test xs nowhere))
+] refl
+
+-- there is a job to claim where a ready one is free
+pub claim_there : {s n : ℕ} {limits : Limits} {st : State} {D : List Deed} → Stands s n limits st D → is_some (position (is_free st.work) st.work.ready) ≡ can_claim (history_of s n D)
+claim_there {s} {n} {limits} {st} {D} stands = place_found (is_free st.work) st.work.ready ∙ ap (λ (W : InHand). is_some (find (is_free W) W.ready)) stands.work
+
+-- ---- the object to withdraw
+
+-- an object that may be withdrawn is live and without holds
+pub unheld_where : (s : ℕ) (st : State) (index : ℕ) → st.table.me ≡ s → withdraw_refusal s st index ≡ None → is_unheld (standing st.table (own st.table index)) ≡ true
+unfolding withdraw_refusal
+unheld_where s st index me free =
+    let passes : (is_live (standing st.table (own_ref s index)).state ≡ true) × (has_holds st.table (own_ref s index) ≡ false) =
+    withdraw_passes (index == 0) (is_live (standing st.table (own_ref s index)).state) (has_holds st.table (own_ref s index)) (not (count_of st.pins.bundles (own_ref s index) == 0)) (has_clients st.dirty index)
+    (sym (rw (nat_eq_equiv.refl s) refl) ∙ free) in
+    subst (λ (k : ℕ). is_unheld (standing st.table (own_ref k index)) ≡ true) (sym me) (rw (passes.0, passes.1) refl)
+
+-- every index below one is refused
+abbrev pub AreRefusedBelow : (s : ℕ) → State → ℕ → Type 0
+AreRefusedBelow s st from = st.table.me ≡ s → (index : ℕ) → index < from → withdraw_refusal s st index ≡ None → ⊥
+
+-- one step further: the indexes that were passed are refused, and so is the one that was found
+pub refused_more : (s : ℕ) (st : State) (from index : ℕ) (refusal : Refusal) → IsFirstUnheld st.table from index → withdraw_refusal s st index ≡ Some refusal → AreRefusedBelow s st from → AreRefusedBelow s st (index + 1)
+refused_more s st from index refusal first refused below = λ me other low free.
+    elim (other == index) as (λ b. other == index ≡ b → ⊥) [
+      | true ↦ λ same. let is : other ≡ index = (Decides-eqb other index).0 same in none-some refusal (sym (subst (λ k. withdraw_refusal s st k ≡ None) is free) ∙ refused)
+      | false ↦ λ differs. elim (nat_lt other from) as (λ b. nat_lt other from ≡ b → ⊥) [
+        | true ↦ λ lower. below me other (grind (arith, nat_tests, lower)) free
+        | false ↦ λ higher. differ (unheld_where s st other me free) (first.2 other (grind (arith, nat_tests, higher)) (grind (arith, nat_tests, low, differs)))
+      ] refl
+    ] refl
+
+none_unless : (refusal : Option Refusal) → unless refusal answers.Withdrawn ≡ Ok answers.Withdrawn → refusal ≡ None
+none_unless None e = refl
+none_unless (Some refusal) e = absurd (cc)
+
+module _ {s n : ℕ} {limits : Limits} {st : State} {D : List Deed} (stands : Stands s n limits st D) where
+  -- an object that Withdraw takes isn't refused
+  taken_free : (index : ℕ) → right_withdraw s index (history_of s n D) ≡ Ok answers.Withdrawn → withdraw_refusal s st index ≡ None
+  taken_free index is = none_unless (withdraw_refusal s st index) (sym (withdraw_right stands index) ∙ is)
+
+  -- the first one that isn't refused
+  pub least_there : (from index : ℕ) → IsFirstUnheld st.table from index → withdraw_refusal s st index ≡ None → AreRefusedBelow s st from → to_withdraw s (history_of s n D) ≡ Some index
+  least_there from index first free below =
+      let it : right_withdraw s index (history_of s n D) ≡ Ok answers.Withdrawn = withdraw_right stands index ∙ ap (λ r. unless r answers.Withdrawn) free in
+      let least : (other : ℕ) → right_withdraw s other (history_of s n D) ≡ Ok answers.Withdrawn → index ≤ other = λ other is.
+      elim (nat_lt other index) as (λ b. nat_lt other index ≡ b → index ≤ other) [
+        | true ↦ λ lower. absurd (elim (nat_lt other from) as (λ b. nat_lt other from ≡ b → ⊥) [
+          | true ↦ λ low. below stands.table.me other (grind (arith, nat_tests, low)) (taken_free other is)
+          | false ↦ λ higher. differ (unheld_where s st other stands.table.me (taken_free other is)) (first.2 other (grind (arith, nat_tests, higher)) (grind (arith, nat_tests, lower)))
+        ] refl)
+        | false ↦ λ higher. grind (arith, nat_tests, higher)
+      ] refl in
+      elim (to_withdraw s (history_of s n D)) as (λ found. MatchOption found ((other : ℕ) → right_withdraw s other (history_of s n D) ≢ Ok answers.Withdrawn) (λ i. (right_withdraw s i (history_of s n D) ≡ Ok answers.Withdrawn) × ((other : ℕ) → right_withdraw s other (history_of s n D) ≡ Ok answers.Withdrawn → i ≤ other)) → found ≡ Some index) [
+        | None ↦ λ nowhere. absurd (nowhere index it)
+        | Some i ↦ λ found. let low = found.1 index it in let high = least i found.0 in ap (λ k. Some k) (omega (arith, low, high))
+      ] (least_law s (history_of s n D))
+
+  -- none that isn't refused
+  pub none_there : (from : ℕ) → NeverUnheld st.table from → AreRefusedBelow s st from → to_withdraw s (history_of s n D) ≡ None
+  none_there from never below =
+      elim (to_withdraw s (history_of s n D)) as (λ found. MatchOption found ((other : ℕ) → right_withdraw s other (history_of s n D) ≢ Ok answers.Withdrawn) (λ i. (right_withdraw s i (history_of s n D) ≡ Ok answers.Withdrawn) × ((other : ℕ) → right_withdraw s other (history_of s n D) ≡ Ok answers.Withdrawn → i ≤ other)) → found ≡ None) [
+        | None ↦ λ _. refl
+        | Some i ↦ λ found. absurd (elim (nat_lt i from) as (λ b. nat_lt i from ≡ b → ⊥) [
+          | true ↦ λ low. below stands.table.me i (grind (arith, nat_tests, low)) (taken_free i found.0)
+          | false ↦ λ higher. differ (unheld_where s st i stands.table.me (taken_free i found.0)) (never i (grind (arith, nat_tests, higher)))
+        ] refl)
+      ] (least_law s (history_of s n D))

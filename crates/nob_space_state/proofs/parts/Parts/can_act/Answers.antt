@@ -1,0 +1,18 @@
+use Rattle.std.proofs.Common.{◌≡◌, ◌-◌, List, true, is_some, get_or, sym, ap, subst, ◌∙◌}
+use Rattle.nob_session.specs.Stands.{Roomy}
+use Rattle.nob_model_words.specs.Sessions.{is_peer}
+use Rattle.nob_model_history.specs.Ends.{calls_at}
+use Rattle.nob_model_history.specs.Histories.{history_of}
+use Rattle.nob_space_state.proofs.Ends.{at_peer, end_there}
+use Rattle.nob_space_state.proofs.Nexts.{mapped_some, act_there}
+use Rattle.nob_space_state.proofs.parts.Parts.can_act.Goals as goal
+
+pub returns-in-Some : goal.returns-in-Some
+returns-in-Some c limits D stands =
+    let peer : is_peer c.args.here.now.space c.args.here.now.n c.args.peer ≡ true = sym c.is_peer.ensures ∙ c.if-not-is_peer.false in
+    let read : c.in-Some.session.now ≡ get_or c.args.self.now.sessions.items (c.get.result - 1) c.in-Some.session.now = subst (λ (ends : List Roomy). c.in-Some.session.now ≡ get_or ends (c.get.result - 1) c.in-Some.session.now) c.deref.ensures.value (c.in-Some.ensures {u = tt}).lookup.1 in
+    let is = at_peer c.args.self.now.sessions.items c.get.result c.args.peer c.in-Some.session.now c.get.ensures.value read in
+    let there = end_there c.args.here.now.space c.args.here.now.n limits c.args.self.now.sessions.items (history_of c.args.here.now.space c.args.here.now.n D) c.args.peer c.in-Some.session.now stands.ends peer is in
+    c.is_some.ensures ∙ mapped_some _ c.front.result
+    ∙ ap is_some (c.front.ensures.answer c.args.here.now.space c.args.peer limits (calls_at c.args.peer (history_of c.args.here.now.space c.args.here.now.n D)) there.2)
+    ∙ sym (act_there stands c.args.peer peer (sym c.has_closed.ensures ∙ c.if-has_closed.false))

@@ -1,0 +1,38 @@
+use Rattle.std.proofs.Common.{ℕ, List, map, refl, sym, ap, subst, ◌∙◌}
+use Rattle.nob_pins.specs.Bundles.{TakesOutAll}
+use Rattle.nob_model_words.specs.declared.message.Message.{Message}
+use Rattle.nob_model_work.specs.Work.{call_after_close}
+use Rattle.nob_space_state.specs.Closing.{lent_from, ClosesDown}
+use Rattle.nob_space_state.specs.Parts.{state_of}
+use Rattle.nob_space_state.proofs.Closings.{thrown_work}
+use Rattle.nob_space_state.proofs.Returned.{back_then}
+use Rattle.nob_space_state.proofs.parts.Parts.close_down.Goals as goal
+
+pub returns : goal.returns
+returns c =
+    subst (λ (p : ℕ). ClosesDown c.args.me p (state_of c.args.self.now) (state_of record {
+      sessions = c.args.self.now.sessions;
+      table = c.close.new.self;
+      dirty = c.close-2.new.self;
+      pins = c.close-3.new.self;
+      waiting = c.throw_away.new.messages;
+      ready = c.throw_away-2.new.messages;
+      running = c.args.self.now.running;
+      replies = c.args.self.now.replies;
+      calls = c.end_calls.new.calls;
+      calls_made = c.args.self.now.calls_made;
+      jobs_made = c.args.self.now.jobs_made;
+    })) c.peer-peer.ensures record {
+      sessions = refl;
+      table = (
+        c.throw_away-2.new.table,
+        back_then c.args.self.now.table c.throw_away.new.table c.throw_away-2.new.table (lent_from c.args.me c.peer-peer.result c.args.self.now.waiting.items) (lent_from c.args.me c.peer-peer.result c.args.self.now.ready.items) c.throw_away.ensures.back c.throw_away-2.ensures.back,
+        record { closed = c.close.ensures.closed; places = c.close.ensures.places; left = c.close.ensures.left },
+      );
+      listed = c.close-2.ensures.leaves;
+      pins = subst (λ (p : ℕ). TakesOutAll c.args.self.now.pins.bundles c.close-3.new.self.bundles p) (sym c.peer-peer.ensures) c.close-3.ensures;
+      work = thrown_work c.peer-peer.result (state_of c.args.self.now).work c.throw_away.new.messages.items c.throw_away-2.new.messages.items c.end_calls.new.calls.items c.throw_away.ensures.left c.throw_away-2.ensures.left
+          (c.end_calls.ensures ∙ ap (λ (replies : List Message). map (call_after_close c.peer-peer.result replies) c.args.self.now.calls.items) c.as_slice.ensures.value);
+      calls = refl;
+      jobs = refl;
+    }

@@ -1,0 +1,88 @@
+-- What the closing of a session makes of the state.
+use Rattle.std.specs.Prelude.{◌≡◌, ℕ, ◌<◌, Bool, true, ◌==◌, List, ◌∷◌, ◌++◌, filter, flat_map, Option, Some, None, if◌then◌else◌}
+use Rattle.nob_ids.specs.declared.limits.Limits.{Limits}
+use Rattle.nob_ids.specs.declared.reason.Reason.{Reason}
+use Rattle.nob_ids.specs.declared.wire_rep.WireRep.{WireRep}
+use Rattle.nob_dirty.specs.Sets.{LeavesAll}
+use Rattle.nob_pins.specs.Bundles.{TakesOutAll}
+use Rattle.nob_table.specs.Standings.{after_close}
+use Rattle.nob_table.specs.Table.{Table, standing, place_of, is_of, RemovalLeaves}
+use Rattle.nob_frame.specs.declared.frame.Frame.{Frame}
+use Rattle.nob_model_end.specs.declared.entry.Arrived.{Arrived}
+use Rattle.nob_model_end.specs.declared.entry.Arrived.TheVariants as arrived
+use Rattle.nob_model_types.specs.declared.answer.Answer.{Answer}
+use Rattle.nob_model_types.specs.declared.answer.Answer.TheVariants as answers
+use Rattle.nob_model_words.specs.declared.deed.Cause.{Cause}
+use Rattle.nob_model_words.specs.declared.deed.Cause.TheVariants as causes
+use Rattle.nob_model_words.specs.declared.deed.Deed.{Deed}
+use Rattle.nob_model_words.specs.declared.deed.Deed.TheVariants as did
+use Rattle.nob_model_words.specs.declared.deed.Deed.TheVariants.{Closing}
+use Rattle.nob_model_words.specs.Sessions.{is_peer, closed}
+use Rattle.nob_model_words.specs.declared.message.Message.{Message}
+use Rattle.nob_model_work.specs.declared.work.InHand.{InHand}
+use Rattle.nob_model_work.specs.Work as work
+use Rattle.nob_model_history.specs.Holds.{loans_of}
+use Rattle.nob_model.specs.Lists.{IsRightDeed}
+use Rattle.nob_space_state.specs.Parts.{State}
+use Rattle.nob_space_state.specs.Returns.{GivesBack}
+use Rattle.nob_space_state.specs.Stands.{Stands}
+
+-- whether a message came from p
+abbrev pub is_from : ℕ → Message → Bool
+is_from p message = message.from == p
+
+-- what the messages from p among some have lent
+abbrev pub lent_from : (s p : ℕ) → List Message → List WireRep
+lent_from s p messages = flat_map (loans_of s) (filter (is_from p) messages)
+
+-- what the messages from p that wait and the ready jobs from p have lent
+abbrev pub lent_in_vain : (s p : ℕ) → InHand → List WireRep
+lent_in_vain s p W = lent_from s p W.waiting ++ lent_from s p W.ready
+
+-- an owner's surrogates are lost: each of its references that is held is so, the others are forgotten, and none has a place any more
+pub record LosesOwner (old new : Table) (owner : ℕ) : Type 0 where
+  pub closed : (rep : WireRep) → standing new rep ≡ (if is_of old owner rep then after_close (standing old rep) else standing old rep)
+  pub places : (rep : WireRep) → place_of new rep ≡ (if rep.owner == owner then None else place_of old rep)
+  pub left : RemovalLeaves old new
+
+-- the table of a space whose session with p closes: what was lent in vain is given back, and then the references to p's objects are lost
+abbrev pub TableLoses : (s p : ℕ) → State → Table → Type 0
+TableLoses s p old new = (back : Table) × GivesBack old.table back (lent_in_vain s p old.work) × LosesOwner back new p
+
+-- what the closing of the session with p leaves of the parts, the end itself aside
+pub record ClosesDown (s p : ℕ) (old new : State) : Type 0 where
+  pub sessions : new.sessions ≡ old.sessions
+  pub table : TableLoses s p old new.table
+  pub listed : LeavesAll old.dirty new.dirty p
+  pub pins : TakesOutAll old.pins.bundles new.pins.bundles p
+  pub work : new.work ≡ work.after_close p old.work
+  pub calls : new.calls ≡ old.calls
+  pub jobs : new.jobs ≡ old.jobs
+
+-- new stands for every list that old stands for, with the closing of the session with p for a reason, by a cause, after the lists where that is right
+abbrev pub Closes : (s n p : ℕ) → Reason → Cause → State → State → Type 0
+Closes s n p reason cause old new = (limits : Limits) (D : List Deed) → Stands s n limits old D → IsRightDeed s n limits (Closing p reason cause) D → Stands s n limits new (Closing p reason cause ∷ D)
+
+-- the answer to a Tick, by the reason for which it closed the session, if it did
+abbrev pub tick_answer : Option Reason → Answer
+tick_answer None = answers.Done
+tick_answer (Some reason) = answers.Closed reason
+
+-- what a Tick did, by that reason
+abbrev pub tick_deed : ℕ → Option Reason → Deed
+tick_deed p None = did.Tick p
+tick_deed p (Some reason) = Closing p reason causes.Ticks
+
+-- the answer to an Arrive, by what the frame did
+abbrev pub arrive_answer : Arrived → Answer
+arrive_answer (arrived.Took count) = answers.Took count
+arrive_answer (arrived.Closed ending) = answers.Closed ending.reason
+
+-- what an Arrive did, by that
+abbrev pub arrive_deed : Frame → Arrived → Deed
+arrive_deed frame (arrived.Took count) = did.Arrive frame count
+arrive_deed frame (arrived.Closed ending) = Closing frame.from ending.reason (causes.Frame frame)
+
+-- the state stands for a list in which each session of space s among n has closed, with the peers below a number
+abbrev pub IsShutBelow : (s n : ℕ) → ℕ → State → Type 0
+IsShutBelow s n bound state = (limits : Limits) × (D : List Deed) × Stands s n limits state D × ((p : ℕ) → is_peer s n p ≡ true → p < bound → closed p D ≡ true)

@@ -1,0 +1,117 @@
+//! The closing of a session, by whichever event. It takes no memory.
+
+ghost use Rattle.std.specs.Prelude.{◌≡◌, ℕ, List, ◌∷◌, true, false, filter, map, OnErr, IfOk};
+ghost use Rattle.nob_ids.specs.declared.limits.Limits.{Limits as LimitsOf};
+ghost use Rattle.nob_model_types.specs.declared.answer.Answer.TheVariants as answers;
+ghost use Rattle.nob_model_words.specs.declared.deed.Deed.{Deed};
+ghost use Rattle.nob_model_words.specs.declared.deed.Deed.TheVariants as did;
+ghost use Rattle.nob_model_words.specs.declared.deed.Cause.TheVariants as causes;
+ghost use Rattle.nob_model_words.specs.Messages.{is_not_from};
+ghost use Rattle.nob_model_words.specs.Sessions.{is_peer};
+ghost use Rattle.nob_model_work.specs.Work as words;
+ghost use Rattle.nob_model_history.specs.Histories.{history_of};
+ghost use Rattle.nob_model.specs.Right as right;
+ghost use Rattle.nob_model.specs.Lists.{IsRightDeed};
+ghost use Rattle.nob_space_state.specs.Closing.{is_from, lent_from, lent_in_vain, ClosesDown, Closes};
+ghost use Rattle.nob_space_state.specs.Looks.{has_closed};
+ghost use Rattle.nob_space_state.specs.Parts.{state_of};
+ghost use Rattle.nob_space_state.specs.Returns.{HasLent, GivesBack};
+ghost use Rattle.nob_space_state.specs.Stands.{Stands, IsState, Keeps, Did, Answers};
+
+use crate::finish::give_back_message;
+use crate::parts::Parts;
+use nob_ids::{Reason, SpaceId};
+use nob_model::{Here, Message, OwnCall, Refusal};
+use nob_model_work::work::call_after_close;
+use nob_session::Closed;
+use nob_table::ObjectTable;
+
+// Whether a message came from a space.
+fn is_from(peer: SpaceId, message: &Message) -> bool
+    ensures { result ≡ is_from peer message.now }
+{
+    message.from == peer
+}
+
+// Gives back what the messages from a space have lent.
+fn give_back_from(table: &mut ObjectTable, me: SpaceId, peer: SpaceId, messages: &[Message])
+    requires { HasLent table.old (lent_from me peer messages.now) }
+    ensures { GivesBack table.old table.new (lent_from me peer messages.now) }
+{
+    for message in messages {
+        if is_from(peer, message) {
+            give_back_message(table, me, message);
+        }
+    }
+}
+
+// Throws the messages from a space away: what they have lent is given back.
+fn throw_away(table: &mut ObjectTable, messages: &mut Vec<Message>, me: SpaceId, peer: SpaceId)
+    requires { HasLent table.old (lent_from me peer messages.old.items) }
+    ensures back { GivesBack table.old table.new (lent_from me peer messages.old.items) }
+    ensures left { messages.new.items ≡ filter (is_not_from peer) messages.old.items }
+{
+    give_back_from(table, me, peer, messages.as_slice());
+    messages.retain(|message| !is_from(peer, message));
+}
+
+// Ends the calls to a space that have no ready reply.
+fn end_calls(peer: SpaceId, replies: &[Message], calls: &mut Vec<OwnCall>)
+    ensures { calls.new.items ≡ map (words.call_after_close peer replies.now) calls.old.items }
+{
+    for place in 0..calls.len() {
+        calls[place] = call_after_close(peer, replies, &calls[place]);
+    }
+}
+
+impl Parts {
+    // What the closing of a session leaves of the parts: messages that wait and ready jobs from the peer are thrown away
+    // and what they have lent is given back, its references are lost, it is listed nowhere, what was sent to it has no
+    // pins any more, and the calls to it that have no ready reply end.
+    pub(crate) fn close_down(&mut self, me: SpaceId, closed: &Closed)
+        requires { HasLent self.old.table (lent_in_vain me closed.now.peer (state_of self.old).work) }
+        ensures { ClosesDown me closed.now.peer (state_of self.old) (state_of self.new) }
+    {
+        let peer = closed.peer();
+        throw_away(&mut self.table, &mut self.waiting, me, peer);
+        throw_away(&mut self.table, &mut self.ready, me, peer);
+        self.table.close(peer);
+        self.dirty.close(peer);
+        self.pins.close(closed);
+        end_calls(peer, self.replies.as_slice(), &mut self.calls);
+    }
+
+    /// The session with a peer closes here for a reason: an item from it has a fault, or it was asked to close. It takes
+    /// no memory. Linear in the messages that wait, the ready jobs, the calls times the ready replies, the peer's
+    /// references, the listings and the pins. The caller's condition: it is a peer, and its session is open here.
+    pub fn close_for(&mut self, here: &Here, peer: SpaceId, reason: Reason)
+        requires state { IsState here.now.space here.now.n (state_of self.old) }
+        requires peer { is_peer here.now.space here.now.n peer ≡ true }
+        requires open { has_closed self.old.sessions.items peer ≡ false }
+        ensures item { Closes here.now.space here.now.n peer reason causes.Item (state_of self.old) (state_of self.new) }
+        ensures asked { Closes here.now.space here.now.n peer reason causes.Asked (state_of self.old) (state_of self.new) }
+    {
+        match self.sessions[peer.get() as usize - 1].close(reason) {
+            Ok(closed) => self.close_down(here.space, &closed),
+            Err(_) => unreachable!(),
+        }
+    }
+
+    /// Close: the session with a peer closes here, because it was asked to: the reason that the peer is told. It takes
+    /// no memory. It costs what `close_for` does.
+    pub fn close(&mut self, here: &Here, peer: SpaceId) -> Result<Reason, Refusal>
+        requires { IsState here.now.space here.now.n (state_of self.old) }
+        ensures answer { (limits : LimitsOf) (D : List Deed) → Stands here.now.space here.now.n limits (state_of self.old) D → Answers (λ reason. answers.Closed reason) result (right.right_closing here.now.space here.now.n peer (history_of here.now.space here.now.n D)) }
+        ensures stands { IfOk result (λ reason. Did here.now.space here.now.n (state_of self.old) (state_of self.new) (did.Closing peer reason causes.Asked)) }
+        ensures err { OnErr result (Keeps here.now.space here.now.n (state_of self.old) (state_of self.new)) }
+    {
+        if !here.is_peer(peer) {
+            return Err(Refusal::NoPeer);
+        }
+        if self.has_closed(peer) {
+            return Err(Refusal::Closed);
+        }
+        self.close_for(here, peer, Reason::Asked);
+        Ok(Reason::Asked)
+    }
+}

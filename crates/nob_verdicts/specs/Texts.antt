@@ -1,0 +1,18 @@
+-- When two results have one text, and what is said of a trace.
+use Rattle.std.specs.Prelude.{◌≡◌, ℕ, ◌+◌, List, ◌++◌, codes, Result}
+use Rattle.std.specs.Fmt.{decimal}
+use Rattle.nob_model_types.specs.declared.answer.Answer.{Answer}
+use Rattle.nob_model_types.specs.declared.refusal.Refusal.{Refusal}
+use Rattle.nob_trace.specs.Entries.{TransmitFits, result_text}
+
+-- two results have a text in traces, and it is the same
+abbrev pub HaveOneText : Result Answer Refusal → Result Answer Refusal → Type 0
+HaveOneText one other = TransmitFits one × TransmitFits other × (result_text one ≡ result_text other)
+
+-- what is said where so many results are right
+abbrev pub right_line : ℕ → List ℕ
+right_line count = codes "right " ++ (decimal count ++ codes "\n")
+
+-- what is said where so many results are right and the next one isn't
+abbrev pub wrong_line : ℕ → List ℕ
+wrong_line count = codes "wrong " ++ (decimal (count + 1) ++ codes "\n")
