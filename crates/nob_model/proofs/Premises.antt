@@ -93,7 +93,7 @@ item_acted s n limits p k D turn right =
     let told = (act_tells s n p k (history_of s n D) (was_answered s n limits (did.Act p k) D right)).2 in
     (told.1, front_item s n p D turn k told.0 told.1 told.2 told.3, told.4)
 
-no_fault : (test : Bool) (reason : Reason) → fault_if test reason ≡ None → test ≡ false
+pub no_fault : (test : Bool) (reason : Reason) → fault_if test reason ≡ None → test ≡ false
 no_fault true reason e = absurd (some_none reason e)
   where
     some_none : (reason : Reason) → Some reason ≡ None → ⊥

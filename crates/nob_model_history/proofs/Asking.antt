@@ -48,7 +48,7 @@ among_step test rep other reps kept are true is = ap (λ (c : Bool). is_same oth
 among_step test rep other reps kept are false is = are ∙ left_out (is_same other rep) (is_among reps rep) (test rep) (λ same. ap test (sym (same_ref other rep same)) ∙ is)
 
 -- among those that pass a test is who is among all and passes it
-pub among_filter : (test : WireRep → Bool) (rep : WireRep) (reps : List WireRep) → is_among (filter test reps) rep ≡ (is_among reps rep && test rep)
+among_filter : (test : WireRep → Bool) (rep : WireRep) (reps : List WireRep) → is_among (filter test reps) rep ≡ (is_among reps rep && test rep)
 among_filter test rep [] = refl
 among_filter test rep (other ∷ reps) = among_step test rep other reps (filter test reps) (among_filter test rep reps) (test other) refl
 
@@ -58,7 +58,7 @@ or_not false true = refl
 or_not false false = refl
 
 -- each reference once are the same references
-pub among_once : (rep : WireRep) (reps : List WireRep) → is_among (once reps) rep ≡ list_any (is_same rep) reps
+among_once : (rep : WireRep) (reps : List WireRep) → is_among (once reps) rep ≡ list_any (is_same rep) reps
 among_once rep [] = refl
 among_once rep (first ∷ reps) =
     ap (λ (c : Bool). is_same first rep || c) (among_filter (λ (other : WireRep). not (is_same first other)) rep (once reps))
@@ -85,11 +85,11 @@ distinct_step : (test : WireRep → Bool) (first : WireRep) (reps kept : List Wi
 distinct_step test first reps kept are none distinct true = (are ∙ and_left (is_among reps first) (test first) none, distinct)
 distinct_step test first reps kept are none distinct false = distinct
 
-pub filter_distinct : (test : WireRep → Bool) (reps : List WireRep) → AreDistinct reps → AreDistinct (filter test reps)
+filter_distinct : (test : WireRep → Bool) (reps : List WireRep) → AreDistinct reps → AreDistinct (filter test reps)
 filter_distinct test [] distinct = tt
 filter_distinct test (first ∷ reps) distinct = distinct_step test first reps (filter test reps) (among_filter test first reps) distinct.0 (filter_distinct test reps distinct.1) (test first)
 
-pub once_distinct : (reps : List WireRep) → AreDistinct (once reps)
+once_distinct : (reps : List WireRep) → AreDistinct (once reps)
 once_distinct [] = tt
 once_distinct (first ∷ reps) = (
   among_filter (λ (other : WireRep). not (is_same first other)) first (once reps) ∙ and_right (is_among (once reps) first) (not (is_same first first)) (ap not (same_self first)),

@@ -25,6 +25,7 @@ use Rattle.nob_model_work.specs.Work.{work, is_run}
 use Rattle.nob_model_history.specs.Histories.{history_of}
 use Rattle.nob_model_history.specs.Transit.{asks_for, dirties, once_last}
 use Rattle.nob_model_history.proofs.Dirtying.{asked_in, dirties_more}
+use Rattle.nob_model.proofs.Waiting.{all_filter}
 
 -- a reference is counted and a peer's
 abbrev pub IsAsked : (s n : ℕ) → WireRep → Type 0
@@ -47,12 +48,7 @@ filter_passes {A} test (x ∷ xs) = elim (test x) as (λ b. test x ≡ b → All
   | false ↦ λ _. filter_passes test xs
 ] refl
 
--- what holds of all holds of those that pass a test
-pub filter_all : {A : Type 0} (P : A → Type 0) (test : A → Bool) (xs : List A) → AllByRecursion P xs → AllByRecursion P (filter test xs)
-filter_all P test [] all = tt
-filter_all P test (x ∷ xs) all = elim (test x) as (λ b. AllByRecursion P (cond b (x ∷ filter test xs) (filter test xs))) [ true ↦ (all.0, filter_all P test xs all.1) | false ↦ filter_all P test xs all.1 ]
-
--- and of two lists, one behind the other
+-- what holds of two lists holds of one behind the other
 pub append_all : {A : Type 0} (P : A → Type 0) (xs ys : List A) → AllByRecursion P xs → AllByRecursion P ys → AllByRecursion P (xs ++ ys)
 append_all P [] ys all more = more
 append_all P (x ∷ xs) ys all more = (all.0, append_all P xs ys all.1 more)
@@ -60,7 +56,7 @@ append_all P (x ∷ xs) ys all more = (all.0, append_all P xs ys all.1 more)
 -- so it holds of each reference once
 pub once_all : (P : WireRep → Type 0) (reps : List WireRep) → AllByRecursion P reps → AllByRecursion P (once reps)
 once_all P [] all = tt
-once_all P (rep ∷ reps) all = (all.0, filter_all P (λ other. not (is_same rep other)) (once reps) (once_all P reps all.1))
+once_all P (rep ∷ reps) all = (all.0, all_filter P (λ other. not (is_same rep other)) (once reps) (once_all P reps all.1))
 
 -- what holds of all holds of one among them
 pub any_of : (P : WireRep → Type 0) (rep : WireRep) (reps : List WireRep) → AllByRecursion P reps → list_any (is_same rep) reps ≡ true → P rep
@@ -77,7 +73,7 @@ dirties_counted (rep ∷ reps) all = (all.0, dirties_counted reps all.1)
 
 message_counted : (s n : ℕ) (D : List Deed) (item : Item) → AskCounted (dirties_for s n D (counted_in item))
 unfolding dirties_for
-message_counted s n D item = dirties_counted (filter (λ rep. wants_dirty s n rep D (turns s n rep D)) (once (counted_in item))) (filter_all _ _ (once (counted_in item)) (once_all _ (counted_in item) (filter_passes is_counted (refs_carried item))))
+message_counted s n D item = dirties_counted (filter (λ rep. wants_dirty s n rep D (turns s n rep D)) (once (counted_in item))) (all_filter _ _ (once (counted_in item)) (once_all _ (counted_in item) (filter_passes is_counted (refs_carried item))))
 
 act_counted : (s n p : ℕ) (D : List Deed) (found : Option Item) → AskCounted (gifts_of_act s n p D found)
 unfolding gifts_of_act answer_to

@@ -1,7 +1,7 @@
 -- What the table shows once the Dirties of a message are sent.
-use Rattle.std.proofs.Common.{◌≡◌, ℕ, ◌+◌, ◌≤◌, ◌<◌, ◌^◌, Bool, true, false, not, ◌&&◌, ◌||◌, ◌==◌, cond, List, [], ◌∷◌, ◌++◌, length, filter, Option, Some, None, if◌then◌else◌, refl, sym, ap, subst, ◌∙◌, arith}
-use Rattle.std.specs.List.{AllByRecursion, IsDistinct, list_any}
-use Rattle.std.proofs.lemmas.Bool.{and_parts, or_parts}
+use Rattle.std.proofs.Common.{◌≡◌, ℕ, ◌+◌, Bool, true, false, ◌||◌, ◌==◌, cond, List, [], ◌∷◌, ◌++◌, length, Option, Some, None, if◌then◌else◌, refl, sym, ap, ◌∙◌, arith}
+use Rattle.std.specs.List.{AllByRecursion, list_any}
+use Rattle.std.proofs.lemmas.Bool.{or_parts}
 use Rattle.std.proofs.lemmas.Bool.Decides.{nat_tests}
 use Rattle.std.proofs.lemmas.List.{append-nil, append_assoc, length-append}
 use Rattle.nob_ids.specs.Names.{is_same, is_counted}
@@ -10,7 +10,6 @@ use Rattle.nob_ids.specs.declared.wire_rep.WireRep.{WireRep}
 use Rattle.nob_item.specs.Kinds.{counted_in, refs_carried}
 use Rattle.nob_item.specs.declared.item.Item.{Item}
 use Rattle.nob_table.specs.declared.counts.Counts.{Counts}
-use Rattle.nob_table.specs.declared.standing.State.{State as TableState}
 use Rattle.nob_table.specs.declared.standing.State.TheVariants as states
 use Rattle.nob_table.specs.declared.standing.Standing.{Standing}
 use Rattle.nob_table.specs.declared.standing.Surrogate.{Surrogate}
@@ -19,29 +18,26 @@ use Rattle.nob_table.specs.Counts.{is_held, no_counts}
 use Rattle.nob_table.specs.Rows.{row_at}
 use Rattle.nob_table.specs.Standings as standings
 use Rattle.nob_table.specs.Standings.{is_unknown, is_surrogate, own_standing, far_standing, pending_standing}
-use Rattle.nob_table.specs.Table.{Table, standing, place_of, is_far, was_given}
-use Rattle.nob_table.proofs.Same.{same_laws}
+use Rattle.nob_table.specs.Table.{Table, standing, place_of, was_given}
 use Rattle.nob_model_words.specs.declared.deed.Deed.{Deed}
 use Rattle.nob_model_words.specs.declared.deed.Deed.TheVariants.{Act}
-use Rattle.nob_model_words.specs.declared.turns.Turns.{Turns}
-use Rattle.nob_model_words.specs.Objects as objects
 use Rattle.nob_model_words.specs.Sessions.{is_peer, closed}
-use Rattle.nob_model_words.specs.Turns.{turns, with_dirty, is_own, is_pending, is_granted, is_refused, is_standing}
+use Rattle.nob_model_words.specs.Turns.{turns, with_dirty, is_own}
 use Rattle.nob_model_work.specs.Gifts.{once}
 use Rattle.nob_model_work.specs.Work.{work}
 use Rattle.nob_model_history.specs.Histories.{history_of}
 use Rattle.nob_model_history.specs.Holds.{hand, times, lent_in}
 use Rattle.nob_model_history.specs.Transit.{dirties, last_place}
 use Rattle.nob_model_history.proofs.Dirtying.{place_push, same_flip}
-use Rattle.nob_model_history.proofs.Turning as turning
 use Rattle.nob_model.specs.Right.{own_ref}
 use Rattle.nob_space_state.specs.Parts.{State}
 use Rattle.nob_space_state.specs.Stands.{Stands, TableShows, far_state}
 use Rattle.nob_space_items.specs.Asking.{AsksFor, place_after}
 use Rattle.nob_space_items.specs.Fronts.{IsFront}
-use Rattle.nob_space_items.specs.Messages.{is_wanted, wanted}
-use Rattle.nob_space_items.specs.Putting.{IsMessage}
-use Rattle.nob_space_items.proofs.Asked.{IsAsked, any_of, filter_passes, filter_all, once_all}
+use Rattle.nob_space_items.specs.Messages.{is_wanted, wanted_refs}
+use Rattle.nob_space_items.specs.Placing.{IsMessage}
+use Rattle.nob_space_items.proofs.Asked.{IsAsked, any_of, filter_passes, once_all}
+use Rattle.nob_model.proofs.Waiting.{all_filter}
 use Rattle.nob_space_items.proofs.Message.{all_peers, act_turns, wanted_turns, asked_turns, act_dirties, far_by}
 
 -- nobody holds what the table has nothing of
@@ -82,8 +78,8 @@ place_kept n (first ∷ reps) rep before none =
 
 module _ {s n : ℕ} {limits : Limits} {st : State} {D : List Deed} (stands : Stands s n limits st D) (p k : ℕ) (item : Item) (front : IsFront s n p k item D) (message : IsMessage item) where
   -- those that get Dirties are counted and peers'
-  pub all_asked : AllByRecursion (IsAsked s n) (wanted s n st (counted_in item))
-  all_asked = both (wanted s n st (counted_in item)) (filter_all (λ rep. is_counted rep ≡ true) (is_wanted s n st) (once (counted_in item)) (once_all (λ rep. is_counted rep ≡ true) (counted_in item) (filter_passes is_counted (refs_carried item)))) (all_peers stands p k item front message)
+  pub all_asked : AllByRecursion (IsAsked s n) (wanted_refs s n st (counted_in item))
+  all_asked = both (wanted_refs s n st (counted_in item)) (all_filter (λ rep. is_counted rep ≡ true) (is_wanted s n st) (once (counted_in item)) (once_all (λ rep. is_counted rep ≡ true) (counted_in item) (filter_passes is_counted (refs_carried item)))) (all_peers stands p k item front message)
     where
       both : (all : List WireRep) → AllByRecursion (λ rep. is_counted rep ≡ true) all → AllByRecursion (λ rep. is_peer s n rep.owner ≡ true) all → AllByRecursion (IsAsked s n) all
       both [] counted peers = tt
@@ -93,9 +89,9 @@ module _ {s n : ℕ} {limits : Limits} {st : State} {D : List Deed} (stands : St
   other_space rep asked = (let peer = asked.1 in grind (arith, nat_tests, peer))
 
   -- the table has nothing of them
-  pub wanted_unknown : (rep : WireRep) → list_any (is_same rep) (wanted s n st (counted_in item)) ≡ true → (standing st.table rep).state ≡ states.Unknown
+  pub wanted_unknown : (rep : WireRep) → list_any (is_same rep) (wanted_refs s n st (counted_in item)) ≡ true → (standing st.table rep).state ≡ states.Unknown
   wanted_unknown rep there =
-      let asked : IsAsked s n rep = any_of (IsAsked s n) rep (wanted s n st (counted_in item)) all_asked there in
+      let asked : IsAsked s n rep = any_of (IsAsked s n) rep (wanted_refs s n st (counted_in item)) all_asked there in
       let before = wanted_turns stands p k item front message rep there in
       let pending = or_parts _ _ (or_parts _ _ before.0).0 in
       let refused = or_parts _ _ before.0 in
@@ -103,20 +99,20 @@ module _ {s n : ℕ} {limits : Limits} {st : State} {D : List Deed} (stands : St
       ∙ ap (λ b. far_state b (is_held (standing st.table rep).counts) (turns s n rep D)) before.1
       ∙ far_by (is_held (standing st.table rep).counts) (turns s n rep D) false false false (pending.0, pending.1, refused.1)
 
-  wanted_free : (rep : WireRep) → list_any (is_same rep) (wanted s n st (counted_in item)) ≡ true → (standing st.table rep).counts ≡ no_counts
+  wanted_free : (rep : WireRep) → list_any (is_same rep) (wanted_refs s n st (counted_in item)) ≡ true → (standing st.table rep).counts ≡ no_counts
   wanted_free rep there = unknown_counts st.table rep (ap is_unknown (wanted_unknown rep there))
 
   -- an own reference gets none
-  pub own_unasked : (index : ℕ) → list_any (is_same (own_ref s index)) (wanted s n st (counted_in item)) ≡ false
-  own_unasked index = elim (list_any (is_same (own_ref s index)) (wanted s n st (counted_in item))) as (λ b. list_any (is_same (own_ref s index)) (wanted s n st (counted_in item)) ≡ b → b ≡ false) [
-    | true ↦ λ there. absurd (let peer : is_peer s n s ≡ true = (any_of (IsAsked s n) (own_ref s index) (wanted s n st (counted_in item)) all_asked there).1 in grind (arith, nat_tests, peer))
+  pub own_unasked : (index : ℕ) → list_any (is_same (own_ref s index)) (wanted_refs s n st (counted_in item)) ≡ false
+  own_unasked index = elim (list_any (is_same (own_ref s index)) (wanted_refs s n st (counted_in item))) as (λ b. list_any (is_same (own_ref s index)) (wanted_refs s n st (counted_in item)) ≡ b → b ≡ false) [
+    | true ↦ λ there. absurd (let peer : is_peer s n s ≡ true = (any_of (IsAsked s n) (own_ref s index) (wanted_refs s n st (counted_in item)) all_asked there).1 in grind (arith, nat_tests, peer))
     | false ↦ λ _. refl
   ] refl
 
   -- the table once their Dirties are sent, the loans as before
-  pub asks_show : (mid : Table) → AsksFor st.table mid (wanted s n st (counted_in item)) → TableShows s n mid (history_of s n (Act p k ∷ D)) (λ rep. hand rep D) (λ rep. times rep (lent_in s (work s n D)))
+  pub asks_show : (mid : Table) → AsksFor st.table mid (wanted_refs s n st (counted_in item)) → TableShows s n mid (history_of s n (Act p k ∷ D)) (λ rep. hand rep D) (λ rep. times rep (lent_in s (work s n D)))
   asks_show mid asks =
-      let reps : List WireRep = wanted s n st (counted_in item) in
+      let reps : List WireRep = wanted_refs s n st (counted_in item) in
       let is_among : WireRep → Bool = λ rep. list_any (is_same rep) reps in
       let shows = stands.table in
       record {

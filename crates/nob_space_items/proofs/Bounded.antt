@@ -1,5 +1,5 @@
 -- How many Dirties were sent and how often a reference is lent: fewer than the table can count.
-use Rattle.std.proofs.Common.{◌≡◌, ℕ, zero, suc, ◌+◌, ◌*◌, ◌≤◌, ◌<◌, ◌^◌, Bool, true, false, not, ◌==◌, cond, List, [], ◌∷◌, ◌++◌, length, map, filter, filter_map, flat_map, option_and_then, Option, Some, None, if◌then◌else◌, refl, sym, ap, subst, ◌∙◌, arith}
+use Rattle.std.proofs.Common.{◌≡◌, ℕ, zero, suc, ◌+◌, ◌*◌, ◌≤◌, Bool, true, false, not, ◌==◌, cond, List, [], ◌∷◌, length, filter, filter_map, flat_map, option_and_then, Option, Some, None, if◌then◌else◌, refl, arith}
 use Rattle.std.specs.List.{AllByRecursion, cons_option}
 use Rattle.std.proofs.lemmas.Bool.Decides.{nat_tests}
 use Rattle.std.proofs.lemmas.List.{length-append, length-map}
@@ -14,11 +14,11 @@ use Rattle.nob_model_words.specs.declared.deed.Deed.{Deed}
 use Rattle.nob_model_words.specs.declared.deed.Deed.TheVariants.{Act}
 use Rattle.nob_model_words.specs.declared.message.Message.{Message}
 use Rattle.nob_model_words.specs.declared.message.RefCopy.{RefCopy}
-use Rattle.nob_model_words.specs.Messages.{new_message, new_copy, message_after, copy_after}
-use Rattle.nob_model_words.specs.Sessions.{is_peer, item_at, item_spelt, payload_at}
+use Rattle.nob_model_words.specs.Messages.{new_copy, message_after, copy_after}
+use Rattle.nob_model_words.specs.Sessions.{item_spelt, payload_at}
 use Rattle.nob_model_work.specs.declared.work.InHand.{InHand}
 use Rattle.nob_model_work.specs.declared.work.Run.{Run}
-use Rattle.nob_model_work.specs.Work.{work, lost_reply}
+use Rattle.nob_model_work.specs.Work.{work}
 use Rattle.nob_model_history.specs.declared.transit.SentItem.{SentItem}
 use Rattle.nob_model_history.specs.Histories.{history_of}
 use Rattle.nob_model_history.specs.Ends.{calls_at}
@@ -32,7 +32,7 @@ use Rattle.nob_model.proofs.Carrying.{AllInHand, all_in_hand}
 use Rattle.nob_space_state.specs.Parts.{State}
 use Rattle.nob_space_state.specs.Stands.{Stands}
 use Rattle.nob_space_state.proofs.Pinned.{times_both}
-use Rattle.nob_space_items.specs.Messages.{owned_by}
+use Rattle.nob_space_items.specs.Messages.{owner_count}
 use Rattle.nob_space_items.proofs.Asked.{IsAsked, dirties_asked}
 use Rattle.nob_space_items.proofs.ReadItems.{item_few}
 use Rattle.nob_space_items.proofs.Received.{times_lent}
@@ -48,17 +48,17 @@ filter_short p (x ∷ xs) = let rest = filter_short p xs in elim (p x) as (λ b.
 abbrev AreUpTo : ℕ → List WireRep → Type 0
 AreUpTo n xs = AllByRecursion (λ (x : WireRep). (1 ≤ x.owner) × (x.owner ≤ n)) xs
 
-owned_split : (p : ℕ) (xs : List WireRep) → length xs ≡ owned_by p xs + length (filter (λ (x : WireRep). not (x.owner == p)) xs)
+owned_split : (p : ℕ) (xs : List WireRep) → length xs ≡ owner_count p xs + length (filter (λ (x : WireRep). not (x.owner == p)) xs)
 owned_split p [] = refl
 owned_split p (x ∷ xs) = let rest = owned_split p xs in elim (x.owner == p) as (λ b. suc (length xs) ≡ length (cond b (x ∷ filter (λ (one : WireRep). one.owner == p) xs) (filter (λ (one : WireRep). one.owner == p) xs)) + length (cond (not b) (x ∷ filter (λ (one : WireRep). not (one.owner == p)) xs) (filter (λ (one : WireRep). not (one.owner == p)) xs))) [ true ↦ omega (arith, rest) | false ↦ omega (arith, rest) ]
 
-owned_fewer : (p : ℕ) (test : WireRep → Bool) (xs : List WireRep) → owned_by p (filter test xs) ≤ owned_by p xs
+owned_fewer : (p : ℕ) (test : WireRep → Bool) (xs : List WireRep) → owner_count p (filter test xs) ≤ owner_count p xs
 owned_fewer p test [] = (let low : 0 ≤ 0 = omega arith in low)
 owned_fewer p test (x ∷ xs) =
     let rest = owned_fewer p test xs in
-    elim (test x) as (λ b. owned_by p (cond b (x ∷ filter test xs) (filter test xs)) ≤ owned_by p (x ∷ xs)) [
+    elim (test x) as (λ b. owner_count p (cond b (x ∷ filter test xs) (filter test xs)) ≤ owner_count p (x ∷ xs)) [
       | true ↦ elim (x.owner == p) as (λ c. length (cond c (x ∷ filter (λ (one : WireRep). one.owner == p) (filter test xs)) (filter (λ (one : WireRep). one.owner == p) (filter test xs))) ≤ length (cond c (x ∷ filter (λ (one : WireRep). one.owner == p) xs) (filter (λ (one : WireRep). one.owner == p) xs))) [ true ↦ omega (arith, rest) | false ↦ rest ]
-      | false ↦ elim (x.owner == p) as (λ c. owned_by p (filter test xs) ≤ length (cond c (x ∷ filter (λ (one : WireRep). one.owner == p) xs) (filter (λ (one : WireRep). one.owner == p) xs))) [ true ↦ omega (arith, rest) | false ↦ rest ]
+      | false ↦ elim (x.owner == p) as (λ c. owner_count p (filter test xs) ≤ length (cond c (x ∷ filter (λ (one : WireRep). one.owner == p) xs) (filter (λ (one : WireRep). one.owner == p) xs))) [ true ↦ omega (arith, rest) | false ↦ rest ]
     ]
 
 up_to_less : (n : ℕ) (xs : List WireRep) → AreUpTo (suc n) xs → AreUpTo n (filter (λ (x : WireRep). not (x.owner == suc n)) xs)
@@ -69,26 +69,26 @@ up_to_less n (x ∷ xs) all = elim (x.owner == suc n) as (λ b. x.owner == suc n
 ] refl
 
 -- so many for each of so many spaces
-few_for_each : (n : ℕ) (xs : List WireRep) → AreUpTo n xs → ((p : ℕ) → owned_by p xs ≤ 1099511627776) → length xs ≤ n * 1099511627776
+few_for_each : (n : ℕ) (xs : List WireRep) → AreUpTo n xs → ((p : ℕ) → owner_count p xs ≤ 1099511627776) → length xs ≤ n * 1099511627776
 few_for_each zero [] all few = omega arith
 few_for_each zero (x ∷ xs) all few = absurd (let low = all.0.0 in let high = all.0.1 in omega (arith, low, high))
 few_for_each (suc n) xs all few =
     let others : List WireRep = filter (λ (x : WireRep). not (x.owner == suc n)) xs in
     let rest : length others ≤ n * 1099511627776 = few_for_each n others (up_to_less n xs all) (λ p. let fewer = owned_fewer p (λ (x : WireRep). not (x.owner == suc n)) xs in let most = few p in omega (arith, fewer, most)) in
-    let split : length xs ≡ owned_by (suc n) xs + length others = owned_split (suc n) xs in
-    let here : owned_by (suc n) xs ≤ 1099511627776 = few (suc n) in
+    let split : length xs ≡ owner_count (suc n) xs + length others = owned_split (suc n) xs in
+    let here : owner_count (suc n) xs ≤ 1099511627776 = few (suc n) in
     omega (arith, rest, split, here)
 
 -- no more references of a space were asked for than items were sent to it
-one_asked : (p : ℕ) (to : ℕ) (item : Item) (rest : List WireRep) (more : ℕ) → owned_by p rest ≤ more → owned_by p (cons_option (asks_for to item) rest) ≤ cond (to == p) (suc more) more
+one_asked : (p : ℕ) (to : ℕ) (item : Item) (rest : List WireRep) (more : ℕ) → owner_count p rest ≤ more → owner_count p (cons_option (asks_for to item) rest) ≤ cond (to == p) (suc more) more
 one_asked p to (items.Dirty index) rest more few = elim (to == p) as (λ b. length (cond b (record { owner = to; index = index } ∷ filter (λ (one : WireRep). one.owner == p) rest) (filter (λ (one : WireRep). one.owner == p) rest)) ≤ cond b (suc more) more) [ true ↦ omega (arith, few) | false ↦ few ]
-one_asked p to (_) rest more few = elim (to == p) as (λ b. owned_by p rest ≤ cond b (suc more) more) [ true ↦ omega (arith, few) | false ↦ few ]
+one_asked p to (_) rest more few = elim (to == p) as (λ b. owner_count p rest ≤ cond b (suc more) more) [ true ↦ omega (arith, few) | false ↦ few ]
 
-asked_sent : (p : ℕ) (xs : List SentItem) → owned_by p (filter_map (λ (one : SentItem). asks_for one.to one.item) xs) ≤ count_to p xs
+asked_sent : (p : ℕ) (xs : List SentItem) → owner_count p (filter_map (λ (one : SentItem). asks_for one.to one.item) xs) ≤ count_to p xs
 asked_sent p [] = (let low : 0 ≤ 0 = omega arith in low)
 asked_sent p (one ∷ xs) =
     let here = one_asked p one.to one.item (filter_map (λ (x : SentItem). asks_for x.to x.item) xs) (count_to p xs) (asked_sent p xs) in
-    elim (one.to == p) as (λ b. owned_by p (cons_option (asks_for one.to one.item) (filter_map (λ (x : SentItem). asks_for x.to x.item) xs)) ≤ cond b (suc (count_to p xs)) (count_to p xs) → owned_by p (cons_option (asks_for one.to one.item) (filter_map (λ (x : SentItem). asks_for x.to x.item) xs)) ≤ length (cond b (one ∷ filter (λ (x : SentItem). x.to == p) xs) (filter (λ (x : SentItem). x.to == p) xs))) [ true ↦ λ low. low | false ↦ λ low. low ] here
+    elim (one.to == p) as (λ b. owner_count p (cons_option (asks_for one.to one.item) (filter_map (λ (x : SentItem). asks_for x.to x.item) xs)) ≤ cond b (suc (count_to p xs)) (count_to p xs) → owner_count p (cons_option (asks_for one.to one.item) (filter_map (λ (x : SentItem). asks_for x.to x.item) xs)) ≤ length (cond b (one ∷ filter (λ (x : SentItem). x.to == p) xs) (filter (λ (x : SentItem). x.to == p) xs))) [ true ↦ λ low. low | false ↦ λ low. low ] here
 
 module _ {s n : ℕ} {limits : Limits} {st : State} {D : List Deed} (stands : Stands s n limits st D) where
   -- so many Dirties were sent and no more

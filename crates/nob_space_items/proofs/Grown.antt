@@ -1,7 +1,6 @@
 -- Room that is made at one end after the other.
-use Rattle.std.proofs.Common.{◌≡◌, ℕ, ◌+◌, ◌-◌, ◌<◌, ◌≤◌, Bool, true, false, ◌==◌, List, [], ◌∷◌, length, slice_get, get_or, Option, Some, None, Result, Ok, Err, is_err, OnOk, refl, sym, ap, subst, ◌∙◌, arith}
+use Rattle.std.proofs.Common.{◌≡◌, ℕ, ◌-◌, ◌<◌, ◌≤◌, true, false, ◌==◌, List, ◌∷◌, length, slice_get, get_or, Some, Result, Ok, Err, is_err, OnOk, refl, sym, ap, subst, ◌∙◌, arith}
 use lib.ListN.{set}
-use Rattle.std.specs.List.{AllByRecursion}
 use Rattle.std.proofs.lemmas.Bool.Decides.{Decides-eqb}
 use Rattle.std.proofs.lemmas.List.{length-set}
 use Rattle.std.proofs.lemmas.Option.{slice_get_read}
@@ -10,7 +9,7 @@ use Rattle.nob_session.specs.Stands.{Roomy}
 use Rattle.nob_table.proofs.Flat.{get_set_other}
 use Rattle.nob_space_state.proofs.Ends.{set_here}
 use Rattle.nob_space_state.proofs.Rows.{differ}
-use Rattle.nob_space_items.specs.Growing.{AreAmong, SameEnds, HasRoom, HaveRoom}
+use Rattle.nob_space_items.specs.Growing.{SameEnds, HasRoom, HaveRoom}
 
 -- one end has more room
 pub one_grown : (ends : List Roomy) (at : ℕ) (old new : Roomy) → at < length ends → old ≡ get_or ends at old → new.end ≡ old.end → old.room ≤ new.room → SameEnds ends (set ends at new)

@@ -1,13 +1,10 @@
 -- What loans make of the table, one after the other.
-use Rattle.std.proofs.Common.{◌≡◌, ℕ, ◌+◌, ◌≤◌, ◌<◌, Bool, true, false, ◌==◌, cond, List, [], ◌∷◌, ◌++◌, length, take, drop, get_or, Option, Some, None, if◌then◌else◌, refl, sym, ap, subst, ◌∙◌, ◌-◌, arith}
+use Rattle.std.proofs.Common.{◌≡◌, ℕ, ◌+◌, ◌≤◌, true, false, ◌==◌, List, [], ◌∷◌, ◌++◌, None, if◌then◌else◌, refl, ap, subst, ◌∙◌, arith}
 use Rattle.std.specs.List.{AllByRecursion}
 use Rattle.std.proofs.lemmas.Bool.Decides.{nat_tests}
 use Rattle.nob_ids.specs.Names.{is_same}
 use Rattle.nob_ids.specs.declared.wire_rep.WireRep.{WireRep}
-use Rattle.nob_table.specs.declared.counts.Counts.{Counts}
 use Rattle.nob_table.specs.declared.counts.Part.TheVariants.{Lent}
-use Rattle.nob_table.specs.declared.fault.TableFault.{TableFault}
-use Rattle.nob_table.specs.declared.fault.TableFault.TheVariants.{Limit, Absent}
 use Rattle.nob_table.specs.declared.standing.Standing.{Standing}
 use Rattle.nob_table.specs.Standings.{is_known, after_hold}
 use Rattle.nob_table.specs.Table.{Table, standing, Becomes, ChangeLeaves, hold_fault}
@@ -18,7 +15,7 @@ use Rattle.nob_space_state.specs.Stands.{TableShows}
 use Rattle.nob_space_state.proofs.Pinned.{times_both}
 use Rattle.nob_space_state.proofs.Returned.{times_one}
 use Rattle.nob_space_state.proofs.Shows.{one_row, shows_lent_more}
-use Rattle.nob_space_items.specs.Lending.{CanLend, Lends, most_lent}
+use Rattle.nob_space_items.specs.Lending.{CanLend, Lends}
 
 -- a reference that can be lent has counts that aren't full
 pub one_lendable : (t : Table) (rep : WireRep) → CanLend t (rep ∷ []) → hold_fault t rep Lent ≡ None

@@ -4,6 +4,14 @@ pub mod Noted
 pub mod Answered
 pub mod Owners
 pub mod Chosen
+pub mod Spares
+pub mod Noting
+pub mod Fixing
+pub mod Forgetting
+pub mod Putting
+pub mod Resolving
+pub mod Settlements
+pub mod Numbering
 pub mod Wanted
 pub mod Asked
 pub mod Refused
@@ -22,11 +30,3 @@ pub mod Bounded
 pub mod Ready
 pub mod Crowds
 pub mod Obtained
-pub mod Spares
-pub mod Noting
-pub mod Fixing
-pub mod Forgetting
-pub mod Putting
-pub mod Resolving
-pub mod Settlements
-pub mod Numbering

@@ -1,5 +1,5 @@
 -- What acting on a Call or a Reply does to the words, one word after the other.
-use Rattle.std.proofs.Common.{◌≡◌, ℕ, ◌+◌, Bool, true, false, not, ◌&&◌, ◌||◌, ◌==◌, cond, List, [], ◌∷◌, ◌++◌, length, map, filter, Option, Some, None, Ok, Err, inl, inr, if◌then◌else◌, refl, sym, ap, subst, ◌∙◌}
+use Rattle.std.proofs.Common.{◌≡◌, ℕ, Bool, true, false, not, ◌&&◌, ◌||◌, ◌==◌, cond, List, [], ◌∷◌, ◌++◌, map, filter, Option, Some, None, Ok, inl, inr, if◌then◌else◌, refl, sym, ap, ◌∙◌}
 use Rattle.std.specs.List.{AllByRecursion, list_any}
 use Rattle.std.proofs.lemmas.Bool.{and_parts, or_parts, not-true}
 use Rattle.std.proofs.lemmas.List.{append-nil, map-append}
@@ -7,7 +7,7 @@ use Rattle.std.proofs.lemmas.Map.Views.{any-filter_same}
 use Rattle.nob_ids.specs.Names.{is_same, is_counted}
 use Rattle.nob_ids.specs.declared.limits.Limits.{Limits}
 use Rattle.nob_ids.specs.declared.wire_rep.WireRep.{WireRep}
-use Rattle.nob_item.specs.Kinds.{counted_in, is_note, refs_carried}
+use Rattle.nob_item.specs.Kinds.{counted_in, refs_carried}
 use Rattle.nob_item.specs.declared.item.Item.{Item}
 use Rattle.nob_item.specs.declared.item.Item.TheVariants as items
 use Rattle.nob_table.specs.declared.standing.State.TheVariants as states
@@ -15,8 +15,6 @@ use Rattle.nob_table.specs.Counts.{is_held}
 use Rattle.nob_table.specs.Standings as standings
 use Rattle.nob_table.specs.Table.{standing}
 use Rattle.nob_table.proofs.Same.{same_is}
-use Rattle.nob_model_end.specs.declared.entry.EndEntry.{EndEntry}
-use Rattle.nob_model_end.specs.declared.entry.EndEntry.TheVariants as ends
 use Rattle.nob_model_types.specs.declared.answer.Answer.TheVariants as answers
 use Rattle.nob_model_types.specs.declared.event.Event.TheVariants as events
 use Rattle.nob_model_words.specs.declared.deed.Deed.{Deed}
@@ -30,7 +28,7 @@ use Rattle.nob_model_words.specs.declared.turns.OwnerAnswer.{OwnerAnswer}
 use Rattle.nob_model_words.specs.declared.turns.OwnerAnswer.TheVariants as said
 use Rattle.nob_model_words.specs.Deeds.{deed_by}
 use Rattle.nob_model_words.specs.Messages.{new_message, new_copy, loan_after, copy_after, message_after}
-use Rattle.nob_model_words.specs.Sessions.{is_peer, closed, item_at, item_spelt}
+use Rattle.nob_model_words.specs.Sessions.{is_peer, closed, item_at}
 use Rattle.nob_model_words.specs.Turns.{turns, turns_after, with_dirty, is_own, is_pending, is_granted, is_refused, is_standing, is_usable, wants_dirty, carries}
 use Rattle.nob_model_words.specs.Turns as words
 use Rattle.nob_model_work.specs.declared.gifts.Gift.{Gift}
@@ -61,8 +59,9 @@ use Rattle.nob_space_state.specs.Looks.{has_closed}
 use Rattle.nob_space_state.specs.Stands.{Stands, far_state}
 use Rattle.nob_space_state.proofs.Told.{closed_there}
 use Rattle.nob_space_items.specs.Fronts.{IsFront}
-use Rattle.nob_space_items.specs.Messages.{is_wanted, wanted, new_loan, new_copies, is_refused as is_refused_state}
-use Rattle.nob_space_items.specs.Putting.{IsMessage}
+use Rattle.nob_space_items.specs.Messages.{is_wanted, wanted_refs, new_loan, new_copies}
+use Rattle.nob_space_items.specs.Settling.{is_denied}
+use Rattle.nob_space_items.specs.Placing.{IsMessage}
 use Rattle.nob_space_items.proofs.Asked.{any_of, filter_passes}
 use Rattle.nob_space_items.proofs.Refused.{wanted_there, dirties_there}
 use Rattle.nob_space_items.proofs.Wanted.{any_once}
@@ -174,19 +173,19 @@ loans_put s n E m (items.Clean index) W = refl
 pub far_by : (held : Bool) (t : Turns) (pending granted refused : Bool) → turning.Stands t pending granted refused → far_state false held t ≡ (if pending then states.Pending else if granted then states.Granted else if refused then states.Refused else states.Unknown)
 far_by held t pending granted refused stands = λ i. if stands.0 i then states.Pending else if stands.1 i then states.Granted else if stands.2 i then states.Refused else states.Unknown
 
-granted_by : (last : OwnerAnswer) → (standings.is_granted (if words.is_yes last then states.Granted else if words.is_no last then states.Refused else states.Unknown) ≡ words.is_yes last) × (is_refused_state (if words.is_yes last then states.Granted else if words.is_no last then states.Refused else states.Unknown) ≡ words.is_no last)
+granted_by : (last : OwnerAnswer) → (standings.is_granted (if words.is_yes last then states.Granted else if words.is_no last then states.Refused else states.Unknown) ≡ words.is_yes last) × (is_denied (if words.is_yes last then states.Granted else if words.is_no last then states.Refused else states.Unknown) ≡ words.is_no last)
 granted_by said.Silent = (refl, refl)
 granted_by said.Yes = (refl, refl)
 granted_by said.No = (refl, refl)
 
 -- it is granted or refused there as its turns say
-far_told : (held : Bool) (t : Turns) → turning.HaveShape t → (standings.is_granted (far_state false held t) ≡ is_granted t) × (is_refused_state (far_state false held t) ≡ is_refused t)
-far_told held t (inl idle) = let stands = turning.idle_stands t idle in (ap standings.is_granted (far_by held t false false false stands) ∙ sym stands.1, ap is_refused_state (far_by held t false false false stands) ∙ sym stands.2)
-far_told held t (inr (inl waits)) = let stands = turning.waiting_stands t waits in (ap standings.is_granted (far_by held t true false false stands) ∙ sym stands.1, ap is_refused_state (far_by held t true false false stands) ∙ sym stands.2)
+far_told : (held : Bool) (t : Turns) → turning.HaveShape t → (standings.is_granted (far_state false held t) ≡ is_granted t) × (is_denied (far_state false held t) ≡ is_refused t)
+far_told held t (inl idle) = let stands = turning.idle_stands t idle in (ap standings.is_granted (far_by held t false false false stands) ∙ sym stands.1, ap is_denied (far_by held t false false false stands) ∙ sym stands.2)
+far_told held t (inr (inl waits)) = let stands = turning.waiting_stands t waits in (ap standings.is_granted (far_by held t true false false stands) ∙ sym stands.1, ap is_denied (far_by held t true false false stands) ∙ sym stands.2)
 far_told held t (inr (inr answered)) =
     let stands = turning.answered_stands t answered.0 answered.1 in (
       ap standings.is_granted (far_by held t false (words.is_yes t.last) (words.is_no t.last) stands) ∙ (granted_by t.last).0 ∙ sym stands.1,
-      ap is_refused_state (far_by held t false (words.is_yes t.last) (words.is_no t.last) stands) ∙ (granted_by t.last).1 ∙ sym stands.2,
+      ap is_denied (far_by held t false (words.is_yes t.last) (words.is_no t.last) stands) ∙ (granted_by t.last).1 ∙ sym stands.2,
     )
 
 module _ {s n : ℕ} {limits : Limits} {st : State} {D : List Deed} (stands : Stands s n limits st D) (p k : ℕ) (item : Item) (front : IsFront s n p k item D) (message : IsMessage item) where
@@ -195,30 +194,30 @@ module _ {s n : ℕ} {limits : Limits} {st : State} {D : List Deed} (stands : St
   acted_item = front_item s n p D (in_turn s n limits D stands.right) k front.bytes item front.front front.spelt
 
   reps : List WireRep
-  reps = wanted s n st (counted_in item)
+  reps = wanted_refs s n st (counted_in item)
 
   -- those that get Dirties are peers'
-  pub all_peers : AllByRecursion (λ (rep : WireRep). is_peer s n rep.owner ≡ true) (wanted s n st (counted_in item))
-  all_peers = weaker (wanted s n st (counted_in item)) (filter_passes (is_wanted s n st) (once (counted_in item)))
+  pub all_peers : AllByRecursion (λ (rep : WireRep). is_peer s n rep.owner ≡ true) (wanted_refs s n st (counted_in item))
+  all_peers = weaker (wanted_refs s n st (counted_in item)) (filter_passes (is_wanted s n st) (once (counted_in item)))
     where
       weaker : (all : List WireRep) → AllByRecursion (λ (rep : WireRep). is_wanted s n st rep ≡ true) all → AllByRecursion (λ (rep : WireRep). is_peer s n rep.owner ≡ true) all
       weaker [] all = tt
       weaker (rep ∷ rest) all = ((and_parts _ _ (and_parts _ _ all.0).0).0, weaker rest all.1)
 
   -- the Dirties that are given
-  pub act_gives : gifts s n (Act p k) D (work s n D) ≡ map dirty_for (wanted s n st (counted_in item))
+  pub act_gives : gifts s n (Act p k) D (work s n D) ≡ map dirty_for (wanted_refs s n st (counted_in item))
   unfolding gifts gifts_of dirties_for
   act_gives =
       ap (λ (found : Option Item). filter (λ (gift : Gift). is_peer s n gift.to) (gifts_of_act s n p D found)) acted_item
       ∙ ap (filter (λ (gift : Gift). is_peer s n gift.to)) (gives_dirties s n p item D message ∙ dirties_there stands item)
-      ∙ to_peers s n (wanted s n st (counted_in item)) all_peers
+      ∙ to_peers s n (wanted_refs s n st (counted_in item)) all_peers
 
   -- the calls on each end: the Dirties are sent, and on the end with the peer the item is taken
-  pub act_calls : (q : ℕ) → calls_at q (history_of s n (Act p k ∷ D)) ≡ own_calls q (Act p k) (with_sends (items_to q (map dirty_for (wanted s n st (counted_in item)))) (calls_at q (history_of s n D)))
+  pub act_calls : (q : ℕ) → calls_at q (history_of s n (Act p k ∷ D)) ≡ own_calls q (Act p k) (with_sends (items_to q (map dirty_for (wanted_refs s n st (counted_in item)))) (calls_at q (history_of s n D)))
   act_calls q = calls_more s n q (Act p k) D ∙ ap (λ (more : List Gift). own_calls q (Act p k) (with_sends (items_to q more) (calls_at q (history_of s n D)))) act_gives
 
   -- the turns: a reference that gets a Dirty has one more
-  pub act_turns : (rep : WireRep) → turns s n rep (Act p k ∷ D) ≡ cond (list_any (is_same rep) (wanted s n st (counted_in item))) (with_dirty (turns s n rep D)) (turns s n rep D)
+  pub act_turns : (rep : WireRep) → turns s n rep (Act p k ∷ D) ≡ cond (list_any (is_same rep) (wanted_refs s n st (counted_in item))) (with_dirty (turns s n rep D)) (turns s n rep D)
   act_turns rep =
       ap (λ (found : Option Item). turns_after s n p rep found D (turns s n rep D)) acted_item
       ∙ turns_dirty s n p item D rep (turns s n rep D) message
@@ -233,7 +232,7 @@ module _ {s n : ℕ} {limits : Limits} {st : State} {D : List Deed} (stands : St
       both false true = refl
       both false false = refl
 
-      among : list_any (is_same rep) (wanted s n st (counted_in item)) ≡ (carries rep item && wants rep)
+      among : list_any (is_same rep) (wanted_refs s n st (counted_in item)) ≡ (carries rep item && wants rep)
       among =
           ap (list_any (is_same rep)) (wanted_there stands item)
           ∙ any-filter_same (is_same rep) wants (wants rep) (λ w same. ap wants (sym (same_is rep w same))) (once (counted_in item))
@@ -241,7 +240,7 @@ module _ {s n : ℕ} {limits : Limits} {st : State} {D : List Deed} (stands : St
           ∙ both (wants rep) (carries rep item)
 
   -- a reference that gets a Dirty had no surrogate, on a session that is open here
-  pub wanted_turns : (rep : WireRep) → list_any (is_same rep) (wanted s n st (counted_in item)) ≡ true → (is_standing (turns s n rep D) ≡ false) × (closed rep.owner D ≡ false)
+  pub wanted_turns : (rep : WireRep) → list_any (is_same rep) (wanted_refs s n st (counted_in item)) ≡ true → (is_standing (turns s n rep D) ≡ false) × (closed rep.owner D ≡ false)
   wanted_turns rep there =
       any_of (λ w. (is_standing (turns s n w D) ≡ false) × (closed w.owner D ≡ false)) rep (filter wants (once (counted_in item))) (parts (filter wants (once (counted_in item))) (filter_passes wants (once (counted_in item)))) (sym (ap (list_any (is_same rep)) (wanted_there stands item)) ∙ there)
     where
@@ -253,24 +252,24 @@ module _ {s n : ℕ} {limits : Limits} {st : State} {D : List Deed} (stands : St
       parts (w ∷ rest) all = ((wanted_none s n w D (turns s n w D) all.0, not-true (closed w.owner D) (and_parts _ _ (and_parts _ _ all.0).0).1), parts rest all.1)
 
   -- then it is pending
-  pub asked_turns : (rep : WireRep) → list_any (is_same rep) (wanted s n st (counted_in item)) ≡ true → turning.Stands (with_dirty (turns s n rep D)) true false false
+  pub asked_turns : (rep : WireRep) → list_any (is_same rep) (wanted_refs s n st (counted_in item)) ≡ true → turning.Stands (with_dirty (turns s n rep D)) true false false
   asked_turns rep there = (after_dirty (turns s n rep D) (shapes s n rep D (took_turns s n limits D stands.right)) (wanted_turns rep there).0).1
 
   -- so it isn't granted or refused by that
   pub same_granted : (rep : WireRep) → is_granted (turns s n rep (Act p k ∷ D)) ≡ is_granted (turns s n rep D)
-  same_granted rep = ap is_granted (act_turns rep) ∙ elim (list_any (is_same rep) (wanted s n st (counted_in item))) as (λ b. list_any (is_same rep) (wanted s n st (counted_in item)) ≡ b → is_granted (cond b (with_dirty (turns s n rep D)) (turns s n rep D)) ≡ is_granted (turns s n rep D)) [
+  same_granted rep = ap is_granted (act_turns rep) ∙ elim (list_any (is_same rep) (wanted_refs s n st (counted_in item))) as (λ b. list_any (is_same rep) (wanted_refs s n st (counted_in item)) ≡ b → is_granted (cond b (with_dirty (turns s n rep D)) (turns s n rep D)) ≡ is_granted (turns s n rep D)) [
     | true ↦ λ there. (asked_turns rep there).1 ∙ sym (or_parts _ _ (or_parts _ _ (wanted_turns rep there).0).0).1
     | false ↦ λ _. refl
   ] refl
 
   pub same_refused : (rep : WireRep) → is_refused (turns s n rep (Act p k ∷ D)) ≡ is_refused (turns s n rep D)
-  same_refused rep = ap is_refused (act_turns rep) ∙ elim (list_any (is_same rep) (wanted s n st (counted_in item))) as (λ b. list_any (is_same rep) (wanted s n st (counted_in item)) ≡ b → is_refused (cond b (with_dirty (turns s n rep D)) (turns s n rep D)) ≡ is_refused (turns s n rep D)) [
+  same_refused rep = ap is_refused (act_turns rep) ∙ elim (list_any (is_same rep) (wanted_refs s n st (counted_in item))) as (λ b. list_any (is_same rep) (wanted_refs s n st (counted_in item)) ≡ b → is_refused (cond b (with_dirty (turns s n rep D)) (turns s n rep D)) ≡ is_refused (turns s n rep D)) [
     | true ↦ λ there. (asked_turns rep there).2 ∙ sym (or_parts _ _ (wanted_turns rep there).0).1
     | false ↦ λ _. refl
   ] refl
 
   -- the Dirties that were sent
-  pub act_dirties : dirties (history_of s n (Act p k ∷ D)) ≡ dirties (history_of s n D) ++ wanted s n st (counted_in item)
+  pub act_dirties : dirties (history_of s n (Act p k ∷ D)) ≡ dirties (history_of s n D) ++ wanted_refs s n st (counted_in item)
   act_dirties =
       dirties_more s n (Act p k) D
       ∙ ap (λ (more : List WireRep). dirties (history_of s n D) ++ more) (message_asks s n p k item D (work s n D) acted_item (gives_dirties s n p item D message) ∙ sym (wanted_there stands item))
@@ -288,7 +287,7 @@ module _ {s n : ℕ} {limits : Limits} {st : State} {D : List Deed} (stands : St
   act_bundles =
       bundles_kept s n (Act p k) D (no_settle p k D (λ j. ap (is_settle_of j) acted_item ∙ settles_none j item message)) (λ q. refl)
       ∙ ap (λ (more : List Gift). bundles (history_of s n D) ++ filter (is_pinned D) (new_items (sent (history_of s n D)) more)) act_gives
-      ∙ ap (λ (more : List SentItem). bundles (history_of s n D) ++ more) (no_pins D (wanted s n st (counted_in item)) (sent (history_of s n D)))
+      ∙ ap (λ (more : List SentItem). bundles (history_of s n D) ++ more) (no_pins D (wanted_refs s n st (counted_in item)) (sent (history_of s n D)))
       ∙ append-nil (bundles (history_of s n D))
 
   -- what is usable stays so
@@ -320,13 +319,13 @@ module _ {s n : ℕ} {limits : Limits} {st : State} {D : List Deed} (stands : St
   new_copy_at : (rep : WireRep) → is_counted rep ≡ true → copy_after s n (Act p k ∷ D) (new_copy s n (Act p k ∷ D) rep) ≡ record { rep = rep; loan = new_loan s n st rep }
   unfolding copy_after new_copy
   new_copy_at rep counted = ap (λ (loan : Loan). record { rep = rep; loan = loan }) (elim (rep.owner == s) as (λ own. rep.owner == s ≡ own → loan_after (own || is_usable s n rep (Act p k ∷ D)) (if not own && (not (is_peer s n rep.owner) || closed rep.owner D || is_refused (turns s n rep (Act p k ∷ D))) then loans.Never else loans.Due)
-      ≡ (if not own && (not (is_peer s n rep.owner) || has_closed st.sessions rep.owner || is_refused_state (standing st.table rep).state) then loans.Never else if own || standings.is_granted (standing st.table rep).state then loans.Lent else loans.Due)) [
+      ≡ (if not own && (not (is_peer s n rep.owner) || has_closed st.sessions rep.owner || is_denied (standing st.table rep).state) then loans.Never else if own || standings.is_granted (standing st.table rep).state then loans.Lent else loans.Due)) [
         | true ↦ λ _. refl
         | false ↦ λ other. rw (closed_there stands rep.owner, same_refused rep, same_usable rep) (elim (is_peer s n rep.owner) as (λ peer. loan_after (is_usable s n rep D) (if not peer || closed rep.owner D || is_refused (turns s n rep D) then loans.Never else loans.Due)
-            ≡ (if not peer || closed rep.owner D || is_refused_state (standing st.table rep).state then loans.Never else if standings.is_granted (standing st.table rep).state then loans.Lent else loans.Due)) [
+            ≡ (if not peer || closed rep.owner D || is_denied (standing st.table rep).state then loans.Never else if standings.is_granted (standing st.table rep).state then loans.Lent else loans.Due)) [
               | false ↦ refl
               | true ↦ rw (stands.table.far rep counted other) (elim (closed rep.owner D) as (λ shut. loan_after (is_granted (turns s n rep D) && not shut) (if shut || is_refused (turns s n rep D) then loans.Never else loans.Due)
-                  ≡ (if shut || is_refused_state (far_state shut (is_held (standing st.table rep).counts) (turns s n rep D)) then loans.Never else if standings.is_granted (far_state shut (is_held (standing st.table rep).counts) (turns s n rep D)) then loans.Lent else loans.Due)) [
+                  ≡ (if shut || is_denied (far_state shut (is_held (standing st.table rep).counts) (turns s n rep D)) then loans.Never else if standings.is_granted (far_state shut (is_held (standing st.table rep).counts) (turns s n rep D)) then loans.Lent else loans.Due)) [
                     | true ↦ refl
                     | false ↦
                         let told = far_told (is_held (standing st.table rep).counts) (turns s n rep D) (shapes s n rep D (took_turns s n limits D stands.right)) in

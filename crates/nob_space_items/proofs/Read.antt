@@ -1,19 +1,17 @@
 -- A value that can be read has few references.
-use Rattle.std.proofs.Common.{◌≡◌, ℕ, zero, suc, ◌+◌, ◌-◌, ◌≤◌, Bool, true, false, not, ◌==◌, List, [], ◌∷◌, ◌++◌, length, filter, take, drop, Option, Some, None, Result, Ok, Err, if◌then◌else◌, refl, sym, ap, subst, ◌∙◌, arith}
+use Rattle.std.proofs.Common.{◌≡◌, ℕ, zero, suc, ◌+◌, ◌-◌, ◌≤◌, Bool, true, false, not, ◌==◌, List, [], ◌∷◌, ◌++◌, length, take, drop, Result, Ok, Err, if◌then◌else◌, refl, sym, ap, subst, ◌∙◌, arith}
 use Rattle.std.specs.Prelude.{nat_lt}
 use Rattle.std.specs.Int.{w64, cast_signed}
 use Rattle.std.proofs.lemmas.Bool.Decides.{nat_tests}
 use Rattle.std.proofs.lemmas.List.{length-append}
 use Rattle.nob_pickle.proofs.Choices.{bind_ok, guard_ok, ended_ok, ok_is}
-use Rattle.nob_ids.specs.Names.{is_space, is_counted}
-use Rattle.nob_ids.specs.declared.wire_rep.WireRep.{WireRep}
+use Rattle.nob_ids.specs.Names.{is_space}
 use Rattle.nob_pickle.specs.Trees.{Tree, unit, int, bytes, list, ref, Trees, none, more}
 use Rattle.nob_pickle.specs.Shape.{tree, value}
 use Rattle.nob_pickle.specs.Spelling.{refs, all_refs, refs_in}
 use Rattle.nob_pickle.specs.Limits.{most_bytes, most_elements, most_references, most_levels, most_in_all}
 use Rattle.nob_pickle.specs.Writing.{◌>>=◌}
 use Rattle.nob_pickle.specs.Reading.{Front, number_at, int_at, bytes_at, ref_at, trees_at, list_at, tree_by, tree_at, value_read}
-use Rattle.nob_pickle.specs.declared.fault.PickleFault.{PickleFault}
 use Rattle.nob_pickle.specs.declared.fault.PickleFault.TheVariants as faults
 use Rattle.nob_pickle.specs.declared.value.Value.{Value}
 

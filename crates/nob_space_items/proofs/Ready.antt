@@ -1,5 +1,5 @@
 -- A message that nothing keeps, for which room was made, can be received.
-use Rattle.std.proofs.Common.{◌≡◌, ℕ, suc, ◌+◌, ◌-◌, ◌*◌, ◌≤◌, ◌<◌, ◌^◌, Bool, true, false, not, ◌&&◌, ◌||◌, ◌==◌, cond, List, [], ◌∷◌, ◌++◌, length, map, filter, slice_get, get_or, Option, Some, None, if◌then◌else◌, refl, sym, ap, subst, ◌∙◌, arith}
+use Rattle.std.proofs.Common.{◌≡◌, ℕ, ◌+◌, ◌-◌, ◌*◌, ◌≤◌, ◌<◌, Bool, true, false, not, ◌&&◌, ◌||◌, ◌==◌, cond, List, [], ◌∷◌, length, map, filter, slice_get, Option, Some, None, if◌then◌else◌, refl, sym, ap, subst, ◌∙◌, arith}
 use Rattle.std.specs.Prelude.{nat_le, nat_lt}
 use Rattle.std.specs.List.{AllByRecursion, IsDistinct, list_any, list_all}
 use Rattle.std.proofs.lemmas.Bool.{and_parts, or_parts, not-true, not-false}
@@ -9,20 +9,19 @@ use Rattle.std.proofs.lemmas.Option.{slice_get_read}
 use Rattle.nob_ids.specs.Names.{is_same, is_counted}
 use Rattle.nob_ids.specs.declared.limits.Limits.{Limits}
 use Rattle.nob_ids.specs.declared.reason.Reason.{Reason}
-use Rattle.nob_ids.specs.declared.reason.Reason.TheVariants.{BadReference, OutOfPlace}
+use Rattle.nob_ids.specs.declared.reason.Reason.TheVariants.{BadReference}
 use Rattle.nob_ids.specs.declared.wire_rep.WireRep.{WireRep}
 use Rattle.nob_item.specs.Kinds.{counted_in, refs_carried}
 use Rattle.nob_item.specs.declared.item.Item.{Item}
 use Rattle.nob_item.specs.declared.item.Item.TheVariants as items
 use Rattle.nob_model_end.specs.End.{waiting, takes}
-use Rattle.nob_model_end.specs.Right.{last_item, first_of, right_front}
+use Rattle.nob_model_end.specs.Right.{first_of, right_front}
 use Rattle.nob_model_end.specs.declared.entry.EndEntry.{EndEntry}
 use Rattle.nob_session.specs.Stands as session
 use Rattle.nob_session.specs.Stands.{Roomy, End, is_open_end}
 use Rattle.nob_table.specs.declared.standing.Standing.{Standing}
 use Rattle.nob_table.specs.declared.standing.State.{State as TableState}
 use Rattle.nob_table.specs.declared.standing.State.TheVariants as states
-use Rattle.nob_table.specs.Counts.{no_counts}
 use Rattle.nob_table.specs.Standings as standings
 use Rattle.nob_table.specs.Standings.{is_known, is_unknown, pending_standing}
 use Rattle.nob_table.specs.Order.{place_in}
@@ -37,7 +36,6 @@ use Rattle.nob_model_words.specs.declared.message.RefCopy.{RefCopy}
 use Rattle.nob_model_words.specs.declared.message.Message.{Message}
 use Rattle.nob_model_words.specs.Objects as objects
 use Rattle.nob_model_words.specs.Sessions.{is_peer}
-use Rattle.nob_model_words.specs.Turns.{is_own}
 use Rattle.nob_model_work.specs.declared.gifts.Gift.{Gift}
 use Rattle.nob_model_work.specs.Gifts.{once, dirty_for}
 use Rattle.nob_model_work.specs.Work.{work, after_message}
@@ -47,22 +45,24 @@ use Rattle.nob_model_history.specs.Ends.{calls_at, items_to, with_sends}
 use Rattle.nob_model_history.specs.Holds.{times, lent_in, loans_of, target_lent, copies_lent, is_lent}
 use Rattle.nob_model_history.specs.Transit.{dirties}
 use Rattle.nob_model_history.proofs.Inbox.{sends_front}
-use Rattle.nob_model.specs.Acting.{messages, most_messages, most_surrogates, fault_of, fault_if, first_fault, names_not_live}
+use Rattle.nob_model.specs.Acting.{messages, fault_of, first_fault, names_not_live}
 use Rattle.nob_model.specs.Right.{own_ref}
+use Rattle.nob_model.proofs.Premises.{no_fault}
 use Rattle.nob_model.specs.Sending.{is_own_and_not_live}
 use Rattle.nob_space_state.specs.Parts.{State}
 use Rattle.nob_space_state.specs.Looks.{end_with, has_closed, is_closed_end}
 use Rattle.nob_space_state.specs.Stands.{Stands}
 use Rattle.nob_space_state.proofs.Rows.{distinct_filtered}
 use Rattle.nob_space_state.proofs.Told.{own_is}
-use Rattle.nob_space_items.specs.Asking.{AsksFor, place_after, CanAsk, CanSend, CanSendAll, SendsAll}
+use Rattle.nob_space_items.specs.Asking.{AsksFor, place_after, CanAsk, CanSendAll, SendsAll}
 use Rattle.nob_space_items.specs.Fronts.{IsFront}
-use Rattle.nob_space_items.specs.Growing.{AreAmong, SameEnds, HasRoom, HaveRoom, Grows}
+use Rattle.nob_space_items.specs.Growing.{AreAmong, HasRoom, HaveRoom, Grows}
 use Rattle.nob_space_items.specs.Lending.{CanLend}
-use Rattle.nob_space_items.specs.Messages.{is_wanted, wanted, owned_by, has_free, has_numbers_for, is_too_much, message_refusal, new_loan, new_copies, is_lost, is_at_hand}
-use Rattle.nob_space_items.specs.Putting.{IsMessage}
+use Rattle.nob_space_items.specs.Messages.{is_wanted, wanted_refs, owner_count, has_free, has_numbers_for, is_too_much, message_refusal, new_loan, new_copies, is_at_hand}
+use Rattle.nob_space_items.specs.Placing.{IsMessage}
+use Rattle.nob_space_items.specs.Settling.{is_lost_here}
 use Rattle.nob_space_items.specs.Receiving.{HasFront, CanReceive, Receives}
-use Rattle.nob_space_items.proofs.Asked.{IsAsked, any_of, filter_passes, filter_all, append_all}
+use Rattle.nob_space_items.proofs.Asked.{IsAsked, any_of, filter_passes, append_all}
 use Rattle.nob_space_items.proofs.Asks.{all_asked, wanted_unknown}
 use Rattle.nob_space_items.proofs.Bounded.{filter_short, dirties_low, message_lends, lent_low}
 use Rattle.nob_space_items.proofs.Message.{all_peers}
@@ -87,7 +87,7 @@ once_apart [] = tt
 once_apart (x ∷ xs) = (none_same x (filter (λ other. not (is_same x other)) (once xs)) (filter_passes (λ other. not (is_same x other)) (once xs)), distinct_filtered is_same (λ other. not (is_same x other)) (once xs) (once_apart xs))
 
 -- where a space owns some of references there is one of which all holds that holds of all
-owned_some : (P : WireRep → Type 0) (p : ℕ) (xs : List WireRep) → AllByRecursion P xs → 1 ≤ owned_by p xs → (rep : WireRep) × (rep.owner == p ≡ true) × P rep
+owned_some : (P : WireRep → Type 0) (p : ℕ) (xs : List WireRep) → AllByRecursion P xs → 1 ≤ owner_count p xs → (rep : WireRep) × (rep.owner == p ≡ true) × P rep
 owned_some P p [] all some = absurd (omega (arith, some))
 owned_some P p (x ∷ xs) all some = elim (x.owner == p) as (λ b. x.owner == p ≡ b → 1 ≤ length (cond b (x ∷ filter (λ (one : WireRep). one.owner == p) xs) (filter (λ (one : WireRep). one.owner == p) xs)) → (rep : WireRep) × (rep.owner == p ≡ true) × P rep) [
   | true ↦ λ same _. (x, same, all.0)
@@ -149,10 +149,6 @@ lent_is loans.Lent lent = refl
 lent_is loans.Due lent = absurd (cc)
 lent_is loans.Never lent = absurd (cc)
 
-no_reason : (test : Bool) (reason : Reason) → fault_if test reason ≡ None → test ≡ false
-no_reason true reason e = absurd (cc)
-no_reason false reason e = refl
-
 no_first : (one other : Option Reason) → first_fault one other ≡ None → (one ≡ None) × (other ≡ None)
 no_first None other e = (refl, e)
 no_first (Some reason) other e = absurd (cc)
@@ -161,7 +157,7 @@ no_first (Some reason) other e = absurd (cc)
 target_all : (Q : WireRep → Type 0) (s n p : ℕ) (item : Item) (h : History) → fault_of s n p item h ≡ None → ((index : ℕ) → index == 0 ≡ false → objects.is_live s index h.deeds ≡ true → Q (own_ref s index)) → AllByRecursion Q (target_lent s item)
 unfolding fault_of
 target_all Q s n p (items.Call call target method value) h sound each =
-    let test : (not (target == 0) && not (objects.is_live s target h.deeds)) ≡ false = no_reason _ BadReference (no_first _ _ sound).0 in
+    let test : (not (target == 0) && not (objects.is_live s target h.deeds)) ≡ false = no_fault _ BadReference (no_first _ _ sound).0 in
     elim (target == 0) as (λ b. target == 0 ≡ b → (not b && not (objects.is_live s target h.deeds)) ≡ false → AllByRecursion Q (if b then [] else own_ref s target ∷ [])) [
       | true ↦ λ _ _. tt
       | false ↦ λ some live. (each target some (not-false (objects.is_live s target h.deeds) live), tt)
@@ -171,8 +167,8 @@ target_all Q s n p (_) h sound each = tt
 -- its own references are
 refs_sound : (s n p : ℕ) (item : Item) (h : History) → fault_of s n p item h ≡ None → IsMessage item → names_not_live s item h ≡ false
 unfolding fault_of
-refs_sound s n p (items.Call call target method value) h sound message = no_reason _ BadReference (no_first _ _ sound).1
-refs_sound s n p (items.Reply call status value) h sound message = no_reason _ BadReference (no_first _ _ sound).1
+refs_sound s n p (items.Call call target method value) h sound message = no_fault _ BadReference (no_first _ _ sound).1
+refs_sound s n p (items.Reply call status value) h sound message = no_fault _ BadReference (no_first _ _ sound).1
 refs_sound s n p (items.Settle item) h sound message = absurd (cc)
 refs_sound s n p (items.Dirty index) h sound message = absurd (cc)
 refs_sound s n p (items.DirtyOk index) h sound message = absurd (cc)
@@ -192,30 +188,30 @@ copies_all Q R s n st each (x ∷ xs) all =
 
 -- a loan is made at once only of what is own or granted
 at_hand : (s n : ℕ) (st : State) (rep : WireRep) → new_loan s n st rep ≡ loans.Lent → is_at_hand s st rep ≡ true
-at_hand s n st rep lent = elim (is_lost s n st rep) as (λ b. (if b then loans.Never else if is_at_hand s st rep then loans.Lent else loans.Due) ≡ loans.Lent → is_at_hand s st rep ≡ true) [
+at_hand s n st rep lent = elim (is_lost_here s n st rep) as (λ b. (if b then loans.Never else if is_at_hand s st rep then loans.Lent else loans.Due) ≡ loans.Lent → is_at_hand s st rep ≡ true) [
   | true ↦ λ e. absurd (cc)
   | false ↦ λ e. elim (is_at_hand s st rep) as (λ b. (if b then loans.Lent else loans.Due) ≡ loans.Lent → b ≡ true) [ true ↦ λ _. refl | false ↦ λ bad. absurd (cc) ] e
 ] lent
 
 module _ {s n : ℕ} {limits : Limits} {st : State} {D : List Deed} (stands : Stands s n limits st D) (p k : ℕ) (item : Item) (front : IsFront s n p k item D) (message : IsMessage item) where
   -- the owners of those that get Dirties are among the spaces
-  pub owners_among : (count : ℕ) → count ≡ n → AreAmong count (wanted s n st (counted_in item))
-  owners_among count is = weaker (wanted s n st (counted_in item)) (all_peers stands p k item front message)
+  pub owners_among : (count : ℕ) → count ≡ n → AreAmong count (wanted_refs s n st (counted_in item))
+  owners_among count is = weaker (wanted_refs s n st (counted_in item)) (all_peers stands p k item front message)
     where
       weaker : (all : List WireRep) → AllByRecursion (λ (rep : WireRep). is_peer s n rep.owner ≡ true) all → AreAmong count all
       weaker [] peers = tt
       weaker (rep ∷ rest) peers = ((let peer = peers.0 in (grind (arith, nat_tests, peer), grind (arith, nat_tests, peer, is))), weaker rest peers.1)
 
 module _ {s n : ℕ} {limits : Limits} {st : State} {D : List Deed} (stands : Stands s n limits st D) (p k : ℕ) (item : Item) (front : IsFront s n p k item D) (message : IsMessage item)
-    (free : message_refusal st (wanted s n st (counted_in item)) ≡ None) (small : n < 18446744073709551616) (st1 : State) (grows : Grows st st1) where
+    (free : message_refusal st (wanted_refs s n st (counted_in item)) ≡ None) (small : n < 18446744073709551616) (st1 : State) (grows : Grows st st1) where
   -- the table is as it was
   pub grown_standing : (rep : WireRep) → standing st1.table rep ≡ standing st.table rep
   grown_standing rep = (let same = grows.table.items in λ i. table.stands (same.me i) (same.exported i) (same.objects i) (same.counted i) (same.surrogates i) rep)
 
   -- the ends can send the Dirties
-  pub ends_ready : HaveRoom (length (wanted s n st (counted_in item))) st1.sessions (wanted s n st (counted_in item)) → CanSendAll st1.sessions (wanted s n st (counted_in item))
+  pub ends_ready : HaveRoom (length (wanted_refs s n st (counted_in item))) st1.sessions (wanted_refs s n st (counted_in item)) → CanSendAll st1.sessions (wanted_refs s n st (counted_in item))
   ends_ready room =
-      let all : List WireRep = wanted s n st (counted_in item) in
+      let all : List WireRep = wanted_refs s n st (counted_in item) in
       let parts = free_parts st all free in
       let wants : AllByRecursion (λ rep. is_wanted s n st rep ≡ true) all = filter_passes (is_wanted s n st) (once (counted_in item)) in
       let numbers : AllByRecursion (λ rep. has_numbers_for st all rep ≡ true) all = all_passes (has_numbers_for st all) all parts.1 in
@@ -232,18 +228,18 @@ module _ {s n : ℕ} {limits : Limits} {st : State} {D : List Deed} (stands : St
             let end_there : end_with st.sessions (place + 1) ≡ Some before.0 = rw some_place (ap (slice_get st.sessions) back ∙ before.1) in
             let still : has_closed st.sessions rep.owner ≡ false = not-true (has_closed st.sessions rep.owner) (and_parts _ _ (and_parts _ _ found.2.0).0).1 in
             let open_end : is_open_end before.0.end ≡ true = not-false (is_open_end before.0.end) (sym (ap (has_closed st.sessions) owner ∙ ap is_closed_end end_there) ∙ still) in
-            let numbered : nat_le (owned_by (place + 1) all) (1099511627776 - before.0.end.handed) ≡ true = sym (ap (λ q. has_free (owned_by q all) (end_with st.sessions q)) owner ∙ ap (has_free (owned_by (place + 1) all)) end_there) ∙ found.2.1.0 in
-            let low : owned_by (place + 1) all ≤ 1099511627776 - before.0.end.handed = grind (arith, nat_tests, numbered) in
+            let numbered : nat_le (owner_count (place + 1) all) (1099511627776 - before.0.end.handed) ≡ true = sym (ap (λ q. has_free (owner_count q all) (end_with st.sessions q)) owner ∙ ap (has_free (owner_count (place + 1) all)) end_there) ∙ found.2.1.0 in
+            let low : owner_count (place + 1) all ≤ 1099511627776 - before.0.end.handed = grind (arith, nat_tests, numbered) in
             let same : end.end.handed ≡ before.0.end.handed = ap (λ (e : End). e.handed) before.2 in
             let places : length all ≤ end.room = found.2.1.1 end (ap (λ q. slice_get st1.sessions (q - 1)) owner ∙ ap (slice_get st1.sessions) back ∙ there) in
-            let fewer : owned_by (place + 1) all ≤ length all = filter_short (λ (one : WireRep). one.owner == place + 1) all in
+            let fewer : owner_count (place + 1) all ≤ length all = filter_short (λ (one : WireRep). one.owner == place + 1) all in
             (ap is_open_end before.2 ∙ open_end, omega (arith, low, same, some), omega (arith, places, fewer));
       }
 
   -- the table can tell of them
-  pub table_ready : length (wanted s n st (counted_in item)) ≤ st1.table.surrogate_room → CanAsk st1.table (wanted s n st (counted_in item))
+  pub table_ready : length (wanted_refs s n st (counted_in item)) ≤ st1.table.surrogate_room → CanAsk st1.table (wanted_refs s n st (counted_in item))
   table_ready places =
-      let all : List WireRep = wanted s n st (counted_in item) in
+      let all : List WireRep = wanted_refs s n st (counted_in item) in
       let parts = free_parts st all free in
       let few : nat_lt 65536 (surrogate_total st.table + length all) ≡ false = (or_parts _ _ parts.0).1 in
       let total : surrogate_total st1.table ≡ surrogate_total st.table = ap length grows.table.items.surrogates in
@@ -266,9 +262,9 @@ module _ {s n : ℕ} {limits : Limits} {st : State} {D : List Deed} (stands : St
       }
 
   -- the message's loans can be made
-  pub loans_ready : (mid : Table) → AsksFor st1.table mid (wanted s n st (counted_in item)) → CanLend mid (loans_of s (message_of s n st p k item))
+  pub loans_ready : (mid : Table) → AsksFor st1.table mid (wanted_refs s n st (counted_in item)) → CanLend mid (loans_of s (message_of s n st p k item))
   loans_ready mid asks =
-      let all : List WireRep = wanted s n st (counted_in item) in
+      let all : List WireRep = wanted_refs s n st (counted_in item) in
       let m : Message = message_of s n st p k item in
       let h : History = history_of s n D in
       let mid_known : (rep : WireRep) → is_known (standing st.table rep).state ≡ true → is_known (standing mid rep).state ≡ true = λ rep known.
@@ -306,9 +302,9 @@ module _ {s n : ℕ} {limits : Limits} {st : State} {D : List Deed} (stands : St
       }
 
   -- its item waits in front
-  pub front_ready : (mid : List Roomy) → SendsAll st1.sessions mid (wanted s n st (counted_in item)) → HasFront mid p
+  pub front_ready : (mid : List Roomy) → SendsAll st1.sessions mid (wanted_refs s n st (counted_in item)) → HasFront mid p
   front_ready mid sends = λ end is.
-      let G : List Gift = map dirty_for (wanted s n st (counted_in item)) in
+      let G : List Gift = map dirty_for (wanted_refs s n st (counted_in item)) in
       let peer = front.peer in
       let low : 1 ≤ p = grind (arith, nat_tests, peer) in
       let high : p ≤ n = grind (arith, nat_tests, peer) in
@@ -323,7 +319,7 @@ module _ {s n : ℕ} {limits : Limits} {st : State} {D : List Deed} (stands : St
       subst (λ (payloads : List (List ℕ)). 0 < length payloads) (sym (ap (λ (e : End). e.waiting) its)) (front_waits (takes calls + 1) k front.bytes (waiting calls) first)
 
   -- all together
-  pub can_receive : HaveRoom (length (wanted s n st (counted_in item))) st1.sessions (wanted s n st (counted_in item)) → length (wanted s n st (counted_in item)) ≤ st1.table.surrogate_room → CanReceive s st1 (message_of s n st p k item) (wanted s n st (counted_in item))
+  pub can_receive : HaveRoom (length (wanted_refs s n st (counted_in item))) st1.sessions (wanted_refs s n st (counted_in item)) → length (wanted_refs s n st (counted_in item)) ≤ st1.table.surrogate_room → CanReceive s st1 (message_of s n st p k item) (wanted_refs s n st (counted_in item))
   can_receive room places = record {
     is_message = message;
     sessions = ends_ready room;
@@ -334,7 +330,7 @@ module _ {s n : ℕ} {limits : Limits} {st : State} {D : List Deed} (stands : St
   }
 
   -- what was received in the grown state was received in the one before
-  pub grown_receives : (new : State) → Receives s st1 new (message_of s n st p k item) (wanted s n st (counted_in item)) → Receives s st new (message_of s n st p k item) (wanted s n st (counted_in item))
+  pub grown_receives : (new : State) → Receives s st1 new (message_of s n st p k item) (wanted_refs s n st (counted_in item)) → Receives s st new (message_of s n st p k item) (wanted_refs s n st (counted_in item))
   grown_receives new receives = record {
     sent = receives.sent;
     sends = record {
@@ -347,9 +343,9 @@ module _ {s n : ℕ} {limits : Limits} {st : State} {D : List Deed} (stands : St
     takes = receives.takes;
     asked = receives.asked;
     asks = record {
-      standings = λ other. receives.asks.standings other ∙ ap (λ it. if list_any (is_same other) (wanted s n st (counted_in item)) then pending_standing else it) (grown_standing other);
-      places = λ other. receives.asks.places other ∙ (λ i. place_after (grows.table.items.dirties i) (wanted s n st (counted_in item)) other (place_in (grows.table.items.surrogates i) other));
-      dirties = receives.asks.dirties ∙ ap (λ m. m + length (wanted s n st (counted_in item))) grows.table.items.dirties;
+      standings = λ other. receives.asks.standings other ∙ ap (λ it. if list_any (is_same other) (wanted_refs s n st (counted_in item)) then pending_standing else it) (grown_standing other);
+      places = λ other. receives.asks.places other ∙ (λ i. place_after (grows.table.items.dirties i) (wanted_refs s n st (counted_in item)) other (place_in (grows.table.items.surrogates i) other));
+      dirties = receives.asks.dirties ∙ ap (λ m. m + length (wanted_refs s n st (counted_in item))) grows.table.items.dirties;
       objects = record {
         me = receives.asks.objects.me ∙ grows.table.items.me;
         exported = receives.asks.objects.exported ∙ grows.table.items.exported;

@@ -1,6 +1,5 @@
 -- The state once a Call or a Reply was acted on stands for one deed more.
-use Rattle.std.proofs.Common.{◌≡◌, ℕ, ◌+◌, ◌-◌, ◌≤◌, Bool, true, false, ◌==◌, List, [], ◌∷◌, ◌++◌, length, map, flat_map, get_or, slice_get, Option, Some, None, if◌then◌else◌, refl, sym, ap, subst, ◌∙◌, arith}
-use lib.ListN.{set}
+use Rattle.std.proofs.Common.{◌≡◌, ℕ, ◌+◌, true, false, List, [], ◌∷◌, ◌++◌, map, flat_map, if◌then◌else◌, refl, sym, ap, subst, ◌∙◌, arith}
 use Rattle.std.specs.List.{sum_by}
 use Rattle.std.proofs.lemmas.Cmp.{nat_eq_equiv}
 use Rattle.std.proofs.lemmas.List.{append-nil}
@@ -19,7 +18,6 @@ use Rattle.nob_pins.specs.Bundles as pins
 use Rattle.nob_model_words.specs.declared.deed.Deed.{Deed}
 use Rattle.nob_model_words.specs.declared.deed.Deed.TheVariants.{Act, TakeEnd}
 use Rattle.nob_model_words.specs.declared.message.Message.{Message}
-use Rattle.nob_model_words.specs.Sessions.{is_peer}
 use Rattle.nob_model_work.specs.declared.work.InHand.{InHand}
 use Rattle.nob_model_work.specs.declared.work.Run.{Run}
 use Rattle.nob_model_work.specs.Gifts.{dirty_for, all_gifts}
@@ -27,17 +25,17 @@ use Rattle.nob_model_work.specs.Work.{work, after_message, is_none_of, make_read
 use Rattle.nob_model_history.specs.declared.history.History.{History}
 use Rattle.nob_model_history.specs.declared.transit.SentItem.{SentItem}
 use Rattle.nob_model_history.specs.Histories.{history_of}
-use Rattle.nob_model_history.specs.Ends.{calls_at, items_to, own_calls, with_sends}
+use Rattle.nob_model_history.specs.Ends.{calls_at}
 use Rattle.nob_model_history.specs.Holds.{hand, times, lent_in, loans_of}
 use Rattle.nob_model.specs.Lists.{IsRightDeed}
 use Rattle.nob_space_state.specs.Parts.{State}
-use Rattle.nob_space_state.specs.Stands.{Stands, EndsStand, TableShows, TableStands, bundle}
+use Rattle.nob_space_state.specs.Stands.{Stands, EndsStand, TableStands, bundle}
 use Rattle.nob_space_state.proofs.Ends.{end_there, ends_changed}
 use Rattle.nob_space_state.proofs.Pinned.{times_both}
 use Rattle.nob_space_state.proofs.Taking.{shows_same}
 use Rattle.nob_space_items.specs.Fronts.{IsFront}
-use Rattle.nob_space_items.specs.Messages.{wanted, new_copies}
-use Rattle.nob_space_items.specs.Putting.{IsMessage}
+use Rattle.nob_space_items.specs.Messages.{wanted_refs, new_copies}
+use Rattle.nob_space_items.specs.Placing.{IsMessage}
 use Rattle.nob_space_items.specs.Receiving.{Receives}
 use Rattle.nob_space_items.proofs.Asks.{asks_show}
 use Rattle.nob_space_items.proofs.Message.{act_calls, act_work, act_listed, act_bundles}
@@ -98,10 +96,10 @@ abbrev pub message_of : (s n : ℕ) → State → (p k : ℕ) → Item → Messa
 message_of s n st p k item = record { from = p; number = k; item = item; copies = new_copies s n st (counted_in item) }
 
 module _ {s n : ℕ} {limits : Limits} {st new : State} {D : List Deed} (stands : Stands s n limits st D) (p k : ℕ) (item : Item) (front : IsFront s n p k item D) (message : IsMessage item)
-    (receives : Receives s st new (message_of s n st p k item) (wanted s n st (counted_in item))) where
+    (receives : Receives s st new (message_of s n st p k item) (wanted_refs s n st (counted_in item))) where
   -- the Dirties are sent and the item isn't taken yet
   abbrev between : History
-  between = record { deeds = TakeEnd 0 ∷ D; work = work s n D; all_gifts = map dirty_for (wanted s n st (counted_in item)) ∷ all_gifts s n D }
+  between = record { deeds = TakeEnd 0 ∷ D; work = work s n D; all_gifts = map dirty_for (wanted_refs s n st (counted_in item)) ∷ all_gifts s n D }
 
   ends_between : EndsStand s n limits receives.sent between
   ends_between = record {

@@ -1,10 +1,9 @@
 -- What keeps a Call or a Reply in the inbox is what the state tells.
-use Rattle.std.proofs.Common.{◌≡◌, ℕ, suc, ◌+◌, ◌-◌, ◌<◌, ◌≤◌, Bool, true, false, not, ◌&&◌, ◌||◌, ◌==◌, cond, List, [], ◌∷◌, ◌++◌, length, map, filter, Option, Some, None, Ok, Err, is_some, option_map, if◌then◌else◌, refl, sym, ap, subst, ◌∙◌, arith}
+use Rattle.std.proofs.Common.{◌≡◌, ℕ, suc, ◌+◌, ◌-◌, ◌≤◌, Bool, true, false, not, ◌&&◌, ◌||◌, ◌==◌, cond, List, [], ◌∷◌, ◌++◌, length, map, filter, Option, Some, None, Ok, Err, is_some, option_map, if◌then◌else◌, refl, sym, ap, ◌∙◌, arith}
 use Rattle.std.specs.Prelude.{nat_le, nat_lt}
-use Rattle.std.specs.List.{AllByRecursion, IsDistinct, list_any, list_all}
+use Rattle.std.specs.List.{AllByRecursion, list_any, list_all}
 use Rattle.std.proofs.lemmas.Bool.{and_parts}
 use Rattle.std.proofs.lemmas.Bool.Decides.{nat_tests}
-use Rattle.std.proofs.lemmas.Cmp.{nat_eq_equiv}
 use Rattle.std.proofs.lemmas.List.{length-append, length-map}
 use Rattle.std.proofs.lemmas.Map.Entries.{length-keys_of}
 use Rattle.std.proofs.lemmas.Map.Made.{length-from_same_keys}
@@ -19,8 +18,7 @@ use Rattle.nob_model_end.specs.Right.{last_item, queue_limit, is_limited}
 use Rattle.nob_model_end.specs.declared.refusal.EndRefusal.TheVariants as end_refusals
 use Rattle.nob_model_end.specs.declared.entry.EndEntry.{EndEntry}
 use Rattle.nob_model_end.specs.declared.entry.EndEntry.TheVariants as ends
-use Rattle.nob_session.specs.Stands as session
-use Rattle.nob_session.specs.Stands.{Roomy, End}
+use Rattle.nob_session.specs.Stands.{End}
 use Rattle.nob_table.specs.Rows.{IsOnce, reps_of, row_at}
 use Rattle.nob_table.specs.declared.standing.Surrogate.{Surrogate}
 use Rattle.nob_table.specs.Standings as standings
@@ -29,7 +27,6 @@ use Rattle.nob_table.specs.Counts.{is_held}
 use Rattle.nob_table.specs.Table.{standing, place_of, surrogate_total}
 use Rattle.nob_table.proofs.Same.{same_is, same_laws}
 use Rattle.nob_table.proofs.Stands.{any_key}
-use Rattle.nob_model_types.specs.declared.refusal.Refusal.{Refusal}
 use Rattle.nob_model_types.specs.declared.refusal.Refusal.TheVariants as refusals
 use Rattle.nob_model_words.specs.declared.deed.Deed.{Deed}
 use Rattle.nob_model_words.specs.declared.turns.Turns.{Turns}
@@ -46,16 +43,15 @@ use Rattle.nob_model_history.proofs.Surrogates.{has_surrogate}
 use Rattle.nob_model.specs.Acting as acting
 use Rattle.nob_model.specs.Acting.{messages, most_messages, most_surrogates, new_dirties, has_numbers_among, all_have_numbers}
 use Rattle.nob_model.specs.Laws.{AreRightCalls}
-use Rattle.nob_model.specs.Sending.{has_numbers}
 use Rattle.nob_model.proofs.Calling.{calls_law}
 use Rattle.nob_space_state.specs.Parts.{State}
-use Rattle.nob_space_state.specs.Looks.{end_with, has_closed}
+use Rattle.nob_space_state.specs.Looks.{has_closed}
 use Rattle.nob_space_state.specs.Stands.{Stands, far_state}
 use Rattle.nob_space_state.proofs.Calling.{end_of_peer}
 use Rattle.nob_space_state.proofs.Rows.{distinct_filtered}
 use Rattle.nob_space_state.proofs.Told.{closed_there}
-use Rattle.nob_space_items.specs.Messages.{is_wanted, wanted, owned_by, has_free, has_numbers_for, is_too_much, message_refusal}
-use Rattle.nob_space_items.proofs.Asked.{IsAsked, dirties_asked, any_of, any_last, last_distinct, filter_passes, filter_all, once_all}
+use Rattle.nob_space_items.specs.Messages.{is_wanted, wanted_refs, owner_count, has_free, has_numbers_for, message_refusal}
+use Rattle.nob_space_items.proofs.Asked.{IsAsked, dirties_asked, any_of, any_last, last_distinct, filter_passes, once_all}
 
 -- ---- numbers
 
@@ -82,7 +78,7 @@ free_count before count low = elim (nat_le (before + count) last_item) as (λ b.
 ] refl
 
 -- how many Dirties go to a peer
-count_to_owner : (p : ℕ) (reps : List WireRep) → length (items_to p (map dirty_for reps)) ≡ owned_by p reps
+count_to_owner : (p : ℕ) (reps : List WireRep) → length (items_to p (map dirty_for reps)) ≡ owner_count p reps
 unfolding dirty_for
 count_to_owner p [] = refl
 count_to_owner p (rep ∷ reps) = elim (rep.owner == p) as (λ b. length (map (λ (gift : Gift). gift.item) (cond b (dirty_for rep ∷ filter (λ (gift : Gift). gift.to == p) (map dirty_for reps)) (filter (λ (gift : Gift). gift.to == p) (map dirty_for reps)))) ≡ length (cond b (rep ∷ filter (λ (other : WireRep). other.owner == p) reps) (filter (λ (other : WireRep). other.owner == p) reps))) [
@@ -143,7 +139,7 @@ module _ {s n : ℕ} {limits : Limits} {st : State} {D : List Deed} (stands : St
   ] refl
 
   -- the references that get Dirties
-  pub wanted_there : (item : Item) → wanted s n st (counted_in item) ≡ filter (λ (rep : WireRep). wants_dirty s n rep D (turns s n rep D)) (once (counted_in item))
+  pub wanted_there : (item : Item) → wanted_refs s n st (counted_in item) ≡ filter (λ (rep : WireRep). wants_dirty s n rep D (turns s n rep D)) (once (counted_in item))
   wanted_there item =
       filter_agree (is_wanted s n st) (λ (rep : WireRep). wants_dirty s n rep D (turns s n rep D)) (once (counted_in item))
       (once_all (λ rep. is_wanted s n st rep ≡ wants_dirty s n rep D (turns s n rep D)) (counted_in item) (weaker (counted_in item) (filter_passes is_counted (refs_carried item))))
@@ -153,7 +149,7 @@ module _ {s n : ℕ} {limits : Limits} {st : State} {D : List Deed} (stands : St
       weaker (rep ∷ reps) all = (wanted_at rep all.0, weaker reps all.1)
 
   -- the Dirties
-  pub dirties_there : (item : Item) → new_dirties s n item (history_of s n D) ≡ map dirty_for (wanted s n st (counted_in item))
+  pub dirties_there : (item : Item) → new_dirties s n item (history_of s n D) ≡ map dirty_for (wanted_refs s n st (counted_in item))
   unfolding dirties_for
   dirties_there item = ap (map dirty_for) (sym (wanted_there item))
 
@@ -186,9 +182,9 @@ module _ {s n : ℕ} {limits : Limits} {st : State} {D : List Deed} (stands : St
       let there = end_of_peer stands rep.owner peer in
       let before : there.0.end.handed ≡ length (handed (calls_at rep.owner (history_of s n D))) = ap (λ (end : End). end.handed) there.2 in
       ap (λ count. nat_le (length (handed (calls_at rep.owner (history_of s n D))) + count) last_item) (count_to_owner rep.owner reps)
-      ∙ free_count (length (handed (calls_at rep.owner (history_of s n D)))) (owned_by rep.owner reps) (handed_low s rep.owner limits (calls_at rep.owner (history_of s n D)) (calls_law s n limits D stands.right rep.owner))
-      ∙ ap (λ k. nat_le (owned_by rep.owner reps) (last_item - k)) (sym before)
-      ∙ sym (ap (has_free (owned_by rep.owner reps)) there.1)
+      ∙ free_count (length (handed (calls_at rep.owner (history_of s n D)))) (owner_count rep.owner reps) (handed_low s rep.owner limits (calls_at rep.owner (history_of s n D)) (calls_law s n limits D stands.right rep.owner))
+      ∙ ap (λ k. nat_le (owner_count rep.owner reps) (last_item - k)) (sym before)
+      ∙ sym (ap (has_free (owner_count rep.owner reps)) there.1)
 
   -- so for all
   numbers_all : (reps rest : List WireRep) → AllByRecursion (λ rep. is_wanted s n st rep ≡ true) rest → list_all (has_numbers_among (map dirty_for reps) (history_of s n D)) (map dirty_for rest) ≡ list_all (has_numbers_for st reps) rest
@@ -196,10 +192,10 @@ module _ {s n : ℕ} {limits : Limits} {st : State} {D : List Deed} (stands : St
   numbers_all reps (rep ∷ rest) all = λ i. numbers_at reps rep (and_parts _ _ (and_parts _ _ all.0).0).0 i && numbers_all reps rest all.1 i
 
   -- what keeps a Call or a Reply in the inbox
-  pub message_there : (item : Item) → IsOnce st.table.surrogates → ((rep : WireRep) → is_some (place_of st.table rep) ≡ standings.is_surrogate (standing st.table rep).state) → acting.message_refusal s n item (history_of s n D) ≡ message_refusal st (wanted s n st (counted_in item))
+  pub message_there : (item : Item) → IsOnce st.table.surrogates → ((rep : WireRep) → is_some (place_of st.table rep) ≡ standings.is_surrogate (standing st.table rep).state) → acting.message_refusal s n item (history_of s n D) ≡ message_refusal st (wanted_refs s n st (counted_in item))
   unfolding acting.message_refusal acting.is_too_much message_refusal
   message_there item apart placed =
-      let reps : List WireRep = wanted s n st (counted_in item) in
+      let reps : List WireRep = wanted_refs s n st (counted_in item) in
       let in_hand : work s n D ≡ st.work = sym stands.work in
       let known : length (surrogates s n (history_of s n D)) ≡ surrogate_total st.table = sym (surrogates_there apart placed) in
       let asked : new_dirties s n item (history_of s n D) ≡ map dirty_for reps = dirties_there item in

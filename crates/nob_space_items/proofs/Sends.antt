@@ -1,8 +1,8 @@
 -- What one Dirty more makes of the ends and of the table.
-use Rattle.std.proofs.Common.{◌≡◌, ℕ, ◌+◌, ◌-◌, ◌<◌, ◌≤◌, ◌^◌, Bool, true, false, not, ◌&&◌, ◌==◌, cond, is_none, List, [], ◌∷◌, ◌++◌, length, map, filter, slice_get, get_or, remove, Option, Some, None, Ok, refl, sym, ap, subst, ◌∙◌, arith}
+use Rattle.std.proofs.Common.{◌≡◌, ℕ, ◌+◌, ◌-◌, ◌<◌, ◌≤◌, ◌^◌, true, false, not, ◌&&◌, ◌==◌, cond, is_none, List, [], ◌∷◌, length, map, filter, slice_get, get_or, remove, Some, Ok, refl, sym, ap, subst, ◌∙◌, arith}
 use lib.ListN.{set}
-use Rattle.std.specs.List.{AllByRecursion, IsDistinct, list_any}
-use Rattle.std.proofs.lemmas.Bool.Decides.{nat_tests, Decides-eqb}
+use Rattle.std.specs.List.{AllByRecursion, IsDistinct}
+use Rattle.std.proofs.lemmas.Bool.Decides.{Decides-eqb}
 use Rattle.std.proofs.lemmas.Cmp.{nat_eq_equiv}
 use Rattle.std.proofs.lemmas.List.{length-set}
 use Rattle.std.proofs.lemmas.Option.{slice_get_read}
@@ -11,14 +11,12 @@ use Rattle.nob_ids.specs.declared.limits.Limits.{Limits}
 use Rattle.nob_ids.specs.declared.wire_rep.WireRep.{WireRep}
 use Rattle.nob_item.specs.declared.item.Item.TheVariants as items
 use Rattle.nob_model_end.specs.End.{handed}
-use Rattle.nob_model_end.specs.Right.{last_item}
 use Rattle.nob_model_end.specs.declared.entry.EndEntry.{EndEntry}
 use Rattle.nob_model_end.specs.declared.entry.EndEntry.TheVariants.{Send}
 use Rattle.nob_model_end.specs.declared.entry.Kind.TheVariants.{Note}
 use Rattle.nob_session.specs.Stands as session
 use Rattle.nob_session.specs.Stands.{Roomy, End, is_open_end}
 use Rattle.nob_table.proofs.Flat.{get_set_other}
-use Rattle.nob_table.proofs.Same.{same_is, same_refl}
 use Rattle.nob_table.specs.Standings.{is_unknown, pending_standing}
 use Rattle.nob_table.specs.declared.standing.Standing.{Standing}
 use Rattle.nob_table.specs.Table.{Table, SameObjects, Becomes, standing, surrogate_total, is_far}
@@ -27,12 +25,12 @@ use Rattle.nob_model_work.specs.Gifts.{dirty_for}
 use Rattle.nob_model_history.specs.Ends.{items_to, payload_of, with_sends}
 use Rattle.nob_space_state.proofs.Ends.{set_here}
 use Rattle.nob_space_state.proofs.Rows.{differ}
-use Rattle.nob_space_items.specs.Messages.{owned_by}
+use Rattle.nob_space_items.specs.Messages.{owner_count}
 use Rattle.nob_space_items.specs.Asking.{CanAsk, CanSend, CanSendAll, SendsOne, SendsNext, SendsAll}
 
 -- how many a space owns of one reference and others
-owned_cons : (p : ℕ) (rep : WireRep) (reps : List WireRep) → owned_by p (rep ∷ reps) ≡ cond (rep.owner == p) 1 0 + owned_by p reps
-owned_cons p rep reps = elim (rep.owner == p) as (λ b. length (cond b (rep ∷ filter (λ (one : WireRep). one.owner == p) reps) (filter (λ (one : WireRep). one.owner == p) reps)) ≡ cond b 1 0 + owned_by p reps) [ true ↦ omega arith | false ↦ omega arith ]
+owned_cons : (p : ℕ) (rep : WireRep) (reps : List WireRep) → owner_count p (rep ∷ reps) ≡ cond (rep.owner == p) 1 0 + owner_count p reps
+owned_cons p rep reps = elim (rep.owner == p) as (λ b. length (cond b (rep ∷ filter (λ (one : WireRep). one.owner == p) reps) (filter (λ (one : WireRep). one.owner == p) reps)) ≡ cond b 1 0 + owner_count p reps) [ true ↦ omega arith | false ↦ omega arith ]
 
 -- an end that can send so many can send fewer
 fewer_can : (count more : ℕ) (end : Roomy) → count ≤ more → CanSend more end → CanSend count end
@@ -43,10 +41,10 @@ pub first_can : (ends : List Roomy) (rep : WireRep) (reps : List WireRep) → Ca
 first_can ends rep reps can = record {
   owners = (can.owners.0, tt);
   each = λ place end there some.
-      let one : owned_by (place + 1) (rep ∷ []) ≡ cond (rep.owner == place + 1) 1 0 + 0 = owned_cons (place + 1) rep [] in
-      let all : owned_by (place + 1) (rep ∷ reps) ≡ cond (rep.owner == place + 1) 1 0 + owned_by (place + 1) reps = owned_cons (place + 1) rep reps in
-      let low : owned_by (place + 1) (rep ∷ []) ≤ owned_by (place + 1) (rep ∷ reps) = omega (arith, one, all) in
-      fewer_can (owned_by (place + 1) (rep ∷ [])) (owned_by (place + 1) (rep ∷ reps)) end low (can.each place end there (omega (arith, some, low)));
+      let one : owner_count (place + 1) (rep ∷ []) ≡ cond (rep.owner == place + 1) 1 0 + 0 = owned_cons (place + 1) rep [] in
+      let all : owner_count (place + 1) (rep ∷ reps) ≡ cond (rep.owner == place + 1) 1 0 + owner_count (place + 1) reps = owned_cons (place + 1) rep reps in
+      let low : owner_count (place + 1) (rep ∷ []) ≤ owner_count (place + 1) (rep ∷ reps) = omega (arith, one, all) in
+      fewer_can (owner_count (place + 1) (rep ∷ [])) (owner_count (place + 1) (rep ∷ reps)) end low (can.each place end there (omega (arith, some, low)));
 }
 
 -- the end with the owner of one reference can send one
@@ -56,7 +54,7 @@ one_can ends rep end can is =
     let high : rep.owner ≤ length ends = can.owners.0.1 in
     let there : slice_get ends (rep.owner - 1) ≡ Some end = slice_get_read ends (length ends) (rep.owner - 1) end refl (omega (arith, low, high)) is in
     let at : rep.owner - 1 + 1 ≡ rep.owner = omega (arith, low) in
-    let one : owned_by (rep.owner - 1 + 1) (rep ∷ []) ≡ 1 = owned_cons (rep.owner - 1 + 1) rep [] ∙ ap (λ b. cond b 1 0 + 0) (ap (λ q. rep.owner == q) at ∙ nat_eq_equiv.refl rep.owner) in
+    let one : owner_count (rep.owner - 1 + 1) (rep ∷ []) ≡ 1 = owned_cons (rep.owner - 1 + 1) rep [] ∙ ap (λ b. cond b 1 0 + 0) (ap (λ q. rep.owner == q) at ∙ nat_eq_equiv.refl rep.owner) in
     subst (λ k. CanSend k end) one (can.each (rep.owner - 1) end there (omega (arith, one)))
 
 -- one end sends one Dirty
@@ -74,19 +72,19 @@ sends_next ends rep old new within is one =
 pub rest_can : (old new : List Roomy) (rep : WireRep) (reps : List WireRep) → CanSendAll old (rep ∷ reps) → SendsNext old new rep → CanSendAll new reps
 rest_can old new rep reps can next = record {
   owners = subst (λ k. AllByRecursion (λ (one : WireRep). (1 ≤ one.owner) × (one.owner ≤ k)) reps) (sym next.each) can.owners.1;
-  each = λ place end there some. elim (place + 1 == rep.owner) as (λ b. place + 1 == rep.owner ≡ b → CanSend (owned_by (place + 1) reps) end) [
+  each = λ place end there some. elim (place + 1 == rep.owner) as (λ b. place + 1 == rep.owner ≡ b → CanSend (owner_count (place + 1) reps) end) [
     | true ↦ λ same.
         let at : place + 1 ≡ rep.owner = (Decides-eqb (place + 1) rep.owner).0 same in
         let here = next.here end (subst (λ k. slice_get new k ≡ Some end) (omega (arith, at)) there) in
-        let all : owned_by (place + 1) (rep ∷ reps) ≡ 1 + owned_by (place + 1) reps = owned_cons (place + 1) rep reps ∙ ap (λ b. cond b 1 0 + owned_by (place + 1) reps) (nat_eq_equiv.symm rep.owner (place + 1) ∙ same) in
-        let before : CanSend (owned_by (place + 1) (rep ∷ reps)) here.0 = can.each place here.0 (subst (λ k. slice_get old k ≡ Some here.0) (omega (arith, at)) here.1) (omega (arith, all)) in
+        let all : owner_count (place + 1) (rep ∷ reps) ≡ 1 + owner_count (place + 1) reps = owned_cons (place + 1) rep reps ∙ ap (λ b. cond b 1 0 + owner_count (place + 1) reps) (nat_eq_equiv.symm rep.owner (place + 1) ∙ same) in
+        let before : CanSend (owner_count (place + 1) (rep ∷ reps)) here.0 = can.each place here.0 (subst (λ k. slice_get old k ≡ Some here.0) (omega (arith, at)) here.1) (omega (arith, all)) in
         let count = here.2.handed in
         let room = here.2.room in
         let number = before.1 in
         let places = before.2 in
         (ap is_none here.2.ending ∙ before.0, omega (arith, count, number, all), omega (arith, room, places, all))
     | false ↦ λ other.
-        let all : owned_by (place + 1) (rep ∷ reps) ≡ owned_by (place + 1) reps = (let parts : owned_by (place + 1) (rep ∷ reps) ≡ 0 + owned_by (place + 1) reps = owned_cons (place + 1) rep reps ∙ ap (λ b. cond b 1 0 + owned_by (place + 1) reps) (nat_eq_equiv.symm rep.owner (place + 1) ∙ other) in omega (arith, parts)) in
+        let all : owner_count (place + 1) (rep ∷ reps) ≡ owner_count (place + 1) reps = (let parts : owner_count (place + 1) (rep ∷ reps) ≡ 0 + owner_count (place + 1) reps = owned_cons (place + 1) rep reps ∙ ap (λ b. cond b 1 0 + owner_count (place + 1) reps) (nat_eq_equiv.symm rep.owner (place + 1) ∙ other) in omega (arith, parts)) in
         subst (λ k. CanSend k end) all (can.each place end (sym (next.elsewhere place other) ∙ there) (omega (arith, all, some)))
   ] refl;
 }

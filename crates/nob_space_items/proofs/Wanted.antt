@@ -1,5 +1,5 @@
 -- The references that get a Dirty, one reference after the other.
-use Rattle.std.proofs.Common.{◌≡◌, ℕ, ◌+◌, ◌<◌, ◌≤◌, Bool, true, false, not, ◌&&◌, ◌||◌, cond, List, [], ◌∷◌, ◌++◌, length, filter, take, slice_get, Some, None, inl, inr, refl, sym, ap, subst, ◌∙◌, arith}
+use Rattle.std.proofs.Common.{◌≡◌, ℕ, ◌+◌, Bool, true, false, not, ◌&&◌, ◌||◌, cond, List, [], ◌∷◌, ◌++◌, filter, take, slice_get, Some, None, inl, inr, refl, sym, ap, ◌∙◌}
 use Rattle.std.specs.List.{list_any}
 use Rattle.std.proofs.lemmas.List.{append-nil, take_more, take_all}
 use Rattle.std.proofs.lemmas.List.Elements.{filter-append}
@@ -7,11 +7,11 @@ use Rattle.std.proofs.lemmas.Map.Views.{any-filter_same}
 use Rattle.std.proofs.lemmas.Option.{slice_get_within, get_or_from_slice_get, slice_get_cases, none-some}
 use Rattle.nob_ids.specs.Names.{is_same}
 use Rattle.nob_ids.specs.declared.wire_rep.WireRep.{WireRep}
-use Rattle.nob_table.proofs.Same.{same_is, same_laws}
+use Rattle.nob_table.proofs.Same.{same_is}
 use Rattle.nob_model_work.specs.Gifts.{once}
 use Rattle.nob_model_history.proofs.Dirtying.{same_flip}
 use Rattle.nob_space_state.specs.Parts.{State}
-use Rattle.nob_space_items.specs.Messages.{is_wanted, wanted}
+use Rattle.nob_space_items.specs.Messages.{is_wanted, wanted_refs}
 
 -- one reference more, each once: it stands last, unless it stood there before
 once_push : (x : WireRep) (xs : List WireRep) → once (xs ++ x ∷ []) ≡ cond (list_any (is_same x) xs) (once xs) (once xs ++ x ∷ [])
@@ -39,18 +39,18 @@ any_once rep (y ∷ xs) = elim (is_same rep y) as (λ b. is_same rep y ≡ b →
 
 module _ (s n : ℕ) (st : State) where
   -- whether a reference is among those that get a Dirty
-  pub any_wanted : (rep : WireRep) (xs : List WireRep) → list_any (is_same rep) (wanted s n st xs) ≡ (is_wanted s n st rep && list_any (is_same rep) xs)
+  pub any_wanted : (rep : WireRep) (xs : List WireRep) → list_any (is_same rep) (wanted_refs s n st xs) ≡ (is_wanted s n st rep && list_any (is_same rep) xs)
   any_wanted rep xs =
       any-filter_same (is_same rep) (is_wanted s n st) (is_wanted s n st rep) (λ k same. ap (is_wanted s n st) (sym (same_is rep k same))) (once xs)
       ∙ ap (λ b. is_wanted s n st rep && b) (any_once rep xs)
 
   -- one reference more: it stands last, if it gets a Dirty and doesn't stand there yet
-  wanted_push : (x : WireRep) (xs : List WireRep) → wanted s n st (xs ++ x ∷ []) ≡ cond (is_wanted s n st x && not (list_any (is_same x) (wanted s n st xs))) (wanted s n st xs ++ x ∷ []) (wanted s n st xs)
+  wanted_push : (x : WireRep) (xs : List WireRep) → wanted_refs s n st (xs ++ x ∷ []) ≡ cond (is_wanted s n st x && not (list_any (is_same x) (wanted_refs s n st xs))) (wanted_refs s n st xs ++ x ∷ []) (wanted_refs s n st xs)
   wanted_push x xs =
       ap (filter (is_wanted s n st)) (once_push x xs)
-      ∙ rw (any_wanted x xs) (elim (list_any (is_same x) xs) as (λ b. filter (is_wanted s n st) (cond b (once xs) (once xs ++ x ∷ [])) ≡ cond (is_wanted s n st x && not (is_wanted s n st x && b)) (wanted s n st xs ++ x ∷ []) (wanted s n st xs)) [
-        | true ↦ elim (is_wanted s n st x) as (λ c. wanted s n st xs ≡ cond (c && not (c && true)) (wanted s n st xs ++ x ∷ []) (wanted s n st xs)) [ true ↦ refl | false ↦ refl ]
-        | false ↦ filter-append (is_wanted s n st) (once xs) (x ∷ []) ∙ elim (is_wanted s n st x) as (λ c. wanted s n st xs ++ cond c (x ∷ []) [] ≡ cond (c && not (c && false)) (wanted s n st xs ++ x ∷ []) (wanted s n st xs)) [ true ↦ refl | false ↦ append-nil (wanted s n st xs) ]
+      ∙ rw (any_wanted x xs) (elim (list_any (is_same x) xs) as (λ b. filter (is_wanted s n st) (cond b (once xs) (once xs ++ x ∷ [])) ≡ cond (is_wanted s n st x && not (is_wanted s n st x && b)) (wanted_refs s n st xs ++ x ∷ []) (wanted_refs s n st xs)) [
+        | true ↦ elim (is_wanted s n st x) as (λ c. wanted_refs s n st xs ≡ cond (c && not (c && true)) (wanted_refs s n st xs ++ x ∷ []) (wanted_refs s n st xs)) [ true ↦ refl | false ↦ refl ]
+        | false ↦ filter-append (is_wanted s n st) (once xs) (x ∷ []) ∙ elim (is_wanted s n st x) as (λ c. wanted_refs s n st xs ++ cond c (x ∷ []) [] ≡ cond (c && not (c && false)) (wanted_refs s n st xs ++ x ∷ []) (wanted_refs s n st xs)) [ true ↦ refl | false ↦ append-nil (wanted_refs s n st xs) ]
       ])
 
   -- the references up to one, and that one
@@ -58,12 +58,12 @@ module _ (s n : ℕ) (st : State) where
   take_next xs k x there = take_more xs k x (slice_get_within xs k x there) ∙ ap (λ (y : WireRep). take k xs ++ y ∷ []) (get_or_from_slice_get xs k x x there)
 
   -- one reference further: it stands last, if it gets a Dirty that none got before
-  pub wanted_more : (kept xs : List WireRep) (k : ℕ) (x : WireRep) (b : Bool) → slice_get xs k ≡ Some x → kept ≡ wanted s n st (take k xs) → b ≡ (is_wanted s n st x && not (list_any (is_same x) kept)) → cond b (kept ++ x ∷ []) kept ≡ wanted s n st (take (k + 1) xs)
+  pub wanted_more : (kept xs : List WireRep) (k : ℕ) (x : WireRep) (b : Bool) → slice_get xs k ≡ Some x → kept ≡ wanted_refs s n st (take k xs) → b ≡ (is_wanted s n st x && not (list_any (is_same x) kept)) → cond b (kept ++ x ∷ []) kept ≡ wanted_refs s n st (take (k + 1) xs)
   wanted_more kept xs k x b there are next =
-      let next_there : b ≡ (is_wanted s n st x && not (list_any (is_same x) (wanted s n st (take k xs)))) = next ∙ ap (λ (rs : List WireRep). is_wanted s n st x && not (list_any (is_same x) rs)) are in
+      let next_there : b ≡ (is_wanted s n st x && not (list_any (is_same x) (wanted_refs s n st (take k xs)))) = next ∙ ap (λ (rs : List WireRep). is_wanted s n st x && not (list_any (is_same x) rs)) are in
       ap (λ (rs : List WireRep). cond b (rs ++ x ∷ []) rs) are
-      ∙ ap (λ c. cond c (wanted s n st (take k xs) ++ x ∷ []) (wanted s n st (take k xs))) next_there
-      ∙ sym (ap (wanted s n st) (take_next xs k x there) ∙ wanted_push x (take k xs))
+      ∙ ap (λ c. cond c (wanted_refs s n st (take k xs) ++ x ∷ []) (wanted_refs s n st (take k xs))) next_there
+      ∙ sym (ap (wanted_refs s n st) (take_next xs k x there) ∙ wanted_push x (take k xs))
 
 -- behind the last reference there is none more
 pub past_last : (xs : List WireRep) (k : ℕ) → slice_get xs k ≡ None → take k xs ≡ xs

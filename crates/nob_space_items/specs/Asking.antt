@@ -16,7 +16,7 @@ use Rattle.nob_table.specs.Table.{Table, SameObjects, standing, place_of, surrog
 use Rattle.nob_table.specs.Table as table
 use Rattle.nob_model_work.specs.Gifts.{dirty_for}
 use Rattle.nob_model_history.specs.Ends.{items_to, payload_of, with_sends}
-use Rattle.nob_space_items.specs.Messages.{owned_by}
+use Rattle.nob_space_items.specs.Messages.{owner_count}
 
 -- the place of a reference once Dirties for these were sent, the first of them with place n: that of its last Dirty among them, or the one before
 abbrev pub place_after : (n : ℕ) → List WireRep → WireRep → Option ℕ → Option ℕ
@@ -45,7 +45,7 @@ CanSend count end = (is_open_end end.end ≡ true) × (end.end.handed + count �
 -- the ends with the owners of these references can send the Dirties
 pub record CanSendAll (ends : List Roomy) (reps : List WireRep) : Type 0 where
   pub owners : AllByRecursion (λ rep. (1 ≤ rep.owner) × (rep.owner ≤ length ends)) reps
-  pub each : (place : ℕ) (end : Roomy) → slice_get ends place ≡ Some end → 1 ≤ owned_by (place + 1) reps → CanSend (owned_by (place + 1) reps) end
+  pub each : (place : ℕ) (end : Roomy) → slice_get ends place ≡ Some end → 1 ≤ owner_count (place + 1) reps → CanSend (owner_count (place + 1) reps) end
 
 -- an end has sent the Dirty for a reference
 pub record SendsOne (old new : Roomy) (rep : WireRep) : Type 0 where

@@ -1,13 +1,13 @@
+pub mod Cleaning
+pub mod Settling
 pub mod Fronts
 pub mod Judging
 pub mod Notes
 pub mod Messages
 pub mod Asking
 pub mod Lending
-pub mod Putting
+pub mod Placing
 pub mod Growing
 pub mod Granting
 pub mod Receiving
 pub mod Acts
-pub mod Cleaning
-pub mod Settling

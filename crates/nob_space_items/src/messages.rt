@@ -17,7 +17,7 @@ ghost use Rattle.nob_space_state.specs.Stands.{Stands, IsState, Keeps, Did, Answ
 ghost use Rattle.nob_space_items.specs.Fronts.{IsFront};
 ghost use Rattle.nob_space_items.specs.Messages as specs;
 ghost use Rattle.nob_space_items.specs.Messages.{KnowsSurrogates};
-ghost use Rattle.nob_space_items.specs.Putting.{IsMessage};
+ghost use Rattle.nob_space_items.specs.Placing.{IsMessage};
 
 use crate::copies::new_copies;
 use crate::dirties::new_dirties;
@@ -69,7 +69,7 @@ fn is_next(parts: &Parts, here: &Here, before: &[WireRep], rep: &WireRep) -> boo
 // The references of an item that get Dirties, each once, in reading order. An item carries 32 at most.
 fn wanted_refs(parts: &Parts, here: &Here, item: &Item) -> FewRefs
     requires { length (counted_in item.now) ≤ 32 }
-    ensures { result ≡ specs.wanted here.now.space here.now.n (state_of parts.now) (counted_in item.now) }
+    ensures { result ≡ specs.wanted_refs here.now.space here.now.n (state_of parts.now) (counted_in item.now) }
 {
     let mut wanted = FewRefs::new(WireRep {
         owner: here.space,
@@ -97,14 +97,14 @@ fn message_count(parts: &Parts) -> u64
 }
 
 // How many of some references a space owns.
-fn owned_by(owner: SpaceId, reps: &[WireRep]) -> usize
-    ensures value { result ≡ specs.owned_by owner reps.now }
+fn owner_count(owner: SpaceId, reps: &[WireRep]) -> usize
+    ensures value { result ≡ specs.owner_count owner reps.now }
     ensures bound { result ≤ length reps.now }
 {
     match reps {
         [] => 0,
         [rep, others @ ..] => {
-            let rest = owned_by(owner, others);
+            let rest = owner_count(owner, others);
             if rep.owner == owner { rest + 1 } else { rest }
         }
     }
@@ -115,7 +115,7 @@ fn has_numbers_for(parts: &Parts, reps: &[WireRep], rep: &WireRep) -> bool
     ensures { result ≡ specs.has_numbers_for (state_of parts.now) reps.now rep.now }
 {
     match parts.sessions.get(rep.owner.get() as usize - 1) {
-        Some(session) => owned_by(rep.owner, reps) as u64 <= session.free_numbers(),
+        Some(session) => owner_count(rep.owner, reps) as u64 <= session.free_numbers(),
         None => false,
     }
 }
@@ -149,7 +149,7 @@ fn refuse_message(parts: &Parts, reps: &[WireRep]) -> Result<(), Refusal>
 // The references of a Call or a Reply that get Dirties, or why it stays in the inbox. It takes no memory.
 fn judge_message(parts: &Parts, here: &Here, item: &Item) -> Result<FewRefs, Refusal>
     requires few { length (counted_in item.now) ≤ 32 }
-    ensures wanted { IfOk result (λ reps. reps ≡ specs.wanted here.now.space here.now.n (state_of parts.now) (counted_in item.now)) }
+    ensures wanted { IfOk result (λ reps. reps ≡ specs.wanted_refs here.now.space here.now.n (state_of parts.now) (counted_in item.now)) }
     ensures free { IfOk result (λ reps. specs.message_refusal (state_of parts.now) reps ≡ None) }
     ensures answer { (limits : LimitsOf) (D : List Deed) → Stands here.now.space here.now.n limits (state_of parts.now) D → MatchResult result (λ _. acting.message_refusal here.now.space here.now.n item.now (history_of here.now.space here.now.n D) ≡ None) (λ refusal. acting.message_refusal here.now.space here.now.n item.now (history_of here.now.space here.now.n D) ≡ Some refusal) }
 {
@@ -162,8 +162,8 @@ fn judge_message(parts: &Parts, here: &Here, item: &Item) -> Result<FewRefs, Ref
 
 /// Acts on a Call or a Reply from a peer that has no fault: its references that have no surrogate get Dirties, its
 /// loans are made as far as they can be, and it waits for its references or is ready. It stays in the inbox where a limit
-/// or the numbers of a session forbid it. Quadratic in its references, of which there are 32 at most, and linear in the
-/// calls.
+/// or the numbers of a session forbid it, and then nothing was sent. Linear in its value times its references, of which
+/// there are 32 at most, and in the calls.
 pub(crate) fn act_on_message(
     parts: &mut Parts,
     alloc: Global,

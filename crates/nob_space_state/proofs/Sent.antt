@@ -65,7 +65,7 @@ pub record HandsOne (s n : ℕ) (deed : Deed) (D : List Deed) (p : ℕ) (item : 
   pub listed : (index client : ℕ) → is_listed s index client (deed ∷ D) ≡ is_listed s index client D
   pub jobs : jobs_made (deed ∷ D) ≡ jobs_made D
 
-pub and_true : (b : Bool) → (b && true) ≡ b
+and_true : (b : Bool) → (b && true) ≡ b
 and_true true = refl
 and_true false = refl
 

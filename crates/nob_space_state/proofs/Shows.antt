@@ -44,7 +44,7 @@ one_row {X} P rep old new after becomes here there other =
     ] refl
 
 -- one hold more is a hold
-pub held_more : (part : Part) (counts : Counts) → is_held (more part counts) ≡ true
+held_more : (part : Part) (counts : Counts) → is_held (more part counts) ≡ true
 held_more Hand counts = grind (arith, nat_tests)
 held_more Lent counts = grind (arith, nat_tests)
 
@@ -56,7 +56,7 @@ no_holds counts free =
     λ i. record { hand = hand i; lent = lent i }
 
 -- a surrogate or a lost reference that has counts stays what it is where they still hold it
-pub far_kept : (has_closed : Bool) (t : Turns) (it : Standing) (counts : Counts) → IsFar has_closed t it → is_known it.state ≡ true → is_held counts ≡ true → IsFar has_closed t (with_counts counts it)
+far_kept : (has_closed : Bool) (t : Turns) (it : Standing) (counts : Counts) → IsFar has_closed t it → is_known it.state ≡ true → is_held counts ≡ true → IsFar has_closed t (with_counts counts it)
 far_kept true t it counts far known held =
     elim (is_held it.counts) as (λ b. it.state ≡ (if b then states.Lost else states.Unknown) → it.state ≡ (if is_held counts then states.Lost else states.Unknown)) [
       | true ↦ λ e. e ∙ rw held refl
@@ -86,7 +86,7 @@ far_released false t it counts far known =
 
 module _ (s n : ℕ) (h : History) (H L H' L' : WireRep → ℕ) (t u : Table) (rep : WireRep) (shows : TableShows s n t h H L) (leaves : ChangeLeaves t u) where
   -- one row changes, and what it is stays
-  pub changed_row : (after : Standing) → Becomes t u rep after
+  changed_row : (after : Standing) → Becomes t u rep after
       → is_live after.state ≡ is_live (standing t rep).state → is_surrogate after.state ≡ is_surrogate (standing t rep).state
       → (is_counted rep ≡ true → is_own s rep ≡ false → IsFar (closed rep.owner h.deeds) (turns s n rep h.deeds) after)
       → (is_counted rep ≡ true → after.counts.hand ≡ H' rep) → (is_counted rep ≡ true → after.counts.lent ≡ L' rep)

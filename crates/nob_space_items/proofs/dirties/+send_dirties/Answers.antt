@@ -1,5 +1,4 @@
-use Rattle.std.proofs.Common.{rules, ◌≡◌, List, [], ◌∷◌, sym, ap, subst, ◌∙◌}
-use Rattle.nob_ids.specs.declared.wire_rep.WireRep.{WireRep}
+use Rattle.std.proofs.Common.{rules, sym, subst}
 use Rattle.nob_space_items.specs.Asking.{CanAsk, CanSendAll, SendsAll}
 use Rattle.nob_space_items.proofs.Sends.{first_can, rest_can, sends_then, sends_none, no_refs, first_rest, first_asks, rest_asks}
 use Rattle.nob_space_items.proofs.dirties.+send_dirties.Goals as goal

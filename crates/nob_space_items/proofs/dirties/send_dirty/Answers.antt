@@ -1,4 +1,4 @@
-use Rattle.std.proofs.Common.{◌≡◌, List, ℕ, ◌+◌, ◌∷◌, Ok, sym, ap, subst, ◌∙◌}
+use Rattle.std.proofs.Common.{◌∷◌, Ok, sym, ap, subst, ◌∙◌}
 use Rattle.nob_ids.specs.declared.wire_rep.WireRep.{WireRep}
 use Rattle.nob_item.specs.declared.item.Item.TheVariants as items
 use Rattle.nob_model_end.specs.declared.entry.EndEntry.TheVariants.{Send}

@@ -1,4 +1,4 @@
-use Rattle.std.proofs.Common.{◌≡◌, ℕ, ◌-◌, get_or, set, sym, ap, subst, ◌∙◌}
+use Rattle.std.proofs.Common.{◌≡◌, ◌-◌, get_or, set, sym, ap, subst, ◌∙◌}
 use Rattle.nob_ids.specs.declared.wire_rep.WireRep.{WireRep}
 use Rattle.nob_space_items.specs.Asking.{SendsNext}
 use Rattle.nob_space_items.proofs.Sends.{one_can, sends_next}

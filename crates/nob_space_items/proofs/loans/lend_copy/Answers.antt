@@ -1,7 +1,6 @@
-use Rattle.std.proofs.Common.{rules, [], ◌∷◌, true, false, sym, subst, ◌∙◌}
+use Rattle.std.proofs.Common.{rules, true, sym, subst, ◌∙◌}
 use Rattle.nob_space_state.proofs.Returned.{copy_lends}
 use Rattle.nob_space_items.specs.Lending.{CanLend, Lends}
-use Rattle.nob_space_items.proofs.Lends.{lends_none}
 use Rattle.nob_space_items.proofs.loans.lend_copy.Goals as goal
 
 pub lend-requires : goal.lend-requires

@@ -1,13 +1,12 @@
-use Rattle.std.proofs.Common.{rules, arith, ◌≡◌, ◌<◌, ◌≤◌, List, length, None, Ok, IsOk, refl, ap, sym, subst, ◌∙◌}
+use Rattle.std.proofs.Common.{rules, arith, ◌≡◌, ◌<◌, ◌≤◌, List, length, None, IsOk, refl, ap, sym, subst, ◌∙◌}
 use Rattle.nob_ids.specs.declared.wire_rep.WireRep.{WireRep}
 use Rattle.nob_item.specs.Kinds.{counted_in}
 use Rattle.nob_model_words.specs.declared.deed.Deed.{Deed}
 use Rattle.nob_model_words.specs.declared.message.RefCopy.{RefCopy}
 use Rattle.nob_model.specs.Acting.{answer_of_act}
-use Rattle.nob_model_history.specs.Histories.{history_of}
 use Rattle.nob_space_state.specs.Parts.{state_of}
 use Rattle.nob_space_items.specs.Growing.{AreAmong, HaveRoom}
-use Rattle.nob_space_items.specs.Messages.{wanted, message_refusal}
+use Rattle.nob_space_items.specs.Messages.{wanted_refs, message_refusal}
 use Rattle.nob_space_items.specs.Receiving.{CanReceive, Receives}
 use Rattle.nob_space_items.proofs.Message.{message_answer, act_is}
 use Rattle.nob_space_items.proofs.ReadItems.{item_few}
@@ -56,10 +55,10 @@ receive-requires-clause-can c =
     let fits : length c.args.parts.now.sessions.items < 18446744073709551616 = search rules in
     let each = stands.ends.each in
     let small : n < 18446744073709551616 = omega (arith, fits, each) in
-    let reps_are : c.in-Ok.wanted ≡ wanted s n st (counted_in c.args.item) = (c.in-Ok.ensures {u = tt}).wanted in
-    let given : c.as_slice-2.result.now ≡ wanted s n st (counted_in c.args.item) = c.as_slice-2.ensures ∙ reps_are in
-    let dirties_are : c.in-Ok-new_dirties.dirties.items ≡ wanted s n st (counted_in c.args.item) = (c.in-Ok-new_dirties.ensures {u = tt}) ∙ c.as_slice.ensures ∙ reps_are in
-    let can : CanReceive s new (message_of s n st c.args.peer c.args.number c.args.item) (wanted s n st (counted_in c.args.item)) =
+    let reps_are : c.in-Ok.wanted ≡ wanted_refs s n st (counted_in c.args.item) = (c.in-Ok.ensures {u = tt}).wanted in
+    let given : c.as_slice-2.result.now ≡ wanted_refs s n st (counted_in c.args.item) = c.as_slice-2.ensures ∙ reps_are in
+    let dirties_are : c.in-Ok-new_dirties.dirties.items ≡ wanted_refs s n st (counted_in c.args.item) = (c.in-Ok-new_dirties.ensures {u = tt}) ∙ c.as_slice.ensures ∙ reps_are in
+    let can : CanReceive s new (message_of s n st c.args.peer c.args.number c.args.item) (wanted_refs s n st (counted_in c.args.item)) =
     can_receive stands c.args.peer c.args.number c.args.item (c.requires.front c.requires.state.0 D stands) c.requires.message
     (subst (λ (reps : List WireRep). message_refusal st reps ≡ None) reps_are (c.in-Ok.ensures {u = tt}).free) small new c.grow.ensures.same
     (subst (λ (reps : List WireRep). HaveRoom (length reps) new.sessions reps) given (c.in-Ok-grow.ensures {u = tt}).sessions)
@@ -83,9 +82,9 @@ returns-clause-stands c limits D stands =
     let fits : length c.args.parts.now.sessions.items < 18446744073709551616 = search rules in
     let each = stands.ends.each in
     let small : n < 18446744073709551616 = omega (arith, fits, each) in
-    let reps_are : c.in-Ok.wanted ≡ wanted s n st (counted_in c.args.item) = (c.in-Ok.ensures {u = tt}).wanted in
-    let dirties_are : c.in-Ok-new_dirties.dirties.items ≡ wanted s n st (counted_in c.args.item) = (c.in-Ok-new_dirties.ensures {u = tt}) ∙ c.as_slice.ensures ∙ reps_are in
-    let receives : Receives s grown new (message_of s n st c.args.peer c.args.number c.args.item) (wanted s n st (counted_in c.args.item)) =
+    let reps_are : c.in-Ok.wanted ≡ wanted_refs s n st (counted_in c.args.item) = (c.in-Ok.ensures {u = tt}).wanted in
+    let dirties_are : c.in-Ok-new_dirties.dirties.items ≡ wanted_refs s n st (counted_in c.args.item) = (c.in-Ok-new_dirties.ensures {u = tt}) ∙ c.as_slice.ensures ∙ reps_are in
+    let receives : Receives s grown new (message_of s n st c.args.peer c.args.number c.args.item) (wanted_refs s n st (counted_in c.args.item)) =
     subst (Receives s grown new (message_of s n st c.args.peer c.args.number c.args.item)) dirties_are
     (subst (λ (copies : List RefCopy). Receives s grown new (record { from = c.args.peer; number = c.args.number; item = c.args.item; copies = copies }) c.in-Ok-new_dirties.dirties.items) (c.in-Ok-new_copies.ensures {u = tt}) c.receive.ensures) in
     receives_stand stands c.args.peer c.args.number c.args.item front c.requires.message

@@ -1,5 +1,4 @@
-use Rattle.std.proofs.Common.{◌≡◌, List, Option, ap, sym, ◌∙◌}
-use Rattle.nob_ids.specs.declared.wire_rep.WireRep.{WireRep}
+use Rattle.std.proofs.Common.{ap, sym, ◌∙◌}
 use Rattle.nob_space_state.specs.Parts.{state_of}
 use Rattle.nob_space_items.specs.Messages.{message_refusal}
 use Rattle.nob_space_items.proofs.Refused.{message_there}

@@ -1,4 +1,4 @@
-use Rattle.std.proofs.Common.{◌≡◌, ◌+◌, ◌<◌, ◌≤◌, true, false, not, ◌&&◌, List, [], ◌∷◌, ◌++◌, length, take, sym, ap, subst, ◌∙◌, arith}
+use Rattle.std.proofs.Common.{◌≡◌, ◌+◌, ◌<◌, true, false, not, ◌&&◌, List, [], ◌∷◌, ◌++◌, length, sym, ap, ◌∙◌, arith}
 use Rattle.std.proofs.lemmas.List.{length-append}
 use Rattle.std.proofs.lemmas.Option.{slice_get_within}
 use Rattle.std.specs.List.{list_any}
@@ -6,7 +6,7 @@ use Rattle.nob_ids.specs.Names.{is_same}
 use Rattle.nob_ids.specs.declared.wire_rep.WireRep.{WireRep}
 use Rattle.nob_item.specs.Kinds.{counted_in}
 use Rattle.nob_space_state.specs.Parts.{state_of}
-use Rattle.nob_space_items.specs.Messages.{is_wanted, wanted}
+use Rattle.nob_space_items.specs.Messages.{is_wanted, wanted_refs}
 use Rattle.nob_space_items.proofs.Wanted.{wanted_more, past_last}
 use Rattle.nob_space_items.proofs.messages.wanted_refs.Goals.{then-is_next, else-is_next}
 use Rattle.nob_space_items.proofs.messages.wanted_refs.Goals as goal
@@ -36,4 +36,4 @@ loop-rep-preserved c =
     ]
 
 pub returns : goal.returns
-returns c = c.loop-rep.invariant.so_far ∙ ap (wanted c.args.here.now.space c.args.here.now.n (state_of c.args.parts.now)) (past_last (counted_in c.args.item.now) c.loop-rep.number (sym (c.in_default.ensures {u = tt})))
+returns c = c.loop-rep.invariant.so_far ∙ ap (wanted_refs c.args.here.now.space c.args.here.now.n (state_of c.args.parts.now)) (past_last (counted_in c.args.item.now) c.loop-rep.number (sym (c.in_default.ensures {u = tt})))
