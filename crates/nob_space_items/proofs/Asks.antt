@@ -35,7 +35,7 @@ use Rattle.nob_space_state.specs.Stands.{Stands, TableShows, far_state}
 use Rattle.nob_space_items.specs.Asking.{AsksFor, place_after}
 use Rattle.nob_space_items.specs.Fronts.{IsFront}
 use Rattle.nob_space_items.specs.Messages.{is_wanted, wanted_refs}
-use Rattle.nob_space_items.specs.Putting.{IsMessage}
+use Rattle.nob_space_items.specs.Placing.{IsMessage}
 use Rattle.nob_space_items.proofs.Asked.{IsAsked, any_of, filter_passes, once_all}
 use Rattle.nob_model.proofs.Waiting.{all_filter}
 use Rattle.nob_space_items.proofs.Message.{all_peers, act_turns, wanted_turns, asked_turns, act_dirties, far_by}

@@ -1,5 +1,5 @@
 -- How many messages there are at a space: no more than the limit, on every list of right deeds.
-use Rattle.std.proofs.Common.{◌≡◌, ℕ, ◌+◌, ◌≤◌, Bool, true, false, cond, not, ◌||◌, nat_le, List, [], ◌∷◌, length, filter, find, Option, Some, None, if◌then◌else◌, refl, sym, subst, arith}
+use Rattle.std.proofs.Common.{◌≡◌, ℕ, ◌+◌, ◌≤◌, Bool, true, false, cond, not, ◌||◌, nat_le, List, [], ◌∷◌, length, find, Option, Some, None, if◌then◌else◌, refl, sym, subst, arith}
 use Prim.Native.Nat.{suc}
 use Rattle.std.proofs.lemmas.Bool.Decides.{nat_tests}
 use Rattle.std.proofs.lemmas.List.{length-append, length-map}
@@ -24,12 +24,9 @@ use Rattle.nob_model.specs.Right.{right_after}
 use Rattle.nob_model.proofs.Accepted.{act_tells}
 use Rattle.nob_model.proofs.Doing.{was_answered}
 use Rattle.nob_model.proofs.Premises.{front_item, in_turn}
+use Rattle.nob_space_items.proofs.Bounded.{filter_short}
 
 -- ---- lists
-
-fewer : {A : Type 0} (test : A → Bool) (xs : List A) → length (filter test xs) ≤ length xs
-fewer test [] = omega arith
-fewer test (x ∷ xs) = let rest = fewer test xs in elim (test x) as (λ b. length (cond b (x ∷ filter test xs) (filter test xs)) ≤ suc (length xs)) [ true ↦ omega (arith, rest) | false ↦ omega (arith, rest) ]
 
 one_fewer : {A : Type 0} (test : A → Bool) (xs : List A) (m : A) → find test xs ≡ Some m → length (without_first test xs) + 1 ≡ length xs
 one_fewer test [] m found = absurd (none-some m found)
@@ -126,14 +123,14 @@ deed_few s n limits (Act p k) D right few =
 deed_few s n limits (Settle p k) D right few = settle_few s n p k D (find (is_of p k) (work s n D).waiting) (work s n D) refl few
 deed_few s n limits (Claim job) D right few = claim_few job (find (is_job job) (work s n D).ready) (work s n D) refl few
 deed_few s n limits (TakeReply call status value) D right few =
-    let waiting = fewer (is_not_reply call) (work s n D).waiting in
-    let replies = fewer (is_not_reply call) (work s n D).replies in
+    let waiting = filter_short (is_not_reply call) (work s n D).waiting in
+    let replies = filter_short (is_not_reply call) (work s n D).replies in
     omega (arith, waiting, replies, few)
-deed_few s n limits (Finish job outcome) D right few = let running = fewer (λ (run : Run). not (is_run job run)) (work s n D).running in omega (arith, running, few)
-deed_few s n limits (DropReply job) D right few = let running = fewer (λ (run : Run). not (is_run job run)) (work s n D).running in omega (arith, running, few)
+deed_few s n limits (Finish job outcome) D right few = let running = filter_short (λ (run : Run). not (is_run job run)) (work s n D).running in omega (arith, running, few)
+deed_few s n limits (DropReply job) D right few = let running = filter_short (λ (run : Run). not (is_run job run)) (work s n D).running in omega (arith, running, few)
 deed_few s n limits (Closing p reason cause) D right few =
-    let waiting = fewer (is_not_from p) (work s n D).waiting in
-    let ready = fewer (is_not_from p) (work s n D).ready in
+    let waiting = filter_short (is_not_from p) (work s n D).waiting in
+    let ready = filter_short (is_not_from p) (work s n D).ready in
     omega (arith, waiting, ready, few)
 deed_few s n limits (deed) D right few = few
 

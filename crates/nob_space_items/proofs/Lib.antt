@@ -1,3 +1,9 @@
+pub mod Judged
+pub mod Taken
+pub mod Noted
+pub mod Answered
+pub mod Owners
+pub mod Chosen
 pub mod Spares
 pub mod Noting
 pub mod Fixing
@@ -6,12 +12,6 @@ pub mod Placed
 pub mod Resolving
 pub mod Settlements
 pub mod Numbering
-pub mod Judged
-pub mod Taken
-pub mod Noted
-pub mod Answered
-pub mod Owners
-pub mod Chosen
 pub mod Wanted
 pub mod Asked
 pub mod Refused

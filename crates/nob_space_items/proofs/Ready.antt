@@ -58,8 +58,9 @@ use Rattle.nob_space_items.specs.Asking.{AsksFor, place_after, CanAsk, CanSendAl
 use Rattle.nob_space_items.specs.Fronts.{IsFront}
 use Rattle.nob_space_items.specs.Growing.{AreAmong, HasRoom, HaveRoom, Grows}
 use Rattle.nob_space_items.specs.Lending.{CanLend}
-use Rattle.nob_space_items.specs.Messages.{is_wanted, wanted_refs, owner_count, has_free, has_numbers_for, is_too_much, message_refusal, new_loan, new_copies, is_lost, is_at_hand}
-use Rattle.nob_space_items.specs.Putting.{IsMessage}
+use Rattle.nob_space_items.specs.Messages.{is_wanted, wanted_refs, owner_count, has_free, has_numbers_for, is_too_much, message_refusal, new_loan, new_copies, is_at_hand}
+use Rattle.nob_space_items.specs.Placing.{IsMessage}
+use Rattle.nob_space_items.specs.Settling.{is_lost_here}
 use Rattle.nob_space_items.specs.Receiving.{HasFront, CanReceive, Receives}
 use Rattle.nob_space_items.proofs.Asked.{IsAsked, any_of, filter_passes, append_all}
 use Rattle.nob_space_items.proofs.Asks.{all_asked, wanted_unknown}
@@ -187,7 +188,7 @@ copies_all Q R s n st each (x ∷ xs) all =
 
 -- a loan is made at once only of what is own or granted
 at_hand : (s n : ℕ) (st : State) (rep : WireRep) → new_loan s n st rep ≡ loans.Lent → is_at_hand s st rep ≡ true
-at_hand s n st rep lent = elim (is_lost s n st rep) as (λ b. (if b then loans.Never else if is_at_hand s st rep then loans.Lent else loans.Due) ≡ loans.Lent → is_at_hand s st rep ≡ true) [
+at_hand s n st rep lent = elim (is_lost_here s n st rep) as (λ b. (if b then loans.Never else if is_at_hand s st rep then loans.Lent else loans.Due) ≡ loans.Lent → is_at_hand s st rep ≡ true) [
   | true ↦ λ e. absurd (cc)
   | false ↦ λ e. elim (is_at_hand s st rep) as (λ b. (if b then loans.Lent else loans.Due) ≡ loans.Lent → b ≡ true) [ true ↦ λ _. refl | false ↦ λ bad. absurd (cc) ] e
 ] lent

@@ -35,7 +35,7 @@ use Rattle.nob_space_state.proofs.Pinned.{times_both}
 use Rattle.nob_space_state.proofs.Taking.{shows_same}
 use Rattle.nob_space_items.specs.Fronts.{IsFront}
 use Rattle.nob_space_items.specs.Messages.{wanted_refs, new_copies}
-use Rattle.nob_space_items.specs.Putting.{IsMessage}
+use Rattle.nob_space_items.specs.Placing.{IsMessage}
 use Rattle.nob_space_items.specs.Receiving.{Receives}
 use Rattle.nob_space_items.proofs.Asks.{asks_show}
 use Rattle.nob_space_items.proofs.Message.{act_calls, act_work, act_listed, act_bundles}

@@ -6,7 +6,7 @@ pub mod Notes
 pub mod Messages
 pub mod Asking
 pub mod Lending
-pub mod Putting
+pub mod Placing
 pub mod Growing
 pub mod Granting
 pub mod Receiving

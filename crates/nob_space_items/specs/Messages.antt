@@ -3,8 +3,6 @@ use Rattle.std.specs.Prelude.{◌≡◌, ℕ, ◌+◌, ◌-◌, Bool, true, fals
 use Rattle.std.specs.List.{list_all}
 use Rattle.nob_ids.specs.declared.wire_rep.WireRep.{WireRep}
 use Rattle.nob_session.specs.Stands.{Roomy}
-use Rattle.nob_table.specs.declared.standing.State.{State as TableState}
-use Rattle.nob_table.specs.declared.standing.State.TheVariants as states
 use Rattle.nob_table.specs.Standings.{is_surrogate, is_granted}
 use Rattle.nob_table.specs.Rows.{IsOnce}
 use Rattle.nob_table.specs.Table.{Table, standing, surrogate_total, place_of}
@@ -19,6 +17,7 @@ use Rattle.nob_model_work.specs.Gifts.{once}
 use Rattle.nob_model.specs.Acting.{messages, most_messages, most_surrogates}
 use Rattle.nob_space_state.specs.Parts.{State}
 use Rattle.nob_space_state.specs.Looks.{end_with, has_closed}
+use Rattle.nob_space_items.specs.Settling.{is_lost_here}
 
 -- whether a reference gets a Dirty: its owner is a peer whose session is open here, and it has no surrogate
 abbrev pub is_wanted : (s n : ℕ) → State → WireRep → Bool
@@ -49,27 +48,13 @@ is_too_much st reps = nat_le most_messages (messages st.work) || nat_lt most_sur
 unfoldable pub message_refusal : State → List WireRep → Option Refusal
 message_refusal st reps = if is_too_much st reps then Some refusals.Limit else if not (list_all (has_numbers_for st reps) reps) then Some refusals.SeqEnd else None
 
--- whether it is a surrogate that its owner has refused
-abbrev pub is_refused : TableState → Bool
-is_refused states.Refused = true
-is_refused states.Unknown = false
-is_refused states.Live = false
-is_refused states.Withdrawn = false
-is_refused states.Pending = false
-is_refused states.Granted = false
-is_refused states.Lost = false
-
--- whether a reference is lost: another space's, whose owner is no peer, or whose session has closed here, or which the owner refused
-abbrev pub is_lost : (s n : ℕ) → State → WireRep → Bool
-is_lost s n st rep = not (rep.owner == s) && (not (is_peer s n rep.owner) || has_closed st.sessions rep.owner || is_refused (standing st.table rep).state)
-
 -- whether a reference is own or usable
 abbrev pub is_at_hand : (s : ℕ) → State → WireRep → Bool
 is_at_hand s st rep = rep.owner == s || is_granted (standing st.table rep).state
 
 -- the loan of a reference as it comes in a message: never where it is lost, made at once where it is own or usable, and else due
 abbrev pub new_loan : (s n : ℕ) → State → WireRep → Loan
-new_loan s n st rep = if is_lost s n st rep then loans.Never else if is_at_hand s st rep then loans.Lent else loans.Due
+new_loan s n st rep = if is_lost_here s n st rep then loans.Never else if is_at_hand s st rep then loans.Lent else loans.Due
 
 -- the copies of references as they come in a message
 abbrev pub new_copies : (s n : ℕ) → State → List WireRep → List RefCopy

@@ -13,7 +13,7 @@ use Rattle.nob_model_history.specs.Holds.{loans_of}
 use Rattle.nob_space_state.specs.Parts.{State}
 use Rattle.nob_space_items.specs.Asking.{AsksFor, CanAsk, CanSendAll, SendsAll}
 use Rattle.nob_space_items.specs.Lending.{CanLend, Lends}
-use Rattle.nob_space_items.specs.Putting.{IsMessage}
+use Rattle.nob_space_items.specs.Placing.{IsMessage}
 
 -- an item waits at the end with a peer
 abbrev pub HasFront : List Roomy → ℕ → Type 0

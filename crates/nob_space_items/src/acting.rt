@@ -87,10 +87,11 @@ fn act_on(
     act_on_message(parts, alloc, here, peer, number, item)
 }
 
-/// Act: the item at the front of the inbox from a peer is acted on. One with a fault closes the session instead. A
-/// Call or a Reply stays in the inbox where it would pass a limit, and an item that asks for Dirties or an answer where
-/// a session has no number for them. It takes memory to read a Call or a Reply, for what an item leaves, and for what
-/// is sent.
+/// Act: the item at the front of the inbox from a peer is acted on. One with a fault closes the session instead. It is
+/// refused where there is no such peer, its session has closed here, or nothing waits; and the item stays in the inbox
+/// where a Call or a Reply would pass a limit, or a session has no number for the Dirties or the answer that it asks for.
+/// It takes memory to read a Call or a Reply, for what an item leaves here, and for what is sent; a fault of what was
+/// read takes none. Linear in the bytes, the calls, the listings, the pins, and the messages that wait.
 pub fn act(
     parts: &mut Parts,
     alloc: Global,

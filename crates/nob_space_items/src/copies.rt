@@ -6,6 +6,7 @@ ghost use Rattle.nob_item.specs.Kinds.{counted_in};
 ghost use Rattle.nob_space_state.specs.Parts.{state_of};
 ghost use Rattle.nob_space_items.specs.Messages as specs;
 
+use crate::settling::is_lost;
 use nob_ids::WireRep;
 use nob_item::{Item, counted_refs};
 use nob_model::{Here, Loan, RefCopy};
@@ -13,21 +14,6 @@ use nob_model_words::message::RefCopies;
 use nob_space_state::Parts;
 use nob_table::State;
 use std::alloc::{AllocError, Global};
-
-// Whether a standing is that of a surrogate that its owner has refused.
-fn is_refused(state: State) -> bool
-    ensures { result ≡ specs.is_refused state }
-{
-    match state {
-        State::Refused => true,
-        State::Unknown
-        | State::Live
-        | State::Withdrawn
-        | State::Pending
-        | State::Granted
-        | State::Lost => false,
-    }
-}
 
 // Whether a standing is that of a surrogate that its owner has granted.
 fn is_granted(state: State) -> bool
@@ -42,17 +28,6 @@ fn is_granted(state: State) -> bool
         | State::Refused
         | State::Lost => false,
     }
-}
-
-// Whether a reference is lost.
-fn is_lost(parts: &Parts, here: &Here, rep: &WireRep) -> bool
-    ensures { result ≡ specs.is_lost here.now.space here.now.n (state_of parts.now) rep.now }
-{
-    let standing = parts.table.state(*rep);
-    let refused = is_refused(standing.state);
-    let closed = parts.has_closed(rep.owner);
-    let peer = here.is_peer(rep.owner);
-    rep.owner != here.space && (!peer || closed || refused)
 }
 
 // Whether a reference is own or usable.

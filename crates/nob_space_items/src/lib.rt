@@ -14,7 +14,7 @@ mod loans;
 mod messages;
 mod next;
 mod notes;
-mod putting;
+mod placing;
 mod receiving;
 mod settling;
 

@@ -17,7 +17,7 @@ ghost use Rattle.nob_space_state.specs.Stands.{Stands, IsState, Keeps, Did, Answ
 ghost use Rattle.nob_space_items.specs.Fronts.{IsFront};
 ghost use Rattle.nob_space_items.specs.Messages as specs;
 ghost use Rattle.nob_space_items.specs.Messages.{KnowsSurrogates};
-ghost use Rattle.nob_space_items.specs.Putting.{IsMessage};
+ghost use Rattle.nob_space_items.specs.Placing.{IsMessage};
 
 use crate::copies::new_copies;
 use crate::dirties::new_dirties;
@@ -162,8 +162,8 @@ fn judge_message(parts: &Parts, here: &Here, item: &Item) -> Result<FewRefs, Ref
 
 /// Acts on a Call or a Reply from a peer that has no fault: its references that have no surrogate get Dirties, its
 /// loans are made as far as they can be, and it waits for its references or is ready. It stays in the inbox where a limit
-/// or the numbers of a session forbid it. Quadratic in its references, of which there are 32 at most, and linear in the
-/// calls.
+/// or the numbers of a session forbid it, and then nothing was sent. Linear in its value times its references, of which
+/// there are 32 at most, and in the calls.
 pub(crate) fn act_on_message(
     parts: &mut Parts,
     alloc: Global,

@@ -7,7 +7,7 @@ ghost use Rattle.nob_space_items.specs.Receiving.{HasFront, Takes, CanReceive, R
 
 use crate::dirties::{NewDirty, send_dirties};
 use crate::loans::lend_message;
-use crate::putting::put_message;
+use crate::placing::put_message;
 use nob_ids::SpaceId;
 use nob_model::{Here, Message};
 use nob_session::Session;

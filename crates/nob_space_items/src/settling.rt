@@ -54,7 +54,7 @@ fn is_denied(state: State) -> bool
 }
 
 // Whether a reference is lost.
-fn is_lost(parts: &Parts, here: &Here, rep: &WireRep) -> bool
+pub(crate) fn is_lost(parts: &Parts, here: &Here, rep: &WireRep) -> bool
     ensures { result ≡ is_lost_here here.now.space here.now.n (state_of parts.now) rep.now }
 {
     if rep.owner == here.space {

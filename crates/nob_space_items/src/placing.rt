@@ -4,7 +4,7 @@ ghost use Rattle.std.specs.Prelude.{◌≡◌, ◌<◌, ◌++◌, [], ◌∷◌,
 ghost use Rattle.std.specs.Vec.{vec_capacity};
 ghost use Rattle.nob_model_work.specs.Work.{call_after_reply, stage_after_reply, after_message};
 ghost use Rattle.nob_space_state.specs.Parts.{state_of, with_work};
-ghost use Rattle.nob_space_items.specs.Putting.{answered_call, IsMessage};
+ghost use Rattle.nob_space_items.specs.Placing.{answered_call, IsMessage};
 
 use nob_ids::{CallNo, SpaceId};
 use nob_item::Item;
