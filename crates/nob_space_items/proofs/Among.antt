@@ -1,31 +1,11 @@
 -- References of which something holds, and each once where it stands last.
-use Rattle.std.proofs.Common.{◌≡◌, ℕ, Bool, true, false, not, ◌||◌, cond, List, [], ◌∷◌, ◌++◌, map, filter, find, Option, Some, None, refl, sym, ap, subst, ◌∙◌}
-use Rattle.std.specs.Prelude.{⊤, if◌then◌else◌}
-use Rattle.std.specs.List.{AllByRecursion, IsDistinct, list_any, cons_option}
+use Rattle.std.proofs.Common.{◌≡◌, Bool, true, false, ◌||◌, cond, List, [], ◌∷◌, filter, refl, sym, ap, subst, ◌∙◌}
+use Rattle.std.specs.List.{AllByRecursion, IsDistinct, list_any}
 use Rattle.std.proofs.lemmas.Bool.{or_parts}
-use Rattle.nob_ids.specs.Names.{is_same, is_counted}
+use Rattle.nob_ids.specs.Names.{is_same}
 use Rattle.nob_ids.specs.declared.wire_rep.WireRep.{WireRep}
-use Rattle.nob_item.specs.Kinds.{counted_in, refs_carried}
-use Rattle.nob_item.specs.declared.item.Item.{Item}
-use Rattle.nob_item.specs.declared.item.Item.TheVariants as items
 use Rattle.nob_table.proofs.Same.{same_is}
-use Rattle.nob_model_types.specs.declared.event.Outcome.{Outcome}
-use Rattle.nob_model_words.specs.declared.deed.Deed.{Deed}
-use Rattle.nob_model_words.specs.declared.deed.Deed.TheVariants.{Call, Finish, Act, Settle, Clean}
-use Rattle.nob_model_words.specs.declared.message.Message.{Message}
-use Rattle.nob_model_words.specs.Messages.{is_of, is_lost_message}
-use Rattle.nob_model_words.specs.Objects.{is_exported, is_live}
-use Rattle.nob_model_words.specs.Sessions.{is_peer, item_at}
-use Rattle.nob_model_words.specs.Turns.{turns, wants_dirty}
-use Rattle.nob_model_work.specs.declared.gifts.Gift.{Gift}
-use Rattle.nob_model_work.specs.declared.work.InHand.{InHand}
-use Rattle.nob_model_work.specs.declared.work.Run.{Run}
-use Rattle.nob_model_work.specs.Gifts.{once, dirty_for, dirties_for, answer_to, gifts_of_act, lost_call_reply, gifts_of_settle, reply_to, gifts_of_finish, gifts_of, gifts}
-use Rattle.nob_model_work.specs.Work.{work, is_run}
-use Rattle.nob_model_history.specs.Histories.{history_of}
-use Rattle.nob_model_history.specs.Transit.{asks_for, dirties, once_last}
-use Rattle.nob_model_history.proofs.Dirtying.{asked_in, dirties_more}
-use Rattle.nob_model.proofs.Waiting.{all_filter}
+use Rattle.nob_model_history.specs.Transit.{once_last}
 
 -- what passes a test
 pub filter_passes : {A : Type 0} (test : A → Bool) (xs : List A) → AllByRecursion (λ x. test x ≡ true) (filter test xs)
