@@ -36,7 +36,8 @@ use Rattle.nob_space_items.specs.Asking.{AsksFor, place_after}
 use Rattle.nob_space_items.specs.Fronts.{IsFront}
 use Rattle.nob_space_items.specs.Messages.{is_wanted, wanted_refs}
 use Rattle.nob_space_items.specs.Placing.{IsMessage}
-use Rattle.nob_space_items.proofs.Asked.{IsAsked, any_of, filter_passes, once_all}
+use Rattle.nob_space_items.proofs.Among.{any_of, filter_passes}
+use Rattle.nob_space_items.proofs.Spares.{CanBeAsked, all_once}
 use Rattle.nob_model.proofs.Waiting.{all_filter}
 use Rattle.nob_space_items.proofs.Message.{all_peers, act_turns, wanted_turns, asked_turns, act_dirties, far_by}
 
@@ -78,20 +79,20 @@ place_kept n (first ∷ reps) rep before none =
 
 module _ {s n : ℕ} {limits : Limits} {st : State} {D : List Deed} (stands : Stands s n limits st D) (p k : ℕ) (item : Item) (front : IsFront s n p k item D) (message : IsMessage item) where
   -- those that get Dirties are counted and peers'
-  pub all_asked : AllByRecursion (IsAsked s n) (wanted_refs s n st (counted_in item))
-  all_asked = both (wanted_refs s n st (counted_in item)) (all_filter (λ rep. is_counted rep ≡ true) (is_wanted s n st) (once (counted_in item)) (once_all (λ rep. is_counted rep ≡ true) (counted_in item) (filter_passes is_counted (refs_carried item)))) (all_peers stands p k item front message)
+  pub all_asked : AllByRecursion (CanBeAsked s n) (wanted_refs s n st (counted_in item))
+  all_asked = both (wanted_refs s n st (counted_in item)) (all_filter (λ rep. is_counted rep ≡ true) (is_wanted s n st) (once (counted_in item)) (all_once (λ rep. is_counted rep ≡ true) (counted_in item) (filter_passes is_counted (refs_carried item)))) (all_peers stands p k item front message)
     where
-      both : (all : List WireRep) → AllByRecursion (λ rep. is_counted rep ≡ true) all → AllByRecursion (λ rep. is_peer s n rep.owner ≡ true) all → AllByRecursion (IsAsked s n) all
+      both : (all : List WireRep) → AllByRecursion (λ rep. is_counted rep ≡ true) all → AllByRecursion (λ rep. is_peer s n rep.owner ≡ true) all → AllByRecursion (CanBeAsked s n) all
       both [] counted peers = tt
       both (rep ∷ rest) counted peers = ((counted.0, peers.0), both rest counted.1 peers.1)
 
-  other_space : (rep : WireRep) → IsAsked s n rep → is_own s rep ≡ false
+  other_space : (rep : WireRep) → CanBeAsked s n rep → is_own s rep ≡ false
   other_space rep asked = (let peer = asked.1 in grind (arith, nat_tests, peer))
 
   -- the table has nothing of them
   pub wanted_unknown : (rep : WireRep) → list_any (is_same rep) (wanted_refs s n st (counted_in item)) ≡ true → (standing st.table rep).state ≡ states.Unknown
   wanted_unknown rep there =
-      let asked : IsAsked s n rep = any_of (IsAsked s n) rep (wanted_refs s n st (counted_in item)) all_asked there in
+      let asked : CanBeAsked s n rep = any_of (CanBeAsked s n) rep (wanted_refs s n st (counted_in item)) all_asked there in
       let before = wanted_turns stands p k item front message rep there in
       let pending = or_parts _ _ (or_parts _ _ before.0).0 in
       let refused = or_parts _ _ before.0 in
@@ -105,7 +106,7 @@ module _ {s n : ℕ} {limits : Limits} {st : State} {D : List Deed} (stands : St
   -- an own reference gets none
   pub own_unasked : (index : ℕ) → list_any (is_same (own_ref s index)) (wanted_refs s n st (counted_in item)) ≡ false
   own_unasked index = elim (list_any (is_same (own_ref s index)) (wanted_refs s n st (counted_in item))) as (λ b. list_any (is_same (own_ref s index)) (wanted_refs s n st (counted_in item)) ≡ b → b ≡ false) [
-    | true ↦ λ there. absurd (let peer : is_peer s n s ≡ true = (any_of (IsAsked s n) (own_ref s index) (wanted_refs s n st (counted_in item)) all_asked there).1 in grind (arith, nat_tests, peer))
+    | true ↦ λ there. absurd (let peer : is_peer s n s ≡ true = (any_of (CanBeAsked s n) (own_ref s index) (wanted_refs s n st (counted_in item)) all_asked there).1 in grind (arith, nat_tests, peer))
     | false ↦ λ _. refl
   ] refl
 

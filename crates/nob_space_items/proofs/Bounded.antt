@@ -33,7 +33,7 @@ use Rattle.nob_space_state.specs.Parts.{State}
 use Rattle.nob_space_state.specs.Stands.{Stands}
 use Rattle.nob_space_state.proofs.Pinned.{times_both}
 use Rattle.nob_space_items.specs.Messages.{owner_count}
-use Rattle.nob_space_items.proofs.Asked.{IsAsked, dirties_asked}
+use Rattle.nob_space_items.proofs.Spares.{CanBeAsked, all_asked as dirties_asked}
 use Rattle.nob_space_items.proofs.ReadItems.{item_few}
 use Rattle.nob_space_items.proofs.Received.{times_lent}
 use Rattle.nob_space_items.proofs.Refused.{handed_low}
@@ -99,7 +99,7 @@ module _ {s n : ℕ} {limits : Limits} {st : State} {D : List Deed} (stands : St
       let most : length (handed (calls_at p (history_of s n D))) ≤ 1099511627776 = handed_low s p limits (calls_at p (history_of s n D)) (calls_law s n limits D stands.right p) in
       omega (arith, asked, count, most))
     where
-      up_to : (xs : List WireRep) → AllByRecursion (IsAsked s n) xs → AreUpTo n xs
+      up_to : (xs : List WireRep) → AllByRecursion (CanBeAsked s n) xs → AreUpTo n xs
       up_to [] all = tt
       up_to (x ∷ xs) all = (let peer = all.0.1 in (grind (arith, nat_tests, peer), grind (arith, nat_tests, peer)), up_to xs all.1)
 

@@ -13,7 +13,7 @@ pub mod Resolving
 pub mod Settlements
 pub mod Numbering
 pub mod Wanted
-pub mod Asked
+pub mod Among
 pub mod Refused
 pub mod Sends
 pub mod Lends

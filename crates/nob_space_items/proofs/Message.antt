@@ -1,5 +1,5 @@
 -- What acting on a Call or a Reply does to the words, one word after the other.
-use Rattle.std.proofs.Common.{◌≡◌, ℕ, Bool, true, false, not, ◌&&◌, ◌||◌, ◌==◌, cond, List, [], ◌∷◌, ◌++◌, map, filter, Option, Some, None, Ok, inl, inr, if◌then◌else◌, refl, sym, ap, ◌∙◌}
+use Rattle.std.proofs.Common.{◌≡◌, ℕ, Bool, true, false, not, ◌&&◌, ◌||◌, ◌==◌, cond, List, [], ◌∷◌, ◌++◌, map, filter, Option, Some, None, Ok, if◌then◌else◌, refl, sym, ap, ◌∙◌}
 use Rattle.std.specs.List.{AllByRecursion, list_any}
 use Rattle.std.proofs.lemmas.Bool.{and_parts, or_parts, not-true}
 use Rattle.std.proofs.lemmas.List.{append-nil, map-append}
@@ -24,13 +24,10 @@ use Rattle.nob_model_words.specs.declared.message.Loan.TheVariants as loans
 use Rattle.nob_model_words.specs.declared.message.RefCopy.{RefCopy}
 use Rattle.nob_model_words.specs.declared.message.Message.{Message}
 use Rattle.nob_model_words.specs.declared.turns.Turns.{Turns}
-use Rattle.nob_model_words.specs.declared.turns.OwnerAnswer.{OwnerAnswer}
-use Rattle.nob_model_words.specs.declared.turns.OwnerAnswer.TheVariants as said
 use Rattle.nob_model_words.specs.Deeds.{deed_by}
 use Rattle.nob_model_words.specs.Messages.{new_message, new_copy, loan_after, copy_after, message_after}
 use Rattle.nob_model_words.specs.Sessions.{is_peer, closed, item_at}
-use Rattle.nob_model_words.specs.Turns.{turns, turns_after, with_dirty, is_own, is_pending, is_granted, is_refused, is_standing, is_usable, wants_dirty, carries}
-use Rattle.nob_model_words.specs.Turns as words
+use Rattle.nob_model_words.specs.Turns.{turns, turns_after, with_dirty, is_own, is_granted, is_refused, is_standing, is_usable, wants_dirty, carries}
 use Rattle.nob_model_work.specs.declared.gifts.Gift.{Gift}
 use Rattle.nob_model_work.specs.declared.work.InHand.{InHand}
 use Rattle.nob_model_work.specs.declared.work.Run.{Run}
@@ -62,7 +59,9 @@ use Rattle.nob_space_items.specs.Fronts.{IsFront}
 use Rattle.nob_space_items.specs.Messages.{is_wanted, wanted_refs, new_loan, new_copies}
 use Rattle.nob_space_items.specs.Settling.{is_denied}
 use Rattle.nob_space_items.specs.Placing.{IsMessage}
-use Rattle.nob_space_items.proofs.Asked.{any_of, filter_passes}
+use Rattle.nob_space_items.proofs.Among.{any_of, filter_passes}
+use Rattle.nob_space_items.proofs.Resolving.{denied_far}
+use Rattle.nob_space_items.proofs.Spares.{granted_far}
 use Rattle.nob_space_items.proofs.Refused.{wanted_there, dirties_there}
 use Rattle.nob_space_items.proofs.Wanted.{any_once}
 
@@ -172,21 +171,6 @@ loans_put s n E m (items.Clean index) W = refl
 
 pub far_by : (held : Bool) (t : Turns) (pending granted refused : Bool) → turning.Stands t pending granted refused → far_state false held t ≡ (if pending then states.Pending else if granted then states.Granted else if refused then states.Refused else states.Unknown)
 far_by held t pending granted refused stands = λ i. if stands.0 i then states.Pending else if stands.1 i then states.Granted else if stands.2 i then states.Refused else states.Unknown
-
-granted_by : (last : OwnerAnswer) → (standings.is_granted (if words.is_yes last then states.Granted else if words.is_no last then states.Refused else states.Unknown) ≡ words.is_yes last) × (is_denied (if words.is_yes last then states.Granted else if words.is_no last then states.Refused else states.Unknown) ≡ words.is_no last)
-granted_by said.Silent = (refl, refl)
-granted_by said.Yes = (refl, refl)
-granted_by said.No = (refl, refl)
-
--- it is granted or refused there as its turns say
-far_told : (held : Bool) (t : Turns) → turning.HaveShape t → (standings.is_granted (far_state false held t) ≡ is_granted t) × (is_denied (far_state false held t) ≡ is_refused t)
-far_told held t (inl idle) = let stands = turning.idle_stands t idle in (ap standings.is_granted (far_by held t false false false stands) ∙ sym stands.1, ap is_denied (far_by held t false false false stands) ∙ sym stands.2)
-far_told held t (inr (inl waits)) = let stands = turning.waiting_stands t waits in (ap standings.is_granted (far_by held t true false false stands) ∙ sym stands.1, ap is_denied (far_by held t true false false stands) ∙ sym stands.2)
-far_told held t (inr (inr answered)) =
-    let stands = turning.answered_stands t answered.0 answered.1 in (
-      ap standings.is_granted (far_by held t false (words.is_yes t.last) (words.is_no t.last) stands) ∙ (granted_by t.last).0 ∙ sym stands.1,
-      ap is_denied (far_by held t false (words.is_yes t.last) (words.is_no t.last) stands) ∙ (granted_by t.last).1 ∙ sym stands.2,
-    )
 
 module _ {s n : ℕ} {limits : Limits} {st : State} {D : List Deed} (stands : Stands s n limits st D) (p k : ℕ) (item : Item) (front : IsFront s n p k item D) (message : IsMessage item) where
   -- the item that is acted on
@@ -328,13 +312,14 @@ module _ {s n : ℕ} {limits : Limits} {st : State} {D : List Deed} (stands : St
                   ≡ (if shut || is_denied (far_state shut (is_held (standing st.table rep).counts) (turns s n rep D)) then loans.Never else if standings.is_granted (far_state shut (is_held (standing st.table rep).counts) (turns s n rep D)) then loans.Lent else loans.Due)) [
                     | true ↦ refl
                     | false ↦
-                        let told = far_told (is_held (standing st.table rep).counts) (turns s n rep D) (shapes s n rep D (took_turns s n limits D stands.right)) in
-                        rw (told.0, told.1) (by_answer (is_granted (turns s n rep D)) (is_refused (turns s n rep D)))
+                        let granted = granted_far false (is_held (standing st.table rep).counts) (turns s n rep D) in
+                        let denied = denied_far (is_held (standing st.table rep).counts) (turns s n rep D) in
+                        rw (granted, denied) (by_answer (is_granted (turns s n rep D)) (is_refused (turns s n rep D)))
                   ])
             ])
       ] refl)
     where
-      by_answer : (granted refused : Bool) → loan_after (granted && true) (if refused then loans.Never else loans.Due) ≡ (if refused then loans.Never else if granted then loans.Lent else loans.Due)
+      by_answer : (granted refused : Bool) → loan_after (granted && true) (if refused then loans.Never else loans.Due) ≡ (if refused then loans.Never else if granted && true then loans.Lent else loans.Due)
       by_answer true true = refl
       by_answer true false = refl
       by_answer false true = refl

@@ -62,7 +62,8 @@ use Rattle.nob_space_items.specs.Messages.{is_wanted, wanted_refs, owner_count, 
 use Rattle.nob_space_items.specs.Placing.{IsMessage}
 use Rattle.nob_space_items.specs.Settling.{is_lost_here}
 use Rattle.nob_space_items.specs.Receiving.{HasFront, CanReceive, Receives}
-use Rattle.nob_space_items.proofs.Asked.{IsAsked, any_of, filter_passes, append_all}
+use Rattle.nob_space_items.proofs.Among.{any_of, filter_passes}
+use Rattle.nob_space_items.proofs.Spares.{CanBeAsked, all_append}
 use Rattle.nob_space_items.proofs.Asks.{all_asked, wanted_unknown}
 use Rattle.nob_space_items.proofs.Bounded.{filter_short, dirties_low, message_lends, lent_low}
 use Rattle.nob_space_items.proofs.Message.{all_peers}
@@ -249,7 +250,7 @@ module _ {s n : ℕ} {limits : Limits} {st : State} {D : List Deed} (stands : St
       let me : st1.table.me ≡ s = grows.table.items.me ∙ stands.table.me in
       record {
         each = all_of (λ rep. (is_far st1.table rep ≡ true) × (is_unknown (standing st1.table rep).state ≡ true)) all (λ rep there.
-            let asked : IsAsked s n rep = any_of (IsAsked s n) rep all (all_asked stands p k item front message) there in
+            let asked : CanBeAsked s n rep = any_of (CanBeAsked s n) rep all (all_asked stands p k item front message) there in
             let counted = asked.0 in
             let peer = asked.1 in (
               ap (λ m. not (rep.owner == m) && not (rep.index == 0)) me ∙ grind (arith, nat_tests, counted, peer),
@@ -272,7 +273,7 @@ module _ {s n : ℕ} {limits : Limits} {st : State} {D : List Deed} (stands : St
       let live_known : (index : ℕ) → objects.is_live s index D ≡ true → is_known (standing st.table (own_ref s index)).state ≡ true = λ index live. known_live (standing st.table (own_ref s index)).state (stands.table.live index ∙ live) in
       let sound = none_passes (λ rep. is_own_and_not_live s rep h) (counted_in item) (refs_sound s n p item h front.sound message) in
       let counted : AllByRecursion (λ rep. is_counted rep ≡ true) (counted_in item) = filter_passes is_counted (refs_carried item) in
-      let all_counted : AllByRecursion (λ rep. is_counted rep ≡ true) (loans_of s m) = append_all (λ rep. is_counted rep ≡ true) (target_lent s item) (copies_lent (new_copies s n st (counted_in item)))
+      let all_counted : AllByRecursion (λ rep. is_counted rep ≡ true) (loans_of s m) = all_append (λ rep. is_counted rep ≡ true) (target_lent s item) (copies_lent (new_copies s n st (counted_in item)))
       (target_all (λ rep. is_counted rep ≡ true) s n p item h front.sound (λ index some live. ap not some))
       (copies_all (λ rep. is_counted rep ≡ true) (λ rep. is_counted rep ≡ true) s n st (λ rep one lent. one) (counted_in item) counted) in
       let few : length (counted_in item) ≤ 32 = item_few front.bytes item front.spelt in
@@ -281,7 +282,7 @@ module _ {s n : ℕ} {limits : Limits} {st : State} {D : List Deed} (stands : St
       let messages_few : nat_le 65536 (messages st.work) ≡ false = (or_parts _ _ kept).0 in
       let in_hand : messages st.work ≡ messages (work s n D) = ap messages stands.work in
       record {
-        known = append_all (λ rep. is_known (standing mid rep).state ≡ true) (target_lent s item) (copies_lent (new_copies s n st (counted_in item)))
+        known = all_append (λ rep. is_known (standing mid rep).state ≡ true) (target_lent s item) (copies_lent (new_copies s n st (counted_in item)))
             (target_all (λ rep. is_known (standing mid rep).state ≡ true) s n p item h front.sound (λ index some live. mid_known (own_ref s index) (live_known index live)))
             (copies_all (λ rep. is_known (standing mid rep).state ≡ true) (λ rep. is_own_and_not_live s rep h ≡ false) s n st (λ rep is_sound lent. mid_known rep
             (elim (rep.owner == s) as (λ b. rep.owner == s ≡ b → (b || standings.is_granted (standing st.table rep).state) ≡ true → (b && not (objects.is_live s rep.index D)) ≡ false → is_known (standing st.table rep).state ≡ true) [

@@ -51,7 +51,8 @@ use Rattle.nob_space_state.proofs.Calling.{end_of_peer}
 use Rattle.nob_space_state.proofs.Rows.{distinct_filtered}
 use Rattle.nob_space_state.proofs.Told.{closed_there}
 use Rattle.nob_space_items.specs.Messages.{is_wanted, wanted_refs, owner_count, has_free, has_numbers_for, message_refusal}
-use Rattle.nob_space_items.proofs.Asked.{IsAsked, dirties_asked, any_of, any_last, last_distinct, filter_passes, once_all}
+use Rattle.nob_space_items.proofs.Among.{any_of, any_last, last_distinct, filter_passes}
+use Rattle.nob_space_items.proofs.Spares.{CanBeAsked, all_asked as dirties_asked, all_once}
 
 -- ---- numbers
 
@@ -120,7 +121,7 @@ module _ {s n : ℕ} {limits : Limits} {st : State} {D : List Deed} (stands : St
   peer_not_own rep peer = grind (arith, nat_tests, peer)
 
   -- how a peer's reference stands says whether it has a surrogate on an open session
-  pub surrogate_at : (rep : WireRep) → IsAsked s n rep → standings.is_surrogate (standing st.table rep).state ≡ has_surrogate s n D rep
+  pub surrogate_at : (rep : WireRep) → CanBeAsked s n rep → standings.is_surrogate (standing st.table rep).state ≡ has_surrogate s n D rep
   surrogate_at rep asked =
       ap standings.is_surrogate (stands.table.far rep asked.0 (peer_not_own rep asked.1))
       ∙ elim (closed rep.owner D) as (λ b. standings.is_surrogate (far_state b (is_held (standing st.table rep).counts) (turns s n rep D)) ≡ (is_standing (turns s n rep D) && not b)) [
@@ -142,7 +143,7 @@ module _ {s n : ℕ} {limits : Limits} {st : State} {D : List Deed} (stands : St
   pub wanted_there : (item : Item) → wanted_refs s n st (counted_in item) ≡ filter (λ (rep : WireRep). wants_dirty s n rep D (turns s n rep D)) (once (counted_in item))
   wanted_there item =
       filter_agree (is_wanted s n st) (λ (rep : WireRep). wants_dirty s n rep D (turns s n rep D)) (once (counted_in item))
-      (once_all (λ rep. is_wanted s n st rep ≡ wants_dirty s n rep D (turns s n rep D)) (counted_in item) (weaker (counted_in item) (filter_passes is_counted (refs_carried item))))
+      (all_once (λ rep. is_wanted s n st rep ≡ wants_dirty s n rep D (turns s n rep D)) (counted_in item) (weaker (counted_in item) (filter_passes is_counted (refs_carried item))))
     where
       weaker : (reps : List WireRep) → AllByRecursion (λ rep. is_counted rep ≡ true) reps → AllByRecursion (λ rep. is_wanted s n st rep ≡ wants_dirty s n rep D (turns s n rep D)) reps
       weaker [] all = tt
@@ -162,7 +163,7 @@ module _ {s n : ℕ} {limits : Limits} {st : State} {D : List Deed} (stands : St
       ∙ sym (some_mapped (λ (surrogate : Surrogate). surrogate.place) (row_at st.table.surrogates rep))
       ∙ placed rep
       ∙ elim (list_any (is_same rep) ds) as (λ c. list_any (is_same rep) ds ≡ c → b ≡ (has_surrogate s n D rep && c)) [
-        | true ↦ λ there. surrogate_at rep (any_of (IsAsked s n) rep ds (dirties_asked s n D) there) ∙ elim (has_surrogate s n D rep) as (λ c. c ≡ (c && true)) [ true ↦ refl | false ↦ refl ]
+        | true ↦ λ there. surrogate_at rep (any_of (CanBeAsked s n) rep ds (dirties_asked s n D) there) ∙ elim (has_surrogate s n D rep) as (λ c. c ≡ (c && true)) [ true ↦ refl | false ↦ refl ]
         | false ↦ λ none.
             sym (placed rep) ∙ ap is_some (stands.table.places rep ∙ no_place b (last_place rep ds) (none_placed rep ds none))
             ∙ elim (has_surrogate s n D rep) as (λ c. false ≡ (c && false)) [ true ↦ refl | false ↦ refl ]

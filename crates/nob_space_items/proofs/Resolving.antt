@@ -58,7 +58,7 @@ granted_kept t granted = and_right (t.asks && t.answers == t.dirties) (is_no t.l
     one_answer said.No e = let bad : false ≡ true = e in absurd (cc)
 
 -- refused in the table is refused, while the session is open
-denied_far : (held : Bool) (t : Turns) → is_denied (far_state false held t) ≡ is_refused t
+pub denied_far : (held : Bool) (t : Turns) → is_denied (far_state false held t) ≡ is_refused t
 denied_far held t = elim (is_pending t) as (λ p. is_pending t ≡ p → is_denied (if p then states.Pending else if is_granted t then states.Granted else if is_refused t then states.Refused else states.Unknown) ≡ is_refused t) [
   | true ↦ λ pending. sym (waiting_stands t (pending_waits t pending)).2
   | false ↦ λ _. elim (is_granted t) as (λ g. is_granted t ≡ g → is_denied (if g then states.Granted else if is_refused t then states.Refused else states.Unknown) ≡ is_refused t) [

@@ -73,7 +73,7 @@ none_past st rep at apart here pinned before other place there under = elim (nat
 abbrev pub CanBeAsked : (s n : ℕ) → WireRep → Type 0
 CanBeAsked s n rep = (is_counted rep ≡ true) × (is_peer s n rep.owner ≡ true)
 
-all_append : {X : Type 0} (P : X → Type 0) (xs ys : List X) → AllByRecursion P xs → AllByRecursion P ys → AllByRecursion P (xs ++ ys)
+pub all_append : {X : Type 0} (P : X → Type 0) (xs ys : List X) → AllByRecursion P xs → AllByRecursion P ys → AllByRecursion P (xs ++ ys)
 all_append P [] ys all more = more
 all_append P (x ∷ xs) ys all more = (all.0, all_append P xs ys all.1 more)
 
@@ -85,7 +85,7 @@ all_pass P test (x ∷ xs) all = elim (test x) as (λ b. test x ≡ b → AllByR
   | false ↦ λ e. all_pass P test xs all.1
 ] refl
 
-all_once : (P : WireRep → Type 0) (reps : List WireRep) → AllByRecursion P reps → AllByRecursion P (once reps)
+pub all_once : (P : WireRep → Type 0) (reps : List WireRep) → AllByRecursion P reps → AllByRecursion P (once reps)
 all_once P [] all = tt
 all_once P (rep ∷ reps) all = (all.0, all_filter P (λ other. not (is_same rep other)) (once reps) (all_once P reps all.1))
 
@@ -111,7 +111,7 @@ message_asked s n p k D (Some (items.Reply call status value)) is before =
     (all_append (CanBeAsked s n) (dirties (history_of s n D)) (asked_in (gifts s n (did.Act p k) D (work s n D))) before (subst (AllByRecursion (CanBeAsked s n)) (sym (message_asks s n p k (items.Reply call status value) D (work s n D) is refl)) (wanted_asked s n (items.Reply call status value) D)))
 message_asked s n p k D item is before = subst (AllByRecursion (CanBeAsked s n)) (sym (dirties_same s n (did.Act p k) D (rw is refl))) before
 
-all_asked : (s n : ℕ) (D : List Deed) → AllByRecursion (CanBeAsked s n) (dirties (history_of s n D))
+pub all_asked : (s n : ℕ) (D : List Deed) → AllByRecursion (CanBeAsked s n) (dirties (history_of s n D))
 all_asked s n [] = tt
 all_asked s n (did.Act p k ∷ D) = message_asked s n p k D (item_at p k D) refl (all_asked s n D)
 all_asked s n (deed ∷ D) = subst (AllByRecursion (CanBeAsked s n)) (sym (dirties_same s n deed D refl)) (all_asked s n D)
