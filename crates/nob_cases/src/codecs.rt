@@ -1,6 +1,6 @@
 //! Cases of the formats: values, items, frames and streams of frames.
 
-use crate::answer::{Answer, Push, Refusal};
+use nob_case_texts::{Answer, Push, Refusal};
 use nob_frame::{Feed, Frame, FrameError};
 use nob_item::{Item, ItemError};
 use nob_pickle::{PickleError, Value};

@@ -1,7 +1,7 @@
 //! Cases of one end of a session.
 
-use crate::answer::{Answer, Refusal};
 use crate::codecs::refused_frame;
+use nob_case_texts::{Answer, Refusal};
 use nob_ids::{Limits, Reason, SpaceId};
 use nob_session::{Arrival, Kind, Session, SessionError};
 use std::alloc::{AllocError, Global};

@@ -2,7 +2,7 @@
 
 ghost use Rattle.std.specs.Prelude.{◌≡◌, ◌≤◌};
 
-use crate::answer::{Answer, Refusal};
+use nob_case_texts::{Answer, Refusal};
 use nob_ids::{SpaceId, WireRep};
 use nob_table::{ObjectTable, Part, TableError, TableFault};
 use std::alloc::{AllocError, Global};
