@@ -1,20 +1,45 @@
 //! The texts of answers.
 
+ghost use Rattle.std.specs.Prelude.{◌≡◌, ◌++◌, ◌∷◌, codes, IfOk, OnOk};
+ghost use Rattle.std.specs.String.{string_bytes};
+ghost use Rattle.std.specs.Fmt.{decimal};
+ghost use Rattle.nob_ids.specs.Reasons.{reason_number};
+ghost use Rattle.nob_case_texts.specs.Answers.{Writes};
+ghost use Rattle.nob_case_texts.specs.Words as spec;
+
 use crate::answer::{Answer, PinAnswer, Push, Refusal};
 use crate::value_text::{push_bytes, push_reference, push_value};
 use nob_frame::{Frame, FrameError, FrameKind};
-use nob_ids::{SpaceId, WireRep};
+use nob_ids::{Reason, SpaceId, WireRep};
 use nob_item::Item;
 use nob_table::{Standing, State};
 use std::alloc::{AllocError, Global};
 
-/// The text of an answer. Only memory fails it.
-pub fn text_of(alloc: Global, answer: &Answer) -> Result<String, AllocError> {
+/// The text of an answer. Only memory fails it. It takes as long as the text is.
+pub fn text_of(alloc: Global, answer: &Answer) -> Result<String, AllocError>
+    ensures { IfOk result (λ text. Writes answer.now (string_bytes text)) }
+{
+    match answer {
+        Answer::Word(word) => String::from_str(alloc, word),
+        Answer::Number(number) => format!(in alloc; "{number}"),
+        Answer::Sent(number) => sent_text(alloc, number.get()),
+        Answer::Took(count) => format!(in alloc; "took {count}"),
+        Answer::Closed(reason) => closed_text(alloc, *reason),
+        Answer::Reference(rep) => reference_text(alloc, *rep),
+        Answer::Stands(standing) => standing_text(alloc, *standing),
+        Answer::Idle(place, rep) => idle_text(alloc, *place, *rep),
+        Answer::Counts(objects, surrogates) => {
+            format!(in alloc; "objects {objects} surrogates {surrogates}")
+        }
+        _ => text_of_parts(alloc, answer),
+    }
+}
+
+// The text of a refusal, and of an answer that is written part by part. Of others there is none here.
+fn text_of_parts(alloc: Global, answer: &Answer) -> Result<String, AllocError> {
     let mut text = String::new(alloc);
     match answer {
-        Answer::Word(word) => text.push_str(word)?,
         Answer::Refused(refusal) => push_refusal(alloc, &mut text, *refusal)?,
-        Answer::Number(number) => text = format!(in alloc; "{number}")?,
         Answer::Value(value) => push_value(alloc, &mut text, value)?,
         Answer::Item(item) => push_item(alloc, &mut text, item)?,
         Answer::Frames(frames) => push_frames(alloc, &mut text, frames)?,
@@ -23,41 +48,46 @@ pub fn text_of(alloc: Global, answer: &Answer) -> Result<String, AllocError> {
         Answer::Spaces(spaces) => push_spaces(alloc, &mut text, spaces)?,
         Answer::Pushes(pushes) => push_pushes(alloc, &mut text, pushes)?,
         Answer::Pins(answers) => push_pin_answers(alloc, &mut text, answers)?,
-        _ => return text_of_call(alloc, answer),
-    }
-    Ok(text)
-}
-
-// The text of what an end or a table answers.
-fn text_of_call(alloc: Global, answer: &Answer) -> Result<String, AllocError> {
-    let mut text = String::new(alloc);
-    match answer {
-        Answer::Sent(number) => {
-            let number = number.get();
-            text = format!(in alloc; "item {number}")?;
-        }
         Answer::Waits(number, bytes) => {
-            let number = number.get();
-            text = format!(in alloc; "item {number} ")?;
+            push_numbered(alloc, &mut text, "item", number.get())?;
+            text.push(' ')?;
             push_bytes(alloc, &mut text, bytes)?;
-        }
-        Answer::Took(count) => text = format!(in alloc; "took {count}")?,
-        Answer::Closed(reason) => {
-            let reason = reason.number();
-            text = format!(in alloc; "closed {reason}")?;
-        }
-        Answer::Reference(rep) => push_reference(alloc, &mut text, *rep)?,
-        Answer::Stands(standing) => text = standing_text(alloc, *standing)?,
-        Answer::Idle(place, rep) => {
-            text = format!(in alloc; "place {place} ")?;
-            push_reference(alloc, &mut text, *rep)?;
-        }
-        Answer::Counts(objects, surrogates) => {
-            text = format!(in alloc; "objects {objects} surrogates {surrogates}")?;
         }
         _ => {}
     }
     Ok(text)
+}
+
+// The number of an item that is to be sent.
+fn sent_text(alloc: Global, number: u64) -> Result<String, AllocError>
+    ensures { IfOk result (λ text. string_bytes text ≡ codes "item " ++ decimal number) }
+{
+    format!(in alloc; "item {number}")
+}
+
+// That an end has closed, and why.
+fn closed_text(alloc: Global, reason: Reason) -> Result<String, AllocError>
+    ensures { IfOk result (λ text. string_bytes text ≡ codes "closed " ++ decimal (reason_number reason)) }
+{
+    let reason = reason.number();
+    format!(in alloc; "closed {reason}")
+}
+
+// A reference.
+fn reference_text(alloc: Global, rep: WireRep) -> Result<String, AllocError>
+    ensures { IfOk result (λ text. string_bytes text ≡ spec.reference_word rep) }
+{
+    let mut text = String::new(alloc);
+    push_reference(alloc, &mut text, rep)?;
+    Ok(text)
+}
+
+// A surrogate, and its place in the order of last Dirties.
+fn idle_text(alloc: Global, place: u128, rep: WireRep) -> Result<String, AllocError>
+    ensures { IfOk result (λ text. string_bytes text ≡ codes "place " ++ (decimal place ++ 32 ∷ spec.reference_word rep)) }
+{
+    let rep = reference_text(alloc, rep)?;
+    format!(in alloc; "place {place} {rep}")
 }
 
 // Writes the name that the printed text of a refusal begins with, and in brackets that of the refusal within it.
@@ -80,7 +110,7 @@ fn push_refusal(alloc: Global, text: &mut String, refusal: Refusal) -> Result<()
     text.push_str(format!(in alloc; "({inner})")?.as_str())
 }
 
-/// Writes an item.
+// Writes an item.
 fn push_item(alloc: Global, text: &mut String, item: &Item) -> Result<(), AllocError> {
     match item {
         Item::Call {
@@ -104,25 +134,41 @@ fn push_item(alloc: Global, text: &mut String, item: &Item) -> Result<(), AllocE
             text.push_str(head.as_str())?;
             push_value(alloc, text, value)
         }
-        Item::Settle(item) => push_note(alloc, text, "settle", item.get()),
-        Item::Dirty(index) => push_note(alloc, text, "dirty", *index),
-        Item::DirtyOk(index) => push_note(alloc, text, "dirtyok", *index),
-        Item::DirtyNo(index) => push_note(alloc, text, "dirtyno", *index),
-        Item::Clean(index) => push_note(alloc, text, "clean", *index),
+        Item::Settle(item) => push_numbered(alloc, text, "settle", item.get()),
+        Item::Dirty(index) => push_numbered(alloc, text, "dirty", *index),
+        Item::DirtyOk(index) => push_numbered(alloc, text, "dirtyok", *index),
+        Item::DirtyNo(index) => push_numbered(alloc, text, "dirtyno", *index),
+        Item::Clean(index) => push_numbered(alloc, text, "clean", *index),
     }
 }
 
-fn push_note(alloc: Global, text: &mut String, name: &str, number: u64) -> Result<(), AllocError> {
-    text.push_str(format!(in alloc; "{name} {number}")?.as_str())
+// Writes a name and, behind a space, a number.
+fn push_numbered(
+    alloc: Global,
+    text: &mut String,
+    name: &str,
+    number: u64,
+) -> Result<(), AllocError>
+    ensures { OnOk result (string_bytes text.new ≡ string_bytes text.old ++ spec.numbered_text name.now number) }
+{
+    let numbered = format!(in alloc; "{name} {number}")?;
+    text.push_str(numbered.as_str())
 }
 
-/// Writes a frame.
-fn push_frame(alloc: Global, text: &mut String, frame: &Frame) -> Result<(), AllocError> {
-    let kind = match frame.kind {
+// The word of a frame's kind.
+fn kind_word(kind: FrameKind) -> &'static str
+    ensures { result.now ≡ spec.kind_word kind }
+{
+    match kind {
         FrameKind::Data => "data",
         FrameKind::Ack => "ack",
         FrameKind::Close => "close",
-    };
+    }
+}
+
+// Writes a frame.
+fn push_frame(alloc: Global, text: &mut String, frame: &Frame) -> Result<(), AllocError> {
+    let kind = kind_word(frame.kind);
     let from = frame.from.get();
     let to = frame.to.get();
     let seq = frame.seq;
@@ -202,15 +248,21 @@ fn push_spaces(alloc: Global, text: &mut String, spaces: &[SpaceId]) -> Result<(
     push_none(text, spaces.is_empty())
 }
 
-fn push_none(text: &mut String, is_empty: bool) -> Result<(), AllocError> {
+// Says that there is nothing, where there is nothing.
+fn push_none(text: &mut String, is_empty: bool) -> Result<(), AllocError>
+    ensures { OnOk result (string_bytes text.new ≡ string_bytes text.old ++ spec.none_text is_empty) }
+{
     if is_empty {
         text.push_str("none")?;
     }
     Ok(())
 }
 
-fn standing_text(alloc: Global, standing: Standing) -> Result<String, AllocError> {
-    let state = match standing.state {
+// The word of a state.
+fn state_word(state: State) -> &'static str
+    ensures { result.now ≡ spec.state_word state }
+{
+    match state {
         State::Unknown => "unknown",
         State::Live => "live",
         State::Withdrawn => "withdrawn",
@@ -218,7 +270,14 @@ fn standing_text(alloc: Global, standing: Standing) -> Result<String, AllocError
         State::Granted => "granted",
         State::Refused => "refused",
         State::Lost => "lost",
-    };
+    }
+}
+
+// How a reference stands.
+fn standing_text(alloc: Global, standing: Standing) -> Result<String, AllocError>
+    ensures { IfOk result (λ text. string_bytes text ≡ spec.standing_text standing) }
+{
+    let state = state_word(standing.state);
     let hand = standing.counts.hand;
     let lent = standing.counts.lent;
     format!(in alloc; "{state} hand {hand} lent {lent}")
