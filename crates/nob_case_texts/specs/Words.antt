@@ -1,5 +1,5 @@
 -- The words of references, tests, frames' kinds, notes and states, and how often a word stands.
-use Rattle.std.specs.Prelude.{◌≡◌, ◌≢◌, ◌<◌, ◌⊎◌, length, get_or, ℕ, Bool, true, false, Option, Some, None, List, [], ◌∷◌, ◌++◌, ◌≤◌, codes}
+use Rattle.std.specs.Prelude.{◌≡◌, ◌≢◌, ◌<◌, ◌⊎◌, length, get_or, ℕ, Bool, true, false, Option, Some, None, List, [], ◌∷◌, ◌++◌, ◌≤◌, codes, map}
 use Rattle.std.specs.Fmt.{decimal}
 use Rattle.nob_ids.specs.declared.wire_rep.WireRep.{WireRep}
 use Rattle.nob_frame.specs.declared.frame.FrameKind.{FrameKind}
@@ -63,6 +63,24 @@ state_word states.Lost = codes "lost"
 -- how a reference stands: its state, and how many of its holds are in the hand and lent
 abbrev pub standing_text : Standing → List ℕ
 standing_text standing = state_word standing.state ++ (codes " hand " ++ (decimal standing.counts.hand ++ (codes " lent " ++ decimal standing.counts.lent)))
+
+-- words behind another one, each behind a space
+abbrev pub behind_text : List (List ℕ) → List ℕ
+behind_text [] = []
+behind_text (word ∷ words) = 32 ∷ (word ++ behind_text words)
+
+-- words, a space between two: `none` where there is none
+abbrev pub words_text : List (List ℕ) → List ℕ
+words_text [] = codes "none"
+words_text (word ∷ words) = word ++ behind_text words
+
+-- references, each as its word
+abbrev pub references_text : List WireRep → List ℕ
+references_text reps = words_text (map reference_word reps)
+
+-- spaces, each as its number
+abbrev pub spaces_text : List ℕ → List ℕ
+spaces_text spaces = words_text (map decimal spaces)
 
 -- the word that stands where there is nothing to be written
 abbrev pub none_text : Bool → List ℕ

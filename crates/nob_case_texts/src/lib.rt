@@ -4,6 +4,7 @@
 
 mod answer;
 pub mod items;
+mod refusals;
 mod text;
 mod unanswered;
 mod value_text;
@@ -11,6 +12,7 @@ mod values;
 pub mod words;
 
 pub use answer::{Answer, PinAnswer, Push, Refusal};
+pub use refusals::{refused_call, refused_frame, refused_item, refused_table_call, refused_value};
 pub use text::text_of;
 pub use unanswered::Unanswered;
 pub use values::{deep_value, value};

@@ -31,6 +31,8 @@ pub fn text_of(alloc: Global, answer: &Answer) -> Result<String, AllocError>
         Answer::Counts(objects, surrogates) => {
             format!(in alloc; "objects {objects} surrogates {surrogates}")
         }
+        Answer::References(reps) => references_text(alloc, reps),
+        Answer::Spaces(spaces) => spaces_text(alloc, spaces),
         _ => text_of_parts(alloc, answer),
     }
 }
@@ -44,8 +46,6 @@ fn text_of_parts(alloc: Global, answer: &Answer) -> Result<String, AllocError> {
         Answer::Item(item) => push_item(alloc, &mut text, item)?,
         Answer::Frames(frames) => push_frames(alloc, &mut text, frames)?,
         Answer::Bytes(bytes) => push_bytes(alloc, &mut text, bytes)?,
-        Answer::References(reps) => push_references(alloc, &mut text, reps)?,
-        Answer::Spaces(spaces) => push_spaces(alloc, &mut text, spaces)?,
         Answer::Pushes(pushes) => push_pushes(alloc, &mut text, pushes)?,
         Answer::Pins(answers) => push_pin_answers(alloc, &mut text, answers)?,
         Answer::Waits(number, bytes) => {
@@ -79,6 +79,24 @@ fn reference_text(alloc: Global, rep: WireRep) -> Result<String, AllocError>
 {
     let mut text = String::new(alloc);
     push_reference(alloc, &mut text, rep)?;
+    Ok(text)
+}
+
+// References.
+fn references_text(alloc: Global, reps: &[WireRep]) -> Result<String, AllocError>
+    ensures { IfOk result (λ text. string_bytes text ≡ spec.references_text reps.now) }
+{
+    let mut text = String::new(alloc);
+    push_references(alloc, &mut text, reps)?;
+    Ok(text)
+}
+
+// Spaces.
+fn spaces_text(alloc: Global, spaces: &[SpaceId]) -> Result<String, AllocError>
+    ensures { IfOk result (λ text. string_bytes text ≡ spec.spaces_text spaces.now) }
+{
+    let mut text = String::new(alloc);
+    push_spaces(alloc, &mut text, spaces)?;
     Ok(text)
 }
 
@@ -228,24 +246,42 @@ fn push_pin_answers(
     Ok(())
 }
 
-fn push_references(alloc: Global, text: &mut String, reps: &[WireRep]) -> Result<(), AllocError> {
-    for (i, rep) in reps.iter().enumerate() {
-        if i > 0 {
-            text.push(' ')?;
-        }
+// Writes references, a space between two.
+fn push_references(alloc: Global, text: &mut String, reps: &[WireRep]) -> Result<(), AllocError>
+    ensures { OnOk result (string_bytes text.new ≡ string_bytes text.old ++ spec.references_text reps.now) }
+{
+    let Some((first, others)) = reps.split_first() else {
+        return text.push_str("none");
+    };
+    push_reference(alloc, text, *first)?;
+    for rep in others {
+        text.push_str(" ")?;
         push_reference(alloc, text, *rep)?;
     }
-    push_none(text, reps.is_empty())
+    Ok(())
 }
 
-fn push_spaces(alloc: Global, text: &mut String, spaces: &[SpaceId]) -> Result<(), AllocError> {
-    for (i, space) in spaces.iter().enumerate() {
-        if i > 0 {
-            text.push(' ')?;
-        }
-        text.push_str(format!(in alloc; "{space}")?.as_str())?;
+// Writes spaces, a space between two.
+fn push_spaces(alloc: Global, text: &mut String, spaces: &[SpaceId]) -> Result<(), AllocError>
+    ensures { OnOk result (string_bytes text.new ≡ string_bytes text.old ++ spec.spaces_text spaces.now) }
+{
+    let Some((first, others)) = spaces.split_first() else {
+        return text.push_str("none");
+    };
+    push_space(alloc, text, *first)?;
+    for space in others {
+        text.push_str(" ")?;
+        push_space(alloc, text, *space)?;
     }
-    push_none(text, spaces.is_empty())
+    Ok(())
+}
+
+// Writes a space.
+fn push_space(alloc: Global, text: &mut String, space: SpaceId) -> Result<(), AllocError>
+    ensures { OnOk result (string_bytes text.new ≡ string_bytes text.old ++ decimal space) }
+{
+    let word = format!(in alloc; "{space}")?;
+    text.push_str(word.as_str())
 }
 
 // Says that there is nothing, where there is nothing.
