@@ -1,8 +1,8 @@
 //! Cases of the formats: values, items, frames and streams of frames.
 
-use crate::answer::{Answer, Push, Refusal};
+use nob_case_texts::{Answer, Push, Refusal, refused_frame, refused_item, refused_value};
 use nob_frame::{Feed, Frame, FrameError};
-use nob_item::{Item, ItemError};
+use nob_item::Item;
 use nob_pickle::{PickleError, Value};
 use std::alloc::{AllocError, Global};
 
@@ -83,13 +83,6 @@ fn fits(value: &Value) -> Answer {
     }
 }
 
-fn refused_value(error: PickleError) -> Result<Answer, AllocError> {
-    match error {
-        PickleError::OutOfMemory => Err(AllocError),
-        PickleError::Fault(_) => Ok(Answer::Refused(Refusal::Pickle(error))),
-    }
-}
-
 fn read_item(alloc: Global, bytes: &[u8]) -> Result<Answer, AllocError> {
     match nob_item::decode(alloc, bytes) {
         Ok(item) => Ok(Answer::Item(item.copy()?)),
@@ -132,13 +125,6 @@ fn counted_one(item: &Item, place: usize) -> Answer {
     }
 }
 
-fn refused_item(error: ItemError) -> Result<Answer, AllocError> {
-    match error {
-        ItemError::OutOfMemory => Err(AllocError),
-        ItemError::Fault(_) => Ok(Answer::Refused(Refusal::Item(error))),
-    }
-}
-
 fn read_frame(alloc: Global, bytes: &[u8]) -> Result<Answer, AllocError> {
     match nob_frame::decode(alloc, bytes) {
         Ok(frame) => {
@@ -154,14 +140,6 @@ fn write_frame(alloc: Global, frame: &Frame) -> Result<Answer, AllocError> {
     match nob_frame::encode(alloc, frame) {
         Ok(bytes) => Ok(Answer::Bytes(bytes)),
         Err(error) => refused_frame(error),
-    }
-}
-
-/// A refusal of a frame as an answer.
-pub fn refused_frame(error: FrameError) -> Result<Answer, AllocError> {
-    match error {
-        FrameError::OutOfMemory => Err(AllocError),
-        FrameError::Fault(_) => Ok(Answer::Refused(Refusal::Frame(error))),
     }
 }
 

@@ -1,7 +1,6 @@
 //! Cases of one end of a session.
 
-use crate::answer::{Answer, Refusal};
-use crate::codecs::refused_frame;
+use nob_case_texts::{Answer, Refusal, refused_call, refused_frame};
 use nob_ids::{Limits, Reason, SpaceId};
 use nob_session::{Arrival, Kind, Session, SessionError};
 use std::alloc::{AllocError, Global};
@@ -90,7 +89,7 @@ fn send(session: &mut Session, kind: Kind, payload: Vec<u8>) -> Result<Answer, A
     }
     match session.send(payload, kind) {
         Ok(number) => Ok(Answer::Sent(number)),
-        Err(error) => refused(error),
+        Err(error) => refused_call(error),
     }
 }
 
@@ -98,13 +97,6 @@ fn next(session: &Session, kind: Kind) -> Answer {
     match session.next(kind) {
         Ok(number) => Answer::Sent(number),
         Err(refusal) => Answer::Refused(Refusal::End(SessionError::Refused(refusal))),
-    }
-}
-
-fn refused(error: SessionError) -> Result<Answer, AllocError> {
-    match error {
-        SessionError::OutOfMemory => Err(AllocError),
-        SessionError::Refused(_) => Ok(Answer::Refused(Refusal::End(error))),
     }
 }
 
@@ -116,7 +108,7 @@ fn arrive(alloc: Global, session: &mut Session, bytes: &[u8]) -> Result<Answer, 
     match session.arrive(&frame) {
         Ok(Arrival::Took(count)) => Ok(Answer::Took(count)),
         Ok(Arrival::Closed(closed)) => Ok(Answer::Closed(closed.reason())),
-        Err(error) => refused(error),
+        Err(error) => refused_call(error),
     }
 }
 

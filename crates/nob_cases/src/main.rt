@@ -4,21 +4,14 @@
 //! that begins with `#` are written as they came. README.md has the grammar.
 #![tactic(auto)]
 
-mod answer;
 mod case;
 mod codecs;
 mod ends;
-mod items;
 mod plain;
 mod sets;
 mod stage;
 mod tables;
-mod text;
 mod transit;
-mod unanswered;
-mod value_text;
-mod values;
-mod words;
 
 use crate::stage::Stage;
 use std::io;

@@ -1,9 +1,8 @@
 //! The same cases by the plain program of the definitions, which keeps the list of all calls.
 
-use crate::answer::{Answer, Refusal};
-use crate::codecs::refused_frame;
 use crate::ends::EndCase;
 use nob_bytes::Bytes;
+use nob_case_texts::{Answer, Refusal, refused_frame};
 use nob_frame::Frame;
 use nob_ids::{Limits, Reason, SpaceId};
 use nob_model_end::{Arrived, EndEntry, EndRefusal, Frames, right, words};

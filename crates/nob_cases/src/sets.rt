@@ -1,6 +1,6 @@
 //! Cases of dirty sets.
 
-use crate::answer::Answer;
+use nob_case_texts::Answer;
 use nob_dirty::DirtySets;
 use nob_ids::SpaceId;
 use std::alloc::{AllocError, Global};

@@ -1,12 +1,10 @@
 //! What the lines so far have left.
 
-use crate::answer::Answer;
 use crate::case::{Case, case_of};
 use crate::plain::Plain;
 use crate::tables::CountedTable;
-use crate::text::text_of;
-use crate::unanswered::Unanswered;
 use crate::{codecs, ends, plain, sets, tables, transit};
+use nob_case_texts::{Answer, Unanswered, text_of};
 use nob_dirty::DirtySets;
 use nob_session::Session;
 use std::alloc::{AllocError, Global};

@@ -2,7 +2,7 @@
 
 ghost use Rattle.std.specs.Prelude.{◌≡◌, ◌≤◌};
 
-use crate::answer::{Answer, Refusal};
+use nob_case_texts::{Answer, Refusal, refused_table_call};
 use nob_ids::{SpaceId, WireRep};
 use nob_table::{ObjectTable, Part, TableError, TableFault};
 use std::alloc::{AllocError, Global};
@@ -120,7 +120,7 @@ fn export(table: &mut ObjectTable) -> Result<Answer, AllocError>
 {
     match table.export() {
         Ok(rep) => Ok(Answer::Reference(rep)),
-        Err(error) => refused(error),
+        Err(error) => refused_table_call(error),
     }
 }
 
@@ -131,14 +131,7 @@ fn pending(counted: &mut CountedTable, rep: WireRep) -> Result<Answer, AllocErro
     counted.most += 1;
     match counted.table.pending(rep) {
         Ok(()) => Ok(Answer::Word("ok")),
-        Err(error) => refused(error),
-    }
-}
-
-fn refused(error: TableError) -> Result<Answer, AllocError> {
-    match error {
-        TableError::OutOfMemory => Err(AllocError),
-        TableError::Fault(_) => Ok(Answer::Refused(Refusal::Table(error))),
+        Err(error) => refused_table_call(error),
     }
 }
 

@@ -5,7 +5,7 @@ ghost use Rattle.nob_pins.specs.Bundles.{bundle_of, has_bundle};
 ghost use Rattle.nob_pins.specs.Evidence.{AreOf, reps_of};
 ghost use Rattle.nob_cases.specs.Strangers.{is_strange, strangers};
 
-use crate::answer::{Answer, PinAnswer};
+use nob_case_texts::{Answer, PinAnswer};
 use nob_ids::{ItemNo, Limits, Reason, SpaceId, WireRep};
 use nob_item::Item;
 use nob_pins::{PinFault, PinTable, Settled, TransitPin};

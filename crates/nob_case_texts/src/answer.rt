@@ -1,5 +1,9 @@
 //! What cases answer.
 
+ghost use Rattle.std.specs.Prelude.{◌≡◌};
+ghost use Rattle.nob_case_texts.specs.Answers.{Writes};
+ghost use Rattle.nob_case_texts.specs.Words as spec;
+
 use nob_frame::{Frame, FrameError, FrameFault};
 use nob_ids::{ItemNo, Reason, SpaceId, WireRep};
 use nob_item::{Item, ItemError};
@@ -94,7 +98,9 @@ pub enum Answer {
 
 impl Answer {
     /// `yes` or `no`.
-    pub fn of_test(holds: bool) -> Answer {
+    pub fn of_test(holds: bool) -> Answer
+        ensures { Writes result (spec.test_word holds) }
+    {
         Answer::Word(if holds { "yes" } else { "no" })
     }
 }

@@ -1,5 +1,10 @@
 //! The texts of bytes and values.
 
+ghost use Rattle.std.specs.Prelude.{◌≡◌, ◌++◌, ◌↔◌, IsTrue, OnOk};
+ghost use Rattle.std.specs.String.{string_bytes};
+ghost use Rattle.nob_case_texts.specs.Values.{Adds, IsSameLeaf};
+ghost use Rattle.nob_case_texts.specs.Words as spec;
+
 use nob_ids::WireRep;
 use nob_pickle::Value;
 use std::alloc::{AllocError, Global};
@@ -66,10 +71,13 @@ fn push_run(alloc: Global, text: &mut String, run: &[u8], end: End) -> Result<En
 }
 
 /// Writes a reference.
-pub fn push_reference(alloc: Global, text: &mut String, rep: WireRep) -> Result<(), AllocError> {
+pub fn push_reference(alloc: Global, text: &mut String, rep: WireRep) -> Result<(), AllocError>
+    ensures { OnOk result (string_bytes text.new ≡ string_bytes text.old ++ spec.reference_word rep) }
+{
     let owner = rep.owner.get();
     let index = rep.index;
-    text.push_str(format!(in alloc; "{owner}.{index}")?.as_str())
+    let word = format!(in alloc; "{owner}.{index}")?;
+    text.push_str(word.as_str())
 }
 
 /// Values that stand one after the other and are still to be written.
@@ -139,7 +147,10 @@ fn equal_elements(first: &Value, values: &[Value]) -> usize {
     if count < MANY_ELEMENTS { 1 } else { count }
 }
 
-fn is_same_leaf(one: &Value, other: &Value) -> bool {
+// Whether two elements are written at once: both are nothing, or the same number or reference.
+fn is_same_leaf(one: &Value, other: &Value) -> bool
+    ensures { IsTrue result ↔ IsSameLeaf one.now other.now }
+{
     match (one, other) {
         (Value::Unit, Value::Unit) => true,
         (Value::Int(one), Value::Int(other)) => *one == *other,
@@ -149,7 +160,9 @@ fn is_same_leaf(one: &Value, other: &Value) -> bool {
 }
 
 // Writes a value that is no list.
-fn push_leaf(alloc: Global, text: &mut String, value: &Value) -> Result<(), AllocError> {
+fn push_leaf(alloc: Global, text: &mut String, value: &Value) -> Result<(), AllocError>
+    ensures { OnOk result (Adds value.now (string_bytes text.old) (string_bytes text.new)) }
+{
     match value {
         Value::Unit => text.push('u'),
         Value::Int(number) => text.push_str(format!(in alloc; "i{number}")?.as_str()),

@@ -1,5 +1,9 @@
 //! Values as words.
 
+ghost use Rattle.std.specs.Prelude.{◌≡◌, IfOk};
+ghost use Rattle.nob_pickle.specs.Shape.{tree};
+ghost use Rattle.nob_case_texts.specs.Values as spec;
+
 use crate::unanswered::Unanswered;
 use crate::words;
 use nob_pickle::{Bytes, Value, Values};
@@ -21,7 +25,9 @@ pub fn value(alloc: Global, word: &str) -> Result<Value, Unanswered> {
 }
 
 /// A value inside of so many lists.
-pub fn deep_value(alloc: Global, lists: u64, innermost: Value) -> Result<Value, Unanswered> {
+pub fn deep_value(alloc: Global, lists: u64, innermost: Value) -> Result<Value, Unanswered>
+    ensures { IfOk result (λ value. tree value ≡ spec.nested lists (tree innermost)) }
+{
     let mut value = innermost;
     for _ in 0..lists {
         let mut values = Vec::new(alloc);

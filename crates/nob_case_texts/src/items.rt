@@ -1,5 +1,11 @@
 //! Items and frames as words.
 
+ghost use Rattle.std.specs.Prelude.{◌≡◌, Some, IfOk};
+ghost use Rattle.nob_frame.specs.declared.frame.FrameKind.{FrameKind as KindOf};
+ghost use Rattle.nob_item.specs.declared.item.Item.{Item as ItemOf};
+ghost use Rattle.nob_case_texts.specs.Reading.{Reads};
+ghost use Rattle.nob_case_texts.specs.Words as spec;
+
 use crate::unanswered::Unanswered;
 use crate::values::value;
 use crate::words;
@@ -9,7 +15,7 @@ use nob_ids::{CallNo, ItemNo};
 use nob_item::Item;
 use std::alloc::Global;
 
-/// An item, as it is written (`text::push_item`).
+/// The item that words say, as `text_of` writes it.
 pub fn item(alloc: Global, words: &[&str]) -> Result<Item, Unanswered> {
     match words {
         ["call", call, "on", target, "method", method, argument] => Ok(Item::Call {
@@ -29,7 +35,10 @@ pub fn item(alloc: Global, words: &[&str]) -> Result<Item, Unanswered> {
 }
 
 // The note of this name and number.
-fn note(name: &str, number: u64) -> Result<Item, Unanswered> {
+fn note(name: &str, number: u64) -> Result<Item, Unanswered>
+    ensures found { IfOk result (λ item. spec.note_parts item ≡ Some (name.now, number)) }
+    ensures only { (item : ItemOf) → spec.note_parts item ≡ Some (name.now, number) → Reads (λ found. found ≡ item) result }
+{
     match name {
         "settle" => Ok(Item::Settle(ItemNo::new(number))),
         "dirty" => Ok(Item::Dirty(number)),
@@ -40,7 +49,7 @@ fn note(name: &str, number: u64) -> Result<Item, Unanswered> {
     }
 }
 
-/// A frame, as it is written (`text::push_frame`).
+/// The frame that words say, as `text_of` writes it.
 pub fn frame(alloc: Global, words: &[&str]) -> Result<Frame, Unanswered> {
     let [kind, from, "to", to, "seq", seq, "ack", ack, payload] = words else {
         return Err(Unanswered::NoCase);
@@ -55,7 +64,11 @@ pub fn frame(alloc: Global, words: &[&str]) -> Result<Frame, Unanswered> {
     })
 }
 
-fn kind_of(word: &str) -> Result<FrameKind, Unanswered> {
+// The kind of a frame that a word says.
+fn kind_of(word: &str) -> Result<FrameKind, Unanswered>
+    ensures found { IfOk result (λ kind. word.now ≡ spec.kind_word kind) }
+    ensures only { (kind : KindOf) → word.now ≡ spec.kind_word kind → Reads (λ found. found ≡ kind) result }
+{
     match word {
         "data" => Ok(FrameKind::Data),
         "ack" => Ok(FrameKind::Ack),

@@ -1,0 +1,4 @@
+pub mod Reading
+pub mod Words
+pub mod Values
+pub mod Answers
