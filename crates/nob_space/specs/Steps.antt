@@ -1,5 +1,5 @@
 -- What one event makes of the state of a space.
-use Rattle.std.specs.Prelude.{◌≡◌, ℕ, Bool, true, false, List, ◌∷◌, Option, Some, None, Result, Ok, Err, IsOk}
+use Rattle.std.specs.Prelude.{◌≡◌, ℕ, Bool, true, false, List, ◌∷◌, Option, Some, None, is_some, Result, Ok, Err, IsOk}
 use Rattle.nob_ids.specs.declared.limits.Limits.{Limits}
 use Rattle.nob_model_types.specs.declared.answer.Answer.{Answer}
 use Rattle.nob_model_types.specs.declared.event.Event.{Event}
@@ -42,3 +42,8 @@ StepAnswers s n old event result = (limits : Limits) (D : List Deed) → Stands 
 -- new stands for every list that old stands for, with what the event did
 abbrev pub StepStands : (s n : ℕ) → State → State → Event → Result Answer SpaceError → Type 0
 StepStands s n old new event result = (limits : Limits) (D : List Deed) → Stands s n limits old D → Stands s n limits new (with_done event result D)
+
+-- an answer is one of the event's own
+abbrev pub IsOwn : Event → Result Answer SpaceError → Type 0
+IsOwn event (Ok answer) = is_some (deed_of event answer) ≡ true
+IsOwn event (Err error) = Unit {0}

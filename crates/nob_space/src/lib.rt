@@ -3,6 +3,7 @@
 
 mod space;
 mod steps;
+mod twice;
 mod work;
 
 pub use nob_space_state::SpaceError;

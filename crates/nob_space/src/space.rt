@@ -9,8 +9,10 @@ ghost use Rattle.nob_model.specs.Next as next;
 ghost use Rattle.nob_model.specs.Right.{right};
 ghost use Rattle.nob_space.specs.Spaces.{StandsFor, SameSpace, with_entry, wants_memory};
 ghost use Rattle.nob_space.specs.Steps.{AnswersRight};
+ghost use Rattle.nob_space.specs.Twice.{first_of};
 
 use crate::steps;
+use crate::twice::step_twice;
 use crate::work::{Work, acts, sends};
 use nob_ids::{CallNo, Limits, SpaceId};
 use nob_model::{Answer, Event, Here};
@@ -141,6 +143,20 @@ impl Space {
         let here = self.here;
         let alloc = self.alloc;
         steps::step(&mut self.parts, alloc, &here, event)
+    }
+
+    /// One event, with two equal answers: for the entry that is kept of it, and for who asked. All that the second owns is
+    /// copied before anything changes. It costs what `step` costs, and the copy.
+    pub fn step_twice(&mut self, event: &Event) -> Result<(Answer, Answer), SpaceError>
+        ensures answer { (L : List Entry) → StandsFor self.old L → AnswersRight event.now (first_of result) (right self.old.id self.old.n self.old.limits L event.now) }
+        ensures equal { IfOk result (λ two. two.1 ≡ two.0) }
+        ensures stands { (L : List Entry) → StandsFor self.old L → StandsFor self.new (with_entry self.old.id event.now (first_of result) L) }
+        ensures err { OnErr result ((L : List Entry) → StandsFor self.old L → StandsFor self.new L) }
+        ensures same { SameSpace self.old self.new }
+    {
+        let here = self.here;
+        let alloc = self.alloc;
+        step_twice(&mut self.parts, alloc, &here, event)
     }
 
     /// Closes each session that is open, as if it was asked to, and ends the space: each of its pins is given up. It takes

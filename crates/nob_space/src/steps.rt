@@ -6,7 +6,7 @@ ghost use Rattle.nob_space.specs.Spaces.{wants_memory};
 ghost use Rattle.nob_model_types.specs.declared.event.Event.TheVariants as events;
 ghost use Rattle.nob_space_state.specs.Parts.{state_of};
 ghost use Rattle.nob_space_state.specs.Stands.{IsState};
-ghost use Rattle.nob_space.specs.Steps.{StepAnswers, StepStands};
+ghost use Rattle.nob_space.specs.Steps.{IsOwn, StepAnswers, StepStands};
 
 use nob_frame::Frame;
 use nob_ids::{CallNo, JobNo, SpaceId, WireRep};
@@ -20,6 +20,7 @@ use std::alloc::Global;
 pub(crate) fn export(parts: &mut Parts, here: &Here) -> Result<Answer, SpaceError>
     requires { IsState here.now.space here.now.n (state_of parts.old) }
     ensures answer { StepAnswers here.now.space here.now.n (state_of parts.old) events.Export result }
+    ensures own { IsOwn events.Export result }
     ensures stands { StepStands here.now.space here.now.n (state_of parts.old) (state_of parts.new) events.Export result }
 {
     match parts.export(here) {
@@ -33,6 +34,7 @@ pub(crate) fn export(parts: &mut Parts, here: &Here) -> Result<Answer, SpaceErro
 pub(crate) fn dup(parts: &mut Parts, here: &Here, rep: &WireRep) -> Result<Answer, SpaceError>
     requires { IsState here.now.space here.now.n (state_of parts.old) }
     ensures answer { StepAnswers here.now.space here.now.n (state_of parts.old) (events.Dup rep.now) result }
+    ensures own { IsOwn (events.Dup rep.now) result }
     ensures stands { StepStands here.now.space here.now.n (state_of parts.old) (state_of parts.new) (events.Dup rep.now) result }
     ensures memory { result ≢ Err SpaceError.OutOfMemory }
 {
@@ -47,6 +49,7 @@ pub(crate) fn dup(parts: &mut Parts, here: &Here, rep: &WireRep) -> Result<Answe
 pub(crate) fn release(parts: &mut Parts, here: &Here, rep: &WireRep) -> Result<Answer, SpaceError>
     requires { IsState here.now.space here.now.n (state_of parts.old) }
     ensures answer { StepAnswers here.now.space here.now.n (state_of parts.old) (events.Release rep.now) result }
+    ensures own { IsOwn (events.Release rep.now) result }
     ensures stands { StepStands here.now.space here.now.n (state_of parts.old) (state_of parts.new) (events.Release rep.now) result }
     ensures memory { result ≢ Err SpaceError.OutOfMemory }
 {
@@ -68,6 +71,7 @@ pub(crate) fn call(
 ) -> Result<Answer, SpaceError>
     requires { IsState here.now.space here.now.n (state_of parts.old) }
     ensures answer { StepAnswers here.now.space here.now.n (state_of parts.old) (events.Call target.now method value.now) result }
+    ensures own { IsOwn (events.Call target.now method value.now) result }
     ensures stands { StepStands here.now.space here.now.n (state_of parts.old) (state_of parts.new) (events.Call target.now method value.now) result }
 {
     match parts.call(alloc, here, target, method, value) {
@@ -81,6 +85,7 @@ pub(crate) fn call(
 pub(crate) fn take_reply(parts: &mut Parts, here: &Here, call: CallNo) -> Result<Answer, SpaceError>
     requires { IsState here.now.space here.now.n (state_of parts.old) }
     ensures answer { StepAnswers here.now.space here.now.n (state_of parts.old) (events.TakeReply call) result }
+    ensures own { IsOwn (events.TakeReply call) result }
     ensures stands { StepStands here.now.space here.now.n (state_of parts.old) (state_of parts.new) (events.TakeReply call) result }
     ensures memory { result ≢ Err SpaceError.OutOfMemory }
 {
@@ -96,6 +101,7 @@ pub(crate) fn take_reply(parts: &mut Parts, here: &Here, call: CallNo) -> Result
 pub(crate) fn claim(parts: &mut Parts, here: &Here) -> Result<Answer, SpaceError>
     requires { IsState here.now.space here.now.n (state_of parts.old) }
     ensures answer { StepAnswers here.now.space here.now.n (state_of parts.old) events.Claim result }
+    ensures own { IsOwn events.Claim result }
     ensures stands { StepStands here.now.space here.now.n (state_of parts.old) (state_of parts.new) events.Claim result }
 {
     match parts.claim(here) {
@@ -115,6 +121,7 @@ pub(crate) fn finish(
 ) -> Result<Answer, SpaceError>
     requires { IsState here.now.space here.now.n (state_of parts.old) }
     ensures answer { StepAnswers here.now.space here.now.n (state_of parts.old) (events.Finish job outcome.now) result }
+    ensures own { IsOwn (events.Finish job outcome.now) result }
     ensures stands { StepStands here.now.space here.now.n (state_of parts.old) (state_of parts.new) (events.Finish job outcome.now) result }
 {
     match parts.finish(alloc, here, job, outcome) {
@@ -129,6 +136,7 @@ pub(crate) fn finish(
 pub(crate) fn withdraw(parts: &mut Parts, here: &Here, index: u64) -> Result<Answer, SpaceError>
     requires { IsState here.now.space here.now.n (state_of parts.old) }
     ensures answer { StepAnswers here.now.space here.now.n (state_of parts.old) (events.Withdraw index) result }
+    ensures own { IsOwn (events.Withdraw index) result }
     ensures stands { StepStands here.now.space here.now.n (state_of parts.old) (state_of parts.new) (events.Withdraw index) result }
     ensures memory { result ≢ Err SpaceError.OutOfMemory }
 {
@@ -143,6 +151,7 @@ pub(crate) fn withdraw(parts: &mut Parts, here: &Here, index: u64) -> Result<Ans
 pub(crate) fn transmit(parts: &mut Parts, here: &Here, peer: SpaceId) -> Result<Answer, SpaceError>
     requires { IsState here.now.space here.now.n (state_of parts.old) }
     ensures answer { StepAnswers here.now.space here.now.n (state_of parts.old) (events.Transmit peer) result }
+    ensures own { IsOwn (events.Transmit peer) result }
     ensures stands { StepStands here.now.space here.now.n (state_of parts.old) (state_of parts.new) (events.Transmit peer) result }
 {
     match parts.transmit(here, peer) {
@@ -156,6 +165,7 @@ pub(crate) fn transmit(parts: &mut Parts, here: &Here, peer: SpaceId) -> Result<
 pub(crate) fn arrive(parts: &mut Parts, here: &Here, frame: &Frame) -> Result<Answer, SpaceError>
     requires { IsState here.now.space here.now.n (state_of parts.old) }
     ensures answer { StepAnswers here.now.space here.now.n (state_of parts.old) (events.Arrive frame.now) result }
+    ensures own { IsOwn (events.Arrive frame.now) result }
     ensures stands { StepStands here.now.space here.now.n (state_of parts.old) (state_of parts.new) (events.Arrive frame.now) result }
     ensures memory { is_data frame.now.kind ≡ false → result ≢ Err SpaceError.OutOfMemory }
 {
@@ -171,6 +181,7 @@ pub(crate) fn arrive(parts: &mut Parts, here: &Here, frame: &Frame) -> Result<An
 pub(crate) fn tick(parts: &mut Parts, here: &Here, peer: SpaceId) -> Result<Answer, SpaceError>
     requires { IsState here.now.space here.now.n (state_of parts.old) }
     ensures answer { StepAnswers here.now.space here.now.n (state_of parts.old) (events.Tick peer) result }
+    ensures own { IsOwn (events.Tick peer) result }
     ensures stands { StepStands here.now.space here.now.n (state_of parts.old) (state_of parts.new) (events.Tick peer) result }
     ensures memory { result ≢ Err SpaceError.OutOfMemory }
 {
@@ -186,6 +197,7 @@ pub(crate) fn tick(parts: &mut Parts, here: &Here, peer: SpaceId) -> Result<Answ
 pub(crate) fn close(parts: &mut Parts, here: &Here, peer: SpaceId) -> Result<Answer, SpaceError>
     requires { IsState here.now.space here.now.n (state_of parts.old) }
     ensures answer { StepAnswers here.now.space here.now.n (state_of parts.old) (events.Close peer) result }
+    ensures own { IsOwn (events.Close peer) result }
     ensures stands { StepStands here.now.space here.now.n (state_of parts.old) (state_of parts.new) (events.Close peer) result }
     ensures memory { result ≢ Err SpaceError.OutOfMemory }
 {
@@ -205,6 +217,7 @@ pub(crate) fn act(
 ) -> Result<Answer, SpaceError>
     requires { IsState here.now.space here.now.n (state_of parts.old) }
     ensures answer { StepAnswers here.now.space here.now.n (state_of parts.old) (events.Act peer) result }
+    ensures own { IsOwn (events.Act peer) result }
     ensures stands { StepStands here.now.space here.now.n (state_of parts.old) (state_of parts.new) (events.Act peer) result }
 {
     match nob_space_items::act(parts, alloc, here, peer) {
@@ -218,6 +231,7 @@ pub(crate) fn act(
 pub(crate) fn settle(parts: &mut Parts, alloc: Global, here: &Here) -> Result<Answer, SpaceError>
     requires { IsState here.now.space here.now.n (state_of parts.old) }
     ensures answer { StepAnswers here.now.space here.now.n (state_of parts.old) events.Settle result }
+    ensures own { IsOwn events.Settle result }
     ensures stands { StepStands here.now.space here.now.n (state_of parts.old) (state_of parts.new) events.Settle result }
 {
     match nob_space_items::settle(parts, alloc, here) {
@@ -231,6 +245,7 @@ pub(crate) fn settle(parts: &mut Parts, alloc: Global, here: &Here) -> Result<An
 pub(crate) fn clean(parts: &mut Parts, alloc: Global, here: &Here) -> Result<Answer, SpaceError>
     requires { IsState here.now.space here.now.n (state_of parts.old) }
     ensures answer { StepAnswers here.now.space here.now.n (state_of parts.old) events.Clean result }
+    ensures own { IsOwn events.Clean result }
     ensures stands { StepStands here.now.space here.now.n (state_of parts.old) (state_of parts.new) events.Clean result }
 {
     match nob_space_items::clean(parts, alloc, here) {
@@ -248,6 +263,7 @@ pub(crate) fn step(
 ) -> Result<Answer, SpaceError>
     requires { IsState here.now.space here.now.n (state_of parts.old) }
     ensures answer { StepAnswers here.now.space here.now.n (state_of parts.old) event.now result }
+    ensures own { IsOwn event.now result }
     ensures stands { StepStands here.now.space here.now.n (state_of parts.old) (state_of parts.new) event.now result }
     ensures memory { wants_memory event.now ≡ false → result ≢ Err SpaceError.OutOfMemory }
 {

@@ -1,0 +1,114 @@
+//! Two equal answers to one event: what the second owns is copied before anything changes.
+
+ghost use Rattle.std.specs.Prelude.{◌≡◌, ℕ, List, IsOk, IfOk, OnErr};
+ghost use Rattle.nob_ids.specs.declared.limits.Limits.{Limits as LimitsOf};
+ghost use Rattle.nob_model_types.specs.declared.answer.Answer.{Answer as AnswerOf};
+ghost use Rattle.nob_model_words.specs.declared.deed.Deed.{Deed};
+ghost use Rattle.nob_model_history.specs.Histories.{history_of};
+ghost use Rattle.nob_model.specs.Right.{right_after};
+ghost use Rattle.nob_space_state.specs.Parts.{state_of};
+ghost use Rattle.nob_space_state.specs.Stands.{Stands, IsState};
+ghost use Rattle.nob_space.specs.Steps.{StepAnswers, StepStands};
+ghost use Rattle.nob_space.specs.Twice.{Fits, IsComing, first_of};
+
+use crate::steps::step;
+use nob_model::{Answer, Event, Frames, Here, Job};
+use nob_pickle::Value;
+use nob_space_state::{Parts, SpaceError};
+use std::alloc::{AllocError, Global};
+
+/// What an answer owns.
+#[derive(Debug, Drop)]
+pub enum Spare {
+    /// Nothing.
+    Nothing,
+    /// A reply's value.
+    Value(Value),
+    /// A job.
+    Job(Job),
+    /// Frames.
+    Frames(Frames),
+}
+
+// What the answer to an event owns, copied. Memory is wanted only where nothing refuses the event.
+#[tactic(auto, unfolding(nob_model::specs::Right::right_after))]
+fn spare_of(parts: &Parts, here: &Here, event: &Event) -> Result<Spare, AllocError>
+    requires { IsState here.now.space here.now.n (state_of parts.now) }
+    ensures fits { IfOk result (λ spare. (answer : AnswerOf) → IsComing here.now.space here.now.n (state_of parts.now) event.now answer → Fits spare answer) }
+    ensures memory { OnErr result ((limits : LimitsOf) (D : List Deed) → Stands here.now.space here.now.n limits (state_of parts.now) D → IsOk (right_after here.now.space here.now.n limits (history_of here.now.space here.now.n D) event.now)) }
+{
+    match event {
+        Event::TakeReply(call) => match parts.reply_value(*call) {
+            Ok(Some(value)) => Ok(Spare::Value(value)),
+            Ok(None) => Ok(Spare::Nothing),
+            Err(error) => Err(error),
+        },
+        Event::Claim => match parts.job_to_claim() {
+            Ok(job) => Ok(Spare::Job(job)),
+            Err(SpaceError::Refused(_)) => Ok(Spare::Nothing),
+            Err(SpaceError::OutOfMemory) => Err(AllocError),
+        },
+        Event::Transmit(peer) => match parts.frames(here, *peer) {
+            Ok(frames) => Ok(Spare::Frames(frames)),
+            Err(SpaceError::Refused(_)) => Ok(Spare::Nothing),
+            Err(SpaceError::OutOfMemory) => Err(AllocError),
+        },
+        _ => Ok(Spare::Nothing),
+    }
+}
+
+// An answer again, of which this is what it owns. It takes no memory.
+fn again(answer: &Answer, spare: Spare) -> Answer
+    requires { Fits spare answer.now }
+    ensures { result ≡ answer.now }
+{
+    match answer {
+        Answer::Exported(rep) => Answer::Exported(*rep),
+        Answer::Done => Answer::Done,
+        Answer::Called(call) => Answer::Called(*call),
+        Answer::Replied(status, _) => match spare {
+            Spare::Value(value) => Answer::Replied(*status, value),
+            _ => unreachable!(),
+        },
+        Answer::Ended => Answer::Ended,
+        Answer::Job(_) => match spare {
+            Spare::Job(job) => Answer::Job(job),
+            _ => unreachable!(),
+        },
+        Answer::Finished => Answer::Finished,
+        Answer::Dropped => Answer::Dropped,
+        Answer::Acted(item) => Answer::Acted(*item),
+        Answer::Closed(reason) => Answer::Closed(*reason),
+        Answer::Settled(peer, item) => Answer::Settled(*peer, *item),
+        Answer::Cleaned(rep) => Answer::Cleaned(*rep),
+        Answer::Withdrawn => Answer::Withdrawn,
+        Answer::Frames(_) => match spare {
+            Spare::Frames(frames) => Answer::Frames(frames),
+            _ => unreachable!(),
+        },
+        Answer::Took(count) => Answer::Took(*count),
+    }
+}
+
+// One event, with two equal answers.
+pub(crate) fn step_twice(
+    parts: &mut Parts,
+    alloc: Global,
+    here: &Here,
+    event: &Event,
+) -> Result<(Answer, Answer), SpaceError>
+    requires { IsState here.now.space here.now.n (state_of parts.old) }
+    ensures answer { StepAnswers here.now.space here.now.n (state_of parts.old) event.now (first_of result) }
+    ensures equal { IfOk result (λ two. two.1 ≡ two.0) }
+    ensures stands { StepStands here.now.space here.now.n (state_of parts.old) (state_of parts.new) event.now (first_of result) }
+{
+    let Ok(spare) = spare_of(parts, here, event) else {
+        return Err(SpaceError::OutOfMemory);
+    };
+    let answer = match step(parts, alloc, here, event) {
+        Ok(answer) => answer,
+        Err(error) => return Err(error),
+    };
+    let second = again(&answer, spare);
+    Ok((answer, second))
+}
