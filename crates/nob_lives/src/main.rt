@@ -1,0 +1,149 @@
+//! The program `nob_lives`: whole lives of references between two spaces, as many as standard input says. `bench/lives`
+//! measures it.
+#![tactic(auto)]
+
+use nob_ids::{CallNo, JobNo, Limits, SpaceId, WireRep};
+use nob_model::{Answer, Event, Outcome, Refusal};
+use nob_pickle::Value;
+use nob_space::{Space, SpaceError};
+use std::alloc::Global;
+use std::io;
+use std::process::ExitCode;
+
+// The greatest number of items that wait after one carriage, so that each walk ends.
+const MOST_ITEMS: usize = 64;
+
+// The method that is called.
+const METHOD: u16 = 1;
+
+fn main(rt: HostRuntime) -> ExitCode {
+    match run(&rt) {
+        Ok(()) => ExitCode::from(0),
+        Err(_) => ExitCode::from(1),
+    }
+}
+
+// Reads how many objects are held beside the lives, and how many lives are made, a line each, and makes them.
+fn run(rt: &HostRuntime) -> io::Result<()> {
+    let alloc = rt.alloc();
+    let mut held = 0;
+    let mut lives = 0;
+    for (place, line) in rt.lines(alloc).enumerate() {
+        let number = line?.as_str().parse::<u32>().unwrap_or(0);
+        if place == 0 {
+            held = number;
+        } else {
+            lives = number;
+        }
+    }
+    match live_all(alloc, held, lives) {
+        Ok(()) => rt.println("done"),
+        Err(_) => rt.println("refused"),
+    }
+}
+
+// The objects that are held, and then the lives, at two new spaces.
+fn live_all(alloc: Global, held: u32, lives: u32) -> Result<(), SpaceError> {
+    let Some(one) = SpaceId::new(1) else {
+        unreachable!();
+    };
+    let Some(two) = SpaceId::new(2) else {
+        unreachable!();
+    };
+    let mut owner = Space::new(alloc, one, 2, Limits::default())?;
+    let mut client = match Space::new(alloc, two, 2, Limits::default()) {
+        Ok(client) => client,
+        Err(_) => {
+            owner.shut();
+            return Err(SpaceError::OutOfMemory);
+        }
+    };
+    let done = live(&mut owner, &mut client, held, lives);
+    owner.shut();
+    client.shut();
+    done
+}
+
+// The objects that are held, and then the lives.
+fn live(owner: &mut Space, client: &mut Space, held: u32, lives: u32) -> Result<(), SpaceError> {
+    for _ in 0..held {
+        owner.step(&Event::Export)?;
+    }
+    for _ in 0..lives {
+        one_life(owner, client)?;
+    }
+    Ok(())
+}
+
+// The whole life of a reference: exported, sent in a call, asked for and granted, settled, given up and withdrawn.
+fn one_life(owner: &mut Space, client: &mut Space) -> Result<(), SpaceError> {
+    let Answer::Exported(rep) = owner.step(&Event::Export)? else {
+        return Ok(());
+    };
+    let call = call_with(owner, client.id(), &rep)?;
+    carry(owner, client)?;
+    carry(client, owner)?;
+    carry(owner, client)?;
+    client.step(&Event::Settle)?;
+    let job = claim(client)?;
+    client.step(&Event::Finish(job, Outcome::NoMethod))?;
+    client.step(&Event::Clean)?;
+    carry(client, owner)?;
+    owner.step(&Event::TakeReply(call))?;
+    withdraw(owner, &rep)?;
+    carry(owner, client)
+}
+
+// Calls the agent of another space with a reference.
+fn call_with(space: &mut Space, other: SpaceId, rep: &WireRep) -> Result<CallNo, SpaceError> {
+    let event = Event::Call {
+        target: WireRep {
+            owner: other,
+            index: 0,
+        },
+        method: METHOD,
+        value: Value::Ref(*rep),
+    };
+    match space.step(&event)? {
+        Answer::Called(call) => Ok(call),
+        _ => Err(SpaceError::Refused(Refusal::NoCall)),
+    }
+}
+
+// Releases an object and withdraws it.
+fn withdraw(space: &mut Space, rep: &WireRep) -> Result<(), SpaceError> {
+    space.step(&Event::Release(*rep))?;
+    space.step(&Event::Withdraw(rep.index))?;
+    Ok(())
+}
+
+// Claims a job.
+fn claim(space: &mut Space) -> Result<JobNo, SpaceError> {
+    match space.step(&Event::Claim)? {
+        Answer::Job(job) => Ok(job.job),
+        _ => Err(SpaceError::Refused(Refusal::NoJob)),
+    }
+}
+
+// What a space has to send is brought to another, which acts on it.
+fn carry(from: &mut Space, to: &mut Space) -> Result<(), SpaceError> {
+    let Answer::Frames(frames) = from.step(&Event::Transmit(to.id()))? else {
+        return Ok(());
+    };
+    for frame in frames.as_slice() {
+        to.step(&Event::Arrive(frame.copy()?))?;
+    }
+    act_on_all(to, from.id())
+}
+
+// A space acts on all that came from another.
+fn act_on_all(space: &mut Space, other: SpaceId) -> Result<(), SpaceError> {
+    for _ in 0..MOST_ITEMS {
+        match space.step(&Event::Act(other)) {
+            Ok(_) => {}
+            Err(SpaceError::Refused(Refusal::Nothing)) => return Ok(()),
+            Err(error) => return Err(error),
+        }
+    }
+    Ok(())
+}
