@@ -59,15 +59,27 @@ fn live_all(alloc: Global, held: u32, lives: u32) -> Result<(), SpaceError> {
         }
     };
     let done = live(&mut owner, &mut client, held, lives);
+    let quiet = is_quiet(&owner) && is_quiet(&client);
     owner.shut();
     client.shut();
-    done
+    match done {
+        Ok(()) if quiet => Ok(()),
+        Ok(()) => Err(SpaceError::Refused(Refusal::Nothing)),
+        Err(error) => Err(error),
+    }
+}
+
+// Whether a space has nothing to act on, to settle, to give up, to carry out or to withdraw.
+fn is_quiet(space: &Space) -> bool {
+    let work = space.work();
+    let acts = work.act.iter().any(|act| *act);
+    !acts && !work.settle && !work.clean && !work.claim && work.withdraw.is_none()
 }
 
 // The objects that are held, and then the lives.
 fn live(owner: &mut Space, client: &mut Space, held: u32, lives: u32) -> Result<(), SpaceError> {
     for _ in 0..held {
-        owner.step(&Event::Export)?;
+        owner.step_twice(&Event::Export)?;
     }
     for _ in 0..lives {
         one_life(owner, client)?;
@@ -83,12 +95,18 @@ fn one_life(owner: &mut Space, client: &mut Space) -> Result<(), SpaceError> {
     let call = call_with(owner, client.id(), &rep)?;
     carry(owner, client)?;
     carry(client, owner)?;
+    if !owner.lists(rep.index, client.id()) {
+        return Err(SpaceError::Refused(Refusal::NotHeld));
+    }
     carry(owner, client)?;
     client.step(&Event::Settle)?;
     let job = claim(client)?;
     client.step(&Event::Finish(job, Outcome::NoMethod))?;
     client.step(&Event::Clean)?;
     carry(client, owner)?;
+    if !owner.reply_ready(call) {
+        return Err(SpaceError::Refused(Refusal::NotReady));
+    }
     owner.step(&Event::TakeReply(call))?;
     withdraw(owner, &rep)?;
     carry(owner, client)
