@@ -5,6 +5,7 @@
 
 pub mod comparing;
 mod entry;
+pub mod laws;
 mod refusal;
 pub mod right;
 pub mod words;

@@ -1,4 +1,3 @@
 pub mod Given
 pub mod Sizes
 pub mod Spelt
-pub mod Fronts

@@ -5,11 +5,11 @@
 mod closed;
 pub mod comparing;
 mod error;
-pub mod laws;
 mod session;
 pub mod wire;
 
 pub use closed::{Arrival, Closed};
 pub use error::SessionError;
+pub use nob_model_end::laws;
 pub use nob_model_end::{EndRefusal, Kind};
 pub use session::Session;
