@@ -1,0 +1,56 @@
+-- The journal of all spaces: what was asked of each of them and what it answered. The newest entry stands FIRST. What
+-- one space did is read off its own entries alone; what is said of several spaces is said by the words of each.
+use Rattle.std.specs.Prelude.{⊤, ℕ, Bool, ◌&&◌, not, ◌==◌, List, [], ◌∷◌, ◌++◌, map, filter, Option, Some, None}
+use Rattle.nob_frame.specs.declared.frame.Frame.{Frame}
+use Rattle.nob_item.specs.declared.item.Item.{Item}
+use Rattle.nob_model_types.specs.declared.entry.Entry.{Entry}
+use Rattle.nob_model_words.specs.Deeds.{deed_in, deeds}
+use Rattle.nob_model_words.specs.Sessions.{closed, acted}
+use Rattle.nob_model_words.specs.declared.deed.Deed.{Deed}
+use Rattle.nob_model_words.specs.declared.deed.Deed.TheVariants.{Transmit}
+use Rattle.nob_model_history.specs.Histories.{history_of}
+use Rattle.nob_model_history.specs.Transit.{sent}
+use Rattle.nob_model_history.specs.declared.history.History.{History}
+
+-- the entries of space s
+abbrev pub at : ℕ → List Entry → List Entry
+at s J = filter (λ entry. entry.space == s) J
+
+-- what space s did
+abbrev pub deeds_at : ℕ → List Entry → List Deed
+deeds_at s J = deeds (at s J)
+
+-- the history of space s among n
+abbrev pub history_at : (s n : ℕ) → List Entry → History
+history_at s n J = history_of s n (deeds_at s J)
+
+-- the items that space a among n sent to b, the first first: their numbers are 1, 2, ..
+abbrev pub sent_to : (n a b : ℕ) → List Entry → List Item
+sent_to n a b J = map (λ sent_item. sent_item.item) (filter (λ sent_item. sent_item.to == b) (sent (history_at a n J)))
+
+-- the items from a that b acted on, with the numbers that were answered, the first first
+abbrev pub acted_from : (a b : ℕ) → List Entry → List (ℕ × Option Item)
+acted_from a b J = acted a (deeds_at b J)
+
+-- whether the session of a and b has closed at a
+abbrev pub closed_at : (a b : ℕ) → List Entry → Bool
+closed_at a b J = closed b (deeds_at a J)
+
+-- whether the session of a and b is open at both ends
+abbrev pub both_open : (a b : ℕ) → List Entry → Bool
+both_open a b J = not (closed_at a b J) && not (closed_at b a J)
+
+-- the frames that a deed gave
+abbrev pub frames_of : Option Deed → List Frame
+frames_of (Some (Transmit p frames)) = frames
+frames_of _ = []
+
+-- all frames that the Transmits of all spaces gave, the first first
+abbrev pub given : List Entry → List Frame
+given [] = []
+given (entry ∷ J) = given J ++ frames_of (deed_in entry)
+
+-- something holds of each entry of a journal and the entries before it
+abbrev pub Each : (Entry → List Entry → Type 0) → List Entry → Type 0
+Each holds [] = ⊤
+Each holds (entry ∷ J) = holds entry J × Each holds J

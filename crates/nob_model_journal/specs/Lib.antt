@@ -1,0 +1,11 @@
+pub use Rattle.nob_model_words.specs.Deeds
+pub use Rattle.nob_model_words.specs.Sessions
+pub use Rattle.nob_model_history.specs.Histories
+pub use Rattle.nob_model_history.specs.Transit
+pub mod Journals
+pub mod Runs
+pub mod Fronts
+pub mod Safety
+pub mod Losses
+pub mod Findings
+pub mod Verdicts
