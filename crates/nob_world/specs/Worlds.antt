@@ -1,5 +1,5 @@
 -- A world as its callers see it. Its entries and frames stand oldest first; a journal is read the newest FIRST.
-use Rattle.std.specs.Prelude.{◌≡◌, ◌≤◌, ◌+◌, ◌==◌, ◌&&◌, not, nat_le, ℕ, Bool, true, false, List, [], ◌∷◌, ◌++◌, length, reverse, take, slice_get, Option, Some, None, Result, Ok, Err, if◌then◌else◌}
+use Rattle.std.specs.Prelude.{◌≡◌, ◌≤◌, ◌+◌, ◌&&◌, not, nat_le, ℕ, Bool, true, false, List, [], ◌∷◌, ◌++◌, length, reverse, take, slice_get, Option, Some, None, Result, Ok, Err, if◌then◌else◌}
 use Rattle.std.specs.List.{AllByRecursion}
 use Rattle.nob_ids.specs.declared.limits.Limits.{Limits}
 use Rattle.nob_frame.specs.declared.frame.Frame.{Frame}
@@ -12,10 +12,10 @@ use Rattle.nob_model_types.specs.declared.entry.Entry.{Entry}
 use Rattle.nob_model_types.specs.declared.entry.WorldStep.{WorldStep}
 use Rattle.nob_model_types.specs.declared.entry.WorldStep.TheVariants.{Do, Deliver}
 use Rattle.nob_model_journal.specs.Journals.{at, given}
-use Rattle.nob_model_journal.specs.Runs.{WorldRun, frame_of, IsMadeBy, From}
+use Rattle.nob_model_journal.specs.Runs.{WorldRun, frame_of, IsMadeBy}
 use Rattle.nob_space.specs.Spaces.{Owner, StandsFor}
 use Rattle.nob_world.specs.declared.error.WorldError.{WorldError}
-use Rattle.nob_world.specs.declared.error.WorldError.TheVariants.{NoSpace, NoFrame, OutOfMemory}
+use Rattle.nob_world.specs.declared.error.WorldError.TheVariants.{NoSpace, NoFrame}
 
 -- a world: how many spaces there are, the limits of their sessions, the spaces, what was asked of them and answered, and the frames that were ever transmitted
 pub record World : Type 0 where
@@ -74,12 +74,12 @@ step_fault n frames (Deliver number) = if is_there (frame_of number frames) then
 abbrev pub entry_of : ℕ → Event → Result Answer Refusal → Entry
 entry_of space event result = record { space = space; event = event; result = result }
 
--- new is the same world with one entry more, which a step made and which has this result
-pub record Adds (step : WorldStep) (result : Result Answer Refusal) (old new : World) : Type 0 where
+-- entries, the first first, with one more, which a step made and which has this result
+pub record AddsTo (step : WorldStep) (result : Result Answer Refusal) (old new : List Entry) : Type 0 where
   pub entry : Entry
-  pub added : new.entries ≡ old.entries ++ entry ∷ []
+  pub added : new ≡ old ++ entry ∷ []
   pub result_is : entry.result ≡ result
-  pub made : IsMadeBy step entry (journal old)
+  pub made : IsMadeBy step entry (reverse old)
 
 -- the steps that were made: all, or those before the one that was refused
 abbrev pub steps_made : List WorldStep → Result Unit (ℕ × WorldError) → List WorldStep

@@ -8,10 +8,10 @@ ghost use Rattle.nob_world.specs.Worlds as spec;
 ghost use Rattle.nob_world.specs.declared.error.WorldError.{WorldError as WorldErrorOf};
 
 use crate::error::WorldError;
-use crate::making::{carry, frame_at, make};
+use crate::making::take_step;
 use nob_frame::Frame;
 use nob_ids::{Limits, SpaceId};
-use nob_model::{Answer, Entry, Event, Refusal, WorldStep};
+use nob_model::{Answer, Entry, Refusal, WorldStep};
 use nob_space::Space;
 use std::alloc::{AllocError, Global};
 use std::marker::Model;
@@ -99,16 +99,19 @@ impl World {
 
     /// The space of a number, if there is one.
     pub fn space(&self, id: SpaceId) -> Option<&Space>
-        ensures { MatchOption (view result) (self.now.n < id) (λ space. spec.IsSpaceOf self.now.n self.now.limits (spec.journal self.now) id space) }
+        ensures { MatchOption result (self.now.n < id) (λ space. spec.IsSpaceOf self.now.n self.now.limits (spec.journal self.now) id space.now) }
     {
-        self.spaces.get(id.get() as usize - 1)
+        let Some(space) = self.spaces.get(id.get() as usize - 1) else {
+            return None;
+        };
+        Some(space)
     }
 
     /// One step: what the space answers, or why it refuses, which makes an entry too. A step that there is no space or no
     /// frame for makes none, nor does one that memory is wanted for: then the world is as it was. It costs what the
     /// event costs at its space, the frame's bytes, and copies of the event, the answer and the frames.
     pub fn step(&mut self, step: &WorldStep) -> Result<Result<Answer, Refusal>, WorldError>
-        ensures adds { IfOk result (λ answer. spec.Adds step.now answer self.old self.new) }
+        ensures adds { IfOk result (λ answer. spec.AddsTo step.now answer self.old.entries self.new.entries) }
         // X1 and X2 come exactly where they are due.
         ensures fault { (fault : WorldErrorOf) → spec.step_fault self.old.n self.old.frames step.now ≡ Some fault → result ≡ Err fault }
         ensures only { IfErr result (λ error. error ≢ WorldError.OutOfMemory → spec.step_fault self.old.n self.old.frames step.now ≡ Some error) }
@@ -116,40 +119,14 @@ impl World {
         ensures n { self.new.n ≡ self.old.n }
         ensures limits { self.new.limits ≡ self.old.limits }
     {
-        match step {
-            WorldStep::Do(space, event) => {
-                if self.n < space.get() {
-                    return Err(WorldError::NoSpace);
-                }
-                if is_arrival(event) {
-                    return Err(WorldError::NoFrame);
-                }
-                let event = event.copy()?;
-                make(
-                    self.alloc,
-                    &mut self.spaces,
-                    &mut self.entries,
-                    &mut self.frames,
-                    *space,
-                    event,
-                )
-            }
-            WorldStep::Deliver(number) => {
-                let Some(frame) = frame_at(self.frames.as_slice(), *number) else {
-                    return Err(WorldError::NoFrame);
-                };
-                let frame = carry(self.alloc, frame)?;
-                let space = frame.to;
-                make(
-                    self.alloc,
-                    &mut self.spaces,
-                    &mut self.entries,
-                    &mut self.frames,
-                    space,
-                    Event::Arrive(frame),
-                )
-            }
-        }
+        take_step(
+            self.alloc,
+            self.n,
+            &mut self.spaces,
+            &mut self.entries,
+            &mut self.frames,
+            step,
+        )
     }
 
     /// Steps, one after the other, up to the first that makes no entry: how many were made before it, and why. What they
@@ -179,16 +156,6 @@ impl World {
             frames: _frames,
         } = self;
         shut_all(spaces);
-    }
-}
-
-// Whether an event is the arrival of a frame.
-fn is_arrival(event: &Event) -> bool
-    ensures { result ≡ spec.is_arrival event.now }
-{
-    match event {
-        Event::Arrive(_) => true,
-        _ => false,
     }
 }
 
