@@ -106,6 +106,7 @@ pub(crate) fn make(
     ensures world { (n : ℕ) (limits : LimitsOf) → spec.IsWorld (spec.world_of n limits spaces.old.items entries.old.items frames.old.items) → ArrivesGiven event (reverse entries.old.items) → spec.IsWorld (spec.world_of n limits spaces.new.items entries.new.items frames.new.items) }
     ensures only { IfErr result (λ error. error ≡ WorldError.OutOfMemory) }
     ensures err { OnErr result (entries.new.items ≡ entries.old.items) }
+    ensures err_frames { OnErr result (frames.new.items ≡ frames.old.items) }
 {
     let Ok(()) = entries.reserve(1) else {
         return Err(WorldError::OutOfMemory);
@@ -170,6 +171,7 @@ pub(crate) fn take_step(
     ensures fault { (fault : WorldErrorOf) → spec.step_fault n frames.old.items step.now ≡ Some fault → result ≡ Err fault }
     ensures only { IfErr result (λ error. error ≢ WorldError.OutOfMemory → spec.step_fault n frames.old.items step.now ≡ Some error) }
     ensures err { OnErr result (entries.new.items ≡ entries.old.items) }
+    ensures err_frames { OnErr result (frames.new.items ≡ frames.old.items) }
 {
     match step {
         WorldStep::Do(space, event) => {

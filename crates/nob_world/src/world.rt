@@ -1,6 +1,6 @@
 //! A world.
 
-ghost use Rattle.std.specs.Prelude.{◌≡◌, ◌≢◌, ◌≤◌, ◌<◌, ◌++◌, ◌∷◌, [], ℕ, List, Some, None, Ok, Err, reverse, length, IfOk, IfErr, OnErr, OnOk, MatchOption};
+ghost use Rattle.std.specs.Prelude.{◌≡◌, ◌≢◌, ◌≤◌, ◌<◌, ◌++◌, ◌∷◌, [], ℕ, List, Some, None, Ok, Err, reverse, slice_get, length, IfOk, IfErr, OnErr, OnOk, MatchOption};
 ghost use Rattle.nob_model_types.specs.declared.entry.WorldStep.{WorldStep as WorldStepOf};
 ghost use Rattle.nob_model_journal.specs.Journals.{given};
 ghost use Rattle.nob_model_journal.specs.Runs.{ArrivesGiven, WorldRun, From};
@@ -116,6 +116,7 @@ impl World {
         ensures fault { (fault : WorldErrorOf) → spec.step_fault self.old.n self.old.frames step.now ≡ Some fault → result ≡ Err fault }
         ensures only { IfErr result (λ error. error ≢ WorldError.OutOfMemory → spec.step_fault self.old.n self.old.frames step.now ≡ Some error) }
         ensures err { OnErr result (self.new.entries ≡ self.old.entries) }
+        ensures err_frames { OnErr result (self.new.frames ≡ self.old.frames) }
         ensures n { self.new.n ≡ self.old.n }
         ensures limits { self.new.limits ≡ self.old.limits }
     {
@@ -133,6 +134,8 @@ impl World {
     /// made stands. It costs what they cost.
     pub fn run(&mut self, steps: &[WorldStep]) -> Result<(), (usize, WorldError)>
         ensures from { (before : List WorldStepOf) → From before (spec.journal self.old) → From (reverse (spec.steps_made steps.now result) ++ before) (spec.journal self.new) }
+        // It stops at a step that there is no space or no frame for, or that memory is wanted for.
+        ensures stopped { IfErr result (λ stop. (step : WorldStepOf) × (slice_get steps.now stop.0 ≡ Some step) × (stop.1 ≢ WorldError.OutOfMemory → spec.step_fault self.new.n self.new.frames step ≡ Some stop.1)) }
         ensures n { self.new.n ≡ self.old.n }
         ensures limits { self.new.limits ≡ self.old.limits }
     {
