@@ -10,9 +10,11 @@ ghost use Rattle.nob_model_reading.specs.declared.opening.Opening.{Opening as Op
 ghost use Rattle.nob_trace_text.specs.Lines.{lines_of};
 ghost use Rattle.nob_plain.specs.Worlds as spec;
 
+use crate::verdict::verdict_line;
 use nob_frame::Frame;
 use nob_ids::{Limits, SpaceId};
 use nob_model::{Answer, Entry, Event, Here, Refusal, WorldStep, right};
+use nob_model_journal::verdict_of;
 use nob_model_reading::{opening_of, step_of};
 use nob_model_text::{answer_text, refusal_text};
 use nob_trace_text::first_line;
@@ -221,8 +223,9 @@ fn number_text(alloc: Global, number: u128) -> Result<String, AllocError>
     format!(in alloc; " {number}")
 }
 
-/// The first line, and each step with its answer, up to the first line that is none: `line N: bad step`. Only memory
-/// fails it. A step costs time and memory in proportion to all that its space did before it, and more.
+/// The first line, each step with its answer, and the verdict on all that was done; or these up to the first line that is
+/// no step, `line N: bad step`. Only memory fails it. A step costs time and memory in proportion to all that its space
+/// did before it, and more; so does each entry for the verdict.
 pub fn answers_of(alloc: Global, input: &[u8]) -> Result<Vec<u8>, AllocError>
     ensures { IfOk result (λ text. spec.FromScript (lines_of input.now) text.items) }
 {
@@ -239,7 +242,8 @@ pub fn answers_of(alloc: Global, input: &[u8]) -> Result<Vec<u8>, AllocError>
     Ok(text)
 }
 
-// Makes the steps of these lines, of which the first is line 2, and puts them with their answers behind a text.
+// Makes the steps of these lines, of which the first is line 2, and puts them with their answers, and then the verdict,
+// behind a text.
 fn put_steps(
     alloc: Global,
     world: &mut World,
@@ -259,7 +263,8 @@ fn put_steps(
         left = rest;
         number += 1;
     }
-    Ok(())
+    let verdict = verdict_of(alloc, world.n, world.journal.as_slice())?;
+    text.extend_from_slice(verdict_line(verdict))
 }
 
 // Puts a line, a sign and an answer behind a text, and ends them with a newline.
