@@ -5,6 +5,7 @@ ghost use Rattle.std.specs.Fmt.{decimal};
 ghost use Rattle.std.specs.String.{string_bytes};
 ghost use Rattle.nob_model_types.specs.declared.refusal.Refusal.{Refusal as RefusalOf};
 ghost use Rattle.nob_model_types.specs.declared.answer.Answer.{Answer as AnswerOf};
+ghost use Rattle.nob_model_journal.specs.Verdicts.{IsVerdict};
 ghost use Rattle.nob_model_reading.specs.Scripts as scripts;
 ghost use Rattle.nob_model_reading.specs.declared.opening.Opening.{Opening as OpeningOf};
 ghost use Rattle.nob_trace_text.specs.Lines.{lines_of};
@@ -14,7 +15,7 @@ use crate::verdict::verdict_line;
 use nob_frame::Frame;
 use nob_ids::{Limits, SpaceId};
 use nob_model::{Answer, Entry, Event, Here, Refusal, WorldStep, right};
-use nob_model_journal::verdict_of;
+use nob_model_journal::{Verdict, verdict_of};
 use nob_model_reading::{opening_of, step_of};
 use nob_model_text::{answer_text, refusal_text};
 use nob_trace_text::first_line;
@@ -122,6 +123,13 @@ impl World {
                 self.make(alloc, space, event)
             }
         }
+    }
+
+    // The verdict on all that was done.
+    fn verdict(&self, alloc: Global) -> Result<Verdict, AllocError>
+        ensures { IfOk result (λ verdict. IsVerdict self.now.n self.now.journal verdict) }
+    {
+        verdict_of(alloc, self.n, self.journal.as_slice())
     }
 }
 
@@ -263,8 +271,9 @@ fn put_steps(
         left = rest;
         number += 1;
     }
-    let verdict = verdict_of(alloc, world.n, world.journal.as_slice())?;
-    text.extend_from_slice(verdict_line(verdict))
+    let verdict = world.verdict(alloc)?;
+    text.extend_from_slice(verdict_line(verdict))?;
+    Ok(())
 }
 
 // Puts a line, a sign and an answer behind a text, and ends them with a newline.
