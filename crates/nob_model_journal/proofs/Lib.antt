@@ -1,0 +1,3 @@
+pub mod Sameness
+pub mod Looking
+pub mod Keeping

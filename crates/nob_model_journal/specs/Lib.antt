@@ -9,3 +9,4 @@ pub mod Safety
 pub mod Losses
 pub mod Findings
 pub mod Verdicts
+pub mod Tests

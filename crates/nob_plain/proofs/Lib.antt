@@ -1,4 +1,5 @@
 pub mod Lists
 pub mod Judging
 pub mod Playing
+pub mod Entering
 pub mod Choosing

@@ -1,3 +1,4 @@
 pub mod Verdicts
 pub mod Worlds
+pub mod Journals
 pub mod Outputs

@@ -15,6 +15,7 @@ use Rattle.nob_model_types.specs.declared.entry.WorldStep.TheVariants as steps
 use Rattle.nob_model.specs.Right.{right}
 use Rattle.nob_model_text.specs.Answers.{answer_text, refusal_text}
 use Rattle.nob_model_reading.specs.declared.opening.Opening.{Opening}
+use Rattle.nob_plain.specs.Verdicts.{SaysVerdict}
 use Rattle.nob_model_reading.specs.Scripts.{opening_text, step_text, IsOpening, IsStep}
 
 -- spaces and what they did
@@ -120,9 +121,9 @@ pub data FromLine (n : ℕ) (world : World) (line : List ℕ) (from_next : World
   -- the line is no step, and the run ends
   bad : IsNoStep line → text ≡ bad_step_text n → FromLine n world line from_next text
 
--- what is written from these lines of a world's script on, of which the first is line n
+-- what is written from these lines of a world's script on, of which the first is line n: the steps, and then the verdict on all that was done
 abbrev pub FromLines : ℕ → World → List (List ℕ) → List ℕ → Type 0
-FromLines n world [] text = text ≡ []
+FromLines n world [] text = SaysVerdict world.n world.journal text
 FromLines n world (line ∷ lines) text = FromLine n world line (λ next rest. FromLines (n + 1) next lines rest) text
 
 -- what is written for a script whose first line is this one

@@ -1,15 +1,20 @@
-//! The program `nob_plain`: the definitions of a space as something one can run. It reads a script of a world, or one
-//! trace, from standard input, and answers each step by the plain program of nob_model. It is slow on purpose.
+//! The program `nob_plain`: the definitions of a space and of a journal as something one can run. It reads a script of a
+//! world, one trace, or the entries of a journal, from standard input; it answers each step by the plain program of
+//! nob_model, and says of a journal by that of nob_model_journal which promise isn't kept. It is slow on purpose.
 #![tactic(auto)]
 
 ghost use Rattle.std.specs.Prelude.{◌≡◌, true, false};
 ghost use Rattle.nob_trace.specs.Reading.{Answers};
-ghost use Rattle.nob_plain.specs.Outputs.{BeginsAsTrace, IsOutput, IsRefused};
+ghost use Rattle.nob_trace_text.specs.Lines.{lines_of};
+ghost use Rattle.nob_plain.specs.Outputs.{BeginsAsTrace, IsOutput, IsRefused, has_equals_sign as has_equals_sign_in, has_results as has_results_of};
 
+mod entries;
 mod script;
 mod trace;
+mod verdict;
 
 use nob_trace::TraceError;
+use nob_trace_text::first_line;
 use nob_verdicts::refusal_line;
 use std::alloc::Global;
 use std::io::{Read, Write};
@@ -42,7 +47,7 @@ fn has_words(rt: &HostRuntime) -> io::Result<bool> {
     Ok(words.next().is_some())
 }
 
-// What is written for an input: a trace is judged or written again, any other input is a script.
+// What is written for an input: a trace is judged or written again, entries are judged, and any other input is a script.
 fn output_of(alloc: Global, input: &[u8], is_copy: bool) -> Result<Vec<u8>, TraceError>
     ensures { Answers (λ text. IsOutput is_copy input.now text.items) (IsRefused is_copy input.now) result }
 {
@@ -51,6 +56,9 @@ fn output_of(alloc: Global, input: &[u8], is_copy: bool) -> Result<Vec<u8>, Trac
     }
     if begins_as_trace(input) {
         return trace::verdict_of(alloc, input);
+    }
+    if has_results(input) {
+        return Ok(entries::verdict_of(alloc, input)?);
     }
     Ok(script::answers_of(alloc, input)?)
 }
@@ -64,4 +72,24 @@ fn begins_as_trace(input: &[u8]) -> bool
         [b't', b'r', b'a', b'c', b'e', b' ', ..] => true,
         _ => false,
     }
+}
+
+// Whether an equals sign stands in the second line of an input: a step has none, and an entry has one before its result.
+fn has_results(input: &[u8]) -> bool
+    ensures { result ≡ has_results_of (lines_of input.now) }
+{
+    let Some((_, lines)) = first_line(input) else {
+        return false;
+    };
+    let Some((line, _)) = first_line(lines) else {
+        return false;
+    };
+    has_equals_sign(line)
+}
+
+// Whether an equals sign stands in a line.
+fn has_equals_sign(line: &[u8]) -> bool
+    ensures { result ≡ has_equals_sign_in line.now }
+{
+    line.iter().any(|byte| *byte == b'=')
 }

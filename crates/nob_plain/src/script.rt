@@ -5,14 +5,17 @@ ghost use Rattle.std.specs.Fmt.{decimal};
 ghost use Rattle.std.specs.String.{string_bytes};
 ghost use Rattle.nob_model_types.specs.declared.refusal.Refusal.{Refusal as RefusalOf};
 ghost use Rattle.nob_model_types.specs.declared.answer.Answer.{Answer as AnswerOf};
+ghost use Rattle.nob_model_journal.specs.Verdicts.{IsVerdict};
 ghost use Rattle.nob_model_reading.specs.Scripts as scripts;
 ghost use Rattle.nob_model_reading.specs.declared.opening.Opening.{Opening as OpeningOf};
 ghost use Rattle.nob_trace_text.specs.Lines.{lines_of};
 ghost use Rattle.nob_plain.specs.Worlds as spec;
 
+use crate::verdict::verdict_line;
 use nob_frame::Frame;
 use nob_ids::{Limits, SpaceId};
 use nob_model::{Answer, Entry, Event, Here, Refusal, WorldStep, right};
+use nob_model_journal::{Verdict, verdict_of};
 use nob_model_reading::{opening_of, step_of};
 use nob_model_text::{answer_text, refusal_text};
 use nob_trace_text::first_line;
@@ -121,6 +124,13 @@ impl World {
             }
         }
     }
+
+    // The verdict on all that was done.
+    fn verdict(&self, alloc: Global) -> Result<Verdict, AllocError>
+        ensures { IfOk result (λ verdict. IsVerdict self.now.n self.now.journal verdict) }
+    {
+        verdict_of(alloc, self.n, self.journal.as_slice())
+    }
 }
 
 // The limits that a first line means: those that it states, or else the default ones.
@@ -221,8 +231,9 @@ fn number_text(alloc: Global, number: u128) -> Result<String, AllocError>
     format!(in alloc; " {number}")
 }
 
-/// The first line, and each step with its answer, up to the first line that is none: `line N: bad step`. Only memory
-/// fails it. A step costs time and memory in proportion to all that its space did before it, and more.
+/// The first line, each step with its answer, and the verdict on all that was done; or these up to the first line that is
+/// no step, `line N: bad step`. Only memory fails it. A step costs time and memory in proportion to all that its space
+/// did before it, and more; so does each entry for the verdict.
 pub fn answers_of(alloc: Global, input: &[u8]) -> Result<Vec<u8>, AllocError>
     ensures { IfOk result (λ text. spec.FromScript (lines_of input.now) text.items) }
 {
@@ -239,7 +250,8 @@ pub fn answers_of(alloc: Global, input: &[u8]) -> Result<Vec<u8>, AllocError>
     Ok(text)
 }
 
-// Makes the steps of these lines, of which the first is line 2, and puts them with their answers behind a text.
+// Makes the steps of these lines, of which the first is line 2, and puts them with their answers, and then the verdict,
+// behind a text.
 fn put_steps(
     alloc: Global,
     world: &mut World,
@@ -259,6 +271,8 @@ fn put_steps(
         left = rest;
         number += 1;
     }
+    let verdict = world.verdict(alloc)?;
+    text.extend_from_slice(verdict_line(verdict))?;
     Ok(())
 }
 

@@ -23,7 +23,8 @@ use nob_model_text::{Unread, number_at, refusal_of};
 use nob_model_types::{Answer, Event, Refusal};
 use std::alloc::Global;
 
-// The entry that a line spells.
+/// The entry that a line of a trace spells, without its newline. Only memory and a line that spells none fail it. It
+/// costs time and memory in proportion to the line, and recurses once for each level of a value.
 pub fn entry_of(alloc: Global, line: &[u8]) -> Result<Stamped, Unread>
     ensures found { IfOk result (λ entry. IsTraced entry × (line.now ≡ entry_text entry)) }
     ensures only { (entry : StampedOf) → IsTraced entry → line.now ≡ entry_text entry → Reads (λ e. e ≡ entry) result }

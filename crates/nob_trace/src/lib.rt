@@ -13,6 +13,7 @@ mod stamped;
 mod trace;
 mod writing;
 
+pub use entry_reading::entry_of;
 pub use fault::{TraceError, TraceFault};
 pub use head::Head;
 pub use reading::{decode, decode_all, trace_at};

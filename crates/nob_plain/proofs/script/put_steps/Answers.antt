@@ -1,5 +1,4 @@
-use Rattle.std.proofs.Common.{◌++◌, ◌∷◌, [], ℕ, List, arith, sym, ap, subst, refl, ◌∙◌, codes}
-use Rattle.std.proofs.lemmas.List.{append-nil}
+use Rattle.std.proofs.Common.{◌++◌, ◌∷◌, [], ℕ, List, arith, ap, subst, ◌∙◌, codes}
 use Rattle.std.specs.String.{string_bytes}
 use Rattle.nob_trace_text.specs.Lines.{lines_of}
 use Rattle.nob_plain.proofs.Playing.{Completes, ends, found_so, goes_on}
@@ -23,4 +22,4 @@ returns c =
     let old = c.args.text.now.items in
     let now = c.loop-line.text.items in
     let so_far = subst (λ (left : List ℕ). Completes c.loop-line.number c.loop-line.world (lines_of left) c.args.world.now all old now) c.in_default.ensures.lines c.loop-line.invariant.1 in
-    ends c.loop-line.number c.loop-line.world c.args.world.now [] all old now now [] so_far (sym (append-nil now)) refl
+    ends c.loop-line.number c.loop-line.world c.args.world.now [] all old now c.extend_from_slice.new.self.items c.verdict_line.result.now so_far c.in_ok-extend_from_slice.ensures.items (c.in_ok-verdict.verdict, c.in_ok-verdict.ensures, c.verdict_line.ensures)
