@@ -94,6 +94,13 @@ module _ {T : Type 0} where
     pushed_kept old new key v ks updates apart.1 kept.2,
   )
 
+  -- a key before the others
+  pub first_values : (old new : Slab T) (key : ℕ) (v : T) (keys : List ℕ) → Updates old new key (Some v) → IsNew key keys → values_at new (key ∷ keys) ≡ v ∷ values_at old keys
+  first_values old new key v keys updates apart = ap (λ o. cons_option o (values_at new keys)) updates.changed ∙ ap (λ xs. v ∷ xs) (other_values old new key (Some v) keys updates apart)
+
+  pub first_kept : (old new : Slab T) (key : ℕ) (v : T) (keys : List ℕ) → Updates old new key (Some v) → IsNew key keys → AreKept old keys → AreKept new (key ∷ keys)
+  first_kept old new key v keys updates apart kept = (subst IsSome (sym updates.changed) refl, apart, other_kept old new key (Some v) keys updates apart kept)
+
   -- without the key at a place, whose value is gone
   pub removed_values : (old new : Slab T) (key : ℕ) (keys : List ℕ) (place : ℕ) → Updates old new key None → AreKept old keys → place < length keys → key ≡ get_or keys place key → values_at new (remove keys place) ≡ remove (values_at old keys) place
   removed_values old new key [] place updates kept under is = absurd (omega (arith, under))

@@ -97,6 +97,18 @@ impl<T> SlabList<T> {
         self.keys.push_reserved(key);
     }
 
+    /// Puts an item before all others, where there is room for it. It takes no memory. Linear in the items, of which only
+    /// the keys move.
+    pub fn push_front(&mut self, item: T)
+        requires { 0 < self.old.room }
+        ensures { self.new.items ≡ item ∷ self.old.items }
+    {
+        let key = self.values.insert_reserved(item);
+        let Ok(()) = self.keys.insert(0, key) else {
+            unreachable!();
+        };
+    }
+
     /// Takes the item at a place out. It takes no memory. Linear in the items behind it, of which only the keys move.
     pub fn remove(&mut self, place: usize) -> T
         requires { place < length self.old.items }
