@@ -72,9 +72,10 @@ impl<T> SlabList<T> {
 
     /// How many items there are. Constant time.
     pub fn len(&self) -> usize
-        ensures { result ≡ length self.now.items }
+        ensures count { result ≡ length self.now.items }
+        ensures fits { result < 2 ^ 60 }
     {
-        self.keys.len()
+        self.keys.as_slice().len()
     }
 
     /// Makes room for so many more items. Only memory fails it, and the items are the same in any case. Constant time

@@ -31,7 +31,7 @@ returns g c =
     let under : c.args.place < length c.self.inside.keys.items = omega (arith, same, asked) in
     let there = key_kept c.self.inside.values c.self.inside.keys.items c.args.place c.index-key.result.now c.self.invariant under c.index-key.ensures in (
       (
-        refl,
+        refl {a = c.index_mut.result.ghost_name},
         λ w. rw (← c.self.view_is) (
             let items = changed_values c.self.inside.values (with_value c.self.inside.values c.index-key.result.now w) c.index-key.result.now w c.self.inside.keys.items c.args.place
             (Updates-with_value c.self.inside.values c.index-key.result.now w there) c.self.invariant under c.index-key.ensures in
