@@ -6,7 +6,7 @@ use Rattle.std.proofs.lemmas.List.Sums.{sum_by-set}
 use Rattle.std.proofs.lemmas.List.Elements.{filter_map-append}
 use Rattle.slab.specs.Slab.{Slab, get, slab_len, with_value, ContainsKey, Updates}
 use Rattle.slab.proofs.SlabLemmas.{ContainsKey-within}
-use Rattle.nob_space_messages.specs.Keys.{IsNew, AreKept, values_at}
+use Rattle.nob_space_messages.specs.Keys.{IsNew, AreKept, HoldsJust, values_at}
 
 -- a key that is none of some is none of fewer
 new_without : (key : ℕ) (keys : List ℕ) (place : ℕ) → IsNew key keys → IsNew key (remove keys place)
@@ -59,9 +59,12 @@ module _ {T : Type 0} where
   same_values old new [] same = refl
   same_values old new (k ∷ ks) same = ap (λ o. cons_option o (values_at new ks)) (same k) ∙ ap (cons_option (get old k)) (same_values old new ks same)
 
-  pub same_kept : (old new : Slab T) (keys : List ℕ) → ((key : ℕ) → get new key ≡ get old key) → AreKept old keys → AreKept new keys
+  same_kept : (old new : Slab T) (keys : List ℕ) → ((key : ℕ) → get new key ≡ get old key) → AreKept old keys → AreKept new keys
   same_kept old new [] same kept = tt
   same_kept old new (k ∷ ks) same kept = (subst IsSome (sym (same k)) kept.0, kept.1, same_kept old new ks same kept.2)
+
+  pub same_just : (old new : Slab T) (keys : List ℕ) → ((key : ℕ) → get new key ≡ get old key) → slab_len new ≡ slab_len old → HoldsJust old keys → HoldsJust new keys
+  same_just old new keys same count just = record { kept = same_kept old new keys same just.kept; count = count ∙ just.count }
 
   -- a change under a key that is none of theirs doesn't show
   pub other_values : (old new : Slab T) (key : ℕ) (slot : Option T) (keys : List ℕ) → Updates old new key slot → IsNew key keys → values_at new keys ≡ values_at old keys

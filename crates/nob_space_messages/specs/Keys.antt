@@ -1,5 +1,5 @@
 -- How a list keeps its items: each in a slab, and their keys in order. No public clause cites this module.
-use Rattle.std.specs.Prelude.{◌≢◌, ℕ, ◌-◌, List, [], ◌∷◌, filter_map, min, length}
+use Rattle.std.specs.Prelude.{◌≡◌, ◌≢◌, ℕ, ◌-◌, List, [], ◌∷◌, filter_map, min, length}
 use Rattle.slab.specs.Slab.{Slab, get, slab_len, ContainsKey}
 use Rattle.nob_space_messages.specs.Lists.{ItemList}
 
@@ -17,6 +17,11 @@ module _ {T : Type 0} where
   abbrev pub AreKept : Slab T → List ℕ → Type 0
   AreKept slab [] = Unit {0}
   AreKept slab (key ∷ keys) = ContainsKey slab key × IsNew key keys × AreKept slab keys
+
+  -- the slab has a value for each key, no key stands twice, and it has no other values
+  pub record HoldsJust (slab : Slab T) (keys : List ℕ) : Type 0 where
+    pub kept : AreKept slab keys
+    pub count : slab_len slab ≡ length keys
 
   -- the list that these keys of a slab are, where so many keys fit without memory
   abbrev pub list_of : Slab T → List ℕ → (fits : ℕ) → ItemList T

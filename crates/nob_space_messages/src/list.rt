@@ -4,8 +4,8 @@ ghost use Rattle.std.specs.Prelude.{◌≡◌, ◌<◌, ◌≤◌, ◌+◌, ◌^
 ghost use Rattle.std.specs.Borrow.{sem};
 ghost use Rattle.std.specs.Fn.{CalledAt};
 ghost use Rattle.std.specs.List.Retain.{IsFiltered};
-ghost use Rattle.slab.specs.Slab.{get};
-ghost use Rattle.nob_space_messages.specs.Keys.{AreKept, values_at};
+ghost use Rattle.slab.specs.Slab.{get, slab_len};
+ghost use Rattle.nob_space_messages.specs.Keys.{HoldsJust, values_at};
 ghost use Rattle.nob_space_messages.specs.Lends.{lends_item};
 
 use crate::iter::Iter;
@@ -31,18 +31,19 @@ impl<T> Model for SlabList<T> {
 
     ghost coded = { item_list_code T.code };
 
-    ghost use Rattle.nob_space_messages.specs.Keys.{AreKept, list_of};
+    ghost use Rattle.nob_space_messages.specs.Keys.{HoldsJust, list_of};
 
     ghost view = { λ l. list_of l.values l.keys.items (vec_capacity l.keys) };
 
-    ghost invariant = { λ l. AreKept l.values l.keys.items };
+    ghost invariant = { λ l. HoldsJust l.values l.keys.items };
 }
 
 // Drops the values of the keys at which a test answers `false`.
 fn drop_failing<T: Drop, F: FnMut(&T) -> bool>(values: &mut Slab<T>, keys: &[usize], mut test: F)
-    requires kept { AreKept values.old keys.now }
+    requires just { HoldsJust values.old keys.now }
     requires callable { F.IsAlwaysCallable test }
-    ensures { IsFiltered (CalledAt F.FnMut) test (values_at values.old keys.now) (values_at values.new keys.now) }
+    ensures filtered { IsFiltered (CalledAt F.FnMut) test (values_at values.old keys.now) (values_at values.new keys.now) }
+    ensures count { slab_len values.new ≡ length (values_at values.new keys.now) }
 {
     for place in 0..keys.len() {
         let key = keys[place];

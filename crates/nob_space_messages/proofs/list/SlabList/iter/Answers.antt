@@ -5,5 +5,5 @@ use Rattle.nob_space_messages.proofs.list.SlabList.iter.Goals as goal
 
 pub returns-clause-fits : goal.returns-clause-fits
 returns-clause-fits g c =
-    let same = kept_length c.self.inside.values c.as_slice.result.now (subst (AreKept c.self.inside.values) (sym c.as_slice.ensures.value) c.self.invariant) in
+    let same = kept_length c.self.inside.values c.as_slice.result.now (subst (AreKept c.self.inside.values) (sym c.as_slice.ensures.value) c.self.invariant.kept) in
     omega (arith, same)

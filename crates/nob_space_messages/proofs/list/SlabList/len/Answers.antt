@@ -4,5 +4,5 @@ use Rattle.nob_space_messages.proofs.list.SlabList.len.Goals as goal
 
 pub returns-clause-count : goal.returns-clause-count
 returns-clause-count g c =
-    let same = kept_length c.self.inside.values c.self.inside.keys.items c.self.invariant in
+    let same = kept_length c.self.inside.values c.self.inside.keys.items c.self.invariant.kept in
     rw (← c.self.view_is) (ap length c.as_slice.ensures.value ∙ sym same)
