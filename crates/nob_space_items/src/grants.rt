@@ -7,6 +7,7 @@ ghost use Rattle.nob_space_items.specs.Lending.{CanLend, Lends};
 use crate::loans::lend;
 use nob_ids::WireRep;
 use nob_model::{Loan, Message, RefCopy};
+use nob_space_messages::SlabList;
 use nob_table::ObjectTable;
 
 // Whether a loan is due.
@@ -51,7 +52,7 @@ fn lend_to(rep: &WireRep, message: &mut Message) -> u64
 
 /// Makes the loans of a reference that are due to some messages: how many. Linear in their references. The caller's
 /// condition: their number can be counted in 64 bits.
-pub(crate) fn lend_to_all(rep: &WireRep, messages: &mut Vec<Message>) -> u64
+pub(crate) fn lend_to_all(rep: &WireRep, messages: &mut SlabList<Message>) -> u64
     requires { words.due_to_all rep.now messages.old.items < 2 ^ 64 }
     ensures messages { messages.new.items ≡ map (words.granted_message rep.now) messages.old.items }
     ensures count { result ≡ words.due_to_all rep.now messages.old.items }

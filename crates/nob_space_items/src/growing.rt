@@ -1,7 +1,6 @@
 //! Room that is made before a message is acted on.
 
-ghost use Rattle.std.specs.Prelude.{◌≡◌, ◌-◌, ◌<◌, ◌≤◌, length, vec_len, OnOk};
-ghost use Rattle.std.specs.Vec.{vec_capacity};
+ghost use Rattle.std.specs.Prelude.{◌≡◌, ◌-◌, ◌<◌, ◌≤◌, length, OnOk};
 ghost use Rattle.nob_table.specs.Table.{Stays};
 ghost use Rattle.nob_space_state.specs.Parts.{state_of};
 ghost use Rattle.nob_space_items.specs.Growing.{AreAmong, SameEnds, HaveRoom, Grows};
@@ -46,9 +45,9 @@ pub(crate) fn grow(parts: &mut Parts, reps: &[WireRep]) -> Result<(), AllocError
     ensures same { Grows (state_of parts.old) (state_of parts.new) }
     ensures sessions { OnOk result (HaveRoom (length reps.now) parts.new.sessions.items reps.now) }
     ensures table { OnOk result (length reps.now ≤ parts.new.table.surrogate_room) }
-    ensures waiting { OnOk result (vec_len parts.new.waiting < vec_capacity parts.new.waiting) }
-    ensures ready { OnOk result (vec_len parts.new.ready < vec_capacity parts.new.ready) }
-    ensures replies { OnOk result (vec_len parts.new.replies < vec_capacity parts.new.replies) }
+    ensures waiting { OnOk result (0 < parts.new.waiting.room) }
+    ensures ready { OnOk result (0 < parts.new.ready.room) }
+    ensures replies { OnOk result (0 < parts.new.replies.room) }
 {
     parts.table.reserve(0, reps.len())?;
     grow_sessions(&mut parts.sessions, reps, reps.len())?;

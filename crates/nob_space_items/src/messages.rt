@@ -89,10 +89,10 @@ fn wanted_refs(parts: &Parts, here: &Here, item: &Item) -> FewRefs
 fn message_count(parts: &Parts) -> u64
     ensures { result ≡ acting.messages (state_of parts.now).work }
 {
-    let waiting = parts.waiting.as_slice().len() as u64;
-    let ready = parts.ready.as_slice().len() as u64;
-    let running = parts.running.as_slice().len() as u64;
-    let replies = parts.replies.as_slice().len() as u64;
+    let waiting = parts.waiting.len() as u64;
+    let ready = parts.ready.len() as u64;
+    let running = parts.running.len() as u64;
+    let replies = parts.replies.len() as u64;
     waiting + ready + running + replies
 }
 

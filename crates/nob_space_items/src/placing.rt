@@ -1,7 +1,6 @@
 //! Where a message goes that was acted on.
 
-ghost use Rattle.std.specs.Prelude.{◌≡◌, ◌<◌, ◌++◌, [], ◌∷◌, map, vec_len};
-ghost use Rattle.std.specs.Vec.{vec_capacity};
+ghost use Rattle.std.specs.Prelude.{◌≡◌, ◌<◌, ◌++◌, [], ◌∷◌, map};
 ghost use Rattle.nob_model_work.specs.Work.{call_after_reply, stage_after_reply, after_message};
 ghost use Rattle.nob_space_state.specs.Parts.{state_of, with_work};
 ghost use Rattle.nob_space_items.specs.Placing.{answered_call, IsMessage};
@@ -62,39 +61,29 @@ fn answer_calls(calls: &mut Vec<OwnCall>, from: SpaceId, call: CallNo)
     }
 }
 
-// Puts a message behind others of a list that has room for it.
-fn push(messages: &mut Vec<Message>, message: Message)
-    requires { vec_len messages.old < vec_capacity messages.old }
-    ensures { messages.new.items ≡ messages.old.items ++ message ∷ [] }
-{
-    let Ok(()) = messages.push(message) else {
-        unreachable!();
-    };
-}
-
 // Puts a message where it goes: without references a Call is a ready job and a Reply is ready, else they wait; a Reply
 // answers its call.
 #[tactic(auto, unfolding(nob_model_work::specs::Work::after_message))]
 pub(crate) fn put_message(parts: &mut Parts, message: Message)
     requires message { IsMessage message.item }
-    requires waiting { vec_len parts.old.waiting < vec_capacity parts.old.waiting }
-    requires ready { vec_len parts.old.ready < vec_capacity parts.old.ready }
-    requires replies { vec_len parts.old.replies < vec_capacity parts.old.replies }
+    requires waiting { 0 < parts.old.waiting.room }
+    requires ready { 0 < parts.old.ready.room }
+    requires replies { 0 < parts.old.replies.room }
     ensures { state_of parts.new ≡ with_work (after_message message message.item (state_of parts.old).work) (state_of parts.old).calls (state_of parts.old).jobs (state_of parts.old) }
 {
     let waits = !message.copies.as_slice().is_empty();
     let Some(call) = answered_call(&message.item) else {
         if waits {
-            push(&mut parts.waiting, message);
+            parts.waiting.push(message);
             return;
         }
-        push(&mut parts.ready, message);
+        parts.ready.push(message);
         return;
     };
     answer_calls(&mut parts.calls, message.from, call);
     if waits {
-        push(&mut parts.waiting, message);
+        parts.waiting.push(message);
         return;
     }
-    push(&mut parts.replies, message);
+    parts.replies.push(message);
 }

@@ -1,7 +1,6 @@
 //! Acting on a Call or a Reply once there is room for all.
 
-ghost use Rattle.std.specs.Prelude.{◌≡◌, ◌<◌, ◌≤◌, length, vec_len};
-ghost use Rattle.std.specs.Vec.{vec_capacity};
+ghost use Rattle.std.specs.Prelude.{◌≡◌, ◌<◌, ◌≤◌, length};
 ghost use Rattle.nob_space_state.specs.Parts.{state_of};
 ghost use Rattle.nob_space_items.specs.Receiving.{HasFront, Takes, CanReceive, Receives};
 
@@ -26,9 +25,9 @@ fn take_front(sessions: &mut Vec<Session>, peer: SpaceId)
 // Receives a message for which there is room: the Dirties are sent, its loans are made, and it is put where it goes.
 pub(crate) fn receive(parts: &mut Parts, here: &Here, message: Message, dirties: Vec<NewDirty>)
     requires can { CanReceive here.now.space (state_of parts.old) message dirties.items }
-    requires waiting { vec_len parts.old.waiting < vec_capacity parts.old.waiting }
-    requires ready { vec_len parts.old.ready < vec_capacity parts.old.ready }
-    requires replies { vec_len parts.old.replies < vec_capacity parts.old.replies }
+    requires waiting { 0 < parts.old.waiting.room }
+    requires ready { 0 < parts.old.ready.room }
+    requires replies { 0 < parts.old.replies.room }
     ensures { Receives here.now.space (state_of parts.old) (state_of parts.new) message dirties.items }
 {
     let peer = message.from;

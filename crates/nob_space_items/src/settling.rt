@@ -2,7 +2,6 @@
 
 ghost use Rattle.std.specs.Prelude.{◌≡◌, ◌<◌, ◌≤◌, ℕ, ◌+◌, List, [], ◌∷◌, ◌++◌, if◌then◌else◌, true, None, Some, Ok, vec_len, is_some, option_map, IfOk, IfSome, OnOk, OnErr, MatchResult};
 ghost use Rattle.std.specs.List.{list_all, list_any, position};
-ghost use Rattle.std.specs.Vec.{vec_capacity};
 ghost use Rattle.nob_ids.specs.declared.limits.Limits.{Limits as LimitsOf};
 ghost use Rattle.nob_item.specs.Judging.{is_call_number, is_item_number};
 ghost use Rattle.nob_item.specs.declared.item.Item.TheVariants as items;
@@ -30,6 +29,7 @@ use nob_model::{Here, Kind, Message, RefCopy, Refusal};
 use nob_model_words::message::RefCopies;
 use nob_pickle::Value;
 use nob_session::Session;
+use nob_space_messages::SlabList;
 use nob_space_state::{Parts, SpaceError, give_back_message, send_reserved};
 use nob_table::{ObjectTable, State};
 use std::alloc::{AllocError, Global};
@@ -210,13 +210,13 @@ fn hand_notes(
 // back.
 fn put_call(
     table: &mut ObjectTable,
-    ready: &mut Vec<Message>,
+    ready: &mut SlabList<Message>,
     me: SpaceId,
     message: Message,
     lost: bool,
 )
     requires lent { lost ≡ true → HasLent table.old (loans_of me message) }
-    requires room { vec_len ready.old < vec_capacity ready.old }
+    requires room { 0 < ready.old.room }
     ensures back { GivesBack table.old table.new (if lost then loans_of me message else []) }
     ensures put { ready.new.items ≡ (if lost then ready.old.items else ready.old.items ++ message ∷ []) }
 {
@@ -224,10 +224,7 @@ fn put_call(
         give_back_message(table, me, &message);
         return;
     }
-    match ready.push(message) {
-        Ok(()) => {}
-        Err(_) => unreachable!(),
-    }
+    ready.push(message);
 }
 
 // Puts a Reply that is settled to the ready replies, or one of status 3 where a reference of it is lost: then what it
@@ -235,22 +232,19 @@ fn put_call(
 fn put_reply(
     alloc: Global,
     table: &mut ObjectTable,
-    replies: &mut Vec<Message>,
+    replies: &mut SlabList<Message>,
     me: SpaceId,
     message: Message,
     call: CallNo,
     lost: bool,
 )
     requires lent { lost ≡ true → HasLent table.old (loans_of me message) }
-    requires room { vec_len replies.old < vec_capacity replies.old }
+    requires room { 0 < replies.old.room }
     ensures back { GivesBack table.old table.new (if lost then loans_of me message else []) }
     ensures put { replies.new.items ≡ replies.old.items ++ (if lost then lost_reply message call else message) ∷ [] }
 {
     if !lost {
-        match replies.push(message) {
-            Ok(()) => {}
-            Err(_) => unreachable!(),
-        }
+        replies.push(message);
         return;
     }
     give_back_message(table, me, &message);
@@ -264,17 +258,14 @@ fn put_reply(
         },
         copies: RefCopies::from_vec(Vec::new(alloc)),
     };
-    match replies.push(reply) {
-        Ok(()) => {}
-        Err(_) => unreachable!(),
-    }
+    replies.push(reply);
 }
 
 // Puts a message that is settled where it goes.
 fn put_settled(parts: &mut Parts, alloc: Global, me: SpaceId, message: Message, lost: bool)
     requires lent { HasLent parts.old.table (loans_ended me message message.item lost) }
-    requires ready { vec_len parts.old.ready < vec_capacity parts.old.ready }
-    requires replies { vec_len parts.old.replies < vec_capacity parts.old.replies }
+    requires ready { 0 < parts.old.ready.room }
+    requires replies { 0 < parts.old.replies.room }
     ensures back { GivesBack parts.old.table parts.new.table (loans_ended me message message.item lost) }
     ensures put { state_of parts.new ≡ with_work (after_settlement message message.item lost (state_of parts.old).work) parts.old.calls_made parts.old.jobs_made (with_table parts.new.table (state_of parts.old)) }
 {

@@ -1,6 +1,7 @@
 //! The closing of a session, by whichever event. It takes no memory.
 
 ghost use Rattle.std.specs.Prelude.{◌≡◌, ℕ, List, ◌∷◌, true, false, filter, map, OnErr, IfOk};
+ghost use Rattle.std.specs.List.{list_any};
 ghost use Rattle.nob_ids.specs.declared.limits.Limits.{Limits as LimitsOf};
 ghost use Rattle.nob_model_types.specs.declared.answer.Answer.TheVariants as answers;
 ghost use Rattle.nob_model_words.specs.declared.deed.Deed.{Deed};
@@ -20,10 +21,11 @@ ghost use Rattle.nob_space_state.specs.Stands.{Stands, IsState, Keeps, Did, Answ
 
 use crate::finish::give_back_message;
 use crate::parts::Parts;
-use nob_ids::{Reason, SpaceId};
-use nob_model::{Here, Message, OwnCall, Refusal};
-use nob_model_work::work::call_after_close;
+use nob_ids::{CallNo, Reason, SpaceId};
+use nob_model::{Here, Message, OwnCall, Refusal, Stage};
+use nob_model_words::message::replies_to;
 use nob_session::Closed;
+use nob_space_messages::SlabList;
 use nob_table::ObjectTable;
 
 // Whether a message came from a space.
@@ -34,11 +36,12 @@ fn is_from(peer: SpaceId, message: &Message) -> bool
 }
 
 // Gives back what the messages from a space have lent.
-fn give_back_from(table: &mut ObjectTable, me: SpaceId, peer: SpaceId, messages: &[Message])
-    requires { HasLent table.old (lent_from me peer messages.now) }
-    ensures { GivesBack table.old table.new (lent_from me peer messages.now) }
+fn give_back_from(table: &mut ObjectTable, me: SpaceId, peer: SpaceId, messages: &SlabList<Message>)
+    requires { HasLent table.old (lent_from me peer messages.now.items) }
+    ensures { GivesBack table.old table.new (lent_from me peer messages.now.items) }
 {
-    for message in messages {
+    for place in 0..messages.len() {
+        let message = &messages[place];
         if is_from(peer, message) {
             give_back_message(table, me, message);
         }
@@ -46,18 +49,41 @@ fn give_back_from(table: &mut ObjectTable, me: SpaceId, peer: SpaceId, messages:
 }
 
 // Throws the messages from a space away: what they have lent is given back.
-fn throw_away(table: &mut ObjectTable, messages: &mut Vec<Message>, me: SpaceId, peer: SpaceId)
+fn throw_away(table: &mut ObjectTable, messages: &mut SlabList<Message>, me: SpaceId, peer: SpaceId)
     requires { HasLent table.old (lent_from me peer messages.old.items) }
     ensures back { GivesBack table.old table.new (lent_from me peer messages.old.items) }
     ensures left { messages.new.items ≡ filter (is_not_from peer) messages.old.items }
 {
-    give_back_from(table, me, peer, messages.as_slice());
+    give_back_from(table, me, peer, messages);
     messages.retain(|message| !is_from(peer, message));
 }
 
+// Whether a Reply from a space to a call is ready.
+fn is_replied(peer: SpaceId, call: CallNo, replies: &SlabList<Message>) -> bool
+    ensures { result ≡ list_any (words.is_reply_from peer call) replies.now.items }
+{
+    replies.iter().any(|message| message.from == peer && replies_to(call, &message.item))
+}
+
+// A call after the closing: it ends if it was made to the space and has no ready reply.
+#[tactic(auto, unfolding(nob_model_work::specs::Work::call_after_close))]
+fn call_after_close(peer: SpaceId, replies: &SlabList<Message>, own: &OwnCall) -> OwnCall
+    ensures { result ≡ words.call_after_close peer replies.now.items own.now }
+{
+    if own.to == peer && !is_replied(peer, own.call, replies) {
+        let stage = Stage::Ended;
+        return OwnCall {
+            call: own.call,
+            to: own.to,
+            stage,
+        };
+    }
+    *own
+}
+
 // Ends the calls to a space that have no ready reply.
-fn end_calls(peer: SpaceId, replies: &[Message], calls: &mut Vec<OwnCall>)
-    ensures { calls.new.items ≡ map (words.call_after_close peer replies.now) calls.old.items }
+fn end_calls(peer: SpaceId, replies: &SlabList<Message>, calls: &mut Vec<OwnCall>)
+    ensures { calls.new.items ≡ map (words.call_after_close peer replies.now.items) calls.old.items }
 {
     for place in 0..calls.len() {
         calls[place] = call_after_close(peer, replies, &calls[place]);
@@ -78,7 +104,7 @@ impl Parts {
         self.table.close(peer);
         self.dirty.close(peer);
         self.pins.close(closed);
-        end_calls(peer, self.replies.as_slice(), &mut self.calls);
+        end_calls(peer, &self.replies, &mut self.calls);
     }
 
     /// The session with a peer closes here for a reason: an item from it has a fault, or it was asked to close. It takes

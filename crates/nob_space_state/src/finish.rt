@@ -27,6 +27,7 @@ use nob_ids::{CallNo, JobNo, SpaceId, WireRep};
 use nob_item::{Item, ItemError, encode_reply};
 use nob_model::{Here, Kind, Loan, Message, Outcome, RefCopy, Refusal, Run};
 use nob_pickle::Value;
+use nob_space_messages::SlabList;
 use nob_table::{ObjectTable, Part};
 use std::alloc::Global;
 
@@ -109,11 +110,12 @@ fn is_run(job: JobNo, run: &Run) -> bool
 }
 
 // Gives back what the jobs of this number have lent.
-fn give_back_job(table: &mut ObjectTable, me: SpaceId, job: JobNo, runs: &[Run])
-    requires { HasLent table.old (flat_map (λ run. loans_of me run.message) (filter (is_run job) runs.now)) }
-    ensures { GivesBack table.old table.new (flat_map (λ run. loans_of me run.message) (filter (is_run job) runs.now)) }
+fn give_back_job(table: &mut ObjectTable, me: SpaceId, job: JobNo, runs: &SlabList<Run>)
+    requires { HasLent table.old (flat_map (λ run. loans_of me run.message) (filter (is_run job) runs.now.items)) }
+    ensures { GivesBack table.old table.new (flat_map (λ run. loans_of me run.message) (filter (is_run job) runs.now.items)) }
 {
-    for run in runs {
+    for place in 0..runs.len() {
+        let run = &runs[place];
         if is_run(job, run) {
             give_back_message(table, me, &run.message);
         }
@@ -121,18 +123,18 @@ fn give_back_job(table: &mut ObjectTable, me: SpaceId, job: JobNo, runs: &[Run])
 }
 
 // Ends the jobs of this number: what they have lent is given back.
-fn end_job(table: &mut ObjectTable, running: &mut Vec<Run>, me: SpaceId, job: JobNo)
+fn end_job(table: &mut ObjectTable, running: &mut SlabList<Run>, me: SpaceId, job: JobNo)
     requires { HasLent table.old (flat_map (λ run. loans_of me run.message) (filter (is_run job) running.old.items)) }
     ensures back { GivesBack table.old table.new (flat_map (λ run. loans_of me run.message) (filter (is_run job) running.old.items)) }
     ensures ended { running.new.items ≡ filter (λ run. not (is_run job run)) running.old.items }
 {
-    give_back_job(table, me, job, running.as_slice());
+    give_back_job(table, me, job, running);
     running.retain(|run| !is_run(job, run));
 }
 
 // The job that runs under this number.
-fn find_run(job: JobNo, runs: &[Run]) -> Option<&Run>
-    ensures { option_map (λ run. run.now) result ≡ find (is_run job) runs.now }
+fn find_run(job: JobNo, runs: &SlabList<Run>) -> Option<&Run>
+    ensures { option_map (λ run. run.now) result ≡ find (is_run job) runs.now.items }
 {
     runs.iter().find(|run| is_run(job, run))
 }
@@ -190,7 +192,7 @@ impl Parts {
         ensures dropped { (run : RunOf) → find (is_run job) self.old.running.items ≡ Some run → has_closed self.old.sessions.items run.message.from ≡ true → result ≡ Ok ReplyFate.Dropped }
         ensures err { OnErr result (Keeps here.now.space here.now.n (state_of self.old) (state_of self.new)) }
     {
-        let Some(run) = find_run(job, self.running.as_slice()) else {
+        let Some(run) = find_run(job, &self.running) else {
             return Err(SpaceError::Refused(Refusal::NoJob));
         };
         let client = run.message.from;

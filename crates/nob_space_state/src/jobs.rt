@@ -1,6 +1,6 @@
 //! The jobs of a space: Claim.
 
-ghost use Rattle.std.specs.Prelude.{◌≡◌, ℕ, ◌+◌, ◌<◌, List, ◌∷◌, Some, None, OnOk, OnErr, IfOk, find};
+ghost use Rattle.std.specs.Prelude.{◌≡◌, ◌==◌, ℕ, ◌+◌, ◌<◌, List, ◌∷◌, Some, None, OnOk, OnErr, IfOk, find};
 ghost use Rattle.std.specs.List.{list_any, position};
 ghost use Rattle.nob_ids.specs.declared.limits.Limits.{Limits as LimitsOf};
 ghost use Rattle.nob_model_types.specs.declared.answer.Answer.TheVariants as answers;
@@ -16,16 +16,25 @@ use crate::error::SpaceError;
 use crate::parts::Parts;
 use nob_ids::{JobNo, SpaceId};
 use nob_item::Item;
-use nob_model::candidates::{is_running, target_of};
+use nob_model::candidates::target_of;
 use nob_model::right::LAST_NUMBER;
 use nob_model::{Here, Job, Message, Refusal, Run};
+use nob_space_messages::SlabList;
+
+// Whether one of these jobs has a target.
+fn is_running(target: u64, runs: &SlabList<Run>) -> bool
+    ensures { result ≡ list_any (λ run. candidates.target_of run.message.item == target) runs.now.items }
+{
+    runs.iter()
+        .any(|run| target_of(&run.message.item) == target)
+}
 
 impl Parts {
     // Whether no job that runs has the target of a message.
     fn is_free(&self, message: &Message) -> bool
         ensures { result ≡ candidates.is_free (state_of self.now).work message.now }
     {
-        !is_running(target_of(&message.item), self.running.as_slice())
+        !is_running(target_of(&message.item), &self.running)
     }
 
     // The place of the first ready job whose target isn't running.
@@ -86,10 +95,7 @@ impl Parts {
             job: job.job,
             message,
         };
-        match self.running.insert(0, run) {
-            Ok(()) => {}
-            Err(_) => unreachable!(),
-        }
+        self.running.push_front(run);
         self.jobs_made += 1;
         Ok(job)
     }

@@ -9,6 +9,7 @@ use nob_ids::{Limits, SpaceId};
 use nob_model::{Here, Message, OwnCall, Run};
 use nob_pins::PinTable;
 use nob_session::Session;
+use nob_space_messages::SlabList;
 use nob_table::ObjectTable;
 use std::alloc::{AllocError, Global};
 
@@ -23,13 +24,13 @@ pub struct Parts {
     /// The pins of what was sent.
     pub pins: PinTable,
     /// The messages that wait for their references, in order of acting.
-    pub waiting: Vec<Message>,
+    pub waiting: SlabList<Message>,
     /// The ready jobs, in order of becoming ready.
-    pub ready: Vec<Message>,
+    pub ready: SlabList<Message>,
     /// The jobs that run, the newest first.
-    pub running: Vec<Run>,
+    pub running: SlabList<Run>,
     /// The ready replies, in order of becoming ready.
-    pub replies: Vec<Message>,
+    pub replies: SlabList<Message>,
     /// The calls whose replies aren't taken, the first made first.
     pub calls: Vec<OwnCall>,
     /// How many calls were made.
@@ -51,10 +52,10 @@ impl Parts {
             table: ObjectTable::new(alloc, here.space),
             dirty: DirtySets::new(alloc),
             pins: PinTable::new(alloc),
-            waiting: Vec::new(alloc),
-            ready: Vec::new(alloc),
-            running: Vec::new(alloc),
-            replies: Vec::new(alloc),
+            waiting: SlabList::new(alloc),
+            ready: SlabList::new(alloc),
+            running: SlabList::new(alloc),
+            replies: SlabList::new(alloc),
             calls: Vec::new(alloc),
             calls_made: 0,
             jobs_made: 0,

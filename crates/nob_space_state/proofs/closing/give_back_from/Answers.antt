@@ -1,4 +1,4 @@
-use Rattle.std.proofs.Common.{[], List, true, false, sym, subst, ◌∙◌}
+use Rattle.std.proofs.Common.{◌<◌, ◌≤◌, [], List, length, true, false, sym, subst, ◌∙◌}
 use Rattle.std.proofs.lemmas.List.{take_all}
 use Rattle.nob_model_history.specs.Holds.{loans_of}
 use Rattle.nob_model_words.specs.declared.message.Message.{Message}
@@ -11,16 +11,18 @@ use Rattle.nob_space_state.proofs.closing.give_back_from.Goals.{then-is_from, el
 
 pub give_back_message-requires : goal.give_back_message-requires
 give_back_message-requires c =
-    subst (HasLent c.loop-message.table) (from_lends c.args.me c.args.peer c.message-item.result true (sym c.is_from.ensures ∙ c.if-is_from.true))
-    (here_lent (lent_from c.args.me c.args.peer) (from_both c.args.me c.args.peer) c.args.messages.now c.loop-message.message-index c.message-item.result c.loop-message-test.true c.message-item.is c.args.table.now c.loop-message.table c.requires c.loop-message.invariant)
+    let under : c.loop-place.place < length c.args.messages.now.items = subst (λ k. c.loop-place.place < k) c.len-place-end.ensures.count c.loop-place-test.true in
+    subst (HasLent c.loop-place.table) (from_lends c.args.me c.args.peer c.index-message.result.now true (sym c.is_from.ensures ∙ c.if-is_from.true))
+    (here_lent (lent_from c.args.me c.args.peer) (from_both c.args.me c.args.peer) c.args.messages.now.items c.loop-place.place c.index-message.result.now under c.index-message.ensures c.args.table.now c.loop-place.table c.requires c.loop-place.invariant)
 
-pub loop-message-preserved : goal.loop-message-preserved
-loop-message-preserved c =
-    walk_more (lent_from c.args.me c.args.peer) (from_both c.args.me c.args.peer) c.args.messages.now c.loop-message.message-index c.message-item.result c.loop-message-test.true c.message-item.is c.args.table.now c.loop-message.table c.if-is_from.table c.loop-message.invariant
+pub loop-place-preserved : goal.loop-place-preserved
+loop-place-preserved c =
+    let under : c.loop-place.place < length c.args.messages.now.items = subst (λ k. c.loop-place.place < k) c.len-place-end.ensures.count c.loop-place-test.true in
+    walk_more (lent_from c.args.me c.args.peer) (from_both c.args.me c.args.peer) c.args.messages.now.items c.loop-place.place c.index-message.result.now under c.index-message.ensures c.args.table.now c.loop-place.table c.if-is_from.table c.loop-place.invariant
     (elim c.if-is_from.branch [
-      | then-is_from w ↦ subst (GivesBack c.loop-message.table c.if-is_from.table) (sym (from_lends c.args.me c.args.peer c.message-item.result true (sym c.is_from.ensures ∙ w.if-is_from.true))) (subst (λ t. GivesBack c.loop-message.table t (loans_of c.args.me c.message-item.result)) (sym w.table-is) w.give_back_message.ensures)
-      | else-is_from w ↦ subst (GivesBack c.loop-message.table c.if-is_from.table) (sym (from_lends c.args.me c.args.peer c.message-item.result false (sym c.is_from.ensures ∙ w.if-is_from.false))) (subst (λ t. GivesBack c.loop-message.table t []) (sym w.table-is) (back_none c.loop-message.table))
+      | then-is_from w ↦ subst (GivesBack c.loop-place.table c.if-is_from.table) (sym (from_lends c.args.me c.args.peer c.index-message.result.now true (sym c.is_from.ensures ∙ w.if-is_from.true))) (subst (λ t. GivesBack c.loop-place.table t (loans_of c.args.me c.index-message.result.now)) (sym w.table-is) w.give_back_message.ensures)
+      | else-is_from w ↦ subst (GivesBack c.loop-place.table c.if-is_from.table) (sym (from_lends c.args.me c.args.peer c.index-message.result.now false (sym c.is_from.ensures ∙ w.if-is_from.false))) (subst (λ t. GivesBack c.loop-place.table t []) (sym w.table-is) (back_none c.loop-place.table))
     ])
 
 pub returns : goal.returns
-returns c = subst (λ (messages : List Message). GivesBack c.args.table.now c.loop-message.table (lent_from c.args.me c.args.peer messages)) (take_all c.loop-message.message-index c.args.messages.now c.loop-message-test.false) c.loop-message.invariant
+returns c = subst (λ (messages : List Message). GivesBack c.args.table.now c.loop-place.table (lent_from c.args.me c.args.peer messages)) (take_all c.loop-place.place c.args.messages.now.items (subst (λ k. k ≤ c.loop-place.place) c.len-place-end.ensures.count c.loop-place-test.false)) c.loop-place.invariant

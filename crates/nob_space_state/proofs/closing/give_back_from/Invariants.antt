@@ -3,5 +3,5 @@ use Rattle.nob_space_state.specs.Closing.{lent_from}
 use Rattle.nob_space_state.specs.Returns.{GivesBack}
 use Rattle.nob_space_state.proofs.closing.give_back_from.Given as goal
 
-abbrev pub invariant-loop-message : goal.invariant-loop-message
-invariant-loop-message l = GivesBack l.fn.table l.table (lent_from l.me l.peer (take l.message-index l.messages))
+abbrev pub invariant-loop-place : goal.invariant-loop-place
+invariant-loop-place l = GivesBack l.fn.table l.table (lent_from l.me l.peer (take l.place l.messages.items))

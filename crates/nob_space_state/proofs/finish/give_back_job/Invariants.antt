@@ -4,5 +4,5 @@ use Rattle.nob_model_work.specs.Work.{is_run}
 use Rattle.nob_space_state.specs.Returns.{GivesBack}
 use Rattle.nob_space_state.proofs.finish.give_back_job.Given as goal
 
-abbrev pub invariant-loop-run : goal.invariant-loop-run
-invariant-loop-run l = GivesBack l.fn.table l.table (flat_map (λ run. loans_of l.me run.message) (filter (is_run l.job) (take l.run-index l.runs)))
+abbrev pub invariant-loop-place : goal.invariant-loop-place
+invariant-loop-place l = GivesBack l.fn.table l.table (flat_map (λ run. loans_of l.me run.message) (filter (is_run l.job) (take l.place l.runs.items)))

@@ -1,5 +1,4 @@
-use Rattle.std.proofs.Common.{◌≡◌, ℕ, ◌+◌, Ok, IsOk, refl, sym, ap, subst, ◌∙◌}
-use Rattle.std.specs.List.{insert}
+use Rattle.std.proofs.Common.{◌≡◌, ℕ, ◌+◌, ◌∷◌, Ok, IsOk, refl, sym, ap, subst, ◌∙◌}
 use Rattle.nob_model_types.specs.declared.answer.Answer.TheVariants as answers
 use Rattle.nob_model_types.specs.declared.answer.Job.{Job}
 use Rattle.nob_model.specs.Candidates.{is_free}
@@ -24,6 +23,6 @@ returns-clause-stands c limits D stands =
     let taken = at_place (is_free (state_of c.args.self.now).work) c.args.self.now.ready.items c.in-Ok.place c.remove-message.result (c.in-Ok.ensures {u = tt}).place c.remove-message.ensures.value in
     let is : job_of (c.args.self.now.jobs_made + 1) c.remove-message.result.from c.remove-message.result.item ≡ Ok (answers.Job c.in-Ok.job) =
     claimed_is c.args.self.now.jobs_made c.remove-message.result c.in-Ok.job (ap (claim_of c.args.self.now.jobs_made) (sym taken.0) ∙ (c.in-Ok.ensures {u = tt}).answer) in
-    claim_done stands c.remove-message.result c.in-Ok.job c.remove-message.new.self.items c.insert.new.self.items (claim_is c.args.here.now.space c.args.here.now.n limits D c.in-Ok.job (returns-clause-answer c limits D stands)) taken.0 is
+    claim_done stands c.remove-message.result c.in-Ok.job c.remove-message.new.self.items c.push_front.new.self.items (claim_is c.args.here.now.space c.args.here.now.n limits D c.in-Ok.job (returns-clause-answer c limits D stands)) taken.0 is
     (c.remove-message.ensures.items ∙ taken.1)
-    (c.in-Ok-insert.ensures.items ∙ ap (λ runs. insert runs 0 (record { job = c.in-Ok.job.job; message = c.remove-message.result })) c.reserve.ensures.items)
+    (c.push_front.ensures ∙ ap (λ runs. record { job = c.in-Ok.job.job; message = c.remove-message.result } ∷ runs) c.reserve.ensures.items)

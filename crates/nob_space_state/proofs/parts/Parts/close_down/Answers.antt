@@ -1,7 +1,5 @@
-use Rattle.std.proofs.Common.{ℕ, List, map, refl, sym, ap, subst, ◌∙◌}
+use Rattle.std.proofs.Common.{ℕ, refl, sym, subst}
 use Rattle.nob_pins.specs.Bundles.{TakesOutAll}
-use Rattle.nob_model_words.specs.declared.message.Message.{Message}
-use Rattle.nob_model_work.specs.Work.{call_after_close}
 use Rattle.nob_space_state.specs.Closing.{lent_from, ClosesDown}
 use Rattle.nob_space_state.specs.Parts.{state_of}
 use Rattle.nob_space_state.proofs.Closings.{thrown_work}
@@ -31,8 +29,7 @@ returns c =
       );
       listed = c.close-2.ensures.leaves;
       pins = subst (λ (p : ℕ). TakesOutAll c.args.self.now.pins.bundles c.close-3.new.self.bundles p) (sym c.peer-peer.ensures) c.close-3.ensures;
-      work = thrown_work c.peer-peer.result (state_of c.args.self.now).work c.throw_away.new.messages.items c.throw_away-2.new.messages.items c.end_calls.new.calls.items c.throw_away.ensures.left c.throw_away-2.ensures.left
-          (c.end_calls.ensures ∙ ap (λ (replies : List Message). map (call_after_close c.peer-peer.result replies) c.args.self.now.calls.items) c.as_slice.ensures.value);
+      work = thrown_work c.peer-peer.result (state_of c.args.self.now).work c.throw_away.new.messages.items c.throw_away-2.new.messages.items c.end_calls.new.calls.items c.throw_away.ensures.left c.throw_away-2.ensures.left c.end_calls.ensures;
       calls = refl;
       jobs = refl;
     }

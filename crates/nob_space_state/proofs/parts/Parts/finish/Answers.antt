@@ -1,4 +1,4 @@
-use Rattle.std.proofs.Common.{◌≡◌, ℕ, ◌+◌, ◌-◌, ◌∷◌, List, true, false, Some, None, IsOk, find, nat_le, get_or, sym, ap, subst, ◌∙◌, refl, arith}
+use Rattle.std.proofs.Common.{◌≡◌, ℕ, ◌+◌, ◌-◌, ◌∷◌, List, true, false, Some, IsOk, find, nat_le, get_or, sym, ap, subst, ◌∙◌, refl, arith}
 use lib.ListN.{set}
 use Rattle.std.proofs.lemmas.Option.{none-some}
 use Rattle.nob_item.specs.Judging.{Fails}
@@ -9,7 +9,6 @@ use Rattle.nob_model_end.specs.declared.entry.Kind.TheVariants.{Limited}
 use Rattle.nob_session.specs.Stands.{End}
 use Rattle.nob_model_types.specs.declared.answer.Answer.TheVariants as answers
 use Rattle.nob_model_words.specs.declared.deed.Deed.TheVariants as did
-use Rattle.nob_model_work.specs.declared.work.Run.{Run}
 use Rattle.nob_model_work.specs.Work.{is_run}
 use Rattle.nob_model_history.specs.Histories.{history_of}
 use Rattle.nob_model_history.specs.Ends.{calls_at}
@@ -27,11 +26,11 @@ use Rattle.nob_space_state.proofs.parts.Parts.finish.Goals as goal
 
 pub returns-in_default-clause-answer : goal.returns-in_default-clause-answer
 returns-in_default-clause-answer c limits D stands =
-    finish_of_none stands c.args.job c.args.outcome.now (subst (λ (runs : List Run). find (is_run c.args.job) runs ≡ None) c.as_slice.ensures.value (sym (c.in_default.ensures {u = tt})))
+    finish_of_none stands c.args.job c.args.outcome.now (sym (c.in_default.ensures {u = tt}))
 
 pub unreachable-requires : goal.unreachable-requires
 unreachable-requires c =
-    let found : find (is_run c.args.job) c.args.self.now.running.items ≡ Some c.in-Some.run'.now = subst (λ (runs : List Run). find (is_run c.args.job) runs ≡ Some c.in-Some.run'.now) c.as_slice.ensures.value (sym (c.in-Some.ensures {u = tt})) in
+    let found : find (is_run c.args.job) c.args.self.now.running.items ≡ Some c.in-Some.run'.now = sym (c.in-Some.ensures {u = tt}) in
     runs_call c.in-Some.run'.now.message.item (run_sound c.requires.2 c.args.job c.args.outcome.now c.in-Some.run'.now found).1 c.in_default-item.not-Call
 
 pub end_job-requires : goal.end_job-requires
@@ -42,7 +41,7 @@ end_job-requires-2 c = jobs_lent c.requires.2 c.args.job
 
 pub returns-then-has_closed-clause-answer : goal.returns-then-has_closed-clause-answer
 returns-then-has_closed-clause-answer c limits D stands =
-    let found : find (is_run c.args.job) c.args.self.now.running.items ≡ Some c.in-Some.run'.now = subst (λ (runs : List Run). find (is_run c.args.job) runs ≡ Some c.in-Some.run'.now) c.as_slice.ensures.value (sym (c.in-Some.ensures {u = tt})) in
+    let found : find (is_run c.args.job) c.args.self.now.running.items ≡ Some c.in-Some.run'.now = sym (c.in-Some.ensures {u = tt}) in
     finish_of_closed stands c.args.job c.args.outcome.now c.in-Some.run'.now found (sym c.has_closed.ensures ∙ c.if-has_closed.true)
 
 pub returns-then-has_closed-clause-stands : goal.returns-then-has_closed-clause-stands
@@ -50,14 +49,14 @@ returns-then-has_closed-clause-stands c limits D stands = drop_stands stands c.a
 
 pub returns-in-Err-clause-answer : goal.returns-in-Err-clause-answer
 returns-in-Err-clause-answer c limits D stands =
-    let found : find (is_run c.args.job) c.args.self.now.running.items ≡ Some c.in-Some.run'.now = subst (λ (runs : List Run). find (is_run c.args.job) runs ≡ Some c.in-Some.run'.now) c.as_slice.ensures.value (sym (c.in-Some.ensures {u = tt})) in
+    let found : find (is_run c.args.job) c.args.self.now.running.items ≡ Some c.in-Some.run'.now = sym (c.in-Some.ensures {u = tt}) in
     let still : has_closed c.args.self.now.sessions.items c.in-Some.run'.now.message.from ≡ false = sym c.has_closed.ensures ∙ c.if-has_closed.false in
     finish_of_open stands c.args.job c.args.outcome.now c.in-Some.run'.now found still
     ∙ ap (λ refusal. unless refusal answers.Finished) (ap (reply_refusal c.args.here.now.space c.in-Some.run'.now.message.from (state_of c.args.self.now)) (sym c.value_of-value.ensures) ∙ (c.in-Err.ensures {u = tt}))
 
 pub unreachable-requires-in-Err-Fault : goal.unreachable-requires-in-Err-Fault
 unreachable-requires-in-Err-Fault c =
-    let found : find (is_run c.args.job) c.args.self.now.running.items ≡ Some c.in-Some.run'.now = subst (λ (runs : List Run). find (is_run c.args.job) runs ≡ Some c.in-Some.run'.now) c.as_slice.ensures.value (sym (c.in-Some.ensures {u = tt})) in
+    let found : find (is_run c.args.job) c.args.self.now.running.items ≡ Some c.in-Some.run'.now = sym (c.in-Some.ensures {u = tt}) in
     let sound = run_sound c.requires.2 c.args.job c.args.outcome.now c.in-Some.run'.now found in
     let judged = reply_judged c.args.here.now.space c.in-Some.run'.now.message.from (state_of c.args.self.now) c.value_of-value.result.now (c.in_default-refuse_reply.ensures {u = tt}) in
     let number = runs_number c.in-Some.run'.now.message.item c.in-Call.call c.in-Call.target c.in-Call.method c.in-Call.value sound.0.number c.in-Call.is in
@@ -67,31 +66,31 @@ unreachable-requires-in-Err-Fault c =
 
 pub returns-in-Err-OutOfMemory-clause-answer : goal.returns-in-Err-OutOfMemory-clause-answer
 returns-in-Err-OutOfMemory-clause-answer c limits D stands =
-    let found : find (is_run c.args.job) c.args.self.now.running.items ≡ Some c.in-Some.run'.now = subst (λ (runs : List Run). find (is_run c.args.job) runs ≡ Some c.in-Some.run'.now) c.as_slice.ensures.value (sym (c.in-Some.ensures {u = tt})) in
+    let found : find (is_run c.args.job) c.args.self.now.running.items ≡ Some c.in-Some.run'.now = sym (c.in-Some.ensures {u = tt}) in
     let still : has_closed c.args.self.now.sessions.items c.in-Some.run'.now.message.from ≡ false = sym c.has_closed.ensures ∙ c.if-has_closed.false in
     subst IsOk (sym (finish_wants stands c.args.job c.args.outcome.now c.in-Some.run'.now found still c.value_of-value.result.now c.value_of-value.ensures (c.in_default-refuse_reply.ensures {u = tt}))) refl
 
 pub returns-in_default-counted_refs-clause-answer : goal.returns-in_default-counted_refs-clause-answer
 returns-in_default-counted_refs-clause-answer c limits D stands =
-    let found : find (is_run c.args.job) c.args.self.now.running.items ≡ Some c.in-Some.run'.now = subst (λ (runs : List Run). find (is_run c.args.job) runs ≡ Some c.in-Some.run'.now) c.as_slice.ensures.value (sym (c.in-Some.ensures {u = tt})) in
+    let found : find (is_run c.args.job) c.args.self.now.running.items ≡ Some c.in-Some.run'.now = sym (c.in-Some.ensures {u = tt}) in
     let still : has_closed c.args.self.now.sessions.items c.in-Some.run'.now.message.from ≡ false = sym c.has_closed.ensures ∙ c.if-has_closed.false in
     subst IsOk (sym (finish_wants stands c.args.job c.args.outcome.now c.in-Some.run'.now found still c.value_of-value.result.now c.value_of-value.ensures (c.in_default-refuse_reply.ensures {u = tt}))) refl
 
 pub returns-in_default-hand-clause-answer : goal.returns-in_default-hand-clause-answer
 returns-in_default-hand-clause-answer c limits D stands =
-    let found : find (is_run c.args.job) c.args.self.now.running.items ≡ Some c.in-Some.run'.now = subst (λ (runs : List Run). find (is_run c.args.job) runs ≡ Some c.in-Some.run'.now) c.as_slice.ensures.value (sym (c.in-Some.ensures {u = tt})) in
+    let found : find (is_run c.args.job) c.args.self.now.running.items ≡ Some c.in-Some.run'.now = sym (c.in-Some.ensures {u = tt}) in
     let still : has_closed c.args.self.now.sessions.items c.in-Some.run'.now.message.from ≡ false = sym c.has_closed.ensures ∙ c.if-has_closed.false in
     subst IsOk (sym (finish_wants stands c.args.job c.args.outcome.now c.in-Some.run'.now found still c.value_of-value.result.now c.value_of-value.ensures (c.in_default-refuse_reply.ensures {u = tt}))) refl
 
 pub returns-clause-answer : goal.returns-clause-answer
 returns-clause-answer c limits D stands =
-    let found : find (is_run c.args.job) c.args.self.now.running.items ≡ Some c.in-Some.run'.now = subst (λ (runs : List Run). find (is_run c.args.job) runs ≡ Some c.in-Some.run'.now) c.as_slice.ensures.value (sym (c.in-Some.ensures {u = tt})) in
+    let found : find (is_run c.args.job) c.args.self.now.running.items ≡ Some c.in-Some.run'.now = sym (c.in-Some.ensures {u = tt}) in
     let still : has_closed c.args.self.now.sessions.items c.in-Some.run'.now.message.from ≡ false = sym c.has_closed.ensures ∙ c.if-has_closed.false in
     finish_wants stands c.args.job c.args.outcome.now c.in-Some.run'.now found still c.value_of-value.result.now c.value_of-value.ensures (c.in_default-refuse_reply.ensures {u = tt})
 
 pub index_mut-session-requires : goal.index_mut-session-requires
 index_mut-session-requires c =
-    let found : find (is_run c.args.job) c.args.self.now.running.items ≡ Some c.in-Some.run'.now = subst (λ (runs : List Run). find (is_run c.args.job) runs ≡ Some c.in-Some.run'.now) c.as_slice.ensures.value (sym (c.in-Some.ensures {u = tt})) in
+    let found : find (is_run c.args.job) c.args.self.now.running.items ≡ Some c.in-Some.run'.now = sym (c.in-Some.ensures {u = tt}) in
     let sound = run_sound c.requires.2 c.args.job c.args.outcome.now c.in-Some.run'.now found in
     let range = peer_range c.args.here.now.space c.args.here.now.n c.in-Some.run'.now.message.from sound.0.peer in
     let each = c.requires.2.ends.each in
@@ -100,7 +99,7 @@ index_mut-session-requires c =
 
 pub hand-requires-clause-next : goal.hand-requires-clause-next
 hand-requires-clause-next c =
-    let found : find (is_run c.args.job) c.args.self.now.running.items ≡ Some c.in-Some.run'.now = subst (λ (runs : List Run). find (is_run c.args.job) runs ≡ Some c.in-Some.run'.now) c.as_slice.ensures.value (sym (c.in-Some.ensures {u = tt})) in
+    let found : find (is_run c.args.job) c.args.self.now.running.items ≡ Some c.in-Some.run'.now = sym (c.in-Some.ensures {u = tt}) in
     let sound = run_sound c.requires.2 c.args.job c.args.outcome.now c.in-Some.run'.now found in
     let judged = reply_judged c.args.here.now.space c.in-Some.run'.now.message.from (state_of c.args.self.now) c.value_of-value.result.now (c.in_default-refuse_reply.ensures {u = tt}) in
     let is : c.index_mut-session.result.now ≡ get_or c.args.self.now.sessions.items (c.in-Some.run'.now.message.from - 1) c.index_mut-session.result.now = subst (λ k. c.index_mut-session.result.now ≡ get_or c.args.self.now.sessions.items (k - 1) c.index_mut-session.result.now) c.get.ensures.value c.index_mut-session.ensures.value in
@@ -109,7 +108,7 @@ hand-requires-clause-next c =
 
 pub hand-requires-clause-new : goal.hand-requires-clause-new
 hand-requires-clause-new c =
-    let found : find (is_run c.args.job) c.args.self.now.running.items ≡ Some c.in-Some.run'.now = subst (λ (runs : List Run). find (is_run c.args.job) runs ≡ Some c.in-Some.run'.now) c.as_slice.ensures.value (sym (c.in-Some.ensures {u = tt})) in
+    let found : find (is_run c.args.job) c.args.self.now.running.items ≡ Some c.in-Some.run'.now = sym (c.in-Some.ensures {u = tt}) in
     let sound = run_sound c.requires.2 c.args.job c.args.outcome.now c.in-Some.run'.now found in
     let is : c.index_mut-session.result.now ≡ get_or c.args.self.now.sessions.items (c.in-Some.run'.now.message.from - 1) c.index_mut-session.result.now = subst (λ k. c.index_mut-session.result.now ≡ get_or c.args.self.now.sessions.items (k - 1) c.index_mut-session.result.now) c.get.ensures.value c.index_mut-session.ensures.value in
     let there = end_there c.args.here.now.space c.args.here.now.n c.requires.0 c.args.self.now.sessions.items (history_of c.args.here.now.space c.args.here.now.n c.requires.1) c.in-Some.run'.now.message.from c.index_mut-session.result.now c.requires.2.ends sound.0.peer is in
@@ -117,7 +116,7 @@ hand-requires-clause-new c =
 
 pub returns-in_default-hand-clause-err : goal.returns-in_default-hand-clause-err
 returns-in_default-hand-clause-err c limits D stands =
-    let found : find (is_run c.args.job) c.args.self.now.running.items ≡ Some c.in-Some.run'.now = subst (λ (runs : List Run). find (is_run c.args.job) runs ≡ Some c.in-Some.run'.now) c.as_slice.ensures.value (sym (c.in-Some.ensures {u = tt})) in
+    let found : find (is_run c.args.job) c.args.self.now.running.items ≡ Some c.in-Some.run'.now = sym (c.in-Some.ensures {u = tt}) in
     let sound = run_sound c.requires.2 c.args.job c.args.outcome.now c.in-Some.run'.now found in
     let is : c.index_mut-session.result.now ≡ get_or c.args.self.now.sessions.items (c.in-Some.run'.now.message.from - 1) c.index_mut-session.result.now = subst (λ k. c.index_mut-session.result.now ≡ get_or c.args.self.now.sessions.items (k - 1) c.index_mut-session.result.now) c.get.ensures.value c.index_mut-session.ensures.value in
     let same = (c.in_default-hand.ensures {u = tt}).err in
@@ -134,7 +133,7 @@ returns-in_default-hand-clause-err c limits D stands =
 
 pub returns-clause-stands : goal.returns-clause-stands
 returns-clause-stands c limits D stands =
-    let found : find (is_run c.args.job) c.args.self.now.running.items ≡ Some c.in-Some.run'.now = subst (λ (runs : List Run). find (is_run c.args.job) runs ≡ Some c.in-Some.run'.now) c.as_slice.ensures.value (sym (c.in-Some.ensures {u = tt})) in
+    let found : find (is_run c.args.job) c.args.self.now.running.items ≡ Some c.in-Some.run'.now = sym (c.in-Some.ensures {u = tt}) in
     let still : has_closed c.args.self.now.sessions.items c.in-Some.run'.now.message.from ≡ false = sym c.has_closed.ensures ∙ c.if-has_closed.false in
     let is : c.index_mut-session.result.now ≡ get_or c.args.self.now.sessions.items (c.in-Some.run'.now.message.from - 1) c.index_mut-session.result.now = subst (λ k. c.index_mut-session.result.now ≡ get_or c.args.self.now.sessions.items (k - 1) c.index_mut-session.result.now) c.get.ensures.value c.index_mut-session.ensures.value in
     let sent = c.in-Ok-hand.ensures {u = tt} in
@@ -152,38 +151,38 @@ returns-clause-stands c limits D stands =
     c.in-Ok.payload.items c.status_of.result c.in-Ok-hand.field-0 c.value_of-value.result.now c.in-Ok-counted_refs.reps.items c.end_job-2.new.table c.end_job-2.new.running.items
     c.status_of.ensures c.value_of-value.ensures (c.in-Ok.ensures {u = tt}).exact sent.number
     (λ before. sent.answer c.args.here.now.space c.in-Some.run'.now.message.from limits (calls_at c.in-Some.run'.now.message.from (history_of c.args.here.now.space c.args.here.now.n D)) before)
-    (c.in-Ok-counted_refs.ensures {u = tt}) (subst (λ (reps : List WireRep). AddsPins c.args.self.now.pins.bundles c.hand.new.pins.bundles c.in-Some.run'.now.message.from (c.index_mut-session.result.now.end.handed + 1) reps) c.as_slice-2.ensures.value sent.pins)
+    (c.in-Ok-counted_refs.ensures {u = tt}) (subst (λ (reps : List WireRep). AddsPins c.args.self.now.pins.bundles c.hand.new.pins.bundles c.in-Some.run'.now.message.from (c.index_mut-session.result.now.end.handed + 1) reps) c.as_slice.ensures.value sent.pins)
     c.end_job-2.ensures.back c.end_job-2.ensures.ended)
 
 pub returns-in_default-clause-dropped : goal.returns-in_default-clause-dropped
-returns-in_default-clause-dropped c run found cut = absurd (none-some run (subst (λ (runs : List Run). None ≡ find (is_run c.args.job) runs) c.as_slice.ensures.value (c.in_default.ensures {u = tt}) ∙ found))
+returns-in_default-clause-dropped c run found cut = absurd (none-some run (c.in_default.ensures {u = tt} ∙ found))
 
 pub returns-in-Err-clause-dropped : goal.returns-in-Err-clause-dropped
 returns-in-Err-clause-dropped c run again cut =
-    let found : find (is_run c.args.job) c.args.self.now.running.items ≡ Some c.in-Some.run'.now = subst (λ (runs : List Run). find (is_run c.args.job) runs ≡ Some c.in-Some.run'.now) c.as_slice.ensures.value (sym (c.in-Some.ensures {u = tt})) in
+    let found : find (is_run c.args.job) c.args.self.now.running.items ≡ Some c.in-Some.run'.now = sym (c.in-Some.ensures {u = tt}) in
     let still : has_closed c.args.self.now.sessions.items c.in-Some.run'.now.message.from ≡ false = sym c.has_closed.ensures ∙ c.if-has_closed.false in
     absurd (still_open c.args.job c.args.self.now.running.items c.args.self.now.sessions.items c.in-Some.run'.now run found still again cut)
 
 pub returns-in-Err-OutOfMemory-clause-dropped : goal.returns-in-Err-OutOfMemory-clause-dropped
 returns-in-Err-OutOfMemory-clause-dropped c run again cut =
-    let found : find (is_run c.args.job) c.args.self.now.running.items ≡ Some c.in-Some.run'.now = subst (λ (runs : List Run). find (is_run c.args.job) runs ≡ Some c.in-Some.run'.now) c.as_slice.ensures.value (sym (c.in-Some.ensures {u = tt})) in
+    let found : find (is_run c.args.job) c.args.self.now.running.items ≡ Some c.in-Some.run'.now = sym (c.in-Some.ensures {u = tt}) in
     let still : has_closed c.args.self.now.sessions.items c.in-Some.run'.now.message.from ≡ false = sym c.has_closed.ensures ∙ c.if-has_closed.false in
     absurd (still_open c.args.job c.args.self.now.running.items c.args.self.now.sessions.items c.in-Some.run'.now run found still again cut)
 
 pub returns-in_default-counted_refs-clause-dropped : goal.returns-in_default-counted_refs-clause-dropped
 returns-in_default-counted_refs-clause-dropped c run again cut =
-    let found : find (is_run c.args.job) c.args.self.now.running.items ≡ Some c.in-Some.run'.now = subst (λ (runs : List Run). find (is_run c.args.job) runs ≡ Some c.in-Some.run'.now) c.as_slice.ensures.value (sym (c.in-Some.ensures {u = tt})) in
+    let found : find (is_run c.args.job) c.args.self.now.running.items ≡ Some c.in-Some.run'.now = sym (c.in-Some.ensures {u = tt}) in
     let still : has_closed c.args.self.now.sessions.items c.in-Some.run'.now.message.from ≡ false = sym c.has_closed.ensures ∙ c.if-has_closed.false in
     absurd (still_open c.args.job c.args.self.now.running.items c.args.self.now.sessions.items c.in-Some.run'.now run found still again cut)
 
 pub returns-in_default-hand-clause-dropped : goal.returns-in_default-hand-clause-dropped
 returns-in_default-hand-clause-dropped c run again cut =
-    let found : find (is_run c.args.job) c.args.self.now.running.items ≡ Some c.in-Some.run'.now = subst (λ (runs : List Run). find (is_run c.args.job) runs ≡ Some c.in-Some.run'.now) c.as_slice.ensures.value (sym (c.in-Some.ensures {u = tt})) in
+    let found : find (is_run c.args.job) c.args.self.now.running.items ≡ Some c.in-Some.run'.now = sym (c.in-Some.ensures {u = tt}) in
     let still : has_closed c.args.self.now.sessions.items c.in-Some.run'.now.message.from ≡ false = sym c.has_closed.ensures ∙ c.if-has_closed.false in
     absurd (still_open c.args.job c.args.self.now.running.items c.args.self.now.sessions.items c.in-Some.run'.now run found still again cut)
 
 pub returns-clause-dropped : goal.returns-clause-dropped
 returns-clause-dropped c run again cut =
-    let found : find (is_run c.args.job) c.args.self.now.running.items ≡ Some c.in-Some.run'.now = subst (λ (runs : List Run). find (is_run c.args.job) runs ≡ Some c.in-Some.run'.now) c.as_slice.ensures.value (sym (c.in-Some.ensures {u = tt})) in
+    let found : find (is_run c.args.job) c.args.self.now.running.items ≡ Some c.in-Some.run'.now = sym (c.in-Some.ensures {u = tt}) in
     let still : has_closed c.args.self.now.sessions.items c.in-Some.run'.now.message.from ≡ false = sym c.has_closed.ensures ∙ c.if-has_closed.false in
     absurd (still_open c.args.job c.args.self.now.running.items c.args.self.now.sessions.items c.in-Some.run'.now run found still again cut)
