@@ -1,12 +1,15 @@
 -- What one event makes of the state of a space.
-use Rattle.std.specs.Prelude.{◌≡◌, ℕ, Bool, true, false, List, ◌∷◌, Option, Some, None, is_some, Result, Ok, Err, IsOk}
+use Rattle.std.specs.Prelude.{◌≡◌, ⊤, ℕ, ◌<◌, ◌^◌, Bool, true, false, List, ◌∷◌, Option, Some, None, is_some, Result, Ok, Err, IsOk}
 use Rattle.nob_ids.specs.declared.limits.Limits.{Limits}
+use Rattle.nob_pickle.specs.Limits.{Fits}
 use Rattle.nob_model_types.specs.declared.answer.Answer.{Answer}
+use Rattle.nob_model_types.specs.declared.answer.Answer.TheVariants as answers
 use Rattle.nob_model_types.specs.declared.event.Event.{Event}
 use Rattle.nob_model_types.specs.declared.event.Event.TheVariants as events
 use Rattle.nob_model_types.specs.declared.refusal.Refusal.{Refusal}
 use Rattle.nob_model_words.specs.Deeds.{deed_of}
 use Rattle.nob_model_words.specs.declared.deed.Deed.{Deed}
+use Rattle.nob_model_work.specs.Gifts.{value_of}
 use Rattle.nob_model_history.specs.Histories.{history_of}
 use Rattle.nob_model.specs.Right.{right_after}
 use Rattle.nob_space_state.specs.declared.error.SpaceError.{SpaceError}
@@ -47,3 +50,9 @@ StepStands s n old new event result = (limits : Limits) (D : List Deed) → Stan
 abbrev pub IsOwn : Event → Result Answer SpaceError → Type 0
 IsOwn event (Ok answer) = is_some (deed_of event answer) ≡ true
 IsOwn event (Err error) = Unit {0}
+
+-- what an event that was answered hands on has a spelling: a Call, and the value of a reply
+abbrev pub HandsOnFitting : Event → Result Answer SpaceError → Type 0
+HandsOnFitting (events.Call target method value) (Ok answer) = (target.index < 2 ^ 64) × (method < 2 ^ 16) × Fits value
+HandsOnFitting (events.Finish job outcome) (Ok answers.Finished) = Fits (value_of outcome)
+HandsOnFitting _ _ = ⊤

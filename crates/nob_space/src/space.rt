@@ -14,7 +14,7 @@ ghost use Rattle.nob_model.specs.Next as next;
 ghost use Rattle.nob_model.specs.Right.{right};
 ghost use Rattle.nob_space_state.specs.Stands.{AnswersOrWants};
 ghost use Rattle.nob_space.specs.Spaces.{StandsFor, SameSpace, with_entry, wants_memory};
-ghost use Rattle.nob_space.specs.Steps.{AnswersRight};
+ghost use Rattle.nob_space.specs.Steps.{AnswersRight, HandsOnFitting};
 ghost use Rattle.nob_space.specs.Twice.{first_of};
 
 use crate::steps;
@@ -154,6 +154,8 @@ impl Space {
         ensures answer { (L : List Entry) → StandsFor self.old L → AnswersRight event.now result (right self.old.id self.old.n self.old.limits L event.now) }
         ensures stands { (L : List Entry) → StandsFor self.old L → StandsFor self.new (with_entry self.old.id event.now result L) }
         ensures err { OnErr result ((L : List Entry) → StandsFor self.old L → StandsFor self.new L) }
+        // What is handed on has a spelling.
+        ensures fits { HandsOnFitting event.now result }
         ensures same { SameSpace self.old self.new }
         ensures memory { wants_memory event.now ≡ false → result ≢ Err SpaceError.OutOfMemory }
     {
@@ -167,6 +169,7 @@ impl Space {
     pub fn step_twice(&mut self, event: &Event) -> Result<(Answer, Answer), SpaceError>
         ensures answer { (L : List Entry) → StandsFor self.old L → AnswersRight event.now (first_of result) (right self.old.id self.old.n self.old.limits L event.now) }
         ensures equal { IfOk result (λ two. two.1 ≡ two.0) }
+        ensures fits { HandsOnFitting event.now (first_of result) }
         ensures stands { (L : List Entry) → StandsFor self.old L → StandsFor self.new (with_entry self.old.id event.now (first_of result) L) }
         ensures err { OnErr result ((L : List Entry) → StandsFor self.old L → StandsFor self.new L) }
         ensures same { SameSpace self.old self.new }

@@ -6,7 +6,7 @@ ghost use Rattle.nob_space.specs.Spaces.{wants_memory};
 ghost use Rattle.nob_model_types.specs.declared.event.Event.TheVariants as events;
 ghost use Rattle.nob_space_state.specs.Parts.{state_of};
 ghost use Rattle.nob_space_state.specs.Stands.{IsState};
-ghost use Rattle.nob_space.specs.Steps.{IsOwn, StepAnswers, StepStands};
+ghost use Rattle.nob_space.specs.Steps.{HandsOnFitting, IsOwn, StepAnswers, StepStands};
 
 use nob_frame::Frame;
 use nob_ids::{CallNo, JobNo, SpaceId, WireRep};
@@ -72,6 +72,7 @@ pub(crate) fn call(
     requires { IsState here.now.space here.now.n (state_of parts.old) }
     ensures answer { StepAnswers here.now.space here.now.n (state_of parts.old) (events.Call target.now method value.now) result }
     ensures own { IsOwn (events.Call target.now method value.now) result }
+    ensures fits { HandsOnFitting (events.Call target.now method value.now) result }
     ensures stands { StepStands here.now.space here.now.n (state_of parts.old) (state_of parts.new) (events.Call target.now method value.now) result }
 {
     match parts.call(alloc, here, target, method, value) {
@@ -122,6 +123,7 @@ pub(crate) fn finish(
     requires { IsState here.now.space here.now.n (state_of parts.old) }
     ensures answer { StepAnswers here.now.space here.now.n (state_of parts.old) (events.Finish job outcome.now) result }
     ensures own { IsOwn (events.Finish job outcome.now) result }
+    ensures fits { HandsOnFitting (events.Finish job outcome.now) result }
     ensures stands { StepStands here.now.space here.now.n (state_of parts.old) (state_of parts.new) (events.Finish job outcome.now) result }
 {
     match parts.finish(alloc, here, job, outcome) {
@@ -266,6 +268,7 @@ pub(crate) fn step(
     ensures own { IsOwn event.now result }
     ensures stands { StepStands here.now.space here.now.n (state_of parts.old) (state_of parts.new) event.now result }
     ensures memory { wants_memory event.now ≡ false → result ≢ Err SpaceError.OutOfMemory }
+    ensures fits { HandsOnFitting event.now result }
 {
     match event {
         Event::Export => export(parts, here),

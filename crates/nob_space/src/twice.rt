@@ -8,7 +8,7 @@ ghost use Rattle.nob_model_history.specs.Histories.{history_of};
 ghost use Rattle.nob_model.specs.Right.{right_after};
 ghost use Rattle.nob_space_state.specs.Parts.{state_of};
 ghost use Rattle.nob_space_state.specs.Stands.{Stands, IsState};
-ghost use Rattle.nob_space.specs.Steps.{StepAnswers, StepStands};
+ghost use Rattle.nob_space.specs.Steps.{HandsOnFitting, StepAnswers, StepStands};
 ghost use Rattle.nob_space.specs.Twice.{Fits, IsComing, first_of};
 
 use crate::steps::step;
@@ -100,6 +100,7 @@ pub(crate) fn step_twice(
     requires { IsState here.now.space here.now.n (state_of parts.old) }
     ensures answer { StepAnswers here.now.space here.now.n (state_of parts.old) event.now (first_of result) }
     ensures equal { IfOk result (λ two. two.1 ≡ two.0) }
+    ensures fits { HandsOnFitting event.now (first_of result) }
     ensures stands { StepStands here.now.space here.now.n (state_of parts.old) (state_of parts.new) event.now (first_of result) }
 {
     let Ok(spare) = spare_of(parts, here, event) else {

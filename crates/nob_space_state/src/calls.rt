@@ -2,6 +2,8 @@
 
 ghost use Rattle.std.specs.Prelude.{◌≡◌, ℕ, List, ◌∷◌, Some, None, Ok, Err, OnErr, IfOk, MatchResult};
 ghost use Rattle.nob_ids.specs.declared.limits.Limits.{Limits as LimitsOf};
+ghost use Rattle.nob_item.specs.Spelling.{Fits};
+ghost use Rattle.nob_item.specs.declared.item.Item.TheVariants as items;
 ghost use Rattle.nob_model_types.specs.declared.answer.Answer.TheVariants as answers;
 ghost use Rattle.nob_model_words.specs.declared.deed.Deed.{Deed};
 ghost use Rattle.nob_model_words.specs.declared.deed.Deed.TheVariants as did;
@@ -61,6 +63,8 @@ impl Parts {
         requires { IsState here.now.space here.now.n (state_of self.old) }
         ensures answer { (limits : LimitsOf) (D : List Deed) → Stands here.now.space here.now.n limits (state_of self.old) D → AnswersOrWants (λ call. answers.Called call) result (right.right_call here.now.space here.now.n target.now value.now (history_of here.now.space here.now.n D)) }
         ensures stands { IfOk result (λ call. Did here.now.space here.now.n (state_of self.old) (state_of self.new) (did.Call target.now method value.now call)) }
+        // What is handed on has a spelling.
+        ensures fits { IfOk result (λ call. Fits (items.Call call target.now.index method value.now)) }
         ensures err { OnErr result (Keeps here.now.space here.now.n (state_of self.old) (state_of self.new)) }
     {
         if let Err(refusal) = self.refuse_call(here, target, value) {

@@ -6,6 +6,7 @@ ghost use Rattle.nob_ids.specs.declared.wire_rep.WireRep.{WireRep as WireRepOf};
 ghost use Rattle.nob_model_types.specs.declared.event.Outcome.{Outcome as OutcomeOf};
 ghost use Rattle.nob_model_words.specs.declared.deed.Deed.{Deed};
 ghost use Rattle.nob_model_work.specs.Gifts as words;
+ghost use Rattle.nob_pickle.specs.Limits.{Fits};
 ghost use Rattle.nob_pickle.specs.declared.value.Value.TheVariants as values;
 ghost use Rattle.nob_model_work.specs.declared.work.Run.{Run as RunOf};
 ghost use Rattle.nob_model_work.specs.Work.{is_run};
@@ -188,6 +189,8 @@ impl Parts {
         requires { IsState here.now.space here.now.n (state_of self.old) }
         ensures answer { (limits : LimitsOf) (D : List Deed) → Stands here.now.space here.now.n limits (state_of self.old) D → AnswersOrWants finish_answer result (right.right_finish here.now.space job outcome.now (history_of here.now.space here.now.n D)) }
         ensures stands { IfOk result (λ fate. Did here.now.space here.now.n (state_of self.old) (state_of self.new) (finish_deed job outcome.now fate)) }
+        // What is handed on has a spelling.
+        ensures fits { IfOk result (λ fate. fate ≡ ReplyFate.HandedOn → Fits (words.value_of outcome.now)) }
         // A reply is dropped without memory.
         ensures dropped { (run : RunOf) → find (is_run job) self.old.running.items ≡ Some run → has_closed self.old.sessions.items run.message.from ≡ true → result ≡ Ok ReplyFate.Dropped }
         ensures err { OnErr result (Keeps here.now.space here.now.n (state_of self.old) (state_of self.new)) }
