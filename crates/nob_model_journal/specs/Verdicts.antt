@@ -1,5 +1,5 @@
 -- What is said of a journal: that all holds that the runtime promises of all spaces together, or what fails first.
-use Rattle.std.specs.Prelude.{⊥, ℕ, List}
+use Rattle.std.specs.Prelude.{ℕ, List}
 use Rattle.nob_model_types.specs.declared.entry.Entry.{Entry}
 use Rattle.nob_model_journal.specs.declared.verdict.Promise.TheVariants as promises
 use Rattle.nob_model_journal.specs.declared.verdict.Verdict.{Verdict}
