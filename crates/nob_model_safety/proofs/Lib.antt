@@ -2,3 +2,4 @@ pub mod Lists
 pub mod Reading
 pub mod Typing
 pub mod Hands
+pub mod Giving
