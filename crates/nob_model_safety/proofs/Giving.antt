@@ -169,8 +169,8 @@ pub record AllFit (s n : ℕ) (D : List Deed) : Type 0 where
   pub in_hand : AllInHand IsWhole (work s n D)
   pub was_sent : AllByRecursion SentFits (sent (history_of s n D))
 
-call_number : (made call few : ℕ) (full : Bool) → call ≡ made + 1 → (full || nat_le last_number made) ≡ false → IsCallNumber call
-call_number made call few full is below =
+call_number : (made call : ℕ) (full : Bool) → call ≡ made + 1 → (full || nat_le last_number made) ≡ false → IsCallNumber call
+call_number made call full is below =
     let low = leb-false last_number made (or_parts full (nat_le last_number made) below).1 in
     (omega (arith, is), omega (arith, is, low))
 
@@ -179,7 +179,7 @@ pub gifts_fit : (s n : ℕ) (limits : Limits) (deed : Deed) (D : List Deed) → 
 unfolding right_after gifts_of gifts_of_finish
 gifts_fit s n limits (did.Call target method value call) D right typed whole all =
     let told = call_tells s n target value call (history_of s n D) (was_answered s n limits (did.Call target method value call) D right) in
-    ((call_number (calls_made D) call 0 _ told.0 told.5, typed.0, typed.1, sendable_fits s (history_of s n D) value typed.2 told.4), tt)
+    ((call_number (calls_made D) call _ told.0 told.5, typed.0, typed.1, sendable_fits s (history_of s n D) value typed.2 told.4), tt)
 gifts_fit s n limits (did.Finish job outcome) D right typed whole all =
     let told = finish_tells s job outcome (history_of s n D) (was_answered s n limits (did.Finish job outcome) D right) in
     let run : Run = told.0 in

@@ -3,3 +3,9 @@ pub mod Reading
 pub mod Typing
 pub mod Hands
 pub mod Giving
+pub mod Entries
+pub mod Frames
+pub mod Pairs
+pub mod Order
+pub mod Open
+pub mod Fronts

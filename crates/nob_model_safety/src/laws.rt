@@ -1,0 +1,11 @@
+//! Laws over the definitions: each is the contract of a function that does nothing.
+
+ghost use Rattle.nob_model_safety.specs.Laws.{FrontsLaw};
+
+/// In every run of a world what each space acted on from each peer is a beginning of what that peer sent it, every item
+/// once and in order, and nothing is acted on or sent after the session closed. Asked of the run: what each Call and
+/// Finish handed on is of its types.
+#[tactic(auto, using(crate::proofs::Fronts::fronts_law))]
+pub fn fronts()
+    ensures { FrontsLaw }
+{}
