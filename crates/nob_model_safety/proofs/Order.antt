@@ -51,6 +51,7 @@ use Rattle.nob_model_safety.proofs.Reading.{payload_back}
 use Rattle.nob_model_safety.proofs.Giving.{SentFits, ActsOnWhole, AllFit, fits_more, fits_none}
 use Rattle.nob_model_safety.proofs.Entries.{grows, right_deeds_at}
 use Rattle.nob_model_safety.proofs.Pairs.{are_paired}
+use Rattle.nob_model_safety.proofs.Carried.{frames_carried}
 
 -- ---- how far items come
 
@@ -210,5 +211,7 @@ pub sessions : (n : ℕ) (limits : ℕ → Limits) (J : List Entry) → WorldRun
 sessions n limits J run typed = record {
   items_spelt = λ a b. sent_fits a b n J (all_fit n limits J run typed a);
   reached = λ a b apart. reached a b n limits J apart run;
+  accepted_in_order = λ a b apart. let front = (reached a b n limits J apart run).front in (front.0, front.1 ∙ payloads_handed a n b (deeds_at a J));
   acted_in_order = in_order n limits J run typed;
+  frames_carry = frames_carried n limits J run;
 }

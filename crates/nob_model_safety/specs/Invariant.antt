@@ -1,16 +1,29 @@
 -- The invariant of all spaces of a run, one record a theme: each says what holds after every entry, of every two
 -- spaces.
-use Rattle.std.specs.Prelude.{◌≢◌, ℕ, List}
-use Rattle.std.specs.List.{AllByRecursion}
+use Rattle.std.specs.Prelude.{◌≡◌, ◌≢◌, ◌≤◌, ℕ, ◌+◌, ◌-◌, true, List, length, map, Some, slice_get}
+use Rattle.std.specs.List.{AllByRecursion, Contains}
+use Rattle.nob_frame.specs.declared.frame.Frame.{Frame}
+use Rattle.nob_frame.specs.Kinds.{is_data}
 use Rattle.nob_item.specs.Spelling.{Fits}
-use Rattle.nob_model_end.specs.Pair.{Reaches}
+use Rattle.nob_model_end.specs.End.{handed, accepted, transmitted}
+use Rattle.nob_model_end.specs.Pair.{IsBeginning, Reaches}
+use Rattle.nob_model_end.specs.declared.entry.EndEntry.{EndEntry}
 use Rattle.nob_model_types.specs.declared.entry.Entry.{Entry}
-use Rattle.nob_model_history.specs.Ends.{calls_at}
-use Rattle.nob_model_journal.specs.Journals.{history_at, sent_to}
+use Rattle.nob_model_history.specs.Ends.{payload_of, calls_at}
+use Rattle.nob_model_journal.specs.Journals.{history_at, sent_to, given}
 use Rattle.nob_model_journal.specs.Fronts.{ActsInOrder}
 
--- the sessions of every two spaces a and b, from a to b: every item that a sent has a spelling; of these b accepted a beginning, each was transmitted before, and what a heard acknowledged was accepted; and b acted on a beginning of them, in order
+-- a frame as an end gave it: it acknowledges no more than what the end accepted, and a Data frame carries the payload of its number, which was transmitted
+pub record IsCarried (calls : List EndEntry) (frame : Frame) : Type 0 where
+  pub acknowledges : frame.ack ≤ length (accepted calls) + 1
+  pub is_transmitted : is_data frame.kind ≡ true → frame.seq ≤ transmitted calls
+  pub is_numbered : is_data frame.kind ≡ true → 1 ≤ frame.seq
+  pub carries : is_data frame.kind ≡ true → slice_get (handed calls) (frame.seq - 1) ≡ Some frame.payload
+
+-- the sessions of every two spaces a and b, from a to b: every item that a sent has a spelling; of these b accepted a beginning, each was transmitted before, and what a heard acknowledged was accepted; b acted on a beginning of them, in order; and every frame that was ever given is as its sender gave it
 pub record Sessions (n : ℕ) (J : List Entry) : Type 0 where
   pub items_spelt : (a b : ℕ) → AllByRecursion Fits (sent_to n a b J)
   pub reached : (a b : ℕ) → a ≢ b → Reaches (calls_at b (history_at a n J)) (calls_at a (history_at b n J))
+  pub accepted_in_order : (a b : ℕ) → a ≢ b → IsBeginning (accepted (calls_at a (history_at b n J))) (map payload_of (sent_to n a b J))
   pub acted_in_order : (a b : ℕ) → ActsInOrder n a b J
+  pub frames_carry : (frame : Frame) → Contains (given J) frame → IsCarried (calls_at frame.to (history_at frame.from n J)) frame
