@@ -6,6 +6,7 @@ pub mod Giving
 pub mod Entries
 pub mod Frames
 pub mod Pairs
+pub mod Bools
 pub mod Carried
 pub mod Order
 pub mod Open
