@@ -34,9 +34,6 @@ word_push before (first ∷ answers) answer = word_push (word_of first) answers 
 
 -- ---- turns
 
-turns_is : (dirties answers : ℕ) (asks : Bool) (last : OwnerAnswer) → Turns
-turns_is dirties answers asks last = record { dirties = dirties; answers = answers; asks = asks; last = last }
-
 -- one Dirty more
 pub turns_dirty : (asks answers : List Bool) → turns_by (asks ++ true ∷ []) answers ≡ with_dirty (turns_by asks answers)
 turns_dirty asks answers = rw (dirties_push asks true, last_push false asks true) refl

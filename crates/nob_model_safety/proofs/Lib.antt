@@ -7,6 +7,8 @@ pub mod Entries
 pub mod Frames
 pub mod Pairs
 pub mod Bools
+pub mod Asked
+pub mod Turning
 pub mod Carried
 pub mod Order
 pub mod Open
