@@ -8,7 +8,7 @@ pub mod Frames
 pub mod Pairs
 pub mod Bools
 pub mod Asked
-pub mod Turning
+pub mod Clients
 pub mod Carried
 pub mod Order
 pub mod Open
