@@ -12,7 +12,7 @@ use Rattle.nob_model_safety.specs.Asking.{dirties_in, cleans_in, last_or, word_o
 
 -- ---- counts
 
-dirties_push : (asks : List Bool) (ask : Bool) → dirties_in (asks ++ ask ∷ []) ≡ dirties_in asks + cond ask 1 0
+pub dirties_push : (asks : List Bool) (ask : Bool) → dirties_in (asks ++ ask ∷ []) ≡ dirties_in asks + cond ask 1 0
 dirties_push asks ask =
     ap length (filter-append (λ (b : Bool). b) asks (ask ∷ []))
     ∙ length-append (filter (λ (b : Bool). b) asks) (cond ask (ask ∷ []) [])
@@ -24,11 +24,11 @@ cleans_push asks ask =
     ∙ length-append (filter not asks) (cond (not ask) (ask ∷ []) [])
     ∙ ap (λ (m : ℕ). cleans_in asks + m) (elim ask as (λ (b : Bool). length (cond (not b) (b ∷ []) []) ≡ cond b 0 1) [ true ↦ refl | false ↦ refl ])
 
-last_push : (before : Bool) (asks : List Bool) (ask : Bool) → last_or before (asks ++ ask ∷ []) ≡ ask
+pub last_push : (before : Bool) (asks : List Bool) (ask : Bool) → last_or before (asks ++ ask ∷ []) ≡ ask
 last_push before [] ask = refl
 last_push before (first ∷ asks) ask = last_push first asks ask
 
-word_push : (before : OwnerAnswer) (answers : List Bool) (answer : Bool) → last_word before (answers ++ answer ∷ []) ≡ word_of answer
+pub word_push : (before : OwnerAnswer) (answers : List Bool) (answer : Bool) → last_word before (answers ++ answer ∷ []) ≡ word_of answer
 word_push before [] answer = refl
 word_push before (first ∷ answers) answer = word_push (word_of first) answers answer
 

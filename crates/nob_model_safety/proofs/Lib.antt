@@ -9,6 +9,7 @@ pub mod Pairs
 pub mod Bools
 pub mod Asked
 pub mod Clients
+pub mod Owners
 pub mod Carried
 pub mod Order
 pub mod Open

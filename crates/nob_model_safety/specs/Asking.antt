@@ -1,7 +1,7 @@
 -- What a client asks an owner for an object, and what the owner answers, read off the items between the two. The first
 -- stands first.
 use Rattle.std.specs.Prelude.{◌≡◌, ⊤, ◌⊎◌, ℕ, ◌+◌, Bool, true, false, not, ◌==◌, List, [], ◌∷◌, length, take, filter, filter_map, Option, Some, None, if◌then◌else◌}
-use Rattle.std.specs.List.{AllByRecursion}
+use Rattle.std.specs.List.{AllByRecursion, list_any}
 use Rattle.nob_item.specs.declared.item.Item.{Item}
 use Rattle.nob_item.specs.declared.item.Item.TheVariants as items
 use Rattle.nob_model_words.specs.declared.turns.OwnerAnswer.{OwnerAnswer}
@@ -71,8 +71,23 @@ abbrev pub Alternate : Bool → List Bool → Type 0
 Alternate next [] = ⊤
 Alternate next (ask ∷ asks) = (ask ≡ next) × Alternate (not next) asks
 
+-- whether there is a DirtyNo among answers
+abbrev pub has_no : List Bool → Bool
+has_no answers = list_any not answers
+
+-- after a DirtyNo there is no DirtyOk
+abbrev pub OkFirst : List Bool → Type 0
+OkFirst [] = ⊤
+OkFirst (true ∷ answers) = OkFirst answers
+OkFirst (false ∷ answers) = AllByRecursion (λ answer. answer ≡ false) answers
+
 -- a client and an owner took turns: a Dirty, a Clean, a Dirty and so on; each Dirty but the last is answered, and the last is or waits for it; and what a Clean gave up was granted
 pub record AskedInTurn (asks answers : List Bool) : Type 0 where
   pub alternate : Alternate true asks
   pub counts : (length answers ≡ dirties_in asks) ⊎ ((length answers + 1 ≡ dirties_in asks) × (last_or false asks ≡ true))
   pub were_granted : AllByRecursion (λ answer. answer ≡ true) (take (cleans_in asks) answers)
+
+-- an owner answered what it was asked: each Dirty once, and never a DirtyOk after a DirtyNo
+pub record AnsweredInTurn (asks answers : List Bool) : Type 0 where
+  pub each : length answers ≡ dirties_in asks
+  pub ok_first : OkFirst answers
