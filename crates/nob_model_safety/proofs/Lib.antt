@@ -14,3 +14,4 @@ pub mod Carried
 pub mod Order
 pub mod Open
 pub mod Fronts
+pub mod Points

@@ -7,6 +7,9 @@ use Rattle.nob_item.specs.declared.item.Item.TheVariants as items
 use Rattle.nob_model_words.specs.declared.turns.OwnerAnswer.{OwnerAnswer}
 use Rattle.nob_model_words.specs.declared.turns.OwnerAnswer.TheVariants as said
 use Rattle.nob_model_words.specs.declared.turns.Turns.{Turns}
+use Rattle.nob_ids.specs.declared.wire_rep.WireRep.{WireRep}
+use Rattle.nob_model_types.specs.declared.entry.Entry.{Entry}
+use Rattle.nob_model_journal.specs.Journals.{sent_to, acted_from}
 
 -- what an item asks for the object of an index: true for a Dirty, false for a Clean
 abbrev pub ask_in : ℕ → Item → Option Bool
@@ -91,3 +94,19 @@ pub record AskedInTurn (asks answers : List Bool) : Type 0 where
 pub record AnsweredInTurn (asks answers : List Bool) : Type 0 where
   pub each : length answers ≡ dirties_in asks
   pub ok_first : OkFirst answers
+
+-- what client c sent to ask the owner of a reference
+abbrev pub asked : (n c : ℕ) → WireRep → List Entry → List Bool
+asked n c rep J = asks_among rep.index (sent_to n c rep.owner J)
+
+-- what client c acted on of the owner's answers
+abbrev pub heard : (c : ℕ) → WireRep → List Entry → List Bool
+heard c rep J = answers_among rep.index (items_among (acted_from rep.owner c J))
+
+-- what owner o acted on of what client c asked for an index
+abbrev pub was_asked : (o c x : ℕ) → List Entry → List Bool
+was_asked o c x J = asks_among x (items_among (acted_from c o J))
+
+-- what owner o sent to answer client c for an index
+abbrev pub gave : (n o c x : ℕ) → List Entry → List Bool
+gave n o c x J = answers_among x (sent_to n o c J)

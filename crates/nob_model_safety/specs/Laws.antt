@@ -5,7 +5,7 @@ use Rattle.nob_model_types.specs.declared.entry.Entry.{Entry}
 use Rattle.nob_model_journal.specs.Runs.{WorldRun}
 use Rattle.nob_model_journal.specs.Fronts.{Fronts}
 use Rattle.nob_model_safety.specs.Typed.{AreOfTypes}
-use Rattle.nob_model_safety.specs.Invariant.{Sessions}
+use Rattle.nob_model_safety.specs.Invariant.{Sessions, Clients, Owners}
 
 -- every run of a world keeps what is said of its sessions
 abbrev pub SessionsLaw : Type 0
@@ -14,3 +14,11 @@ SessionsLaw = (n : ℕ) (limits : ℕ → Limits) (J : List Entry) → WorldRun 
 -- every run of a world has its fronts
 abbrev pub FrontsLaw : Type 0
 FrontsLaw = (n : ℕ) (limits : ℕ → Limits) (J : List Entry) → WorldRun n limits J → AreOfTypes J → Fronts n J
+
+-- in every run of a world clients took turns with owners
+abbrev pub ClientsLaw : Type 0
+ClientsLaw = (n : ℕ) (limits : ℕ → Limits) (J : List Entry) → WorldRun n limits J → Clients n J
+
+-- in every run of a world owners answered clients in turn
+abbrev pub OwnersLaw : Type 0
+OwnersLaw = (n : ℕ) (limits : ℕ → Limits) (J : List Entry) → WorldRun n limits J → Owners n J

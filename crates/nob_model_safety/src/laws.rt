@@ -1,6 +1,6 @@
 //! Laws over the definitions: each is the contract of a function that does nothing.
 
-ghost use Rattle.nob_model_safety.specs.Laws.{FrontsLaw, SessionsLaw};
+ghost use Rattle.nob_model_safety.specs.Laws.{ClientsLaw, FrontsLaw, OwnersLaw, SessionsLaw};
 
 /// In every run of a world, of every two spaces: each item that one sent the other has a spelling; of these the other
 /// accepted a beginning and acted on a beginning, in order; and each frame that was ever given carries what its sender
@@ -16,4 +16,20 @@ pub fn sessions()
 #[tactic(auto, using(crate::proofs::Fronts::fronts_law))]
 pub fn fronts()
     ensures { FrontsLaw }
+{}
+
+/// In every run of a world client and owner took turns, for each reference: a Dirty, a Clean, a Dirty and so on, each
+/// Dirty but the last answered, and what a Clean gave up granted. The turns that a client is said to have had are what it
+/// sent the owner and acted on from it.
+#[tactic(auto, using(crate::proofs::Points::clients))]
+pub fn clients()
+    ensures { ClientsLaw }
+{}
+
+/// In every run of a world each owner answered each Dirty that it acted on once, never a DirtyOk after a DirtyNo, and
+/// DirtyNo only for an object that was withdrawn; and a client is entered for an object exactly where its last Dirty or
+/// Clean that the owner acted on is a Dirty that was answered by DirtyOk.
+#[tactic(auto, using(crate::proofs::Points::owners))]
+pub fn owners()
+    ensures { OwnersLaw }
 {}
