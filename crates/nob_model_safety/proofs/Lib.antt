@@ -14,4 +14,6 @@ pub mod Carried
 pub mod Order
 pub mod Open
 pub mod Fronts
+pub mod Holding
+pub mod Naming
 pub mod Points

@@ -68,10 +68,11 @@ pickled v e = pickled_step (ltb 16000 (length (pickle v))) (references_left (tre
 refused_none : (refusal : Refusal) → Some refusal ≡ None → ⊥
 refused_none refusal e = cc
 
-first_none : (test : Bool) (refusal : Refusal) (rest : Option Refusal) → (refuse_if test refusal or_else rest) ≡ None → test ≡ false
-first_none true refusal rest e = absurd (refused_none refusal e)
-first_none false refusal rest e = refl
+-- a test that refuses, and then the others
+pub next_none : (test : Bool) (refusal : Refusal) (rest : Option Refusal) → (refuse_if test refusal or_else rest) ≡ None → (test ≡ false) × (rest ≡ None)
+next_none true refusal rest e = absurd (refused_none refusal e)
+next_none false refusal rest e = (refl, e)
 
 -- a value that may be sent has a spelling
 pub sendable_fits : (s : ℕ) (h : History) (v : Value) → IsTyped (tree v) → value_refused s h v ≡ None → PickleFits v
-sendable_fits s h v typed e = judged_fits v typed (pickled v (first_none (is_faulty (pickle_of v)) refusals.TooBig (refs_refused s h (filter is_counted (refs_in v))) e))
+sendable_fits s h v typed e = judged_fits v typed (pickled v (next_none (is_faulty (pickle_of v)) refusals.TooBig (refs_refused s h (filter is_counted (refs_in v))) e).0)

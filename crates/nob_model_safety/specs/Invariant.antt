@@ -15,6 +15,7 @@ use Rattle.nob_model_words.specs.declared.turns.OwnerAnswer.TheVariants as said
 use Rattle.nob_model_words.specs.Objects.{is_exported, is_live}
 use Rattle.nob_model_words.specs.Turns.{turns, is_yes}
 use Rattle.nob_model_history.specs.Listing.{is_entered}
+use Rattle.nob_model_safety.specs.Naming.{NamesExported}
 use Rattle.nob_model_safety.specs.Asking.{asked, heard, was_asked, gave, turns_by, has_no, last_or, last_word, AskedInTurn, AnsweredInTurn}
 use Rattle.nob_model_journal.specs.Journals.{deeds_at, history_at, sent_to, given}
 use Rattle.nob_model_journal.specs.Fronts.{ActsInOrder}
@@ -44,3 +45,7 @@ pub record Owners (n : ℕ) (J : List Entry) : Type 0 where
   pub answered : (o c x : ℕ) → AnsweredInTurn (was_asked o c x J) (gave n o c x J)
   pub denied : (o c x : ℕ) → has_no (gave n o c x J) ≡ true → (is_exported o x (deeds_at o J) ≡ true) × (is_live o x (deeds_at o J) ≡ false)
   pub entered : (o c x : ℕ) → is_entered o x c (deeds_at o J) ≡ (last_or false (was_asked o c x J) && is_yes (last_word said.Silent (gave n o c x J)))
+
+-- all that is named in what a space sent was exported by its owner
+pub record Names (n : ℕ) (J : List Entry) : Type 0 where
+  pub exported : (a b : ℕ) → AllByRecursion (NamesExported J b) (sent_to n a b J)

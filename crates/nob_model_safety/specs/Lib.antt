@@ -3,5 +3,6 @@ pub use Rattle.nob_model_journal.specs.Runs
 pub use Rattle.nob_model_journal.specs.Fronts
 pub mod Typed
 pub mod Asking
+pub mod Naming
 pub mod Invariant
 pub mod Laws

@@ -1,6 +1,6 @@
 //! Laws over the definitions: each is the contract of a function that does nothing.
 
-ghost use Rattle.nob_model_safety.specs.Laws.{ClientsLaw, FrontsLaw, OwnersLaw, SessionsLaw};
+ghost use Rattle.nob_model_safety.specs.Laws.{ClientsLaw, FrontsLaw, NamesLaw, OwnersLaw, SessionsLaw};
 
 /// In every run of a world, of every two spaces: each item that one sent the other has a spelling; of these the other
 /// accepted a beginning and acted on a beginning, in order; and each frame that was ever given carries what its sender
@@ -32,4 +32,12 @@ pub fn clients()
 #[tactic(auto, using(crate::proofs::Points::owners))]
 pub fn owners()
     ensures { OwnersLaw }
+{}
+
+/// In every run of a world all that is named in what a space sent was exported by its owner: each counted reference that
+/// an item carries, the object that a Call calls, the agent aside, and the one that a Dirty or a Clean is about. Asked of
+/// the run: what each Call and Finish handed on is of its types.
+#[tactic(auto, using(crate::proofs::Naming::names))]
+pub fn names()
+    ensures { NamesLaw }
 {}
