@@ -1,6 +1,6 @@
 -- The journal of all spaces: what was asked of each of them and what it answered. The newest entry stands FIRST. What
 -- one space did is read off its own entries alone; what is said of several spaces is said by the words of each.
-use Rattle.std.specs.Prelude.{⊤, ℕ, Bool, ◌&&◌, not, ◌==◌, List, [], ◌∷◌, ◌++◌, map, filter, Option, Some, None}
+use Rattle.std.specs.Prelude.{⊤, ℕ, Bool, ◌&&◌, not, ◌==◌, List, [], ◌∷◌, ◌++◌, map, filter, Option, Some}
 use Rattle.nob_frame.specs.declared.frame.Frame.{Frame}
 use Rattle.nob_item.specs.declared.item.Item.{Item}
 use Rattle.nob_model_types.specs.declared.entry.Entry.{Entry}

@@ -1,12 +1,18 @@
 //! A space.
 
 ghost use Rattle.std.specs.Prelude.{◌≡◌, ◌≢◌, ◌≤◌, ◌-◌, ℕ, List, [], false, Some, Err, IfOk, OnErr, slice_get};
+ghost use Rattle.std.specs.List.{AllByRecursion};
+ghost use Rattle.nob_ids.specs.Names.{IsSpace};
+ghost use Rattle.nob_frame.specs.Spelling.{Fits};
+ghost use Rattle.nob_model_types.specs.declared.answer.Answer.TheVariants as answers;
+ghost use Rattle.nob_model_types.specs.declared.event.Event.TheVariants as events;
 ghost use Rattle.nob_model_types.specs.declared.entry.Entry.{Entry};
 ghost use Rattle.nob_model_words.specs.Deeds.{deeds};
 ghost use Rattle.nob_model_history.specs.Histories.{history};
 ghost use Rattle.nob_model_history.specs.Listing.{is_listed};
 ghost use Rattle.nob_model.specs.Next as next;
 ghost use Rattle.nob_model.specs.Right.{right};
+ghost use Rattle.nob_space_state.specs.Stands.{AnswersOrWants};
 ghost use Rattle.nob_space.specs.Spaces.{StandsFor, SameSpace, with_entry, wants_memory};
 ghost use Rattle.nob_space.specs.Steps.{AnswersRight};
 ghost use Rattle.nob_space.specs.Twice.{first_of};
@@ -14,6 +20,7 @@ ghost use Rattle.nob_space.specs.Twice.{first_of};
 use crate::steps;
 use crate::twice::step_twice;
 use crate::work::{Work, acts, sends};
+use nob_frame::Frame;
 use nob_ids::{CallNo, Limits, SpaceId};
 use nob_model::{Answer, Event, Here};
 use nob_space_items::{can_clean, can_settle};
@@ -129,6 +136,16 @@ impl Space {
             claim,
             withdraw,
         }
+    }
+
+    /// The frames that a Transmit to a peer would give now, each of which has a spelling. It is refused, or wants memory,
+    /// as Transmit. Linear in them.
+    #[tactic(auto, unfolding(nob_model::specs::Right::right_after))]
+    pub fn frames(&self, peer: SpaceId) -> Result<Vec<Frame>, SpaceError>
+        ensures answer { (L : List Entry) → StandsFor self.now L → AnswersOrWants (λ frames. answers.Frames frames.items) result (right self.now.id self.now.n self.now.limits L (events.Transmit peer)) }
+        ensures spelt { IsSpace self.now.id → IfOk result (λ frames. AllByRecursion Fits frames.items) }
+    {
+        self.parts.frames(&self.here, peer)
     }
 
     /// One event: its answer, or why the space refuses it. After a refusal, or where memory was wanted, the space is as

@@ -49,7 +49,7 @@ fn spare_of(parts: &Parts, here: &Here, event: &Event) -> Result<Spare, AllocErr
             Err(SpaceError::OutOfMemory) => Err(AllocError),
         },
         Event::Transmit(peer) => match parts.frames(here, *peer) {
-            Ok(frames) => Ok(Spare::Frames(frames)),
+            Ok(frames) => Ok(Spare::Frames(Frames::from_vec(frames))),
             Err(SpaceError::Refused(_)) => Ok(Spare::Nothing),
             Err(SpaceError::OutOfMemory) => Err(AllocError),
         },

@@ -1,6 +1,7 @@
 //! The events that are nothing but a call on the end with a peer: Transmit, Tick and Arrive.
 
 ghost use Rattle.std.specs.Prelude.{◌≡◌, ◌≢◌, ℕ, List, ◌∷◌, false, Err, OnErr, IfOk};
+ghost use Rattle.nob_ids.specs.Names.{IsSpace};
 ghost use Rattle.nob_ids.specs.declared.limits.Limits.{Limits as LimitsOf};
 ghost use Rattle.nob_model_types.specs.declared.answer.Answer.TheVariants as answers;
 ghost use Rattle.nob_model_words.specs.declared.deed.Deed.{Deed};
@@ -9,7 +10,9 @@ ghost use Rattle.nob_model_history.specs.Histories.{history_of};
 ghost use Rattle.nob_model.specs.Right as right;
 ghost use Rattle.nob_space_state.specs.Parts.{state_of};
 ghost use Rattle.nob_space_state.specs.Stands.{Stands, IsState, Keeps, Did, Answers, AnswersOrWants};
+ghost use Rattle.std.specs.List.{AllByRecursion};
 ghost use Rattle.nob_frame.specs.Kinds.{is_data};
+ghost use Rattle.nob_frame.specs.Spelling.{Fits};
 ghost use Rattle.nob_space_state.specs.Closing.{tick_answer, tick_deed, arrive_answer, arrive_deed};
 
 use crate::error::SpaceError;
@@ -36,9 +39,11 @@ impl Parts {
         }
     }
 
-    /// The frames that Transmit would give now. It is refused, or wants memory, as Transmit. Linear in them.
-    pub fn frames(&self, here: &Here, peer: SpaceId) -> Result<Frames, SpaceError>
-        ensures { (limits : LimitsOf) (D : List Deed) → Stands here.now.space here.now.n limits (state_of self.now) D → AnswersOrWants (λ frames. answers.Frames frames) result (right.right_frames here.now.space here.now.n peer limits.window (history_of here.now.space here.now.n D)) }
+    /// The frames that Transmit would give now: each has a spelling. It is refused, or wants memory, as Transmit. Linear
+    /// in them.
+    pub fn frames(&self, here: &Here, peer: SpaceId) -> Result<Vec<Frame>, SpaceError>
+        ensures spelt { IsState here.now.space here.now.n (state_of self.now) → IsSpace here.now.space → IfOk result (λ frames. AllByRecursion Fits frames.items) }
+        ensures answer { (limits : LimitsOf) (D : List Deed) → Stands here.now.space here.now.n limits (state_of self.now) D → AnswersOrWants (λ frames. answers.Frames frames.items) result (right.right_frames here.now.space here.now.n peer limits.window (history_of here.now.space here.now.n D)) }
     {
         if !here.is_peer(peer) {
             return Err(SpaceError::Refused(Refusal::NoPeer));
@@ -47,7 +52,7 @@ impl Parts {
             return Err(SpaceError::Refused(Refusal::NoPeer));
         };
         match session.frames() {
-            Ok(frames) => Ok(Frames::from_vec(frames)),
+            Ok(frames) => Ok(frames),
             Err(_) => Err(SpaceError::OutOfMemory),
         }
     }

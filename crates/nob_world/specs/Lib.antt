@@ -1,0 +1,4 @@
+pub use Rattle.nob_model_journal.specs.Journals
+pub use Rattle.nob_model_journal.specs.Runs
+pub use Rattle.nob_model_journal.specs.Fronts
+pub mod Worlds

@@ -1,0 +1,133 @@
+//! What a step needs of one space and of the frames.
+
+ghost use Rattle.std.specs.Prelude.{◌≡◌, ◌≤◌, ◌<◌, ◌+◌, ◌++◌, ◌∷◌, [], List, ℕ, Some, None, Ok, length, reverse, IfOk, OnErr, MatchOption};
+ghost use Rattle.std.specs.List.{AllByRecursion};
+ghost use Rattle.std.specs.Vec.{vec_len, vec_capacity};
+ghost use Rattle.nob_ids.specs.Names.{IsSpace};
+ghost use Rattle.nob_ids.specs.declared.limits.Limits.{Limits as LimitsOf};
+ghost use Rattle.nob_frame.specs.Spelling.{Fits};
+ghost use Rattle.nob_model_types.specs.declared.entry.Entry.{Entry as EntryOf};
+ghost use Rattle.nob_model_types.specs.declared.answer.Answer.{Answer as AnswerOf};
+ghost use Rattle.nob_model.specs.Right.{right};
+ghost use Rattle.nob_model_words.specs.Deeds.{deed_of};
+ghost use Rattle.nob_model_journal.specs.Journals.{frames_of};
+ghost use Rattle.nob_model_journal.specs.Runs as runs;
+ghost use Rattle.nob_model_journal.specs.Runs.{ArrivesGiven};
+ghost use Rattle.nob_space.specs.Spaces.{StandsFor};
+ghost use Rattle.nob_world.specs.Worlds as spec;
+
+use crate::error::WorldError;
+use nob_frame::Frame;
+use nob_ids::SpaceId;
+use nob_model::{Answer, Entry, Event, Refusal};
+use nob_session::wire;
+use nob_space::{Space, SpaceError};
+use std::alloc::{AllocError, Global};
+
+// A frame as it arrives: its bytes are written, and it is read from them alone.
+pub(crate) fn carry(alloc: Global, frame: &Frame) -> Result<Frame, AllocError>
+    requires { Fits frame.now }
+    ensures { IfOk result (λ arrived. arrived ≡ frame.now) }
+{
+    let bytes = wire::to_bytes(alloc, frame)?;
+    wire::from_bytes(alloc, bytes.as_slice())
+}
+
+// The frame of a number, counted from 1.
+pub(crate) fn frame_at(frames: &[Frame], number: u64) -> Option<&Frame>
+    ensures { (view result) ≡ runs.frame_of number frames.now }
+{
+    if number == 0 {
+        return None;
+    }
+    frames.get((number - 1) as usize)
+}
+
+// The frames that a space gives if it is asked this: none but by a Transmit.
+pub(crate) fn frames_due(
+    alloc: Global,
+    space: &Space,
+    event: &Event,
+) -> Result<Vec<Frame>, AllocError>
+    ensures frames { IfOk result (λ frames. (L : List EntryOf) (answer : AnswerOf) → StandsFor space.now L → right space.now.id space.now.n space.now.limits L event.now ≡ Ok answer → frames.items ≡ frames_of (deed_of event.now answer)) }
+    ensures spelt { IsSpace space.now.id → IfOk result (λ frames. AllByRecursion Fits frames.items) }
+{
+    let Event::Transmit(peer) = event else {
+        return Ok(Vec::new(alloc));
+    };
+    match space.frames(*peer) {
+        Ok(frames) => Ok(frames),
+        Err(SpaceError::Refused(_)) => Ok(Vec::new(alloc)),
+        Err(SpaceError::OutOfMemory) => Err(AllocError),
+    }
+}
+
+// Puts frames behind others, for which there is room. It takes no memory.
+pub(crate) fn put_frames(frames: &mut Vec<Frame>, more: Vec<Frame>)
+    requires room { vec_len frames.old + vec_len more ≤ vec_capacity frames.old }
+    ensures { frames.new.items ≡ frames.old.items ++ more.items }
+{
+    for frame in more {
+        match frames.push(frame) {
+            Ok(()) => {}
+            Err(_failed) => unreachable!(),
+        }
+    }
+}
+
+// Puts an entry behind others, for which there is room. It takes no memory.
+fn put_entry(entries: &mut Vec<Entry>, entry: Entry)
+    requires room { vec_len entries.old < vec_capacity entries.old }
+    ensures { entries.new.items ≡ entries.old.items ++ entry ∷ [] }
+{
+    match entries.push(entry) {
+        Ok(()) => {}
+        Err(_failed) => unreachable!(),
+    }
+}
+
+// What an event makes of the spaces of a world and of what is kept of them. All growth is made first.
+pub(crate) fn make(
+    alloc: Global,
+    spaces: &mut Vec<Space>,
+    entries: &mut Vec<Entry>,
+    frames: &mut Vec<Frame>,
+    space: SpaceId,
+    event: Event,
+) -> Result<Result<Answer, Refusal>, WorldError>
+    requires { space ≤ length spaces.old.items }
+    ensures entries { IfOk result (λ answer. entries.new.items ≡ entries.old.items ++ spec.entry_of space event answer ∷ []) }
+    ensures world { (n : ℕ) (limits : LimitsOf) → spec.IsWorld (spec.world_of n limits spaces.old.items entries.old.items frames.old.items) → ArrivesGiven event (reverse entries.old.items) → spec.IsWorld (spec.world_of n limits spaces.new.items entries.new.items frames.new.items) }
+    ensures err { OnErr result (entries.new.items ≡ entries.old.items) }
+{
+    entries.reserve(1)?;
+    let place = space.get() as usize - 1;
+    let more = frames_due(alloc, &spaces[place], &event)?;
+    frames.reserve(more.len())?;
+    match spaces[place].step_twice(&event) {
+        Ok((answer, copy)) => {
+            put_entry(
+                entries,
+                Entry {
+                    space,
+                    event,
+                    result: Ok(copy),
+                },
+            );
+            put_frames(frames, more);
+            Ok(Ok(answer))
+        }
+        Err(SpaceError::Refused(refusal)) => {
+            put_entry(
+                entries,
+                Entry {
+                    space,
+                    event,
+                    result: Err(refusal),
+                },
+            );
+            Ok(Err(refusal))
+        }
+        Err(SpaceError::OutOfMemory) => Err(WorldError::OutOfMemory),
+    }
+}
