@@ -17,3 +17,4 @@ pub mod Fronts
 pub mod Holding
 pub mod Naming
 pub mod Points
+pub mod Listings

@@ -13,11 +13,11 @@ use Rattle.nob_model_history.specs.Ends.{payload_of, calls_at}
 use Rattle.nob_ids.specs.declared.wire_rep.WireRep.{WireRep}
 use Rattle.nob_model_words.specs.declared.turns.OwnerAnswer.TheVariants as said
 use Rattle.nob_model_words.specs.Objects.{is_exported, is_live}
-use Rattle.nob_model_words.specs.Turns.{turns, is_yes}
-use Rattle.nob_model_history.specs.Listing.{is_entered}
+use Rattle.nob_model_words.specs.Turns.{turns, is_yes, is_granted}
+use Rattle.nob_model_history.specs.Listing.{is_entered, is_listed}
 use Rattle.nob_model_safety.specs.Naming.{NamesExported}
 use Rattle.nob_model_safety.specs.Asking.{asked, heard, was_asked, gave, turns_by, has_no, last_or, last_word, AskedInTurn, AnsweredInTurn}
-use Rattle.nob_model_journal.specs.Journals.{deeds_at, history_at, sent_to, given}
+use Rattle.nob_model_journal.specs.Journals.{deeds_at, closed_at, history_at, sent_to, given}
 use Rattle.nob_model_journal.specs.Fronts.{ActsInOrder}
 
 -- a frame as an end gave it: it acknowledges no more than what the end accepted, and a Data frame carries the payload of its number, which was transmitted
@@ -49,3 +49,7 @@ pub record Owners (n : ℕ) (J : List Entry) : Type 0 where
 -- all that is named in what a space sent was exported by its owner
 pub record Names (n : ℕ) (J : List Entry) : Type 0 where
   pub exported : (a b : ℕ) → AllByRecursion (NamesExported J b) (sent_to n a b J)
+
+-- a client that is granted a reference is listed for it, unless the owner has closed their session
+pub record Listings (n : ℕ) (J : List Entry) : Type 0 where
+  pub granted_listed : (c : ℕ) (rep : WireRep) → is_granted (turns c n rep (deeds_at c J)) ≡ true → closed_at rep.owner c J ≡ false → is_listed rep.owner rep.index c (deeds_at rep.owner J) ≡ true

@@ -5,7 +5,7 @@ use Rattle.nob_model_types.specs.declared.entry.Entry.{Entry}
 use Rattle.nob_model_journal.specs.Runs.{WorldRun}
 use Rattle.nob_model_journal.specs.Fronts.{Fronts}
 use Rattle.nob_model_safety.specs.Typed.{AreOfTypes}
-use Rattle.nob_model_safety.specs.Invariant.{Sessions, Clients, Owners, Names}
+use Rattle.nob_model_safety.specs.Invariant.{Sessions, Clients, Owners, Names, Listings}
 
 -- every run of a world keeps what is said of its sessions
 abbrev pub SessionsLaw : Type 0
@@ -26,3 +26,7 @@ OwnersLaw = (n : ℕ) (limits : ℕ → Limits) (J : List Entry) → WorldRun n 
 -- in every run of a world all that is named in what was sent was exported by its owner
 abbrev pub NamesLaw : Type 0
 NamesLaw = (n : ℕ) (limits : ℕ → Limits) (J : List Entry) → WorldRun n limits J → AreOfTypes J → Names n J
+
+-- in every run of a world whoever is granted a reference is listed for it, unless the owner closed their session
+abbrev pub ListingsLaw : Type 0
+ListingsLaw = (n : ℕ) (limits : ℕ → Limits) (J : List Entry) → WorldRun n limits J → AreOfTypes J → Listings n J

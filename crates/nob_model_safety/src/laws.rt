@@ -1,6 +1,6 @@
 //! Laws over the definitions: each is the contract of a function that does nothing.
 
-ghost use Rattle.nob_model_safety.specs.Laws.{ClientsLaw, FrontsLaw, NamesLaw, OwnersLaw, SessionsLaw};
+ghost use Rattle.nob_model_safety.specs.Laws.{ClientsLaw, FrontsLaw, ListingsLaw, NamesLaw, OwnersLaw, SessionsLaw};
 
 /// In every run of a world, of every two spaces: each item that one sent the other has a spelling; of these the other
 /// accepted a beginning and acted on a beginning, in order; and each frame that was ever given carries what its sender
@@ -40,4 +40,11 @@ pub fn owners()
 #[tactic(auto, using(crate::proofs::Naming::names))]
 pub fn names()
     ensures { NamesLaw }
+{}
+
+/// In every run of a world a client that is granted a reference is listed for it at its owner, unless the owner has closed
+/// their session. Asked of the run: what each Call and Finish handed on is of its types.
+#[tactic(auto, using(crate::proofs::Listings::listings))]
+pub fn listings()
+    ensures { ListingsLaw }
 {}
