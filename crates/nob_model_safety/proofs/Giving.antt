@@ -199,7 +199,7 @@ new_fit : (more : List Gift) (before : List SentItem) → AllByRecursion GiftFit
 new_fit [] before all = tt
 new_fit (gift ∷ more) before all = (all.0, new_fit more (before ++ next_item before gift ∷ []) all.1)
 
-new_whole : (s n : ℕ) (deed : Deed) (D : List Deed) → ActsOnWhole deed D → New s n IsWhole (whole_kept s n) whole_lost deed D
+new_whole : (s n : ℕ) (deed : Deed) (D : List Deed) → ActsOnWhole deed D → New s n IsWhole whole_lost deed D
 new_whole s n (did.Act p k) D whole = λ item is. whole item is
 new_whole s n deed D whole = tt
 
@@ -207,7 +207,7 @@ new_whole s n deed D whole = tt
 pub fits_more : (s n : ℕ) (limits : Limits) (deed : Deed) (D : List Deed) → IsRightDeed s n limits deed D → HandsTyped deed → ActsOnWhole deed D → AllFit s n D → AllFit s n (deed ∷ D)
 unfolding gifts
 fits_more s n limits deed D right typed whole all = record {
-  in_hand = in_hand_more s n IsWhole (whole_kept s n) whole_lost deed D (new_whole s n deed D whole) all.in_hand;
+  in_hand = in_hand_more s n IsWhole whole_lost deed D (whole_kept s n (deed ∷ D)) (new_whole s n deed D whole) all.in_hand;
   was_sent = subst (λ more. AllByRecursion SentFits more) (sym (sent_more s n deed D))
       (all_append SentFits (sent (history_of s n D)) _ all.was_sent
       (new_fit (gifts s n deed D (work s n D)) (sent (history_of s n D)) (all_filter GiftFits (λ gift. is_peer s n gift.to) (gifts_of s n deed D (work s n D)) (gifts_fit s n limits deed D right typed whole all))));

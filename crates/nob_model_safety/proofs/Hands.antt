@@ -15,10 +15,19 @@ use Rattle.nob_model_work.specs.declared.work.InHand.{InHand}
 use Rattle.nob_model_work.specs.declared.work.OwnCall.{OwnCall}
 use Rattle.nob_model_work.specs.declared.work.Run.{Run}
 use Rattle.nob_model_work.specs.Work.{wait, make_ready, make_reply, with_calls, call_after_reply, work, work_after, with_loans, run_after, without_first, is_none_of, lost_reply, is_run, is_not_reply, after_message, after_act, after_settlement, after_settle, after_claim, after_finish, after_take, after_end, after_call, after_close, without_waiting}
+use Rattle.nob_model.proofs.Waiting.{all_weaker}
 use Rattle.nob_model.proofs.Carrying.{AllInHand, all_push, all_filter, all_without, all_found, all_mapped}
 
+-- what follows from what holds of all that is in hand holds of all that is in hand
+pub hand_weaker : (P Q : Message → Type 0) → ((m : Message) → P m → Q m) → (W : InHand) → AllInHand P W → AllInHand Q W
+hand_weaker P Q step W all = record {
+  waiting = all_weaker P Q step W.waiting all.waiting;
+  ready = all_weaker P Q step W.ready all.ready;
+  running = all_weaker (λ (run : Run). P run.message) (λ (run : Run). Q run.message) (λ run its. step run.message its) W.running all.running;
+  replies = all_weaker P Q step W.replies all.replies;
+}
+
 module _ (s n : ℕ) (P : Message → Type 0)
-    (kept : (D : List Deed) (m : Message) → P m → P (message_after s n D m))
     (lost : (m : Message) (call status : ℕ) (value : Value) → m.item ≡ items.Reply call status value → P m → P (lost_reply m call)) where
   -- one ready job more, one message more that waits, one ready reply more
   hold_ready : (m : Message) (W : InHand) → P m → AllInHand P W → AllInHand P (make_ready m W)
@@ -86,15 +95,15 @@ module _ (s n : ℕ) (P : Message → Type 0)
   hold_deed (Closing p reason cause) D W new all = record { waiting = all_filter P (is_not_from p) W.waiting all.waiting; ready = all_filter P (is_not_from p) W.ready all.ready; running = all.running; replies = all.replies }
   hold_deed (_) D W new all = all
 
-  -- what no loan changes is kept by one deed more, where it holds of the message that comes
-  pub in_hand_more : (deed : Deed) (D : List Deed) → New deed D → AllInHand P (work s n D) → AllInHand P (work s n (deed ∷ D))
+  -- what the loans of a deed don't change is kept by it, where it holds of the message that comes
+  pub in_hand_more : (deed : Deed) (D : List Deed) → ((m : Message) → P m → P (message_after s n (deed ∷ D) m)) → New deed D → AllInHand P (work s n D) → AllInHand P (work s n (deed ∷ D))
   unfolding with_loans run_after
-  in_hand_more deed D new all =
+  in_hand_more deed D kept new all =
       let W : InHand = work_after s n deed D (work s n D) in
       let before : AllInHand P W = hold_deed deed D (work s n D) new all in
       record {
-        waiting = all_mapped P (λ m. message_after s n (deed ∷ D) m) (kept (deed ∷ D)) W.waiting before.waiting;
-        ready = all_mapped P (λ m. message_after s n (deed ∷ D) m) (kept (deed ∷ D)) W.ready before.ready;
-        running = all_mapped (λ (run : Run). P run.message) (λ run. run_after s n (deed ∷ D) run) (λ run its. kept (deed ∷ D) run.message its) W.running before.running;
-        replies = all_mapped P (λ m. message_after s n (deed ∷ D) m) (kept (deed ∷ D)) W.replies before.replies;
+        waiting = all_mapped P (λ m. message_after s n (deed ∷ D) m) kept W.waiting before.waiting;
+        ready = all_mapped P (λ m. message_after s n (deed ∷ D) m) kept W.ready before.ready;
+        running = all_mapped (λ (run : Run). P run.message) (λ run. run_after s n (deed ∷ D) run) (λ run its. kept run.message its) W.running before.running;
+        replies = all_mapped P (λ m. message_after s n (deed ∷ D) m) kept W.replies before.replies;
       }

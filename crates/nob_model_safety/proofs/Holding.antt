@@ -28,7 +28,7 @@ times_step P rep other rest true reps same its before some = subst P (sym (same_
 times_step P rep other rest false reps same its before some = before some
 
 -- what stands in a list at all has what each has
-times_some : (P : WireRep → Type 0) (rep : WireRep) (reps : List WireRep) → AllByRecursion P reps → 1 ≤ times rep reps → P rep
+pub times_some : (P : WireRep → Type 0) (rep : WireRep) (reps : List WireRep) → AllByRecursion P reps → 1 ≤ times rep reps → P rep
 times_some P rep [] all some = absurd (omega (arith, some))
 times_some P rep (other ∷ reps) all some = times_step P rep other 0 (is_same rep other) (filter (is_same rep) reps) refl all.0 (times_some P rep reps all.1) some
 

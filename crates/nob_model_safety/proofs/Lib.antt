@@ -16,5 +16,6 @@ pub mod Open
 pub mod Fronts
 pub mod Holding
 pub mod Naming
+pub mod Granted
 pub mod Points
 pub mod Listings

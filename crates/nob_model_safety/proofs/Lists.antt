@@ -1,5 +1,5 @@
 -- Lists: what holds of all elements, elements at a place, and beginnings.
-use Rattle.std.proofs.Common.{◌≡◌, ℕ, zero, suc, ◌+◌, ◌<◌, ◌≤◌, List, [], ◌∷◌, ◌++◌, length, map, Option, Some, None, refl, sym, ap, subst, ◌∙◌, append_assoc, arith}
+use Rattle.std.proofs.Common.{◌≡◌, Bool, true, false, cond, filter, ℕ, zero, suc, ◌+◌, ◌<◌, ◌≤◌, List, [], ◌∷◌, ◌++◌, length, map, Option, Some, None, refl, sym, ap, subst, ◌∙◌, append_assoc, arith}
 use Rattle.std.specs.List.{AllByRecursion, slice_get}
 use Rattle.std.proofs.lemmas.List.{append-nil, length-append}
 use Rattle.nob_item.specs.declared.item.Item.{Item}
@@ -28,6 +28,32 @@ all_at P (y ∷ xs) zero x all is = subst P (some_same y x is) all.0
     some_same : {X : Type 0} (x y : X) → Some x ≡ Some y → x ≡ y
     some_same x y e = cc
 all_at P (y ∷ xs) (suc k) x all is = all_at P xs k x all.1 is
+
+pub all_split : {X : Type 0} (P : X → Type 0) (xs ys : List X) → AllByRecursion P (xs ++ ys) → AllByRecursion P xs × AllByRecursion P ys
+all_split P [] ys all = (tt, all)
+all_split P (x ∷ xs) ys all = let rest = all_split P xs ys all.1 in ((all.0, rest.0), rest.1)
+
+pub all_both : {X : Type 0} (P Q R : X → Type 0) → ((x : X) → P x → Q x → R x) → (xs : List X) → AllByRecursion P xs → AllByRecursion Q xs → AllByRecursion R xs
+all_both P Q R both [] ps qs = tt
+all_both P Q R both (x ∷ xs) ps qs = (both x ps.0 qs.0, all_both P Q R both xs ps.1 qs.1)
+
+passes_if : {X : Type 0} (test : X → Bool) (b : Bool) (x : X) (xs : List X) → test x ≡ b → AllByRecursion (λ x. test x ≡ true) xs → AllByRecursion (λ x. test x ≡ true) (cond b (x ∷ xs) xs)
+passes_if test true x xs is rest = (is, rest)
+passes_if test false x xs is rest = rest
+
+-- what passes a test
+pub all_pass : {X : Type 0} (test : X → Bool) (xs : List X) → AllByRecursion (λ x. test x ≡ true) (filter test xs)
+all_pass test [] = tt
+all_pass test (x ∷ xs) = passes_if test (test x) x (filter test xs) refl (all_pass test xs)
+
+unfilter_if : {X : Type 0} (P : X → Type 0) (test : X → Bool) (b : Bool) (x : X) (xs kept : List X) → test x ≡ b → AllByRecursion P (cond b (x ∷ kept) kept) → (AllByRecursion P kept → AllByRecursion (λ x. test x ≡ true → P x) xs) → AllByRecursion (λ x. test x ≡ true → P x) (x ∷ xs)
+unfilter_if P test true x xs kept is all rest = (λ passes. all.0, rest all.1)
+unfilter_if P test false x xs kept is all rest = (λ passes. absurd (let clash : true ≡ false = sym passes ∙ is in cc), rest all)
+
+-- what holds of all that pass a test holds of each that passes it
+pub all_unfilter : {X : Type 0} (P : X → Type 0) (test : X → Bool) (xs : List X) → AllByRecursion P (filter test xs) → AllByRecursion (λ x. test x ≡ true → P x) xs
+all_unfilter P test [] all = tt
+all_unfilter P test (x ∷ xs) all = unfilter_if P test (test x) x xs (filter test xs) refl all (all_unfilter P test xs)
 
 -- ---- elements at a place
 

@@ -48,9 +48,9 @@ use Rattle.nob_model_journal.specs.Runs.{WorldRun}
 use Rattle.nob_model_safety.specs.Typed.{AreOfTypes}
 use Rattle.nob_model_safety.specs.Naming.{object_of, named_in, WasExported, NamesExported}
 use Rattle.nob_model_safety.specs.Laws.{NamesLaw}
-use Rattle.nob_model_safety.proofs.Lists.{all_append, all_at, some_same}
+use Rattle.nob_model_safety.proofs.Lists.{all_append, all_at, all_split, all_both, all_pass, all_unfilter, some_same}
 use Rattle.nob_model_safety.proofs.Typing.{next_none}
-use Rattle.nob_model_safety.proofs.Hands.{New, in_hand_more}
+use Rattle.nob_model_safety.proofs.Hands.{New, in_hand_more, hand_weaker}
 use Rattle.nob_model_safety.proofs.Entries.{grows, right_deeds_at}
 use Rattle.nob_model_safety.proofs.Owners.{any_push, exported_later}
 use Rattle.nob_model_safety.proofs.Order.{acts_on_next, all_fit}
@@ -67,41 +67,6 @@ pub record Known (n : ℕ) (J : List Entry) (s : ℕ) : Type 0 where
   pub in_hand : AllInHand (HoldsOf s (WasExported J)) (work s n (deeds_at s J))
   pub was_sent : AllByRecursion (SentExported J) (sent (history_at s n J))
   pub gained : AllByRecursion (OfCounted (WasExported J)) (gains (deeds_at s J))
-
--- ---- lists
-
-all_split : {X : Type 0} (P : X → Type 0) (xs ys : List X) → AllByRecursion P (xs ++ ys) → AllByRecursion P xs × AllByRecursion P ys
-all_split P [] ys all = (tt, all)
-all_split P (x ∷ xs) ys all = let rest = all_split P xs ys all.1 in ((all.0, rest.0), rest.1)
-
-all_both : {X : Type 0} (P Q R : X → Type 0) → ((x : X) → P x → Q x → R x) → (xs : List X) → AllByRecursion P xs → AllByRecursion Q xs → AllByRecursion R xs
-all_both P Q R both [] ps qs = tt
-all_both P Q R both (x ∷ xs) ps qs = (both x ps.0 qs.0, all_both P Q R both xs ps.1 qs.1)
-
-passes_if : {X : Type 0} (test : X → Bool) (b : Bool) (x : X) (xs : List X) → test x ≡ b → AllByRecursion (λ x. test x ≡ true) xs → AllByRecursion (λ x. test x ≡ true) (cond b (x ∷ xs) xs)
-passes_if test true x xs is rest = (is, rest)
-passes_if test false x xs is rest = rest
-
-all_pass : {X : Type 0} (test : X → Bool) (xs : List X) → AllByRecursion (λ x. test x ≡ true) (filter test xs)
-all_pass test [] = tt
-all_pass test (x ∷ xs) = passes_if test (test x) x (filter test xs) refl (all_pass test xs)
-
-unfilter_if : {X : Type 0} (P : X → Type 0) (test : X → Bool) (b : Bool) (x : X) (xs kept : List X) → test x ≡ b → AllByRecursion P (cond b (x ∷ kept) kept) → (AllByRecursion P kept → AllByRecursion (λ x. test x ≡ true → P x) xs) → AllByRecursion (λ x. test x ≡ true → P x) (x ∷ xs)
-unfilter_if P test true x xs kept is all rest = (λ passes. all.0, rest all.1)
-unfilter_if P test false x xs kept is all rest = (λ passes. absurd (let clash : true ≡ false = sym passes ∙ is in cc), rest all)
-
--- what holds of all that pass a test holds of each that passes it
-all_unfilter : {X : Type 0} (P : X → Type 0) (test : X → Bool) (xs : List X) → AllByRecursion P (filter test xs) → AllByRecursion (λ x. test x ≡ true → P x) xs
-all_unfilter P test [] all = tt
-all_unfilter P test (x ∷ xs) all = unfilter_if P test (test x) x xs (filter test xs) refl all (all_unfilter P test xs)
-
-hand_weaker : (P Q : Message → Type 0) → ((m : Message) → P m → Q m) → (W : InHand) → AllInHand P W → AllInHand Q W
-hand_weaker P Q step W all = record {
-  waiting = all_weaker P Q step W.waiting all.waiting;
-  ready = all_weaker P Q step W.ready all.ready;
-  running = all_weaker (λ (run : Run). P run.message) (λ (run : Run). Q run.message) (λ run its. step run.message its) W.running all.running;
-  replies = all_weaker P Q step W.replies all.replies;
-}
 
 -- ---- one entry more keeps it
 
@@ -296,7 +261,7 @@ message_kept J s n D m its = its
 message_lost : (J : List Entry) (s : ℕ) (m : Message) (call status : ℕ) (value : Value) → m.item ≡ items.Reply call status value → HoldsOf s (WasExported J) m → HoldsOf s (WasExported J) (lost_reply m call)
 message_lost J s m call status value is its = (tt, tt)
 
-message_new : (J : List Entry) (s n : ℕ) (deed : Deed) (D : List Deed) → ActsOnNamed J s deed D → New s n (HoldsOf s (WasExported J)) (message_kept J s n) (message_lost J s) deed D
+message_new : (J : List Entry) (s n : ℕ) (deed : Deed) (D : List Deed) → ActsOnNamed J s deed D → New s n (HoldsOf s (WasExported J)) (message_lost J s) deed D
 message_new J s n (did.Act p k) D named = λ item is. let parts = all_split (WasExported J) (object_of s item) (counted_in item) (named item is) in (parts.1, lent_named J s item parts.0)
 message_new J s n deed D named = tt
 
@@ -333,7 +298,7 @@ deed_known n limits J entry s deed right is named known =
     let all : AllByRecursion (GiftExported J) more = all_filter (GiftExported J) (λ (gift : Gift). is_peer s n gift.to) (gifts_of s n deed D (work s n D)) (gifts_known n limits J s deed right.0 named known) in
     record {
       in_hand = subst (λ (E : List Deed). AllInHand (HoldsOf s (WasExported (entry ∷ J))) (work s n E)) (sym is)
-          (hand_still s entry J (work s n (deed ∷ D)) (in_hand_more s n (HoldsOf s (WasExported J)) (message_kept J s n) (message_lost J s) deed D (message_new J s n deed D named) known.in_hand));
+          (hand_still s entry J (work s n (deed ∷ D)) (in_hand_more s n (HoldsOf s (WasExported J)) (message_lost J s) deed D (message_kept J s n (deed ∷ D)) (message_new J s n deed D named) known.in_hand));
       was_sent = subst (λ (E : List Deed). AllByRecursion (SentExported (entry ∷ J)) (sent (history_of s n E))) (sym is)
           (subst (AllByRecursion (SentExported (entry ∷ J))) (sym (sent_more s n deed D))
           (sent_still entry J (sent (history_of s n D) ++ new_items (sent (history_of s n D)) more) (all_append (SentExported J) (sent (history_of s n D)) _ known.was_sent (new_known J more (sent (history_of s n D)) all))));
