@@ -41,7 +41,7 @@ use Rattle.nob_model.proofs.Premises.{took_turns}
 use Rattle.nob_model.proofs.Orderly.{holds_law}
 use Rattle.nob_model.proofs.Carrying.{AllInHand}
 use Rattle.nob_model.proofs.Waiting.{all_weaker}
-use Rattle.nob_model_safety.proofs.Lists.{all_append, all_split, all_both}
+use Rattle.nob_model_safety.proofs.Lists.{all_append, all_split}
 use Rattle.nob_model_safety.proofs.Hands.{hand_weaker}
 use Rattle.nob_model_safety.proofs.Holding.{times_some}
 
@@ -144,7 +144,7 @@ all_joined Q f [] all = tt
 all_joined Q f (x ∷ xs) all = all_append Q (f x) (flat_map f xs) all.0 (all_joined Q f xs all.1)
 
 -- what is lent, by message
-hand_apart : (s : ℕ) (Q : WireRep → Type 0) (W : InHand) → AllByRecursion Q (lent_in s W) → AllInHand (λ m. AllByRecursion Q (loans_of s m)) W
+pub hand_apart : (s : ℕ) (Q : WireRep → Type 0) (W : InHand) → AllByRecursion Q (lent_in s W) → AllInHand (λ m. AllByRecursion Q (loans_of s m)) W
 hand_apart s Q W all =
     let one = all_split Q (flat_map (loans_of s) W.waiting) _ all in
     let two = all_split Q (flat_map (loans_of s) W.ready) _ one.1 in
@@ -161,15 +161,6 @@ hand_joined s Q W all =
     all_append Q (flat_map (loans_of s) W.waiting) _ (all_joined Q (loans_of s) W.waiting all.waiting)
     (all_append Q (flat_map (loans_of s) W.ready) _ (all_joined Q (loans_of s) W.ready all.ready)
     (all_append Q (flat_map (λ run. loans_of s run.message) W.running) _ (all_joined Q (λ (run : Run). loans_of s run.message) W.running all.running) (all_joined Q (loans_of s) W.replies all.replies)))
-
--- two things hold of all that is in hand
-hand_both : (P Q R : Message → Type 0) → ((m : Message) → P m → Q m → R m) → (W : InHand) → AllInHand P W → AllInHand Q W → AllInHand R W
-hand_both P Q R both W ps qs = record {
-  waiting = all_both P Q R both W.waiting ps.waiting qs.waiting;
-  ready = all_both P Q R both W.ready ps.ready qs.ready;
-  running = all_both (λ (run : Run). P run.message) (λ (run : Run). Q run.message) (λ (run : Run). R run.message) (λ run. both run.message) W.running ps.running qs.running;
-  replies = all_both P Q R both W.replies ps.replies qs.replies;
-}
 
 -- ---- what is lent
 
@@ -191,7 +182,7 @@ copies_if Q true copy kept is all = (λ lent. all.0, all.1)
 copies_if Q false copy kept is all = (λ lent. absurd (let clash : true ≡ false = sym (lent_is copy.loan lent) ∙ is in cc), all)
 
 -- what holds of all that copies lend, and the other way
-copies_apart : (Q : WireRep → Type 0) (copies : List RefCopy) → AllByRecursion Q (copies_lent copies) → AllByRecursion (λ (copy : RefCopy). copy.loan ≡ loans.Lent → Q copy.rep) copies
+pub copies_apart : (Q : WireRep → Type 0) (copies : List RefCopy) → AllByRecursion Q (copies_lent copies) → AllByRecursion (λ (copy : RefCopy). copy.loan ≡ loans.Lent → Q copy.rep) copies
 copies_apart Q [] all = tt
 copies_apart Q (copy ∷ copies) all = let parts = copies_if Q (is_lent copy.loan) copy (filter (λ c. is_lent c.loan) copies) refl all in (parts.0, copies_apart Q copies parts.1)
 

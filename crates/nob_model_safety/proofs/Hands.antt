@@ -16,6 +16,7 @@ use Rattle.nob_model_work.specs.declared.work.OwnCall.{OwnCall}
 use Rattle.nob_model_work.specs.declared.work.Run.{Run}
 use Rattle.nob_model_work.specs.Work.{wait, make_ready, make_reply, with_calls, call_after_reply, work, work_after, with_loans, run_after, without_first, is_none_of, lost_reply, is_run, is_not_reply, after_message, after_act, after_settlement, after_settle, after_claim, after_finish, after_take, after_end, after_call, after_close, without_waiting}
 use Rattle.nob_model.proofs.Waiting.{all_weaker}
+use Rattle.nob_model_safety.proofs.Lists.{all_both}
 use Rattle.nob_model.proofs.Carrying.{AllInHand, all_push, all_filter, all_without, all_found, all_mapped}
 
 -- what follows from what holds of all that is in hand holds of all that is in hand
@@ -25,6 +26,15 @@ hand_weaker P Q step W all = record {
   ready = all_weaker P Q step W.ready all.ready;
   running = all_weaker (λ (run : Run). P run.message) (λ (run : Run). Q run.message) (λ run its. step run.message its) W.running all.running;
   replies = all_weaker P Q step W.replies all.replies;
+}
+
+-- two things hold of all that is in hand
+pub hand_both : (P Q R : Message → Type 0) → ((m : Message) → P m → Q m → R m) → (W : InHand) → AllInHand P W → AllInHand Q W → AllInHand R W
+hand_both P Q R both W ps qs = record {
+  waiting = all_both P Q R both W.waiting ps.waiting qs.waiting;
+  ready = all_both P Q R both W.ready ps.ready qs.ready;
+  running = all_both (λ (run : Run). P run.message) (λ (run : Run). Q run.message) (λ (run : Run). R run.message) (λ run. both run.message) W.running ps.running qs.running;
+  replies = all_both P Q R both W.replies ps.replies qs.replies;
 }
 
 module _ (s n : ℕ) (P : Message → Type 0)

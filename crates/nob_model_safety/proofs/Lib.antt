@@ -17,5 +17,6 @@ pub mod Fronts
 pub mod Holding
 pub mod Naming
 pub mod Granted
+pub mod Holdings
 pub mod Points
 pub mod Listings

@@ -49,7 +49,7 @@ use Rattle.nob_model_safety.specs.Typed.{AreOfTypes}
 use Rattle.nob_model_safety.specs.Naming.{object_of, named_in, WasExported, NamesExported}
 use Rattle.nob_model_safety.specs.Laws.{NamesLaw}
 use Rattle.nob_model_safety.proofs.Lists.{all_append, all_at, all_split, all_both, all_pass, all_unfilter, some_same}
-use Rattle.nob_model_safety.proofs.Typing.{next_none}
+use Rattle.nob_model_safety.proofs.Typing.{next_none, refs_held}
 use Rattle.nob_model_safety.proofs.Hands.{New, in_hand_more, hand_weaker}
 use Rattle.nob_model_safety.proofs.Entries.{grows, right_deeds_at}
 use Rattle.nob_model_safety.proofs.Owners.{any_push, exported_later}
@@ -101,26 +101,10 @@ module _ (J : List Entry) (s n : ℕ) (known : Known n J s) where
   held_known : (rep : WireRep) → is_counted rep ≡ true → is_held s rep (history_at s n J) ≡ true → WasExported J rep
   held_known rep counted held = held_has s n (WasExported J) rep (deeds_at s J) known.gained known.in_hand counted held
 
-  ref_held : (rep : WireRep) → ref_refused s (history_at s n J) rep ≡ None → is_held s rep (history_at s n J) ≡ true
-  ref_held rep e =
-      let alive = next_none (is_own_and_not_live s rep (history_at s n J)) refusals.NoObject _ e in
-      not-false _ (next_none (not (is_held s rep (history_at s n J))) refusals.NotHeld _ alive.1).0
-
-  refs_held : (reps : List WireRep) → refs_refused s (history_at s n J) reps ≡ None → AllByRecursion (λ rep. is_held s rep (history_at s n J) ≡ true) reps
-  refs_held [] e = tt
-  refs_held (rep ∷ reps) e = let parts = either_none (ref_refused s (history_at s n J) rep) (refs_refused s (history_at s n J) reps) e in (ref_held rep parts.0, refs_held reps parts.1)
-    where
-      either_none : (a b : Option Refusal) → (a or_else b) ≡ None → (a ≡ None) × (b ≡ None)
-      either_none (Some refusal) b e = absurd (some_none refusal e)
-        where
-          some_none : (refusal : Refusal) → Some refusal ≡ None → ⊥
-          some_none refusal e = cc
-      either_none None b e = (refl, e)
-
   -- the counted references of a value that may be sent
   value_known : (value : Value) → value_refused s (history_at s n J) value ≡ None → AllByRecursion (WasExported J) (filter is_counted (refs_in value))
   value_known value e =
-      let held = refs_held (filter is_counted (refs_in value)) (next_none (is_faulty (pickle_of value)) refusals.TooBig (refs_refused s (history_at s n J) (filter is_counted (refs_in value))) e).1 in
+      let held = refs_held s (history_at s n J) (filter is_counted (refs_in value)) (next_none (is_faulty (pickle_of value)) refusals.TooBig (refs_refused s (history_at s n J) (filter is_counted (refs_in value))) e).1 in
       all_both (λ rep. is_counted rep ≡ true) (λ rep. is_held s rep (history_at s n J) ≡ true) (WasExported J) held_known (filter is_counted (refs_in value)) (all_pass is_counted (refs_in value)) held
 
 -- ---- gifts

@@ -1,5 +1,5 @@
 -- Values of the types of a program: their references have indexes of a u64, and what has a pickle has a spelling.
-use Rattle.std.proofs.Common.{◌≡◌, ℕ, ◌^◌, ◌<◌, ltb, Bool, true, false, cond, List, [], ◌∷◌, length, filter, Option, Some, None, Result, Ok, Err, refl, ◌∙◌}
+use Rattle.std.proofs.Common.{◌≡◌, ℕ, ◌^◌, ◌<◌, ltb, Bool, true, false, cond, List, [], ◌∷◌, length, filter, not, Option, Some, None, Result, Ok, Err, refl, ◌∙◌}
 use Rattle.std.specs.List.{AllByRecursion}
 use Rattle.nob_ids.specs.declared.wire_rep.WireRep.{WireRep}
 use Rattle.nob_ids.specs.Names.{is_counted}
@@ -19,7 +19,9 @@ use Rattle.nob_item.specs.declared.item.Item.TheVariants as items
 use Rattle.nob_model_types.specs.declared.refusal.Refusal.{Refusal}
 use Rattle.nob_model_types.specs.declared.refusal.Refusal.TheVariants as refusals
 use Rattle.nob_model_history.specs.declared.history.History.{History}
-use Rattle.nob_model.specs.Sending.{◌or_else◌, refuse_if, is_faulty, refs_refused, value_refused}
+use Rattle.nob_model.specs.Sending.{◌or_else◌, refuse_if, is_own_and_not_live, ref_refused, is_faulty, refs_refused, value_refused}
+use Rattle.nob_model_history.specs.Holds.{is_held}
+use Rattle.std.proofs.lemmas.Bool.{not-false}
 use Rattle.nob_model.proofs.Carrying.{all_filter}
 use Rattle.nob_model_safety.proofs.Lists.{all_append}
 
@@ -76,3 +78,15 @@ next_none false refusal rest e = (refl, e)
 -- a value that may be sent has a spelling
 pub sendable_fits : (s : ℕ) (h : History) (v : Value) → IsTyped (tree v) → value_refused s h v ≡ None → PickleFits v
 sendable_fits s h v typed e = judged_fits v typed (pickled v (next_none (is_faulty (pickle_of v)) refusals.TooBig (refs_refused s h (filter is_counted (refs_in v))) e).0)
+
+either_none : (a b : Option Refusal) → (a or_else b) ≡ None → (a ≡ None) × (b ≡ None)
+either_none (Some refusal) b e = absurd (refused_none refusal e)
+either_none None b e = (refl, e)
+
+ref_held : (s : ℕ) (h : History) (rep : WireRep) → ref_refused s h rep ≡ None → is_held s rep h ≡ true
+ref_held s h rep e = not-false _ (next_none (not (is_held s rep h)) refusals.NotHeld _ (next_none (is_own_and_not_live s rep h) refusals.NoObject _ e).1).0
+
+-- references that may be sent are held
+pub refs_held : (s : ℕ) (h : History) (reps : List WireRep) → refs_refused s h reps ≡ None → AllByRecursion (λ rep. is_held s rep h ≡ true) reps
+refs_held s h [] e = tt
+refs_held s h (rep ∷ reps) e = let parts = either_none (ref_refused s h rep) (refs_refused s h reps) e in (ref_held s h rep parts.0, refs_held s h reps parts.1)

@@ -1,6 +1,6 @@
 -- The invariant of all spaces of a run, one record a theme: each says what holds after every entry, of every two
 -- spaces.
-use Rattle.std.specs.Prelude.{◌≡◌, ◌≢◌, ◌≤◌, ℕ, ◌+◌, ◌-◌, true, false, ◌&&◌, List, length, map, Some, slice_get}
+use Rattle.std.specs.Prelude.{◌≡◌, ◌≢◌, ◌≤◌, ℕ, ◌+◌, ◌-◌, true, false, ◌&&◌, ◌||◌, List, length, map, Some, slice_get}
 use Rattle.std.specs.List.{AllByRecursion, Contains}
 use Rattle.nob_frame.specs.declared.frame.Frame.{Frame}
 use Rattle.nob_frame.specs.Kinds.{is_data}
@@ -13,7 +13,10 @@ use Rattle.nob_model_history.specs.Ends.{payload_of, calls_at}
 use Rattle.nob_ids.specs.declared.wire_rep.WireRep.{WireRep}
 use Rattle.nob_model_words.specs.declared.turns.OwnerAnswer.TheVariants as said
 use Rattle.nob_model_words.specs.Objects.{is_exported, is_live}
-use Rattle.nob_model_words.specs.Turns.{turns, is_yes, is_granted}
+use Rattle.nob_model_words.specs.Turns.{turns, is_own, is_yes, is_granted}
+use Rattle.nob_ids.specs.Names.{is_counted}
+use Rattle.nob_model_history.specs.Holds.{is_held}
+use Rattle.nob_model_history.specs.Transit.{pins}
 use Rattle.nob_model_history.specs.Listing.{is_entered, is_listed}
 use Rattle.nob_model_safety.specs.Naming.{NamesExported}
 use Rattle.nob_model_safety.specs.Asking.{asked, heard, was_asked, gave, turns_by, has_no, last_or, last_word, AskedInTurn, AnsweredInTurn}
@@ -53,3 +56,8 @@ pub record Names (n : ℕ) (J : List Entry) : Type 0 where
 -- a client that is granted a reference is listed for it, unless the owner has closed their session
 pub record Listings (n : ℕ) (J : List Entry) : Type 0 where
   pub granted_listed : (c : ℕ) (rep : WireRep) → is_granted (turns c n rep (deeds_at c J)) ≡ true → closed_at rep.owner c J ≡ false → is_listed rep.owner rep.index c (deeds_at rep.owner J) ≡ true
+
+-- what a space holds, and what has pins there, is own or granted
+pub record Holdings (n : ℕ) (J : List Entry) : Type 0 where
+  pub held_granted : (c : ℕ) (rep : WireRep) → is_counted rep ≡ true → is_held c rep (history_at c n J) ≡ true → (is_own c rep || is_granted (turns c n rep (deeds_at c J))) ≡ true
+  pub pinned_granted : (c : ℕ) (rep : WireRep) → 1 ≤ pins rep (history_at c n J) → (is_own c rep || is_granted (turns c n rep (deeds_at c J))) ≡ true

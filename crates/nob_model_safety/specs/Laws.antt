@@ -5,7 +5,7 @@ use Rattle.nob_model_types.specs.declared.entry.Entry.{Entry}
 use Rattle.nob_model_journal.specs.Runs.{WorldRun}
 use Rattle.nob_model_journal.specs.Fronts.{Fronts}
 use Rattle.nob_model_safety.specs.Typed.{AreOfTypes}
-use Rattle.nob_model_safety.specs.Invariant.{Sessions, Clients, Owners, Names, Listings}
+use Rattle.nob_model_safety.specs.Invariant.{Sessions, Clients, Owners, Names, Listings, Holdings}
 
 -- every run of a world keeps what is said of its sessions
 abbrev pub SessionsLaw : Type 0
@@ -30,3 +30,7 @@ NamesLaw = (n : ℕ) (limits : ℕ → Limits) (J : List Entry) → WorldRun n l
 -- in every run of a world whoever is granted a reference is listed for it, unless the owner closed their session
 abbrev pub ListingsLaw : Type 0
 ListingsLaw = (n : ℕ) (limits : ℕ → Limits) (J : List Entry) → WorldRun n limits J → AreOfTypes J → Listings n J
+
+-- in every run of a world what a space holds, and what has pins there, is own or granted
+abbrev pub HoldingsLaw : Type 0
+HoldingsLaw = (n : ℕ) (limits : ℕ → Limits) (J : List Entry) → WorldRun n limits J → Holdings n J

@@ -1,6 +1,6 @@
 //! Laws over the definitions: each is the contract of a function that does nothing.
 
-ghost use Rattle.nob_model_safety.specs.Laws.{ClientsLaw, FrontsLaw, ListingsLaw, NamesLaw, OwnersLaw, SessionsLaw};
+ghost use Rattle.nob_model_safety.specs.Laws.{ClientsLaw, FrontsLaw, HoldingsLaw, ListingsLaw, NamesLaw, OwnersLaw, SessionsLaw};
 
 /// In every run of a world, of every two spaces: each item that one sent the other has a spelling; of these the other
 /// accepted a beginning and acted on a beginning, in order; and each frame that was ever given carries what its sender
@@ -47,4 +47,10 @@ pub fn names()
 #[tactic(auto, using(crate::proofs::Listings::listings))]
 pub fn listings()
     ensures { ListingsLaw }
+{}
+
+/// In every run of a world what a space holds, and what has pins there, is its own or granted.
+#[tactic(auto, using(crate::proofs::Points::holdings))]
+pub fn holdings()
+    ensures { HoldingsLaw }
 {}
