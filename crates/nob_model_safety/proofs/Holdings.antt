@@ -226,7 +226,7 @@ pinned_before deed D one is =
     and_from _ _ (and_from _ _ some.0 (not_from_false _ (settled_before one.to one.number deed D (not-true _ some.1)))) (not_from_false _ (closed_before one.to deed D open_now))
 
 -- each pin of what was sent is counted
-pins_stand : (s n : ℕ) (D : List Deed) → AllByRecursion (λ one. is_pinned D one ≡ true → AllByRecursion (λ rep. 1 ≤ pins rep (history_of s n D)) (counted_in one.item)) (sent (history_of s n D))
+pub pins_stand : (s n : ℕ) (D : List Deed) → AllByRecursion (λ one. is_pinned D one ≡ true → AllByRecursion (λ rep. 1 ≤ pins rep (history_of s n D)) (counted_in one.item)) (sent (history_of s n D))
 pins_stand s n D =
     all_unfilter (λ one. AllByRecursion (λ rep. 1 ≤ pins rep (history_of s n D)) (counted_in one.item)) (is_pinned D) (sent (history_of s n D))
     (all_apart (λ rep. 1 ≤ pins rep (history_of s n D)) (λ (one : SentItem). counted_in one.item) (bundles (history_of s n D)) (all_stand (pinned (history_of s n D))))

@@ -20,3 +20,4 @@ pub mod Granted
 pub mod Holdings
 pub mod Points
 pub mod Listings
+pub mod Withdrawing

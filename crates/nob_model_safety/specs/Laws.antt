@@ -4,6 +4,7 @@ use Rattle.nob_ids.specs.declared.limits.Limits.{Limits}
 use Rattle.nob_model_types.specs.declared.entry.Entry.{Entry}
 use Rattle.nob_model_journal.specs.Runs.{WorldRun}
 use Rattle.nob_model_journal.specs.Fronts.{Fronts}
+use Rattle.nob_model_journal.specs.Safety.{SafeWithdraw}
 use Rattle.nob_model_safety.specs.Typed.{AreOfTypes}
 use Rattle.nob_model_safety.specs.Invariant.{Sessions, Clients, Owners, Names, Listings, Holdings}
 
@@ -34,3 +35,7 @@ ListingsLaw = (n : ℕ) (limits : ℕ → Limits) (J : List Entry) → WorldRun 
 -- in every run of a world what a space holds, and what has pins there, is own or granted
 abbrev pub HoldingsLaw : Type 0
 HoldingsLaw = (n : ℕ) (limits : ℕ → Limits) (J : List Entry) → WorldRun n limits J → Holdings n J
+
+-- in every run of a world no object is withdrawn while a space needs it
+abbrev pub SafeWithdrawLaw : Type 0
+SafeWithdrawLaw = (n : ℕ) (limits : ℕ → Limits) (J : List Entry) → WorldRun n limits J → AreOfTypes J → SafeWithdraw n J

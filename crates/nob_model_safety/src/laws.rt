@@ -1,6 +1,6 @@
 //! Laws over the definitions: each is the contract of a function that does nothing.
 
-ghost use Rattle.nob_model_safety.specs.Laws.{ClientsLaw, FrontsLaw, HoldingsLaw, ListingsLaw, NamesLaw, OwnersLaw, SessionsLaw};
+ghost use Rattle.nob_model_safety.specs.Laws.{ClientsLaw, FrontsLaw, HoldingsLaw, ListingsLaw, NamesLaw, OwnersLaw, SafeWithdrawLaw, SessionsLaw};
 
 /// In every run of a world, of every two spaces: each item that one sent the other has a spelling; of these the other
 /// accepted a beginning and acted on a beginning, in order; and each frame that was ever given carries what its sender
@@ -53,4 +53,12 @@ pub fn listings()
 #[tactic(auto, using(crate::proofs::Points::holdings))]
 pub fn holdings()
     ensures { HoldingsLaw }
+{}
+
+/// In every run of a world no owner withdraws an object while a space that reaches it can use it, or while a copy of its
+/// reference is on its way between spaces that reach each other and the owner. Asked of the run: what each Call and Finish
+/// handed on is of its types.
+#[tactic(auto, using(crate::proofs::Withdrawing::safe_withdraw))]
+pub fn withdraws()
+    ensures { SafeWithdrawLaw }
 {}
