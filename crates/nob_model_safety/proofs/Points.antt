@@ -1,0 +1,31 @@
+-- The points of the invariant that are read off one space's list alone.
+use Rattle.std.proofs.Common.{◌≡◌, ℕ, ◌&&◌, not, Bool, true, false, List, refl, sym, ap, ◌∙◌}
+use Rattle.std.proofs.lemmas.Bool.{and_right}
+use Rattle.nob_ids.specs.declared.wire_rep.WireRep.{WireRep}
+use Rattle.nob_model_words.specs.Objects.{is_exported}
+use Rattle.nob_model_journal.specs.Journals.{deeds_at}
+use Rattle.nob_model_safety.specs.Laws.{ClientsLaw, OwnersLaw, HoldingsLaw}
+use Rattle.nob_model_safety.proofs.Entries.{right_deeds_at}
+use Rattle.nob_model_safety.proofs.Clients.{are_turned}
+use Rattle.nob_model_safety.proofs.Owners.{are_answered}
+use Rattle.nob_model_safety.proofs.Granted.{held_owned}
+use Rattle.nob_model_safety.proofs.Holdings.{holds_owned, pinned_owned}
+
+pub clients : ClientsLaw
+clients n limits J run = record {
+  turns_are = λ c rep. (are_turned c n (limits c) rep (deeds_at c J) (right_deeds_at n limits J run c)).turns_are;
+  taken = λ c rep. (are_turned c n (limits c) rep (deeds_at c J) (right_deeds_at n limits J run c)).taken;
+}
+
+pub owners : OwnersLaw
+owners n limits J run = record {
+  answered = λ o c x. (are_answered o n (limits o) c x (deeds_at o J) (right_deeds_at n limits J run o)).in_turn;
+  denied = λ o c x no. let gone = (are_answered o n (limits o) c x (deeds_at o J) (right_deeds_at n limits J run o)).denied no in (gone.0, and_right (is_exported o x (deeds_at o J)) _ (ap not gone.1));
+  entered = λ o c x. (are_answered o n (limits o) c x (deeds_at o J) (right_deeds_at n limits J run o)).enters;
+}
+
+pub holdings : HoldingsLaw
+holdings n limits J run = record {
+  held_granted = λ c rep counted held. held_owned c n (limits c) rep (deeds_at c J) (right_deeds_at n limits J run c) (holds_owned c n (limits c) (deeds_at c J) (right_deeds_at n limits J run c)) counted held;
+  pinned_granted = λ c rep some. pinned_owned c n (limits c) rep (deeds_at c J) (right_deeds_at n limits J run c) some;
+}

@@ -1,0 +1,63 @@
+-- The invariant of all spaces of a run, one record a theme: each says what holds after every entry, of every two
+-- spaces.
+use Rattle.std.specs.Prelude.{◌≡◌, ◌≢◌, ◌≤◌, ℕ, ◌+◌, ◌-◌, true, false, ◌&&◌, ◌||◌, List, length, map, Some, slice_get}
+use Rattle.std.specs.List.{AllByRecursion, Contains}
+use Rattle.nob_frame.specs.declared.frame.Frame.{Frame}
+use Rattle.nob_frame.specs.Kinds.{is_data}
+use Rattle.nob_item.specs.Spelling.{Fits}
+use Rattle.nob_model_end.specs.End.{handed, accepted, transmitted}
+use Rattle.nob_model_end.specs.Pair.{IsBeginning, Reaches}
+use Rattle.nob_model_end.specs.declared.entry.EndEntry.{EndEntry}
+use Rattle.nob_model_types.specs.declared.entry.Entry.{Entry}
+use Rattle.nob_model_history.specs.Ends.{payload_of, calls_at}
+use Rattle.nob_ids.specs.declared.wire_rep.WireRep.{WireRep}
+use Rattle.nob_model_words.specs.declared.turns.OwnerAnswer.TheVariants as said
+use Rattle.nob_model_words.specs.Objects.{is_exported, is_live}
+use Rattle.nob_model_words.specs.Turns.{turns, is_own, is_yes, is_granted}
+use Rattle.nob_ids.specs.Names.{is_counted}
+use Rattle.nob_model_history.specs.Holds.{is_held}
+use Rattle.nob_model_history.specs.Transit.{pins}
+use Rattle.nob_model_history.specs.Listing.{is_entered, is_listed}
+use Rattle.nob_model_safety.specs.Naming.{NamesExported}
+use Rattle.nob_model_safety.specs.Asking.{asked, heard, was_asked, gave, turns_by, has_no, last_or, last_word, AskedInTurn, AnsweredInTurn}
+use Rattle.nob_model_journal.specs.Journals.{deeds_at, closed_at, history_at, sent_to, given}
+use Rattle.nob_model_journal.specs.Fronts.{ActsInOrder}
+
+-- a frame as an end gave it: it acknowledges no more than what the end accepted, and a Data frame carries the payload of its number, which was transmitted
+pub record IsCarried (calls : List EndEntry) (frame : Frame) : Type 0 where
+  pub acknowledges : frame.ack ≤ length (accepted calls) + 1
+  pub is_transmitted : is_data frame.kind ≡ true → frame.seq ≤ transmitted calls
+  pub is_numbered : is_data frame.kind ≡ true → 1 ≤ frame.seq
+  pub carries : is_data frame.kind ≡ true → slice_get (handed calls) (frame.seq - 1) ≡ Some frame.payload
+
+-- the sessions of every two spaces a and b, from a to b: every item that a sent has a spelling; of these b accepted a beginning, each was transmitted before, and what a heard acknowledged was accepted; b acted on a beginning of them, in order; and every frame that was ever given is as its sender gave it
+pub record Sessions (n : ℕ) (J : List Entry) : Type 0 where
+  pub items_spelt : (a b : ℕ) → AllByRecursion Fits (sent_to n a b J)
+  pub reached : (a b : ℕ) → a ≢ b → Reaches (calls_at b (history_at a n J)) (calls_at a (history_at b n J))
+  pub accepted_in_order : (a b : ℕ) → a ≢ b → IsBeginning (accepted (calls_at a (history_at b n J))) (map payload_of (sent_to n a b J))
+  pub acted_in_order : (a b : ℕ) → ActsInOrder n a b J
+  pub frames_carry : (frame : Frame) → Contains (given J) frame → IsCarried (calls_at frame.to (history_at frame.from n J)) frame
+
+-- every client took turns with every owner: its turns for a reference are what it asked and what it heard
+pub record Clients (n : ℕ) (J : List Entry) : Type 0 where
+  pub turns_are : (c : ℕ) (rep : WireRep) → turns c n rep (deeds_at c J) ≡ turns_by (asked n c rep J) (heard c rep J)
+  pub taken : (c : ℕ) (rep : WireRep) → AskedInTurn (asked n c rep J) (heard c rep J)
+
+-- every owner answered every client in turn: each Dirty once; a DirtyNo was of an object that was exported and isn't live any more; and a client is entered for an index exactly where it asked last by a Dirty and was answered last by DirtyOk
+pub record Owners (n : ℕ) (J : List Entry) : Type 0 where
+  pub answered : (o c x : ℕ) → AnsweredInTurn (was_asked o c x J) (gave n o c x J)
+  pub denied : (o c x : ℕ) → has_no (gave n o c x J) ≡ true → (is_exported o x (deeds_at o J) ≡ true) × (is_live o x (deeds_at o J) ≡ false)
+  pub entered : (o c x : ℕ) → is_entered o x c (deeds_at o J) ≡ (last_or false (was_asked o c x J) && is_yes (last_word said.Silent (gave n o c x J)))
+
+-- all that is named in what a space sent was exported by its owner
+pub record Names (n : ℕ) (J : List Entry) : Type 0 where
+  pub exported : (a b : ℕ) → AllByRecursion (NamesExported J b) (sent_to n a b J)
+
+-- a client that is granted a reference is listed for it, unless the owner has closed their session
+pub record Listings (n : ℕ) (J : List Entry) : Type 0 where
+  pub granted_listed : (c : ℕ) (rep : WireRep) → is_granted (turns c n rep (deeds_at c J)) ≡ true → closed_at rep.owner c J ≡ false → is_listed rep.owner rep.index c (deeds_at rep.owner J) ≡ true
+
+-- what a space holds, and what has pins there, is own or granted
+pub record Holdings (n : ℕ) (J : List Entry) : Type 0 where
+  pub held_granted : (c : ℕ) (rep : WireRep) → is_counted rep ≡ true → is_held c rep (history_at c n J) ≡ true → (is_own c rep || is_granted (turns c n rep (deeds_at c J))) ≡ true
+  pub pinned_granted : (c : ℕ) (rep : WireRep) → 1 ≤ pins rep (history_at c n J) → (is_own c rep || is_granted (turns c n rep (deeds_at c J))) ≡ true

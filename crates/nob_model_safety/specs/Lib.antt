@@ -1,0 +1,9 @@
+pub use Rattle.nob_model_journal.specs.Journals
+pub use Rattle.nob_model_journal.specs.Runs
+pub use Rattle.nob_model_journal.specs.Fronts
+pub use Rattle.nob_model_journal.specs.Safety
+pub mod Typed
+pub mod Asking
+pub mod Naming
+pub mod Invariant
+pub mod Laws
