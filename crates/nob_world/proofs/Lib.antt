@@ -1,1 +1,3 @@
 pub mod Worlds
+pub mod Typed
+pub mod Safe

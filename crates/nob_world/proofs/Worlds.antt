@@ -29,6 +29,7 @@ use Rattle.nob_model_history.specs.Ends.{calls_at}
 use Rattle.nob_model.specs.Right.{right, right_after, right_frames}
 use Rattle.nob_model_journal.specs.Journals.{at, given, frames_of}
 use Rattle.nob_model_journal.specs.Runs.{ArrivesGiven, WorldRun, frame_of}
+use Rattle.nob_model_safety.specs.Typed.{IsOfTypes, AreOfTypes}
 use Rattle.nob_table.proofs.Flat.{get_set_other}
 use Rattle.nob_space_state.proofs.Ends.{set_here}
 use Rattle.nob_space.specs.Spaces.{Owner, StandsFor, SameSpace}
@@ -126,16 +127,16 @@ module _ {n : ℕ} {limits : Limits} {spaces : List Owner} {entries : List Entry
       subst (λ j. IsWorld (world_of n limits (set spaces (j - 1) new) entries' frames')) (sym asked.number)
       (subst (λ (es : List Entry). IsWorld (world_of n limits (set spaces (p - 1) new) es frames')) (sym same_entries)
       (subst (λ (fs : List Frame). IsWorld (world_of n limits (set spaces (p - 1) new) entries fs)) (sym same_frames)
-      (record { some = asked.world.some; few = asked.world.few; spaces = spaces'; run = asked.world.run; frames = asked.world.frames; spelt = asked.world.spelt; for_spaces = asked.world.for_spaces })))
+      (record { some = asked.world.some; few = asked.world.few; spaces = spaces'; run = asked.world.run; frames = asked.world.frames; spelt = asked.world.spelt; for_spaces = asked.world.for_spaces; typed = asked.world.typed })))
 
   -- else it has one entry more
   pub world_made : (result : Result Answer Refusal) (more : List Frame) (entries' : List Entry) (frames' : List Frame)
       → ((L : List Entry) → StandsFor old L → right old.id old.n old.limits L event ≡ result)
       → ((L : List Entry) → StandsFor old L → StandsFor new (entry_of old.id event result ∷ L))
-      → more ≡ frames_of (deed_by event result) → AllByRecursion Fits more → AllByRecursion (λ frame. frame.to ≤ n) more
+      → more ≡ frames_of (deed_by event result) → AllByRecursion Fits more → AllByRecursion (λ frame. frame.to ≤ n) more → IsOfTypes (entry_of p event result)
       → entries' ≡ entries ++ entry_of p event result ∷ [] → frames' ≡ frames ++ more
       → IsWorld (world_of n limits (set spaces (k - 1) new) entries' frames')
-  world_made result more entries' frames' answered stands gives spelt for_spaces entries_is frames_is =
+  world_made result more entries' frames' answered stands gives spelt for_spaces typed entries_is frames_is =
       let J = reverse entries in
       let entry = entry_of p event result in
       let newest : entry ∷ J ≡ reverse (entries ++ entry ∷ []) = sym (reverse-append entries (entry ∷ [])) in
@@ -153,6 +154,7 @@ module _ {n : ℕ} {limits : Limits} {spaces : List Owner} {entries : List Entry
         frames = ap (λ fs. fs ++ more) asked.world.frames ∙ ap (λ fs. given J ++ fs) gives ∙ ap given newest;
         spelt = all_append Fits frames more asked.world.spelt spelt;
         for_spaces = all_append (λ frame. frame.to ≤ n) frames more asked.world.for_spaces for_spaces;
+        typed = subst AreOfTypes newest (typed, asked.world.typed);
       })))
 
   -- what was to be given by the space as it was looked at

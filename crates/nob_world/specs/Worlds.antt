@@ -12,6 +12,9 @@ use Rattle.nob_model_types.specs.declared.entry.Entry.{Entry}
 use Rattle.nob_model_types.specs.declared.entry.WorldStep.{WorldStep}
 use Rattle.nob_model_types.specs.declared.entry.WorldStep.TheVariants.{Do, Deliver}
 use Rattle.nob_model_journal.specs.Journals.{at, given}
+use Rattle.nob_model_journal.specs.Fronts.{Fronts}
+use Rattle.nob_model_journal.specs.Safety.{SafeWithdraw}
+use Rattle.nob_model_safety.specs.Typed.{AreOfTypes}
 use Rattle.nob_model_journal.specs.Runs.{WorldRun, frame_of, IsMadeBy}
 use Rattle.nob_space.specs.Spaces.{Owner, StandsFor}
 use Rattle.nob_world.specs.declared.error.WorldError.{WorldError}
@@ -45,7 +48,7 @@ pub record SpacesStand (n : ℕ) (limits : Limits) (spaces : List Owner) (J : Li
   pub each : length spaces ≡ n
   pub stand : (place : ℕ) (space : Owner) → slice_get spaces place ≡ Some space → IsSpaceOf n limits J (place + 1) space
 
--- there are 1 to 32 spaces, their entries are a run of a world, and the frames are those that were transmitted, each of which has a spelling and goes to a space
+-- there are 1 to 32 spaces, their entries are a run of a world, and the frames are those that were transmitted, each of which has a spelling and goes to a space; what was handed on is of its types
 pub record IsWorld (world : World) : Type 0 where
   pub some : 1 ≤ world.n
   pub few : world.n ≤ 32
@@ -54,6 +57,12 @@ pub record IsWorld (world : World) : Type 0 where
   pub frames : world.frames ≡ given (journal world)
   pub spelt : AllByRecursion Fits world.frames
   pub for_spaces : AllByRecursion (λ frame. frame.to ≤ world.n) world.frames
+  pub typed : AreOfTypes (journal world)
+
+-- what is proved of all that happens in a world of n spaces: what each space acted on from each peer is a gapless front of what that peer sent it, and nothing after that session's close; and no owner withdraws an object while a space on an open session can use it or its reference is in open transit
+pub record IsSafe (n : ℕ) (J : List Entry) : Type 0 where
+  pub fronts : Fronts n J
+  pub withdraws : SafeWithdraw n J
 
 -- whether an event is the arrival of a frame
 abbrev pub is_arrival : Event → Bool

@@ -65,6 +65,7 @@ impl World {
     pub fn entries(&self) -> &[Entry]
         ensures entries { result.now ≡ self.now.entries }
         ensures run { WorldRun self.now.n (λ _. self.now.limits) (reverse result.now) }
+        ensures safe { spec.IsSafe self.now.n (reverse result.now) }
     {
         self.entries.as_slice()
     }
@@ -112,6 +113,7 @@ impl World {
     /// event costs at its space, the frame's bytes, and copies of the event, the answer and the frames.
     pub fn step(&mut self, step: &WorldStep) -> Result<Result<Answer, Refusal>, WorldError>
         ensures adds { IfOk result (λ answer. spec.AddsTo step.now answer self.old.entries self.new.entries) }
+        ensures safe { spec.IsSafe self.new.n (spec.journal self.new) }
         // X1 and X2 come exactly where they are due.
         ensures fault { (fault : WorldErrorOf) → spec.step_fault self.old.n self.old.frames step.now ≡ Some fault → result ≡ Err fault }
         ensures only { IfErr result (λ error. error ≢ WorldError.OutOfMemory → spec.step_fault self.old.n self.old.frames step.now ≡ Some error) }
@@ -134,11 +136,15 @@ impl World {
     /// made stands. It costs what they cost.
     pub fn run(&mut self, steps: &[WorldStep]) -> Result<(), (usize, WorldError)>
         ensures from { (before : List WorldStepOf) → From before (spec.journal self.old) → From (reverse (spec.steps_made steps.now result) ++ before) (spec.journal self.new) }
+        // The headline: after every list of steps.
+        ensures safe { spec.IsSafe self.new.n (spec.journal self.new) }
         // It stops at a step that there is no space or no frame for, or that memory is wanted for.
         ensures stopped { IfErr result (λ stop. (step : WorldStepOf) × (slice_get steps.now stop.0 ≡ Some step) × (stop.1 ≢ WorldError.OutOfMemory → spec.step_fault self.new.n self.new.frames step ≡ Some stop.1)) }
         ensures n { self.new.n ≡ self.old.n }
         ensures limits { self.new.limits ≡ self.old.limits }
     {
+        // A look at a field shows the invariant, so that no step at all is safe too.
+        let _ = &self.n;
         for (place, step) in steps.iter().enumerate() {
             match self.step(step) {
                 Ok(_) => {}

@@ -6,8 +6,9 @@ use Rattle.nob_frame.specs.declared.frame.Frame.{Frame}
 use Rattle.nob_model.specs.Right.{right}
 use Rattle.nob_space_state.specs.declared.error.SpaceError.{SpaceError}
 use Rattle.nob_space.specs.Spaces.{StandsFor, with_entry}
-use Rattle.nob_space.specs.Steps.{AnswersRight}
+use Rattle.nob_space.specs.Steps.{AnswersRight, HandsOnFitting}
 use Rattle.nob_world.specs.Worlds.{entry_of}
+use Rattle.nob_world.proofs.Typed.{entry_typed, entry_refused}
 use Rattle.nob_world.proofs.Worlds.{Asked, world_made, world_kept, gives_of, looked_space, goes_of}
 use Rattle.nob_world.proofs.making.make.Goals as goal
 
@@ -32,6 +33,7 @@ returns-in-Ok-step_twice-clause-world c n limits world arrives =
     (gives_of asked c.in-Ok-frames_due.more.items c.in-Ok-step_twice.copy due.frames answered)
     (due.spelt (looked_space asked))
     (goes_of asked c.in-Ok-frames_due.more.items due.to)
+    (entry_typed c.args.space c.args.event c.in-Ok-step_twice.copy (subst (λ (answer : Answer). HandsOnFitting c.args.event (Ok answer)) (sym told.equal) told.fits))
     (c.put_entry.ensures ∙ ap (λ (es : List Entry). es ++ entry_of c.args.space c.args.event (Ok c.in-Ok-step_twice.copy) ∷ []) c.reserve.ensures.items)
     (c.put_frames.ensures ∙ ap (λ (fs : List Frame). fs ++ c.in-Ok-frames_due.more.items) c.reserve-2.ensures.items)
 
@@ -54,6 +56,7 @@ returns-in-Err-Refused-clause-world c n limits world arrives =
     refl
     tt
     tt
+    (entry_refused c.args.space c.args.event c.in-Err-Refused.refusal)
     (c.put_entry-in-Err-Refused.ensures ∙ ap (λ (es : List Entry). es ++ entry_of c.args.space c.args.event (Err c.in-Err-Refused.refusal) ∷ []) c.reserve.ensures.items)
     (c.reserve-2.ensures.items ∙ sym (append-nil c.args.frames.now.items))
 
