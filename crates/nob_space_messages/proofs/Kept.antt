@@ -39,6 +39,10 @@ module _ {T : Type 0} where
       let first = present (get slab k) kept.0 in
       ap (λ o. length (cons_option o (values_at slab ks))) first.1 ∙ ap suc (kept_length slab ks kept.2)
 
+  -- a place of the list is one of the keys
+  pub place_under : (slab : Slab T) (keys : List ℕ) (place : ℕ) → AreKept slab keys → place < length (values_at slab keys) → place < length keys
+  place_under slab keys place kept under = subst (λ n. place < n) (kept_length slab keys kept) under
+
   -- the key at a place has a value
   pub key_kept : (slab : Slab T) (keys : List ℕ) (place key : ℕ) → AreKept slab keys → place < length keys → key ≡ get_or keys place key → ContainsKey slab key
   key_kept slab [] place key kept under is = absurd (omega (arith, under))
@@ -54,11 +58,7 @@ module _ {T : Type 0} where
       let first = present (get slab k) kept.0 in
       item_at slab ks place key v kept.2 (omega (arith, under)) is found ∙ sym (ap (λ o. get_or (cons_option o (values_at slab ks)) (suc place) v) first.1)
 
-  -- where each key finds the same, the same stands in the list
-  pub same_values : (old new : Slab T) (keys : List ℕ) → ((key : ℕ) → get new key ≡ get old key) → values_at new keys ≡ values_at old keys
-  same_values old new [] same = refl
-  same_values old new (k ∷ ks) same = ap (λ o. cons_option o (values_at new ks)) (same k) ∙ ap (cons_option (get old k)) (same_values old new ks same)
-
+  -- where each key finds the same, they have the same values
   same_kept : (old new : Slab T) (keys : List ℕ) → ((key : ℕ) → get new key ≡ get old key) → AreKept old keys → AreKept new keys
   same_kept old new [] same kept = tt
   same_kept old new (k ∷ ks) same kept = (subst IsSome (sym (same k)) kept.0, kept.1, same_kept old new ks same kept.2)

@@ -1,26 +1,23 @@
-use Rattle.std.proofs.Common.{◌-◌, ◌<◌, length, min, refl, ◌∙◌, arith}
+use Rattle.std.proofs.Common.{◌-◌, length, min, refl, ◌∙◌, arith}
 use Rattle.slab.specs.Slab.{with_value}
 use Rattle.slab.proofs.SlabLemmas.{Updates-with_value}
-use Rattle.nob_space_messages.proofs.Kept.{kept_length, key_kept, item_at, written_len, changed_values, changed_kept}
+use Rattle.nob_space_messages.proofs.Kept.{place_under, key_kept, item_at, written_len, changed_values, changed_kept}
 use Rattle.nob_space_messages.proofs.list.SlabListIndexMutUsize.index_mut.Goals as goal
 
 pub index-key-requires : goal.index-key-requires
 index-key-requires g c =
-    let same = kept_length c.self.inside.values c.self.inside.keys.items c.self.invariant.kept in
-    let under = rw (← c.self.view_is) at c.requires in
-    omega (arith, same, under)
+    let under = place_under c.self.inside.values c.self.inside.keys.items c.args.place c.self.invariant.kept (rw (← c.self.view_is) at c.requires) in
+    omega (arith, under)
 
 pub index_mut-requires : goal.index_mut-requires
 index_mut-requires g c =
-    let same = kept_length c.self.inside.values c.self.inside.keys.items c.self.invariant.kept in
-    let under = rw (← c.self.view_is) at c.requires in
-    key_kept c.self.inside.values c.self.inside.keys.items c.args.place c.index-key.result.now c.self.invariant.kept (omega (arith, same, under)) c.index-key.ensures
+    let under = place_under c.self.inside.values c.self.inside.keys.items c.args.place c.self.invariant.kept (rw (← c.self.view_is) at c.requires) in
+    key_kept c.self.inside.values c.self.inside.keys.items c.args.place c.index-key.result.now c.self.invariant.kept under c.index-key.ensures
 
 pub invariant_of-self-lent : goal.invariant_of-self-lent
 invariant_of-self-lent g c w =
-    let same = kept_length c.self.inside.values c.self.inside.keys.items c.self.invariant.kept in
-    let under = rw (← c.self.view_is) at c.requires in
-    let there = key_kept c.self.inside.values c.self.inside.keys.items c.args.place c.index-key.result.now c.self.invariant.kept (omega (arith, same, under)) c.index-key.ensures in
+    let under = place_under c.self.inside.values c.self.inside.keys.items c.args.place c.self.invariant.kept (rw (← c.self.view_is) at c.requires) in
+    let there = key_kept c.self.inside.values c.self.inside.keys.items c.args.place c.index-key.result.now c.self.invariant.kept under c.index-key.ensures in
     let updates = Updates-with_value c.self.inside.values c.index-key.result.now w there in
     record {
       kept = changed_kept c.self.inside.values (with_value c.self.inside.values c.index-key.result.now w) c.index-key.result.now w c.self.inside.keys.items updates c.self.invariant.kept;
@@ -29,9 +26,7 @@ invariant_of-self-lent g c w =
 
 pub returns : goal.returns
 returns g c =
-    let same = kept_length c.self.inside.values c.self.inside.keys.items c.self.invariant.kept in
-    let asked = rw (← c.self.view_is) at c.requires in
-    let under : c.args.place < length c.self.inside.keys.items = omega (arith, same, asked) in
+    let under = place_under c.self.inside.values c.self.inside.keys.items c.args.place c.self.invariant.kept (rw (← c.self.view_is) at c.requires) in
     let there = key_kept c.self.inside.values c.self.inside.keys.items c.args.place c.index-key.result.now c.self.invariant.kept under c.index-key.ensures in (
       (
         refl {a = c.index_mut.result.ghost_name},
