@@ -21,3 +21,4 @@ pub mod Holdings
 pub mod Points
 pub mod Listings
 pub mod Withdrawing
+pub mod Closing
