@@ -22,3 +22,4 @@ pub mod Points
 pub mod Listings
 pub mod Withdrawing
 pub mod Closing
+pub mod Bad

@@ -101,7 +101,7 @@ pub record IsNextOf (n a b k : ℕ) (J : List Entry) : Type 0 where
 spelt_as : (payload : List ℕ) (item : Item) → payload_of item ≡ payload → Fits item → item_spelt payload ≡ Some item
 spelt_as payload item is fits = ap item_spelt (sym is) ∙ payload_back item fits
 
-self_peer : (s n : ℕ) → is_peer s n s ≡ true → ⊥
+pub self_peer : (s n : ℕ) → is_peer s n s ≡ true → ⊥
 self_peer s n e = eqb-false s s (not-true _ (and_parts _ _ (and_parts _ _ e).0).0) refl
 
 -- the front of an inbox spells the next item that its sender sent
