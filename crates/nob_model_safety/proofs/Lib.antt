@@ -23,3 +23,4 @@ pub mod Listings
 pub mod Withdrawing
 pub mod Closing
 pub mod Bad
+pub mod Places
