@@ -11,7 +11,7 @@ use Rattle.nob_frame.specs.Kinds.{is_close}
 use Rattle.nob_item.specs.declared.item.Item.{Item}
 use Rattle.nob_item.specs.declared.item.Item.TheVariants as items
 use Rattle.nob_model_end.specs.End.{is_open, accepted, transmitted, is_out, ticks}
-use Rattle.nob_model_end.specs.Right.{is_of_pair, is_accepted, right_arrive, right_tick, right_close}
+use Rattle.nob_model_end.specs.Right.{is_of_pair, is_accepted}
 use Rattle.nob_model_end.specs.declared.entry.Ending.{Ending}
 use Rattle.nob_model_end.specs.declared.entry.Arrived.{Arrived}
 use Rattle.nob_model_end.specs.declared.entry.Arrived.TheVariants as arrived
@@ -24,14 +24,14 @@ use Rattle.nob_model_types.specs.declared.answer.Answer.{Answer}
 use Rattle.nob_model_types.specs.declared.answer.Answer.TheVariants as answers
 use Rattle.nob_model_types.specs.declared.refusal.Refusal.{Refusal}
 use Rattle.nob_model_types.specs.declared.entry.Entry.{Entry}
-use Rattle.nob_model_words.specs.Sessions.{is_peer, item_spelt}
+use Rattle.nob_model_words.specs.Sessions.{is_peer}
 use Rattle.nob_model_history.specs.declared.history.History.{History}
 use Rattle.nob_model_history.specs.Ends.{calls_at}
 use Rattle.nob_model.specs.Acting.{fault_if, first_fault, fault_of, names_not_live, awaits_reply}
 use Rattle.nob_model_words.specs.Objects.{is_live}
 use Rattle.nob_model.specs.Right.{right_after}
 use Rattle.nob_model.proofs.Accepted.{ClosesFor, fault_tells, arrive_end_tells, tick_end_tells, close_tells}
-use Rattle.nob_model_journal.specs.Journals.{deeds_at, history_at}
+use Rattle.nob_model_journal.specs.Journals.{history_at}
 use Rattle.nob_model_journal.specs.Runs.{ArrivesGiven, WorldRun}
 use Rattle.nob_model_safety.specs.Typed.{AreOfTypes}
 use Rattle.nob_model_safety.specs.Invariant.{is_bad_item}

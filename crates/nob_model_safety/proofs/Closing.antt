@@ -1,11 +1,8 @@
 -- Which sessions close: a result that closes one is of Act, Arrive, Tick or Close, and none closes for a bad item.
-use Rattle.std.proofs.Common.{◌≡◌, ℕ, ◌+◌, ◌<◌, ◌≤◌, ◌&&◌, ◌||◌, not, Bool, true, false, cond, List, [], ◌∷◌, length, find, Option, Some, None, Result, Ok, Err, refl, sym, ap, subst, ◌∙◌, arith}
-use Rattle.std.specs.Prelude.{◌==◌, ◌≢◌, nat_lt, nat_le}
-use Rattle.std.specs.List.{AllByRecursion}
-use Rattle.std.proofs.lemmas.Bool.{eqb-true, le-ltb}
+use Rattle.std.proofs.Common.{◌≡◌, ℕ, ◌+◌, not, Bool, true, false, cond, List, find, Option, Some, None, Result, Ok, Err}
+use Rattle.std.specs.Prelude.{nat_le}
 use Rattle.nob_ids.specs.declared.limits.Limits.{Limits}
 use Rattle.nob_ids.specs.declared.reason.Reason.{Reason}
-use Rattle.nob_ids.specs.declared.reason.Reason.TheVariants.{PeerClosed, Asked, RetriesUsedUp, BadItem, BadReference, OutOfPlace}
 use Rattle.nob_ids.specs.declared.wire_rep.WireRep.{WireRep}
 use Rattle.nob_pickle.specs.declared.value.Value.{Value}
 use Rattle.nob_item.specs.declared.item.Item.{Item}
@@ -18,7 +15,6 @@ use Rattle.nob_model_types.specs.declared.answer.Answer.TheVariants as answers
 use Rattle.nob_model_types.specs.declared.refusal.Refusal.{Refusal}
 use Rattle.nob_model_types.specs.declared.refusal.Refusal.TheVariants as refusals
 use Rattle.nob_model_words.specs.declared.message.Message.{Message}
-use Rattle.nob_model_words.specs.Deeds.{deed_of}
 use Rattle.nob_model_words.specs.Messages.{replies_to}
 use Rattle.nob_model_work.specs.declared.work.OwnCall.{OwnCall}
 use Rattle.nob_model_work.specs.declared.work.Run.{Run}

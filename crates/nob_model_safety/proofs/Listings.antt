@@ -1,6 +1,6 @@
 -- A client that is granted a reference is listed for it: the owner acted on its last Dirty and answered it by DirtyOk, and
 -- no Clean follows.
-use Rattle.std.proofs.Common.{◌≡◌, ℕ, ◌+◌, ◌&&◌, not, Bool, true, false, List, [], ◌∷◌, ◌++◌, length, filter, filter_map, Option, Some, None, refl, sym, ap, subst, ◌∙◌, arith}
+use Rattle.std.proofs.Common.{◌≡◌, ℕ, ◌+◌, ◌&&◌, not, Bool, true, false, List, [], ◌∷◌, ◌++◌, length, filter, Option, refl, sym, ap, ◌∙◌, arith}
 use Rattle.std.proofs.lemmas.Bool.{and_parts, and_from, eqb-true}
 use Rattle.std.proofs.lemmas.List.{append-nil, length-append, nil_from_length}
 use Rattle.std.proofs.lemmas.List.Elements.{filter-append, filter_map-append}
@@ -12,9 +12,7 @@ use Rattle.nob_model_words.specs.declared.turns.OwnerAnswer.TheVariants as said
 use Rattle.nob_model_words.specs.declared.turns.Turns.{Turns}
 use Rattle.nob_model_words.specs.Turns.{turns, is_granted, is_yes}
 use Rattle.nob_model_journal.specs.Journals.{deeds_at, sent_to, acted_from}
-use Rattle.nob_model_journal.specs.Runs.{WorldRun}
 use Rattle.nob_model_journal.specs.Fronts.{numbered, ActsInOrder}
-use Rattle.nob_model_safety.specs.Typed.{AreOfTypes}
 use Rattle.nob_model_safety.specs.Asking.{ask_in, answer_in, asks_among, answers_among, items_among, dirties_in, last_or, last_word, turns_by, asked, heard, was_asked, gave}
 use Rattle.nob_model_safety.specs.Laws.{ListingsLaw}
 use Rattle.nob_model_safety.proofs.Order.{in_order}

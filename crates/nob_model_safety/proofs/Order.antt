@@ -1,6 +1,6 @@
 -- What each space acted on from each peer is a beginning of what that peer sent it, and all that is sent has a spelling.
-use Rattle.std.proofs.Common.{◌≡◌, ℕ, suc, ◌+◌, ◌<◌, ◌≤◌, ◌&&◌, not, leb, Bool, true, false, cond, List, [], ◌∷◌, ◌++◌, length, map, filter, Option, Some, None, Ok, Err, refl, sym, ap, subst, ◌∙◌, ◌⊎◌, inl, inr, arith}
-use Rattle.std.specs.Prelude.{⊤, ◌==◌, ◌≢◌, nat_le}
+use Rattle.std.proofs.Common.{◌≡◌, ℕ, ◌+◌, ◌≤◌, ◌&&◌, not, Bool, true, false, cond, List, [], ◌∷◌, ◌++◌, length, map, Option, Some, Ok, Err, refl, sym, ap, subst, ◌∙◌, inl, inr, arith}
+use Rattle.std.specs.Prelude.{◌==◌, ◌≢◌, nat_le}
 use Rattle.std.specs.List.{AllByRecursion, slice_get}
 use Rattle.std.proofs.lemmas.Bool.{eqb-true, eqb-false, leb-false, and_parts, not-true}
 use Rattle.std.proofs.lemmas.List.{append-nil, length-map, length_push}
@@ -9,17 +9,13 @@ use Rattle.nob_ids.specs.declared.limits.Limits.{Limits}
 use Rattle.nob_item.specs.Spelling.{Fits, IsItemNumber}
 use Rattle.nob_item.specs.declared.item.Item.{Item}
 use Rattle.nob_model_end.specs.End.{handed, accepted, takes, is_open, unacknowledged}
-use Rattle.nob_model_end.specs.Right as end
-use Rattle.nob_model_end.specs.Right.{right_send, right_front, last_item, is_limited, queue_limit}
+use Rattle.nob_model_end.specs.Right.{right_front, last_item, is_limited, queue_limit}
 use Rattle.nob_model_end.specs.Pair.{IsBeginning, Reaches, first_calls}
-use Rattle.nob_model_end.specs.declared.refusal.EndRefusal.{EndRefusal}
 use Rattle.nob_model_end.specs.declared.refusal.EndRefusal.TheVariants as end_refusals
-use Rattle.nob_model_end.specs.declared.entry.Kind.{Kind}
 use Rattle.nob_model_end.specs.declared.entry.EndEntry.{EndEntry}
 use Rattle.nob_model_end.specs.declared.entry.EndEntry.TheVariants as ends
 use Rattle.nob_model_end.proofs.Fronts.{accepted_law}
 use Rattle.nob_model_types.specs.declared.entry.Entry.{Entry}
-use Rattle.nob_model_words.specs.Deeds.{deed_in}
 use Rattle.nob_model_words.specs.declared.deed.Deed.{Deed}
 use Rattle.nob_model_words.specs.declared.deed.Deed.TheVariants as did
 use Rattle.nob_model_words.specs.Sessions.{is_peer, item_at, item_spelt, payload_at, acted}
@@ -171,8 +167,8 @@ all_fit n limits (entry ∷ J) run typed s =
     elim (grows s entry J) [
       | inl same ↦ subst (AllFit s n) (sym same) (before s)
       | inr more ↦
-        let right : AreRightDeeds s n (limits s) (more.0 ∷ deeds_at s J) = subst (AreRightDeeds s n (limits s)) more.3 (right_deeds_at n limits (entry ∷ J) run s) in
-        subst (AllFit s n) (sym more.3) (fits_more s n (limits s) more.0 (deeds_at s J) right.0 (typed.0 more.0 more.2) (acts_whole s n limits more.0 J run.1 before right.0) (before s))
+          let right : AreRightDeeds s n (limits s) (more.0 ∷ deeds_at s J) = subst (AreRightDeeds s n (limits s)) more.3 (right_deeds_at n limits (entry ∷ J) run s) in
+          subst (AllFit s n) (sym more.3) (fits_more s n (limits s) more.0 (deeds_at s J) right.0 (typed.0 more.0 more.2) (acts_whole s n limits more.0 J run.1 before right.0) (before s))
     ]
 
 -- ---- one entry more: order
@@ -219,8 +215,8 @@ in_order n limits (entry ∷ J) run typed a b =
     elim (grows b entry J) [
       | inl same ↦ subst (λ D. IsBeginning (acted a D) (numbered 1 (sent_to n a b J))) (sym same) before
       | inr more ↦
-        let right : AreRightDeeds b n (limits b) (more.0 ∷ deeds_at b J) = subst (AreRightDeeds b n (limits b)) more.3 (right_deeds_at n limits (entry ∷ J) run b) in
-        subst (λ D. IsBeginning (acted a D) (numbered 1 (sent_to n a b J))) (sym more.3) (deed_step n a b limits more.0 J run.1 (all_fit n limits J run.1 typed.1 a) right.0 before)
+          let right : AreRightDeeds b n (limits b) (more.0 ∷ deeds_at b J) = subst (AreRightDeeds b n (limits b)) more.3 (right_deeds_at n limits (entry ∷ J) run b) in
+          subst (λ D. IsBeginning (acted a D) (numbered 1 (sent_to n a b J))) (sym more.3) (deed_step n a b limits more.0 J run.1 (all_fit n limits J run.1 typed.1 a) right.0 before)
     ]
 
 -- ---- the sessions of a run

@@ -1,7 +1,7 @@
 -- Notes of the collector come in their place: a Dirty and a Clean are of an object that was exported, and an answer is to a
 -- Dirty that waits for it.
-use Rattle.std.proofs.Common.{◌≡◌, ℕ, ◌+◌, ◌<◌, ◌≤◌, ◌&&◌, ◌||◌, not, Bool, true, false, cond, List, [], ◌∷◌, ◌++◌, length, Option, Some, None, refl, sym, ap, subst, ◌∙◌, arith, ◌⊎◌, inl, inr}
-use Rattle.std.specs.Prelude.{◌==◌, nat_le}
+use Rattle.std.proofs.Common.{◌≡◌, ℕ, ◌+◌, ◌≤◌, not, Bool, true, false, cond, List, ◌∷◌, ◌++◌, length, Option, Some, None, refl, sym, ap, subst, ◌∙◌, arith, ◌⊎◌, inl, inr}
+use Rattle.std.specs.Prelude.{◌==◌}
 use Rattle.std.specs.List.{slice_get, cons_option}
 use Rattle.std.proofs.lemmas.Bool.{and_parts, and_from, or_from, eq-eqb, ne_eqb, leb-true, not_from_true}
 use Rattle.std.proofs.lemmas.List.{length-append}
@@ -13,13 +13,13 @@ use Rattle.nob_ids.specs.declared.wire_rep.WireRep.{WireRep}
 use Rattle.nob_item.specs.declared.item.Item.{Item}
 use Rattle.nob_item.specs.declared.item.Item.TheVariants as items
 use Rattle.nob_model_types.specs.declared.entry.Entry.{Entry}
-use Rattle.nob_model_words.specs.Objects.{exports, is_exported}
-use Rattle.nob_model_words.specs.Turns.{turns, is_pending}
+use Rattle.nob_model_words.specs.Objects.{is_exported}
+use Rattle.nob_model_words.specs.Turns.{is_pending}
 use Rattle.nob_model.specs.Acting.{fault_if, fault_of, is_unknown, awaits_answer}
 use Rattle.nob_model.proofs.Orderly.{exported}
 use Rattle.nob_model_journal.specs.Journals.{deeds_at, history_at, sent_to, acted_from}
 use Rattle.nob_model_journal.specs.Runs.{WorldRun}
-use Rattle.nob_model_journal.specs.Fronts.{numbered, ActsInOrder}
+use Rattle.nob_model_journal.specs.Fronts.{ActsInOrder}
 use Rattle.nob_model_safety.specs.Typed.{AreOfTypes}
 use Rattle.nob_model_safety.specs.Asking.{answer_in, answers_among, items_among, dirties_in, last_or, turns_by, AskedInTurn, asked, heard, was_asked, gave}
 use Rattle.nob_model_safety.specs.Naming.{NamesExported}
