@@ -1,11 +1,12 @@
 -- The payload of an item that has a spelling spells that item.
-use Rattle.std.proofs.Common.{◌≡◌, ℕ, true, List, ◌∷◌, Some, Result, Ok, Err, refl, sym, ap, ◌∙◌, arith}
+use Rattle.std.proofs.Common.{◌≡◌, ℕ, ◌+◌, ◌^◌, true, List, ◌∷◌, Some, Result, Ok, Err, refl, sym, ap, ◌∙◌, arith}
 use Rattle.std.proofs.lemmas.Bool.Decides.{nat_tests}
 use Rattle.nob_pickle.specs.Limits.{Spelt as PickleSpelt}
 use Rattle.nob_pickle.specs.Reading.{value_read}
 use Rattle.nob_pickle.specs.declared.fault.PickleFault.{PickleFault}
 use Rattle.nob_pickle.specs.declared.fault.PickleError.TheVariants as pickle_errors
 use Rattle.nob_pickle.specs.declared.value.Value.{Value}
+use Rattle.nob_pickle.specs.declared.value.Value.TheVariants as values
 use Rattle.nob_pickle.proofs.Whole.{fits_pickle, only_by}
 use Rattle.nob_item.specs.declared.item.Item.{Item}
 use Rattle.nob_item.specs.declared.item.Item.TheVariants as items
@@ -84,3 +85,9 @@ pub payload_back : (item : Item) → Fits item → item_spelt (payload_of item) 
 payload_back item fits =
     ap (λ r. item_spelt (bytes_if r)) (fits_spelt item fits)
     ∙ ap item_of (read_back item fits)
+
+-- ---- out of its types
+
+-- why a run is asked to keep to its types: two Calls with one payload, of which the second alone can be read back
+pub one_payload : payload_of (items.Call 1 0 (2 ^ 16 + 5) values.Unit) ≡ payload_of (items.Call 1 0 5 values.Unit)
+one_payload = refl
