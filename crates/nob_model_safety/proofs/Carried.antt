@@ -1,5 +1,5 @@
 -- Every frame that was given is as its sender's end gave it: what it acknowledges, its number and its payload.
-use Rattle.std.proofs.Common.{◌≡◌, ℕ, zero, suc, ◌+◌, ◌-◌, ◌≤◌, ◌&&◌, not, Bool, true, false, cond, max, List, [], ◌∷◌, ◌++◌, length, take, drop, Option, Some, None, Result, Ok, Err, refl, sym, ap, subst, ◌∙◌, append_assoc, arith}
+use Rattle.std.proofs.Common.{◌≡◌, ℕ, suc, ◌+◌, ◌-◌, ◌≤◌, ◌&&◌, not, Bool, true, false, cond, max, List, [], ◌∷◌, ◌++◌, length, take, drop, Option, Some, None, Ok, refl, sym, ap, subst, ◌∙◌, append_assoc, arith}
 use Rattle.std.specs.List.{AllByRecursion, Contains, slice_get}
 use Rattle.std.proofs.lemmas.List.{append-nil, length-take, length-drop, length_push, take-append-drop}
 use Rattle.std.proofs.lemmas.List.Elements.{All-from_recursion, All-contains}
@@ -7,7 +7,7 @@ use Rattle.nob_ids.specs.declared.limits.Limits.{Limits}
 use Rattle.nob_ids.specs.declared.reason.Reason.{Reason}
 use Rattle.nob_frame.specs.declared.frame.Frame.{Frame}
 use Rattle.nob_frame.specs.Kinds.{is_data, is_close}
-use Rattle.nob_model_end.specs.End.{is_open, ending, handed, lowest, unacknowledged, greatest_seq, accepted, transmitted, data_arrived, owes_close}
+use Rattle.nob_model_end.specs.End.{is_open, ending, handed, lowest, greatest_seq, accepted, transmitted, data_arrived, owes_close}
 use Rattle.nob_model_end.specs.Right.{data_frames, open_frames, closed_frames, right_transmit}
 use Rattle.nob_model_end.specs.Pair as pair
 use Rattle.nob_model_end.specs.declared.entry.Arrived.TheVariants as arrived

@@ -1,5 +1,5 @@
 -- Client and owner took turns, as seen by the client: by what it sent the owner and what it acted on from it.
-use Rattle.std.proofs.Common.{◌≡◌, ℕ, ◌&&◌, not, Bool, true, false, cond, List, [], ◌∷◌, ◌++◌, length, filter_map, Option, Some, None, refl, sym, ap, subst, ◌∙◌, inl}
+use Rattle.std.proofs.Common.{◌≡◌, ℕ, ◌&&◌, Bool, true, false, cond, List, [], ◌∷◌, ◌++◌, filter_map, Option, Some, None, refl, sym, ap, subst, ◌∙◌}
 use Rattle.std.specs.Prelude.{◌==◌}
 use Rattle.std.specs.List.{cons_option}
 use Rattle.std.proofs.lemmas.List.{append-nil}
@@ -12,18 +12,17 @@ use Rattle.nob_item.specs.declared.item.Item.{Item}
 use Rattle.nob_item.specs.declared.item.Item.TheVariants as items
 use Rattle.nob_model_words.specs.declared.deed.Deed.{Deed}
 use Rattle.nob_model_words.specs.declared.deed.Deed.TheVariants as did
-use Rattle.nob_model_words.specs.declared.turns.OwnerAnswer.TheVariants as said
 use Rattle.nob_model_words.specs.declared.turns.Turns.{Turns}
 use Rattle.nob_model_words.specs.Sessions.{is_peer, item_at, acted}
-use Rattle.nob_model_words.specs.Turns.{turns, turns_after, is_pending, is_granted, is_standing, is_yes, wants_dirty, with_dirty, with_answer, with_clean, carries, names}
+use Rattle.nob_model_words.specs.Turns.{turns, turns_after, is_pending, is_granted, is_standing, wants_dirty, with_dirty, with_answer, with_clean, carries, names}
 use Rattle.nob_model_work.specs.Work.{work}
-use Rattle.nob_model_work.specs.Gifts.{gifts, gifts_of_act, dirties_for}
+use Rattle.nob_model_work.specs.Gifts.{gifts, gifts_of_act}
 use Rattle.nob_model_history.specs.Premises.{AnswersPending}
 use Rattle.nob_model_history.proofs.Dirtying.{same_flip}
 use Rattle.nob_model_history.proofs.Turning.{HaveShape, shapes, wanted_none, named_ref, same_ref, granted_answered}
 use Rattle.nob_model.specs.Lists.{AreRightDeeds}
 use Rattle.nob_model.proofs.Premises.{in_turn, item_acted, took_turns}
-use Rattle.nob_model_safety.specs.Asking.{answer_in, answers_among, items_among, word_of, last_word, turns_by, AskedInTurn}
+use Rattle.nob_model_safety.specs.Asking.{answer_in, answers_among, items_among, word_of, turns_by, AskedInTurn}
 use Rattle.nob_model_safety.proofs.Bools.{turns_dirty, turns_clean, turns_answer, none_asked, dirty_in_turn, answer_in_turn, clean_in_turn}
 use Rattle.nob_model_history.proofs.Unasked.{is_message}
 use Rattle.nob_model_safety.proofs.Asked.{may_ask, asks_of, gifts_ask, asks_more, asks_nothing, clean_asked, message_asked}

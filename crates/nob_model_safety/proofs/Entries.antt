@@ -1,5 +1,5 @@
 -- What an entry adds to what each space did, and that each space did right.
-use Rattle.std.proofs.Common.{◌≡◌, ℕ, Bool, true, false, cond, List, [], ◌∷◌, ◌++◌, Option, Some, None, Result, Ok, Err, refl, sym, ap, subst, ◌∙◌, ◌⊎◌, inl, inr}
+use Rattle.std.proofs.Common.{◌≡◌, ℕ, Bool, true, false, cond, List, [], ◌∷◌, Option, Some, None, Result, Ok, Err, refl, ap, subst, ◌∙◌, ◌⊎◌, inl, inr}
 use Rattle.std.specs.Prelude.{⊤, ◌==◌}
 use Rattle.std.specs.List.{Contains, cons_option}
 use Rattle.std.proofs.lemmas.Bool.{eqb-true, eq-eqb}
@@ -19,7 +19,7 @@ use Rattle.nob_model.specs.Right.{IsRight}
 use Rattle.nob_model.specs.Lists.{AreRight, AreRightDeeds}
 use Rattle.nob_model.proofs.Doing.{right_deeds}
 use Rattle.nob_model_journal.specs.Journals.{at, deeds_at, given}
-use Rattle.nob_model_journal.specs.Runs.{ArrivesGiven, IsOfWorld, WorldRun}
+use Rattle.nob_model_journal.specs.Runs.{ArrivesGiven, WorldRun}
 use Rattle.nob_model_safety.proofs.Lists.{some_same}
 
 -- ---- one entry more

@@ -1,5 +1,4 @@
 -- Every run of a world has its fronts.
-use Rattle.std.proofs.Common.{ℕ, List}
 use Rattle.nob_model_journal.specs.Journals.{deeds_at}
 use Rattle.nob_model_safety.specs.Laws.{FrontsLaw}
 use Rattle.nob_model_safety.proofs.Entries.{right_deeds_at}

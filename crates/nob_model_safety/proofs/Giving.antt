@@ -1,5 +1,5 @@
 -- What a space gives has a spelling, where what came to it has one and what it was handed is of its types.
-use Rattle.std.proofs.Common.{◌≡◌, ℕ, suc, ◌+◌, ◌^◌, ◌<◌, ◌≤◌, ◌&&◌, ◌||◌, not, Bool, true, false, cond, List, [], ◌∷◌, ◌++◌, length, map, filter, filter_map, find, Option, Some, None, Ok, if◌then◌else◌, refl, sym, ap, subst, ◌∙◌, arith}
+use Rattle.std.proofs.Common.{◌≡◌, ℕ, ◌+◌, ◌^◌, ◌<◌, ◌||◌, not, Bool, true, false, cond, List, [], ◌∷◌, ◌++◌, map, filter_map, find, Option, Some, None, if◌then◌else◌, refl, sym, subst, arith}
 use Rattle.std.specs.Prelude.{⊤, ◌==◌, nat_le}
 use Rattle.std.specs.List.{AllByRecursion, list_any, cons_option}
 use Rattle.std.proofs.lemmas.Bool.{eqb-true, and_parts, or_parts, leb-false}
@@ -21,9 +21,8 @@ use Rattle.nob_model_words.specs.declared.message.Message.{Message}
 use Rattle.nob_model_words.specs.Sessions.{is_peer, item_at}
 use Rattle.nob_model_words.specs.Objects.{is_live, is_exported}
 use Rattle.nob_model_words.specs.Turns.{turns, wants_dirty}
-use Rattle.nob_model_words.specs.Messages.{message_after, new_message, is_of, is_lost_message}
+use Rattle.nob_model_words.specs.Messages.{message_after, is_of, is_lost_message}
 use Rattle.nob_model_work.specs.declared.gifts.Gift.{Gift}
-use Rattle.nob_model_work.specs.declared.work.InHand.{InHand}
 use Rattle.nob_model_work.specs.declared.work.Run.{Run}
 use Rattle.nob_model_work.specs.Work.{work, lost_reply, is_run}
 use Rattle.nob_model_work.specs.Gifts.{once, dirty_for, dirties_for, answer_to, gifts_of_act, lost_call_reply, gifts_of_settle, status_of, value_of, reply_to, gifts_of_finish, gifts_of, gifts}
@@ -32,8 +31,8 @@ use Rattle.nob_model_history.specs.declared.transit.SentItem.{SentItem}
 use Rattle.nob_model_history.specs.Histories.{history_of}
 use Rattle.nob_model_history.specs.Transit.{sent, asks_for, once_last, by_last_dirty, is_idle}
 use Rattle.nob_model_history.proofs.Sending.{new_items, next_item, sent_more}
-use Rattle.nob_model.specs.Right.{right_after, is_last_call, calls_made, last_number, most_calls}
-use Rattle.nob_model.specs.Lists.{IsRightDeed, AreRightDeeds}
+use Rattle.nob_model.specs.Right.{right_after, calls_made, last_number}
+use Rattle.nob_model.specs.Lists.{IsRightDeed}
 use Rattle.nob_model.proofs.Doing.{was_answered}
 use Rattle.nob_model.proofs.Accepted.{found_passes, call_tells, finish_tells, clean_tells}
 use Rattle.nob_model.proofs.Carrying.{AllInHand, all_filter, all_found}
@@ -134,7 +133,6 @@ reply_fits p (items.DirtyNo index) outcome fits pickled = tt
 reply_fits p (items.Clean index) outcome fits pickled = tt
 
 -- ---- references that were asked for
-
 
 asked_index : (more : List SentItem) → AllByRecursion SentFits more → AllByRecursion HasIndex (filter_map (λ one. asks_for one.to one.item) more)
 asked_index [] all = tt

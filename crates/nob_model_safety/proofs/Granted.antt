@@ -1,16 +1,11 @@
 -- What a space holds or has pins for is its own or granted.
-use Rattle.std.proofs.Common.{◌≡◌, ℕ, suc, ◌+◌, ◌-◌, ◌<◌, ◌≤◌, ◌&&◌, ◌||◌, not, Bool, true, false, cond, List, [], ◌∷◌, ◌++◌, length, map, filter, find, Option, Some, None, refl, sym, ap, subst, ◌∙◌, arith, ◌⊎◌, inl, inr}
-use Rattle.std.specs.Prelude.{⊤, ◌==◌, nat_le}
+use Rattle.std.proofs.Common.{◌≡◌, ℕ, ◌+◌, ◌≤◌, ◌&&◌, ◌||◌, Bool, true, false, cond, List, [], ◌∷◌, length, map, filter, Option, Some, None, refl, sym, ap, subst, ◌∙◌, arith, ◌⊎◌, inl, inr}
+use Rattle.std.specs.Prelude.{◌==◌, nat_le}
 use Rattle.std.specs.List.{AllByRecursion, flat_map}
-use Rattle.std.proofs.lemmas.Bool.{eqb-true, eqb-false, eq-eqb, ne_eqb, and_parts, or_left, or_right, or_parts, both_ways, not-true, not-false, leb-true, leb-false}
-use Rattle.std.proofs.lemmas.List.{length-append}
-use Rattle.std.proofs.lemmas.List.Elements.{filter-append}
+use Rattle.std.proofs.lemmas.Bool.{eqb-true, eqb-false, eq-eqb, and_parts, or_left, or_right, both_ways, not-true, leb-true, leb-false}
 use Rattle.nob_ids.specs.Names.{is_same, is_counted}
 use Rattle.nob_ids.specs.declared.limits.Limits.{Limits}
 use Rattle.nob_ids.specs.declared.wire_rep.WireRep.{WireRep}
-use Rattle.nob_pickle.specs.Spelling.{refs_in}
-use Rattle.nob_pickle.specs.declared.value.Value.{Value}
-use Rattle.nob_item.specs.Kinds.{counted_in}
 use Rattle.nob_item.specs.declared.item.Item.{Item}
 use Rattle.nob_item.specs.declared.item.Item.TheVariants as items
 use Rattle.nob_model_words.specs.declared.deed.Deed.{Deed}
@@ -20,24 +15,22 @@ use Rattle.nob_model_words.specs.declared.message.Loan.TheVariants as loans
 use Rattle.nob_model_words.specs.declared.message.RefCopy.{RefCopy}
 use Rattle.nob_model_words.specs.declared.message.Message.{Message}
 use Rattle.nob_model_words.specs.declared.turns.Turns.{Turns}
-use Rattle.nob_model_words.specs.Sessions.{closed, item_at}
-use Rattle.nob_model_words.specs.Turns.{turns, turns_after, is_own, is_usable, is_pending, is_granted, is_refused, is_standing, is_lost, wants_dirty, with_dirty, with_answer, with_clean, carries, names}
-use Rattle.nob_model_words.specs.Messages.{new_message, new_copy, loan_after, copy_after, message_after}
+use Rattle.nob_model_words.specs.Sessions.{item_at}
+use Rattle.nob_model_words.specs.Turns.{turns, turns_after, is_own, is_pending, is_granted, is_standing, wants_dirty, carries, names}
 use Rattle.nob_model_work.specs.declared.work.InHand.{InHand}
 use Rattle.nob_model_work.specs.declared.work.Run.{Run}
-use Rattle.nob_model_work.specs.Work.{work, lost_reply}
+use Rattle.nob_model_work.specs.Work.{work}
 use Rattle.nob_model_history.specs.declared.history.History.{History}
 use Rattle.nob_model_history.specs.Histories.{history_of}
-use Rattle.nob_model_history.specs.Holds.{times, gains, releases, hand, is_lent, copies_lent, target_lent, loans_of, lent_in, holds, is_held}
+use Rattle.nob_model_history.specs.Holds.{times, hand, is_lent, copies_lent, target_lent, loans_of, lent_in, holds, is_held}
 use Rattle.nob_model_history.specs.Transit.{pins, is_idle, by_last_dirty}
 use Rattle.nob_model_history.specs.Premises.{AnswersPending, TookTurns}
-use Rattle.nob_model_history.proofs.Dirtying.{same_self, same_flip}
+use Rattle.nob_model_history.proofs.Dirtying.{same_self}
 use Rattle.nob_model_history.proofs.Turning.{same_ref, named_ref, wanted_none, pending_waits, granted_answered}
 use Rattle.nob_model.specs.Right.{right_after}
 use Rattle.nob_model.specs.Lists.{IsRightDeed, AreRightDeeds}
 use Rattle.nob_model.proofs.Doing.{was_answered}
 use Rattle.nob_model.proofs.Accepted.{found_passes, clean_tells}
-use Rattle.nob_model.proofs.Premises.{took_turns}
 use Rattle.nob_model.proofs.Orderly.{holds_law}
 use Rattle.nob_model.proofs.Carrying.{AllInHand}
 use Rattle.nob_model.proofs.Waiting.{all_weaker}

@@ -1,6 +1,6 @@
 -- What is held came in or was exported: something holds of a reference that is held, where it holds of all that came into
 -- the hand and of all that messages lend.
-use Rattle.std.proofs.Common.{◌≡◌, ℕ, suc, ◌+◌, ◌-◌, ◌≤◌, not, Bool, true, false, cond, List, [], ◌∷◌, ◌++◌, length, map, filter, refl, sym, ap, subst, ◌∙◌, arith, ◌⊎◌, inl, inr}
+use Rattle.std.proofs.Common.{◌≡◌, ℕ, ◌+◌, ◌-◌, ◌≤◌, Bool, true, false, cond, List, [], ◌∷◌, length, map, filter, refl, sym, subst, arith, ◌⊎◌, inl, inr}
 use Rattle.std.specs.Prelude.{◌==◌, nat_le}
 use Rattle.std.specs.List.{AllByRecursion, flat_map}
 use Rattle.std.proofs.lemmas.Bool.{eqb-false, not-true, leb-true, leb-false}
@@ -14,7 +14,7 @@ use Rattle.nob_model_work.specs.declared.work.InHand.{InHand}
 use Rattle.nob_model_work.specs.declared.work.Run.{Run}
 use Rattle.nob_model_work.specs.Work.{work}
 use Rattle.nob_model_history.specs.Histories.{history_of}
-use Rattle.nob_model_history.specs.Holds.{times, gains, releases, is_lent, copies_lent, target_lent, loans_of, lent_in, holds, is_held}
+use Rattle.nob_model_history.specs.Holds.{times, gains, releases, is_lent, copies_lent, target_lent, loans_of, lent_in, is_held}
 use Rattle.nob_model_history.proofs.Turning.{same_ref}
 use Rattle.nob_model.proofs.Carrying.{AllInHand, Carries, all_carry}
 use Rattle.nob_model_safety.proofs.Lists.{all_append}

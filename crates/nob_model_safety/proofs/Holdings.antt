@@ -1,8 +1,8 @@
 -- In every list of right deeds what is held, and what has pins, is own or granted.
-use Rattle.std.proofs.Common.{◌≡◌, ℕ, suc, ◌+◌, ◌-◌, ◌≤◌, ◌&&◌, ◌||◌, not, Bool, true, false, cond, List, [], ◌∷◌, ◌++◌, length, map, filter, find, Option, Some, None, refl, sym, ap, subst, ◌∙◌, arith, ◌⊎◌, inl, inr}
-use Rattle.std.specs.Prelude.{⊤, ◌==◌, nat_le}
-use Rattle.std.specs.List.{AllByRecursion, flat_map}
-use Rattle.std.proofs.lemmas.Bool.{eqb-true, eqb-false, eq-eqb, ne_eqb, and_parts, and_from, or_left, or_right, or_parts, not-true, not-false, not_from_false, leb-true, leb-false}
+use Rattle.std.proofs.Common.{◌≡◌, ℕ, ◌+◌, ◌-◌, ◌≤◌, ◌||◌, not, Bool, true, false, cond, List, [], ◌∷◌, ◌++◌, length, map, filter, find, Option, Some, None, refl, sym, ap, subst, ◌∙◌, arith, ◌⊎◌, inl, inr}
+use Rattle.std.specs.Prelude.{◌==◌, nat_le}
+use Rattle.std.specs.List.{AllByRecursion}
+use Rattle.std.proofs.lemmas.Bool.{eq-eqb, ne_eqb, and_parts, and_from, or_left, or_parts, not-true, not_from_false, leb-true, leb-false}
 use Rattle.std.proofs.lemmas.List.{length-append}
 use Rattle.std.proofs.lemmas.List.Elements.{filter-append}
 use Rattle.nob_ids.specs.Names.{is_same, is_counted}
@@ -15,7 +15,6 @@ use Rattle.nob_item.specs.Kinds.{counted_in}
 use Rattle.nob_item.specs.declared.item.Item.{Item}
 use Rattle.nob_item.specs.declared.item.Item.TheVariants as items
 use Rattle.nob_model_types.specs.declared.event.Outcome.{Outcome}
-use Rattle.nob_model_types.specs.declared.refusal.Refusal.{Refusal}
 use Rattle.nob_model_types.specs.declared.refusal.Refusal.TheVariants as refusals
 use Rattle.nob_model_words.specs.declared.deed.Deed.{Deed}
 use Rattle.nob_model_words.specs.declared.deed.Deed.TheVariants as did
@@ -28,33 +27,30 @@ use Rattle.nob_model_words.specs.Objects.{is_live, is_exported}
 use Rattle.nob_model_words.specs.Turns.{turns, is_own, is_usable, is_granted, is_lost}
 use Rattle.nob_model_words.specs.Messages.{new_message, new_copy, loan_after, copy_after, message_after, is_of, is_lost_message, replies_to}
 use Rattle.nob_model_work.specs.declared.gifts.Gift.{Gift}
-use Rattle.nob_model_work.specs.declared.work.InHand.{InHand}
 use Rattle.nob_model_work.specs.declared.work.Run.{Run}
-use Rattle.nob_model_work.specs.Work.{work, lost_reply, is_run}
+use Rattle.nob_model_work.specs.Work.{work}
 use Rattle.nob_model_work.specs.Gifts.{dirty_for, dirties_for, answer_to, gifts_of_act, lost_call_reply, gifts_of_settle, value_of, reply_to, gifts_of_finish, gifts_of, gifts}
-use Rattle.nob_model_history.specs.declared.history.History.{History}
 use Rattle.nob_model_history.specs.declared.transit.SentItem.{SentItem}
 use Rattle.nob_model_history.specs.Histories.{history_of}
 use Rattle.nob_model_history.specs.Holds.{times, gains, releases, hand, loans_of, target_lent, copies_lent, lent_in, holds, is_held}
-use Rattle.nob_model_history.specs.Transit.{sent, is_some_of, is_settled, is_pinned, bundles, pinned, pins}
+use Rattle.nob_model_history.specs.Transit.{sent, is_settled, is_pinned, bundles, pinned, pins}
 use Rattle.nob_model_history.specs.Premises.{TookTurns}
 use Rattle.nob_model_history.proofs.Sending.{new_items, next_item, sent_more}
 use Rattle.nob_model_history.proofs.Turning.{same_ref}
-use Rattle.nob_model.specs.Sending.{◌or_else◌, is_own_and_not_live, ref_refused, refs_refused, is_faulty, value_refused}
+use Rattle.nob_model.specs.Sending.{refs_refused, is_faulty, value_refused}
 use Rattle.nob_model.specs.Right.{right_after}
-use Rattle.nob_model.specs.Lists.{IsRightDeed, AreRightDeeds}
+use Rattle.nob_model.specs.Lists.{AreRightDeeds}
 use Rattle.nob_model.proofs.Doing.{was_answered}
 use Rattle.nob_model.proofs.Accepted.{call_tells, dup_tells, finish_tells, take_tells}
 use Rattle.nob_model.proofs.Premises.{took_turns, objects_in_turn}
 use Rattle.nob_model.proofs.Orderly.{holds_law}
 use Rattle.nob_model.proofs.Lending.{IsAllLent, all_lent}
 use Rattle.nob_model.proofs.Carrying.{AllInHand, Carries, all_carry, all_filter, all_found}
-use Rattle.nob_model.proofs.Waiting.{all_weaker}
 use Rattle.nob_model_safety.proofs.Lists.{all_append, all_split, all_both, all_pass, all_unfilter}
 use Rattle.nob_model_safety.proofs.Typing.{next_none, refs_held}
 use Rattle.nob_model_safety.proofs.Hands.{New, in_hand_more, hand_both}
 use Rattle.nob_model_safety.proofs.Holding.{OfCounted, times_some}
-use Rattle.nob_model_safety.proofs.Granted.{is_owned, gives_up, owned_stays, held_kept, pinned_kept, all_stand, all_apart, all_joined, hand_apart, copies_apart, LendsOwned, HoldsOwned, held_owned}
+use Rattle.nob_model_safety.proofs.Granted.{is_owned, owned_stays, held_kept, pinned_kept, all_stand, all_apart, all_joined, hand_apart, copies_apart, LendsOwned, HoldsOwned, held_owned}
 
 -- ---- what is held at all
 

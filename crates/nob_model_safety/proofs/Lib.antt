@@ -21,3 +21,6 @@ pub mod Holdings
 pub mod Points
 pub mod Listings
 pub mod Withdrawing
+pub mod Closing
+pub mod Bad
+pub mod Places

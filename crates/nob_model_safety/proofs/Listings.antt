@@ -1,6 +1,6 @@
 -- A client that is granted a reference is listed for it: the owner acted on its last Dirty and answered it by DirtyOk, and
 -- no Clean follows.
-use Rattle.std.proofs.Common.{◌≡◌, ℕ, ◌+◌, ◌&&◌, not, Bool, true, false, List, [], ◌∷◌, ◌++◌, length, filter, filter_map, Option, Some, None, refl, sym, ap, subst, ◌∙◌, arith}
+use Rattle.std.proofs.Common.{◌≡◌, ℕ, ◌+◌, ◌&&◌, not, Bool, true, false, List, [], ◌∷◌, ◌++◌, length, filter, Option, refl, sym, ap, ◌∙◌, arith}
 use Rattle.std.proofs.lemmas.Bool.{and_parts, and_from, eqb-true}
 use Rattle.std.proofs.lemmas.List.{append-nil, length-append, nil_from_length}
 use Rattle.std.proofs.lemmas.List.Elements.{filter-append, filter_map-append}
@@ -12,9 +12,7 @@ use Rattle.nob_model_words.specs.declared.turns.OwnerAnswer.TheVariants as said
 use Rattle.nob_model_words.specs.declared.turns.Turns.{Turns}
 use Rattle.nob_model_words.specs.Turns.{turns, is_granted, is_yes}
 use Rattle.nob_model_journal.specs.Journals.{deeds_at, sent_to, acted_from}
-use Rattle.nob_model_journal.specs.Runs.{WorldRun}
 use Rattle.nob_model_journal.specs.Fronts.{numbered, ActsInOrder}
-use Rattle.nob_model_safety.specs.Typed.{AreOfTypes}
 use Rattle.nob_model_safety.specs.Asking.{ask_in, answer_in, asks_among, answers_among, items_among, dirties_in, last_or, last_word, turns_by, asked, heard, was_asked, gave}
 use Rattle.nob_model_safety.specs.Laws.{ListingsLaw}
 use Rattle.nob_model_safety.proofs.Order.{in_order}
@@ -26,10 +24,14 @@ items_numbered : (k : ℕ) (items : List Item) → items_among (numbered k items
 items_numbered k [] = refl
 items_numbered k (item ∷ items) = ap (λ more. item ∷ more) (items_numbered (k + 1) items)
 
+-- what was acted on and what stands behind it is what was sent
+pub items_split : (n a b : ℕ) (J : List Entry) → (begins : ActsInOrder n a b J) → items_among (acted_from a b J) ++ items_among begins.0 ≡ sent_to n a b J
+items_split n a b J begins = sym (filter_map-append (λ (pair : ℕ × Option Item). pair.1) (acted_from a b J) begins.0) ∙ ap items_among begins.1 ∙ items_numbered 1 (sent_to n a b J)
+
 -- the items that were acted on are a beginning of those that were sent
 pub items_begin : (n a b : ℕ) (J : List Entry) → ActsInOrder n a b J → IsBeginning (items_among (acted_from a b J)) (sent_to n a b J)
 items_begin n a b J begins =
-    (items_among begins.0, sym (filter_map-append (λ (pair : ℕ × Option Item). pair.1) (acted_from a b J) begins.0) ∙ ap items_among begins.1 ∙ items_numbered 1 (sent_to n a b J))
+    (items_among begins.0, items_split n a b J begins)
 
 -- and so is what they ask and answer
 pub asks_begin : (x : ℕ) (acted sent : List Item) → IsBeginning acted sent → IsBeginning (asks_among x acted) (asks_among x sent)
@@ -40,7 +42,7 @@ answers_begin x acted sent begins = (answers_among x begins.0, sym (filter_map-a
 
 -- ---- counts
 
-dirties_append : (asks more : List Bool) → dirties_in (asks ++ more) ≡ dirties_in asks + dirties_in more
+pub dirties_append : (asks more : List Bool) → dirties_in (asks ++ more) ≡ dirties_in asks + dirties_in more
 dirties_append asks more = ap length (filter-append (λ (b : Bool). b) asks more) ∙ length-append (filter (λ (b : Bool). b) asks) (filter (λ (b : Bool). b) more)
 
 last_append : (before : Bool) (asks more : List Bool) → last_or before (asks ++ more) ≡ last_or (last_or before asks) more

@@ -1,7 +1,6 @@
 -- Lists: what holds of all elements, elements at a place, and beginnings.
-use Rattle.std.proofs.Common.{◌≡◌, Bool, true, false, cond, filter, ℕ, zero, suc, ◌+◌, ◌<◌, ◌≤◌, List, [], ◌∷◌, ◌++◌, length, map, Option, Some, None, refl, sym, ap, subst, ◌∙◌, append_assoc, arith}
+use Rattle.std.proofs.Common.{◌≡◌, Bool, true, false, cond, filter, ℕ, zero, suc, ◌+◌, List, [], ◌∷◌, ◌++◌, length, map, Some, None, refl, sym, ap, subst, ◌∙◌, append_assoc, arith}
 use Rattle.std.specs.List.{AllByRecursion, slice_get}
-use Rattle.std.proofs.lemmas.List.{append-nil, length-append}
 use Rattle.nob_item.specs.declared.item.Item.{Item}
 use Rattle.nob_model_end.specs.Pair.{IsBeginning}
 use Rattle.nob_model_journal.specs.Fronts.{numbered}

@@ -1,8 +1,8 @@
 -- All that is named in what was sent was exported by its owner, and so was all that is held.
-use Rattle.std.proofs.Common.{◌≡◌, ℕ, ◌+◌, ◌&&◌, ◌||◌, not, Bool, true, false, cond, List, [], ◌∷◌, ◌++◌, length, map, filter, filter_map, find, Option, Some, None, if◌then◌else◌, refl, sym, ap, subst, ◌∙◌, ◌⊎◌, inl, inr}
+use Rattle.std.proofs.Common.{◌≡◌, ℕ, ◌&&◌, not, Bool, true, false, cond, List, [], ◌∷◌, ◌++◌, length, map, filter, filter_map, find, Option, Some, None, if◌then◌else◌, refl, sym, ap, subst, ◌∙◌, inl, inr}
 use Rattle.std.specs.Prelude.{⊤, ◌==◌}
-use Rattle.std.specs.List.{AllByRecursion, list_any, cons_option, slice_get}
-use Rattle.std.proofs.lemmas.Bool.{eqb-true, eq-eqb, and_parts, and_from, or_right, not-false, not_from_false}
+use Rattle.std.specs.List.{AllByRecursion, list_any, cons_option}
+use Rattle.std.proofs.lemmas.Bool.{eqb-true, eq-eqb, and_from, or_right}
 use Rattle.nob_ids.specs.Names.{is_same, is_counted}
 use Rattle.nob_ids.specs.declared.limits.Limits.{Limits}
 use Rattle.nob_ids.specs.declared.wire_rep.WireRep.{WireRep}
@@ -13,21 +13,19 @@ use Rattle.nob_item.specs.Kinds.{counted_in}
 use Rattle.nob_item.specs.declared.item.Item.{Item}
 use Rattle.nob_item.specs.declared.item.Item.TheVariants as items
 use Rattle.nob_model_types.specs.declared.event.Outcome.{Outcome}
-use Rattle.nob_model_types.specs.declared.refusal.Refusal.{Refusal}
 use Rattle.nob_model_types.specs.declared.refusal.Refusal.TheVariants as refusals
 use Rattle.nob_model_types.specs.declared.entry.Entry.{Entry}
-use Rattle.nob_model_words.specs.Deeds.{deed_in}
 use Rattle.nob_model_words.specs.declared.deed.Deed.{Deed}
 use Rattle.nob_model_words.specs.declared.deed.Deed.TheVariants as did
 use Rattle.nob_model_words.specs.declared.message.Message.{Message}
-use Rattle.nob_model_words.specs.Sessions.{is_peer, closed, item_at}
+use Rattle.nob_model_words.specs.Sessions.{is_peer, item_at}
 use Rattle.nob_model_words.specs.Objects.{exports, is_exported, is_live}
-use Rattle.nob_model_words.specs.Turns.{turns, wants_dirty, is_own}
-use Rattle.nob_model_words.specs.Messages.{message_after, new_message, is_of, is_lost_message, replies_to}
+use Rattle.nob_model_words.specs.Turns.{turns, wants_dirty}
+use Rattle.nob_model_words.specs.Messages.{message_after, is_of, is_lost_message, replies_to}
 use Rattle.nob_model_work.specs.declared.gifts.Gift.{Gift}
 use Rattle.nob_model_work.specs.declared.work.InHand.{InHand}
 use Rattle.nob_model_work.specs.declared.work.Run.{Run}
-use Rattle.nob_model_work.specs.Work.{work, lost_reply, is_run}
+use Rattle.nob_model_work.specs.Work.{work, lost_reply}
 use Rattle.nob_model_work.specs.Gifts.{once, dirty_for, dirties_for, answer_to, gifts_of_act, lost_call_reply, gifts_of_settle, value_of, reply_to, gifts_of_finish, gifts_of, gifts}
 use Rattle.nob_model_history.specs.declared.history.History.{History}
 use Rattle.nob_model_history.specs.declared.transit.SentItem.{SentItem}
@@ -35,7 +33,7 @@ use Rattle.nob_model_history.specs.Histories.{history_of}
 use Rattle.nob_model_history.specs.Holds.{target_lent, gains, is_held}
 use Rattle.nob_model_history.specs.Transit.{sent, asks_for, once_last, by_last_dirty, is_idle}
 use Rattle.nob_model_history.proofs.Sending.{new_items, next_item, sent_more}
-use Rattle.nob_model.specs.Sending.{◌or_else◌, refuse_if, is_own_and_not_live, ref_refused, refs_refused, is_faulty, value_refused}
+use Rattle.nob_model.specs.Sending.{refs_refused, is_faulty, value_refused}
 use Rattle.nob_model.specs.Right.{right_after}
 use Rattle.nob_model.specs.Lists.{IsRightDeed, AreRightDeeds}
 use Rattle.nob_model.proofs.Doing.{was_answered}
@@ -209,10 +207,12 @@ ActsOnNamed J s (_) D = ⊤
 gifts_known : (n : ℕ) (limits : Limits) (J : List Entry) (s : ℕ) (deed : Deed) → IsRightDeed s n limits deed (deeds_at s J) → ActsOnNamed J s deed (deeds_at s J) → Known n J s → AllByRecursion (GiftExported J) (gifts_of s n deed (deeds_at s J) (work s n (deeds_at s J)))
 unfolding right_after gifts_of gifts_of_finish
 gifts_known n limits J s (did.Call target method value call) right named known =
-    let told = call_tells s n target value call (history_at s n J) (was_answered s n limits (did.Call target method value call) (deeds_at s J) right) in
-    (all_append (WasExported J) (object_of target.owner (items.Call call target.index method value)) _
-    (target_named J target (target.index == 0) refl (λ counted. held_known J s n known target counted (held_then (is_counted target) (is_held s target (history_at s n J)) told.3 counted)))
-    (value_known J s n known value told.4), tt)
+    let told = call_tells s n target value call (history_at s n J) (was_answered s n limits (did.Call target method value call) (deeds_at s J) right) in (
+      all_append (WasExported J) (object_of target.owner (items.Call call target.index method value)) _
+          (target_named J target (target.index == 0) refl (λ counted. held_known J s n known target counted (held_then (is_counted target) (is_held s target (history_at s n J)) told.3 counted)))
+          (value_known J s n known value told.4),
+      tt,
+    )
 gifts_known n limits J s (did.Finish job outcome) right named known =
     let told = finish_tells s job outcome (history_at s n J) (was_answered s n limits (did.Finish job outcome) (deeds_at s J) right) in
     subst (λ (found : Option Run). AllByRecursion (GiftExported J) (gifts_of_finish outcome found)) (sym told.1) (reply_known J told.0.message.from told.0.message.item outcome (value_known J s n known (value_of outcome) told.3))
@@ -321,8 +321,8 @@ all_known n limits (entry ∷ J) run typed s =
     elim (grows s entry J) [
       | inl same ↦ same_known n J entry s same (before s)
       | inr more ↦
-        let right : AreRightDeeds s n (limits s) (more.0 ∷ deeds_at s J) = subst (AreRightDeeds s n (limits s)) more.3 (right_deeds_at n limits (entry ∷ J) run s) in
-        deed_known n (limits s) J entry s more.0 right more.3 (acts_named n limits J s more.0 run.1 typed.1 before right.0) (before s)
+          let right : AreRightDeeds s n (limits s) (more.0 ∷ deeds_at s J) = subst (AreRightDeeds s n (limits s)) more.3 (right_deeds_at n limits (entry ∷ J) run s) in
+          deed_known n (limits s) J entry s more.0 right more.3 (acts_named n limits J s more.0 run.1 typed.1 before right.0) (before s)
     ]
 
 pub names : NamesLaw

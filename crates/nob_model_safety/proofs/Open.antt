@@ -1,5 +1,5 @@
 -- Nothing is acted on and nothing is sent on a session that has closed here.
-use Rattle.std.proofs.Common.{◌≡◌, ℕ, ◌&&◌, not, Bool, true, false, cond, List, [], ◌∷◌, map, filter, find, Option, Some, None, refl, sym, ap, subst, ◌∙◌}
+use Rattle.std.proofs.Common.{◌≡◌, ℕ, Bool, true, false, cond, List, [], ◌∷◌, map, filter, find, Option, Some, None, refl, sym, subst}
 use Rattle.std.specs.List.{AllByRecursion}
 use Rattle.std.proofs.lemmas.Bool.{and_parts, not-true}
 use Rattle.nob_ids.specs.declared.limits.Limits.{Limits}
@@ -17,7 +17,7 @@ use Rattle.nob_model_words.specs.Turns.{turns, wants_dirty, is_usable}
 use Rattle.nob_model_words.specs.Messages.{is_of, is_lost_message}
 use Rattle.nob_model_work.specs.declared.gifts.Gift.{Gift}
 use Rattle.nob_model_work.specs.declared.work.Run.{Run}
-use Rattle.nob_model_work.specs.Work.{work, is_run}
+use Rattle.nob_model_work.specs.Work.{work}
 use Rattle.nob_model_work.specs.Gifts.{once, dirty_for, dirties_for, answer_to, gifts_of_act, lost_call_reply, gifts_of_settle, reply_to, gifts_of_finish, gifts_of, gifts}
 use Rattle.nob_model_history.specs.declared.history.History.{History}
 use Rattle.nob_model_history.specs.Histories.{history_of}
@@ -25,7 +25,7 @@ use Rattle.nob_model_history.specs.Transit.{is_idle, by_last_dirty}
 use Rattle.nob_model.specs.Right.{right_after}
 use Rattle.nob_model.specs.Lists.{AreRightDeeds}
 use Rattle.nob_model.proofs.Doing.{was_answered}
-use Rattle.nob_model.proofs.Accepted.{found_passes, call_tells, finish_tells, act_tells, clean_tells}
+use Rattle.nob_model.proofs.Accepted.{found_passes, call_tells, finish_tells, clean_tells}
 use Rattle.nob_model.proofs.Carrying.{all_filter}
 use Rattle.nob_model.proofs.Waiting.{act_open, settled_message}
 use Rattle.nob_model_journal.specs.Fronts.{ActsWhileOpen, SendsWhileOpen}

@@ -1,6 +1,6 @@
 -- What each space acted on from each peer is a beginning of what that peer sent it, and all that is sent has a spelling.
-use Rattle.std.proofs.Common.{◌≡◌, ℕ, suc, ◌+◌, ◌<◌, ◌≤◌, ◌&&◌, not, leb, Bool, true, false, cond, List, [], ◌∷◌, ◌++◌, length, map, filter, Option, Some, None, Ok, Err, refl, sym, ap, subst, ◌∙◌, ◌⊎◌, inl, inr, arith}
-use Rattle.std.specs.Prelude.{⊤, ◌==◌, ◌≢◌, nat_le}
+use Rattle.std.proofs.Common.{◌≡◌, ℕ, ◌+◌, ◌≤◌, ◌&&◌, not, Bool, true, false, cond, List, [], ◌∷◌, ◌++◌, length, map, Option, Some, Ok, Err, refl, sym, ap, subst, ◌∙◌, inl, inr, arith}
+use Rattle.std.specs.Prelude.{◌==◌, ◌≢◌, nat_le}
 use Rattle.std.specs.List.{AllByRecursion, slice_get}
 use Rattle.std.proofs.lemmas.Bool.{eqb-true, eqb-false, leb-false, and_parts, not-true}
 use Rattle.std.proofs.lemmas.List.{append-nil, length-map, length_push}
@@ -9,17 +9,13 @@ use Rattle.nob_ids.specs.declared.limits.Limits.{Limits}
 use Rattle.nob_item.specs.Spelling.{Fits, IsItemNumber}
 use Rattle.nob_item.specs.declared.item.Item.{Item}
 use Rattle.nob_model_end.specs.End.{handed, accepted, takes, is_open, unacknowledged}
-use Rattle.nob_model_end.specs.Right as end
-use Rattle.nob_model_end.specs.Right.{right_send, right_front, last_item, is_limited, queue_limit}
+use Rattle.nob_model_end.specs.Right.{right_front, last_item, is_limited, queue_limit}
 use Rattle.nob_model_end.specs.Pair.{IsBeginning, Reaches, first_calls}
-use Rattle.nob_model_end.specs.declared.refusal.EndRefusal.{EndRefusal}
 use Rattle.nob_model_end.specs.declared.refusal.EndRefusal.TheVariants as end_refusals
-use Rattle.nob_model_end.specs.declared.entry.Kind.{Kind}
 use Rattle.nob_model_end.specs.declared.entry.EndEntry.{EndEntry}
 use Rattle.nob_model_end.specs.declared.entry.EndEntry.TheVariants as ends
 use Rattle.nob_model_end.proofs.Fronts.{accepted_law}
 use Rattle.nob_model_types.specs.declared.entry.Entry.{Entry}
-use Rattle.nob_model_words.specs.Deeds.{deed_in}
 use Rattle.nob_model_words.specs.declared.deed.Deed.{Deed}
 use Rattle.nob_model_words.specs.declared.deed.Deed.TheVariants as did
 use Rattle.nob_model_words.specs.Sessions.{is_peer, item_at, item_spelt, payload_at, acted}
@@ -29,7 +25,7 @@ use Rattle.nob_model_history.specs.declared.transit.SentItem.{SentItem}
 use Rattle.nob_model_history.specs.Histories.{history_of}
 use Rattle.nob_model_history.specs.Ends.{items_to, payload_of, calls_at}
 use Rattle.nob_model_history.specs.Transit.{sent}
-use Rattle.nob_model_history.proofs.Inbox.{acted_takes}
+use Rattle.nob_model_history.proofs.Inbox.{acted_takes, front_number}
 use Rattle.nob_model_history.proofs.Arriving.{payloads_are, front_payload}
 use Rattle.nob_model_history.proofs.Numbered.{gifts_sent_to, payloads_handed, items_sent_to}
 use Rattle.nob_model.specs.Right.{right_after}
@@ -38,7 +34,6 @@ use Rattle.nob_model.specs.Laws.{AreRightCalls}
 use Rattle.nob_model.proofs.Doing.{was_answered}
 use Rattle.nob_model.proofs.Accepted.{act_tells}
 use Rattle.nob_model.proofs.Premises.{in_turn, front_item}
-use Rattle.nob_model.proofs.Waiting.{act_number}
 use Rattle.nob_model.proofs.Calling.{calls_law}
 use Rattle.nob_model.proofs.Carrying.{all_filter}
 use Rattle.nob_model_journal.specs.Journals.{deeds_at, history_at, sent_to, acted_from}
@@ -102,39 +97,58 @@ pub record IsNextOf (n a b k : ℕ) (J : List Entry) : Type 0 where
 spelt_as : (payload : List ℕ) (item : Item) → payload_of item ≡ payload → Fits item → item_spelt payload ≡ Some item
 spelt_as payload item is fits = ap item_spelt (sym is) ∙ payload_back item fits
 
-self_peer : (s n : ℕ) → is_peer s n s ≡ true → ⊥
+pub self_peer : (s n : ℕ) → is_peer s n s ≡ true → ⊥
 self_peer s n e = eqb-false s s (not-true _ (and_parts _ _ (and_parts _ _ e).0).0) refl
+
+-- the front of an inbox spells the next item that its sender sent
+pub record IsFront (n a b k : ℕ) (payload : List ℕ) (J : List Entry) : Type 0 where
+  pub item : Item
+  pub spelt : item_spelt payload ≡ Some item
+  pub next : k ≡ length (acted_from a b J) + 1
+  pub was_sent : slice_get (sent_to n a b J) (length (acted_from a b J)) ≡ Some item
+  pub fits : Fits item
+  pub number : IsItemNumber k
+
+pub front_is_next : (a b n k : ℕ) (limits : ℕ → Limits) (payload : List ℕ) (J : List Entry) → WorldRun n limits J → AllFit a n (deeds_at a J) → is_peer b n a ≡ true → right_front (calls_at a (history_at b n J)) ≡ Some (k, payload) → IsFront n a b k payload J
+front_is_next a b n k limits payload J run all peer front =
+    let D : List Deed = deeds_at b J in
+    let S : List Item = sent_to n a b J in
+    let t : ℕ = length (acted_from a b J) in
+    let calls : List EndEntry = calls_at a (history_at b n J) in
+    let apart : a ≢ b = λ same. self_peer b n (subst (λ (q : ℕ). is_peer b n q ≡ true) same peer) in
+    let turn = in_turn b n (limits b) D (right_deeds_at n limits J run b) in
+    let count : t ≡ takes calls = acted_takes b n a D in
+    let next : k ≡ t + 1 = front_number calls k payload front ∙ ap (λ (m : ℕ). m + 1) (sym count) in
+    let place : slice_get (accepted calls) t ≡ Some payload =
+    ap (slice_get (accepted calls)) count ∙ sym (payloads_are b n D turn a (takes calls)) ∙ ap (λ (m : ℕ). payload_at a (m + 1) D) (sym count) ∙ ap (λ (m : ℕ). payload_at a m D) (sym next) ∙ front_payload b n a D turn k payload front in
+    let reach = (reached a b n limits J apart run).front in
+    let whole : accepted calls ++ reach.0 ≡ map payload_of S = reach.1 ∙ payloads_handed a n b (deeds_at a J) in
+    let before = place_before payload_of S t payload (place_in_whole (accepted calls) reach.0 (map payload_of S) t payload whole place) in
+    let fits : Fits before.0 = all_at Fits S t before.0 (sent_fits a b n J all) before.1 in
+    let low = slice_get_within S t before.0 before.1 in
+    let few = sent_few a b n limits J run in
+    record {
+      item = before.0;
+      spelt = spelt_as payload before.0 before.2 fits;
+      next = next;
+      was_sent = before.1;
+      fits = fits;
+      number = (omega (arith, next), omega (arith, next, low, few));
+    }
 
 pub acts_on_next : (a b n k : ℕ) (limits : ℕ → Limits) (J : List Entry) → WorldRun n limits J → AllFit a n (deeds_at a J) → IsRightDeed b n (limits b) (did.Act a k) (deeds_at b J) → IsNextOf n a b k J
 unfolding right_after
 acts_on_next a b n k limits J run all right =
     let D : List Deed = deeds_at b J in
-    let S : List Item = sent_to n a b J in
-    let t : ℕ = length (acted_from a b J) in
-    let calls : List EndEntry = calls_at a (history_at b n J) in
     let told = act_tells b n a k (history_at b n J) (was_answered b n (limits b) (did.Act a k) D right) in
-    let apart : a ≢ b = λ same. self_peer b n (subst (λ (q : ℕ). is_peer b n q ≡ true) same told.0) in
-    let front = told.2 in
-    let payload : List ℕ = front.0 in
-    let turn = in_turn b n (limits b) D (right_deeds_at n limits J run b) in
-    let count : t ≡ takes calls = acted_takes b n a D in
-    let next : k ≡ t + 1 = act_number b n (limits b) a k D right ∙ ap (λ (m : ℕ). m + 1) (sym count) in
-    let place : slice_get (accepted calls) t ≡ Some payload =
-    ap (slice_get (accepted calls)) count ∙ sym (payloads_are b n D turn a (takes calls)) ∙ ap (λ (m : ℕ). payload_at a (m + 1) D) (sym count) ∙ ap (λ (m : ℕ). payload_at a m D) (sym next) ∙ front_payload b n a D turn k payload front.2 in
-    let reach = (reached a b n limits J apart run).front in
-    let whole : accepted calls ++ reach.0 ≡ map payload_of S = reach.1 ∙ payloads_handed a n b (deeds_at a J) in
-    let before = place_before payload_of S t payload (place_in_whole (accepted calls) reach.0 (map payload_of S) t payload whole place) in
-    let fits : Fits before.0 = all_at Fits S t before.0 (sent_fits a b n J all) before.1 in
-    let spelt : item_spelt payload ≡ Some before.0 = spelt_as payload before.0 before.2 fits in
-    let low = slice_get_within S t before.0 before.1 in
-    let few = sent_few a b n limits J run in
+    let front = front_is_next a b n k limits told.2.0 J run all told.0 told.2.2 in
     record {
-      item = before.0;
-      found = front_item b n a D turn k payload before.0 front.2 spelt;
-      next = next;
-      was_sent = before.1;
-      fits = fits;
-      number = (omega (arith, next), omega (arith, next, low, few));
+      item = front.item;
+      found = front_item b n a D (in_turn b n (limits b) D (right_deeds_at n limits J run b)) k told.2.0 front.item told.2.2 front.spelt;
+      next = front.next;
+      was_sent = front.was_sent;
+      fits = front.fits;
+      number = front.number;
     }
 
 -- ---- one entry more: spellings
@@ -153,8 +167,8 @@ all_fit n limits (entry ∷ J) run typed s =
     elim (grows s entry J) [
       | inl same ↦ subst (AllFit s n) (sym same) (before s)
       | inr more ↦
-        let right : AreRightDeeds s n (limits s) (more.0 ∷ deeds_at s J) = subst (AreRightDeeds s n (limits s)) more.3 (right_deeds_at n limits (entry ∷ J) run s) in
-        subst (AllFit s n) (sym more.3) (fits_more s n (limits s) more.0 (deeds_at s J) right.0 (typed.0 more.0 more.2) (acts_whole s n limits more.0 J run.1 before right.0) (before s))
+          let right : AreRightDeeds s n (limits s) (more.0 ∷ deeds_at s J) = subst (AreRightDeeds s n (limits s)) more.3 (right_deeds_at n limits (entry ∷ J) run s) in
+          subst (AllFit s n) (sym more.3) (fits_more s n (limits s) more.0 (deeds_at s J) right.0 (typed.0 more.0 more.2) (acts_whole s n limits more.0 J run.1 before right.0) (before s))
     ]
 
 -- ---- one entry more: order
@@ -201,8 +215,8 @@ in_order n limits (entry ∷ J) run typed a b =
     elim (grows b entry J) [
       | inl same ↦ subst (λ D. IsBeginning (acted a D) (numbered 1 (sent_to n a b J))) (sym same) before
       | inr more ↦
-        let right : AreRightDeeds b n (limits b) (more.0 ∷ deeds_at b J) = subst (AreRightDeeds b n (limits b)) more.3 (right_deeds_at n limits (entry ∷ J) run b) in
-        subst (λ D. IsBeginning (acted a D) (numbered 1 (sent_to n a b J))) (sym more.3) (deed_step n a b limits more.0 J run.1 (all_fit n limits J run.1 typed.1 a) right.0 before)
+          let right : AreRightDeeds b n (limits b) (more.0 ∷ deeds_at b J) = subst (AreRightDeeds b n (limits b)) more.3 (right_deeds_at n limits (entry ∷ J) run b) in
+          subst (λ D. IsBeginning (acted a D) (numbered 1 (sent_to n a b J))) (sym more.3) (deed_step n a b limits more.0 J run.1 (all_fit n limits J run.1 typed.1 a) right.0 before)
     ]
 
 -- ---- the sessions of a run

@@ -1,5 +1,5 @@
 -- Client and owner took turns, as seen by the owner: by what it acted on from the client and what it answered.
-use Rattle.std.proofs.Common.{◌≡◌, ℕ, ◌+◌, ◌&&◌, ◌||◌, not, Bool, true, false, cond, List, [], ◌∷◌, ◌++◌, length, map, filter, filter_map, find, Option, Some, None, refl, sym, ap, subst, ◌∙◌, arith}
+use Rattle.std.proofs.Common.{◌≡◌, ℕ, ◌+◌, ◌&&◌, ◌||◌, not, Bool, true, false, cond, List, [], ◌∷◌, ◌++◌, map, filter, filter_map, find, Option, Some, None, refl, sym, ap, subst, ◌∙◌, arith}
 use Rattle.std.specs.Prelude.{◌==◌}
 use Rattle.std.specs.List.{AllByRecursion, list_any, cons_option}
 use Rattle.std.proofs.lemmas.List.{append-nil, length_push}
@@ -16,7 +16,6 @@ use Rattle.nob_model_types.specs.declared.event.Outcome.{Outcome}
 use Rattle.nob_model_words.specs.declared.deed.Deed.{Deed}
 use Rattle.nob_model_words.specs.declared.deed.Deed.TheVariants as did
 use Rattle.nob_model_words.specs.declared.message.Message.{Message}
-use Rattle.nob_model_words.specs.declared.turns.OwnerAnswer.{OwnerAnswer}
 use Rattle.nob_model_words.specs.declared.turns.OwnerAnswer.TheVariants as said
 use Rattle.nob_model_words.specs.Sessions.{is_peer, item_at, acted}
 use Rattle.nob_model_words.specs.Objects.{exports, is_exported, is_withdrawn, is_live}
@@ -33,7 +32,7 @@ use Rattle.nob_model_history.specs.Listing.{is_entered, is_entered_after}
 use Rattle.nob_model_history.proofs.Numbered.{items_sent_to, gifts_sent_to}
 use Rattle.nob_model.specs.Acting.{fault_of, is_unknown}
 use Rattle.nob_model.specs.Right.{right_after}
-use Rattle.nob_model.specs.Lists.{IsRightDeed, AreRightDeeds}
+use Rattle.nob_model.specs.Lists.{AreRightDeeds}
 use Rattle.nob_model.proofs.Doing.{was_answered}
 use Rattle.nob_model.proofs.Accepted.{act_tells}
 use Rattle.nob_model.proofs.Premises.{in_turn, item_acted, no_fault}

@@ -1,5 +1,5 @@
 -- What two spaces call on their ends with each other is a run of a pair.
-use Rattle.std.proofs.Common.{◌≡◌, ℕ, ◌+◌, ◌&&◌, Bool, true, false, cond, List, [], ◌∷◌, ◌++◌, length, Option, Some, None, Ok, refl, sym, ap, subst, ◌∙◌, ◌⊎◌, inl, inr}
+use Rattle.std.proofs.Common.{◌≡◌, ℕ, ◌+◌, Bool, true, false, cond, List, [], ◌∷◌, length, Some, None, Ok, refl, sym, ap, subst, ◌∙◌, inl, inr}
 use Rattle.std.specs.Prelude.{⊤, ◌==◌, ◌≢◌}
 use Rattle.std.specs.List.{Contains}
 use Rattle.std.proofs.lemmas.Bool.{eqb-true}
@@ -191,7 +191,7 @@ paired_step a b n limits entry J apart run paired =
     elim (grows a entry J) [
       | inl same ↦ elim (grows b entry J) [
         | inl also ↦ subst (λ D. Paired a b (limits a) (limits b) (calls_at b (history_of a n D)) (calls_at a (history_at b n (entry ∷ J)))) (sym same)
-          (subst (λ D. Paired a b (limits a) (limits b) (calls_at b (history_at a n J)) (calls_at a (history_of b n D))) (sym also) paired)
+            (subst (λ D. Paired a b (limits a) (limits b) (calls_at b (history_at a n J)) (calls_at a (history_of b n D))) (sym also) paired)
         | inr more ↦ turn b a (limits b) (limits a) _ _ (first_step b a n limits entry J run more.0 more.2 more.3 same (turn a b (limits a) (limits b) _ _ paired))
       ]
       | inr more ↦ elim (grows b entry J) [

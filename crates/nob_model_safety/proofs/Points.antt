@@ -1,7 +1,6 @@
 -- The points of the invariant that are read off one space's list alone.
-use Rattle.std.proofs.Common.{◌≡◌, ℕ, ◌&&◌, not, Bool, true, false, List, refl, sym, ap, ◌∙◌}
+use Rattle.std.proofs.Common.{not, ap}
 use Rattle.std.proofs.lemmas.Bool.{and_right}
-use Rattle.nob_ids.specs.declared.wire_rep.WireRep.{WireRep}
 use Rattle.nob_model_words.specs.Objects.{is_exported}
 use Rattle.nob_model_journal.specs.Journals.{deeds_at}
 use Rattle.nob_model_safety.specs.Laws.{ClientsLaw, OwnersLaw, HoldingsLaw}

@@ -1,7 +1,6 @@
 -- No object is withdrawn while a space needs it: whoever could use it, or has a copy of its reference on the way, is granted
 -- it, so listed for it, and then it isn't withdrawn.
-use Rattle.std.proofs.Common.{◌≡◌, ℕ, ◌≤◌, ◌&&◌, ◌||◌, not, Bool, true, false, cond, List, [], ◌∷◌, Option, Some, None, refl, sym, ap, subst, ◌∙◌, arith}
-use Rattle.std.specs.Prelude.{◌==◌}
+use Rattle.std.proofs.Common.{◌≡◌, ℕ, ◌≤◌, ◌||◌, not, Bool, true, false, List, [], ◌∷◌, refl, sym, subst, arith}
 use Rattle.std.specs.List.{AllByRecursion, list_any}
 use Rattle.std.proofs.lemmas.Bool.{eqb-true, and_parts, and_from, or_from, both_ways, not-true, not_from_false, false_from_ne_true}
 use Rattle.nob_ids.specs.Names.{is_same, is_counted}
@@ -9,12 +8,9 @@ use Rattle.nob_ids.specs.declared.limits.Limits.{Limits}
 use Rattle.nob_ids.specs.declared.wire_rep.WireRep.{WireRep}
 use Rattle.nob_item.specs.Kinds.{counted_in}
 use Rattle.nob_model_types.specs.declared.entry.Entry.{Entry}
-use Rattle.nob_model_words.specs.Deeds.{deed_in}
-use Rattle.nob_model_words.specs.declared.deed.Deed.{Deed}
 use Rattle.nob_model_words.specs.declared.deed.Deed.TheVariants as did
 use Rattle.nob_model_words.specs.Turns.{turns, is_own, is_granted, carries}
 use Rattle.nob_model_history.specs.declared.transit.SentItem.{SentItem}
-use Rattle.nob_model_history.specs.Histories.{history_of}
 use Rattle.nob_model_history.specs.Holds.{is_held}
 use Rattle.nob_model_history.specs.Listing.{is_listed, is_any_listed}
 use Rattle.nob_model_history.specs.Transit.{is_some_of, sent, is_pinned, pins}
@@ -27,7 +23,7 @@ use Rattle.nob_model.proofs.Accepted.{withdraw_tells}
 use Rattle.nob_model.proofs.Waiting.{all_weaker}
 use Rattle.nob_model_journal.specs.Journals.{deeds_at, history_at, closed_at, both_open}
 use Rattle.nob_model_journal.specs.Runs.{WorldRun}
-use Rattle.nob_model_journal.specs.Safety.{reaches_owner, can_use, is_in_transit, is_open_copy, has_open_copy, WithdrawsUnneeded, NoneNeeds, SafeWithdraw}
+use Rattle.nob_model_journal.specs.Safety.{reaches_owner, can_use, is_in_transit, is_open_copy, WithdrawsUnneeded, NoneNeeds}
 use Rattle.nob_model_safety.specs.Typed.{AreOfTypes}
 use Rattle.nob_model_safety.specs.Laws.{SafeWithdrawLaw}
 use Rattle.nob_model_safety.proofs.Entries.{grows_own, right_deeds_at}
@@ -101,9 +97,9 @@ none_carries n limits J run typed rep free s one pinned is =
     let pin : is_pinned (deeds_at s J) one ≡ true = and_from _ _ (and_from _ _ (carried_some rep (counted_in one.item) way.0) way.1) open_here in
     let some : 1 ≤ pins rep (history_at s n J) = carried_has (λ r. 1 ≤ pins r (history_at s n J)) rep (counted_in one.item) (pinned pin) way.0 in
     let never : is_own s rep ≡ true → ⊥ = λ own. (
-      let here : 1 ≤ pins rep (history_at rep.owner n J) = subst (λ (o : ℕ). 1 ≤ pins rep (history_at o n J)) (sym (own_is s rep own)) some in
-      let none = free.unpinned in
-      omega (arith, here, none)
+    let here : 1 ≤ pins rep (history_at rep.owner n J) = subst (λ (o : ℕ). 1 ≤ pins rep (history_at o n J)) (sym (own_is s rep own)) some in
+    let none = free.unpinned in
+    omega (arith, here, none)
     ) in
     none_granted n limits J run typed s rep never ((holdings n limits J run).pinned_granted s rep some) reach.1 free.unlisted
 

@@ -1,6 +1,6 @@
 -- The invariant of all spaces of a run, one record a theme: each says what holds after every entry, of every two
 -- spaces.
-use Rattle.std.specs.Prelude.{◌≡◌, ◌≢◌, ◌≤◌, ℕ, ◌+◌, ◌-◌, true, false, ◌&&◌, ◌||◌, List, length, map, Some, slice_get}
+use Rattle.std.specs.Prelude.{◌≡◌, ◌≢◌, ◌≤◌, ℕ, ◌+◌, ◌-◌, true, false, ◌&&◌, ◌||◌, Bool, List, Result, Ok, length, map, Some, slice_get}
 use Rattle.std.specs.List.{AllByRecursion, Contains}
 use Rattle.nob_frame.specs.declared.frame.Frame.{Frame}
 use Rattle.nob_frame.specs.Kinds.{is_data}
@@ -8,6 +8,10 @@ use Rattle.nob_item.specs.Spelling.{Fits}
 use Rattle.nob_model_end.specs.End.{handed, accepted, transmitted}
 use Rattle.nob_model_end.specs.Pair.{IsBeginning, Reaches}
 use Rattle.nob_model_end.specs.declared.entry.EndEntry.{EndEntry}
+use Rattle.nob_ids.specs.declared.reason.Reason.TheVariants.{BadItem}
+use Rattle.nob_model_types.specs.declared.answer.Answer.{Answer}
+use Rattle.nob_model_types.specs.declared.answer.Answer.TheVariants.{Closed}
+use Rattle.nob_model_types.specs.declared.refusal.Refusal.{Refusal}
 use Rattle.nob_model_types.specs.declared.entry.Entry.{Entry}
 use Rattle.nob_model_history.specs.Ends.{payload_of, calls_at}
 use Rattle.nob_ids.specs.declared.wire_rep.WireRep.{WireRep}
@@ -61,3 +65,12 @@ pub record Listings (n : ℕ) (J : List Entry) : Type 0 where
 pub record Holdings (n : ℕ) (J : List Entry) : Type 0 where
   pub held_granted : (c : ℕ) (rep : WireRep) → is_counted rep ≡ true → is_held c rep (history_at c n J) ≡ true → (is_own c rep || is_granted (turns c n rep (deeds_at c J))) ≡ true
   pub pinned_granted : (c : ℕ) (rep : WireRep) → 1 ≤ pins rep (history_at c n J) → (is_own c rep || is_granted (turns c n rep (deeds_at c J))) ≡ true
+
+-- whether a result closes a session for a bad item: bytes that spell none, or an acknowledgement of what was never transmitted
+abbrev pub is_bad_item : Result Answer Refusal → Bool
+is_bad_item (Ok (Closed BadItem)) = true
+is_bad_item _ = false
+
+-- no session closes for a bad item
+pub record Readings (n : ℕ) (J : List Entry) : Type 0 where
+  pub none_bad : AllByRecursion (λ entry. is_bad_item entry.result ≡ false) J

@@ -6,7 +6,7 @@ use Rattle.nob_model_journal.specs.Runs.{WorldRun}
 use Rattle.nob_model_journal.specs.Fronts.{Fronts}
 use Rattle.nob_model_journal.specs.Safety.{SafeWithdraw}
 use Rattle.nob_model_safety.specs.Typed.{AreOfTypes}
-use Rattle.nob_model_safety.specs.Invariant.{Sessions, Clients, Owners, Names, Listings, Holdings}
+use Rattle.nob_model_safety.specs.Invariant.{Sessions, Clients, Owners, Names, Listings, Holdings, Readings}
 
 -- every run of a world keeps what is said of its sessions
 abbrev pub SessionsLaw : Type 0
@@ -39,3 +39,7 @@ HoldingsLaw = (n : ℕ) (limits : ℕ → Limits) (J : List Entry) → WorldRun 
 -- in every run of a world no object is withdrawn while a space needs it
 abbrev pub SafeWithdrawLaw : Type 0
 SafeWithdrawLaw = (n : ℕ) (limits : ℕ → Limits) (J : List Entry) → WorldRun n limits J → AreOfTypes J → SafeWithdraw n J
+
+-- in every run of a world no session closes for a bad item
+abbrev pub ReadingsLaw : Type 0
+ReadingsLaw = (n : ℕ) (limits : ℕ → Limits) (J : List Entry) → WorldRun n limits J → AreOfTypes J → Readings n J

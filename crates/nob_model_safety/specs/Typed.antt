@@ -1,6 +1,6 @@
 -- What a program hands to a space is of its types: an index is a u64, a method a u16, a whole number in a value an i64. A
 -- definition knows no such bounds, and what is out of them has no spelling of its own: so a run is asked to keep them.
-use Rattle.std.specs.Prelude.{◌≡◌, ⊤, ℕ, ◌<◌, ◌^◌, List, Some}
+use Rattle.std.specs.Prelude.{◌≡◌, ⊤, ◌<◌, ◌^◌, List, Some}
 use Rattle.std.specs.List.{AllByRecursion}
 use Rattle.nob_pickle.specs.Shape.{tree}
 use Rattle.nob_pickle.specs.Limits.{IsTyped}

@@ -1,6 +1,6 @@
 //! Laws over the definitions: each is the contract of a function that does nothing.
 
-ghost use Rattle.nob_model_safety.specs.Laws.{ClientsLaw, FrontsLaw, HoldingsLaw, ListingsLaw, NamesLaw, OwnersLaw, SafeWithdrawLaw, SessionsLaw};
+ghost use Rattle.nob_model_safety.specs.Laws.{ClientsLaw, FrontsLaw, HoldingsLaw, ListingsLaw, NamesLaw, OwnersLaw, ReadingsLaw, SafeWithdrawLaw, SessionsLaw};
 
 /// In every run of a world, of every two spaces: each item that one sent the other has a spelling; of these the other
 /// accepted a beginning and acted on a beginning, in order; and each frame that was ever given carries what its sender
@@ -61,4 +61,11 @@ pub fn holdings()
 #[tactic(auto, using(crate::proofs::Withdrawing::safe_withdraw))]
 pub fn withdraws()
     ensures { SafeWithdrawLaw }
+{}
+
+/// In every run of a world no session closes for a bad item: what comes to be acted on can be read, and no frame
+/// acknowledges what was never transmitted. Asked of the run: what each Call and Finish handed on is of its types.
+#[tactic(auto, using(crate::proofs::Bad::readings))]
+pub fn readings()
+    ensures { ReadingsLaw }
 {}
