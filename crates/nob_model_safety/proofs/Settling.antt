@@ -32,7 +32,10 @@ use Rattle.nob_model_history.specs.Histories.{history_of}
 use Rattle.nob_model_history.specs.Ends.{items_to, calls_at}
 use Rattle.nob_model_history.specs.Transit.{sent}
 use Rattle.nob_model_history.proofs.Numbered.{items_sent_to, gifts_sent_to}
-use Rattle.nob_model.proofs.Waiting.{AreApart}
+use Rattle.nob_model.proofs.Waiting.{AreApart, IsOpenIn, are_waiting, settled_message, act_number, all_weaker}
+use Rattle.nob_model.specs.Lists.{IsRightDeed, AreRightDeeds}
+use Rattle.nob_model_history.proofs.Inbox.{takes_no_fewer}
+use Rattle.nob_model_safety.proofs.Lists.{all_both}
 use Rattle.nob_model_safety.proofs.Owners.{any_push}
 
 -- ---- messages that wait, by one deed more
@@ -272,3 +275,92 @@ settles_now s n p q k D m found =
     settles_more s n p (did.Settle q k) D
     ∙ ap (λ one. settles_of s n p D ++ gifts_settle p (filter (λ (gift : Gift). is_peer s n gift.to) (gifts_of_settle s n q k D one))) found
     ∙ ap (λ ks. settles_of s n p D ++ ks) (settle_if s n p q k (lost_call_reply q m.item (is_lost_message s n D m)) (lost_none q m.item (is_lost_message s n D m)) (is_peer s n q) (q == p) refl refl)
+
+-- ---- each once
+
+-- a message from p isn't settled
+abbrev pub IsOver : ℕ → List ℕ → Message → Type 0
+IsOver p ks m = (m.from == p) ≡ true → is_in m.number ks ≡ false
+
+-- how it stands with p at space s: what waits isn't settled, what is settled was acted on, and nothing is settled twice
+pub record SettledOnce (s n p : ℕ) (D : List Deed) : Type 0 where
+  pub over : AllByRecursion (IsOver p (settles_of s n p D)) (work s n D).waiting
+  pub low : AllByRecursion (λ k. k ≤ takes (calls_at p (history_of s n D))) (settles_of s n p D)
+  pub once : AreOnce (settles_of s n p D)
+
+over_kept : (s n p : ℕ) (D : List Deed) (ks : List ℕ) (m : Message) → IsOver p ks m → IsOver p ks (message_after s n D m)
+unfolding message_after
+over_kept s n p D ks m is = is
+
+above_none : (t k : ℕ) (ks : List ℕ) → AllByRecursion (λ j. j ≤ t) ks → k ≡ t + 1 → is_in k ks ≡ false
+above_none t k [] low is = refl
+above_none t k (j ∷ ks) low is = or_from (j == k) (is_in k ks) (ne_eqb j k (λ same. (let most = low.0 in omega (arith, most, is, same)))) (above_none t k ks low.1 is)
+
+low_later : (s n p : ℕ) (deed : Deed) (D : List Deed) (ks : List ℕ) → AllByRecursion (λ k. k ≤ takes (calls_at p (history_of s n D))) ks → AllByRecursion (λ k. k ≤ takes (calls_at p (history_of s n (deed ∷ D)))) ks
+low_later s n p deed D ks low = all_weaker (λ k. k ≤ takes (calls_at p (history_of s n D))) (λ k. k ≤ takes (calls_at p (history_of s n (deed ∷ D)))) (λ k most. let more = takes_no_fewer s n p deed D in omega (arith, most, more)) ks low
+
+new_over : (s n : ℕ) (limits : Limits) (p : ℕ) (deed : Deed) (D : List Deed) → IsRightDeed s n limits deed D → SettledOnce s n p D → (q k : ℕ) (item : Item) → deed ≡ did.Act q k → item_at q k D ≡ Some item → IsOver p (settles_of s n p D) (new_message s n q k item (did.Act q k ∷ D))
+new_over s n limits p deed D right before q k item is found = λ own.
+    let next = act_number s n limits q k D (subst (λ (one : Deed). IsRightDeed s n limits one D) is right) in
+    above_none (takes (calls_at p (history_of s n D))) k (settles_of s n p D) before.low (next ∙ ap (λ (r : ℕ). takes (calls_at r (history_of s n D)) + 1) (eqb-true q p own))
+
+-- a deed that is no Settle
+other_once : (s n : ℕ) (limits : Limits) (p : ℕ) (deed : Deed) (D : List Deed) → IsRightDeed s n limits deed D → is_settle deed ≡ false → SettledOnce s n p D → SettledOnce s n p (deed ∷ D)
+other_once s n limits p deed D right none before =
+    let same = settles_same s n p deed D none in
+    record {
+      over = subst (λ ks. AllByRecursion (IsOver p ks) (work s n (deed ∷ D)).waiting) (sym same) (waits_more (IsOver p (settles_of s n p D)) s n deed D (over_kept s n p (deed ∷ D) (settles_of s n p D)) (new_over s n limits p deed D right before) before.over);
+      low = subst (AllByRecursion (λ k. k ≤ takes (calls_at p (history_of s n (deed ∷ D))))) (sym same) (low_later s n p deed D (settles_of s n p D) before.low);
+      once = subst AreOnce (sym same) before.once;
+    }
+
+other_of : (q k from number : ℕ) (o : Message) → from ≡ q → number ≡ k → is_of from number o ≡ false → is_of q k o ≡ false
+other_of q k from number o same also none = ap (λ (r : ℕ). is_of r k o) (sym same) ∙ ap (λ (j : ℕ). is_of from j o) (sym also) ∙ none
+
+-- of messages that differ only one is of an item
+only_one : (q k : ℕ) (ms : List Message) (m : Message) → AreApart ms → find (is_of q k) ms ≡ Some m → AllByRecursion (λ o. is_of q k o ≡ false) (without_first (is_of q k) ms)
+only_one q k [] m apart found = tt
+only_one q k (first ∷ ms) m apart found = one_by (is_of q k first) refl (only_one q k ms m apart.1) found
+  where
+    one_by : (b : Bool) → is_of q k first ≡ b → (find (is_of q k) ms ≡ Some m → AllByRecursion (λ o. is_of q k o ≡ false) (without_first (is_of q k) ms)) → cond b (Some first) (find (is_of q k) ms) ≡ Some m → AllByRecursion (λ o. is_of q k o ≡ false) (if b then ms else first ∷ without_first (is_of q k) ms)
+    one_by true is rest found = let parts = and_parts (first.from == q) (first.number == k) is in all_weaker (λ o. is_of first.from first.number o ≡ false) (λ o. is_of q k o ≡ false) (λ o none. other_of q k first.from first.number o (eqb-true _ _ parts.0) (eqb-true _ _ parts.1) none) ms apart.0
+    one_by false is rest found = (is, rest found)
+
+unlike_number : (q k p : ℕ) (o : Message) → q ≡ p → is_of q k o ≡ false → (o.from == p) ≡ true → (k == o.number) ≡ false
+unlike_number q k p o same none own =
+    false_from_ne_true (k == o.number) (λ equal. both_ways (is_of q k o) none (and_from _ _ (ap (λ (r : ℕ). o.from == r) same ∙ own) (eq-eqb o.number k (sym (eqb-true k o.number equal)))))
+
+settle_once : (s n : ℕ) (limits : Limits) (p q k : ℕ) (D : List Deed) → AreRightDeeds s n limits (did.Settle q k ∷ D) → SettledOnce s n p D → (b : Bool) → (b ≡ true → q ≡ p) → settles_of s n p (did.Settle q k ∷ D) ≡ settles_of s n p D ++ cond b (k ∷ []) [] → SettledOnce s n p (did.Settle q k ∷ D)
+settle_once s n limits p q k D right before true own is =
+    let told = settled_message s n limits q k D right in
+    let m : Message = told.0 in
+    let ks : List ℕ = settles_of s n p D in
+    let same : q ≡ p = own refl in
+    let waits = are_waiting s n limits D right.1 in
+    let fresh : is_in k ks ≡ false = ap (λ (j : ℕ). is_in j ks) (sym told.3) ∙ all_found (IsOver p ks) (is_of q k) (work s n D).waiting m told.4 before.over (eq-eqb m.from p (told.2 ∙ same)) in
+    let taken : k ≤ takes (calls_at p (history_of s n D)) = subst (λ (r : ℕ). k ≤ takes (calls_at r (history_of s n D))) (told.2 ∙ same) (subst (λ (j : ℕ). j ≤ takes (calls_at m.from (history_of s n D))) told.3 (all_found (λ (o : Message). o.number ≤ takes (calls_at o.from (history_of s n D))) (is_of q k) (work s n D).waiting m told.4 (all_weaker (IsOpenIn s n D) (λ (o : Message). o.number ≤ takes (calls_at o.from (history_of s n D))) (λ o open_in. open_in.1) (work s n D).waiting waits.0))) in
+    let others : AllByRecursion (IsOver p (ks ++ k ∷ [])) (without_first (is_of q k) (work s n D).waiting) = all_both (IsOver p ks) (λ (o : Message). is_of q k o ≡ false) (IsOver p (ks ++ k ∷ []))
+    (λ o over none from. any_push (λ j. j == o.number) ks k ∙ or_from (is_in o.number ks) (k == o.number) (over from) (unlike_number q k p o same none from))
+    (without_first (is_of q k) (work s n D).waiting) (all_without (IsOver p ks) (is_of q k) (work s n D).waiting before.over) (only_one q k (work s n D).waiting m waits.1 told.4) in
+    record {
+      over = subst (λ js. AllByRecursion (IsOver p js) (work s n (did.Settle q k ∷ D)).waiting) (sym is) (others_wait (IsOver p (ks ++ k ∷ [])) s n q k D (over_kept s n p (did.Settle q k ∷ D) (ks ++ k ∷ [])) m told.4 others);
+      low = subst (AllByRecursion (λ j. j ≤ takes (calls_at p (history_of s n (did.Settle q k ∷ D))))) (sym is) (low_later s n p (did.Settle q k) D (ks ++ k ∷ []) (all_push (λ j. j ≤ takes (calls_at p (history_of s n D))) ks k before.low taken));
+      once = subst AreOnce (sym is) (once_push ks k before.once fresh);
+    }
+settle_once s n limits p q k D right before false own is =
+    let told = settled_message s n limits q k D right in
+    let ks : List ℕ = settles_of s n p D in
+    let same = is ∙ append-nil ks in
+    record {
+      over = subst (λ js. AllByRecursion (IsOver p js) (work s n (did.Settle q k ∷ D)).waiting) (sym same) (others_wait (IsOver p ks) s n q k D (over_kept s n p (did.Settle q k ∷ D) ks) told.0 told.4 (all_without (IsOver p ks) (is_of q k) (work s n D).waiting before.over));
+      low = subst (AllByRecursion (λ j. j ≤ takes (calls_at p (history_of s n (did.Settle q k ∷ D))))) (sym same) (low_later s n p (did.Settle q k) D ks before.low);
+      once = subst AreOnce (sym same) before.once;
+    }
+
+-- in every list of right deeds each message is settled once, while it waits
+pub settled_once : (s n : ℕ) (limits : Limits) (p : ℕ) (D : List Deed) → AreRightDeeds s n limits D → SettledOnce s n p D
+settled_once s n limits p [] right = record { over = tt; low = tt; once = tt }
+settled_once s n limits p (did.Settle q k ∷ D) right =
+    let told = settled_message s n limits q k D right in
+    settle_once s n limits p q k D right (settled_once s n limits p D right.1) (is_peer s n q && q == p) (λ both. eqb-true q p (and_parts _ _ both).1) (settles_now s n p q k D told.0 told.4)
+settled_once s n limits p (deed ∷ D) right = other_once s n limits p deed D right.0 refl (settled_once s n limits p D right.1)
