@@ -1,7 +1,7 @@
 -- Each message that came from a peer is settled once: its Settle is sent while it waits, and then it waits no more.
-use Rattle.std.proofs.Common.{◌≡◌, ℕ, ◌+◌, ◌≤◌, ◌&&◌, ◌||◌, not, Bool, true, false, cond, List, [], ◌∷◌, ◌++◌, length, map, filter, filter_map, find, Option, Some, None, if◌then◌else◌, refl, sym, ap, subst, ◌∙◌, arith}
-use Rattle.std.specs.Prelude.{⊤, ◌==◌}
-use Rattle.std.specs.List.{AllByRecursion, list_any, cons_option}
+use Rattle.std.proofs.Common.{◌≡◌, ℕ, ◌+◌, ◌≤◌, ◌&&◌, Bool, true, false, cond, List, [], ◌∷◌, ◌++◌, map, filter, filter_map, find, Option, Some, None, if◌then◌else◌, refl, sym, ap, subst, ◌∙◌, arith}
+use Rattle.std.specs.Prelude.{◌==◌}
+use Rattle.std.specs.List.{AllByRecursion, cons_option}
 use Rattle.std.proofs.lemmas.Bool.{eqb-true, eqb-false, eq-eqb, ne_eqb, and_parts, and_from, or_parts, or_from, both_ways, false_from_ne_true}
 use Rattle.std.proofs.lemmas.List.{append-nil}
 use Rattle.std.proofs.lemmas.List.Elements.{filter_map-append}
@@ -36,6 +36,7 @@ use Rattle.nob_model.proofs.Waiting.{AreApart, IsOpenIn, are_waiting, settled_me
 use Rattle.nob_model.specs.Lists.{IsRightDeed, AreRightDeeds}
 use Rattle.nob_model_history.proofs.Inbox.{takes_no_fewer}
 use Rattle.nob_model_safety.proofs.Lists.{all_both}
+use Rattle.nob_model_safety.specs.Settles.{settle_in, is_in, AreOnce}
 use Rattle.nob_model_safety.proofs.Owners.{any_push}
 
 -- ---- messages that wait, by one deed more
@@ -104,28 +105,9 @@ module _ (P : Message → Type 0) where
 
 -- ---- numbers that were settled
 
--- the item that a note settles
-abbrev pub settle_in : Item → Option ℕ
-settle_in (items.Call call target method value) = None
-settle_in (items.Reply call status value) = None
-settle_in (items.Settle item) = Some item
-settle_in (items.Dirty index) = None
-settle_in (items.DirtyOk index) = None
-settle_in (items.DirtyNo index) = None
-settle_in (items.Clean index) = None
-
 -- the numbers of the items from p that were settled
 abbrev pub settles_of : (s n p : ℕ) → List Deed → List ℕ
 settles_of s n p D = filter_map settle_in (items_sent_to p (sent (history_of s n D)))
-
--- whether a number is among some
-abbrev pub is_in : ℕ → List ℕ → Bool
-is_in k ks = list_any (λ j. j == k) ks
-
--- no number stands twice
-abbrev pub AreOnce : List ℕ → Type 0
-AreOnce [] = ⊤
-AreOnce (k ∷ ks) = (is_in k ks ≡ false) × AreOnce ks
 
 flip_false : (a b : ℕ) → (a == b) ≡ false → (b == a) ≡ false
 flip_false a b e = ne_eqb b a (λ same. eqb-false a b e (sym same))
