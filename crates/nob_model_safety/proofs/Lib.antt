@@ -24,3 +24,4 @@ pub mod Withdrawing
 pub mod Closing
 pub mod Bad
 pub mod Places
+pub mod Settling

@@ -1,9 +1,13 @@
 -- The points of the invariant that are read off one space's list alone.
-use Rattle.std.proofs.Common.{not, ap}
+use Rattle.std.proofs.Common.{not, ap, sym, subst, ◌≤◌, ℕ}
 use Rattle.std.proofs.lemmas.Bool.{and_right}
 use Rattle.nob_model_words.specs.Objects.{is_exported}
-use Rattle.nob_model_journal.specs.Journals.{deeds_at}
-use Rattle.nob_model_safety.specs.Laws.{ClientsLaw, OwnersLaw, HoldingsLaw}
+use Rattle.std.specs.List.{AllByRecursion}
+use Rattle.nob_model_history.proofs.Inbox.{acted_takes}
+use Rattle.nob_model_safety.specs.Settles.{settles_among}
+use Rattle.nob_model_safety.proofs.Settling.{settled_once}
+use Rattle.nob_model_journal.specs.Journals.{deeds_at, sent_to}
+use Rattle.nob_model_safety.specs.Laws.{ClientsLaw, OwnersLaw, HoldingsLaw, SettlementsLaw}
 use Rattle.nob_model_safety.proofs.Entries.{right_deeds_at}
 use Rattle.nob_model_safety.proofs.Clients.{are_turned}
 use Rattle.nob_model_safety.proofs.Owners.{are_answered}
@@ -27,4 +31,11 @@ pub holdings : HoldingsLaw
 holdings n limits J run = record {
   held_granted = λ c rep counted held. held_owned c n (limits c) rep (deeds_at c J) (right_deeds_at n limits J run c) (holds_owned c n (limits c) (deeds_at c J) (right_deeds_at n limits J run c)) counted held;
   pinned_granted = λ c rep some. pinned_owned c n (limits c) rep (deeds_at c J) (right_deeds_at n limits J run c) some;
+}
+
+pub settlements : SettlementsLaw
+settlements n limits J run = record {
+  once = λ a b. (settled_once b n (limits b) a (deeds_at b J) (right_deeds_at n limits J run b)).once;
+  were_acted = λ a b. subst (λ (t : ℕ). AllByRecursion (λ k. k ≤ t) (settles_among (sent_to n b a J))) (sym (acted_takes b n a (deeds_at b J))) (settled_once b n (limits b) a (deeds_at b J) (right_deeds_at n limits J run b)).low;
+  none_waits = λ a b. (settled_once b n (limits b) a (deeds_at b J) (right_deeds_at n limits J run b)).over;
 }

@@ -1,6 +1,6 @@
 -- The invariant of all spaces of a run, one record a theme: each says what holds after every entry, of every two
 -- spaces.
-use Rattle.std.specs.Prelude.{◌≡◌, ◌≢◌, ◌≤◌, ℕ, ◌+◌, ◌-◌, true, false, ◌&&◌, ◌||◌, Bool, List, Result, Ok, length, map, Some, slice_get}
+use Rattle.std.specs.Prelude.{◌≡◌, ◌≢◌, ◌≤◌, ℕ, ◌+◌, ◌-◌, true, false, ◌&&◌, ◌||◌, ◌==◌, Bool, List, Result, Ok, length, map, Some, slice_get}
 use Rattle.std.specs.List.{AllByRecursion, Contains}
 use Rattle.nob_frame.specs.declared.frame.Frame.{Frame}
 use Rattle.nob_frame.specs.Kinds.{is_data}
@@ -22,9 +22,11 @@ use Rattle.nob_ids.specs.Names.{is_counted}
 use Rattle.nob_model_history.specs.Holds.{is_held}
 use Rattle.nob_model_history.specs.Transit.{pins}
 use Rattle.nob_model_history.specs.Listing.{is_entered, is_listed}
+use Rattle.nob_model_work.specs.Work.{work}
+use Rattle.nob_model_safety.specs.Settles.{settles_among, is_in, AreOnce}
 use Rattle.nob_model_safety.specs.Naming.{NamesExported}
 use Rattle.nob_model_safety.specs.Asking.{asked, heard, was_asked, gave, turns_by, has_no, last_or, last_word, AskedInTurn, AnsweredInTurn}
-use Rattle.nob_model_journal.specs.Journals.{deeds_at, closed_at, history_at, sent_to, given}
+use Rattle.nob_model_journal.specs.Journals.{deeds_at, closed_at, history_at, sent_to, acted_from, given}
 use Rattle.nob_model_journal.specs.Fronts.{ActsInOrder}
 
 -- a frame as an end gave it: it acknowledges no more than what the end accepted, and a Data frame carries the payload of its number, which was transmitted
@@ -74,3 +76,9 @@ is_bad_item _ = false
 -- no session closes for a bad item
 pub record Readings (n : ℕ) (J : List Entry) : Type 0 where
   pub none_bad : AllByRecursion (λ entry. is_bad_item entry.result ≡ false) J
+
+-- what came to b from a is settled once: no item twice, each was acted on before, and none whose message waits
+pub record Settlements (n : ℕ) (J : List Entry) : Type 0 where
+  pub once : (a b : ℕ) → AreOnce (settles_among (sent_to n b a J))
+  pub were_acted : (a b : ℕ) → AllByRecursion (λ k. k ≤ length (acted_from a b J)) (settles_among (sent_to n b a J))
+  pub none_waits : (a b : ℕ) → AllByRecursion (λ message. (message.from == a) ≡ true → is_in message.number (settles_among (sent_to n b a J)) ≡ false) (work b n (deeds_at b J)).waiting

@@ -5,5 +5,6 @@ pub use Rattle.nob_model_journal.specs.Safety
 pub mod Typed
 pub mod Asking
 pub mod Naming
+pub mod Settles
 pub mod Invariant
 pub mod Laws

@@ -1,6 +1,6 @@
 //! Laws over the definitions: each is the contract of a function that does nothing.
 
-ghost use Rattle.nob_model_safety.specs.Laws.{ClientsLaw, FrontsLaw, HoldingsLaw, ListingsLaw, NamesLaw, OwnersLaw, ReadingsLaw, SafeWithdrawLaw, SessionsLaw};
+ghost use Rattle.nob_model_safety.specs.Laws.{ClientsLaw, FrontsLaw, HoldingsLaw, ListingsLaw, NamesLaw, OwnersLaw, ReadingsLaw, SafeWithdrawLaw, SessionsLaw, SettlementsLaw};
 
 /// In every run of a world, of every two spaces: each item that one sent the other has a spelling; of these the other
 /// accepted a beginning and acted on a beginning, in order; and each frame that was ever given carries what its sender
@@ -68,4 +68,10 @@ pub fn withdraws()
 #[tactic(auto, using(crate::proofs::Bad::readings))]
 pub fn readings()
     ensures { ReadingsLaw }
+{}
+
+/// In every run of a world no item is settled twice, none that wasn't acted on, and none whose message waits.
+#[tactic(auto, using(crate::proofs::Points::settlements))]
+pub fn settlements()
+    ensures { SettlementsLaw }
 {}
