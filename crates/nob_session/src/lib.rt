@@ -10,6 +10,5 @@ pub mod wire;
 
 pub use closed::{Arrival, Closed};
 pub use error::SessionError;
-pub use nob_model_end::laws;
-pub use nob_model_end::{EndRefusal, Kind};
+pub use nob_model_end::{EndRefusal, Kind, laws};
 pub use session::Session;
