@@ -25,3 +25,4 @@ pub mod Closing
 pub mod Bad
 pub mod Places
 pub mod Settling
+pub mod Alive

@@ -23,6 +23,7 @@ use Rattle.nob_model_history.specs.Holds.{is_held}
 use Rattle.nob_model_history.specs.Transit.{pins}
 use Rattle.nob_model_history.specs.Listing.{is_entered, is_listed}
 use Rattle.nob_model_work.specs.Work.{work}
+use Rattle.nob_model.specs.Right.{own_ref}
 use Rattle.nob_model_safety.specs.Settles.{settles_among, is_in, AreOnce}
 use Rattle.nob_model_safety.specs.Naming.{NamesExported}
 use Rattle.nob_model_safety.specs.Asking.{asked, heard, was_asked, gave, turns_by, has_no, last_or, last_word, AskedInTurn, AnsweredInTurn}
@@ -82,3 +83,9 @@ pub record Settlements (n : ℕ) (J : List Entry) : Type 0 where
   pub once : (a b : ℕ) → AreOnce (settles_among (sent_to n b a J))
   pub were_acted : (a b : ℕ) → AllByRecursion (λ k. k ≤ length (acted_from a b J)) (settles_among (sent_to n b a J))
   pub none_waits : (a b : ℕ) → AllByRecursion (λ message. (message.from == a) ≡ true → is_in message.number (settles_among (sent_to n b a J)) ≡ false) (work b n (deeds_at b J)).waiting
+
+-- what an owner holds of its own, what has pins there and what anyone is listed for is live
+pub record Living (n : ℕ) (J : List Entry) : Type 0 where
+  pub held_live : (o x : ℕ) → is_counted (own_ref o x) ≡ true → is_held o (own_ref o x) (history_at o n J) ≡ true → is_live o x (deeds_at o J) ≡ true
+  pub pinned_live : (o x : ℕ) → 1 ≤ pins (own_ref o x) (history_at o n J) → is_live o x (deeds_at o J) ≡ true
+  pub listed_live : (o x c : ℕ) → is_listed o x c (deeds_at o J) ≡ true → is_live o x (deeds_at o J) ≡ true
