@@ -26,3 +26,4 @@ pub mod Bad
 pub mod Places
 pub mod Settling
 pub mod Alive
+pub mod Settled

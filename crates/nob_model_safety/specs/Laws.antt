@@ -44,7 +44,7 @@ SafeWithdrawLaw = (n : ℕ) (limits : ℕ → Limits) (J : List Entry) → World
 abbrev pub ReadingsLaw : Type 0
 ReadingsLaw = (n : ℕ) (limits : ℕ → Limits) (J : List Entry) → WorldRun n limits J → AreOfTypes J → Readings n J
 
--- in every run of a world no item is settled twice, none that wasn't acted on, and none whose message waits
+-- in every run of a world no item is settled twice, none that wasn't acted on, none that carries no counted reference, and none whose message waits
 abbrev pub SettlementsLaw : Type 0
 SettlementsLaw = (n : ℕ) (limits : ℕ → Limits) (J : List Entry) → WorldRun n limits J → Settlements n J
 

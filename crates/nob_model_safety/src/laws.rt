@@ -70,7 +70,8 @@ pub fn readings()
     ensures { ReadingsLaw }
 {}
 
-/// In every run of a world no item is settled twice, none that wasn't acted on, and none whose message waits.
+/// In every run of a world no item is settled twice, none that wasn't acted on, none that carries no counted reference,
+/// and none whose message waits.
 #[tactic(auto, using(crate::proofs::Points::settlements))]
 pub fn settlements()
     ensures { SettlementsLaw }
