@@ -27,3 +27,5 @@ pub mod Places
 pub mod Settling
 pub mod Alive
 pub mod Settled
+pub mod Bundles
+pub mod Unsettled
