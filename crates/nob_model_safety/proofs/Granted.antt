@@ -149,7 +149,7 @@ hand_apart s Q W all =
       replies = all_apart Q (loans_of s) W.replies three.1;
     }
 
-hand_joined : (s : ℕ) (Q : WireRep → Type 0) (W : InHand) → AllInHand (λ m. AllByRecursion Q (loans_of s m)) W → AllByRecursion Q (lent_in s W)
+pub hand_joined : (s : ℕ) (Q : WireRep → Type 0) (W : InHand) → AllInHand (λ m. AllByRecursion Q (loans_of s m)) W → AllByRecursion Q (lent_in s W)
 hand_joined s Q W all =
     all_append Q (flat_map (loans_of s) W.waiting) _ (all_joined Q (loans_of s) W.waiting all.waiting)
     (all_append Q (flat_map (loans_of s) W.ready) _ (all_joined Q (loans_of s) W.ready all.ready)
@@ -183,7 +183,7 @@ join_if : (Q : WireRep → Type 0) (b : Bool) (copy : RefCopy) (kept : List RefC
 join_if Q true copy kept is own rest = (own (is_lent_then copy.loan is), rest)
 join_if Q false copy kept is own rest = rest
 
-copies_joined : (Q : WireRep → Type 0) (copies : List RefCopy) → AllByRecursion (λ (copy : RefCopy). copy.loan ≡ loans.Lent → Q copy.rep) copies → AllByRecursion Q (copies_lent copies)
+pub copies_joined : (Q : WireRep → Type 0) (copies : List RefCopy) → AllByRecursion (λ (copy : RefCopy). copy.loan ≡ loans.Lent → Q copy.rep) copies → AllByRecursion Q (copies_lent copies)
 copies_joined Q [] all = tt
 copies_joined Q (copy ∷ copies) all = join_if Q (is_lent copy.loan) copy (filter (λ c. is_lent c.loan) copies) refl all.0 (copies_joined Q copies all.1)
 
@@ -208,7 +208,7 @@ pub record HoldsOwned (s n : ℕ) (D : List Deed) : Type 0 where
 lent_owned : (s n : ℕ) (D : List Deed) → AllInHand (LendsOwned s n D) (work s n D) → AllByRecursion (λ rep. is_owned s n rep D ≡ true) (lent_in s (work s n D))
 lent_owned s n D all = hand_joined s (λ rep. is_owned s n rep D ≡ true) (work s n D) (hand_weaker (LendsOwned s n D) (λ m. AllByRecursion (λ rep. is_owned s n rep D ≡ true) (loans_of s m)) (λ m its. all_append (λ rep. is_owned s n rep D ≡ true) (target_lent s m.item) (copies_lent m.copies) (target_owned s n D m.item) (copies_joined (λ rep. is_owned s n rep D ≡ true) m.copies its)) (work s n D) all)
 
-either_some : (a b total : ℕ) → total ≡ a + b → (total == 0) ≡ false → (1 ≤ a) ⊎ (1 ≤ b)
+pub either_some : (a b total : ℕ) → total ≡ a + b → (total == 0) ≡ false → (1 ≤ a) ⊎ (1 ≤ b)
 either_some a b total is some =
     elim (nat_le 1 a) as (λ (c : Bool). nat_le 1 a ≡ c → (1 ≤ a) ⊎ (1 ≤ b)) [
       | true ↦ λ e. inl (leb-true 1 a e)

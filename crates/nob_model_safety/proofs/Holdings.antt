@@ -58,11 +58,11 @@ some_held : (total : ℕ) → 1 ≤ total → not (total == 0) ≡ true
 some_held total some = not_from_false _ (ne_eqb total 0 (λ none. omega (arith, some, none)))
 
 -- what is in the hand is held
-hand_held : (s n : ℕ) (limits : Limits) (rep : WireRep) (D : List Deed) → AreRightDeeds s n limits D → 1 ≤ hand rep D → is_held s rep (history_of s n D) ≡ true
+pub hand_held : (s n : ℕ) (limits : Limits) (rep : WireRep) (D : List Deed) → AreRightDeeds s n limits D → 1 ≤ hand rep D → is_held s rep (history_of s n D) ≡ true
 hand_held s n limits rep D right some = let law = holds_law s n limits D right rep in some_held (holds s rep (history_of s n D)) (omega (arith, law, some))
 
 -- what is lent is held
-lent_held : (s n : ℕ) (limits : Limits) (rep : WireRep) (D : List Deed) → AreRightDeeds s n limits D → 1 ≤ times rep (lent_in s (work s n D)) → is_held s rep (history_of s n D) ≡ true
+pub lent_held : (s n : ℕ) (limits : Limits) (rep : WireRep) (D : List Deed) → AreRightDeeds s n limits D → 1 ≤ times rep (lent_in s (work s n D)) → is_held s rep (history_of s n D) ≡ true
 lent_held s n limits rep D right some = let law = holds_law s n limits D right rep in some_held (holds s rep (history_of s n D)) (omega (arith, law, some))
 
 -- ---- one deed more: what is lent
@@ -135,18 +135,18 @@ one_more : (s n : ℕ) (limits : Limits) (deed : Deed) (D : List Deed) (rep othe
 one_more s n limits deed D rep other right all counted own true same some = own same
 one_more s n limits deed D rep other right all counted own false same some = hand_less s n limits deed D rep right all counted some
 
-fewer : (s n : ℕ) (D : List Deed) (rep other : WireRep) (b : Bool) → 1 ≤ times rep (gains D) - length (cond b (other ∷ filter (is_same rep) (releases D)) (filter (is_same rep) (releases D))) → 1 ≤ hand rep D
+pub fewer : (s n : ℕ) (D : List Deed) (rep other : WireRep) (b : Bool) → 1 ≤ times rep (gains D) - length (cond b (other ∷ filter (is_same rep) (releases D)) (filter (is_same rep) (releases D))) → 1 ≤ hand rep D
 fewer s n D rep other true some = omega (arith, some)
 fewer s n D rep other false some = some
 
-either_came : (value_times before gone : ℕ) → 1 ≤ (value_times + before) - gone → (1 ≤ value_times) ⊎ (1 ≤ before - gone)
+pub either_came : (value_times before gone : ℕ) → 1 ≤ (value_times + before) - gone → (1 ≤ value_times) ⊎ (1 ≤ before - gone)
 either_came value_times before gone some =
     elim (nat_le 1 value_times) as (λ (b : Bool). nat_le 1 value_times ≡ b → (1 ≤ value_times) ⊎ (1 ≤ before - gone)) [
       | true ↦ λ e. inl (leb-true 1 value_times e)
       | false ↦ λ e. inr (let few = leb-false 1 value_times e in omega (arith, some, few))
     ] refl
 
-times_append : (rep : WireRep) (reps more : List WireRep) → times rep (reps ++ more) ≡ times rep reps + times rep more
+pub times_append : (rep : WireRep) (reps more : List WireRep) → times rep (reps ++ more) ≡ times rep reps + times rep more
 times_append rep reps more = ap length (filter-append (is_same rep) reps more) ∙ length-append (filter (is_same rep) reps) (filter (is_same rep) more)
 
 -- all that a message carries is lent, so own or granted

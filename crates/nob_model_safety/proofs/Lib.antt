@@ -25,3 +25,7 @@ pub mod Closing
 pub mod Bad
 pub mod Places
 pub mod Settling
+pub mod Alive
+pub mod Settled
+pub mod Bundles
+pub mod Unsettled

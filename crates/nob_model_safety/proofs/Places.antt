@@ -49,7 +49,7 @@ next_names n a b limits item J run typed next = all_at (NamesExported J b) (sent
 -- ---- answers
 
 -- what stands behind what was acted on begins with the next item
-rest_next : (n a b : ℕ) (item : Item) (J : List Entry) → (begins : ActsInOrder n a b J) → IsNext n a b item J → (more : List (ℕ × Option Item)) × (begins.0 ≡ (1 + length (acted_from a b J), Some item) ∷ more)
+pub rest_next : (n a b : ℕ) (item : Item) (J : List Entry) → (begins : ActsInOrder n a b J) → IsNext n a b item J → (more : List (ℕ × Option Item)) × (begins.0 ≡ (1 + length (acted_from a b J), Some item) ∷ more)
 rest_next n a b item J begins next =
     next_of_rest (acted_from a b J) begins.0 (1 + length (acted_from a b J), Some item)
     (subst (λ pairs. slice_get pairs (length (acted_from a b J)) ≡ Some (1 + length (acted_from a b J), Some item)) (sym begins.1) (numbered_at 1 (sent_to n a b J) (length (acted_from a b J)) item next))

@@ -1,13 +1,19 @@
 -- The points of the invariant that are read off one space's list alone.
-use Rattle.std.proofs.Common.{not, ap, sym, subst, ◌≤◌, ℕ}
-use Rattle.std.proofs.lemmas.Bool.{and_right}
+use Rattle.std.proofs.Common.{not, ap, refl, sym, subst, ◌≤◌, ℕ, arith}
+use Rattle.std.proofs.lemmas.Bool.{and_right, eq-eqb, ne_eqb}
 use Rattle.nob_model_words.specs.Objects.{is_exported}
 use Rattle.std.specs.List.{AllByRecursion}
 use Rattle.nob_model_history.proofs.Inbox.{acted_takes}
 use Rattle.nob_model_safety.specs.Settles.{settles_among}
+use Rattle.nob_model.proofs.Guarding.{listed_law, pinned_law}
+use Rattle.nob_model.specs.Right.{own_ref}
+use Rattle.nob_model_history.specs.Transit.{pins}
+use Rattle.nob_model_journal.specs.Journals.{history_at}
+use Rattle.nob_model_safety.proofs.Alive.{held_alive}
 use Rattle.nob_model_safety.proofs.Settling.{settled_once}
+use Rattle.nob_model_safety.proofs.Settled.{settled_carry}
 use Rattle.nob_model_journal.specs.Journals.{deeds_at, sent_to}
-use Rattle.nob_model_safety.specs.Laws.{ClientsLaw, OwnersLaw, HoldingsLaw, SettlementsLaw}
+use Rattle.nob_model_safety.specs.Laws.{ClientsLaw, OwnersLaw, HoldingsLaw, SettlementsLaw, LivingLaw}
 use Rattle.nob_model_safety.proofs.Entries.{right_deeds_at}
 use Rattle.nob_model_safety.proofs.Clients.{are_turned}
 use Rattle.nob_model_safety.proofs.Owners.{are_answered}
@@ -37,5 +43,13 @@ pub settlements : SettlementsLaw
 settlements n limits J run = record {
   once = λ a b. (settled_once b n (limits b) a (deeds_at b J) (right_deeds_at n limits J run b)).once;
   were_acted = λ a b. subst (λ (t : ℕ). AllByRecursion (λ k. k ≤ t) (settles_among (sent_to n b a J))) (sym (acted_takes b n a (deeds_at b J))) (settled_once b n (limits b) a (deeds_at b J) (right_deeds_at n limits J run b)).low;
+  carried = λ a b. (settled_carry b n (limits b) a (deeds_at b J) (right_deeds_at n limits J run b)).settled;
   none_waits = λ a b. (settled_once b n (limits b) a (deeds_at b J) (right_deeds_at n limits J run b)).over;
+}
+
+pub living : LivingLaw
+living n limits J run = record {
+  held_live = λ o x counted held. held_alive o n (limits o) (own_ref o x) (deeds_at o J) (right_deeds_at n limits J run o) counted (eq-eqb o o refl) held;
+  pinned_live = λ o x some. pinned_law o n (limits o) (deeds_at o J) (right_deeds_at n limits J run o) x (ne_eqb (pins (own_ref o x) (history_at o n J)) 0 (λ none. omega (arith, some, none)));
+  listed_live = λ o x c listed. listed_law o n (limits o) (deeds_at o J) (right_deeds_at n limits J run o) x c listed;
 }

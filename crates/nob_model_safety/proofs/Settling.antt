@@ -42,17 +42,17 @@ use Rattle.nob_model_safety.proofs.Owners.{any_push}
 -- ---- messages that wait, by one deed more
 
 module _ (P : Message → Type 0) where
-  either_waits : (b : Bool) (one other : InHand) → AllByRecursion P one.waiting → AllByRecursion P other.waiting → AllByRecursion P (cond b one other).waiting
+  either_waits : (b : Bool) (one other : InHand) → AllByRecursion P one.waiting → (b ≡ false → AllByRecursion P other.waiting) → AllByRecursion P (cond b one other).waiting
   either_waits true one other its rest = its
-  either_waits false one other its rest = rest
+  either_waits false one other its rest = rest refl
 
-  message_waits : (m : Message) (item : Item) (W : InHand) → P m → AllByRecursion P W.waiting → AllByRecursion P (after_message m item W).waiting
+  message_waits : (m : Message) (item : Item) (W : InHand) → (is_none_of m.copies ≡ false → P m) → AllByRecursion P W.waiting → AllByRecursion P (after_message m item W).waiting
   unfolding after_message
-  message_waits m (items.Call call target method value) W its all = either_waits (is_none_of m.copies) (make_ready m W) (wait m W) all (all_push P W.waiting m all its)
-  message_waits m (items.Reply call status value) W its all = either_waits (is_none_of m.copies) (make_reply m W) (wait m W) all (all_push P W.waiting m all its)
+  message_waits m (items.Call call target method value) W its all = either_waits (is_none_of m.copies) (make_ready m W) (wait m W) all (λ some. all_push P W.waiting m all (its some))
+  message_waits m (items.Reply call status value) W its all = either_waits (is_none_of m.copies) (make_reply m W) (wait m W) all (λ some. all_push P W.waiting m all (its some))
   message_waits m (_) W its all = all
 
-  act_waits : (s n p k : ℕ) (D : List Deed) (found : Option Item) (W : InHand) → ((item : Item) → found ≡ Some item → P (new_message s n p k item (did.Act p k ∷ D))) → AllByRecursion P W.waiting → AllByRecursion P (after_act s n p k D found W).waiting
+  act_waits : (s n p k : ℕ) (D : List Deed) (found : Option Item) (W : InHand) → ((item : Item) → found ≡ Some item → is_none_of (new_message s n p k item (did.Act p k ∷ D)).copies ≡ false → P (new_message s n p k item (did.Act p k ∷ D))) → AllByRecursion P W.waiting → AllByRecursion P (after_act s n p k D found W).waiting
   unfolding after_act
   act_waits s n p k D None W new all = all
   act_waits s n p k D (Some item) W new all = message_waits (new_message s n p k item (did.Act p k ∷ D)) item W (new item refl) all
@@ -79,7 +79,7 @@ module _ (P : Message → Type 0) where
   unfolding with_loans
   loans_wait s n D kept W all = all_mapped P (λ m. message_after s n D m) kept W.waiting all
 
-  deed_waits : (s n : ℕ) (deed : Deed) (D : List Deed) (W : InHand) → ((p k : ℕ) (item : Item) → deed ≡ did.Act p k → item_at p k D ≡ Some item → P (new_message s n p k item (did.Act p k ∷ D))) → AllByRecursion P W.waiting → AllByRecursion P (work_after s n deed D W).waiting
+  deed_waits : (s n : ℕ) (deed : Deed) (D : List Deed) (W : InHand) → ((p k : ℕ) (item : Item) → deed ≡ did.Act p k → item_at p k D ≡ Some item → is_none_of (new_message s n p k item (did.Act p k ∷ D)).copies ≡ false → P (new_message s n p k item (did.Act p k ∷ D))) → AllByRecursion P W.waiting → AllByRecursion P (work_after s n deed D W).waiting
   unfolding work_after after_call after_take after_end after_finish after_close
   deed_waits s n (did.Act p k) D W new all = act_waits s n p k D (item_at p k D) W (λ item is. new p k item refl is) all
   deed_waits s n (did.Settle p k) D W new all = settle_waits s n p k D (find (is_of p k) W.waiting) W all (all_without P (is_of p k) W.waiting all)
@@ -93,11 +93,11 @@ module _ (P : Message → Type 0) where
   deed_waits s n deed D W new all = all
 
   -- what holds of the messages that wait, and of the one that comes, holds of those that wait then
-  waits_more : (s n : ℕ) (deed : Deed) (D : List Deed) → ((m : Message) → P m → P (message_after s n (deed ∷ D) m)) → ((p k : ℕ) (item : Item) → deed ≡ did.Act p k → item_at p k D ≡ Some item → P (new_message s n p k item (did.Act p k ∷ D))) → AllByRecursion P (work s n D).waiting → AllByRecursion P (work s n (deed ∷ D)).waiting
+  pub waits_more : (s n : ℕ) (deed : Deed) (D : List Deed) → ((m : Message) → P m → P (message_after s n (deed ∷ D) m)) → ((p k : ℕ) (item : Item) → deed ≡ did.Act p k → item_at p k D ≡ Some item → is_none_of (new_message s n p k item (did.Act p k ∷ D)).copies ≡ false → P (new_message s n p k item (did.Act p k ∷ D))) → AllByRecursion P (work s n D).waiting → AllByRecursion P (work s n (deed ∷ D)).waiting
   waits_more s n deed D kept new all = loans_wait s n (deed ∷ D) kept (work_after s n deed D (work s n D)) (deed_waits s n deed D (work s n D) new all)
 
   -- a Settle, by what holds of the others
-  others_wait : (s n p k : ℕ) (D : List Deed) → ((m : Message) → P m → P (message_after s n (did.Settle p k ∷ D) m)) → (m : Message) → find (is_of p k) (work s n D).waiting ≡ Some m → AllByRecursion P (without_first (is_of p k) (work s n D).waiting) → AllByRecursion P (work s n (did.Settle p k ∷ D)).waiting
+  pub others_wait : (s n p k : ℕ) (D : List Deed) → ((m : Message) → P m → P (message_after s n (did.Settle p k ∷ D) m)) → (m : Message) → find (is_of p k) (work s n D).waiting ≡ Some m → AllByRecursion P (without_first (is_of p k) (work s n D).waiting) → AllByRecursion P (work s n (did.Settle p k ∷ D)).waiting
   unfolding work_after after_settle
   others_wait s n p k D kept m found all =
       loans_wait s n (did.Settle p k ∷ D) kept (work_after s n (did.Settle p k) D (work s n D))
@@ -216,7 +216,7 @@ clean_none rep true = (refl, tt)
 clean_none rep false = tt
 
 -- whether a deed is a Settle
-abbrev is_settle : Deed → Bool
+abbrev pub is_settle : Deed → Bool
 is_settle (did.Settle p k) = true
 is_settle (_) = false
 
@@ -229,7 +229,7 @@ gives_none s n (did.Settle p k) D none = cc
 gives_none s n (did.Clean rep) D none = clean_none rep (turns s n rep D).asks
 gives_none s n deed D none = tt
 
-settles_same : (s n p : ℕ) (deed : Deed) (D : List Deed) → is_settle deed ≡ false → settles_of s n p (deed ∷ D) ≡ settles_of s n p D
+pub settles_same : (s n p : ℕ) (deed : Deed) (D : List Deed) → is_settle deed ≡ false → settles_of s n p (deed ∷ D) ≡ settles_of s n p D
 unfolding gifts
 settles_same s n p deed D none =
     settles_more s n p deed D
@@ -251,7 +251,7 @@ settle_if s n p q k more none false own is same =
     ∙ none_settled p (filter (λ (gift : Gift). is_peer s n gift.to) more) (all_filter (λ (gift : Gift). settle_in gift.item ≡ None) (λ (gift : Gift). is_peer s n gift.to) more none)
 
 -- a Settle settles its item
-settles_now : (s n p q k : ℕ) (D : List Deed) (m : Message) → find (is_of q k) (work s n D).waiting ≡ Some m → settles_of s n p (did.Settle q k ∷ D) ≡ settles_of s n p D ++ cond (is_peer s n q && q == p) (k ∷ []) []
+pub settles_now : (s n p q k : ℕ) (D : List Deed) (m : Message) → find (is_of q k) (work s n D).waiting ≡ Some m → settles_of s n p (did.Settle q k ∷ D) ≡ settles_of s n p D ++ cond (is_peer s n q && q == p) (k ∷ []) []
 unfolding gifts gifts_of gifts_of_settle
 settles_now s n p q k D m found =
     settles_more s n p (did.Settle q k) D
@@ -291,7 +291,7 @@ other_once : (s n : ℕ) (limits : Limits) (p : ℕ) (deed : Deed) (D : List Dee
 other_once s n limits p deed D right none before =
     let same = settles_same s n p deed D none in
     record {
-      over = subst (λ ks. AllByRecursion (IsOver p ks) (work s n (deed ∷ D)).waiting) (sym same) (waits_more (IsOver p (settles_of s n p D)) s n deed D (over_kept s n p (deed ∷ D) (settles_of s n p D)) (new_over s n limits p deed D right before) before.over);
+      over = subst (λ ks. AllByRecursion (IsOver p ks) (work s n (deed ∷ D)).waiting) (sym same) (waits_more (IsOver p (settles_of s n p D)) s n deed D (over_kept s n p (deed ∷ D) (settles_of s n p D)) (λ q k item is found some. new_over s n limits p deed D right before q k item is found) before.over);
       low = subst (AllByRecursion (λ k. k ≤ takes (calls_at p (history_of s n (deed ∷ D))))) (sym same) (low_later s n p deed D (settles_of s n p D) before.low);
       once = subst AreOnce (sym same) before.once;
     }

@@ -23,7 +23,8 @@ use Rattle.nob_model_history.specs.Holds.{is_held}
 use Rattle.nob_model_history.specs.Transit.{pins}
 use Rattle.nob_model_history.specs.Listing.{is_entered, is_listed}
 use Rattle.nob_model_work.specs.Work.{work}
-use Rattle.nob_model_safety.specs.Settles.{settles_among, is_in, AreOnce}
+use Rattle.nob_model.specs.Right.{own_ref}
+use Rattle.nob_model_safety.specs.Settles.{settles_among, is_in, AreOnce, IsCarrying}
 use Rattle.nob_model_safety.specs.Naming.{NamesExported}
 use Rattle.nob_model_safety.specs.Asking.{asked, heard, was_asked, gave, turns_by, has_no, last_or, last_word, AskedInTurn, AnsweredInTurn}
 use Rattle.nob_model_journal.specs.Journals.{deeds_at, closed_at, history_at, sent_to, acted_from, given}
@@ -77,8 +78,15 @@ is_bad_item _ = false
 pub record Readings (n : ℕ) (J : List Entry) : Type 0 where
   pub none_bad : AllByRecursion (λ entry. is_bad_item entry.result ≡ false) J
 
--- what came to b from a is settled once: no item twice, each was acted on before, and none whose message waits
+-- what came to b from a is settled once: no item twice, each was acted on before and carries counted references, and none whose message waits
 pub record Settlements (n : ℕ) (J : List Entry) : Type 0 where
   pub once : (a b : ℕ) → AreOnce (settles_among (sent_to n b a J))
   pub were_acted : (a b : ℕ) → AllByRecursion (λ k. k ≤ length (acted_from a b J)) (settles_among (sent_to n b a J))
+  pub carried : (a b : ℕ) → AllByRecursion (IsCarrying (acted_from a b J)) (settles_among (sent_to n b a J))
   pub none_waits : (a b : ℕ) → AllByRecursion (λ message. (message.from == a) ≡ true → is_in message.number (settles_among (sent_to n b a J)) ≡ false) (work b n (deeds_at b J)).waiting
+
+-- what an owner holds of its own, what has pins there and what anyone is listed for is live
+pub record Living (n : ℕ) (J : List Entry) : Type 0 where
+  pub held_live : (o x : ℕ) → is_counted (own_ref o x) ≡ true → is_held o (own_ref o x) (history_at o n J) ≡ true → is_live o x (deeds_at o J) ≡ true
+  pub pinned_live : (o x : ℕ) → 1 ≤ pins (own_ref o x) (history_at o n J) → is_live o x (deeds_at o J) ≡ true
+  pub listed_live : (o x c : ℕ) → is_listed o x c (deeds_at o J) ≡ true → is_live o x (deeds_at o J) ≡ true

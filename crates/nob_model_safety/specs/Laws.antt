@@ -6,7 +6,7 @@ use Rattle.nob_model_journal.specs.Runs.{WorldRun}
 use Rattle.nob_model_journal.specs.Fronts.{Fronts}
 use Rattle.nob_model_journal.specs.Safety.{SafeWithdraw}
 use Rattle.nob_model_safety.specs.Typed.{AreOfTypes}
-use Rattle.nob_model_safety.specs.Invariant.{Sessions, Clients, Owners, Names, Listings, Holdings, Readings, Settlements}
+use Rattle.nob_model_safety.specs.Invariant.{Sessions, Clients, Owners, Names, Listings, Holdings, Readings, Settlements, Living}
 
 -- every run of a world keeps what is said of its sessions
 abbrev pub SessionsLaw : Type 0
@@ -44,6 +44,10 @@ SafeWithdrawLaw = (n : ℕ) (limits : ℕ → Limits) (J : List Entry) → World
 abbrev pub ReadingsLaw : Type 0
 ReadingsLaw = (n : ℕ) (limits : ℕ → Limits) (J : List Entry) → WorldRun n limits J → AreOfTypes J → Readings n J
 
--- in every run of a world no item is settled twice, none that wasn't acted on, and none whose message waits
+-- in every run of a world no item is settled twice, none that wasn't acted on, none that carries no counted reference, and none whose message waits
 abbrev pub SettlementsLaw : Type 0
 SettlementsLaw = (n : ℕ) (limits : ℕ → Limits) (J : List Entry) → WorldRun n limits J → Settlements n J
+
+-- in every run of a world what an owner holds of its own, what has pins there and what anyone is listed for is live
+abbrev pub LivingLaw : Type 0
+LivingLaw = (n : ℕ) (limits : ℕ → Limits) (J : List Entry) → WorldRun n limits J → Living n J

@@ -1,8 +1,10 @@
 -- Which items a space settled, read off what it sent to their sender.
-use Rattle.std.specs.Prelude.{◌≡◌, ⊤, ℕ, Bool, false, ◌==◌, List, [], ◌∷◌, filter_map, Option, Some, None}
+use Rattle.std.specs.Prelude.{◌≡◌, ⊤, ℕ, ◌-◌, Bool, true, false, ◌==◌, slice_get, List, [], ◌∷◌, filter_map, Option, Some, None}
 use Rattle.std.specs.List.{list_any}
+use Rattle.nob_item.specs.Kinds.{counted_in}
 use Rattle.nob_item.specs.declared.item.Item.{Item}
 use Rattle.nob_item.specs.declared.item.Item.TheVariants as items
+use Rattle.nob_model_history.specs.Transit.{is_some_of}
 
 -- the number of the item that a note settles
 abbrev pub settle_in : Item → Option ℕ
@@ -26,3 +28,7 @@ is_in k ks = list_any (λ j. j == k) ks
 abbrev pub AreOnce : List ℕ → Type 0
 AreOnce [] = ⊤
 AreOnce (k ∷ ks) = (is_in k ks ≡ false) × AreOnce ks
+
+-- item k of those that were acted on carries counted references
+abbrev pub IsCarrying : List (ℕ × Option Item) → ℕ → Type 0
+IsCarrying pairs k = (item : Item) × (slice_get pairs (k - 1) ≡ Some (k, Some item)) × (is_some_of (counted_in item) ≡ true)

@@ -1,6 +1,6 @@
 //! Laws over the definitions: each is the contract of a function that does nothing.
 
-ghost use Rattle.nob_model_safety.specs.Laws.{ClientsLaw, FrontsLaw, HoldingsLaw, ListingsLaw, NamesLaw, OwnersLaw, ReadingsLaw, SafeWithdrawLaw, SessionsLaw, SettlementsLaw};
+ghost use Rattle.nob_model_safety.specs.Laws.{ClientsLaw, FrontsLaw, HoldingsLaw, ListingsLaw, LivingLaw, NamesLaw, OwnersLaw, ReadingsLaw, SafeWithdrawLaw, SessionsLaw, SettlementsLaw};
 
 /// In every run of a world, of every two spaces: each item that one sent the other has a spelling; of these the other
 /// accepted a beginning and acted on a beginning, in order; and each frame that was ever given carries what its sender
@@ -70,8 +70,16 @@ pub fn readings()
     ensures { ReadingsLaw }
 {}
 
-/// In every run of a world no item is settled twice, none that wasn't acted on, and none whose message waits.
+/// In every run of a world no item is settled twice, none that wasn't acted on, none that carries no counted reference,
+/// and none whose message waits.
 #[tactic(auto, using(crate::proofs::Points::settlements))]
 pub fn settlements()
     ensures { SettlementsLaw }
+{}
+
+/// In every run of a world what an owner holds of its own objects, what has pins there and what any client is listed for
+/// is live: exported and not withdrawn.
+#[tactic(auto, using(crate::proofs::Points::living))]
+pub fn living()
+    ensures { LivingLaw }
 {}
