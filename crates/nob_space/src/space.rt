@@ -23,7 +23,7 @@ use crate::work::{Work, acts, sends};
 use nob_frame::Frame;
 use nob_ids::{CallNo, Limits, SpaceId};
 use nob_model::{Answer, Event, Here};
-use nob_space_items::{can_clean, can_settle};
+use nob_space_settling::{can_clean, can_settle};
 use nob_space_state::{Parts, SpaceError};
 use std::alloc::{AllocError, Global};
 use std::marker::Model;

@@ -236,7 +236,7 @@ pub(crate) fn settle(parts: &mut Parts, alloc: Global, here: &Here) -> Result<An
     ensures own { IsOwn events.Settle result }
     ensures stands { StepStands here.now.space here.now.n (state_of parts.old) (state_of parts.new) events.Settle result }
 {
-    match nob_space_items::settle(parts, alloc, here) {
+    match nob_space_settling::settle(parts, alloc, here) {
         Ok(settled) => Ok(Answer::Settled(settled.peer, settled.item)),
         Err(error) => Err(error),
     }
@@ -250,7 +250,7 @@ pub(crate) fn clean(parts: &mut Parts, alloc: Global, here: &Here) -> Result<Ans
     ensures own { IsOwn events.Clean result }
     ensures stands { StepStands here.now.space here.now.n (state_of parts.old) (state_of parts.new) events.Clean result }
 {
-    match nob_space_items::clean(parts, alloc, here) {
+    match nob_space_settling::clean(parts, alloc, here) {
         Ok(rep) => Ok(Answer::Cleaned(rep)),
         Err(error) => Err(error),
     }

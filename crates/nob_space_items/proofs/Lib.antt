@@ -4,14 +4,6 @@ pub mod Noted
 pub mod Answered
 pub mod Owners
 pub mod Chosen
-pub mod Spares
-pub mod Noting
-pub mod Fixing
-pub mod Forgetting
-pub mod Placed
-pub mod Resolving
-pub mod Settlements
-pub mod Numbering
 pub mod Wanted
 pub mod Among
 pub mod Refused

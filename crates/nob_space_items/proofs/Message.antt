@@ -57,11 +57,11 @@ use Rattle.nob_space_state.specs.Stands.{Stands, far_state}
 use Rattle.nob_space_state.proofs.Told.{closed_there}
 use Rattle.nob_space_items.specs.Fronts.{IsFront}
 use Rattle.nob_space_items.specs.Messages.{is_wanted, wanted_refs, new_loan, new_copies}
-use Rattle.nob_space_items.specs.Settling.{is_denied}
+use Rattle.nob_space_settling.specs.Settling.{is_denied}
 use Rattle.nob_space_items.specs.Placing.{IsMessage}
 use Rattle.nob_space_items.proofs.Among.{any_of, filter_passes}
-use Rattle.nob_space_items.proofs.Resolving.{denied_far}
-use Rattle.nob_space_items.proofs.Spares.{granted_far}
+use Rattle.nob_space_settling.proofs.Resolving.{denied_far}
+use Rattle.nob_space_settling.proofs.Spares.{granted_far}
 use Rattle.nob_space_items.proofs.Refused.{wanted_there, dirties_there}
 use Rattle.nob_space_items.proofs.Wanted.{any_once}
 

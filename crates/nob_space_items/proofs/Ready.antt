@@ -60,10 +60,10 @@ use Rattle.nob_space_items.specs.Growing.{AreAmong, HasRoom, HaveRoom, Grows}
 use Rattle.nob_space_items.specs.Lending.{CanLend}
 use Rattle.nob_space_items.specs.Messages.{is_wanted, wanted_refs, owner_count, has_free, has_numbers_for, is_too_much, message_refusal, new_loan, new_copies, is_at_hand}
 use Rattle.nob_space_items.specs.Placing.{IsMessage}
-use Rattle.nob_space_items.specs.Settling.{is_lost_here}
+use Rattle.nob_space_settling.specs.Settling.{is_lost_here}
 use Rattle.nob_space_items.specs.Receiving.{HasFront, CanReceive, Receives}
 use Rattle.nob_space_items.proofs.Among.{any_of, filter_passes}
-use Rattle.nob_space_items.proofs.Spares.{CanBeAsked, all_append}
+use Rattle.nob_space_settling.proofs.Spares.{CanBeAsked, all_append}
 use Rattle.nob_space_items.proofs.Asks.{all_asked, wanted_unknown}
 use Rattle.nob_space_items.proofs.Bounded.{filter_short, dirties_low, message_lends, lent_low}
 use Rattle.nob_space_items.proofs.Message.{all_peers}

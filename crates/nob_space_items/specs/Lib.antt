@@ -1,5 +1,3 @@
-pub mod Cleaning
-pub mod Settling
 pub mod Fronts
 pub mod Judging
 pub mod Notes

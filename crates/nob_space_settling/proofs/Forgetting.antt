@@ -39,16 +39,16 @@ use Rattle.nob_model_history.specs.Holds.{hand, times, lent_in}
 use Rattle.nob_model_history.specs.Transit as transit
 use Rattle.nob_model_history.proofs.Turning.{granted_answered}
 use Rattle.nob_model.proofs.Made.{work_fixed, fixed_stays}
-use Rattle.nob_space_items.proofs.Fixing.{still_fixed}
+use Rattle.nob_space_settling.proofs.Fixing.{still_fixed}
 use Rattle.nob_model.specs.Lists.{IsRightDeed}
 use Rattle.nob_model.specs.Right.{right_after, right_clean, clean_of, own_ref}
 use Rattle.nob_space_state.specs.Parts.{State}
 use Rattle.nob_space_state.specs.Stands.{Stands, TableStands, far_state}
 use Rattle.nob_space_state.proofs.Ends.{end_there}
 use Rattle.nob_space_state.proofs.Shows.{one_row, no_holds}
-use Rattle.nob_space_items.specs.Cleaning.{NoneSpareBelow, IsFirstSpare}
-use Rattle.nob_space_items.proofs.Noting.{GivesNotes, same_dirties, sent_next, stands_noted, open_there}
-use Rattle.nob_space_items.proofs.Spares.{asked_there, idle_there, first_there, none_there}
+use Rattle.nob_space_settling.specs.Cleaning.{NoneSpareBelow, IsFirstSpare}
+use Rattle.nob_space_settling.proofs.Noting.{GivesNotes, same_dirties, sent_next, stands_noted, open_there}
+use Rattle.nob_space_settling.proofs.Spares.{asked_there, idle_there, first_there, none_there}
 
 -- ---- what is right
 

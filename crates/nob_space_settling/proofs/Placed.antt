@@ -17,7 +17,7 @@ use Rattle.nob_model.proofs.Carrying.{all_found, all_without, all_push}
 use Rattle.nob_model.proofs.Made.{AreFixed}
 use Rattle.nob_space_state.proofs.Firsts.{times_without}
 use Rattle.nob_space_state.proofs.Pinned.{times_both}
-use Rattle.nob_space_items.specs.Settling.{loans_ended}
+use Rattle.nob_space_settling.specs.Settling.{loans_ended}
 
 -- a Call that is settled is ready, or over
 pub call_put : (m : Message) (call target method : ℕ) (value : Value) (lost : Bool) (W : InHand) (ready : List Message) → m.item ≡ items.Call call target method value → ready ≡ (if lost then W.ready else W.ready ++ m ∷ [])

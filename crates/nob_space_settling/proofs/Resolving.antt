@@ -43,8 +43,8 @@ use Rattle.nob_space_state.proofs.Ends.{end_there}
 use Rattle.nob_space_state.proofs.Finishing.{state_sound}
 use Rattle.nob_space_state.proofs.Running.{IsSound, all_found}
 use Rattle.nob_space_state.proofs.Told.{closed_there}
-use Rattle.nob_space_items.specs.Settling.{is_denied, is_lost_here, is_resolved_here, is_settleable, has_lost, lost_call, given_count}
-use Rattle.nob_space_items.proofs.Spares.{usable_there}
+use Rattle.nob_space_settling.specs.Settling.{is_denied, is_lost_here, is_resolved_here, is_settleable, has_lost, lost_call, given_count}
+use Rattle.nob_space_settling.proofs.Spares.{usable_there}
 
 -- ---- what is refused
 

@@ -43,11 +43,11 @@ use Rattle.nob_space_state.proofs.Firsts.{some_same}
 use Rattle.nob_space_state.proofs.Rows.{differ}
 use Rattle.nob_space_state.proofs.Running.{HasCallNumber}
 use Rattle.nob_space_state.proofs.Sent.{gift_to}
-use Rattle.nob_space_items.specs.Settling.{is_settleable, has_lost, lost_call, reply_to_lost, items_given, given_count, with_note, loans_ended}
-use Rattle.nob_space_items.proofs.Fixing.{still_fixed}
-use Rattle.nob_space_items.proofs.Noting.{GivesNotes, shows_noted, stands_noted, open_there}
-use Rattle.nob_space_items.proofs.Placed.{settled_lends, settled_fixed, waiting_lends, ended_lent}
-use Rattle.nob_space_items.proofs.Resolving.{to_settle_there, message_sound, has_lost_there, settle_right, settle_is, some_given}
+use Rattle.nob_space_settling.specs.Settling.{is_settleable, has_lost, lost_call, reply_to_lost, items_given, given_count, with_note, loans_ended}
+use Rattle.nob_space_settling.proofs.Fixing.{still_fixed}
+use Rattle.nob_space_settling.proofs.Noting.{GivesNotes, shows_noted, stands_noted, open_there}
+use Rattle.nob_space_settling.proofs.Placed.{settled_lends, settled_fixed, waiting_lends, ended_lent}
+use Rattle.nob_space_settling.proofs.Resolving.{to_settle_there, message_sound, has_lost_there, settle_right, settle_is, some_given}
 
 -- two tests that find one element find it in one place
 same_first : {X : Type 0} (a b : X → Bool) (xs : List X) (m : X) → find a xs ≡ Some m → find b xs ≡ Some m → a m ≡ true → b m ≡ true → without_first a xs ≡ without_first b xs

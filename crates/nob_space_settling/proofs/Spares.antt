@@ -36,7 +36,7 @@ use Rattle.nob_space_state.specs.Parts.{State}
 use Rattle.nob_space_state.specs.Stands.{Stands, far_state}
 use Rattle.nob_space_state.proofs.Told.{held_there}
 use Rattle.nob_space_state.proofs.Pinned.{pins_there}
-use Rattle.nob_space_items.specs.Cleaning.{is_spare, NoneSpareBelow, IsFirstSpare, ArePlacedApart}
+use Rattle.nob_space_settling.specs.Cleaning.{is_spare, NoneSpareBelow, IsFirstSpare, ArePlacedApart}
 
 -- ---- the walk over the surrogates that nothing holds
 

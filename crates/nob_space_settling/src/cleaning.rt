@@ -17,7 +17,7 @@ ghost use Rattle.nob_session.specs.Calls.{next_of};
 ghost use Rattle.nob_session.specs.Stands as ends;
 ghost use Rattle.nob_table.specs.Standings.{is_idle, unknown};
 ghost use Rattle.nob_table.specs.Table.{standing, Becomes, Places, RemovalLeaves};
-ghost use Rattle.nob_space_items.specs.Cleaning.{NoneSpareBelow, IsFirstSpare, ArePlacedApart};
+ghost use Rattle.nob_space_settling.specs.Cleaning.{NoneSpareBelow, IsFirstSpare, ArePlacedApart};
 
 use nob_ids::{ItemNo, WireRep};
 use nob_item::{Item, ItemError, encode};

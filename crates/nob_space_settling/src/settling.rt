@@ -21,7 +21,7 @@ ghost use Rattle.nob_session.specs.Stands.{is_open_end};
 ghost use Rattle.nob_space_state.specs.Parts.{state_of, with_table, with_work};
 ghost use Rattle.nob_space_state.specs.Returns.{HasLent, GivesBack};
 ghost use Rattle.nob_space_state.specs.Stands.{Stands, IsState, Keeps, Did, AnswersOrWants};
-ghost use Rattle.nob_space_items.specs.Settling.{is_denied, is_lost_here, is_resolved_here, is_settleable, has_lost, lost_call, reply_to_lost, items_given, given_count, with_note, loans_ended};
+ghost use Rattle.nob_space_settling.specs.Settling.{is_denied, is_lost_here, is_resolved_here, is_settleable, has_lost, lost_call, reply_to_lost, items_given, given_count, with_note, loans_ended};
 
 use nob_ids::{CallNo, ItemNo, SpaceId, WireRep};
 use nob_item::{Item, ItemError, encode, encode_reply};
@@ -53,8 +53,9 @@ fn is_denied(state: State) -> bool
     }
 }
 
-// Whether a reference is lost.
-pub(crate) fn is_lost(parts: &Parts, here: &Here, rep: &WireRep) -> bool
+/// Whether a reference is lost: it is of another owner, and that is none of the spaces, or their session has closed, or
+/// the owner has refused it.
+pub fn is_lost(parts: &Parts, here: &Here, rep: &WireRep) -> bool
     ensures { result ≡ is_lost_here here.now.space here.now.n (state_of parts.now) rep.now }
 {
     if rep.owner == here.space {

@@ -10,9 +10,9 @@ use Rattle.nob_space_state.proofs.Calling.{peer_range}
 use Rattle.nob_space_state.proofs.Ends.{end_there, stands_kept}
 use Rattle.nob_space_state.proofs.Firsts.{some_same}
 use Rattle.nob_session.specs.Stands.{Roomy}
-use Rattle.nob_space_items.proofs.Spares.{apart_there, asked_there}
-use Rattle.nob_space_items.proofs.Forgetting.{clean_is, clean_none, clean_full, clean_right, clean_wants, clean_next, clean_stands}
-use Rattle.nob_space_items.proofs.cleaning.clean.Goals as goal
+use Rattle.nob_space_settling.proofs.Spares.{apart_there, asked_there}
+use Rattle.nob_space_settling.proofs.Forgetting.{clean_is, clean_none, clean_full, clean_right, clean_wants, clean_next, clean_stands}
+use Rattle.nob_space_settling.proofs.cleaning.clean.Goals as goal
 
 pub first_spare-requires : goal.first_spare-requires
 first_spare-requires c = apart_there c.requires.2

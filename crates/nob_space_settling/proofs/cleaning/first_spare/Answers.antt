@@ -1,7 +1,7 @@
 use Rattle.std.proofs.Common.{sym, ◌∙◌}
 use Rattle.nob_space_state.specs.Parts.{state_of}
-use Rattle.nob_space_items.proofs.Spares.{is_unpinned, none_next, none_past}
-use Rattle.nob_space_items.proofs.cleaning.first_spare.Goals as goal
+use Rattle.nob_space_settling.proofs.Spares.{is_unpinned, none_next, none_past}
+use Rattle.nob_space_settling.proofs.cleaning.first_spare.Goals as goal
 
 pub returns-then-not-is_pinned : goal.returns-then-not-is_pinned
 returns-then-not-is_pinned c =

@@ -1,7 +1,7 @@
 use Rattle.std.proofs.Common.{◌-◌}
 use Rattle.nob_space_state.specs.Parts.{state_of}
-use Rattle.nob_space_items.specs.Cleaning.{NoneSpareBelow}
-use Rattle.nob_space_items.proofs.cleaning.first_spare.Given as goal
+use Rattle.nob_space_settling.specs.Cleaning.{NoneSpareBelow}
+use Rattle.nob_space_settling.proofs.cleaning.first_spare.Given as goal
 
 abbrev pub invariant-loop-place : goal.invariant-loop-place
 invariant-loop-place l = NoneSpareBelow (state_of l.parts) l.place

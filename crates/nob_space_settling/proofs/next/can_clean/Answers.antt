@@ -3,9 +3,9 @@ use Rattle.std.specs.Prelude.{MatchOption}
 use Rattle.nob_model.specs.Next as next
 use Rattle.nob_model_history.specs.Histories.{history_of}
 use Rattle.nob_space_state.specs.Parts.{state_of}
-use Rattle.nob_space_items.specs.Cleaning.{NoneSpareBelow, IsFirstSpare}
-use Rattle.nob_space_items.proofs.Spares.{apart_there, first_there, none_there}
-use Rattle.nob_space_items.proofs.next.can_clean.Goals as goal
+use Rattle.nob_space_settling.specs.Cleaning.{NoneSpareBelow, IsFirstSpare}
+use Rattle.nob_space_settling.proofs.Spares.{apart_there, first_there, none_there}
+use Rattle.nob_space_settling.proofs.next.can_clean.Goals as goal
 
 pub first_spare-requires : goal.first_spare-requires
 first_spare-requires c = apart_there c.requires.2

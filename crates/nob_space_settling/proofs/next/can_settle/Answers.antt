@@ -1,9 +1,9 @@
 use Rattle.std.proofs.Common.{is_some, sym, ap, ◌∙◌}
 use Rattle.nob_space_state.specs.Parts.{state_of}
 use Rattle.nob_space_state.proofs.Nexts.{place_found}
-use Rattle.nob_space_items.specs.Settling.{is_settleable}
-use Rattle.nob_space_items.proofs.Resolving.{to_settle_there}
-use Rattle.nob_space_items.proofs.next.can_settle.Goals as goal
+use Rattle.nob_space_settling.specs.Settling.{is_settleable}
+use Rattle.nob_space_settling.proofs.Resolving.{to_settle_there}
+use Rattle.nob_space_settling.proofs.next.can_settle.Goals as goal
 
 pub returns : goal.returns
 returns c limits D stands =

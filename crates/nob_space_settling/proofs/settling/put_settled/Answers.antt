@@ -1,8 +1,8 @@
 use Rattle.std.proofs.Common.{ap, subst}
 use Rattle.nob_space_state.specs.Parts.{state_of, with_table, with_work}
 use Rattle.nob_space_state.specs.Returns.{GivesBack}
-use Rattle.nob_space_items.proofs.Placed.{call_put, reply_put, other_put}
-use Rattle.nob_space_items.proofs.settling.put_settled.Goals as goal
+use Rattle.nob_space_settling.proofs.Placed.{call_put, reply_put, other_put}
+use Rattle.nob_space_settling.proofs.settling.put_settled.Goals as goal
 
 pub returns-in-Call-clause-put : goal.returns-in-Call-clause-put
 returns-in-Call-clause-put c =

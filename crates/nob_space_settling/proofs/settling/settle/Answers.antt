@@ -15,11 +15,11 @@ use Rattle.nob_space_state.specs.Stands.{Stands}
 use Rattle.nob_space_state.proofs.Calling.{peer_range}
 use Rattle.nob_space_state.proofs.Ends.{end_there, stands_kept}
 use Rattle.nob_space_state.proofs.Firsts.{some_same, no_place, at_place}
-use Rattle.nob_space_items.specs.Settling.{is_settleable, has_lost, lost_call, given_count, loans_ended}
-use Rattle.nob_space_items.proofs.Resolving.{message_sound, settle_none, settle_full, settle_right, settle_wants, some_given}
-use Rattle.nob_space_items.proofs.Settlements.{settle_lent, settle_open, settle_stands, same_count, lost_numbered}
-use Rattle.nob_space_items.proofs.Numbering.{number_there}
-use Rattle.nob_space_items.proofs.settling.settle.Goals as goal
+use Rattle.nob_space_settling.specs.Settling.{is_settleable, has_lost, lost_call, given_count, loans_ended}
+use Rattle.nob_space_settling.proofs.Resolving.{message_sound, settle_none, settle_full, settle_right, settle_wants, some_given}
+use Rattle.nob_space_settling.proofs.Settlements.{settle_lent, settle_open, settle_stands, same_count, lost_numbered}
+use Rattle.nob_space_settling.proofs.Numbering.{number_there}
+use Rattle.nob_space_settling.proofs.settling.settle.Goals as goal
 
 pub returns-in_default-clause-answer : goal.returns-in_default-clause-answer
 returns-in_default-clause-answer c limits D stands = settle_none stands (no_place (is_settleable c.args.here.now.space c.args.here.now.n (state_of c.args.parts.now)) c.args.parts.now.waiting.items (sym (c.in_default.ensures {u = tt})))
