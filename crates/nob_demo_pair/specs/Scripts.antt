@@ -1,28 +1,15 @@
 -- What is written for a pair script: a relation, since a step may be refused for want of memory.
 use Rattle.std.specs.Prelude.{◌≡◌, ◌≢◌, ℕ, ◌+◌, List, [], ◌∷◌, ◌++◌, IsTrue, codes}
-use Rattle.std.specs.Fmt.{decimal}
 use Rattle.nob_ids.specs.declared.limits.Limits.{Limits}
 use Rattle.nob_model_end.specs.declared.entry.PairEntry.{PairEntry}
 use Rattle.nob_model_end.specs.Pair.{PairFronts, PairRun}
-use Rattle.nob_trace_text.specs.Lines.{lines_of}
+use Rattle.nob_trace_text.specs.Lines.{lines_of, line_text, answered_text, bad_step_text}
 use Rattle.nob_demo_pair.specs.declared.step.Step.{Step}
 use Rattle.nob_demo_pair.specs.declared.script.Outcome.{Outcome}
 use Rattle.nob_demo_pair.specs.declared.script.Outcome.TheVariants.{Fronts, BadStep, OutOfMemory}
 use Rattle.nob_demo_pair.specs.Grammar.{step_text, header_text, IsStep, IsLimits}
 use Rattle.nob_demo_pair.specs.Run.{step_answer, entries_of, takes_memory}
 use Rattle.nob_demo_pair.specs.Pairs.{Ends, PairStands}
-
--- a line as it came
-abbrev pub line_text : List ℕ → List ℕ
-line_text line = line ++ 10 ∷ []
-
--- a step's line as it came, with its answer
-abbrev pub answered_text : List ℕ → List ℕ → List ℕ
-answered_text line answer = (line ++ codes " = " ++ answer) ++ 10 ∷ []
-
--- what is written where line n is no spelling
-abbrev pub bad_step_text : ℕ → List ℕ
-bad_step_text n = codes "line " ++ decimal n ++ codes ": bad step\n"
 
 -- what is written after a script's text: the line `memory` where memory ran out beside the steps
 abbrev pub last_line : Outcome → List ℕ

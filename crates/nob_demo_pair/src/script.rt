@@ -1,19 +1,18 @@
 //! Whole scripts.
 
 ghost use Rattle.std.specs.Prelude.{◌≡◌, ◌++◌, ◌∷◌, [], List, ℕ, false, IsTrue, IfOk, OnOk, OnErr, codes, ◌+◌, ◌<◌, ◌≤◌, ◌^◌, length};
-ghost use Rattle.std.specs.String.{string_bytes};
 ghost use Rattle.nob_ids.specs.declared.limits.Limits.{Limits as LimitsOf};
 ghost use Rattle.nob_model_end.specs.declared.entry.PairEntry.{PairEntry};
-ghost use Rattle.nob_trace_text.specs.Lines.{lines_of};
+ghost use Rattle.nob_trace_text.specs.Lines.{lines_of, bad_step_text};
 ghost use Rattle.nob_demo_pair.specs.Pairs.{PairStands};
-ghost use Rattle.nob_demo_pair.specs.Scripts.{FromHeader, FromLines, Grows, IsNoStep, IsStepLine, MakesStep, Plays, answered_text, bad_step_text, last_line};
+ghost use Rattle.nob_demo_pair.specs.Scripts.{FromHeader, FromLines, Grows, IsNoStep, IsStepLine, MakesStep, Plays, last_line};
 
 use crate::pair::Pair;
 use crate::parse::{header_of, step_of};
 use crate::step::Step;
 use crate::text::text_of;
 use nob_session::laws;
-use nob_trace_text::first_line;
+use nob_trace_text::{first_line, push_bad_step, push_line};
 use std::alloc::{AllocError, Global};
 
 /// How a script ended.
@@ -155,27 +154,6 @@ fn bad_step(alloc: Global, text: &mut Vec<u8>, line: u64) -> Result<Outcome, All
     ensures ok { IfOk result (λ outcome. (outcome ≡ Outcome.BadStep) × (text.new.items ≡ text.old.items ++ bad_step_text line)) }
     ensures err { OnErr result (text.new.items ≡ text.old.items) }
 {
-    let message = bad_step_message(alloc, line)?;
-    text.extend_from_slice(message.as_bytes())?;
+    push_bad_step(alloc, text, line)?;
     Ok(Outcome::BadStep)
-}
-
-fn bad_step_message(alloc: Global, line: u64) -> Result<String, AllocError>
-    ensures { IfOk result (λ message. string_bytes message ≡ bad_step_text line) }
-{
-    format!(in alloc; "line {line}: bad step\n")
-}
-
-// Writes a line of a script with what follows it, whole or not at all.
-fn push_line(text: &mut Vec<u8>, line: &[u8], mark: &[u8], answer: &[u8]) -> Result<(), AllocError>
-    requires { length mark.now ≤ 3 }
-    ensures ok { OnOk result (text.new.items ≡ text.old.items ++ ((line.now ++ mark.now ++ answer.now) ++ 10 ∷ [])) }
-    ensures err { OnErr result (text.new.items ≡ text.old.items) }
-{
-    text.reserve(line.len().saturating_add(answer.len()).saturating_add(4))?;
-    text.extend_from_slice(line)?;
-    text.extend_from_slice(mark)?;
-    text.extend_from_slice(answer)?;
-    text.push(b'\n')?;
-    Ok(())
 }

@@ -8,8 +8,8 @@ use Rattle.nob_model_reading.specs.Scripts.{opening_text, IsOpening}
 use Rattle.nob_model_journal.specs.Verdicts.{most_spaces}
 use Rattle.nob_trace.specs.declared.stamped.Stamped.{Stamped}
 use Rattle.nob_trace.specs.Entries.{entry_text, IsTracedEvent, IsTracedResult}
-use Rattle.nob_plain.specs.Verdicts.{SaysVerdict}
-use Rattle.nob_plain.specs.Worlds.{IsNoOpening}
+use Rattle.nob_script_text.specs.Verdicts.{SaysVerdict}
+use Rattle.nob_script_text.specs.Scripts.{IsNoOpening}
 
 -- an entry as one of a trace, with its space for a stamp
 abbrev pub stamped_of : Entry → Stamped

@@ -1,4 +1,3 @@
 pub mod Verdicts
-pub mod Worlds
 pub mod Journals
 pub mod Outputs

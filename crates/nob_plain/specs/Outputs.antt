@@ -7,7 +7,8 @@ use Rattle.nob_trace.specs.Traces.{trace_text, IsTrace}
 use Rattle.nob_trace.specs.Reading.{TraceProblem, TracesProblem}
 use Rattle.nob_trace_text.specs.Lines.{lines_of}
 use Rattle.nob_plain.specs.Verdicts.{IsVerdict}
-use Rattle.nob_plain.specs.Worlds.{FromScript}
+use Rattle.nob_script_text.specs.declared.ending.Ending.{Ending}
+use Rattle.nob_script_text.specs.Scripts.{FromScript}
 use Rattle.nob_plain.specs.Journals.{FromJournal}
 
 -- the input begins as a trace does
@@ -21,6 +22,10 @@ IsCopy input text = (text ≡ input) × (all : List Trace) × AllByRecursion IsT
 -- the input is one trace, and what is written is what is said of it
 abbrev pub IsJudged : List ℕ → List ℕ → Type 0
 IsJudged input text = (trace : Trace) × IsTrace trace × (input ≡ trace_text trace) × IsVerdict trace text
+
+-- what is written is what a script gives where there is memory enough
+abbrev pub IsAnswers : List ℕ → List ℕ → Type 0
+IsAnswers input text = (ending : Ending) × FromScript false (lines_of input) text ending
 
 -- whether an equals sign stands in a line
 abbrev pub has_equals_sign : List ℕ → Bool
@@ -37,7 +42,7 @@ pub data IsOutput (is_copy : Bool) (input text : List ℕ) : Type 0 where
   copy : is_copy ≡ true → IsCopy input text → IsOutput is_copy input text
   verdict : is_copy ≡ false → BeginsAsTrace input → IsJudged input text → IsOutput is_copy input text
   journal : is_copy ≡ false → (BeginsAsTrace input → ⊥) → has_results (lines_of input) ≡ true → FromJournal (lines_of input) text → IsOutput is_copy input text
-  answers : is_copy ≡ false → (BeginsAsTrace input → ⊥) → has_results (lines_of input) ≡ false → FromScript (lines_of input) text → IsOutput is_copy input text
+  answers : is_copy ≡ false → (BeginsAsTrace input → ⊥) → has_results (lines_of input) ≡ false → IsAnswers input text → IsOutput is_copy input text
 
 -- why traces aren't copied: behind some of them something stands that doesn't begin with a trace
 abbrev pub IsUncopied : List ℕ → TraceFault → Type 0

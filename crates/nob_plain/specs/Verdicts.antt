@@ -1,14 +1,10 @@
--- What is said of a trace: whether each result in it is the right one; and of a journal: which promise isn't kept.
-use Rattle.std.specs.Prelude.{◌≡◌, ℕ, List, [], ◌∷◌, ◌++◌, length, map, reverse, codes, Result}
+-- What is said of a trace: whether each result in it is the right one.
+use Rattle.std.specs.Prelude.{◌≡◌, ℕ, List, [], ◌∷◌, ◌++◌, length, map, reverse, Result}
 use Rattle.nob_model_types.specs.declared.event.Event.{Event}
 use Rattle.nob_model_types.specs.declared.answer.Answer.{Answer}
 use Rattle.nob_model_types.specs.declared.refusal.Refusal.{Refusal}
 use Rattle.nob_model_types.specs.declared.entry.Entry.{Entry}
 use Rattle.nob_model.specs.Right.{right}
-use Rattle.nob_model_journal.specs.declared.verdict.Promise.TheVariants as promises
-use Rattle.nob_model_journal.specs.declared.verdict.Verdict.{Verdict}
-use Rattle.nob_model_journal.specs.declared.verdict.Verdict.TheVariants.{Yes, No}
-use Rattle.nob_model_journal.specs.Verdicts as journals
 use Rattle.nob_trace.specs.declared.stamped.Stamped.{Stamped}
 use Rattle.nob_trace.specs.declared.trace.Trace.{Trace}
 use Rattle.nob_verdicts.specs.Texts.{HaveOneText, right_line, wrong_line}
@@ -36,15 +32,3 @@ pub data IsVerdict (trace : Trace) (text : List ℕ) : Type 0 where
   all_right : AreRight trace (reverse trace.entries) → text ≡ right_line (length trace.entries) → IsVerdict trace text
   -- the results of these entries are right, and that of the next one isn't
   one_wrong : (before : List Stamped) (entry : Stamped) (rest : List Stamped) → trace.entries ≡ before ++ entry ∷ rest → AreRight trace (reverse before) → (IsRight trace (reverse before) entry → ⊥) → text ≡ wrong_line (length before) → IsVerdict trace text
-
--- the line of a verdict
-abbrev pub verdict_line : Verdict → List ℕ
-verdict_line Yes = codes "verdict yes\n"
-verdict_line (No promises.Fronts) = codes "verdict no fronts\n"
-verdict_line (No promises.Withdraws) = codes "verdict no withdraws\n"
-verdict_line (No promises.Losses) = codes "verdict no losses\n"
-verdict_line (No promises.Found) = codes "verdict no found\n"
-
--- what is written is the line of a verdict on this journal of n spaces, the newest entry of which stands first
-abbrev pub SaysVerdict : ℕ → List Entry → List ℕ → Type 0
-SaysVerdict n J text = (verdict : Verdict) × journals.IsVerdict n J verdict × (text ≡ verdict_line verdict)

@@ -6,11 +6,11 @@ ghost use Rattle.nob_model_types.specs.declared.entry.Entry.{Entry as EntryOf};
 ghost use Rattle.nob_trace_text.specs.Lines.{lines_of};
 ghost use Rattle.nob_plain.specs.Journals as spec;
 
-use crate::verdict::verdict_line;
 use nob_model::Entry;
 use nob_model_journal::verdict_of as verdict_on;
 use nob_model_reading::opening_of;
 use nob_model_text::{Unread, space_of};
+use nob_script_text::verdict_line;
 use nob_trace::{Stamped, entry_of};
 use nob_trace_text::first_line;
 use std::alloc::{AllocError, Global};

@@ -11,7 +11,6 @@ ghost use Rattle.nob_plain.specs.Outputs.{BeginsAsTrace, IsOutput, IsRefused, ha
 mod entries;
 mod script;
 mod trace;
-mod verdict;
 
 use nob_trace::TraceError;
 use nob_trace_text::first_line;

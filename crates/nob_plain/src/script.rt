@@ -1,24 +1,25 @@
 //! A script of a world, each step answered by the definitions.
 
-ghost use Rattle.std.specs.Prelude.{◌≡◌, ◌++◌, ◌∷◌, ◌+◌, ◌≤◌, [], ℕ, List, Ok, Err, length, filter, IfOk, IfErr, OnOk, MatchOption};
-ghost use Rattle.std.specs.Fmt.{decimal};
+ghost use Rattle.std.specs.Prelude.{◌≡◌, ◌++◌, ◌+◌, ◌≤◌, ℕ, List, false, length, filter, IfOk, OnOk};
 ghost use Rattle.std.specs.String.{string_bytes};
-ghost use Rattle.nob_model_types.specs.declared.refusal.Refusal.{Refusal as RefusalOf};
-ghost use Rattle.nob_model_types.specs.declared.answer.Answer.{Answer as AnswerOf};
+ghost use Rattle.nob_model_words.specs.Deeds.{deed_in};
+ghost use Rattle.nob_model_journal.specs.Journals as journals;
+ghost use Rattle.nob_model_journal.specs.Journals.{frames_of};
+ghost use Rattle.nob_model_journal.specs.Runs as runs;
 ghost use Rattle.nob_model_journal.specs.Verdicts.{IsVerdict};
-ghost use Rattle.nob_model_reading.specs.Scripts as scripts;
-ghost use Rattle.nob_model_reading.specs.declared.opening.Opening.{Opening as OpeningOf};
 ghost use Rattle.nob_trace_text.specs.Lines.{lines_of};
-ghost use Rattle.nob_plain.specs.Worlds as spec;
+ghost use Rattle.nob_script_text.specs.declared.ending.Ending.{Ending as EndingOf};
+ghost use Rattle.nob_script_text.specs.Worlds as spec;
+ghost use Rattle.nob_script_text.specs.Scripts.{FromLines, FromOpening, Grows};
+ghost use Rattle.nob_plain.specs.Outputs.{IsAnswers};
 
-use crate::verdict::verdict_line;
 use nob_frame::Frame;
 use nob_ids::{Limits, SpaceId};
 use nob_model::{Answer, Entry, Event, Here, Refusal, WorldStep, right};
 use nob_model_journal::{Verdict, verdict_of};
 use nob_model_reading::{opening_of, step_of};
-use nob_model_text::{answer_text, refusal_text};
-use nob_trace_text::first_line;
+use nob_script_text::{limits_of, result_text, verdict_line};
+use nob_trace_text::{first_line, push_bad_step, push_line};
 use std::alloc::{AllocError, Global};
 use std::marker::Model;
 
@@ -36,7 +37,7 @@ struct World {
 }
 
 impl Model for World {
-    ghost use Rattle.nob_plain.specs.Worlds.{World as WorldOf};
+    ghost use Rattle.nob_script_text.specs.Worlds.{World as WorldOf};
 
     ghost Value = { WorldOf };
 
@@ -82,21 +83,19 @@ impl World {
     {
         let result = self.right_in(alloc, space, &event)?;
         let text = result_text(alloc, self.frames.len(), &result)?;
-        push_frames_in(&mut self.frames, &result)?;
-        self.journal.insert(
-            0,
-            Entry {
-                space,
-                event,
-                result,
-            },
-        )?;
+        let entry = Entry {
+            space,
+            event,
+            result,
+        };
+        push_frames_of(&mut self.frames, &entry)?;
+        self.journal.insert(0, entry)?;
         Ok(text)
     }
 
     // A copy of the frame of this number, counted from 1.
     fn frame_of(&self, number: u64) -> Result<Option<Frame>, AllocError>
-        ensures { IfOk result (λ frame. frame ≡ spec.frame_of number self.now.frames) }
+        ensures { IfOk result (λ frame. frame ≡ runs.frame_of number self.now.frames) }
     {
         if number == 0 {
             return Ok(None);
@@ -133,19 +132,9 @@ impl World {
     }
 }
 
-// The limits that a first line means: those that it states, or else the default ones.
-fn limits_of(limits: Option<Limits>) -> Limits
-    ensures { spec.AreLimitsOf limits result }
-{
-    match limits {
-        Some(limits) => limits,
-        None => Limits::default(),
-    }
-}
-
 // The entries of one space.
 fn entries_of(alloc: Global, space: SpaceId, journal: &[Entry]) -> Result<Vec<Entry>, AllocError>
-    ensures { IfOk result (λ entries. entries.items ≡ spec.entries_of space journal.now) }
+    ensures { IfOk result (λ entries. entries.items ≡ journals.at space journal.now) }
 {
     let mut entries = Vec::new(alloc);
     for entry in journal {
@@ -156,14 +145,14 @@ fn entries_of(alloc: Global, space: SpaceId, journal: &[Entry]) -> Result<Vec<En
     Ok(entries)
 }
 
-// Pushes copies of the frames that a result gives.
-fn push_frames_in(
-    frames: &mut Vec<Frame>,
-    response: &Result<Answer, Refusal>,
-) -> Result<(), AllocError>
-    ensures { OnOk result (frames.new.items ≡ frames.old.items ++ spec.frames_in response.now) }
+// Pushes copies of the frames that an entry's Transmit gave.
+fn push_frames_of(frames: &mut Vec<Frame>, entry: &Entry) -> Result<(), AllocError>
+    ensures { OnOk result (frames.new.items ≡ frames.old.items ++ frames_of (deed_in entry.now)) }
 {
-    match response {
+    let Event::Transmit(_) = &entry.event else {
+        return Ok(());
+    };
+    match &entry.result {
         Ok(Answer::Frames(more)) => push_copies(frames, more.as_slice()),
         Ok(_) => Ok(()),
         Err(_) => Ok(()),
@@ -180,74 +169,36 @@ fn push_copies(frames: &mut Vec<Frame>, more: &[Frame]) -> Result<(), AllocError
     Ok(())
 }
 
-// A result in a script, where so many frames were transmitted before.
-fn result_text(
-    alloc: Global,
-    before: usize,
-    response: &Result<Answer, Refusal>,
-) -> Result<String, AllocError>
-    ensures { IfOk result (λ text. string_bytes text ≡ spec.result_text before response.now) }
-{
-    match response {
-        Ok(Answer::Frames(frames)) => frames_text(alloc, before, frames.as_slice()),
-        Ok(answer) => answer_text(alloc, answer, ""),
-        Err(refusal) => String::from_str(alloc, refusal_text(*refusal)),
-    }
-}
-
-// The frames of a transmit in a script, where so many were transmitted before.
-fn frames_text(alloc: Global, before: usize, frames: &[Frame]) -> Result<String, AllocError>
-    ensures { IfOk result (λ text. string_bytes text ≡ spec.frames_text before frames.now) }
-{
-    if frames.is_empty() {
-        return String::from_str(alloc, "frames none");
-    }
-    let mut text = String::from_str(alloc, "frames")?;
-    put_numbers(alloc, &mut text, before, frames)?;
-    Ok(text)
-}
-
-// Puts the numbers of frames, each behind a space, behind a text.
-fn put_numbers(
-    alloc: Global,
-    text: &mut String,
-    before: usize,
-    frames: &[Frame],
-) -> Result<(), AllocError>
-    ensures { OnOk result (string_bytes text.new ≡ string_bytes text.old ++ spec.numbers_text before frames.now) }
-{
-    for (place, _) in frames.iter().enumerate() {
-        let number = before as u128 + place as u128 + 1;
-        let word = number_text(alloc, number)?;
-        text.push_str(word.as_str())?;
-    }
-    Ok(())
-}
-
-// A number behind a space.
-fn number_text(alloc: Global, number: u128) -> Result<String, AllocError>
-    ensures { IfOk result (λ text. string_bytes text ≡ 32 ∷ decimal number) }
-{
-    format!(in alloc; " {number}")
-}
-
 /// The first line, each step with its answer, and the verdict on all that was done; or these up to the first line that is
 /// no step, `line N: bad step`. Only memory fails it. A step costs time and memory in proportion to all that its space
 /// did before it, and more; so does each entry for the verdict.
 pub fn answers_of(alloc: Global, input: &[u8]) -> Result<Vec<u8>, AllocError>
-    ensures { IfOk result (λ text. spec.FromScript (lines_of input.now) text.items) }
+    ensures { IfOk result (λ text. IsAnswers input.now text.items) }
 {
+    let mut text = Vec::new(alloc);
     let Some((line, steps)) = first_line(input) else {
-        return bad_step(alloc, 1);
+        push_bad_step(alloc, &mut text, 1)?;
+        return Ok(text);
     };
+    put_answers(alloc, line, steps, &mut text)?;
+    Ok(text)
+}
+
+// Puts what a script gives that has this first line and these further ones behind a text.
+fn put_answers(
+    alloc: Global,
+    line: &[u8],
+    steps: &[u8],
+    text: &mut Vec<u8>,
+) -> Result<(), AllocError>
+    ensures { OnOk result ((ending : EndingOf) × Grows text.old.items text.new.items (λ written. FromOpening false line.now (lines_of steps.now) written ending)) }
+{
     let Some(opening) = opening_of(alloc, line)? else {
-        return bad_step(alloc, 1);
+        return push_bad_step(alloc, text, 1);
     };
     let mut world = World::new(alloc, opening.n, limits_of(opening.limits));
-    let mut text = Vec::new(alloc);
-    put_line(&mut text, line, b"", b"")?;
-    put_steps(alloc, &mut world, steps, &mut text)?;
-    Ok(text)
+    push_line(text, line, b"", b"")?;
+    put_steps(alloc, &mut world, steps, text)
 }
 
 // Makes the steps of these lines, of which the first is line 2, and puts them with their answers, and then the verdict,
@@ -258,49 +209,20 @@ fn put_steps(
     steps: &[u8],
     text: &mut Vec<u8>,
 ) -> Result<(), AllocError>
-    ensures { OnOk result ((more : List ℕ) × (text.new.items ≡ text.old.items ++ more) × spec.FromLines 2 world.old (lines_of steps.now) more) }
+    ensures { OnOk result ((ending : EndingOf) × Grows text.old.items text.new.items (λ written. FromLines false 2 world.old (lines_of steps.now) written ending)) }
 {
     let mut left = steps;
     let mut number: u64 = 2;
     while let Some((line, rest)) = first_line(left) {
         let Some(step) = step_of(alloc, line)? else {
-            return put_bad_step(alloc, text, number);
+            return push_bad_step(alloc, text, number);
         };
         let answer = world.step(alloc, step)?;
-        put_line(text, line, b" = ", answer.as_bytes())?;
+        push_line(text, line, b" = ", answer.as_bytes())?;
         left = rest;
         number += 1;
     }
     let verdict = world.verdict(alloc)?;
     text.extend_from_slice(verdict_line(verdict))?;
-    Ok(())
-}
-
-// Puts a line, a sign and an answer behind a text, and ends them with a newline.
-fn put_line(text: &mut Vec<u8>, line: &[u8], sign: &[u8], answer: &[u8]) -> Result<(), AllocError>
-    ensures { OnOk result (text.new.items ≡ text.old.items ++ (line.now ++ (sign.now ++ (answer.now ++ 10 ∷ [])))) }
-{
-    text.extend_from_slice(line)?;
-    text.extend_from_slice(sign)?;
-    text.extend_from_slice(answer)?;
-    text.extend_from_slice(b"\n")?;
-    Ok(())
-}
-
-// What is written where the line of this number isn't what it should be.
-fn bad_step(alloc: Global, number: u64) -> Result<Vec<u8>, AllocError>
-    ensures { IfOk result (λ text. text.items ≡ spec.bad_step_text number) }
-{
-    let mut text = Vec::new(alloc);
-    put_bad_step(alloc, &mut text, number)?;
-    Ok(text)
-}
-
-// Puts behind a text that the line of this number isn't what it should be.
-fn put_bad_step(alloc: Global, text: &mut Vec<u8>, number: u64) -> Result<(), AllocError>
-    ensures { OnOk result (text.new.items ≡ text.old.items ++ spec.bad_step_text number) }
-{
-    let line = format!(in alloc; "line {number}: bad step\n")?;
-    text.extend_from_slice(line.as_bytes())?;
     Ok(())
 }

@@ -2,7 +2,7 @@
 use Rattle.std.proofs.Common.{◌≡◌, ℕ, suc, ◌+◌, ◌<◌, List, [], ◌∷◌, ◌++◌, length, drop, get_or, sym, ap, subst, ◌∙◌, append_assoc, add-one, Result, Ok, Err}
 use Rattle.std.specs.Prelude.{IsErrAnd}
 use Rattle.std.specs.List.{AllByRecursion}
-use Rattle.std.proofs.Math.Seq.{drop-cons}
+use Rattle.nob_trace_text.proofs.Ahead.{first_ahead}
 use Rattle.nob_frame.specs.declared.frame.Frame.{Frame}
 use Rattle.nob_trace.specs.declared.stamped.Stamped.{Stamped}
 use Rattle.nob_trace.specs.declared.fault.TraceError.{TraceError}
@@ -11,9 +11,6 @@ use Rattle.nob_trace.specs.Writing.{Refuses, Writes}
 use Rattle.nob_trace.specs.Frames.{frame_text, spaced_text}
 use Rattle.nob_trace.specs.Entries.{entry_text}
 use Rattle.nob_trace.specs.Traces.{entries_text}
-
-pub first_ahead : {A : Type 0} (xs : List A) (i : ℕ) (x : A) → i < length xs → x ≡ get_or xs i x → drop i xs ≡ x ∷ drop (i + 1) xs
-first_ahead xs i x lt same = drop-cons xs i x lt ∙ ap (λ y. y ∷ drop (suc i) xs) (sym same) ∙ ap (λ n. x ∷ drop n xs) (sym (add-one i))
 
 -- all of them, where all that are left and the others are
 abbrev pub SameAll : {A : Type 0} → (A → Type 0) → List A → ℕ → Type 0

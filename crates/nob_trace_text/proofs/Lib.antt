@@ -1,2 +1,3 @@
 pub mod HexTexts
 pub mod LineTexts
+pub mod Ahead

@@ -1,10 +1,10 @@
 use Rattle.std.proofs.Common.{◌≡◌, ◌++◌, [], Option, IfSome, codes, refl, subst}
 use Rattle.std.proofs.lemmas.Result.{IfOk-weaker, on_err_weaker}
 use Rattle.nob_ids.specs.declared.limits.Limits.{Limits}
-use Rattle.nob_trace_text.specs.Lines.{lines_of}
+use Rattle.nob_trace_text.specs.Lines.{lines_of, bad_step_text}
 use Rattle.nob_demo_pair.specs.Grammar.{header_text, IsLimits}
 use Rattle.nob_demo_pair.specs.declared.script.Outcome.TheVariants.{OutOfMemory}
-use Rattle.nob_demo_pair.specs.Scripts.{FromHeader, bad_step_text, last_line}
+use Rattle.nob_demo_pair.specs.Scripts.{FromHeader, last_line}
 use Rattle.nob_demo_pair.proofs.Playing.{bad_ended, header_done, no_header}
 use Rattle.nob_demo_pair.proofs.script.play_from.Goals as goal
 

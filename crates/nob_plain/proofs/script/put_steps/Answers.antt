@@ -1,25 +1,38 @@
-use Rattle.std.proofs.Common.{◌++◌, ◌∷◌, [], ℕ, List, arith, ap, subst, ◌∙◌, codes}
+use Rattle.std.proofs.Common.{◌≡◌, ◌++◌, ◌∷◌, [], ℕ, List, false, arith, ap, refl, subst, ◌∙◌, codes}
 use Rattle.std.specs.String.{string_bytes}
-use Rattle.nob_trace_text.specs.Lines.{lines_of}
-use Rattle.nob_plain.proofs.Playing.{Completes, ends, found_so, goes_on}
+use Rattle.nob_trace_text.specs.Lines.{lines_of, answered_text}
+use Rattle.nob_script_text.specs.declared.ending.Ending.TheVariants.{Judged, BadStep}
+use Rattle.nob_script_text.specs.Scripts.{AtEnd, StepMade}
+use Rattle.nob_script_text.proofs.Playing.{Completes, begun, line_more, lines_done, line_bad, no_step, bad_made}
+use Rattle.nob_plain.proofs.Playing.{found_so}
 use Rattle.nob_plain.proofs.script.put_steps.Goals as goal
+
+pub loop-line-init : goal.loop-line-init
+loop-line-init c = (omega arith, begun false (lines_of c.args.steps.now) c.args.world.now c.args.text.now.items)
 
 pub loop-line-preserved : goal.loop-line-preserved
 loop-line-preserved c =
     let line = c.in-Some.line.now in
     let left = lines_of c.in-Some.rest.now in
     let all = lines_of c.args.steps.now in
+    let number = c.loop-line.number in
+    let first = c.args.world.now in
+    let world = c.loop-line.world in
     let old = c.args.text.now.items in
     let now = c.loop-line.text.items in
-    let so_far = subst (λ (ls : List (List ℕ)). Completes c.loop-line.number c.loop-line.world ls c.args.world.now all old now) c.in-Some.ensures.lines c.loop-line.invariant.1 in
+    let so_far = subst (λ (ls : List (List ℕ)). Completes false number ls all first world old now) c.in-Some.ensures.lines c.loop-line.invariant.1 in
     let found = found_so _ c.in_ok-step.field-0 c.in-Some-2.step c.in-Some-2.is c.in_ok-step.ensures.found in
-    let grown = c.in_ok-put_line.ensures ∙ ap (λ (bs : List ℕ). now ++ (line ++ (codes " = " ++ (bs ++ 10 ∷ [])))) c.as_bytes.ensures.value in
-    (omega (arith, c.loop-line.invariant.0, c.in-Some.ensures.shorter), goes_on c.loop-line.number c.loop-line.world c.step.new.self c.args.world.now line (string_bytes c.in_ok-answer.answer) left all c.in-Some-2.step old now c.put_line.new.text.items so_far found.0 found.1 c.in_ok-answer.ensures grown)
+    let bytes = c.as_bytes.ensures.value in
+    let made : StepMade false world line c.step.new.self (answered_text line c.as_bytes.result.now) = StepMade.answered c.in-Some-2.step found (ap (answered_text line) (bytes ∙ ap (λ o. o.0) c.in_ok-answer.ensures)) (ap (λ o. o.1) c.in_ok-answer.ensures) in
+    (omega (arith, c.loop-line.invariant.0, c.in-Some.ensures.shorter), line_more false number line left all first world c.step.new.self old now c.push_line.new.text.items (answered_text line c.as_bytes.result.now) so_far made c.in_ok-push_line.ensures.ok)
 
 pub returns : goal.returns
 returns c =
     let all = lines_of c.args.steps.now in
     let old = c.args.text.now.items in
     let now = c.loop-line.text.items in
-    let so_far = subst (λ (left : List ℕ). Completes c.loop-line.number c.loop-line.world (lines_of left) c.args.world.now all old now) c.in_default.ensures.lines c.loop-line.invariant.1 in
-    ends c.loop-line.number c.loop-line.world c.args.world.now [] all old now c.extend_from_slice.new.self.items c.verdict_line.result.now so_far c.in_ok-extend_from_slice.ensures.items (c.in_ok-verdict.verdict, c.in_ok-verdict.ensures, c.verdict_line.ensures)
+    let first = c.args.world.now in
+    let world = c.loop-line.world in
+    let so_far = subst (λ (left : List ℕ). Completes false c.loop-line.number (lines_of left) all first world old now) c.in_default.ensures.lines c.loop-line.invariant.1 in
+    let verdict = c.in_ok-verdict.verdict in
+    (Judged verdict, lines_done false c.loop-line.number all first world old now c.extend_from_slice.new.self.items (Judged verdict) so_far (c.verdict_line.result.now, c.in_ok-extend_from_slice.ensures.items, AtEnd.judged verdict c.in_ok-verdict.ensures c.verdict_line.ensures refl))

@@ -1,7 +1,7 @@
-//! The line that says of a journal which promise isn't kept.
+//! The line that says of what was done which promise isn't kept.
 
 ghost use Rattle.std.specs.Prelude.{◌≡◌};
-ghost use Rattle.nob_plain.specs.Verdicts as spec;
+ghost use Rattle.nob_script_text.specs.Verdicts as spec;
 
 use nob_model_journal::{Promise, Verdict};
 

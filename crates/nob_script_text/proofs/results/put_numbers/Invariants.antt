@@ -1,7 +1,7 @@
 use Rattle.std.proofs.Common.{◌≡◌, ◌+◌, ◌++◌, drop}
 use Rattle.std.specs.String.{string_bytes}
-use Rattle.nob_plain.specs.Worlds.{numbers_text}
-use Rattle.nob_plain.proofs.script.put_numbers.Given as goal
+use Rattle.nob_script_text.specs.Worlds.{numbers_text}
+use Rattle.nob_script_text.proofs.results.put_numbers.Given as goal
 
 -- what is written and what is left are all
 abbrev pub invariant-loop-place : goal.invariant-loop-place

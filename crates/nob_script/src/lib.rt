@@ -1,0 +1,9 @@
+//! Scripts of a world, run on its spaces.
+#![tactic(auto)]
+
+mod judging;
+mod playing;
+mod stepping;
+
+pub use judging::verdict_on;
+pub use playing::play;

@@ -1,0 +1,3 @@
+pub mod Verdicts
+pub mod Worlds
+pub mod Scripts
