@@ -1,0 +1,33 @@
+-- How often something stands among items and messages: Calls and Replies by their numbers.
+use Rattle.std.specs.Prelude.{ℕ, ◌+◌, ◌&&◌, ◌==◌, Bool, false, length, filter, List}
+use Rattle.nob_item.specs.declared.item.Item.{Item}
+use Rattle.nob_item.specs.declared.item.Item.TheVariants as items
+use Rattle.nob_model_words.specs.declared.message.Message.{Message}
+use Rattle.nob_model_work.specs.declared.work.InHand.{InHand}
+use Rattle.nob_model_work.specs.declared.work.Run.{Run}
+
+-- how many elements pass a test
+abbrev pub count_of : {A : Type 0} → (A → Bool) → List A → ℕ
+count_of test xs = length (filter test xs)
+
+-- whether an item is Call k
+abbrev pub makes_call : ℕ → Item → Bool
+makes_call k (items.Call call target method value) = call == k
+makes_call k (items.Reply call status value) = false
+makes_call k (items.Settle item) = false
+makes_call k (items.Dirty index) = false
+makes_call k (items.DirtyOk index) = false
+makes_call k (items.DirtyNo index) = false
+makes_call k (items.Clean index) = false
+
+-- whether a message is Call k from p
+abbrev pub brings_call : (p k : ℕ) → Message → Bool
+brings_call p k message = message.from == p && makes_call k message.item
+
+-- whether a job that runs is Call k from p
+abbrev pub runs_call : (p k : ℕ) → Run → Bool
+runs_call p k run = brings_call p k run.message
+
+-- how many messages of Call k from p wait, are ready or run
+abbrev pub calls_in_hand : (p k : ℕ) → InHand → ℕ
+calls_in_hand p k W = count_of (brings_call p k) W.waiting + count_of (brings_call p k) W.ready + count_of (runs_call p k) W.running
