@@ -1,6 +1,7 @@
 -- What holds of all that happens in a world.
 use Rattle.nob_model_safety.proofs.Fronts.{fronts_law}
 use Rattle.nob_model_safety.proofs.Withdrawing.{safe_withdraw}
+use Rattle.nob_model_arrivals.proofs.Finding.{found_law}
 use Rattle.nob_world.specs.Worlds.{World, IsWorld, IsSafe, journal}
 
 -- a world is safe
@@ -8,4 +9,5 @@ pub safe : (world : World) → IsWorld world → IsSafe world.n (journal world)
 safe world is = record {
   fronts = fronts_law world.n (λ _. world.limits) (journal world) is.run is.typed;
   withdraws = safe_withdraw world.n (λ _. world.limits) (journal world) is.run is.typed;
+  found = found_law world.n (λ _. world.limits) (journal world) is.run is.typed;
 }
