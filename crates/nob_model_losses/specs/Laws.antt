@@ -1,0 +1,10 @@
+-- The laws of losses in runs of a world.
+use Rattle.std.specs.Prelude.{ℕ, List}
+use Rattle.nob_ids.specs.declared.limits.Limits.{Limits}
+use Rattle.nob_model_types.specs.declared.entry.Entry.{Entry}
+use Rattle.nob_model_journal.specs.Runs.{WorldRun}
+use Rattle.nob_model_losses.specs.Invariant.{Settled}
+
+-- in every run of a world what was acted on is settled, or its message waits
+abbrev pub SettledLaw : Type 0
+SettledLaw = (n : ℕ) (limits : ℕ → Limits) (J : List Entry) → WorldRun n limits J → Settled n J
