@@ -1,3 +1,5 @@
 pub mod Resting
 pub mod Done
+pub mod Known
+pub mod Standing
 pub mod Points

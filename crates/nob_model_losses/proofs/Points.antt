@@ -9,8 +9,9 @@ use Rattle.nob_model_safety.specs.Settles.{is_in}
 use Rattle.nob_model_safety.proofs.Entries.{right_deeds_at}
 use Rattle.nob_model_safety.proofs.Settling.{settles_of}
 use Rattle.nob_model_losses.specs.Copies.{carries_any, is_waiting}
-use Rattle.nob_model_losses.specs.Laws.{SettledLaw}
+use Rattle.nob_model_losses.specs.Laws.{SettledLaw, WaitingLaw}
 use Rattle.nob_model_losses.proofs.Done.{IsDone, all_done}
+use Rattle.nob_model_losses.proofs.Known.{all_known}
 
 -- on a session that is open
 while_open : (waits shut settled : Bool) → shut ≡ false → ((waits || shut) || settled) ≡ true → (waits || settled) ≡ true
@@ -24,3 +25,6 @@ settled n limits J run = record {
       (λ pair done some. while_open (is_waiting a pair.0 (work b n (deeds_at b J)).waiting) (closed a (deeds_at b J)) (is_in pair.0 (settles_of b n a (deeds_at b J))) up (done some))
       (acted a (deeds_at b J)) (all_done b n (limits b) a (deeds_at b J) (right_deeds_at n limits J run b));
 }
+
+pub waiting : WaitingLaw
+waiting n limits J run = record { known = λ b. all_known b n (limits b) (deeds_at b J) (right_deeds_at n limits J run b) }

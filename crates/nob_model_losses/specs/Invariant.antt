@@ -1,7 +1,11 @@
 -- What is said of losses in every run of a world, one record a theme.
-use Rattle.std.specs.Prelude.{◌≡◌, ℕ, true, false, ◌||◌, List}
+use Rattle.std.specs.Prelude.{◌≡◌, ℕ, Bool, true, false, ◌||◌, List}
 use Rattle.std.specs.List.{AllByRecursion}
+use Rattle.nob_ids.specs.declared.wire_rep.WireRep.{WireRep}
 use Rattle.nob_model_types.specs.declared.entry.Entry.{Entry}
+use Rattle.nob_model_words.specs.Turns.{turns, is_own, is_lost, is_standing}
+use Rattle.nob_model_words.specs.declared.deed.Deed.{Deed}
+use Rattle.nob_model_words.specs.declared.message.Message.{Message}
 use Rattle.nob_model_work.specs.Work.{work}
 use Rattle.nob_model_journal.specs.Journals.{deeds_at, closed_at, sent_to, acted_from}
 use Rattle.nob_model_safety.specs.Settles.{settles_among, is_in}
@@ -10,3 +14,11 @@ use Rattle.nob_model_losses.specs.Copies.{carries_any, is_waiting}
 -- while b has not closed its session with a, each item from a that b acted on and that carries counted references waits in its message or was settled
 pub record Settled (n : ℕ) (J : List Entry) : Type 0 where
   pub each : (a b : ℕ) → closed_at b a J ≡ false → AllByRecursion (λ pair. carries_any pair.1 ≡ true → (is_waiting a pair.0 (work b n (deeds_at b J)).waiting || is_in pair.0 (settles_among (sent_to n b a J))) ≡ true) (acted_from a b J)
+
+-- whether a reference that came in a message is accounted for at space s: it is its own, it is lost, or it has a surrogate
+abbrev pub is_known : (s n : ℕ) → WireRep → List Deed → Bool
+is_known s n rep D = is_own s rep || (is_lost s n rep D || is_standing (turns s n rep D))
+
+-- each reference of a message that waits is the space's own, lost, or has a surrogate
+pub record Waiting (n : ℕ) (J : List Entry) : Type 0 where
+  pub known : (b : ℕ) → AllByRecursion (λ (message : Message). AllByRecursion (λ copy. is_known b n copy.rep (deeds_at b J) ≡ true) message.copies) (work b n (deeds_at b J)).waiting

@@ -1,10 +1,17 @@
 //! Laws over the definitions: each is the contract of a function that does nothing.
 
-ghost use Rattle.nob_model_losses.specs.Laws.{SettledLaw};
+ghost use Rattle.nob_model_losses.specs.Laws.{SettledLaw, WaitingLaw};
 
 /// In every run of a world each item that carries counted references and was acted on is settled, unless its message still
 /// waits or the session with its sender closed there.
 #[tactic(auto, using(crate::proofs::Points::settled))]
 pub fn settled()
     ensures { SettledLaw }
+{}
+
+/// In every run of a world each counted reference of a message that waits is the space's own, lost, or has a surrogate:
+/// pending, granted or refused.
+#[tactic(auto, using(crate::proofs::Points::waiting))]
+pub fn waiting()
+    ensures { WaitingLaw }
 {}
