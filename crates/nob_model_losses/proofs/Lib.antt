@@ -1,5 +1,6 @@
 pub mod Resting
 pub mod Done
 pub mod Known
+pub mod Denied
 pub mod Standing
 pub mod Points

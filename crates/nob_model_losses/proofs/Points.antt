@@ -9,9 +9,10 @@ use Rattle.nob_model_safety.specs.Settles.{is_in}
 use Rattle.nob_model_safety.proofs.Entries.{right_deeds_at}
 use Rattle.nob_model_safety.proofs.Settling.{settles_of}
 use Rattle.nob_model_losses.specs.Copies.{carries_any, is_waiting}
-use Rattle.nob_model_losses.specs.Laws.{SettledLaw, WaitingLaw}
+use Rattle.nob_model_losses.specs.Laws.{SettledLaw, WaitingLaw, DenialsLaw}
 use Rattle.nob_model_losses.proofs.Done.{IsDone, all_done}
 use Rattle.nob_model_losses.proofs.Known.{all_known}
+use Rattle.nob_model_losses.proofs.Denied.{denied_settled}
 
 -- on a session that is open
 while_open : (waits shut settled : Bool) → shut ≡ false → ((waits || shut) || settled) ≡ true → (waits || settled) ≡ true
@@ -28,3 +29,6 @@ settled n limits J run = record {
 
 pub waiting : WaitingLaw
 waiting n limits J run = record { known = λ b. all_known b n (limits b) (deeds_at b J) (right_deeds_at n limits J run b) }
+
+pub denials : DenialsLaw
+denials n limits J run = record { settled = λ o b x refuses. denied_settled o n (limits o) b x (deeds_at o J) (right_deeds_at n limits J run o) refuses }

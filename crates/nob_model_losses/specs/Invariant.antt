@@ -1,13 +1,16 @@
 -- What is said of losses in every run of a world, one record a theme.
-use Rattle.std.specs.Prelude.{◌≡◌, ℕ, Bool, true, false, ◌||◌, List}
+use Rattle.std.specs.Prelude.{◌≡◌, ℕ, Bool, true, false, ◌||◌, ◌==◌, List}
 use Rattle.std.specs.List.{AllByRecursion}
 use Rattle.nob_ids.specs.declared.wire_rep.WireRep.{WireRep}
 use Rattle.nob_model_types.specs.declared.entry.Entry.{Entry}
-use Rattle.nob_model_words.specs.Turns.{turns, is_own, is_lost, is_standing}
+use Rattle.nob_model_words.specs.Turns.{turns, is_own, is_lost, is_standing, carries}
 use Rattle.nob_model_words.specs.declared.deed.Deed.{Deed}
 use Rattle.nob_model_words.specs.declared.message.Message.{Message}
 use Rattle.nob_model_work.specs.Work.{work}
-use Rattle.nob_model_journal.specs.Journals.{deeds_at, closed_at, sent_to, acted_from}
+use Rattle.nob_model_history.specs.Transit.{sent, is_settled}
+use Rattle.nob_model.specs.Right.{own_ref}
+use Rattle.nob_model_journal.specs.Journals.{deeds_at, history_at, closed_at, sent_to, acted_from}
+use Rattle.nob_model_safety.specs.Asking.{has_no, gave}
 use Rattle.nob_model_safety.specs.Settles.{settles_among, is_in}
 use Rattle.nob_model_losses.specs.Copies.{carries_any, is_waiting}
 
@@ -22,3 +25,7 @@ is_known s n rep D = is_own s rep || (is_lost s n rep D || is_standing (turns s 
 -- each reference of a message that waits is the space's own, lost, or has a surrogate
 pub record Waiting (n : ℕ) (J : List Entry) : Type 0 where
   pub known : (b : ℕ) → AllByRecursion (λ (message : Message). AllByRecursion (λ copy. is_known b n copy.rep (deeds_at b J) ≡ true) message.copies) (work b n (deeds_at b J)).waiting
+
+-- where an owner answered a client by DirtyNo, whatever it sent that client with a reference to the object is settled
+pub record Denials (n : ℕ) (J : List Entry) : Type 0 where
+  pub settled : (o b x : ℕ) → has_no (gave n o b x J) ≡ true → AllByRecursion (λ one. (one.to == b) ≡ true → carries (own_ref o x) one.item ≡ true → is_settled b one.number (deeds_at o J) ≡ true) (sent (history_at o n J))

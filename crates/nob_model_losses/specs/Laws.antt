@@ -3,7 +3,7 @@ use Rattle.std.specs.Prelude.{ℕ, List}
 use Rattle.nob_ids.specs.declared.limits.Limits.{Limits}
 use Rattle.nob_model_types.specs.declared.entry.Entry.{Entry}
 use Rattle.nob_model_journal.specs.Runs.{WorldRun}
-use Rattle.nob_model_losses.specs.Invariant.{Settled, Waiting}
+use Rattle.nob_model_losses.specs.Invariant.{Settled, Waiting, Denials}
 
 -- in every run of a world what was acted on is settled, or its message waits
 abbrev pub SettledLaw : Type 0
@@ -12,3 +12,7 @@ SettledLaw = (n : ℕ) (limits : ℕ → Limits) (J : List Entry) → WorldRun n
 -- in every run of a world the references of messages that wait are accounted for
 abbrev pub WaitingLaw : Type 0
 WaitingLaw = (n : ℕ) (limits : ℕ → Limits) (J : List Entry) → WorldRun n limits J → Waiting n J
+
+-- in every run of a world all copies of what an owner denied are settled
+abbrev pub DenialsLaw : Type 0
+DenialsLaw = (n : ℕ) (limits : ℕ → Limits) (J : List Entry) → WorldRun n limits J → Denials n J

@@ -1,6 +1,6 @@
 //! Laws over the definitions: each is the contract of a function that does nothing.
 
-ghost use Rattle.nob_model_losses.specs.Laws.{SettledLaw, WaitingLaw};
+ghost use Rattle.nob_model_losses.specs.Laws.{DenialsLaw, SettledLaw, WaitingLaw};
 
 /// In every run of a world each item that carries counted references and was acted on is settled, unless its message still
 /// waits or the session with its sender closed there.
@@ -14,4 +14,11 @@ pub fn settled()
 #[tactic(auto, using(crate::proofs::Points::waiting))]
 pub fn waiting()
     ensures { WaitingLaw }
+{}
+
+/// In every run of a world, where an owner answered a client by DirtyNo, all that it sent that client with a reference to
+/// the object is settled.
+#[tactic(auto, using(crate::proofs::Points::denials))]
+pub fn denials()
+    ensures { DenialsLaw }
 {}
