@@ -9,10 +9,12 @@ use Rattle.nob_model_safety.specs.Settles.{is_in}
 use Rattle.nob_model_safety.proofs.Entries.{right_deeds_at}
 use Rattle.nob_model_safety.proofs.Settling.{settles_of}
 use Rattle.nob_model_losses.specs.Copies.{carries_any, is_waiting}
-use Rattle.nob_model_losses.specs.Laws.{SettledLaw, WaitingLaw, DenialsLaw}
+use Rattle.nob_model_losses.specs.Laws.{SettledLaw, WaitingLaw, DenialsLaw, CopiesLaw}
 use Rattle.nob_model_losses.proofs.Done.{IsDone, all_done}
 use Rattle.nob_model_losses.proofs.Known.{all_known}
 use Rattle.nob_model_losses.proofs.Denied.{denied_settled}
+use Rattle.nob_model_losses.proofs.Copied.{are_copied}
+use Rattle.nob_model_losses.proofs.Excused.{refused_excused}
 
 -- on a session that is open
 while_open : (waits shut settled : Bool) → shut ≡ false → ((waits || shut) || settled) ≡ true → (waits || settled) ≡ true
@@ -32,3 +34,10 @@ waiting n limits J run = record { known = λ b. all_known b n (limits b) (deeds_
 
 pub denials : DenialsLaw
 denials n limits J run = record { settled = λ o b x refuses. denied_settled o n (limits o) b x (deeds_at o J) (right_deeds_at n limits J run o) refuses }
+
+pub copied : CopiesLaw
+copied n limits J run typed = record {
+  none_without = λ b rep peer up idle. (are_copied b n (limits b) rep (deeds_at b J) (right_deeds_at n limits J run b)).none peer up idle;
+  pending_wait = λ b rep up pending. (are_copied b n (limits b) rep (deeds_at b J) (right_deeds_at n limits J run b)).wait up pending;
+  refused_excused = refused_excused n limits J run typed;
+}

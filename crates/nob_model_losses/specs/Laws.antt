@@ -3,7 +3,8 @@ use Rattle.std.specs.Prelude.{ℕ, List}
 use Rattle.nob_ids.specs.declared.limits.Limits.{Limits}
 use Rattle.nob_model_types.specs.declared.entry.Entry.{Entry}
 use Rattle.nob_model_journal.specs.Runs.{WorldRun}
-use Rattle.nob_model_losses.specs.Invariant.{Settled, Waiting, Denials}
+use Rattle.nob_model_safety.specs.Typed.{AreOfTypes}
+use Rattle.nob_model_losses.specs.Invariant.{Settled, Waiting, Denials, Copies}
 
 -- in every run of a world what was acted on is settled, or its message waits
 abbrev pub SettledLaw : Type 0
@@ -16,3 +17,7 @@ WaitingLaw = (n : ℕ) (limits : ℕ → Limits) (J : List Entry) → WorldRun n
 -- in every run of a world all copies of what an owner denied are settled
 abbrev pub DenialsLaw : Type 0
 DenialsLaw = (n : ℕ) (limits : ℕ → Limits) (J : List Entry) → WorldRun n limits J → Denials n J
+
+-- in every run of a world the copies of a reference wait while it is pending, and are excused where it is refused
+abbrev pub CopiesLaw : Type 0
+CopiesLaw = (n : ℕ) (limits : ℕ → Limits) (J : List Entry) → WorldRun n limits J → AreOfTypes J → Copies n J

@@ -1,6 +1,6 @@
 //! Laws over the definitions: each is the contract of a function that does nothing.
 
-ghost use Rattle.nob_model_losses.specs.Laws.{DenialsLaw, SettledLaw, WaitingLaw};
+ghost use Rattle.nob_model_losses.specs.Laws.{CopiesLaw, DenialsLaw, SettledLaw, WaitingLaw};
 
 /// In every run of a world each item that carries counted references and was acted on is settled, unless its message still
 /// waits or the session with its sender closed there.
@@ -21,4 +21,12 @@ pub fn waiting()
 #[tactic(auto, using(crate::proofs::Points::denials))]
 pub fn denials()
     ensures { DenialsLaw }
+{}
+
+/// In every run of a world, of the copies of a reference that a space acted on since it last gave it up: without a
+/// surrogate there are none; while it is pending each waits in its message, or came on a session that closed there; where
+/// the owner refused it each is excused. Asked of the run: what each Call and Finish handed on is of its types.
+#[tactic(auto, using(crate::proofs::Points::copied))]
+pub fn copies()
+    ensures { CopiesLaw }
 {}
