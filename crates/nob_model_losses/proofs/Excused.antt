@@ -33,13 +33,13 @@ use Rattle.nob_model.proofs.Premises.{took_turns}
 use Rattle.nob_model.proofs.Waiting.{act_open, all_weaker}
 use Rattle.nob_model_journal.specs.Fronts.{numbered, ActsInOrder}
 use Rattle.nob_model_journal.specs.Journals.{deeds_at, history_at, closed_at, both_open, sent_to, acted_from}
-use Rattle.nob_model_journal.specs.Losses.{is_carried, is_loss, is_excuse, sources}
+use Rattle.nob_model_journal.specs.Losses.{is_carried, is_loss, is_excuse, sources, LosesExcused}
 use Rattle.nob_model_journal.specs.Runs.{WorldRun}
 use Rattle.nob_model_safety.specs.Asking.{answer_in, answers_among, items_among, last_word, word_of, turns_by, has_no, asked, heard, gave}
 use Rattle.nob_model_safety.specs.Settles.{settle_in, settles_among, is_in}
 use Rattle.nob_model_safety.specs.Typed.{AreOfTypes}
 use Rattle.nob_model_safety.proofs.Bundles.{up_to_at, settled_in}
-use Rattle.nob_model_safety.proofs.Entries.{grows, right_deeds_at}
+use Rattle.nob_model_safety.proofs.Entries.{grows, grows_own, right_deeds_at}
 use Rattle.nob_model_safety.proofs.Holdings.{pins_stand}
 use Rattle.nob_model_safety.proofs.Listings.{items_begin, answers_begin, listings}
 use Rattle.nob_model_safety.proofs.Lists.{all_at, all_both, all_map, all_pass, numbered_at, place_before, place_in_whole, some_same}
@@ -47,6 +47,7 @@ use Rattle.nob_model_safety.proofs.Bundles.{numbered_item}
 use Rattle.nob_model_safety.proofs.Order.{acts_on_next, all_fit, in_order}
 use Rattle.nob_model_safety.proofs.Points.{clients, owners, holdings, living, settlements}
 use Rattle.nob_model_losses.specs.Copies.{copies, is_waiting}
+use Rattle.nob_model_losses.specs.Laws.{LossesLaw}
 use Rattle.nob_model_losses.proofs.Copied.{IsCopyOf, Rests, are_copied, copies_acted, sources_are}
 use Rattle.nob_model_losses.proofs.Denied.{IsSettledTo, carried_has, carried_some, denied_settled}
 use Rattle.nob_model_losses.proofs.Standing.{was_refused}
@@ -369,3 +370,14 @@ refused_excused n limits (entry ∷ J) run typed b rep refused =
           subst (λ D. AllByRecursion (λ a. is_excuse b rep (entry ∷ J) a ≡ true) (sources b n rep D)) (sym more.3)
           (all_weaker (λ a. is_excuse b rep J a ≡ true) (λ a. is_excuse b rep (entry ∷ J) a ≡ true) (excused_later b rep entry J) (sources b n rep (more.0 ∷ deeds_at b J)) (deed_refused n b limits J rep more.0 run.1 typed.1 before right (ap (λ D. is_refused (turns b n rep D)) (sym more.3) ∙ refused)))
     ]
+
+-- each reference that an entry loses is excused
+entry_excused : (n : ℕ) (limits : ℕ → Limits) (entry : Entry) (J : List Entry) → WorldRun n limits (entry ∷ J) → AreOfTypes (entry ∷ J) → LosesExcused n entry J
+entry_excused n limits entry J run typed p k rep acts loss =
+    let right : AreRightDeeds entry.space n (limits entry.space) (did.Act p k ∷ deeds_at entry.space J) = subst (AreRightDeeds entry.space n (limits entry.space)) (grows_own entry J (did.Act p k) acts) (right_deeds_at n limits (entry ∷ J) run entry.space) in
+    act_excused n p entry.space k limits J rep run.1 typed.1 (refused_excused n limits J run.1 typed.1) right (item_at p k (deeds_at entry.space J)) refl loss
+
+-- in every run of a world no reference is lost without a cause
+pub losses : LossesLaw
+losses n limits [] run typed = tt
+losses n limits (entry ∷ J) run typed = (entry_excused n limits entry J run typed, losses n limits J run.1 typed.1)

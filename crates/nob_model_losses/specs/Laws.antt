@@ -3,6 +3,7 @@ use Rattle.std.specs.Prelude.{ℕ, List}
 use Rattle.nob_ids.specs.declared.limits.Limits.{Limits}
 use Rattle.nob_model_types.specs.declared.entry.Entry.{Entry}
 use Rattle.nob_model_journal.specs.Runs.{WorldRun}
+use Rattle.nob_model_journal.specs.Losses.{NoFalseLoss}
 use Rattle.nob_model_safety.specs.Typed.{AreOfTypes}
 use Rattle.nob_model_losses.specs.Invariant.{Settled, Waiting, Denials, Copies}
 
@@ -21,3 +22,7 @@ DenialsLaw = (n : ℕ) (limits : ℕ → Limits) (J : List Entry) → WorldRun n
 -- in every run of a world the copies of a reference wait while it is pending, and are excused where it is refused
 abbrev pub CopiesLaw : Type 0
 CopiesLaw = (n : ℕ) (limits : ℕ → Limits) (J : List Entry) → WorldRun n limits J → AreOfTypes J → Copies n J
+
+-- in every run of a world no reference is lost without a cause
+abbrev pub LossesLaw : Type 0
+LossesLaw = (n : ℕ) (limits : ℕ → Limits) (J : List Entry) → WorldRun n limits J → AreOfTypes J → NoFalseLoss n J

@@ -1,6 +1,6 @@
 //! Laws over the definitions: each is the contract of a function that does nothing.
 
-ghost use Rattle.nob_model_losses.specs.Laws.{CopiesLaw, DenialsLaw, SettledLaw, WaitingLaw};
+ghost use Rattle.nob_model_losses.specs.Laws.{CopiesLaw, DenialsLaw, LossesLaw, SettledLaw, WaitingLaw};
 
 /// In every run of a world each item that carries counted references and was acted on is settled, unless its message still
 /// waits or the session with its sender closed there.
@@ -29,4 +29,12 @@ pub fn denials()
 #[tactic(auto, using(crate::proofs::Points::copied))]
 pub fn copies()
     ensures { CopiesLaw }
+{}
+
+/// In every run of a world no reference is lost without a cause: where an owner refuses one, each copy that came was sent
+/// by another space that had lost touch with the receiver or with the owner. Asked of the run: what each Call and Finish
+/// handed on is of its types.
+#[tactic(auto, using(crate::proofs::Excused::losses))]
+pub fn losses()
+    ensures { LossesLaw }
 {}
