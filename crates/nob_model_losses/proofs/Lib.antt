@@ -6,3 +6,5 @@ pub mod Standing
 pub mod Copied
 pub mod Excused
 pub mod Points
+pub mod Placed
+pub mod Leaking

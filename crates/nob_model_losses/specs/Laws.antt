@@ -6,6 +6,7 @@ use Rattle.nob_model_journal.specs.Runs.{WorldRun}
 use Rattle.nob_model_journal.specs.Losses.{NoFalseLoss}
 use Rattle.nob_model_safety.specs.Typed.{AreOfTypes}
 use Rattle.nob_model_losses.specs.Invariant.{Settled, Waiting, Denials, Copies}
+use Rattle.nob_model_losses.specs.Leaks.{NoLeak}
 
 -- in every run of a world what was acted on is settled, or its message waits
 abbrev pub SettledLaw : Type 0
@@ -26,3 +27,7 @@ CopiesLaw = (n : ℕ) (limits : ℕ → Limits) (J : List Entry) → WorldRun n 
 -- in every run of a world no reference is lost without a cause
 abbrev pub LossesLaw : Type 0
 LossesLaw = (n : ℕ) (limits : ℕ → Limits) (J : List Entry) → WorldRun n limits J → AreOfTypes J → NoFalseLoss n J
+
+-- in every run of a world no object leaks
+abbrev pub LeaksLaw : Type 0
+LeaksLaw = (n : ℕ) (limits : ℕ → Limits) (J : List Entry) → WorldRun n limits J → NoLeak n J

@@ -1,6 +1,6 @@
 //! Laws over the definitions: each is the contract of a function that does nothing.
 
-ghost use Rattle.nob_model_losses.specs.Laws.{CopiesLaw, DenialsLaw, LossesLaw, SettledLaw, WaitingLaw};
+ghost use Rattle.nob_model_losses.specs.Laws.{CopiesLaw, DenialsLaw, LeaksLaw, LossesLaw, SettledLaw, WaitingLaw};
 
 /// In every run of a world each item that carries counted references and was acted on is settled, unless its message still
 /// waits or the session with its sender closed there.
@@ -37,4 +37,10 @@ pub fn copies()
 #[tactic(auto, using(crate::proofs::Excused::losses))]
 pub fn losses()
     ensures { LossesLaw }
+{}
+
+/// In every run of a world no object leaks: once all is quiet, each live object that no space can use can be withdrawn.
+#[tactic(auto, using(crate::proofs::Leaking::leaks))]
+pub fn leaks()
+    ensures { LeaksLaw }
 {}
