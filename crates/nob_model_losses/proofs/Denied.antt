@@ -1,0 +1,147 @@
+-- What an owner denied a client: all that it sent that client with a reference to the object is settled.
+use Rattle.std.proofs.Common.{◌≡◌, ℕ, ◌+◌, ◌≤◌, ◌&&◌, ◌||◌, not, Bool, true, false, cond, List, [], ◌∷◌, ◌++◌, length, refl, sym, ap, subst, ◌∙◌, arith}
+use Rattle.std.specs.Prelude.{◌==◌}
+use Rattle.std.specs.List.{AllByRecursion, list_any}
+use Rattle.std.proofs.lemmas.Bool.{eqb-true, eq-eqb, ne_eqb, and_from, and_right, or_right, both_ways, not_from_false, true_from_ne_false}
+use Rattle.std.proofs.lemmas.List.{append-nil, length-append, nil_from_length}
+use Rattle.std.proofs.lemmas.List.Elements.{filter_map-append}
+use Rattle.nob_ids.specs.Names.{is_same}
+use Rattle.nob_ids.specs.declared.limits.Limits.{Limits}
+use Rattle.nob_ids.specs.declared.wire_rep.WireRep.{WireRep}
+use Rattle.nob_item.specs.Kinds.{counted_in}
+use Rattle.nob_model_words.specs.declared.deed.Deed.{Deed}
+use Rattle.nob_model_words.specs.declared.deed.Deed.TheVariants as did
+use Rattle.nob_model_words.specs.Sessions.{is_peer, closed, item_at, acted}
+use Rattle.nob_model_words.specs.Objects.{is_exported, is_withdrawn, is_live}
+use Rattle.nob_model_words.specs.Turns.{carries}
+use Rattle.nob_model_work.specs.declared.gifts.Gift.{Gift}
+use Rattle.nob_model_work.specs.Work.{work}
+use Rattle.nob_model_work.specs.Gifts.{gifts_of, gifts}
+use Rattle.nob_model_history.specs.declared.transit.SentItem.{SentItem}
+use Rattle.nob_model_history.specs.Histories.{history_of}
+use Rattle.nob_model_history.specs.Ends.{items_to}
+use Rattle.nob_model_history.specs.Transit.{is_some_of, is_settle_of, is_settled, is_pinned, pins, sent}
+use Rattle.nob_model_history.proofs.Numbered.{items_sent_to, gifts_sent_to}
+use Rattle.nob_model_history.proofs.Sending.{next_item, new_items, sent_more}
+use Rattle.nob_model_history.proofs.Turning.{same_ref}
+use Rattle.nob_model.specs.Right.{own_ref}
+use Rattle.nob_model.specs.Lists.{AreRightDeeds}
+use Rattle.nob_model.proofs.Carrying.{all_filter}
+use Rattle.nob_model.proofs.Guarding.{GuardsItem, IsGuarded, AreGuarded, gifts_guarded, pinned_law}
+use Rattle.nob_model.proofs.Waiting.{act_open, all_weaker}
+use Rattle.nob_model_safety.specs.Asking.{answer_in, answers_among, asks_among, items_among, has_no, dirties_in}
+use Rattle.nob_model_safety.proofs.Holdings.{pins_stand}
+use Rattle.nob_model_safety.proofs.Lists.{all_append}
+use Rattle.nob_model_safety.proofs.Owners.{gave_of, asked_of, are_answered}
+
+-- what went to client c with a reference to the object of an index is settled
+abbrev pub IsSettledTo : (s c x : ℕ) → List Deed → SentItem → Type 0
+IsSettledTo s c x D one = (one.to == c) ≡ true → carries (own_ref s x) one.item ≡ true → is_settled c one.number D ≡ true
+
+-- ---- what an item carries
+
+-- what an item carries stands among its references
+pub carried_has : (P : WireRep → Type 0) (rep : WireRep) (reps : List WireRep) → AllByRecursion P reps → list_any (is_same rep) reps ≡ true → P rep
+carried_has P rep [] all there = cc
+carried_has P rep (other ∷ reps) all there = has (is_same rep other) refl all.0 (carried_has P rep reps all.1) there
+  where
+    has : (b : Bool) → is_same rep other ≡ b → P other → (list_any (is_same rep) reps ≡ true → P rep) → (b || list_any (is_same rep) reps) ≡ true → P rep
+    has true same its rest there = subst P (sym (same_ref rep other same)) its
+    has false same its rest there = rest there
+
+pub carried_some : (rep : WireRep) (reps : List WireRep) → list_any (is_same rep) reps ≡ true → is_some_of reps ≡ true
+carried_some rep [] there = cc
+carried_some rep (other ∷ reps) there = refl
+
+-- ---- what was sent before
+
+-- what isn't live has no pins, so all that went to a client on an open session with a reference to it is settled
+unpinned_settled : (s n : ℕ) (limits : Limits) (c x : ℕ) (D : List Deed) → AreRightDeeds s n limits D → is_live s x D ≡ false → closed c D ≡ false → (one : SentItem) → (is_pinned D one ≡ true → AllByRecursion (λ rep. 1 ≤ pins rep (history_of s n D)) (counted_in one.item)) → IsSettledTo s c x D one
+unpinned_settled s n limits c x D right dead up one stand to carried = true_from_ne_false (is_settled c one.number D) pinned
+  where
+    same : one.to ≡ c
+    same = eqb-true one.to c to
+
+    alive : 1 ≤ pins (own_ref s x) (history_of s n D) → ⊥
+    alive some = both_ways (is_live s x D) dead (pinned_law s n limits D right x (ne_eqb (pins (own_ref s x) (history_of s n D)) 0 (λ none. omega (arith, some, none))))
+
+    pinned : is_settled c one.number D ≡ false → ⊥
+    pinned unsettled =
+        let pin : is_pinned D one ≡ true = and_from _ _ (and_from _ _ (carried_some (own_ref s x) (counted_in one.item) carried) (not_from_false _ (ap (λ (p : ℕ). is_settled p one.number D) same ∙ unsettled))) (not_from_false _ (ap (λ (p : ℕ). closed p D) same ∙ up)) in
+        alive (carried_has (λ rep. 1 ≤ pins rep (history_of s n D)) (own_ref s x) (counted_in one.item) (stand pin) carried)
+
+settled_later : (now before : Bool) → before ≡ true → (now || before) ≡ true
+settled_later now before is = or_right now before is
+
+-- what was settled stays so
+settled_stays : (p k : ℕ) (deed : Deed) (D : List Deed) → is_settled p k D ≡ true → is_settled p k (deed ∷ D) ≡ true
+settled_stays p k (did.Act q j) D is = settled_later (q == p && is_settle_of k (item_at q j D)) (is_settled p k D) is
+settled_stays p k deed D is = is
+
+still_settled : (s c x : ℕ) (deed : Deed) (D : List Deed) (all : List SentItem) → AllByRecursion (IsSettledTo s c x D) all → AllByRecursion (IsSettledTo s c x (deed ∷ D)) all
+still_settled s c x deed D all are = all_weaker (IsSettledTo s c x D) (IsSettledTo s c x (deed ∷ D)) (λ one its to carried. settled_stays c one.number deed D (its to carried)) all are
+
+-- ---- what is sent now
+
+-- nothing that is sent carries a reference to an own object that isn't live
+new_settled : (s c x : ℕ) (D E : List Deed) (more : List Gift) (before : List SentItem) → is_live s x D ≡ false → AreGuarded s D more → AllByRecursion (IsSettledTo s c x E) (new_items before more)
+new_settled s c x D E [] before dead are = tt
+new_settled s c x D E (gift ∷ more) before dead are = (λ to carried. absurd (both_ways (is_live s x D) dead (carried_has (IsGuarded s D) (own_ref s x) (counted_in gift.item) are.0 carried (eq_self s))), new_settled s c x D E more (before ++ next_item before gift ∷ []) dead are.1)
+  where
+    eq_self : (m : ℕ) → (m == m) ≡ true
+    eq_self m = eq-eqb m m refl
+
+sent_settled : (s n : ℕ) (limits : Limits) (c x : ℕ) (deed : Deed) (D : List Deed) → AreRightDeeds s n limits (deed ∷ D) → is_live s x D ≡ false → AllByRecursion (IsSettledTo s c x D) (sent (history_of s n D)) → AllByRecursion (IsSettledTo s c x (deed ∷ D)) (sent (history_of s n (deed ∷ D)))
+unfolding gifts
+sent_settled s n limits c x deed D right dead before =
+    subst (AllByRecursion (IsSettledTo s c x (deed ∷ D))) (sym (sent_more s n deed D))
+    (all_append (IsSettledTo s c x (deed ∷ D)) (sent (history_of s n D)) _ (still_settled s c x deed D (sent (history_of s n D)) before)
+    (new_settled s c x D (deed ∷ D) (gifts s n deed D (work s n D)) (sent (history_of s n D)) dead (all_filter (λ (gift : Gift). GuardsItem s D gift.item) (λ (gift : Gift). is_peer s n gift.to) (gifts_of s n deed D (work s n D)) (gifts_guarded s n limits deed D right.0))))
+
+-- ---- one deed more
+
+dead_by : (known gone : Bool) → gone ≡ true → (known && not gone) ≡ false
+dead_by known true is = and_right known false refl
+dead_by known false is = cc
+
+-- what was denied isn't live
+dead_of : (s n : ℕ) (limits : Limits) (c x : ℕ) (D : List Deed) → AreRightDeeds s n limits D → has_no (gave_of s n c x D) ≡ true → is_live s x D ≡ false
+dead_of s n limits c x D right refuses = dead_by (is_exported s x D) (is_withdrawn x D) ((are_answered s n limits c x D right).denied refuses).1
+
+-- after an item from the client: what it was denied isn't live, and its session is open
+own_act : (s n : ℕ) (limits : Limits) (c x k : ℕ) (D : List Deed) → AreRightDeeds s n limits (did.Act c k ∷ D) → has_no (gave_of s n c x (did.Act c k ∷ D)) ≡ true → AllByRecursion (IsSettledTo s c x (did.Act c k ∷ D)) (sent (history_of s n (did.Act c k ∷ D)))
+own_act s n limits c x k D right refuses =
+    let dead : is_live s x D ≡ false = dead_of s n limits c x (did.Act c k ∷ D) right refuses in
+    sent_settled s n limits c x (did.Act c k) D right dead
+    (all_weaker (λ one. is_pinned D one ≡ true → AllByRecursion (λ rep. 1 ≤ pins rep (history_of s n D)) (counted_in one.item)) (IsSettledTo s c x D)
+    (unpinned_settled s n limits c x D right.1 dead (act_open s n limits c k D right.0)) (sent (history_of s n D)) (pins_stand s n D))
+
+-- what is answered to a client by a deed that acts on nothing from it
+same_answers : (s n : ℕ) (limits : Limits) (c x : ℕ) (deed : Deed) (D : List Deed) → AreRightDeeds s n limits (deed ∷ D) → asked_of c x (deed ∷ D) ≡ asked_of c x D → gave_of s n c x (deed ∷ D) ≡ gave_of s n c x D
+same_answers s n limits c x deed D right same =
+    let more : List Bool = answers_among x (items_to c (gifts s n deed D (work s n D))) in
+    let longer : gave_of s n c x (deed ∷ D) ≡ gave_of s n c x D ++ more =
+    ap (answers_among x) (gifts_sent_to c (gifts s n deed D (work s n D)) (sent (history_of s n D)))
+    ∙ filter_map-append (answer_in x) (items_sent_to c (sent (history_of s n D))) (items_to c (gifts s n deed D (work s n D))) in
+    let now : length (gave_of s n c x (deed ∷ D)) ≡ dirties_in (asked_of c x (deed ∷ D)) = (are_answered s n limits c x (deed ∷ D) right).in_turn.each in
+    let earlier : length (gave_of s n c x D) ≡ dirties_in (asked_of c x D) = (are_answered s n limits c x D right.1).in_turn.each in
+    let size : length (gave_of s n c x D) + length more ≡ length (gave_of s n c x D) = sym (length-append (gave_of s n c x D) more) ∙ ap length (sym longer) ∙ now ∙ ap dirties_in same ∙ sym earlier in
+    longer ∙ ap (λ bs. gave_of s n c x D ++ bs) (nil_from_length more (omega (arith, size))) ∙ append-nil (gave_of s n c x D)
+
+other_deed : (s n : ℕ) (limits : Limits) (c x : ℕ) (deed : Deed) (D : List Deed) → AreRightDeeds s n limits (deed ∷ D) → asked_of c x (deed ∷ D) ≡ asked_of c x D → (has_no (gave_of s n c x D) ≡ true → AllByRecursion (IsSettledTo s c x D) (sent (history_of s n D))) → has_no (gave_of s n c x (deed ∷ D)) ≡ true → AllByRecursion (IsSettledTo s c x (deed ∷ D)) (sent (history_of s n (deed ∷ D)))
+other_deed s n limits c x deed D right same before refuses =
+    let earlier : has_no (gave_of s n c x D) ≡ true = ap has_no (sym (same_answers s n limits c x deed D right same)) ∙ refuses in
+    sent_settled s n limits c x deed D right (dead_of s n limits c x D right.1 earlier) (before earlier)
+
+act_deed : (s n : ℕ) (limits : Limits) (c x q k : ℕ) (D : List Deed) → AreRightDeeds s n limits (did.Act q k ∷ D) → (has_no (gave_of s n c x D) ≡ true → AllByRecursion (IsSettledTo s c x D) (sent (history_of s n D))) → has_no (gave_of s n c x (did.Act q k ∷ D)) ≡ true → (own : Bool) → (q == c) ≡ own → AllByRecursion (IsSettledTo s c x (did.Act q k ∷ D)) (sent (history_of s n (did.Act q k ∷ D)))
+act_deed s n limits c x q k D right before refuses true own =
+    let same : c ≡ q = sym (eqb-true q c own) in
+    subst (λ (r : ℕ). AreRightDeeds s n limits (did.Act r k ∷ D) → has_no (gave_of s n c x (did.Act r k ∷ D)) ≡ true → AllByRecursion (IsSettledTo s c x (did.Act r k ∷ D)) (sent (history_of s n (did.Act r k ∷ D)))) same (own_act s n limits c x k D) right refuses
+act_deed s n limits c x q k D right before refuses false own =
+    other_deed s n limits c x (did.Act q k) D right (ap (λ (b : Bool). asks_among x (items_among (cond b (acted c D ++ (k, item_at c k D) ∷ []) (acted c D)))) own) before refuses
+
+-- in every list of right deeds all that went to a client with a reference to what it was denied is settled
+pub denied_settled : (s n : ℕ) (limits : Limits) (c x : ℕ) (D : List Deed) → AreRightDeeds s n limits D → has_no (gave_of s n c x D) ≡ true → AllByRecursion (IsSettledTo s c x D) (sent (history_of s n D))
+denied_settled s n limits c x [] right refuses = tt
+denied_settled s n limits c x (did.Act q k ∷ D) right refuses = act_deed s n limits c x q k D right (denied_settled s n limits c x D right.1) refuses (q == c) refl
+denied_settled s n limits c x (deed ∷ D) right refuses = other_deed s n limits c x deed D right refl (denied_settled s n limits c x D right.1) refuses
