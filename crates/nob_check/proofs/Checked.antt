@@ -1,0 +1,85 @@
+-- What is tested by the ledgers of a journal is what the journal's own tests say.
+use Rattle.std.proofs.Common.{◌≡◌, ◌&&◌, ℕ, Bool, true, false, cond, List, [], ◌∷◌, ◌++◌, Option, Some, None, map, filter, refl, sym, ap, ◌∙◌}
+use Rattle.std.specs.Prelude.{◌==◌, not}
+use Rattle.std.specs.List.{list_all}
+use Rattle.std.proofs.lemmas.Bool.{eqb-true}
+use Rattle.std.proofs.lemmas.List.{map-append, append-nil}
+use Rattle.std.proofs.lemmas.List.Elements.{filter-append}
+use Rattle.std.proofs.lemmas.List.Folds.{list_all-map}
+use Rattle.nob_item.specs.declared.item.Item.{Item}
+use Rattle.nob_model_types.specs.declared.entry.Entry.{Entry}
+use Rattle.nob_model_words.specs.Sessions.{acted, item_at}
+use Rattle.nob_model_words.specs.declared.deed.Deed.{Deed}
+use Rattle.nob_model_words.specs.declared.deed.Deed.TheVariants.{Act, Withdraw}
+use Rattle.nob_model_work.specs.Gifts.{all_gifts}
+use Rattle.nob_model.specs.Right.{own_ref}
+use Rattle.nob_model_journal.specs.Journals.{deeds_at, sent_to, acted_from}
+use Rattle.nob_model_journal.specs.Tests.{spaces_in, senders_in, is_front, is_unneeded, is_lossless, acts_while_open, sends_while_open, has_fronts, keeps_fronts}
+use Rattle.nob_check_ledgers.specs.Ledgers.{acted_items}
+use Rattle.nob_check_ledgers.specs.declared.lists.ActedItem.{ActedItem}
+use Rattle.nob_check_ledgers.specs.declared.ledger.Ledger.{Ledger}
+use Rattle.nob_check.specs.Books.{books_of, did_by, sent_by}
+use Rattle.nob_check.specs.Checks.{needs_by, is_unneeded_by, is_lossless_by, acted_from_by, items_to, is_in_order_by, has_fronts_by, keeps_fronts_by}
+use Rattle.nob_check.proofs.Ledgers.{ledger_at, did_same, sent_is}
+
+-- whether a deed isn't the withdrawal of what a space needs
+pub unneeded_is : (n s : ℕ) (deed : Option Deed) (J : List Entry) → is_unneeded_by s deed (books_of n J) ≡ is_unneeded n s deed J
+unneeded_is n s None J = refl
+unneeded_is n s (Some (Withdraw index)) J =
+    list_all-map (λ (ledger : Ledger). not (needs_by (did_by (books_of n J)) (own_ref s index) ledger)) (ledger_at n J) (spaces_in J)
+    ∙ ap (λ (did : ℕ → List Deed). list_all (λ x. not (needs_by did (own_ref s index) (ledger_at n J x))) (spaces_in J)) (did_same n J)
+unneeded_is n s (Some _) J = refl
+
+lossless_by : (n s : ℕ) (deed : Option Deed) (J : List Entry) → is_lossless_by (λ x. deeds_at x J) n s deed ≡ is_lossless n s deed J
+lossless_by n s None J = refl
+lossless_by n s (Some (Act p k)) J = refl
+lossless_by n s (Some _) J = refl
+
+-- whether what a deed loses is excused
+pub lossless_is : (n s : ℕ) (deed : Option Deed) (J : List Entry) → is_lossless_by (did_by (books_of n J)) n s deed ≡ is_lossless n s deed J
+lossless_is n s deed J = ap (λ (did : ℕ → List Deed). is_lossless_by did n s deed) (did_same n J) ∙ lossless_by n s deed J
+
+-- ---- fronts
+
+-- what was acted on from a space
+acted_is : (a : ℕ) (D : List Deed) → acted_from_by a (acted_items D) ≡ acted a D
+acted_is a [] = refl
+acted_is a (Act q k ∷ D) = parted ∙ by (acted_is a D) (q == a) refl
+  where
+    one : ActedItem
+    one = record { from = q; number = k; item = item_at q k D }
+
+    pair : ActedItem → ℕ × Option Item
+    pair x = (x.number, x.item)
+
+    parted : acted_from_by a (acted_items D ++ one ∷ []) ≡ acted_from_by a (acted_items D) ++ acted_from_by a (one ∷ [])
+    parted =
+        ap (map pair) (filter-append (λ (x : ActedItem). x.from == a) (acted_items D) (one ∷ []))
+        ∙ map-append pair (filter (λ (x : ActedItem). x.from == a) (acted_items D)) (filter (λ (x : ActedItem). x.from == a) (one ∷ []))
+
+    by : acted_from_by a (acted_items D) ≡ acted a D → (t : Bool) → q == a ≡ t → acted_from_by a (acted_items D) ++ acted_from_by a (one ∷ []) ≡ acted a (Act q k ∷ D)
+    by rest true same =
+        ap (λ (b : Bool). acted_from_by a (acted_items D) ++ map pair (cond b (one ∷ []) [])) same
+        ∙ ap (λ (x : ℕ). acted_from_by a (acted_items D) ++ (k, item_at x k D) ∷ []) (eqb-true q a same)
+        ∙ ap (λ (xs : List (ℕ × Option Item)). xs ++ (k, item_at a k D) ∷ []) rest
+        ∙ sym (ap (λ (b : Bool). cond b (acted a D ++ (k, item_at a k D) ∷ []) (acted a D)) same)
+    by rest false other =
+        ap (λ (b : Bool). acted_from_by a (acted_items D) ++ map pair (cond b (one ∷ []) [])) other
+        ∙ append-nil (acted_from_by a (acted_items D))
+        ∙ rest
+        ∙ sym (ap (λ (b : Bool). cond b (acted a D ++ (k, item_at a k D) ∷ []) (acted a D)) other)
+acted_is a (_ ∷ D) = acted_is a D
+
+-- whether what b acted on from a is a front
+in_order : (n : ℕ) (J : List Entry) (a b : ℕ) → is_in_order_by (sent_by (books_of n J)) (ledger_at n J b) a ≡ is_front 1 (acted_from a b J) (sent_to n a b J)
+in_order n J a b = λ i. is_front 1 (acted_is a (deeds_at b J) i) (items_to b (sent_is n J a i))
+
+-- the fronts of a space
+fronts_at : (n : ℕ) (J : List Entry) (b : ℕ) → has_fronts_by (sent_by (books_of n J)) (ledger_at n J b) ≡ has_fronts n J b
+fronts_at n J b = λ i. list_all (λ a. in_order n J a b i) (senders_in (deeds_at b J)) && acts_while_open (deeds_at b J) && sends_while_open (deeds_at b J) (all_gifts b n (deeds_at b J))
+
+-- all fronts
+pub fronts_are : (n : ℕ) (J : List Entry) → keeps_fronts_by (books_of n J) ≡ keeps_fronts n J
+fronts_are n J =
+    list_all-map (has_fronts_by (sent_by (books_of n J))) (ledger_at n J) (spaces_in J)
+    ∙ (λ i. list_all (λ b. fronts_at n J b i) (spaces_in J))

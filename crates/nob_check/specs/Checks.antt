@@ -1,0 +1,78 @@
+-- What is tested of an entry by the ledgers of all spaces before it, and of all fronts at the end.
+use Rattle.std.specs.Prelude.{ℕ, ◌+◌, Bool, true, false, ◌&&◌, ◌||◌, not, ◌==◌, List, [], ◌∷◌, Option, Some, None, map, filter, if◌then◌else◌}
+use Rattle.std.specs.List.{list_any, list_all}
+use Rattle.nob_ids.specs.declared.wire_rep.WireRep.{WireRep}
+use Rattle.nob_item.specs.declared.item.Item.{Item}
+use Rattle.nob_model_words.specs.Sessions.{item_at}
+use Rattle.nob_model_words.specs.Turns.{is_own, carries}
+use Rattle.nob_model_words.specs.declared.deed.Deed.{Deed}
+use Rattle.nob_model_words.specs.declared.deed.Deed.TheVariants.{Act, Withdraw}
+use Rattle.nob_model_history.specs.Transit.{is_settled}
+use Rattle.nob_model_history.specs.declared.transit.SentItem.{SentItem}
+use Rattle.nob_model.specs.Right.{own_ref}
+use Rattle.nob_model_journal.specs.Losses.{is_loss, sources}
+use Rattle.nob_model_journal.specs.Tests.{reps_at_risk, senders_in, is_front}
+use Rattle.nob_check_ledgers.specs.Ledgers.{is_held_by}
+use Rattle.nob_check_ledgers.specs.declared.lists.ActedItem.{ActedItem}
+use Rattle.nob_check_ledgers.specs.declared.ledger.Ledger.{Ledger}
+use Rattle.nob_check.specs.Books.{did_by, sent_by, both_open_by, reaches_owner_by}
+
+-- ---- withdrawals
+
+-- whether the space of a ledger can use a reference
+abbrev pub can_use_by : (ℕ → List Deed) → WireRep → Ledger → Bool
+can_use_by did rep ledger = is_held_by rep ledger && reaches_owner_by did ledger.here.space rep
+
+-- whether what the space of a ledger sent carries a reference in open transit
+abbrev pub is_open_copy_by : (ℕ → List Deed) → WireRep → Ledger → SentItem → Bool
+is_open_copy_by did rep ledger sent_item = carries rep sent_item.item && not (is_settled sent_item.to sent_item.number ledger.deeds) && both_open_by did ledger.here.space sent_item.to && reaches_owner_by did ledger.here.space rep
+
+-- whether the space of a ledger needs a reference
+abbrev pub needs_by : (ℕ → List Deed) → WireRep → Ledger → Bool
+needs_by did rep ledger = can_use_by did rep ledger || list_any (is_open_copy_by did rep ledger) ledger.sent_items
+
+-- whether a deed of space s isn't the withdrawal of an object that a space needs
+abbrev pub is_unneeded_by : ℕ → Option Deed → List Ledger → Bool
+is_unneeded_by s (Some (Withdraw index)) books = list_all (λ ledger. not (needs_by (did_by books) (own_ref s index) ledger)) books
+is_unneeded_by s _ books = true
+
+-- ---- losses
+
+-- whether the loss of a reference at s is excused by a copy that came from a
+abbrev pub is_excuse_by : (ℕ → List Deed) → ℕ → WireRep → ℕ → Bool
+is_excuse_by did s rep a = not (is_own a rep) && not (both_open_by did a s && both_open_by did a rep.owner)
+
+-- whether a reference isn't lost where space s acts on item k from p after these deeds, or is with an excuse for each copy
+abbrev pub is_excused_by : (ℕ → List Deed) → (n s p k : ℕ) → List Deed → WireRep → Bool
+is_excused_by did n s p k D rep = not (is_loss s n p rep (item_at p k D) D) || list_all (is_excuse_by did s rep) (sources s n rep (Act p k ∷ D))
+
+-- whether each reference that is lost there is excused
+abbrev pub is_act_excused_by : (ℕ → List Deed) → (n s p k : ℕ) → List Deed → Bool
+is_act_excused_by did n s p k D = list_all (is_excused_by did n s p k D) (reps_at_risk p (item_at p k D))
+
+-- whether each reference that is lost by a deed of space s is excused
+abbrev pub is_lossless_by : (ℕ → List Deed) → (n s : ℕ) → Option Deed → Bool
+is_lossless_by did n s (Some (Act p k)) = is_act_excused_by did n s p k (did s)
+is_lossless_by did n s _ = true
+
+-- ---- fronts
+
+-- the items from a space among these that were acted on, with the numbers that were answered
+abbrev pub acted_from_by : ℕ → List ActedItem → List (ℕ × Option Item)
+acted_from_by a items = map (λ acted_item. (acted_item.number, acted_item.item)) (filter (λ acted_item. acted_item.from == a) items)
+
+-- the items among these that went to a space
+abbrev pub items_to : ℕ → List SentItem → List Item
+items_to b sent_items = map (λ sent_item. sent_item.item) (filter (λ sent_item. sent_item.to == b) sent_items)
+
+-- whether what the space of a ledger acted on from a is a front of what a sent it
+abbrev pub is_in_order_by : (ℕ → List SentItem) → Ledger → ℕ → Bool
+is_in_order_by sent ledger a = is_front 1 (acted_from_by a ledger.acted_items) (items_to ledger.here.space (sent a))
+
+-- whether the fronts of the space of a ledger are as they should be
+abbrev pub has_fronts_by : (ℕ → List SentItem) → Ledger → Bool
+has_fronts_by sent ledger = list_all (is_in_order_by sent ledger) (senders_in ledger.deeds) && ledger.acts_open && ledger.sends_open
+
+-- whether all fronts are
+abbrev pub keeps_fronts_by : List Ledger → Bool
+keeps_fronts_by books = list_all (has_fronts_by (sent_by books)) books

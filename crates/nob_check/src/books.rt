@@ -1,0 +1,156 @@
+//! The ledgers of all spaces.
+
+ghost use Rattle.std.specs.Prelude.{◌≡◌, ◌==◌, IfOk};
+ghost use Rattle.std.specs.List.{list_any};
+ghost use Rattle.std.specs.Option.{option_map};
+ghost use Rattle.nob_check.specs.Books as words;
+
+use nob_check_ledgers::{Ledger, new_ledger, with_deed};
+use nob_ids::{SpaceId, WireRep};
+use nob_model_words::{Deed, Here, sessions};
+use std::alloc::{AllocError, Global};
+use std::marker::Model;
+
+/// The ledgers of the spaces that have entries, the one that came last first. Contracts see the list.
+#[derive(Debug, Drop)]
+pub struct Books {
+    ledgers: Vec<Ledger>,
+}
+
+impl Model for Books {
+    ghost use Rattle.std.specs.Prelude.{List};
+    ghost use Rattle.nob_check_ledgers.specs.declared.ledger.Ledger.{Ledger};
+
+    ghost Value = { List Ledger };
+
+    ghost use Rattle.std.specs.Coded.{codes};
+    ghost use Rattle.nob_pickle.specs.Marks.{trees_code};
+
+    ghost coded = { Prim.hlevel (codes, trees_code) };
+
+    ghost view = { λ books. books.ledgers.items };
+}
+
+impl Books {
+    /// These ledgers. It takes no memory.
+    pub fn from_vec(ledgers: Vec<Ledger>) -> Books
+        ensures { result ≡ ledgers.items }
+    {
+        Books { ledgers }
+    }
+
+    /// The ledgers as a vector. It takes no memory.
+    pub fn into_vec(self) -> Vec<Ledger>
+        ensures { result.items ≡ self }
+    {
+        let Books { ledgers } = self;
+        ledgers
+    }
+
+    /// The ledgers.
+    pub fn as_slice(&self) -> &[Ledger]
+        ensures { result.now ≡ self.now }
+    {
+        self.ledgers.as_slice()
+    }
+}
+
+/// The ledger of a space, where there is one. Linear in the spaces.
+pub fn find_ledger(space: SpaceId, books: &[Ledger]) -> Option<&Ledger>
+    ensures { option_map (λ ledger. ledger.now) result ≡ words.find_ledger space books.now }
+{
+    match books {
+        [] => None,
+        [ledger, others @ ..] => {
+            if ledger.here.space == space {
+                return Some(ledger);
+            }
+            find_ledger(space, others)
+        }
+    }
+}
+
+/// Whether the session with a peer has closed at a space.
+pub fn closed_at(space: SpaceId, peer: SpaceId, books: &[Ledger]) -> bool
+    ensures { result ≡ words.closed_by (words.did_by books.now) space peer }
+{
+    match find_ledger(space, books) {
+        Some(ledger) => sessions::closed(peer, ledger.deeds.as_slice()),
+        None => false,
+    }
+}
+
+/// Whether the session of two spaces is open at both ends.
+pub fn both_open(space: SpaceId, other: SpaceId, books: &[Ledger]) -> bool
+    ensures { result ≡ words.both_open_by (words.did_by books.now) space other }
+{
+    !closed_at(space, other, books) && !closed_at(other, space, books)
+}
+
+/// Whether a space is the owner of a reference, or its session with the owner is open at both ends.
+pub fn reaches_owner(space: SpaceId, rep: &WireRep, books: &[Ledger]) -> bool
+    ensures { result ≡ words.reaches_owner_by (words.did_by books.now) space rep.now }
+{
+    rep.owner == space || both_open(space, rep.owner, books)
+}
+
+// Whether a space has a ledger.
+fn has_ledger(space: SpaceId, books: &[Ledger]) -> bool
+    ensures { result ≡ list_any (λ ledger. ledger.here.space == space) books.now }
+{
+    books.iter().any(|ledger| ledger.here.space == space)
+}
+
+// The ledgers with one of a space, an empty one where there is none.
+fn with_ledger(
+    alloc: Global,
+    here: Here,
+    mut ledgers: Vec<Ledger>,
+) -> Result<Vec<Ledger>, AllocError>
+    ensures { IfOk result (λ more. more.items ≡ words.with_ledger here.n here.space ledgers.items) }
+{
+    if has_ledger(here.space, ledgers.as_slice()) {
+        return Ok(ledgers);
+    }
+    ledgers.insert(0, new_ledger(alloc, here))?;
+    Ok(ledgers)
+}
+
+// The ledgers after a deed of a space.
+fn grown(
+    alloc: Global,
+    space: SpaceId,
+    deed: Deed,
+    mut ledgers: Vec<Ledger>,
+) -> Result<Vec<Ledger>, AllocError>
+    ensures { IfOk result (λ after. after.items ≡ words.grown space deed ledgers.items) }
+{
+    if ledgers.is_empty() {
+        return Ok(ledgers);
+    }
+    let first = ledgers.remove(0);
+    if first.here.space == space {
+        let after = with_deed(alloc, deed, first)?;
+        ledgers.insert(0, after)?;
+        return Ok(ledgers);
+    }
+    let mut rest = grown(alloc, space, deed, ledgers)?;
+    rest.insert(0, first)?;
+    Ok(rest)
+}
+
+/// The ledgers after an entry of a space that did this. The space's own ledger changes, and no other.
+pub fn with_entry(
+    alloc: Global,
+    here: Here,
+    deed: Option<Deed>,
+    books: Books,
+) -> Result<Books, AllocError>
+    ensures { IfOk result (λ after. after ≡ words.with_entry here.n here.space deed books) }
+{
+    let ledgers = with_ledger(alloc, here, books.into_vec())?;
+    match deed {
+        Some(deed) => Ok(Books::from_vec(grown(alloc, here.space, deed, ledgers)?)),
+        None => Ok(Books::from_vec(ledgers)),
+    }
+}

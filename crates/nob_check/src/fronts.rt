@@ -1,0 +1,169 @@
+//! Gapless fronts.
+
+ghost use Rattle.std.specs.Prelude.{◌≡◌, ◌<◌, ◌+◌, ◌^◌, IfOk, length};
+ghost use Rattle.std.specs.List.{list_all};
+ghost use Rattle.nob_model_journal.specs.Tests as tests;
+ghost use Rattle.nob_check.specs.Books as books_words;
+ghost use Rattle.nob_check.specs.Checks as words;
+
+use crate::books::find_ledger;
+use crate::same::same_item;
+use nob_check_ledgers::{ActedItem, Ledger};
+use nob_ids::{ItemNo, SpaceId};
+use nob_item::Item;
+use nob_model_history::SentItem;
+use nob_model_journal::journals::senders_in;
+use std::alloc::{AllocError, Global};
+
+// Whether items with their numbers are the first of these, which are counted from `number` on.
+fn is_front(number: u64, acted_on: &[(ItemNo, Option<Item>)], items: &[Item]) -> bool
+    requires { number + length acted_on.now < 2 ^ 64 }
+    ensures { result ≡ tests.is_front number acted_on.now items.now }
+{
+    match acted_on {
+        [] => true,
+        [(own_number, Some(item)), later @ ..] => match items {
+            [] => false,
+            [sent_item, rest @ ..] => {
+                own_number.get() == number
+                    && same_item(item, sent_item)
+                    && is_front(number + 1, later, rest)
+            }
+        },
+        [_, ..] => false,
+    }
+}
+
+// An equal item, where there is one.
+fn copy_of(item: &Option<Item>) -> Result<Option<Item>, AllocError>
+    ensures { IfOk result (λ copy. copy ≡ item.now) }
+{
+    match item {
+        Some(item) => Ok(Some(item.copy()?)),
+        None => Ok(None),
+    }
+}
+
+// The items from a space among these that were acted on, with the numbers that were answered.
+fn acted_from(
+    alloc: Global,
+    sender: SpaceId,
+    acted_items: &[ActedItem],
+) -> Result<Vec<(ItemNo, Option<Item>)>, AllocError>
+    ensures { IfOk result (λ items. items.items ≡ words.acted_from_by sender acted_items.now) }
+{
+    match acted_items {
+        [] => Ok(Vec::new(alloc)),
+        [acted_item, others @ ..] => {
+            let mut items = acted_from(alloc, sender, others)?;
+            if acted_item.from == sender {
+                let item = copy_of(&acted_item.item)?;
+                items.insert(0, (acted_item.number, item))?;
+            }
+            Ok(items)
+        }
+    }
+}
+
+// The items among these that went to a space.
+fn items_to(
+    alloc: Global,
+    receiver: SpaceId,
+    sent_items: &[SentItem],
+) -> Result<Vec<Item>, AllocError>
+    ensures { IfOk result (λ items. items.items ≡ words.items_to receiver sent_items.now) }
+{
+    match sent_items {
+        [] => Ok(Vec::new(alloc)),
+        [sent_item, others @ ..] => {
+            let mut items = items_to(alloc, receiver, others)?;
+            if sent_item.to == receiver {
+                items.insert(0, sent_item.item.copy()?)?;
+            }
+            Ok(items)
+        }
+    }
+}
+
+// The items that a space sent to another, the first first.
+fn sent_to(
+    alloc: Global,
+    sender: SpaceId,
+    receiver: SpaceId,
+    books: &[Ledger],
+) -> Result<Vec<Item>, AllocError>
+    ensures { IfOk result (λ items. items.items ≡ words.items_to receiver (books_words.sent_by books.now sender)) }
+{
+    match find_ledger(sender, books) {
+        Some(ledger) => items_to(alloc, receiver, ledger.sent_items.as_slice()),
+        None => Ok(Vec::new(alloc)),
+    }
+}
+
+// Whether what the space of a ledger acted on from a sender is a front of what was sent to it.
+fn is_in_order(
+    alloc: Global,
+    ledger: &Ledger,
+    sender: SpaceId,
+    books: &[Ledger],
+) -> Result<bool, AllocError>
+    ensures { IfOk result (λ answer. answer ≡ words.is_in_order_by (books_words.sent_by books.now) ledger.now sender) }
+{
+    let acted_on = acted_from(alloc, sender, ledger.acted_items.as_slice())?;
+    let items = sent_to(alloc, sender, ledger.here.space, books)?;
+    Ok(is_front(1, acted_on.as_slice(), items.as_slice()))
+}
+
+// Whether what the space of a ledger acted on from each of these senders is a front of what was sent to it.
+fn are_in_order(
+    alloc: Global,
+    ledger: &Ledger,
+    senders: &[SpaceId],
+    books: &[Ledger],
+) -> Result<bool, AllocError>
+    ensures { IfOk result (λ answer. answer ≡ list_all (words.is_in_order_by (books_words.sent_by books.now) ledger.now) senders.now) }
+{
+    match senders {
+        [] => Ok(true),
+        [sender, others @ ..] => {
+            if !is_in_order(alloc, ledger, *sender, books)? {
+                return Ok(false);
+            }
+            are_in_order(alloc, ledger, others, books)
+        }
+    }
+}
+
+// Whether the fronts of the space of a ledger are as they should be.
+fn has_fronts(alloc: Global, ledger: &Ledger, books: &[Ledger]) -> Result<bool, AllocError>
+    ensures { IfOk result (λ answer. answer ≡ words.has_fronts_by (books_words.sent_by books.now) ledger.now) }
+{
+    let senders = senders_in(alloc, ledger.deeds.as_slice())?;
+    if !are_in_order(alloc, ledger, senders.as_slice(), books)? {
+        return Ok(false);
+    }
+    Ok(ledger.acts_open && ledger.sends_open)
+}
+
+// Whether the fronts of the spaces of these ledgers are as they should be.
+fn have_fronts(alloc: Global, ledgers: &[Ledger], books: &[Ledger]) -> Result<bool, AllocError>
+    ensures { IfOk result (λ answer. answer ≡ list_all (words.has_fronts_by (books_words.sent_by books.now)) ledgers.now) }
+{
+    match ledgers {
+        [] => Ok(true),
+        [ledger, others @ ..] => {
+            if !has_fronts(alloc, ledger, books)? {
+                return Ok(false);
+            }
+            have_fronts(alloc, others, books)
+        }
+    }
+}
+
+/// Whether all fronts are as they should be, by the ledgers of all spaces. It compares each item that was acted on with the
+/// one that was sent, once; for each two spaces it passes what both sent and acted on.
+pub fn keeps_fronts(alloc: Global, books: &[Ledger]) -> Result<bool, AllocError>
+    ensures { IfOk result (λ answer. answer ≡ words.keeps_fronts_by books.now) }
+{
+    have_fronts(alloc, books, books)
+}

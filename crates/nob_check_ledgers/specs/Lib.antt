@@ -1,0 +1,9 @@
+pub use Rattle.nob_model_words.specs.Sessions
+pub use Rattle.nob_model_work.specs.Work
+pub use Rattle.nob_model_work.specs.Gifts
+pub use Rattle.nob_model_history.specs.Holds
+pub use Rattle.nob_model_history.specs.Transit
+pub use Rattle.nob_model_journal.specs.Losses
+pub use Rattle.nob_model_journal.specs.Tests
+pub mod Ledgers
+pub mod Laws
