@@ -79,10 +79,10 @@ world_status_of (endings.Judged (No promise)) = 1
 world_status_of endings.BadStep = 1
 world_status_of endings.OutOfMemory = 1
 
--- what a script of this kind gives, and the status that its run ends with
+-- what a script of this kind gives, and the status that its run ends with; the verdict on a world is never no
 abbrev pub Gives : Script → (script text : List ℕ) → (status : ℕ) → Type 0
 Gives Pair script text status = (outcome : Outcome) × Plays script text outcome × (status ≡ status_of outcome)
-Gives World script text status = (ending : Ending) × worlds.Plays script text ending × (status ≡ world_status_of ending)
+Gives World script text status = (ending : Ending) × worlds.Plays script text ending × worlds.SaysYes ending × (status ≡ world_status_of ending)
 
 -- what a run was given, and how far it came: whether clap took the words, what they run, what was read, the bytes of `out` before and after, and whether a write to it failed
 pub record Attempt : Type 0 where

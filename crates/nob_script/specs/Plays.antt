@@ -1,10 +1,12 @@
 -- A script that is run on a world of spaces.
-use Rattle.std.specs.Prelude.{◌≡◌, ℕ, true, List, codes, Result, Ok, Err}
+use Rattle.std.specs.Prelude.{◌≡◌, ⊤, ℕ, true, List, codes, Result, Ok, Err}
 use Rattle.nob_model_types.specs.declared.answer.Answer.{Answer}
 use Rattle.nob_model_types.specs.declared.refusal.Refusal.{Refusal}
 use Rattle.nob_trace_text.specs.Lines.{lines_of, bad_step_text}
 use Rattle.nob_script_text.specs.declared.ending.Ending.{Ending}
-use Rattle.nob_script_text.specs.declared.ending.Ending.TheVariants.{BadStep}
+use Rattle.nob_script_text.specs.declared.ending.Ending.TheVariants.{Judged, BadStep}
+use Rattle.nob_script_text.specs.declared.ending.Ending.TheVariants as ending
+use Rattle.nob_model_journal.specs.declared.verdict.Verdict.TheVariants.{Yes}
 use Rattle.nob_script_text.specs.Scripts.{FromScript, RanOut}
 use Rattle.nob_script_text.specs.Worlds.{result_text}
 use Rattle.nob_script_text.specs.Worlds as scripts
@@ -31,3 +33,9 @@ Plays script text ending = FromScript true (lines_of script) text ending
 pub data EndsBadly (n : ℕ) (written : List ℕ) (ending : Ending) : Type 0 where
   bad : written ≡ bad_step_text n → ending ≡ BadStep → EndsBadly n written ending
   stopped : RanOut true written ending → EndsBadly n written ending
+
+-- where a verdict is written it is yes
+abbrev pub SaysYes : Ending → Type 0
+SaysYes (Judged verdict) = verdict ≡ Yes
+SaysYes BadStep = ⊤
+SaysYes ending.OutOfMemory = ⊤

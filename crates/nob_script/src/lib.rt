@@ -5,5 +5,4 @@ mod judging;
 mod playing;
 mod stepping;
 
-pub use judging::verdict_on;
 pub use playing::play;

@@ -6,7 +6,7 @@ ghost use Rattle.nob_ids.specs.declared.limits.Limits.{Limits as LimitsOf};
 ghost use Rattle.nob_model_reading.specs.declared.opening.Opening.{Opening as OpeningOf};
 ghost use Rattle.nob_script_text.specs.Scripts.{AreLimitsOf, FromLines, FromOpening, Grows, IsNoStep, IsOpeningLine, StepMade, last_line};
 ghost use Rattle.nob_script_text.specs.Worlds.{new_world};
-ghost use Rattle.nob_script.specs.Plays.{EndsBadly, Plays, seen};
+ghost use Rattle.nob_script.specs.Plays.{EndsBadly, Plays, SaysYes, seen};
 
 use crate::judging::judge;
 use crate::stepping::make_step;
@@ -18,11 +18,12 @@ use std::alloc::{AllocError, Global};
 
 /// Writes what a script of a world gives onto an empty text: its first line, each step with what the world's space
 /// answers, and then the verdict on all that was done, or the first line that is no step. A step that memory is wanted
-/// for is answered `S14` and changes nothing. The ending's last line is still to follow. The steps cost what they cost
-/// in the world; the verdict costs what `verdict_of` of nob_model_journal costs.
+/// for is answered `S14` and changes nothing. The verdict is never no: what it would look at is proved of every world, so
+/// nothing is looked at. The ending's last line is still to follow. The steps cost what they cost in the world.
 pub fn play(alloc: Global, script: &[u8], text: &mut Vec<u8>) -> Ending
     requires { text.old.items ≡ [] }
     ensures plays { Plays script.now (text.new.items ++ last_line result) result }
+    ensures yes { SaysYes result }
 {
     let Some((line, steps)) = first_line(script) else {
         return bad_step(alloc, text, 1);
@@ -32,7 +33,8 @@ pub fn play(alloc: Global, script: &[u8], text: &mut Vec<u8>) -> Ending
 
 // Writes what a script gives that has this first line and these further ones.
 fn play_from(alloc: Global, line: &[u8], steps: &[u8], text: &mut Vec<u8>) -> Ending
-    ensures { Grows text.old.items (text.new.items ++ last_line result) (λ written. FromOpening true line.now (lines_of steps.now) written result) }
+    ensures plays { Grows text.old.items (text.new.items ++ last_line result) (λ written. FromOpening true line.now (lines_of steps.now) written result) }
+    ensures yes { SaysYes result }
 {
     let Ok(read) = opening_of(alloc, line) else {
         return Ending::OutOfMemory;
@@ -58,7 +60,8 @@ fn play_in(
     steps: &[u8],
     text: &mut Vec<u8>,
 ) -> Ending
-    ensures { (opening : OpeningOf) (limits : LimitsOf) → IsOpeningLine line.now opening → AreLimitsOf opening.limits limits → seen world.old ≡ new_world opening.n limits → Grows text.old.items (text.new.items ++ last_line result) (λ written. FromOpening true line.now (lines_of steps.now) written result) }
+    ensures plays { (opening : OpeningOf) (limits : LimitsOf) → IsOpeningLine line.now opening → AreLimitsOf opening.limits limits → seen world.old ≡ new_world opening.n limits → Grows text.old.items (text.new.items ++ last_line result) (λ written. FromOpening true line.now (lines_of steps.now) written result) }
+    ensures yes { SaysYes result }
 {
     let Ok(()) = push_line(text, line, b"", b"") else {
         return Ending::OutOfMemory;
@@ -68,7 +71,8 @@ fn play_in(
 
 // Makes the steps of these lines, of which the first is line 2, and writes them with their answers, and then the verdict.
 fn play_steps(alloc: Global, world: &mut World, steps: &[u8], text: &mut Vec<u8>) -> Ending
-    ensures { Grows text.old.items (text.new.items ++ last_line result) (λ written. FromLines true 2 (seen world.old) (lines_of steps.now) written result) }
+    ensures plays { Grows text.old.items (text.new.items ++ last_line result) (λ written. FromLines true 2 (seen world.old) (lines_of steps.now) written result) }
+    ensures yes { SaysYes result }
 {
     let mut left = steps;
     let mut number: u64 = 2;
@@ -82,7 +86,7 @@ fn play_steps(alloc: Global, world: &mut World, steps: &[u8], text: &mut Vec<u8>
         left = rest;
         number += 1;
     }
-    judge(alloc, world, text)
+    judge(world, text)
 }
 
 // Makes the step of a line and writes it with its answer: whether the line is a step.
@@ -106,7 +110,8 @@ fn play_line(
 
 // Writes that the line of this number is no step.
 fn bad_step(alloc: Global, text: &mut Vec<u8>, number: u64) -> Ending
-    ensures { Grows text.old.items (text.new.items ++ last_line result) (λ written. EndsBadly number written result) }
+    ensures bad { Grows text.old.items (text.new.items ++ last_line result) (λ written. EndsBadly number written result) }
+    ensures yes { SaysYes result }
 {
     match push_bad_step(alloc, text, number) {
         Ok(()) => Ending::BadStep,

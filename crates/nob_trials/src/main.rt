@@ -11,9 +11,9 @@ use crate::ending::end;
 use crate::facts::Facts;
 use crate::steps::random_step;
 use crate::words::Words;
+use nob_check::judge;
 use nob_ids::Limits;
 use nob_model_journal::{Promise, Verdict};
-use nob_script::verdict_on;
 use nob_world::World;
 use std::alloc::{AllocError, Global};
 use std::io;
@@ -101,7 +101,7 @@ fn trial_in(alloc: Global, world: &mut World, n: u16, seed: u64) -> Result<Trial
     }
     let kept = end(world, &mut facts)?;
     Ok(Trial {
-        verdict: verdict_on(alloc, world)?,
+        verdict: judge(alloc, world.entries())?,
         kept,
         is_busy: facts.is_busy(),
     })
