@@ -1,8 +1,7 @@
-use Rattle.std.proofs.Common.{◌≡◌, ◌++◌, ◌∷◌, [], ℕ, List, false, arith, ap, refl, subst, ◌∙◌, codes}
-use Rattle.std.specs.String.{string_bytes}
+use Rattle.std.proofs.Common.{ℕ, List, false, arith, ap, refl, subst, ◌∙◌}
 use Rattle.nob_trace_text.specs.Lines.{lines_of, answered_text}
-use Rattle.nob_script_text.specs.declared.ending.Ending.TheVariants.{Judged, BadStep}
-use Rattle.nob_script_text.specs.Scripts.{AtEnd, StepMade}
+use Rattle.nob_script_text.specs.declared.ending.Ending.TheVariants.{Judged}
+use Rattle.nob_script_text.specs.Scripts.{AtEnd, FromLines, StepMade}
 use Rattle.nob_script_text.proofs.Playing.{Completes, begun, line_more, lines_done, line_bad, no_step, bad_made}
 use Rattle.nob_plain.proofs.Playing.{found_so}
 use Rattle.nob_plain.proofs.script.put_steps.Goals as goal
@@ -36,3 +35,17 @@ returns c =
     let so_far = subst (λ (left : List ℕ). Completes false c.loop-line.number (lines_of left) all first world old now) c.in_default.ensures.lines c.loop-line.invariant.1 in
     let verdict = c.in_ok-verdict.verdict in
     (Judged verdict, lines_done false c.loop-line.number all first world old now c.extend_from_slice.new.self.items (Judged verdict) so_far (c.verdict_line.result.now, c.in_ok-extend_from_slice.ensures.items, AtEnd.judged verdict c.in_ok-verdict.ensures c.verdict_line.ensures refl))
+
+pub returns-in_default-2 : goal.returns-in_default-2
+returns-in_default-2 c =
+    let line = c.in-Some.line.now in
+    let left = lines_of c.in-Some.rest.now in
+    let all = lines_of c.args.steps.now in
+    let number = c.loop-line.number in
+    let first = c.args.world.now in
+    let world = c.loop-line.world in
+    let old = c.args.text.now.items in
+    let now = c.loop-line.text.items in
+    let so_far = subst (λ (ls : List (List ℕ)). Completes false number ls all first world old now) c.in-Some.ensures.lines c.loop-line.invariant.1 in
+    let none = no_step line c.in_ok-step.field-0 c.in_default-2.is c.in_ok-step.ensures.only in
+    bad_made c.push_bad_step.result old now c.push_bad_step.new.text.items number (λ written ending. FromLines false 2 first all written ending) c.push_bad_step.ensures.ok (line_bad false number line left all first world old now so_far none)
