@@ -10,7 +10,6 @@ use Rattle.nob_model_journal.specs.Journals.{at, deeds_at}
 use Rattle.nob_model_journal.specs.Tests.{spaces_in, with_space}
 use Rattle.nob_model_journal.proofs.Looking.{is_in, no_deed}
 use Rattle.nob_check_ledgers.specs.Ledgers.{ledger_of, ledger_after}
-use Rattle.nob_check_ledgers.specs.declared.ledger.Ledger.{Ledger}
 use Rattle.nob_check_ledgers.proofs.Kept.{ledger_kept}
 use Rattle.nob_check.specs.Books.{books_of, with_ledger, grown, grown_by, with_entry}
 use Rattle.nob_check.proofs.Ledgers.{ledger_at}

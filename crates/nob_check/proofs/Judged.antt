@@ -1,6 +1,6 @@
 -- What is said of the pass over a journal is the verdict.
 use Rattle.std.proofs.Common.{◌≡◌, ◌&&◌, ℕ, Bool, true, false, List, [], ◌∷◌, ◌++◌, refl, sym, ap, subst, true≢false, ◌∙◌}
-use Rattle.std.specs.Prelude.{reverse, not}
+use Rattle.std.specs.Prelude.{reverse}
 use Rattle.std.proofs.lemmas.Grind.{reverse_onto}
 use Rattle.std.proofs.lemmas.List.{append_assoc, append-nil}
 use Rattle.nob_model_types.specs.declared.entry.Entry.{Entry}

@@ -1,15 +1,13 @@
 -- The ledger after a deed is the ledger of one deed more.
-use Rattle.std.proofs.Common.{◌≡◌, ◌&&◌, ℕ, Bool, List, ◌∷◌, refl}
+use Rattle.std.proofs.Common.{◌≡◌, ℕ, List, ◌∷◌, refl}
 use Rattle.nob_model_words.specs.declared.deed.Deed.{Deed}
 use Rattle.nob_model_words.specs.declared.deed.Deed.TheVariants.{Act}
 use Rattle.nob_model_work.specs.Gifts.{all_gifts}
 use Rattle.nob_model_work.specs.Work.{work}
-use Rattle.nob_model_work.specs.Gifts.{gifts}
-use Rattle.nob_model_history.specs.Transit.{sent_of, with_gifts}
+use Rattle.nob_model_history.specs.Transit.{sent_of}
 use Rattle.nob_model_journal.specs.Tests.{acts_while_open, sends_while_open}
-use Rattle.nob_check_ledgers.specs.Ledgers.{acts_open_after, acted_items, are_open, ledger_of, ledger_after, work_with}
+use Rattle.nob_check_ledgers.specs.Ledgers.{acts_open_after, acted_items, ledger_of, ledger_after}
 use Rattle.nob_check_ledgers.specs.Laws.{LedgerLaw}
-use Rattle.nob_check_ledgers.specs.declared.ledger.Ledger.{Ledger}
 
 -- whether all was acted on while its session was open, by one deed more
 acts_kept : (deed : Deed) (D : List Deed) → acts_open_after deed D (acts_while_open D) ≡ acts_while_open (deed ∷ D)

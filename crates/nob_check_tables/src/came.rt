@@ -1,0 +1,88 @@
+//! Which items came.
+
+ghost use Rattle.std.specs.Prelude.{◌≡◌, [], IfOk};
+ghost use Rattle.std.specs.Option.{option_map};
+ghost use Rattle.nob_check_tables.specs.Came as words;
+
+use indexmap::IndexMap;
+use nob_frame::Frame;
+use nob_ids::{ItemNo, SpaceId};
+use nob_item::Item;
+use nob_model_words::sessions;
+use std::alloc::{AllocError, Global};
+use std::marker::Model;
+
+/// Where an item came from, and its number.
+#[derive(Clone, Copy, Debug, PartialEq, Eq, Hash)]
+pub struct Arrival {
+    /// The space that sent it.
+    pub from: SpaceId,
+    /// Its number.
+    pub number: u64,
+}
+
+/// The items that came, by sender and number: none where a payload spells none. Contracts see the list, in the order in
+/// which they came.
+#[derive(Drop)]
+pub struct Came {
+    map: IndexMap<Arrival, Option<Item>>,
+}
+
+impl Model for Came {
+    ghost use Rattle.std.specs.Prelude.{List, Option};
+    ghost use Rattle.nob_item.specs.declared.item.Item.{Item};
+    ghost use Rattle.nob_check_tables.specs.declared.came.Arrival.{Arrival};
+
+    ghost Value = { List (Arrival × Option Item) };
+
+    ghost use Rattle.std.specs.Coded.{codes};
+    ghost use Rattle.nob_pickle.specs.Marks.{trees_code};
+
+    ghost coded = { Prim.hlevel (codes, trees_code) };
+
+    ghost view = { λ came. came.map.entries };
+}
+
+impl Came {
+    /// Nothing came.
+    pub fn none(alloc: Global) -> Came
+        ensures { result ≡ [] }
+    {
+        Came {
+            map: IndexMap::new(alloc),
+        }
+    }
+
+    /// An item from a peer, where its payload came and spells one. Constant time on average.
+    pub fn item_at(&self, peer: SpaceId, number: ItemNo) -> Option<&Item>
+        ensures { option_map (λ item. item.now) result ≡ words.item_in peer number self.now }
+    {
+        let arrival = Arrival {
+            from: peer,
+            number: number.get(),
+        };
+        match self.map.get(&arrival) {
+            Some(item) => item.as_ref(),
+            None => None,
+        }
+    }
+
+    /// What came once a frame accepted so many items. Only memory fails it. It reads the payload of the frame.
+    pub fn with_frame(self, alloc: Global, frame: &Frame, count: u64) -> Result<Came, AllocError>
+        ensures { IfOk result (λ more. more ≡ words.with_frame frame.now count self) }
+    {
+        let Came { mut map } = self;
+        let arrival = Arrival {
+            from: frame.from,
+            number: frame.seq,
+        };
+        if !frame.kind.is_data() || count != 1 || map.contains_key(&arrival) {
+            return Ok(Came { map });
+        }
+        let item = sessions::item_spelt(alloc, frame.payload.as_slice())?;
+        match map.insert(arrival, item) {
+            Ok(_) => Ok(Came { map }),
+            Err(_) => Err(AllocError),
+        }
+    }
+}

@@ -1,0 +1,202 @@
+//! What was asked of the owner of each reference, and answered.
+
+ghost use Rattle.std.specs.Prelude.{◌≡◌, [], Some, IfOk};
+ghost use Rattle.std.specs.List.{list_any};
+ghost use Rattle.nob_ids.specs.Names.{is_same};
+ghost use Rattle.nob_model_words.specs.Turns as turns_words;
+ghost use Rattle.nob_check_tables.specs.Rows as words;
+
+use crate::closed::Closed;
+use indexmap::IndexMap;
+use nob_ids::{SpaceId, WireRep};
+use nob_item::Item;
+use nob_model_words::{Here, OwnerAnswer, Turns};
+use std::alloc::{AllocError, Global};
+use std::marker::Model;
+
+/// The turns of each reference that has any. Contracts see the rows, in the order in which they came.
+#[derive(Drop)]
+pub struct TurnRows {
+    map: IndexMap<WireRep, Turns>,
+}
+
+impl Model for TurnRows {
+    ghost use Rattle.std.specs.Prelude.{List};
+    ghost use Rattle.nob_ids.specs.declared.wire_rep.WireRep.{WireRep};
+    ghost use Rattle.nob_model_words.specs.declared.turns.Turns.{Turns};
+
+    ghost Value = { List (WireRep × Turns) };
+
+    ghost view = { λ rows. rows.map.entries };
+}
+
+impl TurnRows {
+    /// Nothing was asked.
+    pub fn none(alloc: Global) -> TurnRows
+        ensures { result ≡ [] }
+    {
+        TurnRows {
+            map: IndexMap::new(alloc),
+        }
+    }
+
+    /// The turns of a reference. Constant time on average.
+    pub fn turns(&self, rep: &WireRep) -> Turns
+        ensures { result ≡ words.turns_in rep.now self.now }
+    {
+        match self.map.get(rep) {
+            Some(turns) => *turns,
+            None => Turns::none(),
+        }
+    }
+
+    // These with other turns of a reference.
+    fn with_turns(self, rep: WireRep, turns: Turns) -> Result<TurnRows, AllocError>
+        ensures { IfOk result (λ rows. rows ≡ words.with_turns rep turns self) }
+    {
+        let TurnRows { mut map } = self;
+        match map.insert(rep, turns) {
+            Ok(_) => Ok(TurnRows { map }),
+            Err(_) => Err(AllocError),
+        }
+    }
+}
+
+// One Dirty more. No journal has so many that they can't be counted.
+fn with_dirty(turns: Turns) -> Result<Turns, AllocError>
+    ensures { IfOk result (λ after. after ≡ turns_words.with_dirty turns) }
+{
+    let Some(dirties) = turns.dirties.checked_add(1) else {
+        return Err(AllocError);
+    };
+    Ok(Turns {
+        dirties,
+        answers: turns.answers,
+        asks: true,
+        last: turns.last,
+    })
+}
+
+// One answer more. No journal has so many that they can't be counted.
+fn with_answer(turns: Turns, answer: OwnerAnswer) -> Result<Turns, AllocError>
+    ensures { IfOk result (λ after. after ≡ turns_words.with_answer answer turns) }
+{
+    let Some(answers) = turns.answers.checked_add(1) else {
+        return Err(AllocError);
+    };
+    Ok(Turns {
+        dirties: turns.dirties,
+        answers,
+        asks: turns.asks,
+        last: answer,
+    })
+}
+
+// Whether a reference with these turns gets a Dirty.
+fn wants_dirty(here: &Here, rep: &WireRep, closed: &Closed, turns: Turns) -> bool
+    ensures { result ≡ words.wants_dirty_by here.now.space here.now.n closed.now rep.now turns }
+{
+    here.is_peer(rep.owner) && !closed.has(rep.owner) && !turns.is_standing()
+}
+
+// The rows once a reference got a Dirty, if it gets one.
+fn asked(
+    here: &Here,
+    rep: &WireRep,
+    closed: &Closed,
+    rows: TurnRows,
+) -> Result<TurnRows, AllocError>
+    ensures { IfOk result (λ after. after ≡ words.asked here.now.space here.now.n closed.now rep.now rows) }
+{
+    let turns = rows.turns(rep);
+    if !wants_dirty(here, rep, closed, turns) {
+        return Ok(rows);
+    }
+    rows.with_turns(*rep, with_dirty(turns)?)
+}
+
+// Whether a reference is among others.
+fn is_in(rep: &WireRep, others: &[WireRep]) -> bool
+    ensures { result ≡ list_any (is_same rep.now) others.now }
+{
+    others.iter().any(|other| *rep == *other)
+}
+
+// The rows once each of some references got a Dirty, if it gets one.
+fn all_asked(
+    here: &Here,
+    reps: &[WireRep],
+    closed: &Closed,
+    rows: TurnRows,
+) -> Result<TurnRows, AllocError>
+    ensures { IfOk result (λ after. after ≡ words.all_asked here.now.space here.now.n closed.now reps.now rows) }
+{
+    match reps {
+        [] => Ok(rows),
+        [rep, others @ ..] => {
+            let after = all_asked(here, others, closed, rows)?;
+            if is_in(rep, others) {
+                return Ok(after);
+            }
+            asked(here, rep, closed, after)
+        }
+    }
+}
+
+// The rows once the owner of a reference answered.
+fn answered(rep: WireRep, answer: OwnerAnswer, rows: TurnRows) -> Result<TurnRows, AllocError>
+    ensures { IfOk result (λ after. after ≡ words.answered rep answer rows) }
+{
+    let turns = rows.turns(&rep);
+    rows.with_turns(rep, with_answer(turns, answer)?)
+}
+
+/// The rows once a reference was cleaned. Only memory fails it.
+pub fn cleaned(rep: &WireRep, rows: TurnRows) -> Result<TurnRows, AllocError>
+    ensures { IfOk result (λ after. after ≡ words.cleaned rep.now rows) }
+{
+    let before = rows.turns(rep);
+    rows.with_turns(
+        *rep,
+        Turns {
+            dirties: before.dirties,
+            answers: before.answers,
+            asks: false,
+            last: before.last,
+        },
+    )
+}
+
+/// The rows once an item from a peer was acted on. Only memory fails it. It looks up each reference of the item.
+pub fn with_item(
+    alloc: Global,
+    here: &Here,
+    peer: SpaceId,
+    item: &Item,
+    closed: &Closed,
+    rows: TurnRows,
+) -> Result<TurnRows, AllocError>
+    ensures { IfOk result (λ after. after ≡ words.with_item here.now.space here.now.n peer (Some item.now) closed.now rows) }
+{
+    match item {
+        Item::Call { .. } | Item::Reply { .. } => {
+            let reps = nob_item::counted_refs(alloc, item)?;
+            all_asked(here, reps.as_slice(), closed, rows)
+        }
+        Item::DirtyOk(index) => {
+            let rep = WireRep {
+                owner: peer,
+                index: *index,
+            };
+            answered(rep, OwnerAnswer::Yes, rows)
+        }
+        Item::DirtyNo(index) => {
+            let rep = WireRep {
+                owner: peer,
+                index: *index,
+            };
+            answered(rep, OwnerAnswer::No, rows)
+        }
+        Item::Settle(_) | Item::Dirty(_) | Item::Clean(_) => Ok(rows),
+    }
+}

@@ -1,0 +1,113 @@
+//! The tables of a space, from one deed to the next.
+
+ghost use Rattle.std.specs.Prelude.{◌≡◌, [], IfOk};
+ghost use Rattle.nob_check_tables.specs.Came.{item_in};
+ghost use Rattle.nob_check_tables.specs.Rows.{with_item as with_item_word};
+ghost use Rattle.nob_check_tables.specs.Tables as words;
+
+use crate::came::Came;
+use crate::closed::Closed;
+use crate::rows::{TurnRows, cleaned, with_item};
+use nob_ids::{ItemNo, SpaceId};
+use nob_model_words::{Deed, Here};
+use std::alloc::{AllocError, Global};
+
+/// What is looked up of what a space did.
+#[derive(Drop)]
+pub struct Tables {
+    /// The space, and among how many.
+    pub here: Here,
+    /// Which sessions have closed.
+    pub closed: Closed,
+    /// Which items came.
+    pub came: Came,
+    /// What was asked of the owner of each reference, and answered.
+    pub rows: TurnRows,
+}
+
+/// The tables of a space that did nothing.
+pub fn new_tables(alloc: Global, here: Here) -> Tables
+    ensures { result ≡ words.tables_of here.space here.n [] }
+{
+    Tables {
+        here,
+        closed: Closed::none(alloc),
+        came: Came::none(alloc),
+        rows: TurnRows::none(alloc),
+    }
+}
+
+// The rows once the item of a number was acted on.
+fn with_act(
+    alloc: Global,
+    here: &Here,
+    from: SpaceId,
+    number: ItemNo,
+    came: &Came,
+    closed: &Closed,
+    rows: TurnRows,
+) -> Result<TurnRows, AllocError>
+    ensures { IfOk result (λ after. after ≡ with_item_word here.now.space here.now.n from (item_in from number came.now) closed.now rows) }
+{
+    match came.item_at(from, number) {
+        Some(item) => with_item(alloc, here, from, item, closed, rows),
+        None => Ok(rows),
+    }
+}
+
+/// The tables after a deed. Only memory fails it. It looks up the item that is acted on and each reference in it, and the
+/// peer whose session closes.
+pub fn with_deed(alloc: Global, deed: &Deed, tables: Tables) -> Result<Tables, AllocError>
+    ensures { IfOk result (λ after. after ≡ words.tables_after deed.now tables) }
+{
+    let Tables {
+        here,
+        closed,
+        came,
+        rows,
+    } = tables;
+    match deed {
+        Deed::Act(from, number) => {
+            let rows = with_act(alloc, &here, *from, *number, &came, &closed, rows)?;
+            Ok(Tables {
+                here,
+                closed,
+                came,
+                rows,
+            })
+        }
+        Deed::Clean(rep) => {
+            let rows = cleaned(rep, rows)?;
+            Ok(Tables {
+                here,
+                closed,
+                came,
+                rows,
+            })
+        }
+        Deed::Arrive(frame, count) => {
+            let came = came.with_frame(alloc, frame, *count)?;
+            Ok(Tables {
+                here,
+                closed,
+                came,
+                rows,
+            })
+        }
+        Deed::Closing(peer, _, _) => {
+            let closed = closed.with_peer(*peer)?;
+            Ok(Tables {
+                here,
+                closed,
+                came,
+                rows,
+            })
+        }
+        _ => Ok(Tables {
+            here,
+            closed,
+            came,
+            rows,
+        }),
+    }
+}
