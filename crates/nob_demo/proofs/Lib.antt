@@ -1,4 +1,3 @@
 pub mod Known
 pub mod Faults
 pub mod Endings
-pub mod Subcommands
