@@ -8,7 +8,12 @@ use std::alloc::{AllocError, Global};
 
 /// Writes a line with a mark and an answer behind it, whole or not at all. Only memory fails it. The caller's condition:
 /// the mark has 3 bytes at most.
-pub fn push_line(text: &mut Vec<u8>, line: &[u8], mark: &[u8], answer: &[u8]) -> Result<(), AllocError>
+pub fn push_line(
+    text: &mut Vec<u8>,
+    line: &[u8],
+    mark: &[u8],
+    answer: &[u8],
+) -> Result<(), AllocError>
     requires { length mark.now ≤ 3 }
     ensures ok { OnOk result (text.new.items ≡ text.old.items ++ ((line.now ++ mark.now ++ answer.now) ++ 10 ∷ [])) }
     ensures err { OnErr result (text.new.items ≡ text.old.items) }
