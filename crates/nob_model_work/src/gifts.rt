@@ -66,8 +66,8 @@ impl GiftList {
     }
 }
 
-// One item and no other.
-fn lone(alloc: Global, to: SpaceId, item: Item) -> Result<Vec<Gift>, AllocError>
+/// One item and no other.
+pub fn lone(alloc: Global, to: SpaceId, item: Item) -> Result<Vec<Gift>, AllocError>
     ensures { IfOk result (λ gifts. gifts.items ≡ record { to = to; item = item } ∷ []) }
 {
     let mut gifts = Vec::new(alloc);
@@ -75,8 +75,8 @@ fn lone(alloc: Global, to: SpaceId, item: Item) -> Result<Vec<Gift>, AllocError>
     Ok(gifts)
 }
 
-// Each reference once, where it stands first.
-fn once(alloc: Global, reps: &[WireRep]) -> Result<Vec<WireRep>, AllocError>
+/// Each reference once, where it stands first.
+pub fn once(alloc: Global, reps: &[WireRep]) -> Result<Vec<WireRep>, AllocError>
     ensures { IfOk result (λ once. once.items ≡ words.once reps.now) }
 {
     match reps {
@@ -207,9 +207,9 @@ fn of_act(
     }
 }
 
-// The Reply of status 3 with unit to a lost Call, behind its Settle.
+/// The Reply of status 3 with unit to a lost Call, behind its Settle.
 #[tactic(auto, unfolding(crate::specs::Gifts::lost_call_reply))]
-fn settle_and_reply(
+pub fn settle_and_reply(
     alloc: Global,
     peer: SpaceId,
     number: ItemNo,
@@ -254,8 +254,8 @@ fn of_message(
     settle_and_reply(alloc, peer, number, &message.item, lost)
 }
 
-// The first message that came from a peer in an item of this number.
-fn find_waiting(peer: SpaceId, number: ItemNo, messages: &[Message]) -> Option<&Message>
+/// The first message that came from a peer in an item of this number.
+pub fn find_waiting(peer: SpaceId, number: ItemNo, messages: &[Message]) -> Option<&Message>
     ensures { option_map (λ message. message.now) result ≡ find (is_of peer number) messages.now }
 {
     match messages {
@@ -350,9 +350,9 @@ fn find_run(job: JobNo, runs: &[Run]) -> Option<&Run>
     }
 }
 
-// What the end of a job gives.
+/// What the end of a job gives.
 #[tactic(auto, unfolding(crate::specs::Gifts::gifts_of_finish))]
-fn of_finish(
+pub fn of_finish(
     alloc: Global,
     job: JobNo,
     outcome: &Outcome,
@@ -381,8 +381,8 @@ fn of_clean(
     Ok(Vec::new(alloc))
 }
 
-// What a call gives.
-fn of_call(
+/// What a call gives.
+pub fn of_call(
     alloc: Global,
     target: WireRep,
     call: CallNo,
@@ -431,8 +431,8 @@ fn gifts_of(
     }
 }
 
-// Those of some gifts that go to peers.
-fn to_peers(here: Here, mut gifts: Vec<Gift>) -> Vec<Gift>
+/// Those of some gifts that go to peers.
+pub fn to_peers(here: Here, mut gifts: Vec<Gift>) -> Vec<Gift>
     ensures { result.items ≡ filter (λ gift. is_peer here.space here.n gift.to) gifts.items }
 {
     gifts.retain(|gift| here.is_peer(gift.to));

@@ -277,9 +277,9 @@ fn calls_after_reply(
     }
 }
 
-// A message that was acted on.
+/// A message that was acted on.
 #[tactic(auto, unfolding(crate::specs::Work::after_message))]
-fn after_message(alloc: Global, message: Message, work: InHand) -> Result<InHand, AllocError>
+pub fn after_message(alloc: Global, message: Message, work: InHand) -> Result<InHand, AllocError>
     ensures { IfOk result (λ after. after ≡ words.after_message message message.item work) }
 {
     let alone = message.copies.as_slice().is_empty();
@@ -384,9 +384,9 @@ fn lost_reply(alloc: Global, message: &Message, call: CallNo) -> Message
     }
 }
 
-// A message that was settled.
+/// A message that was settled.
 #[tactic(auto, unfolding(crate::specs::Work::after_settlement))]
-fn after_settlement(
+pub fn after_settlement(
     alloc: Global,
     message: Message,
     lost: bool,
@@ -411,8 +411,8 @@ fn after_settlement(
     }
 }
 
-// The first message that came from a peer in an item of this number, and all others.
-fn take_waiting(
+/// The first message that came from a peer in an item of this number, and all others.
+pub fn take_waiting(
     peer: SpaceId,
     number: ItemNo,
     mut messages: Vec<Message>,
@@ -512,9 +512,9 @@ fn start(job: JobNo, message: Message, work: InHand) -> Result<InHand, AllocErro
     })
 }
 
-// What is in hand after Claim of a job.
+/// What is in hand after Claim of a job.
 #[tactic(auto, unfolding(crate::specs::Work::after_claim), using(crate::proofs::Firsts::none_taken))]
-fn after_claim(job: &Job, work: InHand) -> Result<InHand, AllocError>
+pub fn after_claim(job: &Job, work: InHand) -> Result<InHand, AllocError>
     ensures { IfOk result (λ after. after ≡ words.after_claim job.now (find (message_words.is_job job.now) work.ready) work) }
 {
     let InHand {
@@ -539,9 +539,9 @@ fn after_claim(job: &Job, work: InHand) -> Result<InHand, AllocError>
     }
 }
 
-// What is in hand after the end of a job.
+/// What is in hand after the end of a job.
 #[tactic(auto, unfolding(crate::specs::Work::after_finish))]
-fn after_finish(job: JobNo, work: InHand) -> InHand
+pub fn after_finish(job: JobNo, work: InHand) -> InHand
     ensures { result ≡ words.after_finish job work }
 {
     let InHand {
@@ -581,9 +581,9 @@ fn without_call(call: CallNo, calls: OwnCalls) -> OwnCalls
     OwnCalls::from_vec(items)
 }
 
-// What is in hand after the reply to a call was taken.
+/// What is in hand after the reply to a call was taken.
 #[tactic(auto, unfolding(crate::specs::Work::after_take))]
-fn after_take(call: CallNo, work: InHand) -> InHand
+pub fn after_take(call: CallNo, work: InHand) -> InHand
     ensures { result ≡ words.after_take call work }
 {
     let InHand {
@@ -605,9 +605,9 @@ fn after_take(call: CallNo, work: InHand) -> InHand
     }
 }
 
-// What is in hand after it was told that there will be no reply to a call.
+/// What is in hand after it was told that there will be no reply to a call.
 #[tactic(auto, unfolding(crate::specs::Work::after_end))]
-fn after_end(call: CallNo, work: InHand) -> InHand
+pub fn after_end(call: CallNo, work: InHand) -> InHand
     ensures { result ≡ words.after_end call work }
 {
     let InHand {
@@ -627,9 +627,9 @@ fn after_end(call: CallNo, work: InHand) -> InHand
     }
 }
 
-// What is in hand after a call was made.
+/// What is in hand after a call was made.
 #[tactic(auto, unfolding(crate::specs::Work::after_call))]
-fn after_call(to: SpaceId, call: CallNo, work: InHand) -> Result<InHand, AllocError>
+pub fn after_call(to: SpaceId, call: CallNo, work: InHand) -> Result<InHand, AllocError>
     ensures { IfOk result (λ after. after ≡ words.after_call to call work) }
 {
     let InHand {
@@ -705,9 +705,9 @@ fn calls_after_close(
     }
 }
 
-// What is in hand after the session with a peer closed.
+/// What is in hand after the session with a peer closed.
 #[tactic(auto, unfolding(crate::specs::Work::after_close))]
-fn after_close(alloc: Global, peer: SpaceId, work: InHand) -> Result<InHand, AllocError>
+pub fn after_close(alloc: Global, peer: SpaceId, work: InHand) -> Result<InHand, AllocError>
     ensures { IfOk result (λ after. after ≡ words.after_close peer work) }
 {
     let InHand {
