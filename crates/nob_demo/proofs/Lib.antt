@@ -1,3 +1,4 @@
 pub mod Known
 pub mod Faults
 pub mod Endings
+pub mod Subcommands

@@ -4,6 +4,12 @@ use Rattle.std.specs.Io.KnownBytes.{Appends, Keeps}
 use Rattle.nob_demo_pair.specs.declared.script.Outcome.{Outcome}
 use Rattle.nob_demo_pair.specs.declared.script.Outcome.TheVariants.{Fronts, BadStep, OutOfMemory}
 use Rattle.nob_demo_pair.specs.Scripts.{Plays}
+use Rattle.nob_model_journal.specs.declared.verdict.Verdict.TheVariants.{Yes, No}
+use Rattle.nob_script_text.specs.declared.ending.Ending.{Ending}
+use Rattle.nob_script_text.specs.declared.ending.Ending.TheVariants as endings
+use Rattle.nob_script.specs.Plays as worlds
+use Rattle.nob_demo.specs.declared.words.Script.{Script}
+use Rattle.nob_demo.specs.declared.words.Script.TheVariants.{Pair, World}
 use Rattle.nob_demo.specs.declared.fault.Fault.{Fault}
 use Rattle.nob_demo.specs.declared.fault.Fault.TheVariants.{Words, Read, Write, Memory}
 
@@ -60,15 +66,28 @@ IsReadingFault Read r = IsReadFault r
 IsReadingFault Memory r = IsPart r
 IsReadingFault Write r = ⊥
 
--- the status that a script's run ends with: 0 where the last line says yes
+-- the status that the run of a pair's script ends with: 0 where the last line says yes
 abbrev pub status_of : Outcome → ℕ
 status_of Fronts = 0
 status_of BadStep = 1
 status_of OutOfMemory = 1
 
--- what a run was given, and how far it came: whether clap took the words, what was read, the bytes of `out` before and after, and whether a write to it failed
+-- the status that the run of a world's script ends with: 0 where the last line says yes
+abbrev pub world_status_of : Ending → ℕ
+world_status_of (endings.Judged Yes) = 0
+world_status_of (endings.Judged (No promise)) = 1
+world_status_of endings.BadStep = 1
+world_status_of endings.OutOfMemory = 1
+
+-- what a script of this kind gives, and the status that its run ends with; the verdict on a world is never no
+abbrev pub Gives : Script → (script text : List ℕ) → (status : ℕ) → Type 0
+Gives Pair script text status = (outcome : Outcome) × Plays script text outcome × (status ≡ status_of outcome)
+Gives World script text status = (ending : Ending) × worlds.Plays script text ending × worlds.SaysYes ending × (status ≡ world_status_of ending)
+
+-- what a run was given, and how far it came: whether clap took the words, what they run, what was read, the bytes of `out` before and after, and whether a write to it failed
 pub record Attempt : Type 0 where
   pub taken : Bool
+  pub script : Script
   pub reading : Reading
   pub out_before : Option (List ℕ)
   pub out_after : Option (List ℕ)
@@ -79,8 +98,8 @@ abbrev pub OutKept : Attempt → Type 0
 OutKept a = Keeps a.out_before a.out_after × (a.out_failed ≡ false)
 
 -- what was written to `out` is what a script gives that has as many bytes as were read: the input, where the reader tells it
-abbrev pub IsPlayed : Attempt → Outcome → Type 0
-IsPlayed a outcome = (script text : List ℕ) × (length script ≡ a.reading.bytes) × IfSome a.reading.input (λ input. script ≡ input) × Plays script text outcome × Appends a.out_before a.out_after text
+abbrev pub IsPlayed : Attempt → (status : ℕ) → Type 0
+IsPlayed a status = (script text : List ℕ) × (length script ≡ a.reading.bytes) × IfSome a.reading.input (λ input. script ≡ input) × Gives a.script script text status × Appends a.out_before a.out_after text
 
 -- clap refuses the words, and nothing was read
 abbrev pub IsRefused : Attempt → Type 0
@@ -95,8 +114,8 @@ abbrev pub MayStop : Attempt → Type 0
 MayStop a = IsPart a.reading × (a.taken ≡ false → a.reading.reads ≡ 0)
 
 -- how an attempt ends, fault by fault
-abbrev pub Ended : Result Outcome Fault → Attempt → Type 0
-Ended (Ok outcome) a = (a.taken ≡ true) × IsWhole a.reading × IsPlayed a outcome × (a.out_failed ≡ false)
+abbrev pub Ended : Result ℕ Fault → Attempt → Type 0
+Ended (Ok status) a = (a.taken ≡ true) × IsWhole a.reading × IsPlayed a status × (a.out_failed ≡ false)
 Ended (Err (Words text)) a = IsRefused a × OutKept a
 Ended (Err Read) a = IsUnread a × OutKept a
 Ended (Err Memory) a = MayStop a × OutKept a
@@ -117,7 +136,7 @@ ErrKept r = Keeps r.err_before r.err_after × (r.err_failed ≡ false)
 -- how a run goes
 pub data Goes (r : Run) : Type 0 where
   -- clap takes the words, the input is read whole, and what is written is what the script gives
-  played : (outcome : Outcome) → r.attempt.taken ≡ true → IsWhole r.attempt.reading → IsPlayed r.attempt outcome → r.attempt.out_failed ≡ false → ErrKept r → r.status ≡ status_of outcome → Goes r
+  played : r.attempt.taken ≡ true → IsWhole r.attempt.reading → IsPlayed r.attempt r.status → r.attempt.out_failed ≡ false → ErrKept r → Goes r
   -- clap refuses the words, nothing is read, and its text stands on `err`
   refused : (text : List ℕ) → IsRefused r.attempt → OutKept r.attempt → Appends r.err_before r.err_after text → r.err_failed ≡ false → r.status ≡ 2 → Goes r
   -- the input can't be read whole

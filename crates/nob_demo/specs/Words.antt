@@ -1,12 +1,19 @@
 -- The words that the program takes.
-use Rattle.std.specs.Prelude.{ℕ, Bool, true, false, List, [], ◌∷◌, codes}
-use Rattle.clap.specs.Words.{App, with_subcommand, fault_of}
+use Rattle.std.specs.Prelude.{ℕ, Bool, true, false, List, [], ◌∷◌, codes, Option, Some, None, option_map, if◌then◌else◌}
+use Rattle.std.specs.Str.{bytes_eq}
+use Rattle.clap.specs.Words.{App, with_subcommand, fault_of, subcommand_of}
 use Rattle.clap.specs.Simple.{new_shape}
 use Rattle.clap.specs.Kinds.{Kinds}
+use Rattle.nob_demo.specs.declared.words.Script.{Script}
+use Rattle.nob_demo.specs.declared.words.Script.TheVariants.{Pair, World}
 
--- the command `nobj`, as clap sees it: it has a version, and the one subcommand `pair`
+-- the command `nobj` with the subcommand `pair` alone, as clap sees it: it has a version
+abbrev pub nobj_with_pair : App
+nobj_with_pair = with_subcommand (record { top = record (new_shape (codes "nobj")) { has_version = true }; subs = [] }) (new_shape (codes "pair"))
+
+-- the command `nobj`: it has the subcommand `script` too
 abbrev pub nobj : App
-nobj = with_subcommand (record { top = record (new_shape (codes "nobj")) { has_version = true }; subs = [] }) (new_shape (codes "pair"))
+nobj = with_subcommand nobj_with_pair (new_shape (codes "script"))
 
 -- the kinds of error that clap may answer to these words, of which the first is the program's name: none where it takes them
 abbrev pub word_faults : List (List ℕ) → Kinds
@@ -16,3 +23,12 @@ word_faults words = fault_of nobj words
 abbrev pub takes_words : Kinds → Bool
 takes_words [] = true
 takes_words (k ∷ ks) = false
+
+-- what a subcommand, if there is one, runs: a script of a world by the name `script`, else one of a pair
+abbrev pub script_by : Option (List ℕ) → Script
+script_by None = Pair
+script_by (Some name) = if bytes_eq name (codes "script") then World else Pair
+
+-- what these words run, where clap takes them
+abbrev pub script_of : List (List ℕ) → Script
+script_of words = script_by (option_map (λ subcommand. subcommand.0) (subcommand_of nobj words))

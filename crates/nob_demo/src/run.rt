@@ -1,15 +1,17 @@
 //! What the program does.
 
-ghost use Rattle.std.specs.Prelude.{◌≡◌, ℕ, true, false, map, not, IsOk, IsErr};
+ghost use Rattle.std.specs.Prelude.{◌≡◌, ◌++◌, [], ℕ, true, false, map, not, IsOk, IsErr};
 ghost use Rattle.std.specs.Io.KnownBytes.{Appends};
-ghost use Rattle.nob_demo.specs.Words.{word_faults, takes_words};
-ghost use Rattle.nob_demo.specs.Program.{Ended, Goes, status_of};
+ghost use Rattle.nob_demo.specs.Words.{script_of, word_faults, takes_words};
+ghost use Rattle.nob_demo.specs.Program.{Ended, Gives, Goes, status_of, world_status_of};
 
 use crate::fault::Fault;
 use crate::reading::read_all;
 use crate::streams::{Sink, Source};
-use crate::words::judge;
-use nob_demo_pair::{Outcome, play};
+use crate::words::{Script, judge};
+use nob_demo_pair::Outcome;
+use nob_model_journal::Verdict;
+use nob_script_text::Ending;
 use std::alloc::Global;
 use std::convert::AsStr;
 use std::io::{Read, Write};
@@ -30,6 +32,7 @@ pub fn run<S: AsStr, R: Read, W: Write, E: Write>(
     ensures goes { Goes (record {
       attempt = record {
         taken = takes_words (word_faults (map S.text words.now));
+        script = script_of (map S.text words.now);
         reading = record {
           input = R.remaining reader.old.reader;
           rest = R.remaining reader.new.reader;
@@ -49,7 +52,7 @@ pub fn run<S: AsStr, R: Read, W: Write, E: Write>(
     }) }
 {
     match attempt(alloc, words, reader, out) {
-        Ok(outcome) => status_of(outcome),
+        Ok(status) => status,
         Err(Fault::Words(text)) => said(err, text.as_bytes(), 2),
         Err(Fault::Read) => said(err, b"read fault\n", 1),
         Err(Fault::Memory) => said(out, b"memory\n", 1),
@@ -63,11 +66,12 @@ fn attempt<S: AsStr, R: Read, W: Write>(
     words: &[S],
     reader: &mut Source<R>,
     out: &mut Sink<W>,
-) -> Result<Outcome, Fault>
+) -> Result<u8, Fault>
     requires reader { (reader.old.reads ≡ 0) × (reader.old.bytes ≡ 0) × (reader.old.failed ≡ false) × (reader.old.ended ≡ false) }
     requires out { out.old.failed ≡ false }
     ensures ended { Ended result (record {
       taken = takes_words (word_faults (map S.text words.now));
+      script = script_of (map S.text words.now);
       reading = record {
         input = R.remaining reader.old.reader;
         rest = R.remaining reader.new.reader;
@@ -81,20 +85,50 @@ fn attempt<S: AsStr, R: Read, W: Write>(
       out_failed = out.new.failed;
     }) }
 {
-    judge(alloc, words)?;
+    let script = judge(alloc, words)?;
     let input = read_all(alloc, reader)?;
     let mut text = Vec::new(alloc);
-    let outcome = play(alloc, &input, &mut text);
+    let (last_line, status) = play(alloc, script, &input, &mut text);
     let Ok(()) = out.write_all(&text) else {
         return Err(Fault::Write);
     };
-    let Ok(()) = out.write_all(outcome.last_line()) else {
+    let Ok(()) = out.write_all(last_line) else {
         return Err(Fault::Write);
     };
-    Ok(outcome)
+    Ok(status)
 }
 
-// The status that a script's run ends with.
+// Writes what a script gives onto an empty text, save its last line where that says that memory ran out: that line, and
+// the status that the run ends with.
+fn play(alloc: Global, kind: Script, script: &[u8], text: &mut Vec<u8>) -> (&'static [u8], u8)
+    requires { text.old.items ≡ [] }
+    ensures { Gives kind script.now (text.new.items ++ result.0.now) result.1 }
+{
+    match kind {
+        Script::Pair => {
+            let outcome = nob_demo_pair::play(alloc, script, text);
+            (outcome.last_line(), status_of(outcome))
+        }
+        Script::World => {
+            let ending = nob_script::play(alloc, script, text);
+            (ending.last_line(), world_status_of(ending))
+        }
+    }
+}
+
+// The status that the run of a world's script ends with.
+fn world_status_of(ending: Ending) -> u8
+    ensures { result ≡ world_status_of ending }
+{
+    match ending {
+        Ending::Judged(Verdict::Yes) => 0,
+        Ending::Judged(Verdict::No(_)) => 1,
+        Ending::BadStep => 1,
+        Ending::OutOfMemory => 1,
+    }
+}
+
+// The status that the run of a pair's script ends with.
 fn status_of(outcome: Outcome) -> u8
     ensures { result ≡ status_of outcome }
 {

@@ -2,12 +2,13 @@
 
 ghost use Rattle.std.specs.Prelude.{◌≡◌, ℕ, true, false, List, map, IfOk, IfErr, OnOk};
 ghost use Rattle.clap.specs.Words.{app_of, FailsBy};
-ghost use Rattle.nob_demo.specs.Words.{nobj, word_faults, takes_words};
+ghost use Rattle.clap.specs.Words.{subcommand_name_of};
+ghost use Rattle.nob_demo.specs.Words.{nobj, nobj_with_pair, script_by, script_of, word_faults, takes_words};
 ghost use Rattle.nob_demo.specs.Program.{IsWordsFault};
 
 use crate::fault::Fault;
 use clap::error::ErrorKind;
-use clap::{Command, Error};
+use clap::{ArgMatches, Command, Error};
 use std::alloc::{AllocError, Global};
 use std::convert::AsStr;
 
@@ -44,14 +45,60 @@ A script, and what it prints:
 
 Example: nobj pair < examples/first-frame-lost.pair";
 
-/// Judges the words, of which the first is the program's name: `pair`, or no further word, runs a pair script.
-/// Anything else is refused with clap's text.
-pub fn judge<S: AsStr>(alloc: Global, words: &[S]) -> Result<(), Fault>
+const SCRIPT_HELP: &str = "\
+The first line is `spaces N` (1 to 32), or `spaces N window W retry R` (W 1 to 64,
+R 1 to 255; else 8 and 16). Then a step a line: the number of a space and what it
+is asked, or `deliver K`: the K-th frame that was ever sent arrives.
+
+  export                 an object is made            exported O.X
+  dup O.X  release O.X   a hold more, or less         ok
+  call O.X METHOD VALUE  an object is called          call C
+  take C                 the reply to call C          reply STATUS VALUE, or ended
+  claim                  a call to be carried out     job J from P call C on ..
+  finish J answer VALUE  its answer (or fault VALUE,  finished, or dropped
+                         or nomethod)
+  act P                  the next item from P         acted N, or closed R
+  settle  clean          what is to be settled, or    settled P N; cleaned O.X
+                         given up
+  withdraw X             an object is taken back      withdrawn
+  send P  tick P  close P                             frames ..; ok; closed R
+  deliver K              a frame arrives              took N, or closed R
+
+A value is u (unit), i7, b0a (bytes), r1.2 (a reference), or [u,i7] (a list).
+S1 to S13: the space refuses the step. X1: there is no such space. X2: no such
+frame was sent. S14: there was no memory for this step, which changed nothing.
+The last line is the verdict on all that was done: `verdict yes`, or `verdict no`
+and what failed. A line that is no step ends the run: `line N: bad step`.
+
+A script, and what it prints:
+
+  spaces 2                 spaces 2
+  1 export                 1 export = exported 1.1
+  1 withdraw 1             1 withdraw 1 = S11(1)
+  1 release 1.1            1 release 1.1 = ok
+  1 withdraw 1             1 withdraw 1 = withdrawn
+                           verdict yes
+
+Example: nobj script < examples/spaces/world/whole-life.in";
+
+/// What the words run.
+#[derive(Clone, Copy, Debug, PartialEq, Eq)]
+pub enum Script {
+    /// A script of two session ends.
+    Pair,
+    /// A script of a world of spaces.
+    World,
+}
+
+/// Judges the words, of which the first is the program's name: `script` runs a script of a world, `pair`, or no further
+/// word, one of a pair. Anything else is refused with clap's text.
+pub fn judge<S: AsStr>(alloc: Global, words: &[S]) -> Result<Script, Fault>
     ensures taken { OnOk result (takes_words (word_faults (map S.text words.now)) ≡ true) }
+    ensures script { IfOk result (λ script. script ≡ script_of (map S.text words.now)) }
     ensures fault { IfErr result (λ fault. IsWordsFault fault (takes_words (word_faults (map S.text words.now)))) }
 {
     match matched(alloc, words) {
-        Ok(()) => Ok(()),
+        Ok(script) => Ok(script),
         Err(error) => match error.kind() {
             ErrorKind::OutOfMemory => Err(Fault::Memory),
             _ => Err(Fault::Words(error.to_string(alloc)?)),
@@ -59,16 +106,45 @@ pub fn judge<S: AsStr>(alloc: Global, words: &[S]) -> Result<(), Fault>
     }
 }
 
-fn matched<S: AsStr>(alloc: Global, words: &[S]) -> Result<(), Error>
-    ensures { FailsBy (word_faults (map S.text words.now)) result }
+fn matched<S: AsStr>(alloc: Global, words: &[S]) -> Result<Script, Error>
+    ensures kinds { FailsBy (word_faults (map S.text words.now)) result }
+    ensures script { IfOk result (λ script. script ≡ script_of (map S.text words.now)) }
 {
     let command = command(alloc)?;
-    let _matches = command.try_get_matches_from(words)?;
-    Ok(())
+    let matches = command.try_get_matches_from(words)?;
+    Ok(script_in(&matches))
 }
 
+// What the subcommand runs that was met.
+fn script_in<'a>(matches: &ArgMatches<'a>) -> Script
+    ensures { result ≡ script_by (subcommand_name_of matches.now) }
+{
+    match matches.subcommand_name() {
+        None => Script::Pair,
+        Some(name) => {
+            if name == "script" {
+                Script::World
+            } else {
+                Script::Pair
+            }
+        }
+    }
+}
+
+// The command with both subcommands.
 fn command<'a>(alloc: Global) -> Result<Command<'a>, AllocError>
     ensures { IfOk result (λ command. app_of command ≡ nobj) }
+{
+    let script = Command::new(alloc, "script")
+        .about("Runs a script of a world of spaces, read from standard input")
+        .after_help(SCRIPT_HELP);
+    let command = command_with_pair(alloc)?;
+    command.subcommand(script)
+}
+
+// The command with the subcommand `pair` alone.
+fn command_with_pair<'a>(alloc: Global) -> Result<Command<'a>, AllocError>
+    ensures { IfOk result (λ command. app_of command ≡ nobj_with_pair) }
 {
     let pair = Command::new(alloc, "pair")
         .about("Runs a script of two session ends, read from standard input")

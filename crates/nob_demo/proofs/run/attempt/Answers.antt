@@ -1,21 +1,24 @@
-use Rattle.std.proofs.Common.{◌++◌, List, ℕ, subst}
+use Rattle.std.proofs.Common.{◌++◌, List, ℕ, map, ap, subst, sym, ◌∙◌}
 use Rattle.std.specs.Io.KnownBytes.{Appends}
-use Rattle.nob_demo_pair.specs.Scripts.{Plays, last_line}
+use Rattle.nob_demo.specs.Words.{script_of}
+use Rattle.nob_demo.specs.Program.{Gives}
+use Rattle.nob_demo.specs.declared.words.Script.{Script}
 use Rattle.nob_demo.proofs.Known.{appends_more}
 use Rattle.nob_demo.proofs.run.attempt.Goals as goal
 
 pub returns : goal.returns
 returns g c =
-    let outcome = c.play-outcome.result in
-    let text : List ℕ = c.play-outcome.new.text.items in
-    let played : Plays c.in_ok-input.input.items (text ++ last_line outcome) outcome = subst (λ (script : List ℕ). Plays script (text ++ last_line outcome) outcome) c.deref.ensures.value c.play-outcome.ensures.plays in
+    let text : List ℕ = c.play-status.new.text.items in
+    let last : List ℕ = c.play-status.result.0.now in
+    let status = c.play-status.result.1 in
+    let played : Gives c.in_ok-script.script c.in_ok-input.input.items (text ++ last) status = subst (λ (script : List ℕ). Gives c.in_ok-script.script script (text ++ last) status) c.deref.ensures.value c.play-status.ensures in
+    let played_it : Gives (script_of (map g.S.AsStr.text c.args.words.now)) c.in_ok-input.input.items (text ++ last) status = subst (λ (kind : Script). Gives kind c.in_ok-input.input.items (text ++ last) status) c.in_ok-script.ensures.script played in
     let first = subst (λ (bytes : List ℕ). Appends (g.W.Write.contents c.args.out.now.writer) (g.W.Write.contents c.write_all.new.self.writer) bytes) c.deref-2.ensures.value c.in-Ok.ensures.bytes in
-    let last = subst (λ (bytes : List ℕ). Appends (g.W.Write.contents c.write_all.new.self.writer) (g.W.Write.contents c.write_all-2.new.self.writer) bytes) c.last_line.ensures c.in-Ok-write_all.ensures.bytes in
     record {
       ended = (
-        c.in_ok-judge.ensures.taken,
+        c.in_ok-script.ensures.taken,
         c.in_ok-input.ensures.right,
-        (c.in_ok-input.input.items, text ++ last_line outcome, c.in_ok-input.ensures.count, c.in_ok-input.ensures.whole, played, appends_more _ _ _ text (last_line outcome) first last),
+        (c.in_ok-input.input.items, text ++ last, c.in_ok-input.ensures.count, c.in_ok-input.ensures.whole, played_it, appends_more _ _ _ text last first c.in-Ok-write_all.ensures.bytes),
         c.in-Ok-write_all.ensures.ok,
       );
     }

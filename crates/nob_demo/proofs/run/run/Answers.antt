@@ -1,5 +1,5 @@
 use Rattle.std.proofs.Common.{Err, map, subst}
-use Rattle.nob_demo.specs.Words.{takes_words, word_faults}
+use Rattle.nob_demo.specs.Words.{script_of, takes_words, word_faults}
 use Rattle.nob_demo.specs.Program.{Attempt, Ended, Goes}
 use Rattle.nob_demo.specs.declared.fault.Fault.{Fault}
 use Rattle.nob_demo.proofs.Known.{keeps_same, kept_then_appends}
@@ -7,12 +7,13 @@ use Rattle.nob_demo.proofs.Endings.{refused_goes, unread_goes, stopped_goes}
 use Rattle.nob_demo.proofs.run.run.Goals as goal
 
 pub returns-in-Ok : goal.returns-in-Ok
-returns-in-Ok g c = let e = c.in-Ok.ensures.ended in record { goes = Goes.played c.in-Ok.outcome e.0 e.1 e.2 e.3 (keeps_same _, c.requires.err) c.status_of.ensures }
+returns-in-Ok g c = let e = c.in-Ok.ensures.ended in record { goes = Goes.played e.0 e.1 e.2 e.3 (keeps_same _, c.requires.err) }
 
 pub returns-in-Err-Words : goal.returns-in-Err-Words
 returns-in-Err-Words g c =
     let a : Attempt = record {
       taken = takes_words (word_faults (map g.S.AsStr.text c.args.words.now));
+      script = script_of (map g.S.AsStr.text c.args.words.now);
       reading = record {
         input = g.R.Read.remaining c.args.reader.now.reader;
         rest = g.R.Read.remaining c.attempt.new.reader.reader;
@@ -32,6 +33,7 @@ pub returns-in-Err-Read : goal.returns-in-Err-Read
 returns-in-Err-Read g c =
     let a : Attempt = record {
       taken = takes_words (word_faults (map g.S.AsStr.text c.args.words.now));
+      script = script_of (map g.S.AsStr.text c.args.words.now);
       reading = record {
         input = g.R.Read.remaining c.args.reader.now.reader;
         rest = g.R.Read.remaining c.attempt.new.reader.reader;
@@ -51,6 +53,7 @@ pub returns-in-Err-Memory : goal.returns-in-Err-Memory
 returns-in-Err-Memory g c =
     let a : Attempt = record {
       taken = takes_words (word_faults (map g.S.AsStr.text c.args.words.now));
+      script = script_of (map g.S.AsStr.text c.args.words.now);
       reading = record {
         input = g.R.Read.remaining c.args.reader.now.reader;
         rest = g.R.Read.remaining c.attempt.new.reader.reader;

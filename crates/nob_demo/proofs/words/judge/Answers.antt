@@ -5,5 +5,6 @@ use Rattle.nob_demo.proofs.words.judge.Goals as goal
 pub returns : goal.returns
 returns g c = record {
   taken = tt;
-  fault = elim c.in-Err.ensures [ inl memory ↦ absurd (c.in_default.not-OutOfMemory (c.kind.ensures ∙ memory)) | inr among ↦ not_taken _ _ among ];
+  script = tt;
+  fault = elim c.in-Err.ensures.kinds [ inl memory ↦ absurd (c.in_default.not-OutOfMemory (c.kind.ensures ∙ memory)) | inr among ↦ not_taken _ _ among ];
 }
