@@ -1,10 +1,16 @@
 //! What a space did, indexed.
 
-ghost use Rattle.std.specs.Prelude.{◌≡◌, ◌∷◌, [], IfOk};
+ghost use Rattle.std.specs.Prelude.{◌≡◌, ℕ, Bool, ◌∷◌, [], IfOk};
+ghost use Rattle.std.specs.List.{list_all};
 ghost use Rattle.std.specs.Option.{option_map};
 ghost use Rattle.nob_model_words.specs.Sessions as sessions;
 ghost use Rattle.nob_model_words.specs.Objects as objects;
 ghost use Rattle.nob_model_words.specs.Turns as asked;
+ghost use Rattle.nob_model_history.specs.Holds as holds;
+ghost use Rattle.nob_model_history.specs.Transit as transit;
+ghost use Rattle.nob_model_journal.specs.Losses as losses;
+ghost use Rattle.nob_model_journal.specs.Tests as tests;
+ghost use Rattle.nob_check_index.specs.Spaces as spaces;
 
 use crate::lists::Past;
 use crate::lookups::{Lookups, new_lookups, with_deed};
@@ -14,8 +20,8 @@ use nob_model_words::{Deed, Here, Turns};
 use std::alloc::{AllocError, Global};
 use std::marker::Model;
 
-/// What a space did, with tables in which each question about it is looked up: no look-up reads the deeds. Contracts see
-/// what it did, the newest first.
+/// What a space did, with tables in which each question about it is looked up: no look-up reads the
+/// deeds. Contracts see what it did, the newest first.
 #[derive(Drop)]
 pub struct DeedIndex {
     here: Here,
@@ -62,7 +68,8 @@ impl DeedIndex {
         self.here
     }
 
-    /// What the space did with one deed more. Only memory fails it. It looks up what the deed touches.
+    /// What the space did with one deed more. Only memory fails it. It looks up what the deed
+    /// touches.
     pub fn with_deed(self, alloc: Global, deed: Deed) -> Result<DeedIndex, AllocError>
         ensures { IfOk result (λ more. more ≡ record { here = self.here; deeds = deed ∷ self.deeds }) }
     {
@@ -105,13 +112,56 @@ impl DeedIndex {
     pub fn is_exported(&self, index: u64) -> bool
         ensures { result ≡ objects.is_exported self.now.here.space index self.now.deeds }
     {
-        self.lookups.is_exported(self.here.space, index)
+        self.lookups
+            .more
+            .objects
+            .is_exported(self.here.space, index)
     }
 
-    /// Whether the object of an index is live: exported and never withdrawn. Constant time on average.
+    /// Whether the object of an index is live: exported and never withdrawn. Constant time on
+    /// average.
     pub fn is_live(&self, index: u64) -> bool
         ensures { result ≡ objects.is_live self.now.here.space index self.now.deeds }
     {
-        self.lookups.is_live(self.here.space, index)
+        self.lookups.more.objects.is_live(self.here.space, index)
+    }
+
+    /// How often a reference came into the hand. Constant time on average.
+    pub fn gain_count(&self, rep: &WireRep) -> u64
+        ensures { result ≡ holds.times rep.now (holds.gains self.now.deeds) }
+    {
+        self.lookups.more.hand.gains.count(rep)
+    }
+
+    /// How often a reference was released. Constant time on average.
+    pub fn release_count(&self, rep: &WireRep) -> u64
+        ensures { result ≡ holds.times rep.now (holds.releases self.now.deeds) }
+    {
+        self.lookups.more.hand.releases.count(rep)
+    }
+
+    /// Whether the Settle of the item of a number came from the peer it was sent to, and was acted
+    /// on. Constant time on average.
+    pub fn is_settled(&self, peer: SpaceId, number: ItemNo) -> bool
+        ensures { result ≡ transit.is_settled peer number self.now.deeds }
+    {
+        self.lookups.more.traffic.settlements.has(peer, number)
+    }
+
+    /// The spaces from which came the copies of a reference that were acted on since it was given
+    /// up last, each once: a test holds of all of them where it holds of the source of each copy.
+    /// Constant time on average.
+    pub fn sources(&self, rep: &WireRep) -> &[SpaceId]
+        ensures value { result.now ≡ spaces.each_once (losses.sources self.now.here.space self.now.here.n rep.now self.now.deeds) }
+        ensures all { (test : ℕ → Bool) → list_all test result.now ≡ list_all test (losses.sources self.now.here.space self.now.here.n rep.now self.now.deeds) }
+    {
+        self.lookups.more.traffic.sources.sources(rep)
+    }
+
+    /// The spaces whose items were acted on, each once. It takes no time.
+    pub fn senders(&self) -> &[SpaceId]
+        ensures { result.now ≡ tests.senders_in self.now.deeds }
+    {
+        self.lookups.more.traffic.senders.as_slice()
     }
 }

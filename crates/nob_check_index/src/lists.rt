@@ -59,8 +59,8 @@ pub struct SpaceDeeds {
     pub deeds: DeedList,
 }
 
-/// What a space did, to be kept and not read: each deed stands behind the earlier ones. Contracts see the list, the newest
-/// first.
+/// What a space did, to be kept and not read: each deed stands behind the earlier ones. Contracts
+/// see the list, the newest first.
 #[derive(Drop)]
 pub struct Past {
     // The first first.

@@ -4,12 +4,13 @@ ghost use Rattle.std.specs.Prelude.{◌≡◌, [], IfOk};
 ghost use Rattle.nob_check_index.specs.Exports as words;
 
 use indexmap::IndexSet;
-use nob_ids::WireRep;
+use nob_ids::{SpaceId, WireRep};
 use nob_model_words::Deed;
 use std::alloc::{AllocError, Global};
 use std::marker::Model;
 
-/// The references that Export answered, each once. Contracts see the list, in the order in which they were put in.
+/// The references that Export answered, each once. Contracts see the list, in the order in which
+/// they were put in.
 #[derive(Drop)]
 pub struct Exports {
     reps: IndexSet<WireRep>,
@@ -63,8 +64,8 @@ impl Exports {
     }
 }
 
-/// The indexes of the objects that were withdrawn, each once. Contracts see the list, in the order in which they were put
-/// in.
+/// The indexes of the objects that were withdrawn, each once. Contracts see the list, in the order
+/// in which they were put in.
 #[derive(Drop)]
 pub struct Withdrawals {
     indexes: IndexSet<u64>,
@@ -114,5 +115,58 @@ impl Withdrawals {
             Ok(_) => Ok(Withdrawals { indexes }),
             Err(_) => Err(AllocError),
         }
+    }
+}
+
+/// The objects of a space: which were exported, and which withdrawn.
+#[derive(Drop)]
+pub struct Objects {
+    /// The references that Export answered.
+    pub exports: Exports,
+    /// The indexes that were withdrawn.
+    pub withdrawals: Withdrawals,
+}
+
+impl Objects {
+    /// None.
+    pub fn none(alloc: Global) -> Objects
+        ensures { result ≡ record { exports = []; withdrawals = [] } }
+    {
+        Objects {
+            exports: Exports::none(alloc),
+            withdrawals: Withdrawals::none(alloc),
+        }
+    }
+
+    /// Whether a space exported the object of an index. Constant time on average.
+    pub fn is_exported(&self, space: SpaceId, index: u64) -> bool
+        ensures { result ≡ words.is_export_of space index self.now.exports }
+    {
+        let owner = space;
+        self.exports.has(&WireRep { owner, index })
+    }
+
+    /// Whether the object of an index of a space is live: exported and never withdrawn. Constant
+    /// time on average.
+    pub fn is_live(&self, space: SpaceId, index: u64) -> bool
+        ensures { result ≡ words.is_left space index self.now.exports self.now.withdrawals }
+    {
+        self.is_exported(space, index) && !self.withdrawals.has(index)
+    }
+
+    /// The objects after a deed. Only memory fails it. Constant time on average.
+    pub fn after(self, deed: &Deed) -> Result<Objects, AllocError>
+        ensures { IfOk result (λ after. after ≡ record { exports = words.exports_after deed.now self.exports; withdrawals = words.withdrawals_after deed.now self.withdrawals }) }
+    {
+        let Objects {
+            exports,
+            withdrawals,
+        } = self;
+        let exports = exports.after(deed)?;
+        let withdrawals = withdrawals.after(deed)?;
+        Ok(Objects {
+            exports,
+            withdrawals,
+        })
     }
 }
