@@ -1,0 +1,14 @@
+pub use Rattle.nob_model_words.specs.Sessions
+pub use Rattle.nob_model_words.specs.Objects
+pub use Rattle.nob_model_words.specs.Turns
+pub use Rattle.nob_model_history.specs.Holds
+pub use Rattle.nob_model_history.specs.Transit
+pub use Rattle.nob_model_journal.specs.Losses
+pub use Rattle.nob_model_journal.specs.Tests
+pub mod Exports
+pub mod Counts
+pub mod Settlements
+pub mod Spaces
+pub mod Sources
+pub mod More
+pub mod Lookups
