@@ -14,14 +14,15 @@ use Rattle.nob_model_words.specs.Sessions.{item_at}
 use Rattle.nob_model_words.specs.Turns.{turns}
 use Rattle.nob_model_history.proofs.Dirtying.{same_self}
 use Rattle.nob_model_journal.specs.Losses.{is_carried, sources}
-use Rattle.nob_model_journal.specs.Tests.{senders_in}
+use Rattle.nob_model_journal.specs.Tests.{with_space, senders_in}
+use Rattle.nob_check_tables.specs.Closed.{is_among}
 use Rattle.nob_check_tables.specs.Came.{item_in}
 use Rattle.nob_check_tables.specs.Rows.{turns_in}
 use Rattle.nob_check_tables.specs.Tables.{tables_of}
 use Rattle.nob_check_tables.proofs.Looking.{put_at}
 use Rattle.nob_check_tables.proofs.Sessions.{item_is}
 use Rattle.nob_check_tables.proofs.Turning.{turns_are}
-use Rattle.nob_check_index.specs.Spaces.{is_among, with_space, each_once, senders_of}
+use Rattle.nob_check_index.specs.Spaces.{each_once, senders_of}
 use Rattle.nob_check_index.specs.Sources.{found_sources, sources_in, with_sources, with_source, with_copies, with_item, cleaned, sources_of}
 use Rattle.nob_check_index.proofs.Keys.{same_rep}
 

@@ -8,11 +8,11 @@ use Rattle.nob_item.specs.Kinds.{counted_in}
 use Rattle.nob_item.specs.declared.item.Item.{Item}
 use Rattle.nob_model_words.specs.declared.deed.Deed.{Deed}
 use Rattle.nob_model_words.specs.declared.deed.Deed.TheVariants.{Act, Clean}
+use Rattle.nob_check_tables.specs.Closed.{is_among}
 use Rattle.nob_check_tables.specs.Came.{item_in}
 use Rattle.nob_check_tables.specs.Rows.{turns_in}
 use Rattle.nob_check_tables.specs.Tables.{tables_of}
 use Rattle.nob_check_tables.specs.declared.tables.Tables.{Tables}
-use Rattle.nob_check_index.specs.Spaces.{is_among}
 
 -- the sources that were found, none where there is no row
 abbrev pub found_sources : Option (List ℕ) → List ℕ

@@ -1,16 +1,8 @@
 -- Spaces, each once.
-use Rattle.std.specs.Prelude.{ℕ, Bool, ◌==◌, List, [], ◌∷◌, if◌then◌else◌}
-use Rattle.std.specs.List.{list_any}
+use Rattle.std.specs.Prelude.{ℕ, List, [], ◌∷◌}
 use Rattle.nob_model_words.specs.declared.deed.Deed.{Deed}
 use Rattle.nob_model_words.specs.declared.deed.Deed.TheVariants.{Act}
-
--- whether a space is one of these
-abbrev pub is_among : ℕ → List ℕ → Bool
-is_among s spaces = list_any (λ other. other == s) spaces
-
--- spaces with one more in front, unless it is one of them
-abbrev pub with_space : ℕ → List ℕ → List ℕ
-with_space s spaces = if is_among s spaces then spaces else s ∷ spaces
+use Rattle.nob_model_journal.specs.Tests.{with_space}
 
 -- spaces, each once, where it stands last
 abbrev pub each_once : List ℕ → List ℕ

@@ -158,7 +158,7 @@ impl DeedIndex {
         self.lookups.more.traffic.sources.sources(rep)
     }
 
-    /// The spaces whose items were acted on, each once. It takes no time.
+    /// The spaces whose items were acted on, each once. Constant time.
     pub fn senders(&self) -> &[SpaceId]
         ensures { result.now ≡ tests.senders_in self.now.deeds }
     {

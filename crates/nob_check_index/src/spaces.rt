@@ -2,6 +2,8 @@
 //! came.
 
 ghost use Rattle.std.specs.Prelude.{◌≡◌, ◌∷◌, [], IfOk};
+ghost use Rattle.nob_model_journal.specs.Tests.{with_space as with_space_word};
+ghost use Rattle.nob_check_tables.specs.Closed.{is_among as among_word};
 ghost use Rattle.nob_check_index.specs.Spaces as words;
 
 use nob_ids::SpaceId;
@@ -42,7 +44,7 @@ impl Spaces {
 
     /// These with a space in front, unless it is one of them. Only memory fails it. Linear in them.
     pub fn with_space(self, space: SpaceId) -> Result<Spaces, AllocError>
-        ensures { IfOk result (λ more. more ≡ words.with_space space self) }
+        ensures { IfOk result (λ more. more ≡ with_space_word space self) }
     {
         let Spaces { mut spaces } = self;
         if is_among(space, spaces.as_slice()) {
@@ -65,7 +67,7 @@ pub fn in_front(alloc: Global, space: SpaceId, spaces: &[SpaceId]) -> Result<Spa
 
 /// Whether a space is one of these. Linear in them.
 pub fn is_among(space: SpaceId, spaces: &[SpaceId]) -> bool
-    ensures { result ≡ words.is_among space spaces.now }
+    ensures { result ≡ among_word space spaces.now }
 {
     spaces.iter().any(|other| *other == space)
 }
