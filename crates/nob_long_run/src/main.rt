@@ -12,7 +12,7 @@ use std::io;
 use std::process::ExitCode;
 
 // So many spaces the world has.
-const SPACES: u16 = 4;
+const SPACES: u32 = 4;
 
 // So many items are acted on after one carriage at most, so that each walk ends.
 const MOST_ITEMS: usize = 64;
@@ -52,7 +52,7 @@ fn run(rt: &HostRuntime) -> io::Result<()> {
 
 // So many lives in a new world, judged so often: how many entries they made, where every verdict is yes.
 fn live_and_judge(alloc: Global, lives: u32, times: u32) -> Result<Option<usize>, WorldError> {
-    let mut world = World::new(alloc, SPACES, Limits::default())?;
+    let mut world = World::new(alloc, SPACES as u16, Limits::default())?;
     let done = judged(alloc, &mut world, lives, times);
     world.shut();
     done
@@ -66,8 +66,9 @@ fn judged(
     times: u32,
 ) -> Result<Option<usize>, WorldError> {
     for life in 0..lives {
-        let owner = space_at(life % SPACES as u32);
-        let client = space_at((life + 1 + life / SPACES as u32 % 3) % SPACES as u32);
+        let place = life % SPACES;
+        let owner = space_at(place);
+        let client = space_at((place + 1 + life / SPACES % (SPACES - 1)) % SPACES);
         if !one_life(world, owner, client)? {
             return Ok(None);
         }
