@@ -7,13 +7,12 @@ ghost use Rattle.nob_check.specs.Books as words;
 
 use nob_check_ledgers::{Ledger, new_ledger, with_deed};
 use nob_ids::{SpaceId, WireRep};
-use nob_model_words::{Deed, Here};
+use nob_model_words::{Deed, Here, sessions};
 use std::alloc::{AllocError, Global};
 use std::marker::Model;
 
-/// The ledgers of the spaces that have entries, the one that came last first. Contracts see the
-/// list.
-#[derive(Drop)]
+/// The ledgers of the spaces that have entries, the one that came last first. Contracts see the list.
+#[derive(Debug, Drop)]
 pub struct Books {
     ledgers: Vec<Ledger>,
 }
@@ -63,7 +62,7 @@ pub fn find_ledger(space: SpaceId, books: &[Ledger]) -> Option<&Ledger>
     match books {
         [] => None,
         [ledger, others @ ..] => {
-            if ledger.index.here().space == space {
+            if ledger.here.space == space {
                 return Some(ledger);
             }
             find_ledger(space, others)
@@ -76,7 +75,7 @@ pub fn closed_at(space: SpaceId, peer: SpaceId, books: &[Ledger]) -> bool
     ensures { result ≡ words.closed_by (words.did_by books.now) space peer }
 {
     match find_ledger(space, books) {
-        Some(ledger) => ledger.index.is_closed(peer),
+        Some(ledger) => sessions::closed(peer, ledger.deeds.as_slice()),
         None => false,
     }
 }
@@ -97,11 +96,9 @@ pub fn reaches_owner(space: SpaceId, rep: &WireRep, books: &[Ledger]) -> bool
 
 // Whether a space has a ledger.
 fn has_ledger(space: SpaceId, books: &[Ledger]) -> bool
-    ensures { result ≡ list_any (λ ledger. ledger.index.here.space == space) books.now }
+    ensures { result ≡ list_any (λ ledger. ledger.here.space == space) books.now }
 {
-    books
-        .iter()
-        .any(|ledger| ledger.index.here().space == space)
+    books.iter().any(|ledger| ledger.here.space == space)
 }
 
 // The ledgers with one of a space, an empty one where there is none.
@@ -132,7 +129,7 @@ fn grown(
         return Ok(ledgers);
     }
     let first = ledgers.remove(0);
-    if first.index.here().space == space {
+    if first.here.space == space {
         let after = with_deed(alloc, deed, first)?;
         ledgers.insert(0, after)?;
         return Ok(ledgers);
@@ -142,8 +139,7 @@ fn grown(
     Ok(rest)
 }
 
-/// The ledgers after an entry of a space that did this. The space's own ledger changes, and no
-/// other.
+/// The ledgers after an entry of a space that did this. The space's own ledger changes, and no other.
 pub fn with_entry(
     alloc: Global,
     here: Here,
