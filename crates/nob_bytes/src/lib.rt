@@ -1,5 +1,5 @@
-//! Bytes as contracts see them, a list, and the numbers that stand in them, the highest byte first. The codecs stand on
-//! this crate.
+//! Bytes as contracts see them, a list, and the numbers that stand in them, the highest byte first.
+//! The codecs stand on this crate.
 #![tactic(auto)]
 
 mod owned;

@@ -1,4 +1,5 @@
-//! Numbers at a place in bytes, the highest byte first. The caller has judged how many bytes there are.
+//! Numbers at a place in bytes, the highest byte first. The caller has judged how many bytes there
+//! are.
 
 ghost use Rattle.std.specs.Prelude.{◌≡◌, ◌≤◌, ◌+◌, length};
 ghost use Rattle.nob_bytes.specs.Numbers.{field};

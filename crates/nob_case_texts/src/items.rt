@@ -37,7 +37,8 @@ pub fn item(alloc: Global, words: &[&str]) -> Result<Item, Unanswered> {
 // The note of this name and number.
 fn note(name: &str, number: u64) -> Result<Item, Unanswered>
     ensures found { IfOk result (λ item. spec.note_parts item ≡ Some (name.now, number)) }
-    ensures only { (item : ItemOf) → spec.note_parts item ≡ Some (name.now, number) → Reads (λ found. found ≡ item) result }
+    ensures only { (item : ItemOf) → spec.note_parts item ≡ Some (name.now, number)
+        → Reads (λ found. found ≡ item) result }
 {
     match name {
         "settle" => Ok(Item::Settle(ItemNo::new(number))),
@@ -67,7 +68,8 @@ pub fn frame(alloc: Global, words: &[&str]) -> Result<Frame, Unanswered> {
 // The kind of a frame that a word says.
 fn kind_of(word: &str) -> Result<FrameKind, Unanswered>
     ensures found { IfOk result (λ kind. word.now ≡ spec.kind_word kind) }
-    ensures only { (kind : KindOf) → word.now ≡ spec.kind_word kind → Reads (λ found. found ≡ kind) result }
+    ensures only { (kind : KindOf) → word.now ≡ spec.kind_word kind
+        → Reads (λ found. found ≡ kind) result }
 {
     match word {
         "data" => Ok(FrameKind::Data),

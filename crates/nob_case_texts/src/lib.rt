@@ -1,5 +1,5 @@
-//! What the words of a case are, and how its answer is written: words spell numbers, references, bytes, values, items
-//! and frames, and an answer has one text.
+//! What the words of a case are, and how its answer is written: words spell numbers, references,
+//! bytes, values, items and frames, and an answer has one text.
 #![tactic(auto)]
 
 mod answer;

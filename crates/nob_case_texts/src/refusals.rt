@@ -19,7 +19,8 @@ use std::alloc::AllocError;
 
 /// A refusal of a value as an answer: want of memory is none.
 pub fn refused_value(error: PickleError) -> Result<Answer, AllocError>
-    ensures { MatchResult result (λ answer. answer ≡ answers.Refused (refusals.Pickle error)) (λ _. error ≡ pickle_errors.OutOfMemory) }
+    ensures { MatchResult result (λ answer. answer ≡ answers.Refused (refusals.Pickle error))
+        (λ _. error ≡ pickle_errors.OutOfMemory) }
 {
     match error {
         PickleError::OutOfMemory => Err(AllocError),
@@ -29,7 +30,8 @@ pub fn refused_value(error: PickleError) -> Result<Answer, AllocError>
 
 /// A refusal of an item as an answer: want of memory is none.
 pub fn refused_item(error: ItemError) -> Result<Answer, AllocError>
-    ensures { MatchResult result (λ answer. answer ≡ answers.Refused (refusals.Item error)) (λ _. error ≡ item_errors.OutOfMemory) }
+    ensures { MatchResult result (λ answer. answer ≡ answers.Refused (refusals.Item error))
+        (λ _. error ≡ item_errors.OutOfMemory) }
 {
     match error {
         ItemError::OutOfMemory => Err(AllocError),
@@ -39,7 +41,8 @@ pub fn refused_item(error: ItemError) -> Result<Answer, AllocError>
 
 /// A refusal of a frame as an answer: want of memory is none.
 pub fn refused_frame(error: FrameError) -> Result<Answer, AllocError>
-    ensures { MatchResult result (λ answer. answer ≡ answers.Refused (refusals.Frame error)) (λ _. error ≡ frame_errors.OutOfMemory) }
+    ensures { MatchResult result (λ answer. answer ≡ answers.Refused (refusals.Frame error))
+        (λ _. error ≡ frame_errors.OutOfMemory) }
 {
     match error {
         FrameError::OutOfMemory => Err(AllocError),
@@ -49,7 +52,8 @@ pub fn refused_frame(error: FrameError) -> Result<Answer, AllocError>
 
 /// A refusal of a call on an end as an answer: want of memory is none.
 pub fn refused_call(error: SessionError) -> Result<Answer, AllocError>
-    ensures { MatchResult result (λ answer. answer ≡ answers.Refused (refusals.End error)) (λ _. error ≡ end_errors.OutOfMemory) }
+    ensures { MatchResult result (λ answer. answer ≡ answers.Refused (refusals.End error))
+        (λ _. error ≡ end_errors.OutOfMemory) }
 {
     match error {
         SessionError::OutOfMemory => Err(AllocError),
@@ -59,7 +63,8 @@ pub fn refused_call(error: SessionError) -> Result<Answer, AllocError>
 
 /// A refusal of a call on a table as an answer: want of memory is none.
 pub fn refused_table_call(error: TableError) -> Result<Answer, AllocError>
-    ensures { MatchResult result (λ answer. answer ≡ answers.Refused (refusals.Table error)) (λ _. error ≡ table_errors.OutOfMemory) }
+    ensures { MatchResult result (λ answer. answer ≡ answers.Refused (refusals.Table error))
+        (λ _. error ≡ table_errors.OutOfMemory) }
 {
     match error {
         TableError::OutOfMemory => Err(AllocError),

@@ -37,7 +37,8 @@ pub fn text_of(alloc: Global, answer: &Answer) -> Result<String, AllocError>
     }
 }
 
-// The text of a refusal, and of an answer that is written part by part. Of others there is none here.
+// The text of a refusal, and of an answer that is written part by part. Of others there is none
+// here.
 fn text_of_parts(alloc: Global, answer: &Answer) -> Result<String, AllocError> {
     let mut text = String::new(alloc);
     match answer {
@@ -67,7 +68,8 @@ fn sent_text(alloc: Global, number: u64) -> Result<String, AllocError>
 
 // That an end has closed, and why.
 fn closed_text(alloc: Global, reason: Reason) -> Result<String, AllocError>
-    ensures { IfOk result (λ text. string_bytes text ≡ codes "closed " ++ decimal (reason_number reason)) }
+    ensures { IfOk result (λ text. string_bytes text
+        ≡ codes "closed " ++ decimal (reason_number reason)) }
 {
     let reason = reason.number();
     format!(in alloc; "closed {reason}")
@@ -102,13 +104,15 @@ fn spaces_text(alloc: Global, spaces: &[SpaceId]) -> Result<String, AllocError>
 
 // A surrogate, and its place in the order of last Dirties.
 fn idle_text(alloc: Global, place: u128, rep: WireRep) -> Result<String, AllocError>
-    ensures { IfOk result (λ text. string_bytes text ≡ codes "place " ++ (decimal place ++ 32 ∷ spec.reference_word rep)) }
+    ensures { IfOk result (λ text. string_bytes text
+        ≡ codes "place " ++ (decimal place ++ 32 ∷ spec.reference_word rep)) }
 {
     let rep = reference_text(alloc, rep)?;
     format!(in alloc; "place {place} {rep}")
 }
 
-// Writes the name that the printed text of a refusal begins with, and in brackets that of the refusal within it.
+// Writes the name that the printed text of a refusal begins with, and in brackets that of the
+// refusal within it.
 fn push_refusal(alloc: Global, text: &mut String, refusal: Refusal) -> Result<(), AllocError> {
     let printed = match refusal {
         Refusal::Pickle(error) => format!(in alloc; "{error}")?,
@@ -167,7 +171,8 @@ fn push_numbered(
     name: &str,
     number: u64,
 ) -> Result<(), AllocError>
-    ensures { OnOk result (string_bytes text.new ≡ string_bytes text.old ++ spec.numbered_text name.now number) }
+    ensures { OnOk result (string_bytes text.new
+        ≡ string_bytes text.old ++ spec.numbered_text name.now number) }
 {
     let numbered = format!(in alloc; "{name} {number}")?;
     text.push_str(numbered.as_str())
@@ -248,7 +253,8 @@ fn push_pin_answers(
 
 // Writes references, a space between two.
 fn push_references(alloc: Global, text: &mut String, reps: &[WireRep]) -> Result<(), AllocError>
-    ensures { OnOk result (string_bytes text.new ≡ string_bytes text.old ++ spec.references_text reps.now) }
+    ensures { OnOk result (string_bytes text.new
+        ≡ string_bytes text.old ++ spec.references_text reps.now) }
 {
     let Some((first, others)) = reps.split_first() else {
         return text.push_str("none");
@@ -263,7 +269,8 @@ fn push_references(alloc: Global, text: &mut String, reps: &[WireRep]) -> Result
 
 // Writes spaces, a space between two.
 fn push_spaces(alloc: Global, text: &mut String, spaces: &[SpaceId]) -> Result<(), AllocError>
-    ensures { OnOk result (string_bytes text.new ≡ string_bytes text.old ++ spec.spaces_text spaces.now) }
+    ensures { OnOk result (string_bytes text.new
+        ≡ string_bytes text.old ++ spec.spaces_text spaces.now) }
 {
     let Some((first, others)) = spaces.split_first() else {
         return text.push_str("none");
@@ -286,7 +293,8 @@ fn push_space(alloc: Global, text: &mut String, space: SpaceId) -> Result<(), Al
 
 // Says that there is nothing, where there is nothing.
 fn push_none(text: &mut String, is_empty: bool) -> Result<(), AllocError>
-    ensures { OnOk result (string_bytes text.new ≡ string_bytes text.old ++ spec.none_text is_empty) }
+    ensures { OnOk result (string_bytes text.new
+        ≡ string_bytes text.old ++ spec.none_text is_empty) }
 {
     if is_empty {
         text.push_str("none")?;

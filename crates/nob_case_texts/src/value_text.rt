@@ -72,7 +72,8 @@ fn push_run(alloc: Global, text: &mut String, run: &[u8], end: End) -> Result<En
 
 /// Writes a reference.
 pub fn push_reference(alloc: Global, text: &mut String, rep: WireRep) -> Result<(), AllocError>
-    ensures { OnOk result (string_bytes text.new ≡ string_bytes text.old ++ spec.reference_word rep) }
+    ensures { OnOk result (string_bytes text.new
+        ≡ string_bytes text.old ++ spec.reference_word rep) }
 {
     let owner = rep.owner.get();
     let index = rep.index;

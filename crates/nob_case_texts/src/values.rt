@@ -9,8 +9,8 @@ use crate::words;
 use nob_pickle::{Bytes, Value, Values};
 use std::alloc::Global;
 
-/// A value: `u`, `i-5`, `b6869`, `r2.5`, `[u,[i5]]`. Bytes are written as everywhere; any other element of a list may
-/// stand several times, as `u*257`.
+/// A value: `u`, `i-5`, `b6869`, `r2.5`, `[u,[i5]]`. Bytes are written as everywhere; any other
+/// element of a list may stand several times, as `u*257`.
 pub fn value(alloc: Global, word: &str) -> Result<Value, Unanswered> {
     // the lists that are open, the outermost first; the first one is there to hold the value itself
     let mut open = Vec::new(alloc);
@@ -46,7 +46,8 @@ fn lone_value(values: Vec<Value>) -> Result<Value, Unanswered> {
     }
 }
 
-// Reads what stands between two commas: the lists that begin there, an element, and the lists that end there.
+// Reads what stands between two commas: the lists that begin there, an element, and the lists that
+// end there.
 fn read_chunk(alloc: Global, open: &mut Vec<Vec<Value>>, chunk: &str) -> Result<(), Unanswered> {
     let inner = chunk.trim_start_matches('[');
     for _ in inner.len()..chunk.len() {
@@ -95,7 +96,8 @@ fn leaf(alloc: Global, element: &str) -> Result<Value, Unanswered> {
     }
 }
 
-// Ends the innermost open list, which stands as often as is written behind its end: once where nothing is.
+// Ends the innermost open list, which stands as often as is written behind its end: once where
+// nothing is.
 fn end_list(alloc: Global, open: &mut Vec<Vec<Value>>, end: &str) -> Result<(), Unanswered> {
     let ("", count) = words::repeated(alloc, end)? else {
         return Err(Unanswered::NoCase);

@@ -79,7 +79,8 @@ pub fn space(alloc: Global, word: &str) -> Result<SpaceId, Unanswered>
 pub fn limits(alloc: Global, window: &str, retry: &str) -> Result<Limits, Unanswered>
     ensures window { IfOk result (λ limits. window.now ≡ decimal limits.window) }
     ensures retry { IfOk result (λ limits. retry.now ≡ decimal limits.retry) }
-    ensures only { (w r : ℕ) → 1 ≤ w → w ≤ 64 → 1 ≤ r → r ≤ 255 → window.now ≡ decimal w → retry.now ≡ decimal r
+    ensures only { (w r : ℕ) → 1 ≤ w → w ≤ 64 → 1 ≤ r → r ≤ 255 → window.now ≡ decimal w
+        → retry.now ≡ decimal r
         → Reads (λ limits. (limits.window ≡ w) × (limits.retry ≡ r)) result }
 {
     let window = number(alloc, window)?;
@@ -93,7 +94,8 @@ pub fn limits(alloc: Global, window: &str, retry: &str) -> Result<Limits, Unansw
 /// A reason of a close.
 pub fn reason(alloc: Global, word: &str) -> Result<Reason, Unanswered>
     ensures found { IfOk result (λ reason. word.now ≡ decimal (reason_number reason)) }
-    ensures only { (n : ℕ) → 1 ≤ n → n ≤ 6 → word.now ≡ decimal n → Reads (λ reason. reason_number reason ≡ n) result }
+    ensures only { (n : ℕ) → 1 ≤ n → n ≤ 6 → word.now ≡ decimal n
+        → Reads (λ reason. reason_number reason ≡ n) result }
 {
     let number = byte(alloc, word)?;
     let Some(reason) = Reason::from_number(number) else {
@@ -105,7 +107,8 @@ pub fn reason(alloc: Global, word: &str) -> Result<Reason, Unanswered>
 /// A reference: `O.X`.
 pub fn reference(alloc: Global, word: &str) -> Result<WireRep, Unanswered>
     ensures found { IfOk result (λ rep. word.now ≡ spec.reference_word rep) }
-    ensures only { (rep : RepOf) → IsSpace rep.owner → rep.index < 2 ^ 64 → word.now ≡ spec.reference_word rep → Reads (λ found. found ≡ rep) result }
+    ensures only { (rep : RepOf) → IsSpace rep.owner → rep.index < 2 ^ 64
+        → word.now ≡ spec.reference_word rep → Reads (λ found. found ≡ rep) result }
 {
     let Some((owner, index)) = word.split_once('.') else {
         return Err(Unanswered::NoCase);
@@ -130,8 +133,8 @@ pub fn references(alloc: Global, words: &[&str]) -> Result<Vec<WireRep>, Unanswe
     Ok(reps)
 }
 
-/// Bytes: `-` where there are none, else parts joined by dots, each hexadecimal digits, or those and how often they
-/// stand, as `00*257`.
+/// Bytes: `-` where there are none, else parts joined by dots, each hexadecimal digits, or those
+/// and how often they stand, as `00*257`.
 pub fn bytes(alloc: Global, word: &str) -> Result<Vec<u8>, Unanswered> {
     let mut bytes = Vec::new(alloc);
     if word == "-" {

@@ -38,7 +38,8 @@ pub enum EndCase {
     IsOpen,
 }
 
-/// Makes a case on the end that was opened last. Only memory fails it, and then nothing has changed.
+/// Makes a case on the end that was opened last. Only memory fails it, and then nothing has
+/// changed.
 pub fn make(
     alloc: Global,
     end: &mut Option<Session>,

@@ -1,7 +1,8 @@
-//! The program `nob_cases`: answers examples, one a line, that its caller compares with what the specification says.
+//! The program `nob_cases`: answers examples, one a line, that its caller compares with what the
+//! specification says.
 //!
-//! A line of standard input is a case. It is written to standard output with ` = ` and its answer. An empty line and one
-//! that begins with `#` are written as they came. README.md has the grammar.
+//! A line of standard input is a case. It is written to standard output with ` = ` and its answer.
+//! An empty line and one that begins with `#` are written as they came. README.md has the grammar.
 #![tactic(auto)]
 
 mod case;
@@ -27,7 +28,8 @@ fn main(rt: HostRuntime) -> ExitCode {
     }
 }
 
-// Answers each line of standard input. A read or a write that failed ends it, and memory for a line or its text.
+// Answers each line of standard input. A read or a write that failed ends it, and memory for a line
+// or its text.
 fn answer_all(rt: &HostRuntime) -> io::Result<()> {
     let alloc = rt.alloc();
     let mut stage = Stage::new(alloc);

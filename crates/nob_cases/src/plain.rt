@@ -19,7 +19,8 @@ pub struct Plain {
     calls: Vec<EndEntry>,
 }
 
-/// Makes a case on the end that was opened last. Only memory fails it, and then nothing has changed.
+/// Makes a case on the end that was opened last. Only memory fails it, and then nothing has
+/// changed.
 pub fn make(
     alloc: Global,
     plain: &mut Option<Plain>,

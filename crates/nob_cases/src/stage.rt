@@ -31,8 +31,8 @@ impl Stage {
         }
     }
 
-    /// The line with its answer: `memory` where memory ran out in it, and then nothing has changed. Memory for the
-    /// text of the answer fails it.
+    /// The line with its answer: `memory` where memory ran out in it, and then nothing has changed.
+    /// Memory for the text of the answer fails it.
     pub fn answered(&mut self, line: &str) -> Result<String, AllocError> {
         let alloc = self.alloc;
         if line.is_empty() || line.starts_with('#') {

@@ -50,7 +50,8 @@ pub struct CountedTable {
     ghost counted: { table.dirties ≤ most },
 }
 
-/// Makes a case on the table that was made last. Only memory fails it, and then nothing has changed.
+/// Makes a case on the table that was made last. Only memory fails it, and then nothing has
+/// changed.
 pub fn make(
     alloc: Global,
     counted: &mut Option<CountedTable>,

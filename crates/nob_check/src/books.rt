@@ -11,7 +11,8 @@ use nob_model_words::{Deed, Here, sessions};
 use std::alloc::{AllocError, Global};
 use std::marker::Model;
 
-/// The ledgers of the spaces that have entries, the one that came last first. Contracts see the list.
+/// The ledgers of the spaces that have entries, the one that came last first. Contracts see the
+/// list.
 #[derive(Debug, Drop)]
 pub struct Books {
     ledgers: Vec<Ledger>,
@@ -139,7 +140,8 @@ fn grown(
     Ok(rest)
 }
 
-/// The ledgers after an entry of a space that did this. The space's own ledger changes, and no other.
+/// The ledgers after an entry of a space that did this. The space's own ledger changes, and no
+/// other.
 pub fn with_entry(
     alloc: Global,
     here: Here,

@@ -92,7 +92,8 @@ fn sent_to(
     receiver: SpaceId,
     books: &[Ledger],
 ) -> Result<Vec<Item>, AllocError>
-    ensures { IfOk result (λ items. items.items ≡ words.items_to receiver (books_words.sent_by books.now sender)) }
+    ensures { IfOk result (λ items. items.items
+        ≡ words.items_to receiver (books_words.sent_by books.now sender)) }
 {
     match find_ledger(sender, books) {
         Some(ledger) => items_to(alloc, receiver, ledger.sent_items.as_slice()),
@@ -107,21 +108,24 @@ fn is_in_order(
     sender: SpaceId,
     books: &[Ledger],
 ) -> Result<bool, AllocError>
-    ensures { IfOk result (λ answer. answer ≡ words.is_in_order_by (books_words.sent_by books.now) ledger.now sender) }
+    ensures { IfOk result (λ answer. answer
+        ≡ words.is_in_order_by (books_words.sent_by books.now) ledger.now sender) }
 {
     let acted_on = acted_from(alloc, sender, ledger.acted_items.as_slice())?;
     let items = sent_to(alloc, sender, ledger.here.space, books)?;
     Ok(is_front(1, acted_on.as_slice(), items.as_slice()))
 }
 
-// Whether what the space of a ledger acted on from each of these senders is a front of what was sent to it.
+// Whether what the space of a ledger acted on from each of these senders is a front of what was
+// sent to it.
 fn are_in_order(
     alloc: Global,
     ledger: &Ledger,
     senders: &[SpaceId],
     books: &[Ledger],
 ) -> Result<bool, AllocError>
-    ensures { IfOk result (λ answer. answer ≡ list_all (words.is_in_order_by (books_words.sent_by books.now) ledger.now) senders.now) }
+    ensures { IfOk result (λ answer. answer
+        ≡ list_all (words.is_in_order_by (books_words.sent_by books.now) ledger.now) senders.now) }
 {
     match senders {
         [] => Ok(true),
@@ -136,7 +140,8 @@ fn are_in_order(
 
 // Whether the fronts of the space of a ledger are as they should be.
 fn has_fronts(alloc: Global, ledger: &Ledger, books: &[Ledger]) -> Result<bool, AllocError>
-    ensures { IfOk result (λ answer. answer ≡ words.has_fronts_by (books_words.sent_by books.now) ledger.now) }
+    ensures { IfOk result (λ answer. answer
+        ≡ words.has_fronts_by (books_words.sent_by books.now) ledger.now) }
 {
     let senders = senders_in(alloc, ledger.deeds.as_slice())?;
     if !are_in_order(alloc, ledger, senders.as_slice(), books)? {
@@ -147,7 +152,8 @@ fn has_fronts(alloc: Global, ledger: &Ledger, books: &[Ledger]) -> Result<bool, 
 
 // Whether the fronts of the spaces of these ledgers are as they should be.
 fn have_fronts(alloc: Global, ledgers: &[Ledger], books: &[Ledger]) -> Result<bool, AllocError>
-    ensures { IfOk result (λ answer. answer ≡ list_all (words.has_fronts_by (books_words.sent_by books.now)) ledgers.now) }
+    ensures { IfOk result (λ answer. answer
+        ≡ list_all (words.has_fronts_by (books_words.sent_by books.now)) ledgers.now) }
 {
     match ledgers {
         [] => Ok(true),
@@ -160,8 +166,9 @@ fn have_fronts(alloc: Global, ledgers: &[Ledger], books: &[Ledger]) -> Result<bo
     }
 }
 
-/// Whether all fronts are as they should be, by the ledgers of all spaces. It compares each item that was acted on with the
-/// one that was sent, once; for each two spaces it passes what both sent and acted on.
+/// Whether all fronts are as they should be, by the ledgers of all spaces. It compares each item
+/// that was acted on with the one that was sent, once; for each two spaces it passes what both sent
+/// and acted on.
 pub fn keeps_fronts(alloc: Global, books: &[Ledger]) -> Result<bool, AllocError>
     ensures { IfOk result (λ answer. answer ≡ words.keeps_fronts_by books.now) }
 {

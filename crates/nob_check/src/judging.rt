@@ -108,10 +108,11 @@ fn verdict_on(alloc: Global, judging: &Judging) -> Result<Verdict, AllocError>
     Ok(verdict_by(fronts, judging.withdraws, judging.losses, judging.found))
 }
 
-/// The verdict on a journal of 32 spaces, the first entry first: yes where all four promises are kept, else the first
-/// that isn't. Only memory fails it. It passes the entries once and keeps a ledger of each space; an entry costs what
-/// its space's ledger does: it looks back over that space's own deeds for the references that the entry and the messages
-/// in hand name. A Withdraw looks at all ledgers.
+/// The verdict on a journal of 32 spaces, the first entry first: yes where all four promises are
+/// kept, else the first that isn't. Only memory fails it. It passes the entries once and keeps a
+/// ledger of each space; an entry costs what its space's ledger does: it looks back over that
+/// space's own deeds for the references that the entry and the messages in hand name. A Withdraw
+/// looks at all ledgers.
 pub fn judge(alloc: Global, journal: &[Entry]) -> Result<Verdict, AllocError>
     ensures { IfOk result (λ verdict. IsVerdict most_spaces (reverse journal.now) verdict) }
 {

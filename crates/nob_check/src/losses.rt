@@ -45,7 +45,8 @@ fn is_excuse(space: SpaceId, rep: &WireRep, source: SpaceId, books: &[Ledger]) -
 
 // Whether each of these sources excuses the loss of a reference at a space.
 fn are_excuses(space: SpaceId, rep: &WireRep, all: &[SpaceId], books: &[Ledger]) -> bool
-    ensures { result ≡ list_all (words.is_excuse_by (books_words.did_by books.now) space rep.now) all.now }
+    ensures { result ≡ list_all (words.is_excuse_by (books_words.did_by books.now) space rep.now)
+        all.now }
 {
     match all {
         [] => true,
@@ -65,7 +66,9 @@ fn is_excused(
     rep: &WireRep,
     books: &[Ledger],
 ) -> Result<bool, AllocError>
-    ensures { IfOk result (λ answer. answer ≡ words.is_excused_by (books_words.did_by books.now) here.now.n here.now.space from number deeds.now rep.now) }
+    ensures { IfOk result (λ answer. answer
+        ≡ words.is_excused_by (books_words.did_by books.now) here.now.n here.now.space from number
+        deeds.now rep.now) }
 {
     let item = sessions::item_at(alloc, from, number, deeds)?;
     if !is_loss(alloc, here, from, rep, &item, deeds)? {
@@ -85,7 +88,9 @@ fn are_excused(
     reps: &[WireRep],
     books: &[Ledger],
 ) -> Result<bool, AllocError>
-    ensures { IfOk result (λ answer. answer ≡ list_all (words.is_excused_by (books_words.did_by books.now) here.now.n here.now.space from number deeds.now) reps.now) }
+    ensures { IfOk result (λ answer. answer
+        ≡ list_all (words.is_excused_by (books_words.did_by books.now) here.now.n here.now.space
+        from number deeds.now) reps.now) }
 {
     match reps {
         [] => Ok(true),
@@ -130,22 +135,25 @@ fn is_act_excused(
     deeds: &[Deed],
     books: &[Ledger],
 ) -> Result<bool, AllocError>
-    ensures { IfOk result (λ answer. answer ≡ words.is_act_excused_by (books_words.did_by books.now) here.now.n here.now.space from number deeds.now) }
+    ensures { IfOk result (λ answer. answer
+        ≡ words.is_act_excused_by (books_words.did_by books.now) here.now.n here.now.space from
+        number deeds.now) }
 {
     let item = sessions::item_at(alloc, from, number, deeds)?;
     let reps = reps_at_risk(alloc, from, &item)?;
     are_excused(alloc, here, from, number, deeds, reps.as_slice(), books)
 }
 
-/// Whether each reference that is lost by a deed of a space is excused. It looks at the item that is acted on, and, where
-/// a reference is lost, from where copies of it came.
+/// Whether each reference that is lost by a deed of a space is excused. It looks at the item that
+/// is acted on, and, where a reference is lost, from where copies of it came.
 pub fn is_lossless(
     alloc: Global,
     here: &Here,
     deed: &Option<Deed>,
     books: &[Ledger],
 ) -> Result<bool, AllocError>
-    ensures { IfOk result (λ answer. answer ≡ words.is_lossless_by (books_words.did_by books.now) here.now.n here.now.space deed.now) }
+    ensures { IfOk result (λ answer. answer
+        ≡ words.is_lossless_by (books_words.did_by books.now) here.now.n here.now.space deed.now) }
 {
     match deed {
         Some(Deed::Act(from, number)) => match find_ledger(here.space, books) {

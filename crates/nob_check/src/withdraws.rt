@@ -20,7 +20,8 @@ fn is_open_copy(
     sent_item: &SentItem,
     books: &[Ledger],
 ) -> Result<bool, AllocError>
-    ensures { IfOk result (λ answer. answer ≡ words.is_open_copy_by (books_words.did_by books.now) rep.now ledger.now sent_item.now) }
+    ensures { IfOk result (λ answer. answer
+        ≡ words.is_open_copy_by (books_words.did_by books.now) rep.now ledger.now sent_item.now) }
 {
     if !turns::carries(alloc, *rep, &sent_item.item)? {
         return Ok(false);
@@ -41,7 +42,9 @@ fn is_any_open_copy(
     sent_items: &[SentItem],
     books: &[Ledger],
 ) -> Result<bool, AllocError>
-    ensures { IfOk result (λ answer. answer ≡ list_any (words.is_open_copy_by (books_words.did_by books.now) rep.now ledger.now) sent_items.now) }
+    ensures { IfOk result (λ answer. answer
+        ≡ list_any (words.is_open_copy_by (books_words.did_by books.now) rep.now ledger.now)
+        sent_items.now) }
 {
     match sent_items {
         [] => Ok(false),
@@ -61,7 +64,8 @@ fn can_use(
     ledger: &Ledger,
     books: &[Ledger],
 ) -> Result<bool, AllocError>
-    ensures { IfOk result (λ answer. answer ≡ words.can_use_by (books_words.did_by books.now) rep.now ledger.now) }
+    ensures { IfOk result (λ answer. answer
+        ≡ words.can_use_by (books_words.did_by books.now) rep.now ledger.now) }
 {
     if !is_held(alloc, rep, ledger)? {
         return Ok(false);
@@ -76,7 +80,8 @@ fn needs(
     ledger: &Ledger,
     books: &[Ledger],
 ) -> Result<bool, AllocError>
-    ensures { IfOk result (λ answer. answer ≡ words.needs_by (books_words.did_by books.now) rep.now ledger.now) }
+    ensures { IfOk result (λ answer. answer
+        ≡ words.needs_by (books_words.did_by books.now) rep.now ledger.now) }
 {
     if can_use(alloc, rep, ledger, books)? {
         return Ok(true);
@@ -91,7 +96,9 @@ fn no_space_needs(
     ledgers: &[Ledger],
     books: &[Ledger],
 ) -> Result<bool, AllocError>
-    ensures { IfOk result (λ answer. answer ≡ list_all (λ ledger. not (words.needs_by (books_words.did_by books.now) rep.now ledger)) ledgers.now) }
+    ensures { IfOk result (λ answer. answer
+        ≡ list_all (λ ledger. not (words.needs_by (books_words.did_by books.now) rep.now ledger))
+        ledgers.now) }
 {
     match ledgers {
         [] => Ok(true),
@@ -104,8 +111,8 @@ fn no_space_needs(
     }
 }
 
-/// Whether a deed of a space isn't the withdrawal of an object that a space needs. It looks at all ledgers for a Withdraw,
-/// and at none for any other deed.
+/// Whether a deed of a space isn't the withdrawal of an object that a space needs. It looks at all
+/// ledgers for a Withdraw, and at none for any other deed.
 pub fn is_unneeded(
     alloc: Global,
     owner: SpaceId,

@@ -128,7 +128,11 @@ impl HandCounts {
     /// The counts after a deed. Only memory fails it. It looks up each reference that comes or
     /// goes.
     pub fn after(self, alloc: Global, deed: &Deed) -> Result<HandCounts, AllocError>
-        ensures { IfOk result (λ after. after ≡ record { gains = words.gains_after deed.now self.gains; releases = words.releases_after deed.now self.releases }) }
+        ensures { IfOk result (λ after. after
+            ≡ record {
+              gains = words.gains_after deed.now self.gains;
+              releases = words.releases_after deed.now self.releases;
+            }) }
     {
         let HandCounts { gains, releases } = self;
         let gains = gains_after(alloc, deed, gains)?;

@@ -44,7 +44,8 @@ impl Model for DeedIndex {
     ghost view = { λ index. record { here = index.here; deeds = index.past } };
 
     // The tables are those of the deeds.
-    ghost invariant = { λ index. index.lookups ≡ lookups_of index.here.space index.here.n index.past };
+    ghost invariant = { λ index. index.lookups
+        ≡ lookups_of index.here.space index.here.n index.past };
 }
 
 impl DeedIndex {
@@ -71,7 +72,8 @@ impl DeedIndex {
     /// What the space did with one deed more. Only memory fails it. It looks up what the deed
     /// touches.
     pub fn with_deed(self, alloc: Global, deed: Deed) -> Result<DeedIndex, AllocError>
-        ensures { IfOk result (λ more. more ≡ record { here = self.here; deeds = deed ∷ self.deeds }) }
+        ensures { IfOk result (λ more. more
+            ≡ record { here = self.here; deeds = deed ∷ self.deeds }) }
     {
         let DeedIndex {
             here,
@@ -96,7 +98,8 @@ impl DeedIndex {
 
     /// An item from a peer, where its payload came and spells one. Constant time on average.
     pub fn item_at(&self, peer: SpaceId, number: ItemNo) -> Option<&Item>
-        ensures { option_map (λ item. item.now) result ≡ sessions.item_at peer number self.now.deeds }
+        ensures { option_map (λ item. item.now) result
+            ≡ sessions.item_at peer number self.now.deeds }
     {
         self.lookups.tables.came.item_at(peer, number)
     }
@@ -152,8 +155,11 @@ impl DeedIndex {
     /// up last, each once: a test holds of all of them where it holds of the source of each copy.
     /// Constant time on average.
     pub fn sources(&self, rep: &WireRep) -> &[SpaceId]
-        ensures value { result.now ≡ spaces.each_once (losses.sources self.now.here.space self.now.here.n rep.now self.now.deeds) }
-        ensures all { (test : ℕ → Bool) → list_all test result.now ≡ list_all test (losses.sources self.now.here.space self.now.here.n rep.now self.now.deeds) }
+        ensures value { result.now ≡ spaces.each_once
+            (losses.sources self.now.here.space self.now.here.n rep.now self.now.deeds) }
+        ensures all { (test : ℕ → Bool) → list_all test result.now
+            ≡ list_all test (losses.sources self.now.here.space self.now.here.n rep.now
+            self.now.deeds) }
     {
         self.lookups.more.traffic.sources.sources(rep)
     }

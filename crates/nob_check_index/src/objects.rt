@@ -156,7 +156,11 @@ impl Objects {
 
     /// The objects after a deed. Only memory fails it. Constant time on average.
     pub fn after(self, deed: &Deed) -> Result<Objects, AllocError>
-        ensures { IfOk result (λ after. after ≡ record { exports = words.exports_after deed.now self.exports; withdrawals = words.withdrawals_after deed.now self.withdrawals }) }
+        ensures { IfOk result (λ after. after
+            ≡ record {
+              exports = words.exports_after deed.now self.exports;
+              withdrawals = words.withdrawals_after deed.now self.withdrawals;
+            }) }
     {
         let Objects {
             exports,

@@ -76,7 +76,8 @@ fn with_item(
     item: Option<&Item>,
     settlements: Settlements,
 ) -> Result<Settlements, AllocError>
-    ensures { IfOk result (λ more. more ≡ words.with_item peer (option_map (λ found. found.now) item.entry) settlements) }
+    ensures { IfOk result (λ more. more ≡ words.with_item peer
+        (option_map (λ found. found.now) item.entry) settlements) }
 {
     match item {
         Some(item) => match item {

@@ -103,7 +103,8 @@ fn with_item(
     item: Option<&Item>,
     rows: SourceRows,
 ) -> Result<SourceRows, AllocError>
-    ensures { IfOk result (λ more. more ≡ words.with_item from (option_map (λ found. found.now) item.entry) rows) }
+    ensures { IfOk result (λ more. more ≡ words.with_item from
+        (option_map (λ found. found.now) item.entry) rows) }
 {
     match item {
         Some(item) => {

@@ -38,7 +38,12 @@ impl Traffic {
     /// This after a deed, by the tables before it. Only memory fails it. It looks up the item that
     /// is acted on and each reference in it.
     pub fn after(self, alloc: Global, deed: &Deed, tables: &Tables) -> Result<Traffic, AllocError>
-        ensures { IfOk result (λ after. after ≡ record { settlements = settlements_word deed.now tables.now.came self.settlements; sources = sources_word deed.now tables.now self.sources; senders = senders_word deed.now self.senders }) }
+        ensures { IfOk result (λ after. after
+            ≡ record {
+              settlements = settlements_word deed.now tables.now.came self.settlements;
+              sources = sources_word deed.now tables.now self.sources;
+              senders = senders_word deed.now self.senders;
+            }) }
     {
         let Traffic {
             settlements,

@@ -58,7 +58,12 @@ fn count_to(peer: SpaceId, sent_items: &[SentItem]) -> usize
 
 // What was sent with one gift more.
 fn with_gift(gift: &Gift, mut sent_items: Vec<SentItem>) -> Result<Vec<SentItem>, AllocError>
-    ensures { IfOk result (λ more. more.items ≡ sent_items.items ++ record { to = gift.now.to; number = count_word gift.now.to sent_items.items + 1; item = gift.now.item } ∷ []) }
+    ensures { IfOk result (λ more. more.items
+        ≡ sent_items.items ++ record {
+          to = gift.now.to;
+          number = count_word gift.now.to sent_items.items + 1;
+          item = gift.now.item;
+        } ∷ []) }
 {
     let to = gift.to;
     let number = ItemNo::new(count_to(to, sent_items.as_slice()) as u64 + 1);
@@ -131,7 +136,8 @@ fn work_after(
     deeds: &[Deed],
     work: InHand,
 ) -> Result<InHand, AllocError>
-    ensures { IfOk result (λ after. after ≡ words.work_with here.now.space here.now.n deeds.now work) }
+    ensures { IfOk result (λ after. after
+        ≡ words.work_with here.now.space here.now.n deeds.now work) }
 {
     match deeds {
         [] => Ok(work),
@@ -139,8 +145,8 @@ fn work_after(
     }
 }
 
-/// The ledger after a deed. Only memory fails it. It looks back over the space's deeds for what the deed and the messages
-/// in hand touch.
+/// The ledger after a deed. Only memory fails it. It looks back over the space's deeds for what the
+/// deed and the messages in hand touch.
 pub fn with_deed(alloc: Global, deed: Deed, ledger: Ledger) -> Result<Ledger, AllocError>
     ensures step { IfOk result (λ after. after ≡ words.ledger_after deed ledger) }
 {

@@ -1,6 +1,6 @@
-//! The ledger of a space: what one pass over a journal keeps of it. It has what the space did and has in hand, what it
-//! sent and what it acted on, and whether it did so on open sessions; and it goes from one deed to the next. It is kept
-//! for every list of deeds, run or not.
+//! The ledger of a space: what one pass over a journal keeps of it. It has what the space did and
+//! has in hand, what it sent and what it acted on, and whether it did so on open sessions; and it
+//! goes from one deed to the next. It is kept for every list of deeds, run or not.
 #![tactic(auto)]
 
 mod held;

@@ -28,7 +28,9 @@ fn is_given_up(
     cleaned: &WireRep,
     deeds: &[Deed],
 ) -> Result<bool, AllocError>
-    ensures { IfOk result (λ answer. answer ≡ (is_same rep.now cleaned.now && (turns_word here.now.space here.now.n rep.now deeds.now).asks)) }
+    ensures { IfOk result (λ answer. answer
+        ≡ (is_same rep.now cleaned.now &&
+        (turns_word here.now.space here.now.n rep.now deeds.now).asks)) }
 {
     if *rep != *cleaned {
         return Ok(false);
@@ -36,14 +38,16 @@ fn is_given_up(
     Ok(turns::turns_of(alloc, here, rep, deeds)?.asks)
 }
 
-// The spaces from which came the copies of a reference that a space acted on since it last sent a Clean for it.
+// The spaces from which came the copies of a reference that a space acted on since it last sent a
+// Clean for it.
 fn sources(
     alloc: Global,
     here: &Here,
     rep: &WireRep,
     deeds: &[Deed],
 ) -> Result<Vec<SpaceId>, AllocError>
-    ensures { IfOk result (λ spaces. spaces.items ≡ words.sources here.now.space here.now.n rep.now deeds.now) }
+    ensures { IfOk result (λ spaces. spaces.items
+        ≡ words.sources here.now.space here.now.n rep.now deeds.now) }
 {
     match deeds {
         [] => Ok(Vec::new(alloc)),
@@ -65,8 +69,9 @@ fn sources(
     }
 }
 
-/// The spaces from which copies of a reference came, where the item of this number is acted on after these deeds. Linear
-/// in the deeds, and at each Act and Clean among them it looks back once more.
+/// The spaces from which copies of a reference came, where the item of this number is acted on
+/// after these deeds. Linear in the deeds, and at each Act and Clean among them it looks back once
+/// more.
 pub fn sources_with(
     alloc: Global,
     here: &Here,
@@ -75,7 +80,8 @@ pub fn sources_with(
     rep: &WireRep,
     deeds: &[Deed],
 ) -> Result<Vec<SpaceId>, AllocError>
-    ensures { IfOk result (λ spaces. spaces.items ≡ words.sources here.now.space here.now.n rep.now (Deed.Act from number ∷ deeds.now)) }
+    ensures { IfOk result (λ spaces. spaces.items
+        ≡ words.sources here.now.space here.now.n rep.now (Deed.Act from number ∷ deeds.now)) }
 {
     let mut spaces = sources(alloc, here, rep, deeds)?;
     let item = sessions::item_at(alloc, from, number, deeds)?;
@@ -94,7 +100,8 @@ pub fn is_loss(
     item: &Option<Item>,
     deeds: &[Deed],
 ) -> Result<bool, AllocError>
-    ensures { IfOk result (λ answer. answer ≡ words.is_loss here.now.space here.now.n from rep.now item.now deeds.now) }
+    ensures { IfOk result (λ answer. answer
+        ≡ words.is_loss here.now.space here.now.n from rep.now item.now deeds.now) }
 {
     match item {
         Some(item) => match item {

@@ -21,8 +21,8 @@ pub struct Arrival {
     pub number: u64,
 }
 
-/// The items that came, by sender and number: none where a payload spells none. Contracts see the list, in the order in
-/// which they came.
+/// The items that came, by sender and number: none where a payload spells none. Contracts see the
+/// list, in the order in which they came.
 #[derive(Drop)]
 pub struct Came {
     map: IndexMap<Arrival, Option<Item>>,
@@ -67,7 +67,8 @@ impl Came {
         }
     }
 
-    /// What came once a frame accepted so many items. Only memory fails it. It reads the payload of the frame.
+    /// What came once a frame accepted so many items. Only memory fails it. It reads the payload of
+    /// the frame.
     pub fn with_frame(self, alloc: Global, frame: &Frame, count: u64) -> Result<Came, AllocError>
         ensures { IfOk result (λ more. more ≡ words.with_frame frame.now count self) }
     {

@@ -1,5 +1,6 @@
-//! The tables of a space: what the judge of a journal looks up of a space's deeds in place of reading them again. Which
-//! sessions have closed, which items came, and what was asked of the owner of each reference and answered.
+//! The tables of a space: what the judge of a journal looks up of a space's deeds in place of
+//! reading them again. Which sessions have closed, which items came, and what was asked of the
+//! owner of each reference and answered.
 #![tactic(auto)]
 
 mod came;

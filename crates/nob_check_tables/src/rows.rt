@@ -14,7 +14,8 @@ use nob_model_words::{Here, OwnerAnswer, Turns};
 use std::alloc::{AllocError, Global};
 use std::marker::Model;
 
-/// The turns of each reference that has any. Contracts see the rows, in the order in which they came.
+/// The turns of each reference that has any. Contracts see the rows, in the order in which they
+/// came.
 #[derive(Drop)]
 pub struct TurnRows {
     map: IndexMap<WireRep, Turns>,
@@ -106,7 +107,8 @@ fn asked(
     closed: &Closed,
     rows: TurnRows,
 ) -> Result<TurnRows, AllocError>
-    ensures { IfOk result (λ after. after ≡ words.asked here.now.space here.now.n closed.now rep.now rows) }
+    ensures { IfOk result (λ after. after
+        ≡ words.asked here.now.space here.now.n closed.now rep.now rows) }
 {
     let turns = rows.turns(rep);
     if !wants_dirty(here, rep, closed, turns) {
@@ -129,7 +131,8 @@ fn all_asked(
     closed: &Closed,
     rows: TurnRows,
 ) -> Result<TurnRows, AllocError>
-    ensures { IfOk result (λ after. after ≡ words.all_asked here.now.space here.now.n closed.now reps.now rows) }
+    ensures { IfOk result (λ after. after
+        ≡ words.all_asked here.now.space here.now.n closed.now reps.now rows) }
 {
     match reps {
         [] => Ok(rows),
@@ -167,7 +170,8 @@ pub fn cleaned(rep: &WireRep, rows: TurnRows) -> Result<TurnRows, AllocError>
     )
 }
 
-/// The rows once an item from a peer was acted on. Only memory fails it. It looks up each reference of the item.
+/// The rows once an item from a peer was acted on. Only memory fails it. It looks up each reference
+/// of the item.
 pub fn with_item(
     alloc: Global,
     here: &Here,
@@ -176,7 +180,8 @@ pub fn with_item(
     closed: &Closed,
     rows: TurnRows,
 ) -> Result<TurnRows, AllocError>
-    ensures { IfOk result (λ after. after ≡ words.with_item here.now.space here.now.n peer (Some item.now) closed.now rows) }
+    ensures { IfOk result (λ after. after
+        ≡ words.with_item here.now.space here.now.n peer (Some item.now) closed.now rows) }
 {
     match item {
         Item::Call { .. } | Item::Reply { .. } => {

@@ -47,7 +47,9 @@ fn with_act(
     closed: &Closed,
     rows: TurnRows,
 ) -> Result<TurnRows, AllocError>
-    ensures { IfOk result (λ after. after ≡ with_item_word here.now.space here.now.n from (item_in from number came.now) closed.now rows) }
+    ensures { IfOk result (λ after. after
+        ≡ with_item_word here.now.space here.now.n from
+        (item_in from number came.now) closed.now rows) }
 {
     match came.item_at(from, number) {
         Some(item) => with_item(alloc, here, from, item, closed, rows),
@@ -55,8 +57,8 @@ fn with_act(
     }
 }
 
-/// The tables after a deed. Only memory fails it. It looks up the item that is acted on and each reference in it, and the
-/// peer whose session closes.
+/// The tables after a deed. Only memory fails it. It looks up the item that is acted on and each
+/// reference in it, and the peer whose session closes.
 pub fn with_deed(alloc: Global, deed: &Deed, tables: Tables) -> Result<Tables, AllocError>
     ensures { IfOk result (λ after. after ≡ words.tables_after deed.now tables) }
 {

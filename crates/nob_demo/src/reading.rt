@@ -15,11 +15,13 @@ const MOST_BYTES: usize = 1 << 26;
 /// So many bytes a read asks for.
 const PIECE: usize = 4096;
 
-/// The whole input, by at most 2^20 reads and at most 2^26 bytes: a read that fails, or more than that, is a read
-/// fault.
+/// The whole input, by at most 2^20 reads and at most 2^26 bytes: a read that fails, or more than
+/// that, is a read fault.
 pub fn read_all<R: Read>(alloc: Global, source: &mut Source<R>) -> Result<Vec<u8>, Fault>
-    requires { (source.old.reads ≡ 0) × (source.old.bytes ≡ 0) × (source.old.failed ≡ false) × (source.old.ended ≡ false) }
-    ensures whole { IfOk result (λ input. IfSome (R.remaining source.old.reader) (λ bytes. input.items ≡ bytes)) }
+    requires { (source.old.reads ≡ 0) × (source.old.bytes ≡ 0) × (source.old.failed ≡ false)
+        × (source.old.ended ≡ false) }
+    ensures whole { IfOk result (λ input.
+        IfSome (R.remaining source.old.reader) (λ bytes. input.items ≡ bytes)) }
     ensures count { IfOk result (λ input. length input.items ≡ source.new.bytes) }
     ensures right { OnOk result (IsWhole (record {
       input = R.remaining source.old.reader;
@@ -53,21 +55,27 @@ fn read_some<R: Read>(source: &mut Source<R>, input: &mut Vec<u8>) -> Result<boo
     requires going { (source.old.failed ≡ false) × (source.old.ended ≡ false) }
     requires count { length input.old.items ≡ source.old.bytes }
     requires few { source.old.bytes ≤ most_bytes }
-    ensures more { IfOk result (λ more. more ≡ true → (all : Option (List ℕ)) → Consumes all (R.remaining source.old.reader) input.old.items → Consumes all (R.remaining source.new.reader) input.new.items) }
-    ensures end { IfOk result (λ more. more ≡ false → (all : Option (List ℕ)) → Consumes all (R.remaining source.old.reader) input.old.items → IfSome all (λ bytes. input.new.items ≡ bytes)) }
+    ensures more { IfOk result (λ more. more ≡ true → (all : Option (List ℕ))
+        → Consumes all (R.remaining source.old.reader) input.old.items
+        → Consumes all (R.remaining source.new.reader) input.new.items) }
+    ensures end { IfOk result (λ more. more ≡ false → (all : Option (List ℕ))
+        → Consumes all (R.remaining source.old.reader) input.old.items
+        → IfSome all (λ bytes. input.new.items ≡ bytes)) }
     ensures ended { IfOk result (λ more. source.new.ended ≡ not more) }
     ensures right { OnOk result (source.new.failed ≡ false) }
     ensures count { OnOk result (length input.new.items ≡ source.new.bytes) }
     ensures few { OnOk result (source.new.bytes ≤ most_bytes) }
     ensures reads { source.new.reads ≡ source.old.reads + 1 }
-    ensures fault { IfErr result (λ fault. (all : Option (List ℕ)) → Consumes all (R.remaining source.old.reader) input.old.items → IsReadingFault fault (record {
-      input = all;
-      rest = R.remaining source.new.reader;
-      reads = source.new.reads;
-      bytes = source.new.bytes;
-      failed = source.new.failed;
-      ended = source.new.ended;
-    })) }
+    ensures fault { IfErr result (λ fault. (all : Option (List ℕ))
+        → Consumes all (R.remaining source.old.reader) input.old.items
+        → IsReadingFault fault (record {
+          input = all;
+          rest = R.remaining source.new.reader;
+          reads = source.new.reads;
+          bytes = source.new.bytes;
+          failed = source.new.failed;
+          ended = source.new.ended;
+        })) }
 {
     let mut piece = [0u8; PIECE];
     let Ok(count) = source.read(piece.as_mut_slice()) else {

@@ -16,9 +16,10 @@ use std::alloc::Global;
 use std::convert::AsStr;
 use std::io::{Read, Write};
 
-/// Runs the program on the words of its command line, the first of which is its name: the exit status. All is
-/// written to `out` but clap's text and the line `read fault`, which go to `err`. Status 0: the last line says yes;
-/// 1: it doesn't, or a read, a write or memory failed; 2: the words are refused.
+/// Runs the program on the words of its command line, the first of which is its name: the exit
+/// status. All is written to `out` but clap's text and the line `read fault`, which go to `err`.
+/// Status 0: the last line says yes; 1: it doesn't, or a read, a write or memory failed; 2: the
+/// words are refused.
 pub fn run<S: AsStr, R: Read, W: Write, E: Write>(
     alloc: Global,
     words: &[S],
@@ -26,7 +27,8 @@ pub fn run<S: AsStr, R: Read, W: Write, E: Write>(
     out: &mut Sink<W>,
     err: &mut Sink<E>,
 ) -> u8
-    requires reader { (reader.old.reads ≡ 0) × (reader.old.bytes ≡ 0) × (reader.old.failed ≡ false) × (reader.old.ended ≡ false) }
+    requires reader { (reader.old.reads ≡ 0) × (reader.old.bytes ≡ 0) × (reader.old.failed ≡ false)
+        × (reader.old.ended ≡ false) }
     requires out { out.old.failed ≡ false }
     requires err { err.old.failed ≡ false }
     ensures goes { Goes (record {
@@ -67,7 +69,8 @@ fn attempt<S: AsStr, R: Read, W: Write>(
     reader: &mut Source<R>,
     out: &mut Sink<W>,
 ) -> Result<u8, Fault>
-    requires reader { (reader.old.reads ≡ 0) × (reader.old.bytes ≡ 0) × (reader.old.failed ≡ false) × (reader.old.ended ≡ false) }
+    requires reader { (reader.old.reads ≡ 0) × (reader.old.bytes ≡ 0) × (reader.old.failed ≡ false)
+        × (reader.old.ended ≡ false) }
     requires out { out.old.failed ≡ false }
     ensures ended { Ended result (record {
       taken = takes_words (word_faults (map S.text words.now));
@@ -98,8 +101,8 @@ fn attempt<S: AsStr, R: Read, W: Write>(
     Ok(status)
 }
 
-// Writes what a script gives onto an empty text, save its last line where that says that memory ran out: that line, and
-// the status that the run ends with.
+// Writes what a script gives onto an empty text, save its last line where that says that memory ran
+// out: that line, and the status that the run ends with.
 fn play(alloc: Global, kind: Script, script: &[u8], text: &mut Vec<u8>) -> (&'static [u8], u8)
     requires { text.old.items ≡ [] }
     ensures { Gives kind script.now (text.new.items ++ result.0.now) result.1 }
@@ -139,10 +142,13 @@ fn status_of(outcome: Outcome) -> u8
     }
 }
 
-/// Writes what is left to be said, and gives the status that the run ends with: this one, or 1 where the write fails.
+/// Writes what is left to be said, and gives the status that the run ends with: this one, or 1
+/// where the write fails.
 pub fn said<W: Write>(sink: &mut Sink<W>, text: &[u8], status: u8) -> u8
     requires { sink.old.failed ≡ false }
-    ensures written { sink.new.failed ≡ false → Appends (W.contents sink.old.writer) (W.contents sink.new.writer) text.now × (result ≡ status) }
+    ensures written { sink.new.failed ≡ false
+        → Appends (W.contents sink.old.writer) (W.contents sink.new.writer) text.now
+        × (result ≡ status) }
     ensures failed { sink.new.failed ≡ true → result ≡ 1 }
 {
     match sink.write_all(text) {

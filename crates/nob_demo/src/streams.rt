@@ -18,7 +18,8 @@ pub struct ReadFailed;
 #[derive(Clone, Copy, Debug, PartialEq, Eq)]
 pub struct WriteFailed;
 
-/// A reader, how often it was read, how many bytes that gave, whether a read failed, and whether one told the end.
+/// A reader, how often it was read, how many bytes that gave, whether a read failed, and whether
+/// one told the end.
 #[derive(Drop)]
 pub struct Source<R> {
     reader: R,
@@ -32,7 +33,8 @@ impl<R: Read> Source<R> {
     /// This reader, from which nothing was read.
     pub fn new(reader: R) -> Source<R>
         ensures reader { result.reader ≡ reader }
-        ensures new { (result.reads ≡ 0) × (result.bytes ≡ 0) × (result.failed ≡ false) × (result.ended ≡ false) }
+        ensures new { (result.reads ≡ 0) × (result.bytes ≡ 0) × (result.failed ≡ false)
+            × (result.ended ≡ false) }
     {
         Source {
             reader,
@@ -51,21 +53,25 @@ impl<R: Read> Source<R> {
         self.reads < MOST_READS
     }
 
-    /// Reads some bytes into a piece with room for 4,096; none only at the end. A reader that failed, told its end or
-    /// gave more than 2^26 bytes is read no more.
+    /// Reads some bytes into a piece with room for 4,096; none only at the end. A reader that
+    /// failed, told its end or gave more than 2^26 bytes is read no more.
     pub fn read(&mut self, piece: &mut [u8]) -> Result<usize, ReadFailed>
         requires reads { self.old.reads < most_reads }
         requires going { (self.old.failed ≡ false) × (self.old.ended ≡ false) }
         requires few { self.old.bytes ≤ most_bytes }
         requires room { least_room ≤ length piece.old }
         ensures bound { ReadsAtMost result piece.new }
-        ensures bytes { IfOk result (λ n. Consumes (R.remaining self.old.reader) (R.remaining self.new.reader) (take n piece.new)) }
-        ensures end { IfOk result (λ n. n ≡ 0 → IsAtEnd (R.remaining self.new.reader) × (self.new.ended ≡ true)) }
+        ensures bytes { IfOk result (λ n.
+            Consumes (R.remaining self.old.reader) (R.remaining self.new.reader)
+            (take n piece.new)) }
+        ensures end { IfOk result (λ n. n ≡ 0 → IsAtEnd (R.remaining self.new.reader)
+            × (self.new.ended ≡ true)) }
         ensures more { IfOk result (λ n. 0 < n → self.new.ended ≡ false) }
         ensures reads { self.new.reads ≡ self.old.reads + 1 }
         ensures count { IfOk result (λ n. self.new.bytes ≡ self.old.bytes + n) }
         ensures ok { OnOk result (self.new.failed ≡ false) }
-        ensures err { OnErr result ((self.new.failed ≡ true) × (self.new.ended ≡ false) × (self.new.bytes ≡ self.old.bytes)) }
+        ensures err { OnErr result ((self.new.failed ≡ true) × (self.new.ended ≡ false)
+            × (self.new.bytes ≡ self.old.bytes)) }
     {
         self.reads += 1;
         match self.reader.read(piece) {
@@ -101,12 +107,14 @@ impl<W: Write> Sink<W> {
         }
     }
 
-    /// Writes all these bytes, by no call where there are none. To a writer that failed nothing more is written.
+    /// Writes all these bytes, by no call where there are none. To a writer that failed nothing
+    /// more is written.
     #[tactic(auto, using(crate::proofs::Known::appends_none))]
     pub fn write_all(&mut self, bytes: &[u8]) -> Result<(), WriteFailed>
         requires { self.old.failed ≡ false }
         ensures ok { OnOk result (self.new.failed ≡ false) }
-        ensures bytes { OnOk result (Appends (W.contents self.old.writer) (W.contents self.new.writer) bytes.now) }
+        ensures bytes { OnOk result (Appends (W.contents self.old.writer)
+            (W.contents self.new.writer) bytes.now) }
         ensures err { OnErr result (self.new.failed ≡ true) }
         ensures none { bytes.now ≡ [] → IsOk result }
     {

@@ -25,7 +25,8 @@ fn pair(alloc: Global, script: &[u8]) -> (u8, Vec<u8>, Vec<u8>) {
 const FIRST_FRAME_LOST: &[u8] =
     b"pair window 2 retry 4\n1 put aa\n1 put bb\n1 put cc\n1 send\ndeliver 2\n1 send\ndeliver 3\ndeliver 4\n2 send\ndeliver 5\n1 send\ndeliver 6\n2 get\n2 get\n2 get\n2 get\n";
 
-// A reader that gives three bytes a read. The read after so many others fails, and those after it go on.
+// A reader that gives three bytes a read. The read after so many others fails, and those after it
+// go on.
 #[derive(Drop)]
 struct Frail<'a> {
     rest: &'a [u8],
@@ -93,7 +94,8 @@ fn a_write_fails(rt: HostRuntime) -> Result<(), Fail> {
     Ok(())
 }
 
-// A writer that takes three bytes a write. The write after so many others fails, and those after it go on.
+// A writer that takes three bytes a write. The write after so many others fails, and those after it
+// go on.
 #[derive(Drop)]
 struct FrailOut<'a> {
     taken: &'a mut Vec<u8>,

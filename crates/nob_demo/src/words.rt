@@ -90,12 +90,13 @@ pub enum Script {
     World,
 }
 
-/// Judges the words, of which the first is the program's name: `script` runs a script of a world, `pair`, or no further
-/// word, one of a pair. Anything else is refused with clap's text.
+/// Judges the words, of which the first is the program's name: `script` runs a script of a world,
+/// `pair`, or no further word, one of a pair. Anything else is refused with clap's text.
 pub fn judge<S: AsStr>(alloc: Global, words: &[S]) -> Result<Script, Fault>
     ensures taken { OnOk result (takes_words (word_faults (map S.text words.now)) ≡ true) }
     ensures script { IfOk result (λ script. script ≡ script_of (map S.text words.now)) }
-    ensures fault { IfErr result (λ fault. IsWordsFault fault (takes_words (word_faults (map S.text words.now)))) }
+    ensures fault { IfErr result (λ fault.
+        IsWordsFault fault (takes_words (word_faults (map S.text words.now)))) }
 {
     match matched(alloc, words) {
         Ok(script) => Ok(script),

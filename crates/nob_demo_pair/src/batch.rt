@@ -3,7 +3,8 @@
 use nob_ids::SpaceId;
 use nob_model_end::Frames;
 
-/// Data frames that carry items, one after the other: where the items stand, and what the frames say beside them.
+/// Data frames that carry items, one after the other: where the items stand, and what the frames
+/// say beside them.
 #[derive(Clone, Copy, Debug)]
 pub struct ItemRun {
     /// The space that transmitted them.

@@ -33,11 +33,14 @@ pub fn put(
     item: Bytes,
 ) -> Result<Answer, AllocError>
     requires { IsItem item }
-    ensures answer { (me peer before : ℕ) (limits : LimitsOf) (L : List EndEntry) → Stands me peer limits session.old.end L →
-        IfOk result (λ a. (answer_text a ≡ call_answer limits me peer (Call.Put item) before L) × Stands me peer limits session.new.end (calls_of limits me peer (Call.Put item) L ++ L)) }
+    ensures answer { (me peer before : ℕ) (limits : LimitsOf) (L : List EndEntry)
+        → Stands me peer limits session.old.end L →
+        IfOk result (λ a. (answer_text a ≡ call_answer limits me peer (Call.Put item) before L)
+        × Stands me peer limits session.new.end (calls_of limits me peer (Call.Put item) L ++ L)) }
     ensures err { OnErr result (session.new.end ≡ session.old.end) }
     ensures frames { frames.new.frames ≡ frames.old.frames }
-    ensures memory { (me peer : ℕ) (limits : LimitsOf) (L : List EndEntry) → Stands me peer limits session.old.end L →
+    ensures memory { (me peer : ℕ) (limits : LimitsOf) (L : List EndEntry)
+        → Stands me peer limits session.old.end L →
         OnErr result (IsTrue (call_takes_memory (Call.Put item) L)) }
 {
     match session.next(Kind::Limited) {
@@ -55,8 +58,10 @@ fn hand(
 ) -> Result<Answer, AllocError>
     requires item { IsItem item }
     requires taken { IsOk (next_of Limited session.old.end) }
-    ensures answer { (me peer before : ℕ) (limits : LimitsOf) (L : List EndEntry) → Stands me peer limits session.old.end L →
-        IfOk result (λ a. (answer_text a ≡ call_answer limits me peer (Call.Put item) before L) × Stands me peer limits session.new.end (calls_of limits me peer (Call.Put item) L ++ L)) }
+    ensures answer { (me peer before : ℕ) (limits : LimitsOf) (L : List EndEntry)
+        → Stands me peer limits session.old.end L →
+        IfOk result (λ a. (answer_text a ≡ call_answer limits me peer (Call.Put item) before L)
+        × Stands me peer limits session.new.end (calls_of limits me peer (Call.Put item) L ++ L)) }
     ensures err { OnErr result (session.new.end ≡ session.old.end) }
     ensures frames { frames.new.frames ≡ frames.old.frames }
 {
@@ -73,10 +78,13 @@ fn hand(
 
 // Takes the first item that waits.
 pub fn get(alloc: Global, session: &mut Session) -> Result<Answer, AllocError>
-    ensures answer { (me peer before : ℕ) (limits : LimitsOf) (L : List EndEntry) → Stands me peer limits session.old.end L →
-        IfOk result (λ a. (answer_text a ≡ call_answer limits me peer Call.Get before L) × Stands me peer limits session.new.end (calls_of limits me peer Call.Get L ++ L)) }
+    ensures answer { (me peer before : ℕ) (limits : LimitsOf) (L : List EndEntry)
+        → Stands me peer limits session.old.end L →
+        IfOk result (λ a. (answer_text a ≡ call_answer limits me peer Call.Get before L)
+        × Stands me peer limits session.new.end (calls_of limits me peer Call.Get L ++ L)) }
     ensures err { OnErr result (session.new.end ≡ session.old.end) }
-    ensures memory { (me peer : ℕ) (limits : LimitsOf) (L : List EndEntry) → Stands me peer limits session.old.end L →
+    ensures memory { (me peer : ℕ) (limits : LimitsOf) (L : List EndEntry)
+        → Stands me peer limits session.old.end L →
         OnErr result (IsTrue (call_takes_memory Call.Get L)) }
 {
     if !session.is_open() {
@@ -91,8 +99,10 @@ pub fn get(alloc: Global, session: &mut Session) -> Result<Answer, AllocError>
 
 // Counts a tick.
 pub fn tick(session: &mut Session) -> Answer
-    ensures answer { (me peer before : ℕ) (limits : LimitsOf) (L : List EndEntry) → Stands me peer limits session.old.end L →
-        (answer_text result ≡ call_answer limits me peer Call.Tick before L) × Stands me peer limits session.new.end (calls_of limits me peer Call.Tick L ++ L) }
+    ensures answer { (me peer before : ℕ) (limits : LimitsOf) (L : List EndEntry)
+        → Stands me peer limits session.old.end L →
+        (answer_text result ≡ call_answer limits me peer Call.Tick before L)
+        × Stands me peer limits session.new.end (calls_of limits me peer Call.Tick L ++ L) }
 {
     match session.tick() {
         Ok(None) => Answer::Done,
@@ -103,8 +113,10 @@ pub fn tick(session: &mut Session) -> Answer
 
 // Closes the end.
 pub fn close(session: &mut Session) -> Answer
-    ensures answer { (me peer before : ℕ) (limits : LimitsOf) (L : List EndEntry) → Stands me peer limits session.old.end L →
-        (answer_text result ≡ call_answer limits me peer Call.Close before L) × Stands me peer limits session.new.end (calls_of limits me peer Call.Close L ++ L) }
+    ensures answer { (me peer before : ℕ) (limits : LimitsOf) (L : List EndEntry)
+        → Stands me peer limits session.old.end L →
+        (answer_text result ≡ call_answer limits me peer Call.Close before L)
+        × Stands me peer limits session.new.end (calls_of limits me peer Call.Close L ++ L) }
 {
     match session.close(Reason::Asked) {
         Ok(closed) => Answer::Closed(closed.reason()),
@@ -129,8 +141,10 @@ fn front_of(alloc: Global, session: &Session) -> Result<Option<Answer>, AllocErr
 // Gives to the end the frame that these bytes spell: it sees the bytes alone.
 pub fn arrive(alloc: Global, session: &mut Session, bytes: &[u8]) -> Result<Answer, AllocError>
     requires { IsSpelling bytes.now }
-    ensures answer { (frame : FrameOf) (me peer : ℕ) (limits : LimitsOf) (L : List EndEntry) → Spelt bytes.now frame → Stands me peer limits session.old.end L →
-        IfOk result (λ a. (answer_text a ≡ arrive_text (right_arrive me peer frame L)) × Stands me peer limits session.new.end (Arrive frame (right_arrive me peer frame L) ∷ L)) }
+    ensures answer { (frame : FrameOf) (me peer : ℕ) (limits : LimitsOf) (L : List EndEntry)
+        → Spelt bytes.now frame → Stands me peer limits session.old.end L →
+        IfOk result (λ a. (answer_text a ≡ arrive_text (right_arrive me peer frame L))
+        × Stands me peer limits session.new.end (Arrive frame (right_arrive me peer frame L) ∷ L)) }
     ensures err { OnErr result (session.new.end ≡ session.old.end) }
 {
     let frame = wire::from_bytes(alloc, bytes)?;
@@ -139,8 +153,11 @@ pub fn arrive(alloc: Global, session: &mut Session, bytes: &[u8]) -> Result<Answ
 
 // Gives a frame to the end.
 fn hear(session: &mut Session, frame: &Frame) -> Result<Answer, AllocError>
-    ensures answer { (me peer : ℕ) (limits : LimitsOf) (L : List EndEntry) → Stands me peer limits session.old.end L →
-        IfOk result (λ a. (answer_text a ≡ arrive_text (right_arrive me peer frame.now L)) × Stands me peer limits session.new.end (Arrive frame.now (right_arrive me peer frame.now L) ∷ L)) }
+    ensures answer { (me peer : ℕ) (limits : LimitsOf) (L : List EndEntry)
+        → Stands me peer limits session.old.end L →
+        IfOk result (λ a. (answer_text a ≡ arrive_text (right_arrive me peer frame.now L))
+        × Stands me peer limits session.new.end
+        (Arrive frame.now (right_arrive me peer frame.now L) ∷ L)) }
     ensures err { OnErr result (session.new.end ≡ session.old.end) }
 {
     match session.arrive(frame) {
@@ -151,15 +168,22 @@ fn hear(session: &mut Session, frame: &Frame) -> Result<Answer, AllocError>
     }
 }
 
-// Transmits onto the log of all frames. A transmit gives 64 frames at most, for which there is room first.
+// Transmits onto the log of all frames. A transmit gives 64 frames at most, for which there is room
+// first.
 pub fn send(session: &mut Session, frames: &mut FrameLog) -> Result<Answer, AllocError>
-    ensures answer { (me peer : ℕ) (limits : LimitsOf) (L : List EndEntry) → Stands me peer limits session.old.end L →
-        IfOk result (λ a. (answer_text a ≡ call_answer limits me peer Call.Send (length frames.old.frames) L) × Stands me peer limits session.new.end (calls_of limits me peer Call.Send L ++ L)) }
-    ensures given { (me peer : ℕ) (limits : LimitsOf) (L : List EndEntry) → Stands me peer limits session.old.end L →
-        OnOk result (frames.new.frames ≡ frames.old.frames ++ right_transmit me peer limits.window L) }
+    ensures answer { (me peer : ℕ) (limits : LimitsOf) (L : List EndEntry)
+        → Stands me peer limits session.old.end L →
+        IfOk result (λ a. (answer_text a
+        ≡ call_answer limits me peer Call.Send (length frames.old.frames) L)
+        × Stands me peer limits session.new.end (calls_of limits me peer Call.Send L ++ L)) }
+    ensures given { (me peer : ℕ) (limits : LimitsOf) (L : List EndEntry)
+        → Stands me peer limits session.old.end L →
+        OnOk result (frames.new.frames ≡ frames.old.frames ++ right_transmit me peer limits.window
+        L) }
     ensures session { OnErr result (session.new.end ≡ session.old.end) }
     ensures frames { OnErr result (frames.new.frames ≡ frames.old.frames) }
-    ensures spelt { IsPair session.old.end.me session.old.end.peer → AllByRecursion Fits frames.old.frames → AllByRecursion Fits frames.new.frames }
+    ensures spelt { IsPair session.old.end.me session.old.end.peer
+        → AllByRecursion Fits frames.old.frames → AllByRecursion Fits frames.new.frames }
 {
     frames.reserve(64)?;
     let given = match session.transmit() {

@@ -14,8 +14,8 @@ use nob_model_end::Frames;
 use std::alloc::{AllocError, Global};
 use std::marker::Model;
 
-/// All frames that were ever transmitted, in order, with a row for each transmit. Contracts see the frames, and how
-/// many more can be added at once without memory.
+/// All frames that were ever transmitted, in order, with a row for each transmit. Contracts see the
+/// frames, and how many more can be added at once without memory.
 #[derive(Debug, Drop)]
 pub struct FrameLog {
     // the items of space 1 and those of space 2, the first first
@@ -32,9 +32,14 @@ impl Model for FrameLog {
 
     ghost Value = { Log };
 
-    ghost view = { λ log. record { frames = all_frames log.first.items log.second.items log.rows.items; room = room_of (vec_capacity log.rows - vec_len log.rows) log.count } };
+    ghost view = { λ log. record {
+      frames = all_frames log.first.items log.second.items
+          log.rows.items;
+      room = room_of (vec_capacity log.rows - vec_len log.rows) log.count;
+    } };
 
-    ghost invariant = { λ log. AreCounted log.first.items log.second.items 0 log.rows.items × (log.count ≡ length (all_frames log.first.items log.second.items log.rows.items)) };
+    ghost invariant = { λ log. AreCounted log.first.items log.second.items 0 log.rows.items
+        × (log.count ≡ length (all_frames log.first.items log.second.items log.rows.items)) };
 }
 
 impl FrameLog {
@@ -74,7 +79,8 @@ impl FrameLog {
         }
     }
 
-    /// Makes room for so many frames at once. Only memory fails it, or that frames have no more numbers.
+    /// Makes room for so many frames at once. Only memory fails it, or that frames have no more
+    /// numbers.
     pub fn reserve(&mut self, count: u64) -> Result<(), AllocError>
         ensures frames { self.new.frames ≡ self.old.frames }
         ensures room { OnOk result (count ≤ self.new.room) }
@@ -121,10 +127,15 @@ impl FrameLog {
     }
 }
 
-// The row in which the frame of this number stands, if there is such a frame: the last one before which fewer stand.
+// The row in which the frame of this number stands, if there is such a frame: the last one before
+// which fewer stand.
 fn row_of(rows: &[Row], number: u64) -> Option<&Row>
-    ensures { (first second : List (List ℕ)) (n : ℕ) → AreCounted first second n rows.now → n < number →
-        MatchOption result (rows.now ≡ []) (λ row. (row.now.before < number) × IsThere first second row.now.batch × (slice_get (all_frames first second rows.now) (number - n - 1) ≡ slice_get (frames_in first second row.now.batch) (number - row.now.before - 1))) }
+    ensures { (first second : List (List ℕ)) (n : ℕ) → AreCounted first second n rows.now
+        → n < number →
+        MatchOption result (rows.now ≡ [])
+        (λ row. (row.now.before < number) × IsThere first second row.now.batch
+        × (slice_get (all_frames first second rows.now) (number - n - 1)
+        ≡ slice_get (frames_in first second row.now.batch) (number - row.now.before - 1))) }
 {
     if rows.len() <= 1 {
         return rows.first();
@@ -144,8 +155,10 @@ fn frame_in(
     place: u64,
 ) -> Result<Option<Frame>, AllocError>
     requires { IsThere first.now second.now batch.now }
-    ensures frame { IfOk result (λ frame. frame ≡ slice_get (frames_in first.now second.now batch.now) place) }
-    ensures memory { OnErr result (IsSome (slice_get (frames_in first.now second.now batch.now) place)) }
+    ensures frame { IfOk result (λ frame. frame
+        ≡ slice_get (frames_in first.now second.now batch.now) place) }
+    ensures memory { OnErr result (IsSome
+        (slice_get (frames_in first.now second.now batch.now) place)) }
 {
     match batch {
         Batch::Run(run) => {
@@ -163,8 +176,12 @@ fn frame_in(
 fn frame_of_run(items: &[Bytes], run: ItemRun, place: u64) -> Result<Option<Frame>, AllocError>
     requires first { 1 ≤ run.first }
     requires there { run.first - 1 + run.count ≤ length items.now }
-    ensures frame { IfOk result (λ frame. frame ≡ slice_get (data_frames run.from run.to run.ack run.first (take run.count (drop (run.first - 1) items.now))) place) }
-    ensures memory { OnErr result (IsSome (slice_get (data_frames run.from run.to run.ack run.first (take run.count (drop (run.first - 1) items.now))) place)) }
+    ensures frame { IfOk result (λ frame. frame
+        ≡ slice_get (data_frames run.from run.to run.ack run.first
+        (take run.count (drop (run.first - 1) items.now))) place) }
+    ensures memory { OnErr result (IsSome
+        (slice_get (data_frames run.from run.to run.ack run.first
+        (take run.count (drop (run.first - 1) items.now))) place)) }
 {
     if place >= run.count {
         return Ok(None);
@@ -193,7 +210,8 @@ fn batch_of(first: &[Bytes], second: &[Bytes], frames: Vec<Frame>) -> Batch
 
 // The run of items that these frames carry, if they are one.
 fn run_of(first: &[Bytes], second: &[Bytes], frames: &[Frame]) -> Option<ItemRun>
-    ensures { IfSome result (λ run. IsThere first.now second.now (Batch.Run run) × (frames.now ≡ frames_in first.now second.now (Batch.Run run))) }
+    ensures { IfSome result (λ run. IsThere first.now second.now (Batch.Run run)
+        × (frames.now ≡ frames_in first.now second.now (Batch.Run run))) }
 {
     let head = frames.first()?;
     let items = if head.from.get() == 1 { first } else { second };
@@ -213,9 +231,12 @@ fn run_of(first: &[Bytes], second: &[Bytes], frames: &[Frame]) -> Option<ItemRun
     })
 }
 
-// Whether the frames carry the first of these items, from this number on, and are like the first frame beside that.
+// Whether the frames carry the first of these items, from this number on, and are like the first
+// frame beside that.
 fn carry(head: &Frame, number: u64, frames: &[Frame], items: &[Bytes]) -> bool
-    ensures { result ≡ true → (length frames.now ≤ length items.now) × (frames.now ≡ data_frames head.now.from head.now.to head.now.ack number (take (length frames.now) items.now)) }
+    ensures { result ≡ true → (length frames.now ≤ length items.now)
+        × (frames.now ≡ data_frames head.now.from head.now.to head.now.ack number
+        (take (length frames.now) items.now)) }
 {
     match frames {
         [] => true,
@@ -232,7 +253,14 @@ fn carry(head: &Frame, number: u64, frames: &[Frame], items: &[Bytes]) -> bool
 
 // Whether the frame carries the item of this number, and is like another beside that.
 fn carries(head: &Frame, number: u64, frame: &Frame, item: &Bytes) -> bool
-    ensures { result ≡ true → frame.now ≡ record { kind = kinds.Data; from = head.now.from; to = head.now.to; seq = number; ack = head.now.ack; payload = item.now } }
+    ensures { result ≡ true → frame.now ≡ record {
+      kind = kinds.Data;
+      from = head.now.from;
+      to = head.now.to;
+      seq = number;
+      ack = head.now.ack;
+      payload = item.now;
+    } }
 {
     frame.kind.is_data()
         && frame.from == head.from

@@ -37,7 +37,8 @@ impl Model for Pair {
 
     ghost view = { λ pair. ends_of pair.first.end pair.second.end pair.frames.frames };
 
-    ghost invariant = { λ pair. IsPairOfEnds (ends_of pair.first.end pair.second.end pair.frames.frames) };
+    ghost invariant = { λ pair. IsPairOfEnds
+        (ends_of pair.first.end pair.second.end pair.frames.frames) };
 }
 
 impl Pair {
@@ -60,9 +61,11 @@ impl Pair {
     pub fn make(&mut self, step: Step) -> Result<Answer, AllocError>
         requires { IsStep step }
         ensures answer { (limits : LimitsOf) (J : List PairEntry) → PairStands limits self.old J →
-            IfOk result (λ a. (answer_text a ≡ step_answer limits step J) × PairStands limits self.new (entries_of limits step J ++ J)) }
+            IfOk result (λ a. (answer_text a ≡ step_answer limits step J)
+            × PairStands limits self.new (entries_of limits step J ++ J)) }
         ensures err { OnErr result (self.new ≡ self.old) }
-        ensures memory { (limits : LimitsOf) (J : List PairEntry) → PairStands limits self.old J → OnErr result (IsTrue (takes_memory step J)) }
+        ensures memory { (limits : LimitsOf) (J : List PairEntry) → PairStands limits self.old J
+            → OnErr result (IsTrue (takes_memory step J)) }
     {
         match step {
             Step::At(side, call) => call_on(
@@ -95,10 +98,15 @@ fn call_on(
 ) -> Result<Answer, AllocError>
     requires call { IsCall call }
     requires ends { IsPairOfEnds (ends_of first.old.end second.old.end frames.old.frames) }
-    ensures answer { (limits : LimitsOf) (J : List PairEntry) → PairStands limits (ends_of first.old.end second.old.end frames.old.frames) J →
-        IfOk result (λ a. (answer_text a ≡ step_answer limits (Step.At side call) J) × PairStands limits (ends_of first.new.end second.new.end frames.new.frames) (entries_of limits (Step.At side call) J ++ J)) }
-    ensures err { OnErr result (ends_of first.new.end second.new.end frames.new.frames ≡ ends_of first.old.end second.old.end frames.old.frames) }
-    ensures memory { (limits : LimitsOf) (J : List PairEntry) → PairStands limits (ends_of first.old.end second.old.end frames.old.frames) J →
+    ensures answer { (limits : LimitsOf) (J : List PairEntry)
+        → PairStands limits (ends_of first.old.end second.old.end frames.old.frames) J →
+        IfOk result (λ a. (answer_text a ≡ step_answer limits (Step.At side call) J)
+        × PairStands limits (ends_of first.new.end second.new.end frames.new.frames)
+        (entries_of limits (Step.At side call) J ++ J)) }
+    ensures err { OnErr result (ends_of first.new.end second.new.end frames.new.frames
+        ≡ ends_of first.old.end second.old.end frames.old.frames) }
+    ensures memory { (limits : LimitsOf) (J : List PairEntry)
+        → PairStands limits (ends_of first.old.end second.old.end frames.old.frames) J →
         OnErr result (IsTrue (takes_memory (Step.At side call) J)) }
     ensures ends { IsPairOfEnds (ends_of first.new.end second.new.end frames.new.frames) }
 {
@@ -117,13 +125,18 @@ fn deliver(
     number: u64,
 ) -> Result<Answer, AllocError>
     requires frames { AllByRecursion Fits frames.now.frames }
-    ensures answer { (limits : LimitsOf) (J : List PairEntry) → PairStands limits (ends_of first.old.end second.old.end frames.now.frames) J →
-        IfOk result (λ a. (answer_text a ≡ delivery_answer (frame_numbered number (all_given J)) J) × PairStands limits (ends_of first.new.end second.new.end frames.now.frames) (arrival_of (frame_numbered number (all_given J)) J ++ J)) }
+    ensures answer { (limits : LimitsOf) (J : List PairEntry)
+        → PairStands limits (ends_of first.old.end second.old.end frames.now.frames) J →
+        IfOk result (λ a. (answer_text a ≡ delivery_answer (frame_numbered number (all_given J)) J)
+        × PairStands limits (ends_of first.new.end second.new.end frames.now.frames)
+        (arrival_of (frame_numbered number (all_given J)) J ++ J)) }
     ensures memory { OnErr result (IsSome (frame_numbered number frames.now.frames)) }
     ensures first { OnErr result (first.new.end ≡ first.old.end) }
     ensures second { OnErr result (second.new.end ≡ second.old.end) }
-    ensures first_end { (me peer : ℕ) → IsEndOf me peer first.old.end → IsEndOf me peer first.new.end }
-    ensures second_end { (me peer : ℕ) → IsEndOf me peer second.old.end → IsEndOf me peer second.new.end }
+    ensures first_end { (me peer : ℕ) → IsEndOf me peer first.old.end
+        → IsEndOf me peer first.new.end }
+    ensures second_end { (me peer : ℕ) → IsEndOf me peer second.old.end
+        → IsEndOf me peer second.new.end }
 {
     let Some(frame) = frames.frame(number)? else {
         return Ok(Answer::NoFrame);
@@ -144,16 +157,23 @@ fn call_at(
     call: Call,
 ) -> Result<Answer, AllocError>
     requires { IsCall call }
-    ensures answer { (me peer : ℕ) (limits : LimitsOf) (L : List EndEntry) → Stands me peer limits session.old.end L →
-        IfOk result (λ a. (answer_text a ≡ call_answer limits me peer call (length frames.old.frames) L) × Stands me peer limits session.new.end (calls_of limits me peer call L ++ L)) }
-    ensures given { (me peer : ℕ) (limits : LimitsOf) (L : List EndEntry) → Stands me peer limits session.old.end L →
+    ensures answer { (me peer : ℕ) (limits : LimitsOf) (L : List EndEntry)
+        → Stands me peer limits session.old.end L →
+        IfOk result (λ a. (answer_text a
+        ≡ call_answer limits me peer call (length frames.old.frames) L)
+        × Stands me peer limits session.new.end (calls_of limits me peer call L ++ L)) }
+    ensures given { (me peer : ℕ) (limits : LimitsOf) (L : List EndEntry)
+        → Stands me peer limits session.old.end L →
         OnOk result (frames.new.frames ≡ frames_after limits me peer call L frames.old.frames) }
     ensures session { OnErr result (session.new.end ≡ session.old.end) }
     ensures frames { OnErr result (frames.new.frames ≡ frames.old.frames) }
-    ensures memory { (me peer : ℕ) (limits : LimitsOf) (L : List EndEntry) → Stands me peer limits session.old.end L →
+    ensures memory { (me peer : ℕ) (limits : LimitsOf) (L : List EndEntry)
+        → Stands me peer limits session.old.end L →
         OnErr result (IsTrue (call_takes_memory call L)) }
-    ensures end { (me peer : ℕ) → IsEndOf me peer session.old.end → IsEndOf me peer session.new.end }
-    ensures spelt { IsPair session.old.end.me session.old.end.peer → AllByRecursion Fits frames.old.frames → AllByRecursion Fits frames.new.frames }
+    ensures end { (me peer : ℕ) → IsEndOf me peer session.old.end
+        → IsEndOf me peer session.new.end }
+    ensures spelt { IsPair session.old.end.me session.old.end.peer
+        → AllByRecursion Fits frames.old.frames → AllByRecursion Fits frames.new.frames }
 {
     match call {
         Call::Put(item) => ends::put(session, frames, side, item),

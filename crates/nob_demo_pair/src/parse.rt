@@ -16,8 +16,10 @@ use std::alloc::{AllocError, Global};
 
 /// The step that a line spells: `None` where it spells none. Only memory fails it.
 pub fn step_of(alloc: Global, line: &[u8]) -> Result<Option<Step>, AllocError>
-    ensures found { IfOk result (λ r. IfSome r (λ step. IsStep step × (line.now ≡ step_text step))) }
-    ensures only { IfOk result (λ r. (step : StepOf) → IsStep step → line.now ≡ step_text step → r ≡ Some step) }
+    ensures found { IfOk result (λ r. IfSome r
+        (λ step. IsStep step × (line.now ≡ step_text step))) }
+    ensures only { IfOk result (λ r. (step : StepOf) → IsStep step → line.now ≡ step_text step
+        → r ≡ Some step) }
 {
     match line {
         [b'1', b' ', call @ ..] => at(alloc, Side::First, call),
@@ -29,8 +31,10 @@ pub fn step_of(alloc: Global, line: &[u8]) -> Result<Option<Step>, AllocError>
 
 // The step at an end whose call is spelled so.
 fn at(alloc: Global, side: Side, text: &[u8]) -> Result<Option<Step>, AllocError>
-    ensures found { IfOk result (λ r. IfSome r (λ step. IsStep step × (side_text side ++ text.now ≡ step_text step))) }
-    ensures only { IfOk result (λ r. (call : CallOf) → IsCall call → text.now ≡ call_text call → r ≡ Some (Step.At side call)) }
+    ensures found { IfOk result (λ r. IfSome r
+        (λ step. IsStep step × (side_text side ++ text.now ≡ step_text step))) }
+    ensures only { IfOk result (λ r. (call : CallOf) → IsCall call → text.now ≡ call_text call
+        → r ≡ Some (Step.At side call)) }
 {
     let Some(call) = call_of(alloc, text)? else {
         return Ok(None);
@@ -40,8 +44,10 @@ fn at(alloc: Global, side: Side, text: &[u8]) -> Result<Option<Step>, AllocError
 
 // The delivery of the frame whose number is spelled so.
 fn delivery_of(alloc: Global, text: &[u8]) -> Result<Option<Step>, AllocError>
-    ensures found { IfOk result (λ r. IfSome r (λ step. IsStep step × (codes "deliver " ++ text.now ≡ step_text step))) }
-    ensures only { IfOk result (λ r. (k : ℕ) → k < 2 ^ 64 → text.now ≡ decimal k → r ≡ Some (Step.Deliver k)) }
+    ensures found { IfOk result (λ r. IfSome r
+        (λ step. IsStep step × (codes "deliver " ++ text.now ≡ step_text step))) }
+    ensures only { IfOk result (λ r. (k : ℕ) → k < 2 ^ 64 → text.now ≡ decimal k
+        → r ≡ Some (Step.Deliver k)) }
 {
     let Some(number) = number_of(alloc, text)? else {
         return Ok(None);
@@ -51,8 +57,10 @@ fn delivery_of(alloc: Global, text: &[u8]) -> Result<Option<Step>, AllocError>
 
 // The call that a text spells.
 fn call_of(alloc: Global, text: &[u8]) -> Result<Option<Call>, AllocError>
-    ensures found { IfOk result (λ r. IfSome r (λ call. IsCall call × (text.now ≡ call_text call))) }
-    ensures only { IfOk result (λ r. (call : CallOf) → IsCall call → text.now ≡ call_text call → r ≡ Some call) }
+    ensures found { IfOk result (λ r. IfSome r
+        (λ call. IsCall call × (text.now ≡ call_text call))) }
+    ensures only { IfOk result (λ r. (call : CallOf) → IsCall call → text.now ≡ call_text call
+        → r ≡ Some call) }
 {
     match text {
         b"send" => Ok(Some(Call::Send)),
@@ -66,8 +74,10 @@ fn call_of(alloc: Global, text: &[u8]) -> Result<Option<Call>, AllocError>
 
 // The `put` of an item that is spelled so.
 fn put_of(alloc: Global, text: &[u8]) -> Result<Option<Call>, AllocError>
-    ensures found { IfOk result (λ r. IfSome r (λ call. IsCall call × (codes "put " ++ text.now ≡ call_text call))) }
-    ensures only { IfOk result (λ r. (item : List ℕ) → IsItem item → IsBytes item → text.now ≡ encode_lower item → r ≡ Some (Call.Put item)) }
+    ensures found { IfOk result (λ r. IfSome r
+        (λ call. IsCall call × (codes "put " ++ text.now ≡ call_text call))) }
+    ensures only { IfOk result (λ r. (item : List ℕ) → IsItem item → IsBytes item
+        → text.now ≡ encode_lower item → r ≡ Some (Call.Put item)) }
 {
     let Some(bytes) = bytes_of(alloc, text)? else {
         return Ok(None);
@@ -80,8 +90,11 @@ fn put_of(alloc: Global, text: &[u8]) -> Result<Option<Call>, AllocError>
 
 /// The limits that a script's first line spells: `None` where it spells none. Only memory fails it.
 pub fn header_of(alloc: Global, line: &[u8]) -> Result<Option<Limits>, AllocError>
-    ensures found { IfOk result (λ r. IfSome r (λ limits. IsLimits limits.window limits.retry × (line.now ≡ header_text limits.window limits.retry))) }
-    ensures only { IfOk result (λ r. (window retry : ℕ) → IsLimits window retry → line.now ≡ header_text window retry → IsSome r) }
+    ensures found { IfOk result (λ r. IfSome r
+        (λ limits. IsLimits limits.window limits.retry
+        × (line.now ≡ header_text limits.window limits.retry))) }
+    ensures only { IfOk result (λ r. (window retry : ℕ) → IsLimits window retry
+        → line.now ≡ header_text window retry → IsSome r) }
 {
     match line {
         [
@@ -105,8 +118,11 @@ pub fn header_of(alloc: Global, line: &[u8]) -> Result<Option<Limits>, AllocErro
 
 // The limits that the rest of a first line spells.
 fn limits_of(alloc: Global, text: &[u8]) -> Result<Option<Limits>, AllocError>
-    ensures found { IfOk result (λ r. IfSome r (λ limits. IsLimits limits.window limits.retry × (text.now ≡ limits_text limits.window limits.retry))) }
-    ensures only { IfOk result (λ r. (window retry : ℕ) → IsLimits window retry → text.now ≡ limits_text window retry → IsSome r) }
+    ensures found { IfOk result (λ r. IfSome r
+        (λ limits. IsLimits limits.window limits.retry
+        × (text.now ≡ limits_text limits.window limits.retry))) }
+    ensures only { IfOk result (λ r. (window retry : ℕ) → IsLimits window retry
+        → text.now ≡ limits_text window retry → IsSome r) }
 {
     let (window, rest) = text.split_at(word_len(text));
     let Some(retry) = after_retry(rest) else {
@@ -124,7 +140,8 @@ fn limits_of(alloc: Global, text: &[u8]) -> Result<Option<Limits>, AllocError>
 // What follows ` retry ` where a text begins so.
 fn after_retry(text: &[u8]) -> Option<&[u8]>
     ensures found { IfSome result (λ rest. text.now ≡ codes " retry " ++ rest.now) }
-    ensures only { (rest : List ℕ) → text.now ≡ codes " retry " ++ rest → IsSomeAnd result (λ r. r.now ≡ rest) }
+    ensures only { (rest : List ℕ) → text.now ≡ codes " retry " ++ rest
+        → IsSomeAnd result (λ r. r.now ≡ rest) }
 {
     match text {
         [b' ', b'r', b'e', b't', b'r', b'y', b' ', rest @ ..] => Some(rest),

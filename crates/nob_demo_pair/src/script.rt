@@ -39,8 +39,9 @@ impl Outcome {
     }
 }
 
-/// Writes what a pair script gives onto an empty text: its first line, each line with its answer, and then that the
-/// fronts hold, or the first line that is no step. The outcome's last line is still to follow.
+/// Writes what a pair script gives onto an empty text: its first line, each line with its answer,
+/// and then that the fronts hold, or the first line that is no step. The outcome's last line is
+/// still to follow.
 pub fn play(alloc: Global, script: &[u8], text: &mut Vec<u8>) -> Outcome
     requires { text.old.items ≡ [] }
     ensures plays { Plays script.now (text.new.items ++ last_line result) result }
@@ -54,8 +55,10 @@ pub fn play(alloc: Global, script: &[u8], text: &mut Vec<u8>) -> Outcome
 // The same, but that memory may run out beside the steps.
 fn play_script(alloc: Global, script: &[u8], text: &mut Vec<u8>) -> Result<Outcome, AllocError>
     requires { text.old.items ≡ [] }
-    ensures ok { IfOk result (λ outcome. Plays script.now (text.new.items ++ last_line outcome) outcome) }
-    ensures err { OnErr result (Plays script.now (text.new.items ++ last_line Outcome.OutOfMemory) Outcome.OutOfMemory) }
+    ensures ok { IfOk result (λ outcome.
+        Plays script.now (text.new.items ++ last_line outcome) outcome) }
+    ensures err { OnErr result (Plays script.now
+        (text.new.items ++ last_line Outcome.OutOfMemory) Outcome.OutOfMemory) }
 {
     let Some((header, steps)) = first_line(script) else {
         return bad_step(alloc, text, 1);
@@ -70,8 +73,12 @@ fn play_from(
     steps: &[u8],
     text: &mut Vec<u8>,
 ) -> Result<Outcome, AllocError>
-    ensures ok { IfOk result (λ outcome. Grows text.old.items (text.new.items ++ last_line outcome) (λ written. FromHeader header.now (lines_of steps.now) written outcome)) }
-    ensures err { OnErr result (Grows text.old.items (text.new.items ++ last_line Outcome.OutOfMemory) (λ written. FromHeader header.now (lines_of steps.now) written Outcome.OutOfMemory)) }
+    ensures ok { IfOk result (λ outcome.
+        Grows text.old.items (text.new.items ++ last_line outcome)
+        (λ written. FromHeader header.now (lines_of steps.now) written outcome)) }
+    ensures err { OnErr result (Grows text.old.items
+        (text.new.items ++ last_line Outcome.OutOfMemory)
+        (λ written. FromHeader header.now (lines_of steps.now) written Outcome.OutOfMemory)) }
 {
     let Some(limits) = header_of(alloc, header)? else {
         return bad_step(alloc, text, 1);
@@ -89,9 +96,11 @@ fn play_steps(
     text: &mut Vec<u8>,
 ) -> Result<Outcome, AllocError>
     ensures ok { (limits : LimitsOf) (J : List PairEntry) → PairStands limits pair.old J →
-        IfOk result (λ outcome. Grows text.old.items (text.new.items ++ last_line outcome) (λ written. FromLines limits 2 (lines_of steps.now) J written outcome)) }
+        IfOk result (λ outcome. Grows text.old.items (text.new.items ++ last_line outcome)
+        (λ written. FromLines limits 2 (lines_of steps.now) J written outcome)) }
     ensures err { (limits : LimitsOf) (J : List PairEntry) → PairStands limits pair.old J →
-        OnErr result (Grows text.old.items (text.new.items ++ last_line Outcome.OutOfMemory) (λ written. FromLines limits 2 (lines_of steps.now) J written Outcome.OutOfMemory)) }
+        OnErr result (Grows text.old.items (text.new.items ++ last_line Outcome.OutOfMemory)
+        (λ written. FromLines limits 2 (lines_of steps.now) J written Outcome.OutOfMemory)) }
 {
     let mut left = steps;
     let mut number: u64 = 2;
@@ -116,8 +125,10 @@ fn play_line(
     text: &mut Vec<u8>,
 ) -> Result<bool, AllocError>
     ensures made { (limits : LimitsOf) (J : List PairEntry) → PairStands limits pair.old J →
-        IfOk result (λ is_step. IsTrue is_step → MakesStep limits line.now J pair.new text.old.items text.new.items) }
-    ensures none { IfOk result (λ is_step. is_step ≡ false → IsNoStep line.now × (text.new.items ≡ text.old.items)) }
+        IfOk result (λ is_step. IsTrue is_step
+        → MakesStep limits line.now J pair.new text.old.items text.new.items) }
+    ensures none { IfOk result (λ is_step. is_step ≡ false → IsNoStep line.now
+        × (text.new.items ≡ text.old.items)) }
     ensures err { OnErr result (text.new.items ≡ text.old.items) }
 {
     let Some(step) = step_of(alloc, line)? else {
@@ -151,7 +162,8 @@ fn make_step(
 
 // Writes that a line is no step.
 fn bad_step(alloc: Global, text: &mut Vec<u8>, line: u64) -> Result<Outcome, AllocError>
-    ensures ok { IfOk result (λ outcome. (outcome ≡ Outcome.BadStep) × (text.new.items ≡ text.old.items ++ bad_step_text line)) }
+    ensures ok { IfOk result (λ outcome. (outcome ≡ Outcome.BadStep)
+        × (text.new.items ≡ text.old.items ++ bad_step_text line)) }
     ensures err { OnErr result (text.new.items ≡ text.old.items) }
 {
     push_bad_step(alloc, text, line)?;

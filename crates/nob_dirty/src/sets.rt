@@ -25,8 +25,8 @@ impl Listing {
     }
 }
 
-/// The dirty sets of a space: a set of pairs of an index and a client, each kept once. Contracts see which client is
-/// listed at which index, and no order.
+/// The dirty sets of a space: a set of pairs of an index and a client, each kept once. Contracts
+/// see which client is listed at which index, and no order.
 #[derive(Debug, Drop)]
 pub struct DirtySets {
     listings: Vec<Listing>,
@@ -70,8 +70,8 @@ impl DirtySets {
         !has_clients(&self.listings, index)
     }
 
-    /// The clients that are listed at the index, rising, each once. Only memory fails it, and nobody takes none. Linear in
-    /// the pairs, and a sort of the clients found.
+    /// The clients that are listed at the index, rising, each once. Only memory fails it, and
+    /// nobody takes none. Linear in the pairs, and a sort of the clients found.
     pub fn clients(&self, index: u64) -> Result<Vec<SpaceId>, AllocError>
         ensures clients { IfOk result (λ found. AreClients self.now index found.items) }
         ensures rising { IfOk result (λ found. IsStrictlyIncreasing found.items) }
@@ -86,8 +86,9 @@ impl DirtySets {
         Ok(found)
     }
 
-    /// Lists the client at the index. A client that is listed there already stays so, and no memory is needed
-    /// then. Only memory fails it, and the sets are then as they were. Linear in the pairs.
+    /// Lists the client at the index. A client that is listed there already stays so, and no memory
+    /// is needed then. Only memory fails it, and the sets are then as they were. Linear in the
+    /// pairs.
     pub fn dirty(&mut self, index: u64, client: SpaceId) -> Result<(), AllocError>
         ensures enters { OnOk result (Enters self.old self.new index client) }
         ensures listed { lists self.old index client ≡ true → IsOk result }
@@ -125,7 +126,8 @@ fn has_clients(listings: &[Listing], index: u64) -> bool
 
 // The clients at the index, in no order.
 fn clients_at(alloc: Global, listings: &[Listing], index: u64) -> Result<Vec<SpaceId>, AllocError>
-    ensures { IfOk result (λ found. found.items ≡ map (λ listing. listing.client) (filter (has_index index) listings.now)) }
+    ensures { IfOk result (λ found. found.items
+        ≡ map (λ listing. listing.client) (filter (has_index index) listings.now)) }
 {
     listings
         .iter()

@@ -1,5 +1,5 @@
-//! What a comparison of two kinds or refusals says. The comparisons are derived, so no clause stands at them:
-//! here each has one, which holds of `==` wherever it is called.
+//! What a comparison of two kinds or refusals says. The comparisons are derived, so no clause
+//! stands at them: here each has one, which holds of `==` wherever it is called.
 
 ghost use Rattle.std.specs.Prelude.{◌≡◌, ◌↔◌, true};
 

@@ -14,8 +14,8 @@ use bytes::BytesMut;
 use std::alloc::Global;
 use std::marker::Model;
 
-/// Reads a stream of frames that comes in pieces, however it was cut. Contracts see what it keeps: the bytes
-/// of a frame that isn't whole yet, or the fault that it has met.
+/// Reads a stream of frames that comes in pieces, however it was cut. Contracts see what it keeps:
+/// the bytes of a frame that isn't whole yet, or the fault that it has met.
 #[derive(Drop)]
 pub struct Feed {
     /// The bytes of the frame that isn't whole yet.
@@ -48,17 +48,17 @@ impl Feed {
         }
     }
 
-    /// Takes the next piece of the stream, and gives the frames that are whole now. A fault, one of F2 to F10,
-    /// is answered from then on, to any piece, and no frame is given with it. Want of memory changes nothing, and
-    /// an empty piece wants none.
+    /// Takes the next piece of the stream, and gives the frames that are whole now. A fault, one of
+    /// F2 to F10, is answered from then on, to any piece, and no frame is given with it. Want of
+    /// memory changes nothing, and an empty piece wants none.
     ///
-    /// All pushes together cost time in proportion to the bytes of the stream, however it is cut: a byte is
-    /// copied at most twice by pushes, and some more times where the buffer grows, and a header is judged at
-    /// most twice. A Feed keeps fewer than 16,412 bytes between two pushes, none once it has met a fault, and the
-    /// piece as well during one.
+    /// All pushes together cost time in proportion to the bytes of the stream, however it is cut: a
+    /// byte is copied at most twice by pushes, and some more times where the buffer grows, and a
+    /// header is judged at most twice. A Feed keeps fewer than 16,412 bytes between two pushes,
+    /// none once it has met a fault, and the piece as well during one.
     pub fn push(&mut self, piece: &[u8]) -> Result<Vec<Frame>, FrameError>
-        // It gives the frames that are whole now and keeps the rest, or meets the rest's fault, or goes on
-        // answering the fault that it has met, or is as it was for want of memory.
+        // It gives the frames that are whole now and keeps the rest, or meets the rest's fault, or
+        // goes on answering the fault that it has met, or is as it was for want of memory.
         ensures answer { Answers (λ given. given.items) self.old piece.now result self.new }
         // What it gives are the only frames that the bytes kept before and the piece can be.
         ensures only { (kept : List ℕ) (frames : List Frame) (rest : List ℕ) → self.old ≡ Ok kept
@@ -99,8 +99,8 @@ impl Feed {
     }
 }
 
-/// The frames at the front of the bytes, one after the other, and how many bytes they have: or the fault of
-/// what stands there in place of a frame.
+/// The frames at the front of the bytes, one after the other, and how many bytes they have: or the
+/// fault of what stands there in place of a frame.
 fn scan(alloc: Global, bytes: &[u8]) -> Result<(Vec<Frame>, usize), FrameError>
     ensures within { IfOk result (λ found. found.1 ≤ length bytes.now) }
     ensures found { Scanned (λ found. (found.0.items, drop found.1 bytes.now)) result bytes.now }

@@ -24,7 +24,7 @@ const VERSION: u8 = 1;
 const NO_FLAGS: u8 = 0;
 
 /// The greatest number of an item.
-const MOST_ITEMS: u64 = 1 << 40;
+const LAST_ITEM: u64 = 1 << 40;
 
 /// The greatest length of an item in bytes.
 const LONGEST_ITEM: usize = 16_384;
@@ -69,7 +69,7 @@ impl Header {
         if !seq_fits(self.kind, self.seq) {
             return Err(FrameFault::Seq);
         }
-        if self.ack < 1 || self.ack > MOST_ITEMS + 1 {
+        if self.ack < 1 || self.ack > LAST_ITEM + 1 {
             return Err(FrameFault::Ack);
         }
         if !length_fits(self.kind, self.length) {
@@ -84,7 +84,7 @@ fn seq_fits(kind: FrameKind, seq: u64) -> bool
     ensures { result ≡ is_seq kind seq }
 {
     match kind {
-        FrameKind::Data => seq >= 1 && seq <= MOST_ITEMS,
+        FrameKind::Data => seq >= 1 && seq <= LAST_ITEM,
         FrameKind::Ack | FrameKind::Close => seq == 0,
     }
 }

@@ -7,7 +7,8 @@ pub fn no_front()
     ensures { NoFront }
 {}
 
-/// Bytes are frames, one after the other, and a rest that begins with no whole frame in one way alone.
+/// Bytes are frames, one after the other, and a rest that begins with no whole frame in one way
+/// alone.
 pub fn one_split()
     ensures { OneSplit }
 {}
@@ -22,7 +23,9 @@ pub fn fault_stands()
     ensures { FaultStands }
 {}
 
-/// How a stream is cut into pieces doesn't matter to what a `Feed` gives in all, keeps, or answers as a fault.
+/// How a stream is cut into pieces doesn't matter to what a `Feed` keeps or answers as a fault,
+/// nor, where it meets no fault, to the frames that it gives in all: those in front of a fault come
+/// only from pushes before it.
 pub fn any_cut()
     ensures { AnyCut }
 {}

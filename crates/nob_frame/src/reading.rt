@@ -26,7 +26,8 @@ pub(crate) fn payload_fits(kind: FrameKind, payload: &[u8]) -> bool
     }
 }
 
-/// Judges the payload of so many bytes at the front of the bytes after a header: the first of F1 and F10.
+/// Judges the payload of so many bytes at the front of the bytes after a header: the first of F1
+/// and F10.
 #[tactic(auto, unfolding(crate::specs::Reading::payload_at))]
 fn judge_payload(kind: FrameKind, len: usize, rest: &[u8]) -> Result<(), FrameFault>
     ensures exact { Sees (λ _. (take len rest.now, drop len rest.now)) result
@@ -83,8 +84,8 @@ fn frame_from(alloc: Global, bytes: &[u8]) -> Result<Frame, FrameError>
     Ok(frame_of(alloc, header, payload)?)
 }
 
-/// The frame that all of the bytes are, or the first of F1 to F11 that they are refused for. It costs time
-/// and memory in proportion to the bytes. Want of memory comes last.
+/// The frame that all of the bytes are, or the first of F1 to F11 that they are refused for. It
+/// costs time and memory in proportion to the bytes. Want of memory comes last.
 pub fn decode(alloc: Global, bytes: &[u8]) -> Result<Frame, FrameError>
     // What is read is spelled so.
     ensures found { IfOk result (λ frame. Spelt bytes.now frame) }

@@ -25,8 +25,8 @@ fn spelling_of(alloc: Global, frame: &Frame) -> Result<Vec<u8>, FrameError>
     Ok(bytes)
 }
 
-/// The spelling of a frame, or the first of F6 to F10 that it is refused for. It costs time and memory in
-/// proportion to the payload. Want of memory comes last.
+/// The spelling of a frame, or the first of F6 to F10 that it is refused for. It costs time and
+/// memory in proportion to the payload. Want of memory comes last.
 pub fn encode(alloc: Global, frame: &Frame) -> Result<Vec<u8>, FrameError>
     // What is written is the frame's spelling.
     ensures found { IfOk result (λ bytes. Spelt bytes.items frame.now) }

@@ -1,5 +1,5 @@
-//! What a comparison of two names says. The comparisons are derived, so no clause stands at them: here each has
-//! one, which holds of `==` and of `cmp` wherever they are called.
+//! What a comparison of two names says. The comparisons are derived, so no clause stands at them:
+//! here each has one, which holds of `==` and of `cmp` wherever they are called.
 
 ghost use Rattle.std.specs.Prelude.{◌≡◌, ◌↔◌, true};
 ghost use Rattle.std.specs.Ordering.{nat_cmp, ordering_then};
@@ -67,9 +67,11 @@ pub fn order_of_spaces(space: SpaceId, other: SpaceId) -> Ordering
     space.cmp(&other)
 }
 
-/// References stand in the order of their owners, and those of one owner in the order of their indexes.
+/// References stand in the order of their owners, and those of one owner in the order of their
+/// indexes.
 pub fn order_of_references(rep: WireRep, other: WireRep) -> Ordering
-    ensures { result ≡ ordering_then (nat_cmp rep.owner other.owner) (nat_cmp rep.index other.index) }
+    ensures { result ≡ ordering_then (nat_cmp rep.owner other.owner)
+        (nat_cmp rep.index other.index) }
 {
     rep.cmp(&other)
 }

@@ -1,5 +1,7 @@
-//! The names that every crate of the runtime shares: spaces, references, the numbers of items, calls and jobs,
-//! the reasons of a close, and the limits of a session. Each is in its range by construction.
+//! The names that every crate of the runtime shares: spaces, references, the numbers of items,
+//! calls and jobs, the reasons of a close, and the limits of a session. A space, a reason and
+//! limits are in their ranges by construction; the numbers of items, calls and jobs are any of 64
+//! bits.
 #![tactic(auto)]
 
 pub mod comparing;

@@ -16,7 +16,8 @@ pub struct Limits {
 impl Limits {
     /// These limits: `None` where one is outside its range.
     pub fn new(window: u64, retry: u64) -> Option<Limits>
-        ensures in_range { IsSome result ↔ ((1 ≤ window) × (window ≤ 64) × (1 ≤ retry) × (retry ≤ 255)) }
+        ensures in_range { IsSome result
+            ↔ ((1 ≤ window) × (window ≤ 64) × (1 ≤ retry) × (retry ≤ 255)) }
         ensures window { IfSome result (λ limits. limits.window ≡ window) }
         ensures retry { IfSome result (λ limits. limits.retry ≡ retry) }
     {

@@ -1,5 +1,5 @@
-//! The numbers of items, calls and jobs. Each is any `u64`: which of them can be an item's, a call's or a
-//! job's number, the codecs and the space decide where they meet one.
+//! The numbers of items, calls and jobs. Each is any `u64`: which of them can be an item's, a
+//! call's or a job's number, the codecs and the space decide where they meet one.
 
 ghost use Rattle.std.specs.Prelude.{◌≡◌};
 
@@ -69,7 +69,8 @@ impl CallNo {
     }
 }
 
-/// The number of a job among the jobs that its space has claimed, from 1 on. Contracts see the number.
+/// The number of a job among the jobs that its space has claimed, from 1 on. Contracts see the
+/// number.
 #[derive(Clone, Copy, Debug, PartialEq, Eq, PartialOrd, Ord, Hash)]
 pub struct JobNo {
     job: u64,

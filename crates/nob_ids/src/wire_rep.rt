@@ -2,8 +2,8 @@
 
 use crate::space::SpaceId;
 
-/// A reference as it travels: the space that owns the object, and the object's index there. Index 0 is the
-/// owner's agent.
+/// A reference as it travels: the space that owns the object, and the object's index there. Index 0
+/// is the owner's agent.
 #[derive(Clone, Copy, Debug, PartialEq, Eq, PartialOrd, Ord, Hash)]
 pub struct WireRep {
     /// The space that has the object.

@@ -10,9 +10,10 @@ use nob_ids::WireRep;
 use nob_pickle::{Value, refs_of};
 use std::alloc::{AllocError, Global};
 
-/// The counted references of an item: those in its value whose index isn't 0, in reading order, repeats
-/// included. The target of a Call isn't one, and notes have none. It takes time linear in the value, however
-/// deep or long, and doesn't recurse. Only memory fails it, and a note takes none.
+/// The counted references of an item: those in its value whose index isn't 0, in reading order,
+/// repeats included. The target of a Call isn't one, and notes have none. It takes time linear in
+/// the value, however deep or long, and doesn't recurse. Only memory fails it, and a note takes
+/// none.
 pub fn counted_refs(alloc: Global, item: &Item) -> Result<Vec<WireRep>, AllocError>
     ensures counted { IfOk result (λ refs. refs.items ≡ counted_in item.now) }
     ensures memory { OnErr result (is_note item.now ≡ false) }
@@ -24,9 +25,9 @@ pub fn counted_refs(alloc: Global, item: &Item) -> Result<Vec<WireRep>, AllocErr
     }
 }
 
-/// The counted reference of the item before which so many others stand, in reading order, repeats included: None
-/// where there aren't more. It takes no memory and time linear in the value, and recurses once for each of its levels:
-/// at most 16 where the item has a spelling.
+/// The counted reference of the item before which so many others stand, in reading order, repeats
+/// included: None where there aren't more. It takes no memory and time linear in the value, and
+/// recurses once for each of its levels: at most 16 where the item has a spelling.
 pub fn counted_ref(item: &Item, number: usize) -> Option<WireRep>
     ensures { result ≡ slice_get (counted_in item.now) number }
 {

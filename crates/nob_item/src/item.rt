@@ -7,8 +7,8 @@ use nob_ids::{CallNo, ItemNo};
 use nob_pickle::Value;
 use std::alloc::AllocError;
 
-/// What one space sends another in its place in their session, whatever stands in its fields: `encode` says
-/// whether it has a spelling. All but Calls and Replies are notes.
+/// What one space sends another in its place in their session, whatever stands in its fields:
+/// `encode` says whether it has a spelling. All but Calls and Replies are notes.
 #[derive(Debug, Drop)]
 pub enum Item {
     /// A call of an object of the receiver's.
@@ -44,8 +44,8 @@ pub enum Item {
 }
 
 impl Item {
-    /// An equal item. Only memory fails it, and a note takes none, nor does an item whose value has nothing in it. It
-    /// recurses once for each level of the value.
+    /// An equal item. Only memory fails it, and a note takes none, nor does an item whose value has
+    /// nothing in it. It recurses once for each level of the value.
     pub fn copy(&self) -> Result<Item, AllocError>
         ensures same { IfOk result (λ item. item ≡ self.now) }
         ensures memory { OnErr result (IsTrue (has_value_inside self.now)) }

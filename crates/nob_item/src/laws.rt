@@ -9,8 +9,8 @@ pub fn one_item()
     nob_pickle::laws::no_front();
 }
 
-/// The counted references of an item are those references of its value whose index isn't 0, each as often as it
-/// stands there and in that order; a note has none.
+/// The counted references of an item are those references of its value whose index isn't 0, each as
+/// often as it stands there and in that order; a note has none.
 pub fn counted_are_refs()
     ensures { CountedAreRefs }
 {}

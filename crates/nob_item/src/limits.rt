@@ -7,10 +7,10 @@ ghost use Rattle.nob_item.specs.Judging.{is_call_number, is_item_number, is_stat
 use nob_ids::{CallNo, ItemNo};
 
 /// The greatest number of a call.
-const MOST_CALLS: u64 = 1 << 48;
+const LAST_CALL: u64 = 1 << 48;
 
 /// The greatest number of an item.
-const MOST_ITEMS: u64 = 1 << 40;
+const LAST_ITEM: u64 = 1 << 40;
 
 /// The greatest status.
 const LAST_STATUS: u8 = 3;
@@ -20,7 +20,7 @@ pub(crate) fn is_call_number(call: CallNo) -> bool
     ensures value { result ≡ is_call_number call }
     ensures in_range { IsTrue result ↔ IsCallNumber call }
 {
-    call.get() >= 1 && call.get() <= MOST_CALLS
+    call.get() >= 1 && call.get() <= LAST_CALL
 }
 
 /// Whether an item may have this number.
@@ -28,7 +28,7 @@ pub(crate) fn is_item_number(item: ItemNo) -> bool
     ensures value { result ≡ is_item_number item }
     ensures in_range { IsTrue result ↔ IsItemNumber item }
 {
-    item.get() >= 1 && item.get() <= MOST_ITEMS
+    item.get() >= 1 && item.get() <= LAST_ITEM
 }
 
 /// Whether there is such a status.

@@ -35,11 +35,12 @@ struct ReplyFront<'a> {
     pickle: &'a [u8],
 }
 
-/// The item that all of the bytes spell: Ok exactly where they do. Else the first fault, from the front: I1
-/// for a missing byte before the value or in a note, I2 for a first byte that no item has, I4 for a number
-/// and I5 for a status out of range, as soon as it is read; then I3 for what the value is refused for, or I6
-/// for a byte after a note. Only a Call and a Reply take memory, for a value that is bytes or a list with something in
-/// it: I1, I2, I4, I5 and I6 are answered before want of it. It takes time linear in the bytes.
+/// The item that all of the bytes spell: Ok exactly where they do. Else the first fault, from the
+/// front: I1 for a missing byte before the value or in a note, I2 for a first byte that no item
+/// has, I4 for a number and I5 for a status out of range, as soon as it is read; then I3 for what
+/// the value is refused for, or I6 for a byte after a note. Only a Call and a Reply take memory,
+/// for a value that is bytes or a list with something in it: I1, I2, I4, I5 and I6 are answered
+/// before want of it. It takes time linear in the bytes.
 pub fn decode(alloc: Global, bytes: &[u8]) -> Result<Item, ItemError>
     // What is read is spelled so.
     ensures found { IfOk result (λ item. Spelt bytes.now item) }
@@ -47,7 +48,8 @@ pub fn decode(alloc: Global, bytes: &[u8]) -> Result<Item, ItemError>
     ensures only { (item : ItemOf) → Spelt bytes.now item → Gives (λ x. x) result (Ok item) }
     // Which fault it is. A fault that isn't the value's comes before want of memory.
     ensures exact { Gives (λ x. x) result (item_read bytes.now) }
-    // Memory can run out for a Call or a Reply alone whose numbers are sound and whose value wants it.
+    // Memory can run out for a Call or a Reply alone whose numbers are sound and whose value wants
+    // it.
     ensures memory { IfErr result (λ e. e ≡ OutOfMemory → IsTrue (wants_memory bytes.now)) }
 {
     let [first, bytes @ ..] = bytes else {
@@ -60,9 +62,11 @@ pub fn decode(alloc: Global, bytes: &[u8]) -> Result<Item, ItemError>
 #[tactic(auto, unfolding(crate::specs::Reading::item_by))]
 fn item_of(alloc: Global, first: u8, bytes: &[u8]) -> Result<Item, ItemError>
     ensures found { IfOk result (λ item. Spelt (first ∷ bytes.now) item) }
-    ensures only { (item : ItemOf) → Spelt (first ∷ bytes.now) item → Gives (λ x. x) result (Ok item) }
+    ensures only { (item : ItemOf) → Spelt (first ∷ bytes.now) item
+        → Gives (λ x. x) result (Ok item) }
     ensures exact { Gives (λ x. x) result (item_by first bytes.now) }
-    ensures memory { IfErr result (λ e. e ≡ OutOfMemory → IsTrue (item_wants_memory first bytes.now)) }
+    ensures memory { IfErr result (λ e. e ≡ OutOfMemory
+        → IsTrue (item_wants_memory first bytes.now)) }
 {
     match first {
         1 => call_of(alloc, bytes),
@@ -109,7 +113,8 @@ fn reply_of(alloc: Global, bytes: &[u8]) -> Result<Item, ItemError>
 /// The value that all of the bytes spell.
 fn value_of(alloc: Global, bytes: &[u8]) -> Result<Value, ItemError>
     ensures found { IfOk result (λ value. PickleSpelt bytes.now value) }
-    ensures only { (value : ValueOf) → PickleSpelt bytes.now value → Gives (λ x. x) result (Ok value) }
+    ensures only { (value : ValueOf) → PickleSpelt bytes.now value
+        → Gives (λ x. x) result (Ok value) }
     ensures exact { Gives (λ x. x) result (of_value (value_read bytes.now)) }
     ensures memory { IfErr result (λ e. e ≡ OutOfMemory → IsTrue (value_wants_memory bytes.now)) }
 {

@@ -17,9 +17,9 @@ use nob_ids::{CallNo, ItemNo};
 use nob_pickle::Value;
 use std::alloc::{AllocError, Global};
 
-/// The one spelling of the item, or the first of I4, I5 and I3 that it is refused for: at most 16,384 bytes, as
-/// a Data frame carries. Want of memory comes last. It takes time linear in the value, which may be as deep and long
-/// as memory allows.
+/// The one spelling of the item, or the first of I4, I5 and I3 that it is refused for: at most
+/// 16,384 bytes, as a Data frame carries. Want of memory comes last. It takes time linear in the
+/// value, which may be as deep and long as memory allows.
 pub fn encode(alloc: Global, item: &Item) -> Result<Vec<u8>, ItemError>
     // What is written is the item's spelling.
     ensures found { IfOk result (λ bytes. Spelt bytes.items item.now) }
@@ -48,16 +48,17 @@ pub fn encode(alloc: Global, item: &Item) -> Result<Vec<u8>, ItemError>
             if !is_item_number(*item) {
                 return Err(ItemError::Fault(ItemFault::Number));
             }
-            Ok(note_of(alloc, 3, item.get())?)
+            Ok(note_bytes(alloc, 3, item.get())?)
         }
-        Item::Dirty(index) => Ok(note_of(alloc, 4, *index)?),
-        Item::DirtyOk(index) => Ok(note_of(alloc, 5, *index)?),
-        Item::DirtyNo(index) => Ok(note_of(alloc, 6, *index)?),
-        Item::Clean(index) => Ok(note_of(alloc, 7, *index)?),
+        Item::Dirty(index) => Ok(note_bytes(alloc, 4, *index)?),
+        Item::DirtyOk(index) => Ok(note_bytes(alloc, 5, *index)?),
+        Item::DirtyNo(index) => Ok(note_bytes(alloc, 6, *index)?),
+        Item::Clean(index) => Ok(note_bytes(alloc, 7, *index)?),
     }
 }
 
-/// The one spelling of the Call with these fields, as `encode` gives it: a value needs no copy to be sent.
+/// The one spelling of the Call with these fields, as `encode` gives it: a value needs no copy to
+/// be sent.
 pub fn encode_call(
     alloc: Global,
     call: CallNo,
@@ -65,12 +66,16 @@ pub fn encode_call(
     method: u16,
     value: &Value,
 ) -> Result<Vec<u8>, ItemError>
-    ensures found { IfOk result (λ bytes. Spelt bytes.items (items.Call call target method value.now)) }
+    ensures found { IfOk result (λ bytes.
+        Spelt bytes.items (items.Call call target method value.now)) }
     ensures short { IfOk result (λ bytes. length bytes.items ≤ 16384) }
     ensures only { Fits (items.Call call target method value.now)
-        → Gives (λ bytes. bytes.items) result (Ok (spelling (items.Call call target method value.now))) }
-    ensures exact { Gives (λ bytes. bytes.items) result (bytes_of (items.Call call target method value.now)) }
-    ensures memory { IfErr result (λ e. e ≡ OutOfMemory → Fits (items.Call call target method value.now)) }
+        → Gives (λ bytes. bytes.items) result
+        (Ok (spelling (items.Call call target method value.now))) }
+    ensures exact { Gives (λ bytes. bytes.items) result
+        (bytes_of (items.Call call target method value.now)) }
+    ensures memory { IfErr result (λ e. e ≡ OutOfMemory
+        → Fits (items.Call call target method value.now)) }
 {
     if !is_call_number(call) {
         return Err(ItemError::Fault(ItemFault::Number));
@@ -78,7 +83,8 @@ pub fn encode_call(
     with_value(alloc, &head_of_call(call, target, method), value)
 }
 
-/// The one spelling of the Reply with these fields, as `encode` gives it: a value needs no copy to be sent.
+/// The one spelling of the Reply with these fields, as `encode` gives it: a value needs no copy to
+/// be sent.
 pub fn encode_reply(
     alloc: Global,
     call: CallNo,
@@ -89,8 +95,10 @@ pub fn encode_reply(
     ensures short { IfOk result (λ bytes. length bytes.items ≤ 16384) }
     ensures only { Fits (items.Reply call status value.now)
         → Gives (λ bytes. bytes.items) result (Ok (spelling (items.Reply call status value.now))) }
-    ensures exact { Gives (λ bytes. bytes.items) result (bytes_of (items.Reply call status value.now)) }
-    ensures memory { IfErr result (λ e. e ≡ OutOfMemory → Fits (items.Reply call status value.now)) }
+    ensures exact { Gives (λ bytes. bytes.items) result
+        (bytes_of (items.Reply call status value.now)) }
+    ensures memory { IfErr result (λ e. e ≡ OutOfMemory
+        → Fits (items.Reply call status value.now)) }
 {
     if !is_call_number(call) {
         return Err(ItemError::Fault(ItemFault::Number));
@@ -104,9 +112,11 @@ pub fn encode_reply(
 /// The value's pickle behind a head.
 fn with_value(alloc: Global, head: &[u8], value: &Value) -> Result<Vec<u8>, ItemError>
     requires { length head.now ≤ 19 }
-    ensures found { IfOk result (λ bytes. PickleFits value.now × (bytes.items ≡ head.now ++ pickle value.now)) }
+    ensures found { IfOk result (λ bytes. PickleFits value.now
+        × (bytes.items ≡ head.now ++ pickle value.now)) }
     ensures short { IfOk result (λ bytes. length bytes.items ≤ length head.now + 16000) }
-    ensures only { PickleFits value.now → Gives (λ bytes. bytes.items) result (Ok (head.now ++ pickle value.now)) }
+    ensures only { PickleFits value.now → Gives (λ bytes. bytes.items) result
+        (Ok (head.now ++ pickle value.now)) }
     ensures exact { Gives (λ bytes. bytes.items) result (behind head.now value.now) }
     ensures memory { IfErr result (λ e. e ≡ OutOfMemory → PickleFits value.now) }
 {
@@ -139,7 +149,7 @@ fn head_of_reply(call: CallNo, status: u8) -> [u8; 10]
 }
 
 /// A note: its first byte and a number. Only memory fails it.
-fn note_of(alloc: Global, first: u8, number: u64) -> Result<Vec<u8>, AllocError>
+fn note_bytes(alloc: Global, first: u8, number: u64) -> Result<Vec<u8>, AllocError>
     ensures { IfOk result (λ bytes. bytes.items ≡ note first number) }
 {
     let mut bytes = [first; 9];

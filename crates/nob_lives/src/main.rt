@@ -1,5 +1,5 @@
-//! The program `nob_lives`: whole lives of references between two spaces, as many as standard input says. `bench/lives`
-//! measures it.
+//! The program `nob_lives`: whole lives of references between two spaces, as many as standard input
+//! says. `bench/lives` measures it.
 #![tactic(auto)]
 
 use nob_ids::{CallNo, JobNo, Limits, SpaceId, WireRep};
@@ -23,7 +23,8 @@ fn main(rt: HostRuntime) -> ExitCode {
     }
 }
 
-// Reads how many objects are held beside the lives, and how many lives are made, a line each, and makes them.
+// Reads how many objects are held beside the lives, and how many lives are made, a line each, and
+// makes them.
 fn run(rt: &HostRuntime) -> io::Result<()> {
     let alloc = rt.alloc();
     let mut held = 0;
@@ -87,7 +88,8 @@ fn live(owner: &mut Space, client: &mut Space, held: u32, lives: u32) -> Result<
     Ok(())
 }
 
-// The whole life of a reference: exported, sent in a call, asked for and granted, settled, given up and withdrawn.
+// The whole life of a reference: exported, sent in a call, asked for and granted, settled, given up
+// and withdrawn.
 fn one_life(owner: &mut Space, client: &mut Space) -> Result<(), SpaceError> {
     let Answer::Exported(rep) = owner.step(&Event::Export)? else {
         return Ok(());

@@ -31,7 +31,8 @@ fn is_any_not_live(
     reps: &[WireRep],
     history: &History,
 ) -> Result<bool, AllocError>
-    ensures { IfOk result (λ gone. gone ≡ list_any (λ rep. is_not_live space rep history.now) reps.now) }
+    ensures { IfOk result (λ gone. gone ≡ list_any
+        (λ rep. is_not_live space rep history.now) reps.now) }
 {
     match reps {
         [] => Ok(false),
@@ -94,7 +95,8 @@ fn awaits_answer(
     index: u64,
     history: &History,
 ) -> Result<bool, AllocError>
-    ensures { IfOk result (λ waits. waits ≡ words.awaits_answer here.now.space here.now.n owner index history.now) }
+    ensures { IfOk result (λ waits. waits
+        ≡ words.awaits_answer here.now.space here.now.n owner index history.now) }
 {
     let rep = WireRep { owner, index };
     let turns = turns::turns_of(alloc, here, &rep, history.deeds.as_slice())?;
@@ -109,7 +111,10 @@ fn fault_of_call(
     item: &Item,
     history: &History,
 ) -> Result<Option<Reason>, AllocError>
-    ensures { IfOk result (λ fault. fault ≡ words.first_fault (words.fault_if (not (target == 0) && not (is_live space target history.now.deeds)) Reason.BadReference) (words.fault_if (words.names_not_live space item.now history.now) Reason.BadReference)) }
+    ensures { IfOk result (λ fault. fault
+        ≡ words.first_fault (words.fault_if
+        (not (target == 0) && not (is_live space target history.now.deeds)) Reason.BadReference)
+        (words.fault_if (words.names_not_live space item.now history.now) Reason.BadReference)) }
 {
     if target != 0 && !objects::is_live(alloc, space, target, history.deeds.as_slice())? {
         return Ok(Some(Reason::BadReference));
@@ -136,7 +141,10 @@ fn fault_of_reply(
     item: &Item,
     history: &History,
 ) -> Result<Option<Reason>, AllocError>
-    ensures { IfOk result (λ fault. fault ≡ words.first_fault (words.fault_if (not (list_any (words.awaits_reply peer call) history.now.work.calls)) Reason.OutOfPlace) (words.fault_if (words.names_not_live space item.now history.now) Reason.BadReference)) }
+    ensures { IfOk result (λ fault. fault
+        ≡ words.first_fault (words.fault_if
+        (not (list_any (words.awaits_reply peer call) history.now.work.calls)) Reason.OutOfPlace)
+        (words.fault_if (words.names_not_live space item.now history.now) Reason.BadReference)) }
 {
     if !is_awaited(peer, call, history.work.calls.as_slice()) {
         return Ok(Some(Reason::OutOfPlace));
@@ -163,7 +171,8 @@ pub fn fault_of(
     item: &Item,
     history: &History,
 ) -> Result<Option<Reason>, AllocError>
-    ensures { IfOk result (λ fault. fault ≡ words.fault_of here.now.space here.now.n peer item.now history.now) }
+    ensures { IfOk result (λ fault. fault
+        ≡ words.fault_of here.now.space here.now.n peer item.now history.now) }
 {
     match item {
         Item::Call { target, .. } => fault_of_call(alloc, here.space, *target, item, history),
@@ -209,7 +218,8 @@ fn new_dirties(
     item: &Item,
     history: &History,
 ) -> Result<Vec<Gift>, AllocError>
-    ensures { IfOk result (λ dirties. dirties.items ≡ words.new_dirties here.now.space here.now.n item.now history.now) }
+    ensures { IfOk result (λ dirties. dirties.items
+        ≡ words.new_dirties here.now.space here.now.n item.now history.now) }
 {
     dirties_for(alloc, here, history.deeds.as_slice(), item)
 }
@@ -222,7 +232,8 @@ fn is_too_much(
     item: &Item,
     history: &History,
 ) -> Result<bool, AllocError>
-    ensures { IfOk result (λ answer. answer ≡ words.is_too_much here.now.space here.now.n item.now history.now) }
+    ensures { IfOk result (λ answer. answer
+        ≡ words.is_too_much here.now.space here.now.n item.now history.now) }
 {
     if messages(&history.work) >= MOST_MESSAGES as u64 {
         return Ok(true);
@@ -253,7 +264,8 @@ fn all_have_numbers(
     rest: &[Gift],
     history: &History,
 ) -> Result<bool, AllocError>
-    ensures { IfOk result (λ answer. answer ≡ list_all (words.has_numbers_among gifts.now history.now) rest.now) }
+    ensures { IfOk result (λ answer. answer
+        ≡ list_all (words.has_numbers_among gifts.now history.now) rest.now) }
 {
     match rest {
         [] => Ok(true),
@@ -274,7 +286,8 @@ fn message_refusal(
     item: &Item,
     history: &History,
 ) -> Result<Option<Refusal>, AllocError>
-    ensures { IfOk result (λ kept. kept ≡ words.message_refusal here.now.space here.now.n item.now history.now) }
+    ensures { IfOk result (λ kept. kept ≡ words.message_refusal here.now.space here.now.n item.now
+        history.now) }
 {
     if is_too_much(alloc, here, item, history)? {
         return Ok(Some(Refusal::Limit));
@@ -295,7 +308,8 @@ fn act_refusal(
     item: &Item,
     history: &History,
 ) -> Result<Option<Refusal>, AllocError>
-    ensures { IfOk result (λ kept. kept ≡ words.act_refusal here.now.space here.now.n peer item.now history.now) }
+    ensures { IfOk result (λ kept. kept ≡ words.act_refusal here.now.space here.now.n peer item.now
+        history.now) }
 {
     match item {
         Item::Call { .. } | Item::Reply { .. } => message_refusal(alloc, here, item, history),
@@ -336,7 +350,8 @@ pub fn act_on(
     item: &Option<Item>,
     history: &History,
 ) -> Result<Result<Answer, Refusal>, AllocError>
-    ensures { IfOk result (λ answer. answer ≡ words.act_on here.now.space here.now.n peer number item.now history.now) }
+    ensures { IfOk result (λ answer. answer
+        ≡ words.act_on here.now.space here.now.n peer number item.now history.now) }
 {
     match item {
         None => Ok(Ok(Answer::Closed(Reason::BadItem))),

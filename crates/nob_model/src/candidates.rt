@@ -22,7 +22,8 @@ fn is_resolved(
     deeds: &[Deed],
     rep: &WireRep,
 ) -> Result<bool, AllocError>
-    ensures { IfOk result (λ resolved. resolved ≡ is_resolved_word here.now.space here.now.n rep.now deeds.now) }
+    ensures { IfOk result (λ resolved. resolved
+        ≡ is_resolved_word here.now.space here.now.n rep.now deeds.now) }
 {
     if rep.owner == here.space {
         return Ok(true);
@@ -40,7 +41,9 @@ fn is_all_resolved(
     deeds: &[Deed],
     copies: &[RefCopy],
 ) -> Result<bool, AllocError>
-    ensures { IfOk result (λ resolved. resolved ≡ list_all (λ copy. is_resolved_word here.now.space here.now.n copy.rep deeds.now) copies.now) }
+    ensures { IfOk result (λ resolved. resolved
+        ≡ list_all (λ copy. is_resolved_word here.now.space here.now.n copy.rep deeds.now)
+        copies.now) }
 {
     match copies {
         [] => Ok(true),
@@ -60,7 +63,8 @@ fn is_ready(
     history: &History,
     message: &Message,
 ) -> Result<bool, AllocError>
-    ensures { IfOk result (λ ready. ready ≡ words.is_all_resolved here.now.space here.now.n history.now message.now) }
+    ensures { IfOk result (λ ready. ready
+        ≡ words.is_all_resolved here.now.space here.now.n history.now message.now) }
 {
     is_all_resolved(
         alloc,
@@ -77,7 +81,8 @@ fn find_resolved<'a>(
     history: &History,
     messages: &'a [Message],
 ) -> Result<Option<&'a Message>, AllocError>
-    ensures { IfOk result (λ found. option_map (λ message. message.now) found ≡ find (words.is_all_resolved here.now.space here.now.n history.now) messages.now) }
+    ensures { IfOk result (λ found. option_map (λ message. message.now) found
+        ≡ find (words.is_all_resolved here.now.space here.now.n history.now) messages.now) }
 {
     match messages {
         [] => Ok(None),
@@ -96,7 +101,8 @@ pub fn to_settle<'a>(
     here: &Here,
     history: &'a History,
 ) -> Result<Option<&'a Message>, AllocError>
-    ensures { IfOk result (λ found. option_map (λ message. message.now) found ≡ words.to_settle here.now.space here.now.n history.now) }
+    ensures { IfOk result (λ found. option_map (λ message. message.now) found
+        ≡ words.to_settle here.now.space here.now.n history.now) }
 {
     find_resolved(alloc, here, history, history.work.waiting.as_slice())
 }
@@ -139,7 +145,8 @@ fn is_free(work: &InHand, message: &Message) -> bool
 
 // The first of some messages whose target isn't running.
 fn find_free<'a>(work: &InHand, messages: &'a [Message]) -> Option<&'a Message>
-    ensures { option_map (λ message. message.now) result ≡ find (words.is_free work.now) messages.now }
+    ensures { option_map (λ message. message.now) result
+        ≡ find (words.is_free work.now) messages.now }
 {
     match messages {
         [] => None,

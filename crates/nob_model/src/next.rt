@@ -32,7 +32,8 @@ pub fn can_act(
     peer: SpaceId,
     history: &History,
 ) -> Result<bool, AllocError>
-    ensures { IfOk result (λ answer. answer ≡ words.can_act here.now.space here.now.n peer history.now) }
+    ensures { IfOk result (λ answer. answer
+        ≡ words.can_act here.now.space here.now.n peer history.now) }
 {
     if !here.is_peer(peer) || sessions::closed(peer, history.deeds.as_slice()) {
         return Ok(false);
@@ -49,7 +50,8 @@ pub fn can_send(
     window: u64,
     history: &History,
 ) -> Result<bool, AllocError>
-    ensures { IfOk result (λ answer. answer ≡ words.can_send here.now.space here.now.n peer window history.now) }
+    ensures { IfOk result (λ answer. answer
+        ≡ words.can_send here.now.space here.now.n peer window history.now) }
 {
     if !here.is_peer(peer) {
         return Ok(false);
@@ -61,14 +63,16 @@ pub fn can_send(
 
 /// Whether there is a message to settle.
 pub fn can_settle(alloc: Global, here: &Here, history: &History) -> Result<bool, AllocError>
-    ensures { IfOk result (λ answer. answer ≡ words.can_settle here.now.space here.now.n history.now) }
+    ensures { IfOk result (λ answer. answer
+        ≡ words.can_settle here.now.space here.now.n history.now) }
 {
     Ok(to_settle(alloc, here, history)?.is_some())
 }
 
 /// Whether there is a surrogate to give up.
 pub fn can_clean(alloc: Global, here: &Here, history: &History) -> Result<bool, AllocError>
-    ensures { IfOk result (λ answer. answer ≡ words.can_clean here.now.space here.now.n history.now) }
+    ensures { IfOk result (λ answer. answer
+        ≡ words.can_clean here.now.space here.now.n history.now) }
 {
     Ok(to_clean(alloc, here, history)?.is_some())
 }
@@ -109,7 +113,9 @@ fn least_of(
     reps: &[WireRep],
     history: &History,
 ) -> Result<Option<u64>, AllocError>
-    ensures { IfOk result (λ found. found ≡ words.least (filter (words.can_withdraw space history.now) (map (λ rep. rep.index) reps.now))) }
+    ensures { IfOk result (λ found. found
+        ≡ words.least (filter (words.can_withdraw space history.now)
+        (map (λ rep. rep.index) reps.now))) }
 {
     match reps {
         [] => Ok(None),

@@ -140,7 +140,8 @@ pub fn call(
     value: &Value,
     history: &History,
 ) -> Answered
-    ensures { IfOk result (λ answer. answer ≡ words.right_call here.now.space here.now.n target.now value.now history.now) }
+    ensures { IfOk result (λ answer. answer
+        ≡ words.right_call here.now.space here.now.n target.now value.now history.now) }
 {
     if !here.is_peer(target.owner) {
         return Ok(Err(Refusal::NoPeer));
@@ -171,7 +172,9 @@ fn is_any_full(
     all: &[WireRep],
     deeds: &[Deed],
 ) -> Result<bool, AllocError>
-    ensures { IfOk result (λ full. full ≡ list_any (λ rep. nat_lt words.most_in_hand (hand_word rep deeds.now + times_word rep all.now)) reps.now) }
+    ensures { IfOk result (λ full. full ≡ list_any
+        (λ rep. nat_lt words.most_in_hand (hand_word rep deeds.now + times_word rep all.now))
+        reps.now) }
 {
     match reps {
         [] => Ok(false),
@@ -216,7 +219,8 @@ fn answer_of_reply(alloc: Global, item: &Item, history: &History) -> Answered
 
 // The ready reply to a call.
 fn find_reply(call: CallNo, replies: &[Message]) -> Option<&Message>
-    ensures { option_map (λ message. message.now) result ≡ find (λ message. replies_to_word call message.item) replies.now }
+    ensures { option_map (λ message. message.now) result
+        ≡ find (λ message. replies_to_word call message.item) replies.now }
 {
     match replies {
         [] => None,
@@ -258,7 +262,9 @@ fn answer_of_stage(stage: Stage) -> Result<Answer, Refusal>
 // What is answered for a call.
 #[tactic(auto, unfolding(crate::specs::Right::answer_of_call))]
 fn answer_of_call(alloc: Global, call: CallNo, own: &OwnCall, history: &History) -> Answered
-    ensures { IfOk result (λ answer. answer ≡ words.answer_of_call own.now (find (λ message. replies_to_word call message.item) history.now.work.replies) history.now) }
+    ensures { IfOk result (λ answer. answer
+        ≡ words.answer_of_call own.now (find
+        (λ message. replies_to_word call message.item) history.now.work.replies) history.now) }
 {
     match find_reply(call, history.work.replies.as_slice()) {
         Some(message) => answer_of_reply(alloc, &message.item, history),
@@ -345,7 +351,8 @@ fn outcome_refused(
     outcome: &Outcome,
     history: &History,
 ) -> Result<Option<Refusal>, AllocError>
-    ensures { IfOk result (λ refused. refused ≡ value_refused_word space history.now (value_of outcome.now)) }
+    ensures { IfOk result (λ refused. refused
+        ≡ value_refused_word space history.now (value_of outcome.now)) }
 {
     match outcome {
         Outcome::Answer(value) => value_refused(alloc, space, value, history),
@@ -378,7 +385,8 @@ fn finish_of(
     run: &Run,
     history: &History,
 ) -> Answered
-    ensures { IfOk result (λ answer. answer ≡ words.finish_of space outcome.now (Some run.now) history.now) }
+    ensures { IfOk result (λ answer. answer
+        ≡ words.finish_of space outcome.now (Some run.now) history.now) }
 {
     let client = run.message.from;
     if sessions::closed(client, history.deeds.as_slice()) {
@@ -402,7 +410,8 @@ pub fn finish(
     outcome: &Outcome,
     history: &History,
 ) -> Answered
-    ensures { IfOk result (λ answer. answer ≡ words.right_finish space job outcome.now history.now) }
+    ensures { IfOk result (λ answer. answer
+        ≡ words.right_finish space job outcome.now history.now) }
 {
     match find_run(job, history.work.running.as_slice()) {
         Some(run) => finish_of(alloc, space, outcome, run, history),
@@ -420,7 +429,8 @@ fn act_of(
     payload: &[u8],
     history: &History,
 ) -> Answered
-    ensures { IfOk result (λ answer. answer ≡ words.act_of here.now.space here.now.n peer (Some (number, payload.now)) history.now) }
+    ensures { IfOk result (λ answer. answer
+        ≡ words.act_of here.now.space here.now.n peer (Some (number, payload.now)) history.now) }
 {
     let item = sessions::item_spelt(alloc, payload)?;
     act_on(alloc, here, peer, number, &item, history)
@@ -436,7 +446,9 @@ fn act_on_first(
     waiting: &[&[u8]],
     history: &History,
 ) -> Answered
-    ensures { IfOk result (λ answer. answer ≡ words.act_of here.now.space here.now.n peer (first_of number (texts waiting.now)) history.now) }
+    ensures { IfOk result (λ answer. answer
+        ≡ words.act_of here.now.space here.now.n peer
+        (first_of number (texts waiting.now)) history.now) }
 {
     match waiting {
         [] => Ok(Err(Refusal::Nothing)),
@@ -446,7 +458,9 @@ fn act_on_first(
 
 // What is answered to acting on the front of an open session's inbox.
 fn act_on_front(alloc: Global, here: &Here, peer: SpaceId, history: &History) -> Answered
-    ensures { IfOk result (λ answer. answer ≡ words.act_of here.now.space here.now.n peer (right_front (calls_word peer history.now)) history.now) }
+    ensures { IfOk result (λ answer. answer
+        ≡ words.act_of here.now.space here.now.n peer
+        (right_front (calls_word peer history.now)) history.now) }
 {
     let calls = calls_at(alloc, peer, history)?;
     let waiting = end_words::waiting(alloc, calls.as_slice())?;
@@ -457,7 +471,8 @@ fn act_on_front(alloc: Global, here: &Here, peer: SpaceId, history: &History) ->
 /// What is answered to Act on the next item from a peer.
 #[tactic(auto, unfolding(crate::specs::Right::right_act))]
 pub fn act(alloc: Global, here: &Here, peer: SpaceId, history: &History) -> Answered
-    ensures { IfOk result (λ answer. answer ≡ words.right_act here.now.space here.now.n peer history.now) }
+    ensures { IfOk result (λ answer. answer
+        ≡ words.right_act here.now.space here.now.n peer history.now) }
 {
     if !here.is_peer(peer) {
         return Ok(Err(Refusal::NoPeer));
@@ -475,7 +490,8 @@ fn settle_count(
     message: &Message,
     history: &History,
 ) -> Result<usize, AllocError>
-    ensures value { IfOk result (λ count. count ≡ words.settle_count here.now.space here.now.n message.now message.now.item history.now) }
+    ensures value { IfOk result (λ count. count
+        ≡ words.settle_count here.now.space here.now.n message.now message.now.item history.now) }
     ensures bound { IfOk result (λ count. count ≤ 2) }
 {
     match &message.item {
@@ -492,7 +508,8 @@ fn settle_count(
 // What is answered where this is the message to settle.
 #[tactic(auto, unfolding(crate::specs::Right::settle_of))]
 fn settle_of(alloc: Global, here: &Here, message: &Message, history: &History) -> Answered
-    ensures { IfOk result (λ answer. answer ≡ words.settle_of here.now.space here.now.n (Some message.now) history.now) }
+    ensures { IfOk result (λ answer. answer
+        ≡ words.settle_of here.now.space here.now.n (Some message.now) history.now) }
 {
     let count = settle_count(alloc, here, message, history)?;
     if has_numbers(alloc, message.from, count, history)? {
@@ -504,7 +521,8 @@ fn settle_of(alloc: Global, here: &Here, message: &Message, history: &History) -
 /// What is answered to Settle: the first message whose references are all resolved.
 #[tactic(auto, unfolding(crate::specs::Right::right_settle, crate::specs::Right::settle_of))]
 pub fn settle(alloc: Global, here: &Here, history: &History) -> Answered
-    ensures { IfOk result (λ answer. answer ≡ words.right_settle here.now.space here.now.n history.now) }
+    ensures { IfOk result (λ answer. answer
+        ≡ words.right_settle here.now.space here.now.n history.now) }
 {
     match to_settle(alloc, here, history)? {
         Some(message) => settle_of(alloc, here, message, history),
@@ -515,7 +533,8 @@ pub fn settle(alloc: Global, here: &Here, history: &History) -> Answered
 /// What is answered to Clean: the first surrogate that can be given up.
 #[tactic(auto, unfolding(crate::specs::Right::right_clean, crate::specs::Right::clean_of))]
 pub fn clean(alloc: Global, here: &Here, history: &History) -> Answered
-    ensures { IfOk result (λ answer. answer ≡ words.right_clean here.now.space here.now.n history.now) }
+    ensures { IfOk result (λ answer. answer
+        ≡ words.right_clean here.now.space here.now.n history.now) }
 {
     match first_idle(alloc, here, history)? {
         Some(rep) => {
@@ -578,7 +597,8 @@ pub fn transmit(
     window: u64,
     history: &History,
 ) -> Answered
-    ensures { IfOk result (λ answer. answer ≡ words.right_frames here.now.space here.now.n peer window history.now) }
+    ensures { IfOk result (λ answer. answer
+        ≡ words.right_frames here.now.space here.now.n peer window history.now) }
 {
     if !here.is_peer(peer) {
         return Ok(Err(Refusal::NoPeer));
@@ -602,7 +622,8 @@ fn arrival_of(arrived: Result<Arrived, EndRefusal>) -> Result<Answer, Refusal>
 /// What is answered to Arrive of a frame.
 #[tactic(auto, unfolding(crate::specs::Right::right_arrival))]
 pub fn arrive(alloc: Global, here: &Here, frame: &Frame, history: &History) -> Answered
-    ensures { IfOk result (λ answer. answer ≡ words.right_arrival here.now.space here.now.n frame.now history.now) }
+    ensures { IfOk result (λ answer. answer
+        ≡ words.right_arrival here.now.space here.now.n frame.now history.now) }
 {
     if frame.to != here.space || !here.is_peer(frame.from) {
         return Ok(Err(Refusal::NoPeer));
@@ -626,7 +647,8 @@ fn tick_of(ticked: Result<Option<Ending>, EndRefusal>) -> Result<Answer, Refusal
 /// What is answered to Tick of the session with a peer.
 #[tactic(auto, unfolding(crate::specs::Right::right_ticks))]
 pub fn tick(alloc: Global, here: &Here, peer: SpaceId, retry: u64, history: &History) -> Answered
-    ensures { IfOk result (λ answer. answer ≡ words.right_ticks here.now.space here.now.n peer retry history.now) }
+    ensures { IfOk result (λ answer. answer
+        ≡ words.right_ticks here.now.space here.now.n peer retry history.now) }
 {
     if !here.is_peer(peer) {
         return Ok(Err(Refusal::NoPeer));
@@ -648,7 +670,8 @@ fn closing_of(closing: Result<Ending, EndRefusal>) -> Result<Answer, Refusal>
 /// What is answered to Close of the session with a peer.
 #[tactic(auto, unfolding(crate::specs::Right::right_closing))]
 pub fn close(alloc: Global, here: &Here, peer: SpaceId, history: &History) -> Answered
-    ensures { IfOk result (λ answer. answer ≡ words.right_closing here.now.space here.now.n peer history.now) }
+    ensures { IfOk result (λ answer. answer
+        ≡ words.right_closing here.now.space here.now.n peer history.now) }
 {
     if !here.is_peer(peer) {
         return Ok(Err(Refusal::NoPeer));
@@ -666,7 +689,8 @@ pub fn after(
     event: &Event,
     history: &History,
 ) -> Answered
-    ensures { IfOk result (λ answer. answer ≡ words.right_after here.now.space here.now.n limits.now history.now event.now) }
+    ensures { IfOk result (λ answer. answer
+        ≡ words.right_after here.now.space here.now.n limits.now history.now event.now) }
 {
     match event {
         Event::Export => export(alloc, here.space, history),
@@ -695,7 +719,8 @@ pub fn right(
     entries: &[Entry],
     event: &Event,
 ) -> Answered
-    ensures { IfOk result (λ answer. answer ≡ words.right here.now.space here.now.n limits.now entries.now event.now) }
+    ensures { IfOk result (λ answer. answer
+        ≡ words.right here.now.space here.now.n limits.now entries.now event.now) }
 {
     let history = make_history(alloc, here, entries)?;
     after(alloc, here, limits, event, &history)

@@ -1,5 +1,5 @@
-//! What a comparison of two answers says. The comparisons are derived, so no clause stands at them: here each has
-//! one, which holds of `==` wherever it is called.
+//! What a comparison of two answers says. The comparisons are derived, so no clause stands at them:
+//! here each has one, which holds of `==` wherever it is called.
 
 ghost use Rattle.std.specs.Prelude.{◌≡◌, ◌↔◌, true};
 
@@ -20,7 +20,8 @@ pub fn same_ending(ending: Ending, other: Ending) -> bool
     ending == other
 }
 
-/// What two arrivals did is equal exactly where both took as many items, or both closed the end in the same way.
+/// What two arrivals did is equal exactly where both took as many items, or both closed the end in
+/// the same way.
 pub fn same_arrival(arrival: Arrived, other: Arrived) -> bool
     ensures { (result ≡ true) ↔ (arrival ≡ other) }
 {

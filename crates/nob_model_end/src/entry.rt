@@ -89,8 +89,8 @@ impl Frames {
     }
 }
 
-/// One call on an end of a session, with its arguments and its answer. Only a call that was refused for want of
-/// memory makes no entry.
+/// One call on an end of a session, with its arguments and its answer. Only a call that was refused
+/// for want of memory makes no entry.
 #[derive(Debug, Drop)]
 pub enum EndEntry {
     /// `send` of a payload: its number, or a refusal.

@@ -1,5 +1,5 @@
-//! The one right answer to each call on an end, computed plainly from the whole list of the calls before it, the
-//! newest first.
+//! The one right answer to each call on an end, computed plainly from the whole list of the calls
+//! before it, the newest first.
 
 ghost use Rattle.std.specs.Prelude.{◌≡◌, ◌≤◌, ◌<◌, ◌+◌, ◌^◌, IfOk, length, take, [], ◌∷◌};
 ghost use Rattle.nob_model_end.specs.Texts.{texts, front_text};
@@ -126,7 +126,8 @@ fn data_frames(
     payloads: &[&[u8]],
 ) -> Result<Vec<Frame>, AllocError>
     requires { 0 < length payloads.now → first + length payloads.now < 2 ^ 64 }
-    ensures { IfOk result (λ frames. frames.items ≡ right.data_frames me peer ack first (texts payloads.now)) }
+    ensures { IfOk result (λ frames. frames.items
+        ≡ right.data_frames me peer ack first (texts payloads.now)) }
 {
     let mut frames = Vec::new(alloc);
     for (i, payload) in payloads.iter().enumerate() {
@@ -151,7 +152,9 @@ fn lone_frame(
     ack: u64,
     payload: &[u8],
 ) -> Result<Vec<Frame>, AllocError>
-    ensures { IfOk result (λ frames. frames.items ≡ record { kind = kind; from = me; to = peer; seq = 0; ack = ack; payload = payload.now } ∷ []) }
+    ensures { IfOk result (λ frames. frames.items
+        ≡ record { kind = kind; from = me; to = peer; seq = 0; ack = ack; payload = payload.now } ∷
+        []) }
 {
     let mut frames = Vec::new(alloc);
     frames.push(Frame {

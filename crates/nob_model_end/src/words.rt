@@ -195,9 +195,11 @@ pub fn owes_close(calls: &[EndEntry]) -> bool
 
 /// The payloads that are handed and not acknowledged.
 pub fn unacknowledged(alloc: Global, calls: &[EndEntry]) -> Result<Vec<&[u8]>, AllocError>
-    ensures payloads { IfOk result (λ payloads. texts payloads.items ≡ words.unacknowledged calls.now) }
+    ensures payloads { IfOk result (λ payloads. texts payloads.items
+        ≡ words.unacknowledged calls.now) }
     // There are no more of them than numbers from the lowest on.
-    ensures bound { IfOk result (λ payloads. 0 < length payloads.items → words.lowest calls.now + length payloads.items ≤ 2 ^ 63) }
+    ensures bound { IfOk result (λ payloads. 0 < length payloads.items
+        → words.lowest calls.now + length payloads.items ≤ 2 ^ 63) }
 {
     if !is_open(calls) {
         return Ok(Vec::new(alloc));

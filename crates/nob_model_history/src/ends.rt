@@ -50,7 +50,9 @@ fn with_send(
     item: &Item,
     mut calls: Vec<EndEntry>,
 ) -> Result<Vec<EndEntry>, AllocError>
-    ensures { IfOk result (λ more. more.items ≡ ends.Send (words.payload_of item.now) (words.kind_of item.now) (Ok (length (handed calls.items) + 1)) ∷ calls.items) }
+    ensures { IfOk result (λ more. more.items
+        ≡ ends.Send (words.payload_of item.now) (words.kind_of item.now)
+        (Ok (length (handed calls.items) + 1)) ∷ calls.items) }
 {
     let payload = payload_of(alloc, item)?;
     let count = nob_model_end::words::handed(alloc, calls.as_slice())?.len();
@@ -66,7 +68,8 @@ fn with_sends(
     gifts: &[Gift],
     calls: Vec<EndEntry>,
 ) -> Result<Vec<EndEntry>, AllocError>
-    ensures { IfOk result (λ more. more.items ≡ words.with_sends (words.items_to peer gifts.now) calls.items) }
+    ensures { IfOk result (λ more. more.items
+        ≡ words.with_sends (words.items_to peer gifts.now) calls.items) }
 {
     match gifts {
         [] => Ok(calls),

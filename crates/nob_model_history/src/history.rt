@@ -93,9 +93,11 @@ pub struct History {
     pub all_gifts: AllGifts,
 }
 
-/// The history of deeds. It passes them once, and at each of them looks back for the references that it touches.
+/// The history of deeds. It passes them once, and at each of them looks back for the references
+/// that it touches.
 pub fn history_of(alloc: Global, here: &Here, deeds: Vec<Deed>) -> Result<History, AllocError>
-    ensures { IfOk result (λ history. history ≡ words.history_of here.now.space here.now.n deeds.items) }
+    ensures { IfOk result (λ history. history
+        ≡ words.history_of here.now.space here.now.n deeds.items) }
 {
     let Past { work, all_gifts } = past_of(alloc, here, deeds.as_slice())?;
     let deeds = Deeds::from_vec(deeds);
@@ -109,7 +111,8 @@ pub fn history_of(alloc: Global, here: &Here, deeds: Vec<Deed>) -> Result<Histor
 
 /// The history of a space's list of entries, the newest first.
 pub fn make_history(alloc: Global, here: &Here, entries: &[Entry]) -> Result<History, AllocError>
-    ensures { IfOk result (λ history. history ≡ words.history here.now.space here.now.n entries.now) }
+    ensures { IfOk result (λ history. history
+        ≡ words.history here.now.space here.now.n entries.now) }
 {
     let done = deeds(alloc, entries)?;
     history_of(alloc, here, done)

@@ -146,7 +146,8 @@ fn loans_of_all(
 
 // All that the jobs that run lend.
 fn loans_of_runs(alloc: Global, space: SpaceId, runs: &[Run]) -> Result<Vec<WireRep>, AllocError>
-    ensures { IfOk result (λ reps. reps.items ≡ flat_map (λ run. words.loans_of space run.message) runs.now) }
+    ensures { IfOk result (λ reps. reps.items
+        ≡ flat_map (λ run. words.loans_of space run.message) runs.now) }
 {
     match runs {
         [] => Ok(Vec::new(alloc)),

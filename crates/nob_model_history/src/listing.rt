@@ -19,7 +19,8 @@ fn is_entered_after(
     deeds: &[Deed],
     before: bool,
 ) -> Result<bool, AllocError>
-    ensures { IfOk result (λ entered. entered ≡ words.is_entered_after space index item.now deeds.now before) }
+    ensures { IfOk result (λ entered. entered
+        ≡ words.is_entered_after space index item.now deeds.now before) }
 {
     match item {
         Some(Item::Dirty(other)) => {
@@ -38,7 +39,8 @@ fn is_entered_after(
     }
 }
 
-/// Whether a client's last Dirty or Clean for an index that was acted on is a Dirty that was answered by DirtyOk.
+/// Whether a client's last Dirty or Clean for an index that was acted on is a Dirty that was
+/// answered by DirtyOk.
 pub fn is_entered(
     alloc: Global,
     space: SpaceId,
@@ -86,7 +88,8 @@ fn is_any_of_listed(
     all: &[Deed],
     deeds: &[Deed],
 ) -> Result<bool, AllocError>
-    ensures { IfOk result (λ listed. listed ≡ list_any (words.is_of_listed space index all.now) deeds.now) }
+    ensures { IfOk result (λ listed. listed
+        ≡ list_any (words.is_of_listed space index all.now) deeds.now) }
 {
     match deeds {
         [] => Ok(false),

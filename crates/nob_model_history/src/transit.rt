@@ -40,7 +40,12 @@ fn count_to(peer: SpaceId, sent_items: &[SentItem]) -> usize
 
 // What was sent with one gift more.
 fn with_gift(gift: &Gift, mut sent_items: Vec<SentItem>) -> Result<Vec<SentItem>, AllocError>
-    ensures { IfOk result (λ more. more.items ≡ sent_items.items ++ record { to = gift.now.to; number = words.count_to gift.now.to sent_items.items + 1; item = gift.now.item } ∷ []) }
+    ensures { IfOk result (λ more. more.items
+        ≡ sent_items.items ++ record {
+          to = gift.now.to;
+          number = words.count_to gift.now.to sent_items.items + 1;
+          item = gift.now.item;
+        } ∷ []) }
 {
     let to = gift.to;
     let number = ItemNo::new(count_to(to, sent_items.as_slice()) as u64 + 1);
@@ -134,7 +139,8 @@ fn pinned_of(
     deeds: &[Deed],
     mut sent_items: Vec<SentItem>,
 ) -> Result<Vec<SentItem>, AllocError>
-    ensures { IfOk result (λ pinned. pinned.items ≡ filter (words.is_pinned deeds.now) sent_items.items) }
+    ensures { IfOk result (λ pinned. pinned.items
+        ≡ filter (words.is_pinned deeds.now) sent_items.items) }
 {
     if sent_items.is_empty() {
         return Ok(sent_items);
@@ -170,7 +176,8 @@ pub fn has_bundle(
 
 // Whether an item of a number to a peer is among these.
 fn is_among(peer: SpaceId, number: ItemNo, sent_items: &[SentItem]) -> bool
-    ensures { result ≡ words.is_some_of (filter (λ sent_item. sent_item.to == peer && sent_item.number == number) sent_items.now) }
+    ensures { result ≡ words.is_some_of (filter
+        (λ sent_item. sent_item.to == peer && sent_item.number == number) sent_items.now) }
 {
     match sent_items {
         [] => false,
@@ -185,7 +192,8 @@ fn is_among(peer: SpaceId, number: ItemNo, sent_items: &[SentItem]) -> bool
 
 // The counted references of sent items.
 fn refs_in_all(alloc: Global, sent_items: &[SentItem]) -> Result<Vec<WireRep>, AllocError>
-    ensures { IfOk result (λ reps. reps.items ≡ flat_map (λ sent_item. counted_in sent_item.item) sent_items.now) }
+    ensures { IfOk result (λ reps. reps.items
+        ≡ flat_map (λ sent_item. counted_in sent_item.item) sent_items.now) }
 {
     match sent_items {
         [] => Ok(Vec::new(alloc)),
@@ -209,7 +217,8 @@ pub fn pins(alloc: Global, rep: &WireRep, history: &History) -> Result<usize, Al
 
 // The references of the Dirties among sent items.
 fn dirties_in(alloc: Global, sent_items: &[SentItem]) -> Result<Vec<WireRep>, AllocError>
-    ensures { IfOk result (λ reps. reps.items ≡ filter_map (λ sent_item. words.asks_for sent_item.to sent_item.item) sent_items.now) }
+    ensures { IfOk result (λ reps. reps.items
+        ≡ filter_map (λ sent_item. words.asks_for sent_item.to sent_item.item) sent_items.now) }
 {
     match sent_items {
         [] => Ok(Vec::new(alloc)),
@@ -302,7 +311,9 @@ fn is_surrogate(
     deeds: &[Deed],
     rep: &WireRep,
 ) -> Result<bool, AllocError>
-    ensures { IfOk result (λ answer. answer ≡ (is_standing (turns_word here.now.space here.now.n rep.now deeds.now) && not (closed rep.now.owner deeds.now))) }
+    ensures { IfOk result (λ answer. answer
+        ≡ (is_standing (turns_word here.now.space here.now.n rep.now deeds.now) && not
+        (closed rep.now.owner deeds.now))) }
 {
     let turns = turns::turns_of(alloc, here, rep, deeds)?;
     Ok(turns.is_standing() && !sessions::closed(rep.owner, deeds))
@@ -315,7 +326,9 @@ fn surrogates_of(
     deeds: &[Deed],
     reps: &[WireRep],
 ) -> Result<Vec<WireRep>, AllocError>
-    ensures { IfOk result (λ found. found.items ≡ filter (λ rep. is_standing (turns_word here.now.space here.now.n rep deeds.now) && not (closed rep.owner deeds.now)) reps.now) }
+    ensures { IfOk result (λ found. found.items
+        ≡ filter (λ rep. is_standing (turns_word here.now.space here.now.n rep deeds.now) && not
+        (closed rep.owner deeds.now)) reps.now) }
 {
     match reps {
         [] => Ok(Vec::new(alloc)),
@@ -332,7 +345,8 @@ fn surrogates_of(
 
 /// The surrogates on sessions that are open here.
 pub fn surrogates(alloc: Global, here: &Here, history: &History) -> Result<Vec<WireRep>, AllocError>
-    ensures { IfOk result (λ reps. reps.items ≡ words.surrogates here.now.space here.now.n history.now) }
+    ensures { IfOk result (λ reps. reps.items
+        ≡ words.surrogates here.now.space here.now.n history.now) }
 {
     let reps = by_last_dirty(alloc, history)?;
     surrogates_of(alloc, here, history.deeds.as_slice(), reps.as_slice())
@@ -340,7 +354,8 @@ pub fn surrogates(alloc: Global, here: &Here, history: &History) -> Result<Vec<W
 
 // Whether a surrogate can be given up.
 fn is_idle(alloc: Global, here: &Here, history: &History, rep: &WireRep) -> Result<bool, AllocError>
-    ensures { IfOk result (λ answer. answer ≡ words.is_idle here.now.space here.now.n history.now rep.now) }
+    ensures { IfOk result (λ answer. answer
+        ≡ words.is_idle here.now.space here.now.n history.now rep.now) }
 {
     if !turns::is_usable(alloc, *here, *rep, history.deeds.as_slice())? {
         return Ok(false);
@@ -358,7 +373,8 @@ fn first_idle_of(
     history: &History,
     reps: &[WireRep],
 ) -> Result<Option<WireRep>, AllocError>
-    ensures { IfOk result (λ found. found ≡ find (words.is_idle here.now.space here.now.n history.now) reps.now) }
+    ensures { IfOk result (λ found. found
+        ≡ find (words.is_idle here.now.space here.now.n history.now) reps.now) }
 {
     match reps {
         [] => Ok(None),
@@ -377,7 +393,8 @@ pub fn first_idle(
     here: &Here,
     history: &History,
 ) -> Result<Option<WireRep>, AllocError>
-    ensures { IfOk result (λ found. found ≡ words.first_idle here.now.space here.now.n history.now) }
+    ensures { IfOk result (λ found. found
+        ≡ words.first_idle here.now.space here.now.n history.now) }
 {
     let reps = by_last_dirty(alloc, history)?;
     first_idle_of(alloc, here, history, reps.as_slice())

@@ -2,9 +2,9 @@
 
 ghost use Rattle.nob_model_invariant.specs.Laws.{InvariantLaw};
 
-/// Every run of a world has the invariant: its sessions, turns, owners' answers, names, listings, holds, settlements, what
-/// is under way, Calls and Replies, and losses are as they should be after every entry. Asked of the run: what each Call
-/// and Finish handed on is of its types.
+/// Every run of a world has the invariant: its sessions, turns, owners' answers, names, listings,
+/// holds, settlements, what is under way, Calls and Replies, and losses are as they should be after
+/// every entry. Asked of the run: what each Call and Finish handed on is of its types.
 #[tactic(auto, using(crate::proofs::Whole::invariant))]
 pub fn invariant()
     ensures { InvariantLaw }

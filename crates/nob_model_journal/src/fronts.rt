@@ -41,7 +41,9 @@ fn is_in_order(
     space: SpaceId,
     journal: &[Entry],
 ) -> Result<bool, AllocError>
-    ensures { IfOk result (λ answer. answer ≡ tests.is_front 1 (words.acted_from sender.now.space space journal.now) (words.sent_to sender.now.n sender.now.space space journal.now)) }
+    ensures { IfOk result (λ answer. answer
+        ≡ tests.is_front 1 (words.acted_from sender.now.space space journal.now)
+        (words.sent_to sender.now.n sender.now.space space journal.now)) }
 {
     let acted_on = acted_from(alloc, sender.space, space, journal)?;
     let items = sent_to(alloc, sender, space, journal)?;
@@ -55,7 +57,9 @@ fn are_in_order(
     senders: &[SpaceId],
     journal: &[Entry],
 ) -> Result<bool, AllocError>
-    ensures { IfOk result (λ answer. answer ≡ list_all (λ a. tests.is_front 1 (words.acted_from a here.now.space journal.now) (words.sent_to here.now.n a here.now.space journal.now)) senders.now) }
+    ensures { IfOk result (λ answer. answer
+        ≡ list_all (λ a. tests.is_front 1 (words.acted_from a here.now.space journal.now)
+        (words.sent_to here.now.n a here.now.space journal.now)) senders.now) }
 {
     match senders {
         [] => Ok(true),
@@ -112,7 +116,8 @@ fn sends_while_open(deeds: &[Deed], all_gifts: &[GiftList]) -> bool
 
 // Whether the fronts of a space are as they should be.
 fn has_fronts(alloc: Global, here: &Here, journal: &[Entry]) -> Result<bool, AllocError>
-    ensures { IfOk result (λ answer. answer ≡ tests.has_fronts here.now.n journal.now here.now.space) }
+    ensures { IfOk result (λ answer. answer
+        ≡ tests.has_fronts here.now.n journal.now here.now.space) }
 {
     let history = history_at(alloc, here, journal)?;
     let senders = senders_in(alloc, history.deeds.as_slice())?;
@@ -132,7 +137,8 @@ fn have_fronts(
     spaces: &[SpaceId],
     journal: &[Entry],
 ) -> Result<bool, AllocError>
-    ensures { IfOk result (λ answer. answer ≡ list_all (tests.has_fronts n journal.now) spaces.now) }
+    ensures { IfOk result (λ answer. answer
+        ≡ list_all (tests.has_fronts n journal.now) spaces.now) }
 {
     match spaces {
         [] => Ok(true),

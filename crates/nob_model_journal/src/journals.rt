@@ -1,4 +1,5 @@
-//! The words of a journal: what each space did, sent and acted on, and which sessions are open at both ends.
+//! The words of a journal: what each space did, sent and acted on, and which sessions are open at
+//! both ends.
 
 ghost use Rattle.std.specs.Prelude.{◌≡◌, ◌==◌, ◌++◌, IfOk, filter, map};
 ghost use Rattle.std.specs.List.{list_any};
@@ -50,7 +51,8 @@ pub fn deeds_at(alloc: Global, space: SpaceId, journal: &[Entry]) -> Result<Vec<
 
 /// The history of a space.
 pub fn history_at(alloc: Global, here: &Here, journal: &[Entry]) -> Result<History, AllocError>
-    ensures { IfOk result (λ history. history ≡ words.history_at here.now.space here.now.n journal.now) }
+    ensures { IfOk result (λ history. history
+        ≡ words.history_at here.now.space here.now.n journal.now) }
 {
     let deeds = deeds_at(alloc, here.space, journal)?;
     history_of(alloc, here, deeds)
@@ -62,7 +64,9 @@ fn items_to(
     receiver: SpaceId,
     sent_items: &[SentItem],
 ) -> Result<Vec<Item>, AllocError>
-    ensures { IfOk result (λ items. items.items ≡ map (λ sent_item. sent_item.item) (filter (λ sent_item. sent_item.to == receiver) sent_items.now)) }
+    ensures { IfOk result (λ items. items.items
+        ≡ map (λ sent_item. sent_item.item)
+        (filter (λ sent_item. sent_item.to == receiver) sent_items.now)) }
 {
     match sent_items {
         [] => Ok(Vec::new(alloc)),
@@ -83,7 +87,8 @@ pub fn sent_to(
     receiver: SpaceId,
     journal: &[Entry],
 ) -> Result<Vec<Item>, AllocError>
-    ensures { IfOk result (λ items. items.items ≡ words.sent_to sender.now.n sender.now.space receiver journal.now) }
+    ensures { IfOk result (λ items. items.items
+        ≡ words.sent_to sender.now.n sender.now.space receiver journal.now) }
 {
     let history = history_at(alloc, sender, journal)?;
     let sent_items = transit::sent(alloc, &history)?;
@@ -112,7 +117,8 @@ pub fn acted(
     }
 }
 
-/// The items from a space that another acted on, with the numbers that were answered, the first first.
+/// The items from a space that another acted on, with the numbers that were answered, the first
+/// first.
 pub fn acted_from(
     alloc: Global,
     sender: SpaceId,

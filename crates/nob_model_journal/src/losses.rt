@@ -34,7 +34,9 @@ fn is_given_up(
     cleaned: &WireRep,
     deeds: &[Deed],
 ) -> Result<bool, AllocError>
-    ensures { IfOk result (λ answer. answer ≡ (is_same rep.now cleaned.now && (turns_word here.now.space here.now.n rep.now deeds.now).asks)) }
+    ensures { IfOk result (λ answer. answer
+        ≡ (is_same rep.now cleaned.now &&
+        (turns_word here.now.space here.now.n rep.now deeds.now).asks)) }
 {
     if *rep != *cleaned {
         return Ok(false);
@@ -42,14 +44,16 @@ fn is_given_up(
     Ok(turns::turns_of(alloc, here, rep, deeds)?.asks)
 }
 
-// The spaces from which came the copies of a reference that a space acted on since it last sent a Clean for it.
+// The spaces from which came the copies of a reference that a space acted on since it last sent a
+// Clean for it.
 fn sources(
     alloc: Global,
     here: &Here,
     rep: &WireRep,
     deeds: &[Deed],
 ) -> Result<Vec<SpaceId>, AllocError>
-    ensures { IfOk result (λ spaces. spaces.items ≡ words.sources here.now.space here.now.n rep.now deeds.now) }
+    ensures { IfOk result (λ spaces. spaces.items
+        ≡ words.sources here.now.space here.now.n rep.now deeds.now) }
 {
     match deeds {
         [] => Ok(Vec::new(alloc)),
@@ -80,7 +84,8 @@ fn is_loss(
     item: &Option<Item>,
     deeds: &[Deed],
 ) -> Result<bool, AllocError>
-    ensures { IfOk result (λ answer. answer ≡ words.is_loss here.now.space here.now.n from rep.now item.now deeds.now) }
+    ensures { IfOk result (λ answer. answer
+        ≡ words.is_loss here.now.space here.now.n from rep.now item.now deeds.now) }
 {
     match item {
         Some(item) => match item {
@@ -124,7 +129,8 @@ fn are_excuses(
     journal: &[Entry],
     all: &[SpaceId],
 ) -> Result<bool, AllocError>
-    ensures { IfOk result (λ answer. answer ≡ list_all (words.is_excuse space rep.now journal.now) all.now) }
+    ensures { IfOk result (λ answer. answer
+        ≡ list_all (words.is_excuse space rep.now journal.now) all.now) }
 {
     match all {
         [] => Ok(true),
@@ -137,7 +143,8 @@ fn are_excuses(
     }
 }
 
-// The spaces from which copies of a reference came, where the item of this number is acted on after these deeds.
+// The spaces from which copies of a reference came, where the item of this number is acted on after
+// these deeds.
 fn sources_with(
     alloc: Global,
     here: &Here,
@@ -146,7 +153,8 @@ fn sources_with(
     rep: &WireRep,
     deeds: &[Deed],
 ) -> Result<Vec<SpaceId>, AllocError>
-    ensures { IfOk result (λ spaces. spaces.items ≡ words.sources here.now.space here.now.n rep.now (Deed.Act from number ∷ deeds.now)) }
+    ensures { IfOk result (λ spaces. spaces.items
+        ≡ words.sources here.now.space here.now.n rep.now (Deed.Act from number ∷ deeds.now)) }
 {
     let mut spaces = sources(alloc, here, rep, deeds)?;
     let item = sessions::item_at(alloc, from, number, deeds)?;
@@ -165,7 +173,8 @@ fn is_excused(
     journal: &[Entry],
     rep: &WireRep,
 ) -> Result<bool, AllocError>
-    ensures { IfOk result (λ answer. answer ≡ tests.is_excused here.now.n here.now.space from number journal.now rep.now) }
+    ensures { IfOk result (λ answer. answer
+        ≡ tests.is_excused here.now.n here.now.space from number journal.now rep.now) }
 {
     let deeds = deeds_at(alloc, here.space, journal)?;
     let item = sessions::item_at(alloc, from, number, deeds.as_slice())?;
@@ -185,7 +194,8 @@ fn are_excused(
     journal: &[Entry],
     reps: &[WireRep],
 ) -> Result<bool, AllocError>
-    ensures { IfOk result (λ answer. answer ≡ list_all (tests.is_excused here.now.n here.now.space from number journal.now) reps.now) }
+    ensures { IfOk result (λ answer. answer
+        ≡ list_all (tests.is_excused here.now.n here.now.space from number journal.now) reps.now) }
 {
     match reps {
         [] => Ok(true),
@@ -228,7 +238,8 @@ fn is_lossless(
     deed: &Option<Deed>,
     journal: &[Entry],
 ) -> Result<bool, AllocError>
-    ensures { IfOk result (λ answer. answer ≡ tests.is_lossless here.now.n here.now.space deed.now journal.now) }
+    ensures { IfOk result (λ answer. answer
+        ≡ tests.is_lossless here.now.n here.now.space deed.now journal.now) }
 {
     match deed {
         Some(Deed::Act(from, number)) => {

@@ -13,8 +13,9 @@ use crate::{findings, fronts, losses, safety};
 use nob_model_types::Entry;
 use std::alloc::{AllocError, Global};
 
-/// The verdict on a journal of `n` spaces, the newest entry first: yes where all four promises are kept, else the first
-/// that isn't. Only memory fails it. It looks at the whole journal again for each entry and each space.
+/// The verdict on a journal of `n` spaces, the newest entry first: yes where all four promises are
+/// kept, else the first that isn't. Only memory fails it. It looks at the whole journal again for
+/// each entry and each space.
 pub fn verdict_of(alloc: Global, n: u16, journal: &[Entry]) -> Result<Verdict, AllocError>
     ensures { IfOk result (λ verdict. IsVerdict n journal.now verdict) }
 {

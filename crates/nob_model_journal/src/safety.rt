@@ -37,7 +37,9 @@ fn can_use_by(
     history: &History,
     journal: &[Entry],
 ) -> Result<bool, AllocError>
-    ensures { IfOk result (λ answer. answer ≡ (is_held_word space rep.now history.now && words.reaches_owner space rep.now journal.now)) }
+    ensures { IfOk result (λ answer. answer
+        ≡ (is_held_word space rep.now history.now && words.reaches_owner space rep.now
+        journal.now)) }
 {
     if !holds::is_held(alloc, space, rep, history)? {
         return Ok(false);
@@ -52,7 +54,8 @@ pub fn can_use(
     rep: &WireRep,
     journal: &[Entry],
 ) -> Result<bool, AllocError>
-    ensures { IfOk result (λ answer. answer ≡ words.can_use here.now.n here.now.space rep.now journal.now) }
+    ensures { IfOk result (λ answer. answer
+        ≡ words.can_use here.now.n here.now.space rep.now journal.now) }
 {
     let history = history_at(alloc, here, journal)?;
     can_use_by(alloc, here.space, rep, &history, journal)
@@ -65,7 +68,8 @@ fn is_in_transit(
     sent_item: &SentItem,
     journal: &[Entry],
 ) -> Result<bool, AllocError>
-    ensures { IfOk result (λ answer. answer ≡ words.is_in_transit sender sent_item.now journal.now) }
+    ensures { IfOk result (λ answer. answer
+        ≡ words.is_in_transit sender sent_item.now journal.now) }
 {
     let deeds = deeds_at(alloc, sender, journal)?;
     Ok(!transit::is_settled(alloc, sent_item.to, sent_item.number, deeds.as_slice())?)
@@ -79,7 +83,8 @@ fn is_open_copy(
     journal: &[Entry],
     sent_item: &SentItem,
 ) -> Result<bool, AllocError>
-    ensures { IfOk result (λ answer. answer ≡ words.is_open_copy sender rep.now journal.now sent_item.now) }
+    ensures { IfOk result (λ answer. answer
+        ≡ words.is_open_copy sender rep.now journal.now sent_item.now) }
 {
     if !turns::carries(alloc, *rep, &sent_item.item)? {
         return Ok(false);
@@ -101,7 +106,8 @@ fn is_any_open_copy(
     journal: &[Entry],
     sent_items: &[SentItem],
 ) -> Result<bool, AllocError>
-    ensures { IfOk result (λ answer. answer ≡ list_any (words.is_open_copy sender rep.now journal.now) sent_items.now) }
+    ensures { IfOk result (λ answer. answer
+        ≡ list_any (words.is_open_copy sender rep.now journal.now) sent_items.now) }
 {
     match sent_items {
         [] => Ok(false),
@@ -121,7 +127,8 @@ pub fn has_open_copy(
     rep: &WireRep,
     journal: &[Entry],
 ) -> Result<bool, AllocError>
-    ensures { IfOk result (λ answer. answer ≡ words.has_open_copy here.now.n here.now.space rep.now journal.now) }
+    ensures { IfOk result (λ answer. answer
+        ≡ words.has_open_copy here.now.n here.now.space rep.now journal.now) }
 {
     let history = history_at(alloc, here, journal)?;
     let sent_items = transit::sent(alloc, &history)?;
@@ -130,7 +137,8 @@ pub fn has_open_copy(
 
 // Whether a space needs a reference.
 fn needs(alloc: Global, here: &Here, rep: &WireRep, journal: &[Entry]) -> Result<bool, AllocError>
-    ensures { IfOk result (λ answer. answer ≡ tests.needs here.now.n rep.now journal.now here.now.space) }
+    ensures { IfOk result (λ answer. answer
+        ≡ tests.needs here.now.n rep.now journal.now here.now.space) }
 {
     if can_use(alloc, here, rep, journal)? {
         return Ok(true);
@@ -146,7 +154,8 @@ fn no_space_needs(
     journal: &[Entry],
     spaces: &[SpaceId],
 ) -> Result<bool, AllocError>
-    ensures { IfOk result (λ answer. answer ≡ list_all (λ other. not (tests.needs n rep.now journal.now other)) spaces.now) }
+    ensures { IfOk result (λ answer. answer
+        ≡ list_all (λ other. not (tests.needs n rep.now journal.now other)) spaces.now) }
 {
     match spaces {
         [] => Ok(true),
@@ -166,7 +175,8 @@ fn is_unneeded(
     deed: &Option<Deed>,
     journal: &[Entry],
 ) -> Result<bool, AllocError>
-    ensures { IfOk result (λ answer. answer ≡ tests.is_unneeded here.now.n here.now.space deed.now journal.now) }
+    ensures { IfOk result (λ answer. answer
+        ≡ tests.is_unneeded here.now.n here.now.space deed.now journal.now) }
 {
     match deed {
         Some(Deed::Withdraw(index)) => {

@@ -22,7 +22,8 @@ use std::alloc::Global;
 // The reason whose number a text spells.
 pub fn whole_reason(alloc: Global, text: &[u8]) -> Result<Reason, Unread>
     ensures found { IfOk result (λ reason. text.now ≡ decimal (reason_number reason)) }
-    ensures only { (reason : ReasonOf) → text.now ≡ decimal (reason_number reason) → Reads (λ r. r ≡ reason) result }
+    ensures only { (reason : ReasonOf) → text.now ≡ decimal (reason_number reason)
+        → Reads (λ r. r ≡ reason) result }
 {
     let number = whole_number(alloc, text)?;
     if number > 6 {
@@ -37,7 +38,8 @@ pub fn whole_reason(alloc: Global, text: &[u8]) -> Result<Reason, Unread>
 // The reply that a text spells behind its word.
 pub fn reply_of(alloc: Global, text: &[u8]) -> Result<Answer, Unread>
     ensures found { IfOk result (λ answer. Tells (codes "reply " ++ text.now) answer) }
-    ensures only { (status : ℕ) (value : ValueOf) → ReadsTold (codes "reply " ++ text.now) result (Answer.Replied status value) }
+    ensures only { (status : ℕ) (value : ValueOf)
+        → ReadsTold (codes "reply " ++ text.now) result (Answer.Replied status value) }
 {
     let (status, behind) = number_at(alloc, text)?;
     if status > 255 {
@@ -50,7 +52,8 @@ pub fn reply_of(alloc: Global, text: &[u8]) -> Result<Answer, Unread>
 // The settled message that a text spells behind its word.
 pub fn settled_of(alloc: Global, text: &[u8]) -> Result<Answer, Unread>
     ensures found { IfOk result (λ answer. Tells (codes "settled " ++ text.now) answer) }
-    ensures only { (peer item : ℕ) → ReadsTold (codes "settled " ++ text.now) result (Answer.Settled peer item) }
+    ensures only { (peer item : ℕ) → ReadsTold (codes "settled " ++ text.now) result
+        (Answer.Settled peer item) }
 {
     let (peer, behind) = number_at(alloc, text)?;
     let Some(peer) = space_of(peer) else {
@@ -87,10 +90,15 @@ pub fn job_of(alloc: Global, text: &[u8]) -> Result<Answer, Unread>
 
 // The numbers of a job, of its client and of the call at the front of a text, and what is left.
 fn origin_at(alloc: Global, text: &[u8]) -> Result<(u64, u64, u64, &[u8]), Unread>
-    ensures found { IfOk result (λ parts. text.now ≡ decimal parts.0 ++ (codes " from " ++ (decimal parts.1 ++ (codes " call " ++ (decimal parts.2 ++ parts.3.now))))) }
-    ensures only { (job client call : ℕ) (rest : List ℕ) → job < 2 ^ 64 → client < 2 ^ 64 → call < 2 ^ 64 → Stops rest
-        → text.now ≡ decimal job ++ (codes " from " ++ (decimal client ++ (codes " call " ++ (decimal call ++ rest))))
-        → Reads (λ parts. (parts.0 ≡ job) × (parts.1 ≡ client) × (parts.2 ≡ call) × (parts.3.now ≡ rest)) result }
+    ensures found { IfOk result (λ parts. text.now
+        ≡ decimal parts.0 ++ (codes " from " ++
+        (decimal parts.1 ++ (codes " call " ++ (decimal parts.2 ++ parts.3.now))))) }
+    ensures only { (job client call : ℕ) (rest : List ℕ) → job < 2 ^ 64 → client < 2 ^ 64
+        → call < 2 ^ 64 → Stops rest
+        → text.now ≡ decimal job ++ (codes " from " ++
+        (decimal client ++ (codes " call " ++ (decimal call ++ rest))))
+        → Reads (λ parts. (parts.0 ≡ job) × (parts.1 ≡ client) × (parts.2 ≡ call)
+        × (parts.3.now ≡ rest)) result }
 {
     let (job, behind) = number_at(alloc, text)?;
     let (client, left) = number_at(alloc, after(behind, b" from ")?)?;

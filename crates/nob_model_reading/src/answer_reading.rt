@@ -16,11 +16,13 @@ use nob_model_text::Unread;
 use nob_model_types::Answer;
 use std::alloc::{AllocError, Global};
 
-/// The answer that a text spells: `None` where it spells none, as a transmit's, whose frames scripts and traces spell
-/// in two ways. Only memory fails it. It recurses once for each level of a value.
+/// The answer that a text spells: `None` where it spells none, as a transmit's, whose frames
+/// scripts and traces spell in two ways. Only memory fails it. It recurses once for each level of a
+/// value.
 pub fn answer_of(alloc: Global, text: &[u8]) -> Result<Option<Answer>, AllocError>
     ensures found { IfOk result (λ r. IfSome r (λ answer. Tells text.now answer)) }
-    ensures only { IfOk result (λ r. (answer : AnswerOf) → IsTold answer → text.now ≡ answer_text [] answer → r ≡ Some answer) }
+    ensures only { IfOk result (λ r. (answer : AnswerOf) → IsTold answer
+        → text.now ≡ answer_text [] answer → r ≡ Some answer) }
 {
     match whole_answer(alloc, text) {
         Ok(answer) => Ok(Some(answer)),
@@ -46,14 +48,17 @@ fn answer_by(alloc: Global, first: u8, text: &[u8]) -> Result<Answer, Unread>
     ensures exported { (rep : RepOf) → ReadsTold (first ∷ text.now) result (Answer.Exported rep) }
     ensures ok { ReadsTold (first ∷ text.now) result Answer.Done }
     ensures called { (call : ℕ) → ReadsTold (first ∷ text.now) result (Answer.Called call) }
-    ensures replied { (status : ℕ) (value : ValueOf) → ReadsTold (first ∷ text.now) result (Answer.Replied status value) }
+    ensures replied { (status : ℕ) (value : ValueOf)
+        → ReadsTold (first ∷ text.now) result (Answer.Replied status value) }
     ensures ended { ReadsTold (first ∷ text.now) result Answer.Ended }
     ensures job { (job : JobOf) → ReadsTold (first ∷ text.now) result (Answer.Job job) }
     ensures finished { ReadsTold (first ∷ text.now) result Answer.Finished }
     ensures dropped { ReadsTold (first ∷ text.now) result Answer.Dropped }
     ensures acted { (item : ℕ) → ReadsTold (first ∷ text.now) result (Answer.Acted item) }
-    ensures closed { (reason : ReasonOf) → ReadsTold (first ∷ text.now) result (Answer.Closed reason) }
-    ensures settled { (peer item : ℕ) → ReadsTold (first ∷ text.now) result (Answer.Settled peer item) }
+    ensures closed { (reason : ReasonOf)
+        → ReadsTold (first ∷ text.now) result (Answer.Closed reason) }
+    ensures settled { (peer item : ℕ) → ReadsTold (first ∷ text.now) result
+        (Answer.Settled peer item) }
     ensures cleaned { (rep : RepOf) → ReadsTold (first ∷ text.now) result (Answer.Cleaned rep) }
     ensures withdrawn { ReadsTold (first ∷ text.now) result Answer.Withdrawn }
     ensures took { (count : ℕ) → ReadsTold (first ∷ text.now) result (Answer.Took count) }
@@ -104,7 +109,8 @@ fn c_answer(alloc: Global, text: &[u8]) -> Result<Answer, Unread>
 // The answer to a Clean, or a close, behind the first two letters of its word.
 fn cl_answer(alloc: Global, text: &[u8]) -> Result<Answer, Unread>
     ensures found { IfOk result (λ answer. Tells (99 ∷ 108 ∷ text.now) answer) }
-    ensures closed { (reason : ReasonOf) → ReadsTold (99 ∷ 108 ∷ text.now) result (Answer.Closed reason) }
+    ensures closed { (reason : ReasonOf)
+        → ReadsTold (99 ∷ 108 ∷ text.now) result (Answer.Closed reason) }
     ensures cleaned { (rep : RepOf) → ReadsTold (99 ∷ 108 ∷ text.now) result (Answer.Cleaned rep) }
 {
     match text {
@@ -152,7 +158,8 @@ fn job_answer(alloc: Global, text: &[u8]) -> Result<Answer, Unread>
 // The answer to a TakeReply, behind the first letter of its word.
 fn replied_answer(alloc: Global, text: &[u8]) -> Result<Answer, Unread>
     ensures found { IfOk result (λ answer. Tells (114 ∷ text.now) answer) }
-    ensures replied { (status : ℕ) (value : ValueOf) → ReadsTold (114 ∷ text.now) result (Answer.Replied status value) }
+    ensures replied { (status : ℕ) (value : ValueOf)
+        → ReadsTold (114 ∷ text.now) result (Answer.Replied status value) }
 {
     match text {
         [b'e', b'p', b'l', b'y', b' ', rest @ ..] => reply_of(alloc, rest),
@@ -163,7 +170,8 @@ fn replied_answer(alloc: Global, text: &[u8]) -> Result<Answer, Unread>
 // The answer to a Settle, behind the first letter of its word.
 fn settled_answer(alloc: Global, text: &[u8]) -> Result<Answer, Unread>
     ensures found { IfOk result (λ answer. Tells (115 ∷ text.now) answer) }
-    ensures settled { (peer item : ℕ) → ReadsTold (115 ∷ text.now) result (Answer.Settled peer item) }
+    ensures settled { (peer item : ℕ) → ReadsTold (115 ∷ text.now) result
+        (Answer.Settled peer item) }
 {
     match text {
         [b'e', b't', b't', b'l', b'e', b'd', b' ', rest @ ..] => settled_of(alloc, rest),

@@ -15,11 +15,12 @@ use nob_model_text::Unread;
 use nob_model_types::Event;
 use std::alloc::{AllocError, Global};
 
-/// The event that a text of a script spells: `None` where it spells none, as an arrival's, which no script has. Only
-/// memory fails it. It recurses once for each level of a value.
+/// The event that a text of a script spells: `None` where it spells none, as an arrival's, which no
+/// script has. Only memory fails it. It recurses once for each level of a value.
 pub fn event_of(alloc: Global, text: &[u8]) -> Result<Option<Event>, AllocError>
     ensures found { IfOk result (λ r. IfSome r (λ event. Speaks text.now event)) }
-    ensures only { IfOk result (λ r. (event : EventOf) → IsSpoken event → text.now ≡ event_text [] event → r ≡ Some event) }
+    ensures only { IfOk result (λ r. (event : EventOf) → IsSpoken event
+        → text.now ≡ event_text [] event → r ≡ Some event) }
 {
     match whole_event(alloc, text) {
         Ok(event) => Ok(Some(event)),
@@ -45,10 +46,12 @@ fn event_by(alloc: Global, first: u8, text: &[u8]) -> Result<Event, Unread>
     ensures export { ReadsSpoken (first ∷ text.now) result Event.Export }
     ensures dup { (rep : RepOf) → ReadsSpoken (first ∷ text.now) result (Event.Dup rep) }
     ensures release { (rep : RepOf) → ReadsSpoken (first ∷ text.now) result (Event.Release rep) }
-    ensures call { (target : RepOf) (method : ℕ) (value : ValueOf) → ReadsSpoken (first ∷ text.now) result (Event.Call target method value) }
+    ensures call { (target : RepOf) (method : ℕ) (value : ValueOf)
+        → ReadsSpoken (first ∷ text.now) result (Event.Call target method value) }
     ensures take { (call : ℕ) → ReadsSpoken (first ∷ text.now) result (Event.TakeReply call) }
     ensures claim { ReadsSpoken (first ∷ text.now) result Event.Claim }
-    ensures finish { (job : ℕ) (outcome : OutcomeOf) → ReadsSpoken (first ∷ text.now) result (Event.Finish job outcome) }
+    ensures finish { (job : ℕ) (outcome : OutcomeOf)
+        → ReadsSpoken (first ∷ text.now) result (Event.Finish job outcome) }
     ensures act { (peer : ℕ) → ReadsSpoken (first ∷ text.now) result (Event.Act peer) }
     ensures settle { ReadsSpoken (first ∷ text.now) result Event.Settle }
     ensures clean { ReadsSpoken (first ∷ text.now) result Event.Clean }
@@ -88,7 +91,8 @@ fn act_event(alloc: Global, text: &[u8]) -> Result<Event, Unread>
 // A Call, a Claim, a Clean or a Close, behind the first letter of its word.
 fn c_event(alloc: Global, text: &[u8]) -> Result<Event, Unread>
     ensures found { IfOk result (λ event. Speaks (99 ∷ text.now) event) }
-    ensures call { (target : RepOf) (method : ℕ) (value : ValueOf) → ReadsSpoken (99 ∷ text.now) result (Event.Call target method value) }
+    ensures call { (target : RepOf) (method : ℕ) (value : ValueOf)
+        → ReadsSpoken (99 ∷ text.now) result (Event.Call target method value) }
     ensures claim { ReadsSpoken (99 ∷ text.now) result Event.Claim }
     ensures clean { ReadsSpoken (99 ∷ text.now) result Event.Clean }
     ensures close { (peer : ℕ) → ReadsSpoken (99 ∷ text.now) result (Event.Close peer) }
@@ -146,7 +150,8 @@ fn export_event(text: &[u8]) -> Result<Event, Unread>
 // A Finish, behind the first letter of its word.
 fn finish_event(alloc: Global, text: &[u8]) -> Result<Event, Unread>
     ensures found { IfOk result (λ event. Speaks (102 ∷ text.now) event) }
-    ensures finish { (job : ℕ) (outcome : OutcomeOf) → ReadsSpoken (102 ∷ text.now) result (Event.Finish job outcome) }
+    ensures finish { (job : ℕ) (outcome : OutcomeOf)
+        → ReadsSpoken (102 ∷ text.now) result (Event.Finish job outcome) }
 {
     match text {
         [b'i', b'n', b'i', b's', b'h', b' ', rest @ ..] => finish_of(alloc, rest),

@@ -1,5 +1,5 @@
-//! The texts of events, answers and results to what they spell, each exactly: what is read spells the text, and
-//! whatever the text spells is read.
+//! The texts of events, answers and results to what they spell, each exactly: what is read spells
+//! the text, and whatever the text spells is read.
 #![tactic(auto)]
 
 mod answer_parts;

@@ -18,8 +18,10 @@ use std::alloc::Global;
 
 // The outcome that a text spells.
 pub fn whole_outcome(alloc: Global, text: &[u8]) -> Result<Outcome, Unread>
-    ensures found { IfOk result (λ outcome. spec.IsOutcome outcome × (text.now ≡ spec.outcome_text outcome)) }
-    ensures only { (outcome : OutcomeOf) → spec.IsOutcome outcome → text.now ≡ spec.outcome_text outcome → Reads (λ o. o ≡ outcome) result }
+    ensures found { IfOk result (λ outcome. spec.IsOutcome outcome
+        × (text.now ≡ spec.outcome_text outcome)) }
+    ensures only { (outcome : OutcomeOf) → spec.IsOutcome outcome
+        → text.now ≡ spec.outcome_text outcome → Reads (λ o. o ≡ outcome) result }
 {
     match text {
         b"nomethod" => Ok(Outcome::NoMethod),
@@ -36,7 +38,8 @@ pub fn whole_outcome(alloc: Global, text: &[u8]) -> Result<Outcome, Unread>
 // The call that a text spells behind its word.
 pub fn call_of(alloc: Global, text: &[u8]) -> Result<Event, Unread>
     ensures found { IfOk result (λ event. Speaks (codes "call " ++ text.now) event) }
-    ensures only { (target : RepOf) (method : ℕ) (value : ValueOf) → spec.IsRep target → method < 2 ^ 16 → values.HasText value
+    ensures only { (target : RepOf) (method : ℕ) (value : ValueOf) → spec.IsRep target
+        → method < 2 ^ 16 → values.HasText value
         → text.now ≡ values.rep_text target ++ 32 ∷ (decimal method ++ 32 ∷ values.value_text value)
         → Reads (λ event. event ≡ Event.Call target method value) result }
 {
@@ -59,7 +62,8 @@ pub fn call_of(alloc: Global, text: &[u8]) -> Result<Event, Unread>
 // The end of a job that a text spells behind its word.
 pub fn finish_of(alloc: Global, text: &[u8]) -> Result<Event, Unread>
     ensures found { IfOk result (λ event. Speaks (codes "finish " ++ text.now) event) }
-    ensures only { (job : ℕ) (outcome : OutcomeOf) → job < 2 ^ 64 → spec.IsOutcome outcome → text.now ≡ decimal job ++ 32 ∷ spec.outcome_text outcome
+    ensures only { (job : ℕ) (outcome : OutcomeOf) → job < 2 ^ 64 → spec.IsOutcome outcome
+        → text.now ≡ decimal job ++ 32 ∷ spec.outcome_text outcome
         → Reads (λ event. event ≡ Event.Finish job outcome) result }
 {
     let (job, behind) = number_at(alloc, text)?;

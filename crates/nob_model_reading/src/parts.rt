@@ -27,7 +27,8 @@ pub fn whole_number(alloc: Global, text: &[u8]) -> Result<u64, Unread>
 /// The space that a text spells.
 pub fn whole_space(alloc: Global, text: &[u8]) -> Result<SpaceId, Unread>
     ensures found { IfOk result (λ space. IsSpace space × (text.now ≡ decimal space)) }
-    ensures only { (space : ℕ) → IsSpace space → text.now ≡ decimal space → Reads (λ s. s ≡ space) result }
+    ensures only { (space : ℕ) → IsSpace space → text.now ≡ decimal space
+        → Reads (λ s. s ≡ space) result }
 {
     let number = whole_number(alloc, text)?;
     match space_of(number) {
@@ -39,7 +40,8 @@ pub fn whole_space(alloc: Global, text: &[u8]) -> Result<SpaceId, Unread>
 // The reference that a text spells.
 pub fn whole_rep(alloc: Global, text: &[u8]) -> Result<WireRep, Unread>
     ensures found { IfOk result (λ rep. IsRep rep × (text.now ≡ rep_text rep)) }
-    ensures only { (rep : RepOf) → IsRep rep → text.now ≡ rep_text rep → Reads (λ r. (r.owner ≡ rep.owner) × (r.index ≡ rep.index)) result }
+    ensures only { (rep : RepOf) → IsRep rep → text.now ≡ rep_text rep
+        → Reads (λ r. (r.owner ≡ rep.owner) × (r.index ≡ rep.index)) result }
 {
     let (owner, index, rest) = rep_numbers_at(alloc, text)?;
     if !rest.is_empty() {
@@ -65,7 +67,8 @@ pub fn after_space(text: &[u8]) -> Result<&[u8], Unread>
 /// What follows a word with which a text begins.
 pub fn after<'a>(text: &'a [u8], word: &[u8]) -> Result<&'a [u8], Unread>
     ensures found { IfOk result (λ rest. text.now ≡ word.now ++ rest.now) }
-    ensures only { (rest : List ℕ) → text.now ≡ word.now ++ rest → Reads (λ r. r.now ≡ rest) result }
+    ensures only { (rest : List ℕ) → text.now ≡ word.now ++ rest
+        → Reads (λ r. r.now ≡ rest) result }
 {
     match text.strip_prefix(word) {
         Some(rest) => Ok(rest),

@@ -13,8 +13,8 @@ use nob_model_types::{Answer, Job};
 use nob_pickle::Value;
 use std::alloc::{AllocError, Global};
 
-/// The text of an answer, where the frames of a transmit are written so. Only memory fails it. It recurses once for
-/// each level of a value.
+/// The text of an answer, where the frames of a transmit are written so. Only memory fails it. It
+/// recurses once for each level of a value.
 pub fn answer_text(alloc: Global, answer: &Answer, frames: &str) -> Result<String, AllocError>
     ensures { IfOk result (λ text. string_bytes text ≡ spec.answer_text frames.now answer.now) }
 {
@@ -51,7 +51,8 @@ fn called_text(alloc: Global, call: u64) -> Result<String, AllocError>
 }
 
 fn replied_text(alloc: Global, status: u8, value: &Value) -> Result<String, AllocError>
-    ensures { IfOk result (λ text. string_bytes text ≡ codes "reply " ++ (decimal status ++ 32 ∷ values.value_text value.now)) }
+    ensures { IfOk result (λ text. string_bytes text
+        ≡ codes "reply " ++ (decimal status ++ 32 ∷ values.value_text value.now)) }
 {
     let value = value_text(alloc, value)?;
     format!(in alloc; "reply {status} {value}")
@@ -76,14 +77,16 @@ fn acted_text(alloc: Global, item: u64) -> Result<String, AllocError>
 }
 
 fn closed_text(alloc: Global, reason: Reason) -> Result<String, AllocError>
-    ensures { IfOk result (λ text. string_bytes text ≡ codes "closed " ++ decimal (reason_number reason)) }
+    ensures { IfOk result (λ text. string_bytes text
+        ≡ codes "closed " ++ decimal (reason_number reason)) }
 {
     let number = reason.number();
     format!(in alloc; "closed {number}")
 }
 
 fn settled_text(alloc: Global, peer: SpaceId, item: ItemNo) -> Result<String, AllocError>
-    ensures { IfOk result (λ text. string_bytes text ≡ codes "settled " ++ (decimal peer ++ 32 ∷ decimal item)) }
+    ensures { IfOk result (λ text. string_bytes text
+        ≡ codes "settled " ++ (decimal peer ++ 32 ∷ decimal item)) }
 {
     let item = item.get();
     format!(in alloc; "settled {peer} {item}")

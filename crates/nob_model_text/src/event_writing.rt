@@ -13,8 +13,8 @@ use nob_model_types::{Event, Outcome};
 use nob_pickle::Value;
 use std::alloc::{AllocError, Global};
 
-/// The text of an event, where the bytes of a frame that arrives are written so. Only memory fails it. It recurses
-/// once for each level of a value.
+/// The text of an event, where the bytes of a frame that arrives are written so. Only memory fails
+/// it. It recurses once for each level of a value.
 pub fn event_text(alloc: Global, event: &Event, bytes: &str) -> Result<String, AllocError>
     ensures { IfOk result (λ text. string_bytes text ≡ spec.event_text bytes.now event.now) }
 {
@@ -62,7 +62,9 @@ fn call_text(
     method: u16,
     value: &Value,
 ) -> Result<String, AllocError>
-    ensures { IfOk result (λ text. string_bytes text ≡ codes "call " ++ (values.rep_text target ++ 32 ∷ (decimal method ++ 32 ∷ values.value_text value.now))) }
+    ensures { IfOk result (λ text. string_bytes text
+        ≡ codes "call " ++ (values.rep_text target ++ 32 ∷
+        (decimal method ++ 32 ∷ values.value_text value.now))) }
 {
     let target = rep_text(alloc, target)?;
     let value = value_text(alloc, value)?;
@@ -76,7 +78,8 @@ fn arrive_text(alloc: Global, bytes: &str) -> Result<String, AllocError>
 }
 
 fn finish_text(alloc: Global, job: JobNo, outcome: &Outcome) -> Result<String, AllocError>
-    ensures { IfOk result (λ text. string_bytes text ≡ codes "finish " ++ (decimal job ++ 32 ∷ spec.outcome_text outcome.now)) }
+    ensures { IfOk result (λ text. string_bytes text
+        ≡ codes "finish " ++ (decimal job ++ 32 ∷ spec.outcome_text outcome.now)) }
 {
     let job = job.get();
     let outcome = outcome_text(alloc, outcome)?;

@@ -16,11 +16,12 @@ use nob_ids::{SpaceId, WireRep};
 use nob_trace_text::{bytes_of, number_of};
 use std::alloc::{AllocError, Global};
 
-/// The number at the front of a text, up to the first mark, and what is left. Only memory and a text that begins
-/// otherwise fail it.
+/// The number at the front of a text, up to the first mark, and what is left. Only memory and a
+/// text that begins otherwise fail it.
 pub fn number_at(alloc: Global, text: &[u8]) -> Result<(u64, &[u8]), Unread>
     ensures found { IfOk result (λ parts. text.now ≡ decimal parts.0 ++ parts.1.now) }
-    ensures only { (n : ℕ) (rest : List ℕ) → n < 2 ^ 64 → spec.Stops rest → text.now ≡ decimal n ++ rest
+    ensures only { (n : ℕ) (rest : List ℕ) → n < 2 ^ 64 → spec.Stops rest
+        → text.now ≡ decimal n ++ rest
         → Reads (λ parts. (parts.0 ≡ n) × (parts.1.now ≡ rest)) result }
 {
     let (front, rest) = front_of(text);
@@ -33,7 +34,8 @@ pub fn number_at(alloc: Global, text: &[u8]) -> Result<(u64, &[u8]), Unread>
 // The signed number at the front of a text, and what is left.
 pub fn int_at(alloc: Global, text: &[u8]) -> Result<(i64, &[u8]), Unread>
     ensures found { IfOk result (λ parts. text.now ≡ signed_decimal parts.0 ++ parts.1.now) }
-    ensures only { (n : ℤ) (rest : List ℕ) → FitsSigned w64 n → spec.Stops rest → text.now ≡ signed_decimal n ++ rest
+    ensures only { (n : ℤ) (rest : List ℕ) → FitsSigned w64 n → spec.Stops rest
+        → text.now ≡ signed_decimal n ++ rest
         → Reads (λ parts. (parts.0 ≡ n) × (parts.1.now ≡ rest)) result }
 {
     let (front, rest) = front_of(text);
@@ -46,7 +48,8 @@ pub fn int_at(alloc: Global, text: &[u8]) -> Result<(i64, &[u8]), Unread>
 // The signed number that a text spells: `None` where it spells none.
 fn int_of(alloc: Global, text: &[u8]) -> Result<Option<i64>, AllocError>
     ensures found { IfOk result (λ r. IfSome r (λ n. text.now ≡ signed_decimal n)) }
-    ensures only { IfOk result (λ r. (n : ℤ) → FitsSigned w64 n → text.now ≡ signed_decimal n → r ≡ Some n) }
+    ensures only { IfOk result (λ r. (n : ℤ) → FitsSigned w64 n → text.now ≡ signed_decimal n
+        → r ≡ Some n) }
 {
     let Some(number) = parsed(text) else {
         return Ok(None);
@@ -71,10 +74,12 @@ fn parsed(text: &[u8]) -> Option<i64>
     }
 }
 
-/// The bytes at the front of a text, up to the first mark, and what is left. They are none where a mark is first.
+/// The bytes at the front of a text, up to the first mark, and what is left. They are none where a
+/// mark is first.
 pub fn bytes_at(alloc: Global, text: &[u8]) -> Result<(Vec<u8>, &[u8]), Unread>
     ensures found { IfOk result (λ parts. text.now ≡ encode_lower parts.0.items ++ parts.1.now) }
-    ensures only { (bytes rest : List ℕ) → IsBytes bytes → spec.Stops rest → text.now ≡ encode_lower bytes ++ rest
+    ensures only { (bytes rest : List ℕ) → IsBytes bytes → spec.Stops rest
+        → text.now ≡ encode_lower bytes ++ rest
         → Reads (λ parts. (parts.0.items ≡ bytes) × (parts.1.now ≡ rest)) result }
 {
     let (front, rest) = front_of(text);
@@ -86,8 +91,10 @@ pub fn bytes_at(alloc: Global, text: &[u8]) -> Result<(Vec<u8>, &[u8]), Unread>
 
 /// The two numbers of a reference at the front of a text, and what is left.
 pub fn rep_numbers_at(alloc: Global, text: &[u8]) -> Result<(u64, u64, &[u8]), Unread>
-    ensures found { IfOk result (λ parts. text.now ≡ (decimal parts.0 ++ 46 ∷ decimal parts.1) ++ parts.2.now) }
-    ensures only { (owner index : ℕ) (rest : List ℕ) → owner < 2 ^ 64 → index < 2 ^ 64 → spec.Stops rest → text.now ≡ (decimal owner ++ 46 ∷ decimal index) ++ rest
+    ensures found { IfOk result (λ parts. text.now
+        ≡ (decimal parts.0 ++ 46 ∷ decimal parts.1) ++ parts.2.now) }
+    ensures only { (owner index : ℕ) (rest : List ℕ) → owner < 2 ^ 64 → index < 2 ^ 64
+        → spec.Stops rest → text.now ≡ (decimal owner ++ 46 ∷ decimal index) ++ rest
         → Reads (λ parts. (parts.0 ≡ owner) × (parts.1 ≡ index) × (parts.2.now ≡ rest)) result }
 {
     let (owner, behind) = number_at(alloc, text)?;
@@ -129,7 +136,8 @@ fn after_point(text: &[u8]) -> Result<&[u8], Unread>
 // What stands before the first mark in a text, and what is left.
 fn front_of(text: &[u8]) -> (&[u8], &[u8])
     ensures parts { text.now ≡ result.0.now ++ result.1.now }
-    ensures only { (front rest : List ℕ) → spec.HasNoMark front → spec.Stops rest → text.now ≡ front ++ rest
+    ensures only { (front rest : List ℕ) → spec.HasNoMark front → spec.Stops rest
+        → text.now ≡ front ++ rest
         → (result.0.now ≡ front) × (result.1.now ≡ rest) }
 {
     text.split_at(front_len(text))

@@ -1,5 +1,5 @@
-//! The texts of values, events, answers and refusals, as scripts and traces have them: each has one spelling, and
-//! what is read is what that spelling says.
+//! The texts of values, events, answers and refusals, as scripts and traces have them: each has one
+//! spelling, and what is read is what that spelling says.
 #![tactic(auto)]
 
 mod answer_writing;

@@ -9,7 +9,8 @@ use nob_model_types::{Refusal, Use};
 /// The refusal that a text spells: `None` where it spells none. It takes no memory.
 pub fn refusal_of(text: &[u8]) -> Option<Refusal>
     ensures found { IfSome result (λ refusal. text.now ≡ spec.refusal_text refusal) }
-    ensures only { (refusal : RefusalOf) → text.now ≡ spec.refusal_text refusal → result ≡ Some refusal }
+    ensures only { (refusal : RefusalOf) → text.now ≡ spec.refusal_text refusal
+        → result ≡ Some refusal }
 {
     match text {
         b"S1" => Some(Refusal::NoPeer),

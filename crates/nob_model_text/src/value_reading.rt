@@ -24,11 +24,13 @@ use std::alloc::{AllocError, Global};
 // So many lists may stand in one another.
 const MOST_LISTS: u32 = 1_000;
 
-/// The value that a text spells: `None` where it spells none, as one in which more than 1,000 lists stand in one
-/// another. Only memory fails it. It recurses once for each level of the value.
+/// The value that a text spells: `None` where it spells none, as one in which more than 1,000 lists
+/// stand in one another. Only memory fails it. It recurses once for each level of the value.
 pub fn value_of(alloc: Global, text: &[u8]) -> Result<Option<Value>, AllocError>
-    ensures found { IfOk result (λ r. IfSome r (λ value. spec.HasText value × (text.now ≡ spec.value_text value))) }
-    ensures only { IfOk result (λ r. (value : ValueOf) → spec.HasText value → text.now ≡ spec.value_text value → r ≡ Some value) }
+    ensures found { IfOk result (λ r. IfSome r
+        (λ value. spec.HasText value × (text.now ≡ spec.value_text value))) }
+    ensures only { IfOk result (λ r. (value : ValueOf) → spec.HasText value
+        → text.now ≡ spec.value_text value → r ≡ Some value) }
 {
     match whole_value(alloc, text) {
         Ok(value) => Ok(Some(value)),
@@ -40,7 +42,8 @@ pub fn value_of(alloc: Global, text: &[u8]) -> Result<Option<Value>, AllocError>
 /// The same, where a text that spells none is an error.
 pub fn whole_value(alloc: Global, text: &[u8]) -> Result<Value, Unread>
     ensures found { IfOk result (λ value. spec.HasText value × (text.now ≡ spec.value_text value)) }
-    ensures only { (value : ValueOf) → spec.HasText value → text.now ≡ spec.value_text value → Reads (λ v. v ≡ value) result }
+    ensures only { (value : ValueOf) → spec.HasText value → text.now ≡ spec.value_text value
+        → Reads (λ v. v ≡ value) result }
 {
     let (value, rest) = value_at(alloc, text, MOST_LISTS)?;
     if !rest.is_empty() {
@@ -49,11 +52,13 @@ pub fn whole_value(alloc: Global, text: &[u8]) -> Result<Value, Unread>
     Ok(value)
 }
 
-// The value at the front of a text, in which so many lists may stand in one another, and what is left.
+// The value at the front of a text, in which so many lists may stand in one another, and what is
+// left.
 #[cycle(reading)]
 fn value_at(alloc: Global, text: &[u8], lists: u32) -> Result<(Value, &[u8]), Unread>
     ensures found { IfOk result (λ parts. text.now ≡ spec.value_text parts.0 ++ parts.1.now) }
-    ensures only { (t : Tree) (rest : List ℕ) → spec.IsTyped t → spec.nested t ≤ lists → Stops rest → text.now ≡ spec.tree_text t ++ rest
+    ensures only { (t : Tree) (rest : List ℕ) → spec.IsTyped t → spec.nested t ≤ lists → Stops rest
+        → text.now ≡ spec.tree_text t ++ rest
         → Reads (λ parts. (tree parts.0 ≡ t) × (parts.1.now ≡ rest)) result }
     ensures deep { IfOk result (λ parts. spec.nested (tree parts.0) ≤ lists) }
     ensures typed { IfOk result (λ parts. spec.IsTyped (tree parts.0)) }
@@ -67,8 +72,10 @@ fn value_at(alloc: Global, text: &[u8], lists: u32) -> Result<(Value, &[u8]), Un
 // The same behind its first byte.
 #[cycle(reading)]
 fn value_by(alloc: Global, first: u8, text: &[u8], lists: u32) -> Result<(Value, &[u8]), Unread>
-    ensures found { IfOk result (λ parts. first ∷ text.now ≡ spec.value_text parts.0 ++ parts.1.now) }
-    ensures only { (t : Tree) (rest : List ℕ) → spec.IsTyped t → spec.nested t ≤ lists → Stops rest → first ∷ text.now ≡ spec.tree_text t ++ rest
+    ensures found { IfOk result (λ parts. first ∷ text.now
+        ≡ spec.value_text parts.0 ++ parts.1.now) }
+    ensures only { (t : Tree) (rest : List ℕ) → spec.IsTyped t → spec.nested t ≤ lists → Stops rest
+        → first ∷ text.now ≡ spec.tree_text t ++ rest
         → Reads (λ parts. (tree parts.0 ≡ t) × (parts.1.now ≡ rest)) result }
     ensures deep { IfOk result (λ parts. spec.nested (tree parts.0) ≤ lists) }
     ensures typed { IfOk result (λ parts. spec.IsTyped (tree parts.0)) }
@@ -87,7 +94,8 @@ fn value_by(alloc: Global, first: u8, text: &[u8], lists: u32) -> Result<(Value,
 #[cycle(reading)]
 fn list_value(alloc: Global, text: &[u8], lists: u32) -> Result<(Value, &[u8]), Unread>
     ensures found { IfOk result (λ parts. 91 ∷ text.now ≡ spec.value_text parts.0 ++ parts.1.now) }
-    ensures only { (ts : Trees) (rest : List ℕ) → spec.AreTyped ts → spec.most_nested ts < lists → text.now ≡ spec.inside_text ts ++ rest
+    ensures only { (ts : Trees) (rest : List ℕ) → spec.AreTyped ts → spec.most_nested ts < lists
+        → text.now ≡ spec.inside_text ts ++ rest
         → Reads (λ parts. (tree parts.0 ≡ trees.list ts) × (parts.1.now ≡ rest)) result }
     ensures deep { IfOk result (λ parts. spec.nested (tree parts.0) ≤ lists) }
     ensures typed { IfOk result (λ parts. spec.IsTyped (tree parts.0)) }
@@ -103,7 +111,8 @@ fn list_value(alloc: Global, text: &[u8], lists: u32) -> Result<(Value, &[u8]), 
 #[cycle(reading)]
 fn elements_at(alloc: Global, text: &[u8], lists: u32) -> Result<(Values, &[u8]), Unread>
     ensures found { IfOk result (λ parts. text.now ≡ spec.inside_text parts.0 ++ parts.1.now) }
-    ensures only { (ts : Trees) (rest : List ℕ) → spec.AreTyped ts → spec.most_nested ts ≤ lists → text.now ≡ spec.inside_text ts ++ rest
+    ensures only { (ts : Trees) (rest : List ℕ) → spec.AreTyped ts → spec.most_nested ts ≤ lists
+        → text.now ≡ spec.inside_text ts ++ rest
         → Reads (λ parts. (parts.0 ≡ ts) × (parts.1.now ≡ rest)) result }
     ensures deep { IfOk result (λ parts. spec.most_nested parts.0 ≤ lists) }
     ensures typed { IfOk result (λ parts. spec.AreTyped parts.0) }
@@ -118,7 +127,8 @@ fn elements_at(alloc: Global, text: &[u8], lists: u32) -> Result<(Values, &[u8])
 #[cycle(reading)]
 fn some_elements_at(alloc: Global, text: &[u8], lists: u32) -> Result<(Values, &[u8]), Unread>
     ensures found { IfOk result (λ parts. text.now ≡ spec.inside_text parts.0 ++ parts.1.now) }
-    ensures only { (t : Tree) (ts : Trees) (rest : List ℕ) → spec.AreTyped (more t ts) → spec.most_nested (more t ts) ≤ lists → text.now ≡ spec.inside_text (more t ts) ++ rest
+    ensures only { (t : Tree) (ts : Trees) (rest : List ℕ) → spec.AreTyped (more t ts)
+        → spec.most_nested (more t ts) ≤ lists → text.now ≡ spec.inside_text (more t ts) ++ rest
         → Reads (λ parts. (parts.0 ≡ more t ts) × (parts.1.now ≡ rest)) result }
     ensures deep { IfOk result (λ parts. spec.most_nested parts.0 ≤ lists) }
     ensures typed { IfOk result (λ parts. spec.AreTyped parts.0) }
@@ -140,7 +150,8 @@ fn some_elements_at(alloc: Global, text: &[u8], lists: u32) -> Result<(Values, &
 
 // What follows the comma with which a text begins.
 fn after_comma(text: &[u8]) -> Option<&[u8]>
-    ensures { MatchOption result ((rest : List ℕ) → text.now ≡ 44 ∷ rest → ⊥) (λ rest. text.now ≡ 44 ∷ rest.now) }
+    ensures { MatchOption result ((rest : List ℕ) → text.now ≡ 44 ∷ rest → ⊥)
+        (λ rest. text.now ≡ 44 ∷ rest.now) }
 {
     match text {
         [b',', rest @ ..] => Some(rest),
@@ -150,7 +161,8 @@ fn after_comma(text: &[u8]) -> Option<&[u8]>
 
 // What follows the end of a list with which a text begins.
 fn after_end(text: &[u8]) -> Option<&[u8]>
-    ensures { MatchOption result ((rest : List ℕ) → text.now ≡ 93 ∷ rest → ⊥) (λ rest. text.now ≡ 93 ∷ rest.now) }
+    ensures { MatchOption result ((rest : List ℕ) → text.now ≡ 93 ∷ rest → ⊥)
+        (λ rest. text.now ≡ 93 ∷ rest.now) }
 {
     match text {
         [b']', rest @ ..] => Some(rest),
@@ -161,7 +173,8 @@ fn after_end(text: &[u8]) -> Option<&[u8]>
 // The number at the front of a text as a value, and what is left.
 fn int_value(alloc: Global, text: &[u8]) -> Result<(Value, &[u8]), Unread>
     ensures found { IfOk result (λ parts. 105 ∷ text.now ≡ spec.value_text parts.0 ++ parts.1.now) }
-    ensures only { (n : ℤ) (rest : List ℕ) → FitsSigned w64 n → Stops rest → text.now ≡ signed_decimal n ++ rest
+    ensures only { (n : ℤ) (rest : List ℕ) → FitsSigned w64 n → Stops rest
+        → text.now ≡ signed_decimal n ++ rest
         → Reads (λ parts. (tree parts.0 ≡ int n) × (parts.1.now ≡ rest)) result }
     ensures deep { IfOk result (λ parts. spec.nested (tree parts.0) ≡ 0) }
     ensures typed { IfOk result (λ parts. spec.IsTyped (tree parts.0)) }
@@ -193,7 +206,8 @@ fn bytes_of_vec(items: Vec<u8>) -> Bytes
 // The reference at the front of a text as a value, and what is left.
 fn rep_value(alloc: Global, text: &[u8]) -> Result<(Value, &[u8]), Unread>
     ensures found { IfOk result (λ parts. 114 ∷ text.now ≡ spec.value_text parts.0 ++ parts.1.now) }
-    ensures only { (rep : RepOf) (rest : List ℕ) → IsSpace rep.owner → rep.index < 2 ^ 64 → Stops rest → text.now ≡ spec.rep_text rep ++ rest
+    ensures only { (rep : RepOf) (rest : List ℕ) → IsSpace rep.owner → rep.index < 2 ^ 64
+        → Stops rest → text.now ≡ spec.rep_text rep ++ rest
         → Reads (λ parts. (tree parts.0 ≡ ref rep) × (parts.1.now ≡ rest)) result }
     ensures deep { IfOk result (λ parts. spec.nested (tree parts.0) ≡ 0) }
     ensures typed { IfOk result (λ parts. spec.IsTyped (tree parts.0)) }

@@ -31,7 +31,8 @@ pub fn value_text(alloc: Global, value: &Value) -> Result<String, AllocError>
 // Puts a value behind a text.
 #[cycle(writing)]
 fn put_value(alloc: Global, text: &mut String, value: &Value) -> Result<(), AllocError>
-    ensures { OnOk result (string_bytes text.new ≡ string_bytes text.old ++ spec.value_text value.now) }
+    ensures { OnOk result (string_bytes text.new
+        ≡ string_bytes text.old ++ spec.value_text value.now) }
 {
     match value {
         Value::Unit => text.push_str("u"),
@@ -45,7 +46,8 @@ fn put_value(alloc: Global, text: &mut String, value: &Value) -> Result<(), Allo
 // Puts a list behind a text.
 #[cycle(writing)]
 fn put_list(alloc: Global, text: &mut String, values: &[Value]) -> Result<(), AllocError>
-    ensures { OnOk result (string_bytes text.new ≡ string_bytes text.old ++ spec.tree_text (list (forest values.now))) }
+    ensures { OnOk result (string_bytes text.new
+        ≡ string_bytes text.old ++ spec.tree_text (list (forest values.now))) }
 {
     let Some((first, others)) = values.split_first() else {
         return text.push_str("[]");
@@ -58,7 +60,8 @@ fn put_list(alloc: Global, text: &mut String, values: &[Value]) -> Result<(), Al
 // Puts the elements behind another one and the end of their list behind a text.
 #[cycle(writing)]
 fn put_behind(alloc: Global, text: &mut String, values: &[Value]) -> Result<(), AllocError>
-    ensures { OnOk result (string_bytes text.new ≡ string_bytes text.old ++ spec.behind_text (forest values.now)) }
+    ensures { OnOk result (string_bytes text.new
+        ≡ string_bytes text.old ++ spec.behind_text (forest values.now)) }
 {
     for value in values {
         text.push_str(",")?;
@@ -69,7 +72,8 @@ fn put_behind(alloc: Global, text: &mut String, values: &[Value]) -> Result<(), 
 
 // Puts a number behind a text.
 fn put_int(alloc: Global, text: &mut String, number: i64) -> Result<(), AllocError>
-    ensures { OnOk result (string_bytes text.new ≡ string_bytes text.old ++ spec.tree_text (int number)) }
+    ensures { OnOk result (string_bytes text.new
+        ≡ string_bytes text.old ++ spec.tree_text (int number)) }
 {
     let spelling = format!(in alloc; "i{number}")?;
     text.push_str(spelling.as_str())
@@ -77,7 +81,8 @@ fn put_int(alloc: Global, text: &mut String, number: i64) -> Result<(), AllocErr
 
 // Puts bytes behind a text.
 fn put_bytes(alloc: Global, text: &mut String, items: &[u8]) -> Result<(), AllocError>
-    ensures { OnOk result (string_bytes text.new ≡ string_bytes text.old ++ spec.tree_text (bytes items.now)) }
+    ensures { OnOk result (string_bytes text.new
+        ≡ string_bytes text.old ++ spec.tree_text (bytes items.now)) }
 {
     let digits = hex::encode(alloc, items)?;
     let spelling = format!(in alloc; "b{digits}")?;
@@ -86,7 +91,8 @@ fn put_bytes(alloc: Global, text: &mut String, items: &[u8]) -> Result<(), Alloc
 
 // Puts a reference behind a text.
 fn put_rep(alloc: Global, text: &mut String, rep: WireRep) -> Result<(), AllocError>
-    ensures { OnOk result (string_bytes text.new ≡ string_bytes text.old ++ spec.tree_text (ref rep)) }
+    ensures { OnOk result (string_bytes text.new
+        ≡ string_bytes text.old ++ spec.tree_text (ref rep)) }
 {
     let owner = rep.owner;
     let index = rep.index;

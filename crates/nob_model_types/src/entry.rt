@@ -8,8 +8,8 @@ use crate::refusal::Refusal;
 use nob_ids::SpaceId;
 use std::alloc::AllocError;
 
-/// One event at one space with its result: an answer, or a refusal that changed nothing. A step that was refused
-/// for want of memory makes no entry.
+/// One event at one space with its result: an answer, or a refusal that changed nothing. A step
+/// that was refused for want of memory makes no entry.
 #[derive(Debug, Drop)]
 pub struct Entry {
     /// The space.

@@ -1,5 +1,5 @@
-//! What happens at a space, as plain data: an event, its answer or its refusal, the entry that both make, and a
-//! step of a world of spaces. Nothing here says which answer is right.
+//! What happens at a space, as plain data: an event, its answer or its refusal, the entry that both
+//! make, and a step of a world of spaces. Nothing here says which answer is right.
 #![tactic(auto)]
 
 mod answer;

@@ -1,6 +1,7 @@
-//! The words that are read off the list of what one space did, the newest first: which sessions have closed, which
-//! items came, which objects are live, what was asked of the owner of a reference, and messages. In `specs/` are the
-//! definitions; the functions here compute them plainly and slowly from the whole list, for every list.
+//! The words that are read off the list of what one space did, the newest first: which sessions
+//! have closed, which items came, which objects are live, what was asked of the owner of a
+//! reference, and messages. In `specs/` are the definitions; the functions here compute them
+//! plainly and slowly from the whole list, for every list.
 #![tactic(auto)]
 
 mod deed;

@@ -151,7 +151,8 @@ fn new_copies(
     deeds: &[Deed],
     reps: &[WireRep],
 ) -> Result<Vec<RefCopy>, AllocError>
-    ensures { IfOk result (λ copies. copies.items ≡ map (λ rep. words.new_copy here.now.space here.now.n deeds.now rep) reps.now) }
+    ensures { IfOk result (λ copies. copies.items
+        ≡ map (λ rep. words.new_copy here.now.space here.now.n deeds.now rep) reps.now) }
 {
     match reps {
         [] => Ok(Vec::new(alloc)),
@@ -173,7 +174,8 @@ pub fn new_message(
     item: Item,
     deeds: &[Deed],
 ) -> Result<Message, AllocError>
-    ensures { IfOk result (λ message. message ≡ words.new_message here.space here.n peer number item deeds.now) }
+    ensures { IfOk result (λ message. message
+        ≡ words.new_message here.space here.n peer number item deeds.now) }
 {
     let reps = nob_item::counted_refs(alloc, &item)?;
     let copies = new_copies(alloc, &here, deeds, reps.as_slice())?;
@@ -223,7 +225,8 @@ fn copies_after(
     deeds: &[Deed],
     copies: &[RefCopy],
 ) -> Result<Vec<RefCopy>, AllocError>
-    ensures { IfOk result (λ after. after.items ≡ map (λ copy. words.copy_after here.now.space here.now.n deeds.now copy) copies.now) }
+    ensures { IfOk result (λ after. after.items
+        ≡ map (λ copy. words.copy_after here.now.space here.now.n deeds.now copy) copies.now) }
 {
     match copies {
         [] => Ok(Vec::new(alloc)),
@@ -244,7 +247,8 @@ pub fn message_after(
     deeds: &[Deed],
     message: Message,
 ) -> Result<Message, AllocError>
-    ensures { IfOk result (λ after. after ≡ words.message_after here.space here.n deeds.now message) }
+    ensures { IfOk result (λ after. after
+        ≡ words.message_after here.space here.n deeds.now message) }
 {
     let Message {
         from,
@@ -269,7 +273,9 @@ pub fn messages_after(
     deeds: &[Deed],
     mut messages: Vec<Message>,
 ) -> Result<Vec<Message>, AllocError>
-    ensures { IfOk result (λ after. after.items ≡ map (λ message. words.message_after here.now.space here.now.n deeds.now message) messages.items) }
+    ensures { IfOk result (λ after. after.items
+        ≡ map (λ message. words.message_after here.now.space here.now.n deeds.now message)
+        messages.items) }
 {
     if messages.is_empty() {
         return Ok(messages);
@@ -332,7 +338,8 @@ pub fn is_any_lost(
     deeds: &[Deed],
     copies: &[RefCopy],
 ) -> Result<bool, AllocError>
-    ensures { IfOk result (λ answer. answer ≡ list_any (λ copy. is_lost here.now.space here.now.n copy.rep deeds.now) copies.now) }
+    ensures { IfOk result (λ answer. answer
+        ≡ list_any (λ copy. is_lost here.now.space here.now.n copy.rep deeds.now) copies.now) }
 {
     match copies {
         [] => Ok(false),
@@ -352,7 +359,8 @@ pub fn is_lost_message(
     deeds: &[Deed],
     message: &Message,
 ) -> Result<bool, AllocError>
-    ensures { IfOk result (λ answer. answer ≡ words.is_lost_message here.space here.n deeds.now message.now) }
+    ensures { IfOk result (λ answer. answer
+        ≡ words.is_lost_message here.space here.n deeds.now message.now) }
 {
     is_any_lost(alloc, &here, deeds, message.copies.as_slice())
 }

@@ -87,7 +87,8 @@ impl Turns {
         }
     }
 
-    /// Granted: the last of Dirty and Clean is a Dirty, each Dirty is answered, and the last answer is DirtyOk.
+    /// Granted: the last of Dirty and Clean is a Dirty, each Dirty is answered, and the last answer
+    /// is DirtyOk.
     pub fn is_granted(self) -> bool
         ensures { result ≡ words.is_granted self }
     {
@@ -142,8 +143,10 @@ fn after_item(
     before: Turns,
 ) -> Result<Turns, AllocError>
     requires { before.dirties + before.answers < 2 ^ 63 }
-    ensures value { IfOk result (λ turns. turns ≡ words.turns_after here.space here.n peer rep (Some item.now) deeds.now before) }
-    ensures bound { IfOk result (λ turns. turns.dirties + turns.answers ≤ before.dirties + before.answers + 1) }
+    ensures value { IfOk result (λ turns. turns
+        ≡ words.turns_after here.space here.n peer rep (Some item.now) deeds.now before) }
+    ensures bound { IfOk result (λ turns. turns.dirties + turns.answers
+        ≤ before.dirties + before.answers + 1) }
 {
     match item {
         Item::Call { .. } | Item::Reply { .. } => {
@@ -179,8 +182,11 @@ fn after_act(
     before: Turns,
 ) -> Result<Turns, AllocError>
     requires { before.dirties + before.answers < 2 ^ 63 }
-    ensures value { IfOk result (λ turns. turns ≡ words.turns_after here.space here.n peer.now rep (item_at peer.now number.now deeds.now) deeds.now before) }
-    ensures bound { IfOk result (λ turns. turns.dirties + turns.answers ≤ before.dirties + before.answers + 1) }
+    ensures value { IfOk result (λ turns. turns
+        ≡ words.turns_after here.space here.n peer.now rep
+        (item_at peer.now number.now deeds.now) deeds.now before) }
+    ensures bound { IfOk result (λ turns. turns.dirties + turns.answers
+        ≤ before.dirties + before.answers + 1) }
 {
     match sessions::item_at(alloc, *peer, *number, deeds)? {
         Some(item) => after_item(alloc, here, *peer, rep, &item, deeds, before),
@@ -206,7 +212,8 @@ pub fn turns_of(
     rep: &WireRep,
     deeds: &[Deed],
 ) -> Result<Turns, AllocError>
-    ensures value { IfOk result (λ turns. turns ≡ words.turns here.now.space here.now.n rep.now deeds.now) }
+    ensures value { IfOk result (λ turns. turns
+        ≡ words.turns here.now.space here.now.n rep.now deeds.now) }
     ensures bound { IfOk result (λ turns. turns.dirties + turns.answers ≤ length deeds.now) }
 {
     match deeds {
@@ -223,7 +230,8 @@ pub fn turns_of(
     }
 }
 
-/// Whether a reference is usable by its surrogate: granted, on a session with the owner that is open here.
+/// Whether a reference is usable by its surrogate: granted, on a session with the owner that is
+/// open here.
 pub fn is_usable(
     alloc: Global,
     here: Here,
@@ -236,8 +244,8 @@ pub fn is_usable(
     Ok(turns.is_granted() && !sessions::closed(rep.owner, deeds))
 }
 
-/// Whether a reference is lost: not own, and its owner is no peer, or the session with it has closed here, or it
-/// refused.
+/// Whether a reference is lost: not own, and its owner is no peer, or the session with it has
+/// closed here, or it refused.
 pub fn is_lost(alloc: Global, here: Here, rep: WireRep, deeds: &[Deed]) -> Result<bool, AllocError>
     ensures { IfOk result (λ answer. answer ≡ words.is_lost here.space here.n rep deeds.now) }
 {

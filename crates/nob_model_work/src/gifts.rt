@@ -105,7 +105,9 @@ fn wants_dirty(
     deeds: &[Deed],
     rep: &WireRep,
 ) -> Result<bool, AllocError>
-    ensures { IfOk result (λ answer. answer ≡ is_wanted here.now.space here.now.n rep.now deeds.now (turns_word here.now.space here.now.n rep.now deeds.now)) }
+    ensures { IfOk result (λ answer. answer
+        ≡ is_wanted here.now.space here.now.n rep.now deeds.now
+        (turns_word here.now.space here.now.n rep.now deeds.now)) }
 {
     let before = turns::turns_of(alloc, here, rep, deeds)?;
     Ok(turns::wants_dirty(*here, *rep, deeds, before))
@@ -119,7 +121,10 @@ fn dirties_of(
     deeds: &[Deed],
     reps: &[WireRep],
 ) -> Result<Vec<Gift>, AllocError>
-    ensures { IfOk result (λ dirties. dirties.items ≡ map words.dirty_for (filter (λ rep. is_wanted here.now.space here.now.n rep deeds.now (turns_word here.now.space here.now.n rep deeds.now)) reps.now)) }
+    ensures { IfOk result (λ dirties. dirties.items
+        ≡ map words.dirty_for (filter (λ rep.
+        is_wanted here.now.space here.now.n rep deeds.now
+        (turns_word here.now.space here.now.n rep deeds.now)) reps.now)) }
 {
     match reps {
         [] => Ok(Vec::new(alloc)),
@@ -143,7 +148,8 @@ pub fn dirties_for(
     deeds: &[Deed],
     item: &Item,
 ) -> Result<Vec<Gift>, AllocError>
-    ensures { IfOk result (λ dirties. dirties.items ≡ words.dirties_for here.now.space here.now.n deeds.now (counted_in item.now)) }
+    ensures { IfOk result (λ dirties. dirties.items
+        ≡ words.dirties_for here.now.space here.now.n deeds.now (counted_in item.now)) }
 {
     let reps = nob_item::counted_refs(alloc, item)?;
     let each = once(alloc, reps.as_slice())?;
@@ -179,7 +185,8 @@ fn of_item(
     deeds: &[Deed],
     item: &Item,
 ) -> Result<Vec<Gift>, AllocError>
-    ensures { IfOk result (λ gifts. gifts.items ≡ words.gifts_of_act here.now.space here.now.n peer deeds.now (Some item.now)) }
+    ensures { IfOk result (λ gifts. gifts.items
+        ≡ words.gifts_of_act here.now.space here.now.n peer deeds.now (Some item.now)) }
 {
     match item {
         Item::Call { .. } | Item::Reply { .. } => dirties_for(alloc, here, deeds, item),
@@ -199,7 +206,9 @@ fn of_act(
     number: ItemNo,
     deeds: &[Deed],
 ) -> Result<Vec<Gift>, AllocError>
-    ensures { IfOk result (λ gifts. gifts.items ≡ words.gifts_of_act here.now.space here.now.n peer deeds.now (item_at peer number deeds.now)) }
+    ensures { IfOk result (λ gifts. gifts.items
+        ≡ words.gifts_of_act here.now.space here.now.n peer deeds.now
+        (item_at peer number deeds.now)) }
 {
     match sessions::item_at(alloc, peer, number, deeds)? {
         Some(item) => of_item(alloc, here, peer, deeds, &item),
@@ -216,7 +225,9 @@ pub fn settle_and_reply(
     item: &Item,
     lost: bool,
 ) -> Result<Vec<Gift>, AllocError>
-    ensures { IfOk result (λ gifts. gifts.items ≡ record { to = peer; item = items.Settle number } ∷ words.lost_call_reply peer item.now lost) }
+    ensures { IfOk result (λ gifts. gifts.items
+        ≡ record { to = peer; item = items.Settle number } ∷ words.lost_call_reply peer item.now
+        lost) }
 {
     let mut gifts = lone(alloc, peer, Item::Settle(number))?;
     match item {
@@ -248,7 +259,9 @@ fn of_message(
     deeds: &[Deed],
     message: &Message,
 ) -> Result<Vec<Gift>, AllocError>
-    ensures { IfOk result (λ gifts. gifts.items ≡ words.gifts_of_settle here.now.space here.now.n peer number deeds.now (Some message.now)) }
+    ensures { IfOk result (λ gifts. gifts.items
+        ≡ words.gifts_of_settle here.now.space here.now.n peer number deeds.now
+        (Some message.now)) }
 {
     let lost = is_lost_message(alloc, *here, deeds, message)?;
     settle_and_reply(alloc, peer, number, &message.item, lost)
@@ -279,7 +292,9 @@ fn of_settle(
     deeds: &[Deed],
     waiting: &[Message],
 ) -> Result<Vec<Gift>, AllocError>
-    ensures { IfOk result (λ gifts. gifts.items ≡ words.gifts_of_settle here.now.space here.now.n peer number deeds.now (find (is_of peer number) waiting.now)) }
+    ensures { IfOk result (λ gifts. gifts.items
+        ≡ words.gifts_of_settle here.now.space here.now.n peer number deeds.now
+        (find (is_of peer number) waiting.now)) }
 {
     match find_waiting(peer, number, waiting) {
         Some(message) => of_message(alloc, here, peer, number, deeds, message),
@@ -358,7 +373,8 @@ pub fn of_finish(
     outcome: &Outcome,
     runs: &[Run],
 ) -> Result<Vec<Gift>, AllocError>
-    ensures { IfOk result (λ gifts. gifts.items ≡ words.gifts_of_finish outcome.now (find (is_run job) runs.now)) }
+    ensures { IfOk result (λ gifts. gifts.items
+        ≡ words.gifts_of_finish outcome.now (find (is_run job) runs.now)) }
 {
     match find_run(job, runs) {
         Some(run) => reply_to(alloc, run.message.from, &run.message.item, outcome),
@@ -373,7 +389,9 @@ fn of_clean(
     deeds: &[Deed],
     rep: &WireRep,
 ) -> Result<Vec<Gift>, AllocError>
-    ensures { IfOk result (λ gifts. gifts.items ≡ (if (turns_word here.now.space here.now.n rep.now deeds.now).asks then record { to = rep.now.owner; item = items.Clean rep.now.index } ∷ [] else [])) }
+    ensures { IfOk result (λ gifts. gifts.items
+        ≡ (if (turns_word here.now.space here.now.n rep.now deeds.now).asks then record
+        { to = rep.now.owner; item = items.Clean rep.now.index } ∷ [] else [])) }
 {
     if turns::turns_of(alloc, here, rep, deeds)?.asks {
         return lone(alloc, rep.owner, Item::Clean(rep.index));
@@ -389,7 +407,8 @@ pub fn of_call(
     method: u16,
     value: &Value,
 ) -> Result<Vec<Gift>, AllocError>
-    ensures { IfOk result (λ gifts. gifts.items ≡ record { to = target.owner; item = items.Call call target.index method value.now } ∷ []) }
+    ensures { IfOk result (λ gifts. gifts.items
+        ≡ record { to = target.owner; item = items.Call call target.index method value.now } ∷ []) }
 {
     let value = value.copy()?;
     let to = target.owner;
@@ -412,7 +431,8 @@ fn gifts_of(
     deeds: &[Deed],
     work: &InHand,
 ) -> Result<Vec<Gift>, AllocError>
-    ensures { IfOk result (λ gifts. gifts.items ≡ words.gifts_of here.now.space here.now.n deed.now deeds.now work.now) }
+    ensures { IfOk result (λ gifts. gifts.items
+        ≡ words.gifts_of here.now.space here.now.n deed.now deeds.now work.now) }
 {
     match deed {
         Deed::Call {
@@ -448,7 +468,8 @@ pub fn gifts(
     deeds: &[Deed],
     work: &InHand,
 ) -> Result<Vec<Gift>, AllocError>
-    ensures { IfOk result (λ gifts. gifts.items ≡ words.gifts here.now.space here.now.n deed.now deeds.now work.now) }
+    ensures { IfOk result (λ gifts. gifts.items
+        ≡ words.gifts here.now.space here.now.n deed.now deeds.now work.now) }
 {
     let all = gifts_of(alloc, here, deed, deeds, work)?;
     Ok(to_peers(*here, all))
@@ -463,11 +484,12 @@ pub struct Past {
     pub all_gifts: Vec<GiftList>,
 }
 
-/// What a space has in hand, and what each of its deeds gave. It passes the deeds once, and at each of them looks back for
-/// the references that it touches.
+/// What a space has in hand, and what each of its deeds gave. It passes the deeds once, and at each
+/// of them looks back for the references that it touches.
 pub fn past_of(alloc: Global, here: &Here, deeds: &[Deed]) -> Result<Past, AllocError>
     ensures work { IfOk result (λ past. past.work ≡ work_word here.now.space here.now.n deeds.now) }
-    ensures all_gifts { IfOk result (λ past. past.all_gifts.items ≡ words.all_gifts here.now.space here.now.n deeds.now) }
+    ensures all_gifts { IfOk result (λ past. past.all_gifts.items
+        ≡ words.all_gifts here.now.space here.now.n deeds.now) }
 {
     match deeds {
         [] => Ok(Past {

@@ -1,6 +1,7 @@
-//! The work that one space has in hand, read off the list of what it did, the newest first: messages that wait for
-//! their references, jobs that are ready or running, replies that are ready, calls that aren't taken; and what each
-//! deed gave to the peers. In `specs/` are the definitions; the functions here compute them plainly and slowly.
+//! The work that one space has in hand, read off the list of what it did, the newest first:
+//! messages that wait for their references, jobs that are ready or running, replies that are ready,
+//! calls that aren't taken; and what each deed gave to the peers. In `specs/` are the definitions;
+//! the functions here compute them plainly and slowly.
 #![tactic(auto)]
 
 pub mod gifts;

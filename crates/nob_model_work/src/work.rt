@@ -264,7 +264,8 @@ fn calls_after_reply(
     call: CallNo,
     calls: &[OwnCall],
 ) -> Result<Vec<OwnCall>, AllocError>
-    ensures { IfOk result (λ after. after.items ≡ map (words.call_after_reply peer call) calls.now) }
+    ensures { IfOk result (λ after. after.items
+        ≡ map (words.call_after_reply peer call) calls.now) }
 {
     match calls {
         [] => Ok(Vec::new(alloc)),
@@ -297,7 +298,9 @@ pub fn after_message(alloc: Global, message: Message, work: InHand) -> Result<In
 
 // A Reply is ready at once if it carries no counted references, else it waits.
 fn place_reply(message: Message, work: InHand) -> Result<InHand, AllocError>
-    ensures { IfOk result (λ after. after ≡ (if words.is_none_of message.copies then words.make_reply message work else words.wait message work)) }
+    ensures { IfOk result (λ after. after
+        ≡ (if words.is_none_of message.copies then words.make_reply message work else words.wait
+        message work)) }
 {
     if message.copies.as_slice().is_empty() {
         return make_reply(message, work);
@@ -312,7 +315,8 @@ fn answer_call(
     call: CallNo,
     work: InHand,
 ) -> Result<InHand, AllocError>
-    ensures { IfOk result (λ after. after ≡ words.with_calls (words.call_after_reply peer call) work) }
+    ensures { IfOk result (λ after. after
+        ≡ words.with_calls (words.call_after_reply peer call) work) }
 {
     let InHand {
         waiting,
@@ -338,7 +342,10 @@ fn reply_in(
     message: Message,
     work: InHand,
 ) -> Result<InHand, AllocError>
-    ensures { IfOk result (λ after. after ≡ words.with_calls (words.call_after_reply message.from call) (if words.is_none_of message.copies then words.make_reply message work else words.wait message work)) }
+    ensures { IfOk result (λ after. after
+        ≡ words.with_calls (words.call_after_reply message.from call)
+        (if words.is_none_of message.copies then words.make_reply message work else words.wait
+        message work)) }
 {
     let from = message.from;
     let taken = place_reply(message, work)?;
@@ -357,7 +364,9 @@ fn after_act(
     work: InHand,
 ) -> Result<InHand, AllocError>
     requires { deeds.now ≡ did.Act peer number ∷ older.now }
-    ensures { IfOk result (λ after. after ≡ words.after_act here.space here.n peer number older.now (item_at peer number older.now) work) }
+    ensures { IfOk result (λ after. after
+        ≡ words.after_act here.space here.n peer number older.now
+        (item_at peer number older.now) work) }
 {
     match sessions::item_at(alloc, peer, number, older)? {
         None => Ok(work),
@@ -417,8 +426,10 @@ pub fn take_waiting(
     number: ItemNo,
     mut messages: Vec<Message>,
 ) -> Result<(Option<Message>, Vec<Message>), AllocError>
-    ensures first { IfOk result (λ taken. taken.0 ≡ find (message_words.is_of peer number) messages.items) }
-    ensures rest { IfOk result (λ taken. taken.1.items ≡ words.without_first (message_words.is_of peer number) messages.items) }
+    ensures first { IfOk result (λ taken. taken.0
+        ≡ find (message_words.is_of peer number) messages.items) }
+    ensures rest { IfOk result (λ taken. taken.1.items
+        ≡ words.without_first (message_words.is_of peer number) messages.items) }
 {
     if messages.is_empty() {
         return Ok((None, messages));
@@ -437,8 +448,10 @@ fn take_job(
     job: &Job,
     mut messages: Vec<Message>,
 ) -> Result<(Option<Message>, Vec<Message>), AllocError>
-    ensures first { IfOk result (λ taken. taken.0 ≡ find (message_words.is_job job.now) messages.items) }
-    ensures rest { IfOk result (λ taken. taken.1.items ≡ words.without_first (message_words.is_job job.now) messages.items) }
+    ensures first { IfOk result (λ taken. taken.0
+        ≡ find (message_words.is_job job.now) messages.items) }
+    ensures rest { IfOk result (λ taken. taken.1.items
+        ≡ words.without_first (message_words.is_job job.now) messages.items) }
 {
     if messages.is_empty() {
         return Ok((None, messages));
@@ -462,7 +475,9 @@ fn after_settle(
     deeds: &[Deed],
     work: InHand,
 ) -> Result<InHand, AllocError>
-    ensures { IfOk result (λ after. after ≡ words.after_settle here.space here.n peer number deeds.now (find (message_words.is_of peer number) work.waiting) work) }
+    ensures { IfOk result (λ after. after
+        ≡ words.after_settle here.space here.n peer number deeds.now
+        (find (message_words.is_of peer number) work.waiting) work) }
 {
     let InHand {
         waiting,
@@ -515,7 +530,8 @@ fn start(job: JobNo, message: Message, work: InHand) -> Result<InHand, AllocErro
 /// What is in hand after Claim of a job.
 #[tactic(auto, unfolding(crate::specs::Work::after_claim), using(crate::proofs::Firsts::none_taken))]
 pub fn after_claim(job: &Job, work: InHand) -> Result<InHand, AllocError>
-    ensures { IfOk result (λ after. after ≡ words.after_claim job.now (find (message_words.is_job job.now) work.ready) work) }
+    ensures { IfOk result (λ after. after
+        ≡ words.after_claim job.now (find (message_words.is_job job.now) work.ready) work) }
 {
     let InHand {
         waiting,
@@ -668,8 +684,8 @@ fn is_replied(peer: SpaceId, call: CallNo, replies: &[Message]) -> bool
     replies.iter().any(|message| message.from == peer && replies_to(call, &message.item))
 }
 
-/// A call after the session with a peer closed, where these replies are ready: it ends if it was made to the peer and no
-/// reply to it is ready. Linear in the replies.
+/// A call after the session with a peer closed, where these replies are ready: it ends if it was
+/// made to the peer and no reply to it is ready. Linear in the replies.
 #[tactic(auto, unfolding(crate::specs::Work::call_after_close))]
 pub fn call_after_close(peer: SpaceId, replies: &[Message], own: &OwnCall) -> OwnCall
     ensures { result ≡ words.call_after_close peer replies.now own.now }
@@ -692,7 +708,8 @@ fn calls_after_close(
     replies: &[Message],
     calls: &[OwnCall],
 ) -> Result<Vec<OwnCall>, AllocError>
-    ensures { IfOk result (λ after. after.items ≡ map (words.call_after_close peer replies.now) calls.now) }
+    ensures { IfOk result (λ after. after.items
+        ≡ map (words.call_after_close peer replies.now) calls.now) }
 {
     match calls {
         [] => Ok(Vec::new(alloc)),
@@ -745,7 +762,8 @@ fn work_after(
     work: InHand,
 ) -> Result<InHand, AllocError>
     requires { deeds.now ≡ deed.now ∷ older.now }
-    ensures { IfOk result (λ after. after ≡ words.work_after here.space here.n deed.now older.now work) }
+    ensures { IfOk result (λ after. after
+        ≡ words.work_after here.space here.n deed.now older.now work) }
 {
     match deed {
         Deed::Call { target, call, .. } => after_call(target.owner, *call, work),
@@ -778,7 +796,8 @@ fn runs_after(
     deeds: &[Deed],
     mut runs: Vec<Run>,
 ) -> Result<Vec<Run>, AllocError>
-    ensures { IfOk result (λ after. after.items ≡ map (λ run. words.run_after here.now.space here.now.n deeds.now run) runs.items) }
+    ensures { IfOk result (λ after. after.items
+        ≡ map (λ run. words.run_after here.now.space here.now.n deeds.now run) runs.items) }
 {
     if runs.as_slice().is_empty() {
         return Ok(runs);
@@ -797,7 +816,9 @@ fn message_loans(
     deeds: &[Deed],
     messages: Messages,
 ) -> Result<Messages, AllocError>
-    ensures { IfOk result (λ after. after ≡ map (λ message. message_words.message_after here.now.space here.now.n deeds.now message) messages) }
+    ensures { IfOk result (λ after. after
+        ≡ map (λ message. message_words.message_after here.now.space here.now.n deeds.now message)
+        messages) }
 {
     let after = messages_after(alloc, here, deeds, messages.into_vec())?;
     Ok(Messages::from_vec(after))
@@ -805,7 +826,8 @@ fn message_loans(
 
 // Jobs that run with the loans made that can be made now.
 fn run_loans(alloc: Global, here: &Here, deeds: &[Deed], runs: Runs) -> Result<Runs, AllocError>
-    ensures { IfOk result (λ after. after ≡ map (λ run. words.run_after here.now.space here.now.n deeds.now run) runs) }
+    ensures { IfOk result (λ after. after
+        ≡ map (λ run. words.run_after here.now.space here.now.n deeds.now run) runs) }
 {
     let after = runs_after(alloc, here, deeds, runs.into_vec())?;
     Ok(Runs::from_vec(after))
@@ -819,7 +841,8 @@ fn with_loans(
     deeds: &[Deed],
     work: InHand,
 ) -> Result<InHand, AllocError>
-    ensures { IfOk result (λ after. after ≡ words.with_loans here.now.space here.now.n deeds.now work) }
+    ensures { IfOk result (λ after. after
+        ≡ words.with_loans here.now.space here.now.n deeds.now work) }
 {
     let InHand {
         waiting,
@@ -851,7 +874,9 @@ pub fn after(
     work: InHand,
 ) -> Result<InHand, AllocError>
     requires { deeds.now ≡ deed.now ∷ older.now }
-    ensures { IfOk result (λ after. after ≡ words.with_loans here.now.space here.now.n deeds.now (words.work_after here.now.space here.now.n deed.now older.now work)) }
+    ensures { IfOk result (λ after. after
+        ≡ words.with_loans here.now.space here.now.n deeds.now
+        (words.work_after here.now.space here.now.n deed.now older.now work)) }
 {
     let done = work_after(alloc, *here, deed, older, deeds, work)?;
     with_loans(alloc, here, deeds, done)

@@ -13,10 +13,11 @@ use crate::value::Value;
 use crate::walking::elements;
 use nob_ids::WireRep;
 
-/// Whether the value has a pickle, or why it has none: P8 where the pickle would have more than 16,000 bytes; else
-/// the first fault in writing order: P5 for a value at depth 17, P3 and P4 for bytes or a list above their limit,
-/// P8 for the 33rd reference. It takes no memory, looks at no more than about 16,000 values, and recurses at most
-/// 5,334 levels deep, however deep or long the value is: each level has three bytes of the 16,000 at least.
+/// Whether the value has a pickle, or why it has none: P8 where the pickle would have more than
+/// 16,000 bytes; else the first fault in writing order: P5 for a value at depth 17, P3 and P4 for
+/// bytes or a list above their limit, P8 for the 33rd reference. It takes no memory, looks at no
+/// more than about 16,000 values, and recurses at most 5,334 levels deep, however deep or long the
+/// value is: each level has three bytes of the 16,000 at least.
 pub fn fits(value: &Value) -> Result<(), PickleFault>
     ensures fits { IsOk result ↔ Fits value.now }
     ensures fault { IfErr result (λ fault. pickle_of value.now ≡ Err fault) }
@@ -40,7 +41,8 @@ pub(crate) fn pickle_len(value: &Value) -> Result<usize, PickleFault>
 #[tactic(auto, unfolding(crate::specs::Writing::pickle_of))]
 fn judged(value: &Value) -> Result<usize, PickleFault>
     ensures len { IfOk result (λ len. len ≡ length (spelling value.now)) }
-    ensures exact { MatchResult result (λ len. pickle_of value.now ≡ Ok (spelling value.now)) (λ fault. pickle_of value.now ≡ Err fault) }
+    ensures exact { MatchResult result (λ len. pickle_of value.now ≡ Ok (spelling value.now))
+        (λ fault. pickle_of value.now ≡ Err fault) }
     ensures typed { OnOk result (IsTyped (tree value.now)) }
 {
     let Some(left) = room_after(value, MOST_IN_ALL) else {
@@ -50,10 +52,12 @@ fn judged(value: &Value) -> Result<usize, PickleFault>
     Ok(MOST_IN_ALL - left)
 }
 
-/// What is left of so much room behind the spelling of the value: None where the spelling is longer.
+/// What is left of so much room behind the spelling of the value: None where the spelling is
+/// longer.
 #[tactic(auto, using(crate::proofs::Ahead::head_and_elements))]
 fn room_after(value: &Value, room: usize) -> Option<usize>
-    ensures { MatchOption result (room < length (spelling value.now)) (λ left. left + length (spelling value.now) ≡ room) }
+    ensures { MatchOption result (room < length (spelling value.now))
+        (λ left. left + length (spelling value.now) ≡ room) }
 {
     let mut left = room.checked_sub(head_len(value))?;
     for element in elements(value) {
@@ -75,8 +79,8 @@ fn head_len(value: &Value) -> usize
     }
 }
 
-/// Judges a value that may have so many levels and references: how many references are left after it, or the
-/// first fault in writing order.
+/// Judges a value that may have so many levels and references: how many references are left after
+/// it, or the first fault in writing order.
 #[cycle(judging)]
 fn judge(value: &Value, levels: u32, references: u32) -> Result<u32, PickleFault>
     ensures left { result ≡ references_left (tree value.now) levels references }
@@ -130,7 +134,8 @@ fn judge_all(values: &[Value], levels: u32, references: u32) -> Result<u32, Pick
 
 /// The same of a reference.
 fn judge_reference(rep: WireRep, references: u32) -> Result<u32, PickleFault>
-    ensures left { result ≡ (if references == 0 then Err PickleFault.TooBig else Ok (references - 1)) }
+    ensures left { result ≡ (if references == 0 then Err PickleFault.TooBig else Ok
+        (references - 1)) }
     ensures typed { OnOk result (IsTyped (ref rep)) }
 {
     let _in_range = rep.owner.get();

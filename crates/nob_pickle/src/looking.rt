@@ -8,9 +8,10 @@ ghost use Rattle.nob_pickle.specs.Spelling.{refs, all_refs, refs_in};
 use crate::value::Value;
 use nob_ids::WireRep;
 
-/// The counted reference of the value before which so many others stand, in reading order, repeats included: None
-/// where there aren't more. So the numbers from 0 on give all of them, up to the first None. It takes no memory and
-/// time linear in the value, and recurses once for each level of the value: at most 16 where it has a pickle.
+/// The counted reference of the value before which so many others stand, in reading order, repeats
+/// included: None where there aren't more. So the numbers from 0 on give all of them, up to the
+/// first None. It takes no memory and time linear in the value, and recurses once for each level of
+/// the value: at most 16 where it has a pickle.
 pub fn counted_ref(value: &Value, number: usize) -> Option<WireRep>
     ensures { result ≡ slice_get (filter is_counted (refs_in value.now)) number }
 {
@@ -20,7 +21,8 @@ pub fn counted_ref(value: &Value, number: usize) -> Option<WireRep>
 /// The same: where there aren't more, how many are missing before this one.
 #[cycle(looking)]
 fn look(value: &Value, number: usize) -> Result<WireRep, usize>
-    ensures { MatchResult result (λ rep. slice_get (filter is_counted (refs (tree value.now))) number ≡ Some rep)
+    ensures { MatchResult result (λ rep.
+        slice_get (filter is_counted (refs (tree value.now))) number ≡ Some rep)
         (λ missing. missing + length (filter is_counted (refs (tree value.now))) ≡ number) }
 {
     match value {
@@ -33,7 +35,8 @@ fn look(value: &Value, number: usize) -> Result<WireRep, usize>
 /// The same among values, one after another.
 #[cycle(looking)]
 fn look_among(values: &[Value], number: usize) -> Result<WireRep, usize>
-    ensures { MatchResult result (λ rep. slice_get (filter is_counted (all_refs (forest values.now))) number ≡ Some rep)
+    ensures { MatchResult result (λ rep.
+        slice_get (filter is_counted (all_refs (forest values.now))) number ≡ Some rep)
         (λ missing. missing + length (filter is_counted (all_refs (forest values.now))) ≡ number) }
 {
     let mut missing = number;

@@ -22,19 +22,20 @@ struct Rest<'a> {
     references: u32,
 }
 
-/// The value that all of the bytes spell: Ok exactly where they do. Else the first fault: P8 for more than
-/// 16,000 bytes; then, from the front, P5 for a value at depth 17, P1 for a missing byte, P2 for a first byte
-/// that no value has, P3 and P4 for a length or a count above its limit, P7 for an owner that is no space,
-/// P8 for the 33rd reference; then P6 for a byte after the value. Only bytes and lists with something in them take
-/// memory, and want of it may be answered in place of a fault that stands in or behind them. It takes time linear in the
-/// bytes.
+/// The value that all of the bytes spell: Ok exactly where they do. Else the first fault: P8 for
+/// more than 16,000 bytes; then, from the front, P5 for a value at depth 17, P1 for a missing byte,
+/// P2 for a first byte that no value has, P3 and P4 for a length or a count above its limit, P7 for
+/// an owner that is no space, P8 for the 33rd reference; then P6 for a byte after the value. Only
+/// bytes and lists with something in them take memory, and want of it may be answered in place of a
+/// fault that stands in or behind them. It takes time linear in the bytes.
 pub fn decode(alloc: Global, bytes: &[u8]) -> Result<Value, PickleError>
     ensures found { IfOk result (λ value. Spelt bytes.now value) }
     ensures only { (value : ValueOf) → Spelt bytes.now value → Gives (λ v. v) result (Ok value) }
     ensures exact { Gives (λ v. v) result (value_read bytes.now) }
-    // Memory can run out for bytes and lists alone that are in their limits and not empty, and never for more than
-    // 16,000 bytes.
-    ensures memory { IfErr result (λ e. e ≡ OutOfMemory → (length bytes.now ≤ 16000) × IsTrue (wants_memory bytes.now)) }
+    // Memory can run out for bytes and lists alone that are in their limits and not empty, and
+    // never for more than 16,000 bytes.
+    ensures memory { IfErr result (λ e. e ≡ OutOfMemory → (length bytes.now ≤ 16000)
+        × IsTrue (wants_memory bytes.now)) }
 {
     whole(alloc, bytes)
 }
@@ -42,7 +43,8 @@ pub fn decode(alloc: Global, bytes: &[u8]) -> Result<Value, PickleError>
 #[tactic(auto, unfolding(crate::specs::Reading::value_read))]
 fn whole(alloc: Global, bytes: &[u8]) -> Result<Value, PickleError>
     ensures exact { Gives (λ v. v) result (value_read bytes.now) }
-    ensures memory { IfErr result (λ e. e ≡ OutOfMemory → (length bytes.now ≤ 16000) × IsTrue (wants_memory bytes.now)) }
+    ensures memory { IfErr result (λ e. e ≡ OutOfMemory → (length bytes.now ≤ 16000)
+        × IsTrue (wants_memory bytes.now)) }
 {
     if bytes.len() > MOST_IN_ALL {
         return Err(PickleError::Fault(PickleFault::TooBig));
@@ -66,8 +68,10 @@ fn value_of<'a>(
     levels: u32,
     rest: Rest<'a>,
 ) -> Result<(Value, Rest<'a>), PickleError>
-    ensures exact { Gives (λ x. (tree x.0, x.1.references, x.1.bytes.now)) result (tree_at levels rest.entry.references rest.entry.bytes.now) }
-    ensures memory { IfErr result (λ e. e ≡ OutOfMemory → IsTrue (wants_memory rest.entry.bytes.now)) }
+    ensures exact { Gives (λ x. (tree x.0, x.1.references, x.1.bytes.now)) result
+        (tree_at levels rest.entry.references rest.entry.bytes.now) }
+    ensures memory { IfErr result (λ e. e ≡ OutOfMemory
+        → IsTrue (wants_memory rest.entry.bytes.now)) }
 {
     if levels == 0 {
         return Err(PickleError::Fault(PickleFault::Depth));
@@ -83,8 +87,10 @@ fn value_by<'a>(
     levels: u32,
     rest: Rest<'a>,
 ) -> Result<(Value, Rest<'a>), PickleError>
-    ensures exact { Gives (λ x. (tree x.0, x.1.references, x.1.bytes.now)) result (tree_by (tree_at levels) rest.entry.references rest.entry.bytes.now) }
-    ensures memory { IfErr result (λ e. e ≡ OutOfMemory → IsTrue (wants_memory rest.entry.bytes.now)) }
+    ensures exact { Gives (λ x. (tree x.0, x.1.references, x.1.bytes.now)) result
+        (tree_by (tree_at levels) rest.entry.references rest.entry.bytes.now) }
+    ensures memory { IfErr result (λ e. e ≡ OutOfMemory
+        → IsTrue (wants_memory rest.entry.bytes.now)) }
 {
     let [first, bytes @ ..] = rest.bytes else {
         return Err(PickleError::Fault(PickleFault::Short));
@@ -107,8 +113,10 @@ fn value_by<'a>(
 #[cycle(reading)]
 #[tactic(auto, unfolding(crate::specs::Reading::list_at))]
 fn list_of<'a>(alloc: Global, levels: u32, rest: Rest<'a>) -> Result<(Value, Rest<'a>), PickleError>
-    ensures exact { Gives (λ x. (tree x.0, x.1.references, x.1.bytes.now)) result (list_at (tree_at levels) rest.entry.references rest.entry.bytes.now) }
-    ensures memory { IfErr result (λ e. e ≡ OutOfMemory → IsTrue (has_elements rest.entry.bytes.now)) }
+    ensures exact { Gives (λ x. (tree x.0, x.1.references, x.1.bytes.now)) result
+        (list_at (tree_at levels) rest.entry.references rest.entry.bytes.now) }
+    ensures memory { IfErr result (λ e. e ≡ OutOfMemory
+        → IsTrue (has_elements rest.entry.bytes.now)) }
 {
     let (count, bytes) = take_u16(rest.bytes, PickleFault::Short)?;
     if count as usize > MOST_ELEMENTS {
@@ -131,7 +139,8 @@ fn values_of<'a>(
     count: u16,
     rest: Rest<'a>,
 ) -> Result<(Values, Rest<'a>), PickleError>
-    ensures exact { Gives (λ x. (x.0, x.1.references, x.1.bytes.now)) result (trees_at (tree_at levels) count rest.entry.references rest.entry.bytes.now) }
+    ensures exact { Gives (λ x. (x.0, x.1.references, x.1.bytes.now)) result
+        (trees_at (tree_at levels) count rest.entry.references rest.entry.bytes.now) }
     ensures memory { IfErr result (λ e. e ≡ OutOfMemory → 0 < count) }
 {
     let mut rest = rest;
@@ -147,7 +156,8 @@ fn values_of<'a>(
 /// A whole number, behind its first byte.
 #[tactic(auto, unfolding(crate::specs::Reading::int_at))]
 fn int_of<'a>(rest: Rest<'a>) -> Result<(Value, Rest<'a>), PickleError>
-    ensures exact { Gives (λ x. (tree x.0, x.1.references, x.1.bytes.now)) result (int_at rest.entry.references rest.entry.bytes.now) }
+    ensures exact { Gives (λ x. (tree x.0, x.1.references, x.1.bytes.now)) result
+        (int_at rest.entry.references rest.entry.bytes.now) }
     ensures memory { IfErr result (λ e. e ≢ OutOfMemory) }
 {
     let (number, bytes) = take_u64(rest.bytes, PickleFault::Short)?;
@@ -161,7 +171,8 @@ fn int_of<'a>(rest: Rest<'a>) -> Result<(Value, Rest<'a>), PickleError>
 /// Bytes, behind their first byte.
 #[tactic(auto, unfolding(crate::specs::Reading::bytes_at))]
 fn bytes_of<'a>(alloc: Global, rest: Rest<'a>) -> Result<(Value, Rest<'a>), PickleError>
-    ensures exact { Gives (λ x. (tree x.0, x.1.references, x.1.bytes.now)) result (bytes_at rest.entry.references rest.entry.bytes.now) }
+    ensures exact { Gives (λ x. (tree x.0, x.1.references, x.1.bytes.now)) result
+        (bytes_at rest.entry.references rest.entry.bytes.now) }
     ensures memory { IfErr result (λ e. e ≡ OutOfMemory → IsTrue (has_bytes rest.entry.bytes.now)) }
 {
     let (len, bytes) = take_u32(rest.bytes, PickleFault::Short)?;
@@ -184,7 +195,8 @@ fn bytes_of<'a>(alloc: Global, rest: Rest<'a>) -> Result<(Value, Rest<'a>), Pick
 /// A reference, behind its first byte.
 #[tactic(auto, unfolding(crate::specs::Reading::ref_at))]
 fn reference_of<'a>(rest: Rest<'a>) -> Result<(Value, Rest<'a>), PickleError>
-    ensures exact { Gives (λ x. (tree x.0, x.1.references, x.1.bytes.now)) result (ref_at rest.entry.references rest.entry.bytes.now) }
+    ensures exact { Gives (λ x. (tree x.0, x.1.references, x.1.bytes.now)) result
+        (ref_at rest.entry.references rest.entry.bytes.now) }
     ensures memory { IfErr result (λ e. e ≢ OutOfMemory) }
 {
     let (owner, bytes) = take_u16(rest.bytes, PickleFault::Short)?;

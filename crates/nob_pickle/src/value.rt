@@ -26,8 +26,8 @@ pub enum Value {
 }
 
 impl Value {
-    /// An equal value. Only memory fails it, and a value with nothing in it takes none: no bytes and no elements. It
-    /// recurses once for each level of the value.
+    /// An equal value. Only memory fails it, and a value with nothing in it takes none: no bytes
+    /// and no elements. It recurses once for each level of the value.
     #[cycle(copy)]
     pub fn copy(&self) -> Result<Value, AllocError>
         ensures same { IfOk result (λ value. value ≡ self.now) }
@@ -92,7 +92,8 @@ impl Values {
         self.values.as_slice()
     }
 
-    /// Equal values. Only memory fails it, and no values take none. It recurses once for each level of the values.
+    /// Equal values. Only memory fails it, and no values take none. It recurses once for each level
+    /// of the values.
     #[cycle(copy)]
     #[tactic(auto, using(crate::proofs::Forests::count_forest))]
     pub fn copy(&self) -> Result<Values, AllocError>

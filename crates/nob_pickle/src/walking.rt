@@ -11,8 +11,8 @@ use nob_ids::WireRep;
 use std::alloc::{AllocError, Global};
 use std::slice;
 
-/// The references in a value, in reading order, repeats included. It answers for every value, however deep
-/// or long, in time linear in the value, and doesn't recurse. Only memory fails it.
+/// The references in a value, in reading order, repeats included. It answers for every value,
+/// however deep or long, in time linear in the value, and doesn't recurse. Only memory fails it.
 #[tactic(auto, using(crate::proofs::Parts::refs_among_parts))]
 pub fn refs_of(alloc: Global, value: &Value) -> Result<Vec<WireRep>, AllocError>
     ensures { IfOk result (λ refs. refs.items ≡ refs_in value.now) }
@@ -36,8 +36,8 @@ fn whole<'a>(alloc: Global, value: &'a Value) -> Result<Vec<&'a [Value]>, AllocE
     Ok(ahead)
 }
 
-/// The next part of what a walk has ahead of it: slices of values, the next one last. The part's elements are
-/// ahead of the walk from then on.
+/// The next part of what a walk has ahead of it: slices of values, the next one last. The part's
+/// elements are ahead of the walk from then on.
 fn next_part<'a>(ahead: &mut Vec<&'a [Value]>) -> Result<Option<&'a Value>, AllocError>
     ensures { IfOk result (λ part. MatchOption part (parts_ahead ahead.old.items ≡ [])
         (λ value. parts_ahead ahead.old.items ≡ tree value.now ∷ parts_ahead ahead.new.items)) }

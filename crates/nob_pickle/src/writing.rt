@@ -16,12 +16,13 @@ use byteorder::{BigEndian, ByteOrder};
 use nob_ids::WireRep;
 use std::alloc::{AllocError, Global};
 
-/// The one spelling of the value, or why it has none, as `fits` says. Want of memory comes after each of its faults.
-/// It takes time linear in what it has to look at, at most about 16,000 values.
+/// The one spelling of the value, or why it has none, as `fits` says. Want of memory comes after
+/// each of its faults. It takes time linear in what it has to look at, at most about 16,000 values.
 pub fn encode(alloc: Global, value: &Value) -> Result<Vec<u8>, PickleError>
     ensures found { IfOk result (λ pickle. Spelt pickle.items value.now) }
     ensures short { IfOk result (λ pickle. length pickle.items ≤ 16000) }
-    ensures only { Fits value.now → Gives (λ pickle. pickle.items) result (Ok (spelling value.now)) }
+    ensures only { Fits value.now → Gives (λ pickle. pickle.items) result
+        (Ok (spelling value.now)) }
     ensures exact { Gives (λ pickle. pickle.items) result (pickle_of value.now) }
     // Memory can run out for a value that has a pickle alone.
     ensures memory { IfErr result (λ e. e ≡ OutOfMemory → Fits value.now) }
@@ -64,7 +65,8 @@ fn put_value(pickle: &mut Vec<u8>, value: &Value) -> Result<(), AllocError>
 fn put_list(pickle: &mut Vec<u8>, values: &[Value]) -> Result<(), AllocError>
     requires bytes { IsTrue (have_short_bytes (forest values.now)) }
     requires lists { IsTrue (has_short_lists (list (forest values.now))) }
-    ensures { OnOk result (pickle.new.items ≡ pickle.old.items ++ spelled (list (forest values.now))) }
+    ensures { OnOk result (pickle.new.items
+        ≡ pickle.old.items ++ spelled (list (forest values.now))) }
 {
     put_count(pickle, values.len() as u16)?;
     put_values(pickle, values)

@@ -7,8 +7,8 @@ use nob_ids::{ItemNo, SpaceId};
 use nob_item::Item;
 use std::marker::Model;
 
-/// Evidence that a peer has dealt with the references that came with an item. Only a Settle makes one: it can be
-/// neither made nor copied elsewhere. Contracts see the peer and the item.
+/// Evidence that a peer has dealt with the references that came with an item. Only a Settle makes
+/// one: it can be neither made nor copied elsewhere. Contracts see the peer and the item.
 #[derive(Debug, Drop)]
 pub struct Settled {
     peer: SpaceId,

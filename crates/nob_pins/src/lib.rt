@@ -1,6 +1,6 @@
-//! References in transit. A space that sends a counted reference pins it until the receiver has dealt with it, or
-//! until the session with the receiver has closed. A pin is a value that can't be let go: it ends by the evidence
-//! of one or the other.
+//! References in transit. A space that sends a counted reference pins it until the receiver has
+//! dealt with it, or until the session with the receiver has closed. A pin is a value that can't be
+//! let go: it ends by the evidence of one or the other.
 #![tactic(auto)]
 
 mod bundle;

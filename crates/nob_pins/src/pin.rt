@@ -8,8 +8,8 @@ use nob_ids::{ItemNo, SpaceId, WireRep};
 use nob_session::Closed;
 use std::marker::Model;
 
-/// That a reference is in transit to a peer in an item. A pin can't be let go, copied or taken apart: it ends by
-/// `spend` or `give_up`. Contracts see the reference, the peer and the item.
+/// That a reference is in transit to a peer in an item. A pin can't be let go, copied or taken
+/// apart: it ends by `spend` or `give_up`. Contracts see the reference, the peer and the item.
 pub struct TransitPin {
     rep: WireRep,
     to: SpaceId,

@@ -15,8 +15,9 @@ use nob_session::Closed;
 use std::alloc::{AllocError, AllocFailed, Global};
 use std::marker::Model;
 
-/// The pins of a space, at most one bundle for each peer and item. Contracts see the bundles, in no order, and for
-/// which peer and references there is room, but not why. It can't be let go while it has any.
+/// The pins of a space, at most one bundle for each peer and item. Contracts see the bundles, in no
+/// order, and for which peer and references there is room, but not why. It can't be let go while it
+/// has any.
 pub struct PinTable {
     bundles: Vec<Bundle>,
 }
@@ -28,7 +29,10 @@ impl Model for PinTable {
 
     ghost Value = { Table };
 
-    ghost view = { λ t. record { bundles = t.bundles.items; room = vec_capacity t.bundles - vec_len t.bundles } };
+    ghost view = { λ t. record {
+      bundles = t.bundles.items;
+      room = vec_capacity t.bundles - vec_len t.bundles;
+    } };
 
     ghost invariant = { λ t. IsOnce t.bundles.items };
 }
@@ -43,9 +47,9 @@ impl PinTable {
         }
     }
 
-    /// Makes room for one bundle: a `put` to this peer of pins on these references, right after it, takes no memory
-    /// and succeeds. Only memory fails it, and not where there is room. What had room before has it still, whatever
-    /// the answer.
+    /// Makes room for one bundle: a `put` to this peer of pins on these references, right after it,
+    /// takes no memory and succeeds. Only memory fails it, and not where there is room. What had
+    /// room before has it still, whatever the answer.
     #[tactic(auto, unfolding(crate::specs::Bundles::has_room))]
     pub fn reserve(&mut self, peer: SpaceId, reps: &[WireRep]) -> Result<(), AllocError>
         ensures bundles { self.new.bundles ≡ self.old.bundles }
@@ -56,8 +60,8 @@ impl PinTable {
         self.bundles.reserve(1)
     }
 
-    /// Takes a bundle of pins, all of this peer and item, of which the table has none yet. Only memory fails it, and
-    /// not where there is room: the pins come back then.
+    /// Takes a bundle of pins, all of this peer and item, of which the table has none yet. Only
+    /// memory fails it, and not where there is room: the pins come back then.
     #[tactic(auto, unfolding(crate::specs::Bundles::has_room))]
     pub fn put(
         &mut self,
@@ -68,7 +72,8 @@ impl PinTable {
         requires some { 0 < vec_len pins }
         requires pins { AreOf peer item pins.items }
         requires new { has_bundle self.old.bundles peer item ≡ false }
-        ensures adds { OnOk result (Adds self.old.bundles self.new.bundles (bundle_of peer item (reps_of pins.items))) }
+        ensures adds { OnOk result (Adds self.old.bundles self.new.bundles
+            (bundle_of peer item (reps_of pins.items))) }
         ensures reserved { has_room self.old peer (reps_of pins.items) ≡ true → IsOk result }
         ensures err { OnErr result (Unchanged self.old self.new) }
         ensures returned { IfErr result (λ failed. failed.value.items ≡ pins.items) }
@@ -81,10 +86,14 @@ impl PinTable {
         }
     }
 
-    /// Ends the one bundle of a peer and item that are settled: the others stay, and none of the two is left. G1 where
-    /// there is none. It takes no memory. Linear in the bundles.
+    /// Ends the one bundle of a peer and item that are settled: the others stay, and none of the
+    /// two is left. G1 where there is none. It takes no memory. Linear in the bundles.
     pub fn settle(&mut self, settled: &Settled) -> Result<(), PinFault>
-        ensures answer { MatchResult result (λ _. TakesOut self.old.bundles self.new.bundles settled.now.peer settled.now.item) (λ fault. (fault ≡ PinFault.NoBundle) × (has_bundle self.old.bundles settled.now.peer settled.now.item ≡ false) × Unchanged self.old self.new) }
+        ensures answer { MatchResult result
+            (λ _. TakesOut self.old.bundles self.new.bundles settled.now.peer settled.now.item)
+            (λ fault. (fault ≡ PinFault.NoBundle)
+            × (has_bundle self.old.bundles settled.now.peer settled.now.item ≡ false)
+            × Unchanged self.old self.new) }
     {
         let Some(place) = find(&self.bundles, settled.peer(), settled.item()) else {
             return Err(PinFault::NoBundle);
@@ -94,8 +103,8 @@ impl PinTable {
         Ok(())
     }
 
-    /// Ends the bundles of a peer whose session has closed. It takes no memory. Linear in the bundles, for each that
-    /// ends.
+    /// Ends the bundles of a peer whose session has closed. It takes no memory. Linear in the
+    /// bundles, for each that ends.
     pub fn close(&mut self, closed: &Closed)
         ensures { TakesOutAll self.old.bundles self.new.bundles closed.now.peer }
     {
@@ -109,7 +118,8 @@ impl PinTable {
         self.bundles.iter().any(|bundle| bundle.is_of(peer, item))
     }
 
-    /// How often the reference is in transit, repeats included; a count past `u64::MAX` is that. Linear in the pins.
+    /// How often the reference is in transit, repeats included; a count past `u64::MAX` is that.
+    /// Linear in the pins.
     pub fn count(&self, rep: WireRep) -> u64
         ensures { result ≡ min (count_of self.now.bundles rep) (2 ^ 64 - 1) }
     {
@@ -132,14 +142,17 @@ fn add(bundles: &mut Vec<Bundle>, bundle: Bundle) -> Result<(), AllocFailed<Bund
     ensures err { OnErr result (bundles.new.items ≡ bundles.old.items) }
     ensures full { OnErr result (vec_capacity bundles.old - vec_len bundles.old ≡ 0) }
     ensures returned { IfErr result (λ failed. failed.value ≡ bundle) }
-    ensures once { IsOnce bundles.old.items → has_bundle bundles.old.items bundle.peer bundle.item ≡ false → IsOnce bundles.new.items }
+    ensures once { IsOnce bundles.old.items
+        → has_bundle bundles.old.items bundle.peer bundle.item ≡ false → IsOnce bundles.new.items }
 {
     bundles.push(bundle)
 }
 
 // Where the bundle of this peer and item stands.
 fn find(bundles: &[Bundle], peer: SpaceId, item: ItemNo) -> Option<usize>
-    ensures { MatchOption result (has_bundle bundles.now peer item ≡ false) (λ place. (place < length bundles.now) × HoldsAt (λ bundle. is_of peer item bundle ≡ true) bundles.now place) }
+    ensures { MatchOption result (has_bundle bundles.now peer item ≡ false)
+        (λ place. (place < length bundles.now)
+        × HoldsAt (λ bundle. is_of peer item bundle ≡ true) bundles.now place) }
 {
     place_of(bundles, peer, item)
 }

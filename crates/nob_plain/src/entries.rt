@@ -15,12 +15,13 @@ use nob_trace::{Stamped, entry_of};
 use nob_trace_text::first_line;
 use std::alloc::{AllocError, Global};
 
-// As many spaces as there can be: a journal is judged as one of these, however many its first line states.
+// As many spaces as there can be: a journal is judged as one of these, however many its first line
+// states.
 const MOST_SPACES: u16 = 32;
 
-/// The verdict on the journal that these lines are, behind a first line as a script has it; or `line N: bad entry` with
-/// the first line that is none. Only memory fails it. Each entry costs time and memory in proportion to all entries
-/// before it, and more.
+/// The verdict on the journal that these lines are, behind a first line as a script has it; or
+/// `line N: bad entry` with the first line that is none. Only memory fails it. Each entry costs
+/// time and memory in proportion to all entries before it, and more.
 pub fn verdict_of(alloc: Global, input: &[u8]) -> Result<Vec<u8>, AllocError>
     ensures { IfOk result (λ text. spec.FromJournal (lines_of input.now) text.items) }
 {
@@ -56,8 +57,10 @@ fn verdict_on_lines(alloc: Global, lines: &[u8]) -> Result<Vec<u8>, AllocError>
 
 // The entry that a line spells: that of a trace, with the space where the stamp stands there.
 fn journal_entry_of(alloc: Global, line: &[u8]) -> Result<Option<Entry>, AllocError>
-    ensures found { IfOk result (λ r. IfSome r (λ entry. spec.IsEntry entry × (line.now ≡ spec.entry_line entry))) }
-    ensures only { IfOk result (λ r. (entry : EntryOf) → spec.IsEntry entry → line.now ≡ spec.entry_line entry → r ≡ Some entry) }
+    ensures found { IfOk result (λ r. IfSome r
+        (λ entry. spec.IsEntry entry × (line.now ≡ spec.entry_line entry))) }
+    ensures only { IfOk result (λ r. (entry : EntryOf) → spec.IsEntry entry
+        → line.now ≡ spec.entry_line entry → r ≡ Some entry) }
 {
     match entry_of(alloc, line) {
         Ok(stamped) => Ok(at_space(stamped)),
@@ -68,8 +71,10 @@ fn journal_entry_of(alloc: Global, line: &[u8]) -> Result<Option<Entry>, AllocEr
 
 // The entry of the space whose number stands for the stamp, if there is such a space.
 fn at_space(stamped: Stamped) -> Option<Entry>
-    ensures found { IfSome result (λ entry. IsSpace entry.space × (spec.stamped_of entry ≡ stamped)) }
-    ensures only { (entry : EntryOf) → IsSpace entry.space → stamped ≡ spec.stamped_of entry → result ≡ Some entry }
+    ensures found { IfSome result (λ entry. IsSpace entry.space
+        × (spec.stamped_of entry ≡ stamped)) }
+    ensures only { (entry : EntryOf) → IsSpace entry.space → stamped ≡ spec.stamped_of entry
+        → result ≡ Some entry }
 {
     let Stamped {
         stamp,

@@ -8,9 +8,11 @@ use nob_model_journal::Verdict;
 use nob_script_text::{Ending, verdict_line};
 use nob_world::World;
 
-// Writes the verdict on all that was done in a world: all that was promised holds, as it does of every world.
+// Writes the verdict on all that was done in a world: all that was promised holds, as it does of
+// every world.
 pub(crate) fn judge(world: &World, text: &mut Vec<u8>) -> Ending
-    ensures judged { Grows text.old.items (text.new.items ++ last_line result) (λ written. AtEnd true (seen world.now) written result) }
+    ensures judged { Grows text.old.items (text.new.items ++ last_line result)
+        (λ written. AtEnd true (seen world.now) written result) }
     ensures yes { SaysYes result }
 {
     // A look at the entries shows what is proved of them.

@@ -16,10 +16,11 @@ use nob_trace_text::{first_line, push_bad_step, push_line};
 use nob_world::World;
 use std::alloc::{AllocError, Global};
 
-/// Writes what a script of a world gives onto an empty text: its first line, each step with what the world's space
-/// answers, and then the verdict on all that was done, or the first line that is no step. A step that memory is wanted
-/// for is answered `S14` and changes nothing. The verdict is never no: what it would look at is proved of every world, so
-/// nothing is looked at. The ending's last line is still to follow. The steps cost what they cost in the world.
+/// Writes what a script of a world gives onto an empty text: its first line, each step with what
+/// the world's space answers, and then the verdict on all that was done, or the first line that is
+/// no step. A step that memory is wanted for is answered `S14` and changes nothing. The verdict is
+/// never no: what it would look at is proved of every world, so nothing is looked at. The ending's
+/// last line is still to follow. The steps cost what they cost in the world.
 pub fn play(alloc: Global, script: &[u8], text: &mut Vec<u8>) -> Ending
     requires { text.old.items ≡ [] }
     ensures plays { Plays script.now (text.new.items ++ last_line result) result }
@@ -33,7 +34,8 @@ pub fn play(alloc: Global, script: &[u8], text: &mut Vec<u8>) -> Ending
 
 // Writes what a script gives that has this first line and these further ones.
 fn play_from(alloc: Global, line: &[u8], steps: &[u8], text: &mut Vec<u8>) -> Ending
-    ensures plays { Grows text.old.items (text.new.items ++ last_line result) (λ written. FromOpening true line.now (lines_of steps.now) written result) }
+    ensures plays { Grows text.old.items (text.new.items ++ last_line result)
+        (λ written. FromOpening true line.now (lines_of steps.now) written result) }
     ensures yes { SaysYes result }
 {
     let Ok(read) = opening_of(alloc, line) else {
@@ -62,7 +64,10 @@ fn play_in(
     steps: &[u8],
     text: &mut Vec<u8>,
 ) -> Ending
-    ensures plays { (opening : OpeningOf) (limits : LimitsOf) → IsOpeningLine line.now opening → AreLimitsOf opening.limits limits → seen world.old ≡ new_world opening.n limits → Grows text.old.items (text.new.items ++ last_line result) (λ written. FromOpening true line.now (lines_of steps.now) written result) }
+    ensures plays { (opening : OpeningOf) (limits : LimitsOf) → IsOpeningLine line.now opening
+        → AreLimitsOf opening.limits limits → seen world.old ≡ new_world opening.n limits
+        → Grows text.old.items (text.new.items ++ last_line result)
+        (λ written. FromOpening true line.now (lines_of steps.now) written result) }
     ensures yes { SaysYes result }
 {
     let Ok(()) = push_line(text, line, b"", b"") else {
@@ -71,9 +76,11 @@ fn play_in(
     play_steps(alloc, world, steps, text)
 }
 
-// Makes the steps of these lines, of which the first is line 2, and writes them with their answers, and then the verdict.
+// Makes the steps of these lines, of which the first is line 2, and writes them with their answers,
+// and then the verdict.
 fn play_steps(alloc: Global, world: &mut World, steps: &[u8], text: &mut Vec<u8>) -> Ending
-    ensures plays { Grows text.old.items (text.new.items ++ last_line result) (λ written. FromLines true 2 (seen world.old) (lines_of steps.now) written result) }
+    ensures plays { Grows text.old.items (text.new.items ++ last_line result)
+        (λ written. FromLines true 2 (seen world.old) (lines_of steps.now) written result) }
     ensures yes { SaysYes result }
 {
     let mut left = steps;
@@ -98,7 +105,9 @@ fn play_line(
     line: &[u8],
     text: &mut Vec<u8>,
 ) -> Result<bool, AllocError>
-    ensures made { IfOk result (λ is_step. is_step ≡ true → Grows text.old.items text.new.items (StepMade true (seen world.old) line.now (seen world.new))) }
+    ensures made { IfOk result (λ is_step. is_step ≡ true
+        → Grows text.old.items text.new.items
+        (StepMade true (seen world.old) line.now (seen world.new))) }
     ensures none { IfOk result (λ is_step. is_step ≡ false → IsNoStep line.now) }
     ensures kept { IfOk result (λ is_step. is_step ≡ false → text.new.items ≡ text.old.items) }
     ensures err { OnErr result (text.new.items ≡ text.old.items) }
@@ -112,7 +121,8 @@ fn play_line(
 
 // Writes that the line of this number is no step.
 fn bad_step(alloc: Global, text: &mut Vec<u8>, number: u64) -> Ending
-    ensures bad { Grows text.old.items (text.new.items ++ last_line result) (λ written. EndsBadly number written result) }
+    ensures bad { Grows text.old.items (text.new.items ++ last_line result)
+        (λ written. EndsBadly number written result) }
     ensures yes { SaysYes result }
 {
     match push_bad_step(alloc, text, number) {

@@ -11,8 +11,8 @@ use nob_trace_text::push_line;
 use nob_world::{World, WorldError};
 use std::alloc::{AllocError, Global};
 
-// Makes the step that a line spells and writes the line with its answer, whole or not at all. Only memory fails it; the
-// step may be made then.
+// Makes the step that a line spells and writes the line with its answer, whole or not at all. Only
+// memory fails it; the step may be made then.
 pub(crate) fn make_step(
     alloc: Global,
     world: &mut World,
@@ -21,7 +21,8 @@ pub(crate) fn make_step(
     text: &mut Vec<u8>,
 ) -> Result<(), AllocError>
     requires { IsStepLine line.now step.now }
-    ensures made { OnOk result (Grows text.old.items text.new.items (StepMade true (seen world.old) line.now (seen world.new))) }
+    ensures made { OnOk result (Grows text.old.items text.new.items
+        (StepMade true (seen world.old) line.now (seen world.new))) }
     ensures err { OnErr result (text.new.items ≡ text.old.items) }
 {
     let before = world.frames().len();

@@ -1,4 +1,5 @@
-//! What is written for a script of a world: the steps as they came, each with its answer, and then the verdict.
+//! What is written for a script of a world: the steps as they came, each with its answer, and then
+//! the verdict.
 #![tactic(auto)]
 
 mod ending;

@@ -56,7 +56,8 @@ fn put_numbers(
     before: usize,
     frames: &[Frame],
 ) -> Result<(), AllocError>
-    ensures { OnOk result (string_bytes text.new ≡ string_bytes text.old ++ spec.numbers_text before frames.now) }
+    ensures { OnOk result (string_bytes text.new
+        ≡ string_bytes text.old ++ spec.numbers_text before frames.now) }
 {
     for (place, _) in frames.iter().enumerate() {
         let number = before as u128 + place as u128 + 1;

@@ -5,8 +5,8 @@ ghost use Rattle.std.specs.Prelude.{◌≡◌};
 use nob_ids::{Reason, SpaceId};
 use std::marker::Model;
 
-/// Evidence that the session with a peer has ended at this end. Only a session that ends makes one: it can be
-/// neither made nor copied elsewhere. Contracts see the peer and the reason.
+/// Evidence that the session with a peer has ended at this end. Only a session that ends makes one:
+/// it can be neither made nor copied elsewhere. Contracts see the peer and the reason.
 #[derive(Debug, Drop)]
 pub struct Closed {
     peer: SpaceId,

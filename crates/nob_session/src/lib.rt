@@ -1,5 +1,5 @@
-//! One end of a session: ordered, once-only delivery of items over frames that may be lost, repeated and
-//! reordered on their way.
+//! One end of a session: ordered, once-only delivery of items over frames that may be lost,
+//! repeated and reordered on their way.
 #![tactic(auto)]
 
 mod closed;

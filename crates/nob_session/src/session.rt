@@ -27,8 +27,8 @@ use nob_model_end::{EndRefusal, Kind};
 use std::alloc::{AllocError, Global};
 use std::marker::Model;
 
-/// One end of the session between two spaces. It keeps every payload that was handed to it and every one that
-/// it accepted until it closes.
+/// One end of the session between two spaces. It keeps every payload that was handed to it and
+/// every one that it accepted until it closes.
 #[derive(Debug, Drop)]
 pub struct Session {
     alloc: Global,
@@ -95,14 +95,15 @@ impl Session {
 
     /// Whether this end is open.
     pub fn is_open(&self) -> bool
-        ensures answer { (me peer : ℕ) (limits : LimitsOf) (L : List EndEntry) → Stands me peer limits self.now.end L → IsRight me peer limits (IsOpen result) L }
+        ensures answer { (me peer : ℕ) (limits : LimitsOf) (L : List EndEntry)
+            → Stands me peer limits self.now.end L → IsRight me peer limits (IsOpen result) L }
         ensures open { result ≡ is_open_end self.now.end }
     {
         self.ending.is_none()
     }
 
-    /// What `send` would answer to an item of this kind, had it memory: the item's number, or N1, N2, N3, in this
-    /// order. It takes no memory.
+    /// What `send` would answer to an item of this kind, had it memory: the item's number, or N1,
+    /// N2, N3, in this order. It takes no memory.
     pub fn next(&self, kind: Kind) -> Result<ItemNo, EndRefusal>
         ensures next { result ≡ next_of kind self.now.end }
         ensures open { OnOk result (self.now.end.ending ≡ None) }
@@ -128,8 +129,8 @@ impl Session {
         LAST_ITEM - self.handed
     }
 
-    /// Makes room for so many sends: they can't run out of memory then. Only memory fails it, and not where the room
-    /// is there.
+    /// Makes room for so many sends: they can't run out of memory then. Only memory fails it, and
+    /// not where the room is there.
     pub fn reserve(&mut self, count: usize) -> Result<(), SessionError>
         ensures same { self.new.end ≡ self.old.end }
         ensures room { OnOk result (count ≤ self.new.room) }
@@ -141,16 +142,21 @@ impl Session {
         Ok(())
     }
 
-    /// Takes an item to be sent, of 1 to 16,384 bytes: its number. It answers what `next` does, and then memory, which
-    /// isn't wanted while there is room from `reserve`; a send uses up one place of it.
+    /// Takes an item to be sent, of 1 to 16,384 bytes: its number. It answers what `next` does, and
+    /// then memory, which isn't wanted while there is room from `reserve`; a send uses up one place
+    /// of it.
     pub fn send(&mut self, payload: Vec<u8>, kind: Kind) -> Result<ItemNo, SessionError>
         requires { (0 < vec_len payload) × (vec_len payload ≤ 16384) }
-        ensures answer { (me peer : ℕ) (limits : LimitsOf) (L : List EndEntry) → Stands me peer limits self.old.end L →
-            Answered (λ n. n) result (λ answer. IsRight me peer limits (Send payload.items kind answer) L × Stands me peer limits self.new.end (Send payload.items kind answer ∷ L)) }
+        ensures answer { (me peer : ℕ) (limits : LimitsOf) (L : List EndEntry)
+            → Stands me peer limits self.old.end L →
+            Answered (λ n. n) result (λ answer.
+            IsRight me peer limits (Send payload.items kind answer) L
+            × Stands me peer limits self.new.end (Send payload.items kind answer ∷ L)) }
         ensures next { Answered (λ n. n) result (λ answer. answer ≡ next_of kind self.old.end) }
         ensures handed { OnOk result (self.new.end ≡ with_item self.old.end payload.items) }
         ensures err { OnErr result (self.new.end ≡ self.old.end) }
-        ensures memory_last { result ≡ Err SessionError.OutOfMemory → IsOk (next_of kind self.old.end) }
+        ensures memory_last { result ≡ Err SessionError.OutOfMemory
+            → IsOk (next_of kind self.old.end) }
         ensures reserved { 0 < self.old.room → result ≢ Err SessionError.OutOfMemory }
         ensures room { self.old.room ≤ self.new.room + 1 }
         ensures err_room { OnErr result (self.old.room ≤ self.new.room) }
@@ -176,7 +182,8 @@ impl Session {
     pub fn frames(&self) -> Result<Vec<Frame>, AllocError>
         ensures frames { IfOk result (λ frames. frames.items ≡ frames_of self.now.end) }
         ensures few { IfOk result (λ frames. length frames.items ≤ 64) }
-        ensures spelt { IsPair self.now.end.me self.now.end.peer → IfOk result (λ frames. AllByRecursion Fits frames.items) }
+        ensures spelt { IsPair self.now.end.me self.now.end.peer
+            → IfOk result (λ frames. AllByRecursion Fits frames.items) }
         ensures memory { OnErr result (frames_of self.now.end ≢ []) }
     {
         match self.ending {
@@ -185,18 +192,21 @@ impl Session {
         }
     }
 
-    /// Gives the frames to be sent now. An open end gives its unacknowledged items again, from the lowest on and at
-    /// most a window of them, or else an Ack if a Data frame arrived since the last transmit; a closed end gives the
-    /// Close that it owes, once. Only memory fails it.
+    /// Gives the frames to be sent now. An open end gives its unacknowledged items again, from the
+    /// lowest on and at most a window of them, or else an Ack if a Data frame arrived since the
+    /// last transmit; a closed end gives the Close that it owes, once. Only memory fails it.
     pub fn transmit(&mut self) -> Result<Vec<Frame>, SessionError>
-        ensures answer { (me peer : ℕ) (limits : LimitsOf) (L : List EndEntry) → Stands me peer limits self.old.end L →
-            IfOk result (λ frames. IsRight me peer limits (Transmit frames.items) L × Stands me peer limits self.new.end (Transmit frames.items ∷ L)) }
+        ensures answer { (me peer : ℕ) (limits : LimitsOf) (L : List EndEntry)
+            → Stands me peer limits self.old.end L →
+            IfOk result (λ frames. IsRight me peer limits (Transmit frames.items) L
+            × Stands me peer limits self.new.end (Transmit frames.items ∷ L)) }
         ensures frames { IfOk result (λ frames. frames.items ≡ frames_of self.old.end) }
         ensures given { OnOk result (self.new.end ≡ after_transmit self.old.end) }
         ensures err { OnErr result (self.new.end ≡ self.old.end) }
         // Each frame has a spelling.
         ensures few { IfOk result (λ frames. length frames.items ≤ 64) }
-        ensures spelt { IsPair self.old.end.me self.old.end.peer → IfOk result (λ frames. AllByRecursion Fits frames.items) }
+        ensures spelt { IsPair self.old.end.me self.old.end.peer
+            → IfOk result (λ frames. AllByRecursion Fits frames.items) }
         ensures memory { IsOkUnless result SessionError.OutOfMemory }
         // Memory is wanted only where there is something to give.
         ensures memory_last { OnErr result (frames_of self.old.end ≢ []) }
@@ -228,7 +238,8 @@ impl Session {
     // The highest number that is transmitted after a transmit.
     #[tactic(auto, using(crate::proofs::Given::highest_given))]
     fn highest(&self) -> u64
-        ensures value { result ≡ max self.now.end.transmitted (greatest_seq (frames_of self.now.end)) }
+        ensures value { result ≡ max self.now.end.transmitted
+            (greatest_seq (frames_of self.now.end)) }
         ensures bound { (self.now.end.lowest ≤ result + 1) × (result ≤ self.now.end.handed) }
     {
         if self.ending.is_some() {
@@ -242,9 +253,15 @@ impl Session {
     fn open_frames(&self) -> Result<Vec<Frame>, AllocError>
         requires { self.now.end.ending ≡ None }
         ensures few { IfOk result (λ frames. length frames.items ≤ 64) }
-        ensures spelt { IsPair self.now.end.me self.now.end.peer → IfOk result (λ frames. AllByRecursion Fits frames.items) }
-        ensures frames { IfOk result (λ frames. frames.items ≡ right.open_frames self.now.end.me self.now.end.peer (self.now.end.accepted + 1) self.now.end.lowest self.now.end.data_arrived (take self.now.end.limits.window self.now.end.unacknowledged)) }
-        ensures memory { OnErr result (right.open_frames self.now.end.me self.now.end.peer (self.now.end.accepted + 1) self.now.end.lowest self.now.end.data_arrived (take self.now.end.limits.window self.now.end.unacknowledged) ≢ []) }
+        ensures spelt { IsPair self.now.end.me self.now.end.peer
+            → IfOk result (λ frames. AllByRecursion Fits frames.items) }
+        ensures frames { IfOk result (λ frames. frames.items
+            ≡ right.open_frames self.now.end.me self.now.end.peer
+            (self.now.end.accepted + 1) self.now.end.lowest self.now.end.data_arrived
+            (take self.now.end.limits.window self.now.end.unacknowledged)) }
+        ensures memory { OnErr result (right.open_frames self.now.end.me self.now.end.peer
+            (self.now.end.accepted + 1) self.now.end.lowest self.now.end.data_arrived
+            (take self.now.end.limits.window self.now.end.unacknowledged) ≢ []) }
     {
         let given = self.given();
         let ack = self.accepted + 1;
@@ -260,9 +277,13 @@ impl Session {
     // What a transmit of the closed end gives.
     fn closed_frames(&self, reason: Reason) -> Result<Vec<Frame>, AllocError>
         ensures few { IfOk result (λ frames. length frames.items ≤ 64) }
-        ensures spelt { IsPair self.now.end.me self.now.end.peer → IfOk result (λ frames. AllByRecursion Fits frames.items) }
-        ensures frames { IfOk result (λ frames. frames.items ≡ right.closed_frames self.now.end.me self.now.end.peer (self.now.end.accepted + 1) self.now.end.owes_close (Some reason)) }
-        ensures memory { OnErr result (right.closed_frames self.now.end.me self.now.end.peer (self.now.end.accepted + 1) self.now.end.owes_close (Some reason) ≢ []) }
+        ensures spelt { IsPair self.now.end.me self.now.end.peer
+            → IfOk result (λ frames. AllByRecursion Fits frames.items) }
+        ensures frames { IfOk result (λ frames. frames.items
+            ≡ right.closed_frames self.now.end.me self.now.end.peer
+            (self.now.end.accepted + 1) self.now.end.owes_close (Some reason)) }
+        ensures memory { OnErr result (right.closed_frames self.now.end.me self.now.end.peer
+            (self.now.end.accepted + 1) self.now.end.owes_close (Some reason) ≢ []) }
     {
         if !self.owes_close {
             return Ok(Vec::new(self.alloc));
@@ -279,19 +300,25 @@ impl Session {
         )
     }
 
-    /// Gives a frame to this end. An open end is closed by a Close frame (reason 2) and by an acknowledgement of
-    /// what it never transmitted (reason 4); a Data frame is accepted if its item is the next, at most 2^40, and
-    /// fewer than 256 wait. A closed end takes nothing. N4 for a frame of another pair. Only Data takes memory.
+    /// Gives a frame to this end. An open end is closed by a Close frame (reason 2) and by an
+    /// acknowledgement of what it never transmitted (reason 4); a Data frame is accepted if its
+    /// item is the next, at most 2^40, and fewer than 256 wait. A closed end takes nothing. N4 for
+    /// a frame of another pair. Only Data takes memory.
     pub fn arrive(&mut self, frame: &Frame) -> Result<Arrival, SessionError>
-        ensures answer { (me peer : ℕ) (limits : LimitsOf) (L : List EndEntry) → Stands me peer limits self.old.end L →
-            Answered arrived_of result (λ answer. IsRight me peer limits (Arrive frame.now answer) L × Stands me peer limits self.new.end (Arrive frame.now answer ∷ L)) }
+        ensures answer { (me peer : ℕ) (limits : LimitsOf) (L : List EndEntry)
+            → Stands me peer limits self.old.end L →
+            Answered arrived_of result (λ answer. IsRight me peer limits (Arrive frame.now answer) L
+            × Stands me peer limits self.new.end (Arrive frame.now answer ∷ L)) }
         ensures err { OnErr result (self.new.end ≡ self.old.end) }
         ensures memory { is_data frame.now.kind ≡ false → result ≢ Err SessionError.OutOfMemory }
         // Memory comes after each refusal, and only where the item would be accepted.
-        ensures memory_last { (me peer : ℕ) (limits : LimitsOf) (L : List EndEntry) → Stands me peer limits self.old.end L →
-            result ≡ Err SessionError.OutOfMemory → right.right_arrive me peer frame.now L ≡ Ok (Took 1) }
+        ensures memory_last { (me peer : ℕ) (limits : LimitsOf) (L : List EndEntry)
+            → Stands me peer limits self.old.end L →
+            result ≡ Err SessionError.OutOfMemory
+            → right.right_arrive me peer frame.now L ≡ Ok (Took 1) }
         ensures same { SameHanded self.old.end self.new.end }
-        ensures ends { IfOk result (λ arrival. EndsBy self.old.end self.new.end (evidence_of arrival)) }
+        ensures ends { IfOk result (λ arrival.
+            EndsBy self.old.end self.new.end (evidence_of arrival)) }
         ensures room { KeepsRoom self.old self.new }
     {
         if frame.from != self.peer || frame.to != self.me {
@@ -320,7 +347,9 @@ impl Session {
     // Whether the open end accepts the item of a frame.
     fn accepts(&self, frame: &Frame) -> bool
         requires { self.now.end.ending ≡ None }
-        ensures { result ≡ (is_data frame.now.kind && (frame.now.seq == self.now.end.accepted + 1) && nat_le frame.now.seq right.last_item && nat_lt (length self.now.end.waiting) right.inbox_limit) }
+        ensures { result ≡ (is_data frame.now.kind &&
+            (frame.now.seq == self.now.end.accepted + 1) && nat_le frame.now.seq right.last_item &&
+            nat_lt (length self.now.end.waiting) right.inbox_limit) }
     {
         frame.kind.is_data()
             && frame.seq == self.accepted + 1
@@ -344,10 +373,14 @@ impl Session {
         }
     }
 
-    /// The first item that waits, with its number. `None` where none waits, and once the end is closed.
+    /// The first item that waits, with its number. `None` where none waits, and once the end is
+    /// closed.
     pub fn front(&self) -> Option<(ItemNo, &[u8])>
-        ensures answer { (me peer : ℕ) (limits : LimitsOf) (L : List EndEntry) → Stands me peer limits self.now.end L → IsRight me peer limits (Front (front_text result)) L }
-        ensures waits { front_text result ≡ right.first_of (self.now.end.taken + 1) self.now.end.waiting }
+        ensures answer { (me peer : ℕ) (limits : LimitsOf) (L : List EndEntry)
+            → Stands me peer limits self.now.end L
+            → IsRight me peer limits (Front (front_text result)) L }
+        ensures waits { front_text result
+            ≡ right.first_of (self.now.end.taken + 1) self.now.end.waiting }
     {
         let payload = self.received.get(self.taken as usize)?;
         Some((ItemNo::new(self.taken + 1), payload.as_slice()))
@@ -356,7 +389,8 @@ impl Session {
     /// Gives up the first item that waits: the caller has seen by `front` that there is one.
     pub fn take(&mut self)
         requires { 0 < length self.old.end.waiting }
-        ensures answer { (me peer : ℕ) (limits : LimitsOf) (L : List EndEntry) → Stands me peer limits self.old.end L →
+        ensures answer { (me peer : ℕ) (limits : LimitsOf) (L : List EndEntry)
+            → Stands me peer limits self.old.end L →
             IsRight me peer limits Take L × Stands me peer limits self.new.end (Take ∷ L) }
         ensures taken { self.new.end ≡ without_front self.old.end }
         ensures room { self.old.room ≤ self.new.room }
@@ -364,15 +398,18 @@ impl Session {
         self.taken += 1;
     }
 
-    /// Counts a tick if something is transmitted and unacknowledged; the tick that makes the count reach the retry
-    /// limit closes the end (reason 3). N1 at a closed end.
+    /// Counts a tick if something is transmitted and unacknowledged; the tick that makes the count
+    /// reach the retry limit closes the end (reason 3). N1 at a closed end.
     pub fn tick(&mut self) -> Result<Option<Closed>, EndRefusal>
-        ensures answer { (me peer : ℕ) (limits : LimitsOf) (L : List EndEntry) → Stands me peer limits self.old.end L →
-            IsRight me peer limits (Tick result) L × Stands me peer limits self.new.end (Tick result ∷ L) }
+        ensures answer { (me peer : ℕ) (limits : LimitsOf) (L : List EndEntry)
+            → Stands me peer limits self.old.end L →
+            IsRight me peer limits (Tick result) L
+            × Stands me peer limits self.new.end (Tick result ∷ L) }
         ensures open { is_ok result ≡ is_open_end self.old.end }
         ensures same { SameHanded self.old.end self.new.end }
         ensures ends { IfOk result (λ closed. EndsBy self.old.end self.new.end closed) }
-        ensures reason { IfOk result (λ closed. IfSome closed (λ ending. ending.reason ≡ Reason.RetriesUsedUp)) }
+        ensures reason { IfOk result (λ closed.
+            IfSome closed (λ ending. ending.reason ≡ Reason.RetriesUsedUp)) }
         ensures refused { IfErr result (λ refusal. refusal ≡ EndRefusal.Closed) }
         ensures err { OnErr result (self.new.end ≡ self.old.end) }
         ensures room { KeepsRoom self.old self.new }
@@ -392,8 +429,10 @@ impl Session {
 
     /// Closes this end for a reason. N1 at a closed end.
     pub fn close(&mut self, reason: Reason) -> Result<Closed, EndRefusal>
-        ensures answer { (me peer : ℕ) (limits : LimitsOf) (L : List EndEntry) → Stands me peer limits self.old.end L →
-            IsRight me peer limits (Close reason result) L × Stands me peer limits self.new.end (Close reason result ∷ L) }
+        ensures answer { (me peer : ℕ) (limits : LimitsOf) (L : List EndEntry)
+            → Stands me peer limits self.old.end L →
+            IsRight me peer limits (Close reason result) L
+            × Stands me peer limits self.new.end (Close reason result ∷ L) }
         ensures open { is_ok result ≡ is_open_end self.old.end }
         ensures same { SameHanded self.old.end self.new.end }
         ensures ends { IfOk result (λ closed. EndsBy self.old.end self.new.end (Some closed)) }
@@ -433,7 +472,8 @@ fn data_frames(
 ) -> Result<Vec<Frame>, AllocError>
     requires { first + length payloads.now < 2 ^ 64 }
     ensures len { IfOk result (λ frames. length frames.items ≡ length payloads.now) }
-    ensures frames { IfOk result (λ frames. frames.items ≡ right.data_frames me peer ack first payloads.now) }
+    ensures frames { IfOk result (λ frames. frames.items
+        ≡ right.data_frames me peer ack first payloads.now) }
 {
     let mut frames = Vec::new(alloc);
     for (i, payload) in payloads.iter().enumerate() {
@@ -459,7 +499,9 @@ fn lone_frame(
     payload: &[u8],
 ) -> Result<Vec<Frame>, AllocError>
     ensures len { IfOk result (λ frames. length frames.items ≤ 64) }
-    ensures frame { IfOk result (λ frames. frames.items ≡ record { kind = kind; from = me; to = peer; seq = 0; ack = ack; payload = payload.now } ∷ []) }
+    ensures frame { IfOk result (λ frames. frames.items
+        ≡ record { kind = kind; from = me; to = peer; seq = 0; ack = ack; payload = payload.now } ∷
+        []) }
 {
     let mut frames = Vec::new(alloc);
     frames.push(Frame {

@@ -20,7 +20,8 @@ pub fn to_bytes(alloc: Global, frame: &Frame) -> Result<Vec<u8>, AllocError>
     }
 }
 
-/// The frame that these bytes spell: what arrives at a space, which sees the bytes alone. Only memory fails it.
+/// The frame that these bytes spell: what arrives at a space, which sees the bytes alone. Only
+/// memory fails it.
 pub fn from_bytes(alloc: Global, bytes: &[u8]) -> Result<Frame, AllocError>
     requires { IsSpelling bytes.now }
     ensures { (frame : FrameOf) → Spelt bytes.now frame → IfOk result (λ arrived. arrived ≡ frame) }

@@ -28,9 +28,9 @@ use nob_space_state::{Parts, SpaceError};
 use std::alloc::{AllocError, Global};
 use std::marker::Model;
 
-/// A space among the spaces from 1 to `n`: it owns objects, holds references to those of others, and has a session with
-/// each other space. Contracts see its number, its limits and its state, and for which lists of entries that stands. It
-/// holds pins, so it can't be let go: `shut` ends it.
+/// A space among the spaces from 1 to `n`: it owns objects, holds references to those of others,
+/// and has a session with each other space. Contracts see its number, its limits and its state, and
+/// for which lists of entries that stands. It holds pins, so it can't be let go: `shut` ends it.
 pub struct Space {
     here: Here,
     limits: Limits,
@@ -49,14 +49,20 @@ impl Model for Space {
 
     ghost coded = { Prim.hlevel (codes, trees_code) };
 
-    ghost view = { λ space. record { id = space.here.space; n = space.here.n; limits = space.limits; state = state_of space.parts } };
+    ghost view = { λ space. record {
+      id = space.here.space;
+      n = space.here.n;
+      limits = space.limits;
+      state = state_of space.parts;
+    } };
 
-    ghost invariant = { λ space. IsOwner space.here.space space.here.n space.limits (state_of space.parts) };
+    ghost invariant = { λ space. IsOwner space.here.space space.here.n space.limits
+        (state_of space.parts) };
 }
 
 impl Space {
-    /// A space that has done nothing: its sessions with all others are open. Only memory fails it. The caller's
-    /// condition: there are 32 spaces at most. Linear in them.
+    /// A space that has done nothing: its sessions with all others are open. Only memory fails it.
+    /// The caller's condition: there are 32 spaces at most. Linear in them.
     pub fn new(alloc: Global, id: SpaceId, n: u16, limits: Limits) -> Result<Space, AllocError>
         requires { n ≤ 32 }
         ensures id { IfOk result (λ space. space.id ≡ id) }
@@ -95,32 +101,46 @@ impl Space {
         self.limits
     }
 
-    /// Whether a client is listed for the object of an index: it asked for it, was granted it, and hasn't given it up.
-    /// Linear in the listings.
+    /// Whether a client is listed for the object of an index: it asked for it, was granted it, and
+    /// hasn't given it up. Linear in the listings.
     pub fn lists(&self, index: u64, client: SpaceId) -> bool
-        ensures { (L : List Entry) → StandsFor self.now L → result ≡ is_listed self.now.id index client (deeds L) }
+        ensures { (L : List Entry) → StandsFor self.now L
+            → result ≡ is_listed self.now.id index client (deeds L) }
     {
         self.parts.lists(index, client)
     }
 
-    /// Whether TakeReply of a call would say anything but that the reply isn't ready. Linear in the calls and the ready
-    /// replies.
+    /// Whether TakeReply of a call would say anything but that the reply isn't ready. Linear in the
+    /// calls and the ready replies.
     pub fn reply_ready(&self, call: CallNo) -> bool
-        ensures { (L : List Entry) → StandsFor self.now L → result ≡ next.reply_ready call (history self.now.id self.now.n L) }
+        ensures { (L : List Entry) → StandsFor self.now L
+            → result ≡ next.reply_ready call (history self.now.id self.now.n L) }
     {
         self.parts.reply_ready(call)
     }
 
-    /// What the space could do next: to ask it that would be no refusal, limits, free numbers and want of memory aside.
-    /// It takes no memory. Linear in the messages that wait and their references, the ready jobs times those that run,
-    /// and, times the pins and the listings, in the surrogates and the objects without holds.
+    /// What the space could do next: to ask it that would be no refusal, limits, free numbers and
+    /// want of memory aside. It takes no memory. Linear in the messages that wait and their
+    /// references, the ready jobs times those that run, and, times the pins and the listings, in
+    /// the surrogates and the objects without holds.
     pub fn work(&self) -> Work
-        ensures act { (L : List Entry) → StandsFor self.now L → (p : ℕ) → 1 ≤ p → p ≤ 32 → slice_get result.act (p - 1) ≡ Some (next.can_act self.now.id self.now.n p (history self.now.id self.now.n L)) }
-        ensures send { (L : List Entry) → StandsFor self.now L → (p : ℕ) → 1 ≤ p → p ≤ 32 → slice_get result.send (p - 1) ≡ Some (next.can_send self.now.id self.now.n p self.now.limits.window (history self.now.id self.now.n L)) }
-        ensures settle { (L : List Entry) → StandsFor self.now L → result.settle ≡ next.can_settle self.now.id self.now.n (history self.now.id self.now.n L) }
-        ensures clean { (L : List Entry) → StandsFor self.now L → result.clean ≡ next.can_clean self.now.id self.now.n (history self.now.id self.now.n L) }
-        ensures claim { (L : List Entry) → StandsFor self.now L → result.claim ≡ next.can_claim (history self.now.id self.now.n L) }
-        ensures withdraw { (L : List Entry) → StandsFor self.now L → result.withdraw ≡ next.to_withdraw self.now.id (history self.now.id self.now.n L) }
+        ensures act { (L : List Entry) → StandsFor self.now L → (p : ℕ) → 1 ≤ p → p ≤ 32
+            → slice_get result.act (p - 1)
+            ≡ Some (next.can_act self.now.id self.now.n p (history self.now.id self.now.n L)) }
+        ensures send { (L : List Entry) → StandsFor self.now L → (p : ℕ) → 1 ≤ p → p ≤ 32
+            → slice_get result.send (p - 1)
+            ≡ Some (next.can_send self.now.id self.now.n p self.now.limits.window
+            (history self.now.id self.now.n L)) }
+        ensures settle { (L : List Entry) → StandsFor self.now L
+            → result.settle ≡ next.can_settle self.now.id self.now.n
+            (history self.now.id self.now.n L) }
+        ensures clean { (L : List Entry) → StandsFor self.now L
+            → result.clean ≡ next.can_clean self.now.id self.now.n
+            (history self.now.id self.now.n L) }
+        ensures claim { (L : List Entry) → StandsFor self.now L
+            → result.claim ≡ next.can_claim (history self.now.id self.now.n L) }
+        ensures withdraw { (L : List Entry) → StandsFor self.now L
+            → result.withdraw ≡ next.to_withdraw self.now.id (history self.now.id self.now.n L) }
     {
         let act = acts(&self.parts, &self.here);
         let send = sends(&self.parts, &self.here);
@@ -138,22 +158,29 @@ impl Space {
         }
     }
 
-    /// The frames that a Transmit to a peer would give now, each of which has a spelling. It is refused, or wants memory,
-    /// as Transmit. Linear in them.
+    /// The frames that a Transmit to a peer would give now, each of which has a spelling. It is
+    /// refused, or wants memory, as Transmit. Linear in them.
     #[tactic(auto, unfolding(nob_model::specs::Right::right_after))]
     pub fn frames(&self, peer: SpaceId) -> Result<Vec<Frame>, SpaceError>
-        ensures answer { (L : List Entry) → StandsFor self.now L → AnswersOrWants (λ frames. answers.Frames frames.items) result (right self.now.id self.now.n self.now.limits L (events.Transmit peer)) }
-        ensures spelt { IsSpace self.now.id → IfOk result (λ frames. AllByRecursion Fits frames.items) }
+        ensures answer { (L : List Entry) → StandsFor self.now L
+            → AnswersOrWants (λ frames. answers.Frames frames.items) result
+            (right self.now.id self.now.n self.now.limits L (events.Transmit peer)) }
+        ensures spelt { IsSpace self.now.id
+            → IfOk result (λ frames. AllByRecursion Fits frames.items) }
     {
         self.parts.frames(&self.here, peer)
     }
 
-    /// One event: its answer, or why the space refuses it. After a refusal, or where memory was wanted, the space is as
-    /// it was. What it costs is said at each event of the state.
+    /// One event: its answer, or why the space refuses it. After a refusal, or where memory was
+    /// wanted, the space is as it was. What it costs is said at each event of the state.
     pub fn step(&mut self, event: &Event) -> Result<Answer, SpaceError>
-        ensures answer { (L : List Entry) → StandsFor self.old L → AnswersRight event.now result (right self.old.id self.old.n self.old.limits L event.now) }
-        ensures stands { (L : List Entry) → StandsFor self.old L → StandsFor self.new (with_entry self.old.id event.now result L) }
-        ensures err { OnErr result ((L : List Entry) → StandsFor self.old L → StandsFor self.new L) }
+        ensures answer { (L : List Entry) → StandsFor self.old L
+            → AnswersRight event.now result
+            (right self.old.id self.old.n self.old.limits L event.now) }
+        ensures stands { (L : List Entry) → StandsFor self.old L
+            → StandsFor self.new (with_entry self.old.id event.now result L) }
+        ensures err { OnErr result ((L : List Entry) → StandsFor self.old L
+            → StandsFor self.new L) }
         // What is handed on has a spelling.
         ensures fits { HandsOnFitting event.now result }
         ensures same { SameSpace self.old self.new }
@@ -164,14 +191,19 @@ impl Space {
         steps::step(&mut self.parts, alloc, &here, event)
     }
 
-    /// One event, with two equal answers: for the entry that is kept of it, and for who asked. All that the second owns is
-    /// copied before anything changes. It costs what `step` costs, and the copy.
+    /// One event, with two equal answers: for the entry that is kept of it, and for who asked. All
+    /// that the second owns is copied before anything changes. It costs what `step` costs, and the
+    /// copy.
     pub fn step_twice(&mut self, event: &Event) -> Result<(Answer, Answer), SpaceError>
-        ensures answer { (L : List Entry) → StandsFor self.old L → AnswersRight event.now (first_of result) (right self.old.id self.old.n self.old.limits L event.now) }
+        ensures answer { (L : List Entry) → StandsFor self.old L
+            → AnswersRight event.now (first_of result)
+            (right self.old.id self.old.n self.old.limits L event.now) }
         ensures equal { IfOk result (λ two. two.1 ≡ two.0) }
         ensures fits { HandsOnFitting event.now (first_of result) }
-        ensures stands { (L : List Entry) → StandsFor self.old L → StandsFor self.new (with_entry self.old.id event.now (first_of result) L) }
-        ensures err { OnErr result ((L : List Entry) → StandsFor self.old L → StandsFor self.new L) }
+        ensures stands { (L : List Entry) → StandsFor self.old L
+            → StandsFor self.new (with_entry self.old.id event.now (first_of result) L) }
+        ensures err { OnErr result ((L : List Entry) → StandsFor self.old L
+            → StandsFor self.new L) }
         ensures same { SameSpace self.old self.new }
     {
         let here = self.here;
@@ -179,8 +211,8 @@ impl Space {
         step_twice(&mut self.parts, alloc, &here, event)
     }
 
-    /// Closes each session that is open, as if it was asked to, and ends the space: each of its pins is given up. It takes
-    /// no memory, and tells no peer.
+    /// Closes each session that is open, as if it was asked to, and ends the space: each of its
+    /// pins is given up. It takes no memory, and tells no peer.
     pub fn shut(self) {
         let Space {
             here,

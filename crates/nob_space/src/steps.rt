@@ -19,9 +19,11 @@ use std::alloc::Global;
 #[tactic(auto, unfolding(nob_model::specs::Right::right_after))]
 pub(crate) fn export(parts: &mut Parts, here: &Here) -> Result<Answer, SpaceError>
     requires { IsState here.now.space here.now.n (state_of parts.old) }
-    ensures answer { StepAnswers here.now.space here.now.n (state_of parts.old) events.Export result }
+    ensures answer { StepAnswers here.now.space here.now.n
+        (state_of parts.old) events.Export result }
     ensures own { IsOwn events.Export result }
-    ensures stands { StepStands here.now.space here.now.n (state_of parts.old) (state_of parts.new) events.Export result }
+    ensures stands { StepStands here.now.space here.now.n (state_of parts.old)
+        (state_of parts.new) events.Export result }
 {
     match parts.export(here) {
         Ok(rep) => Ok(Answer::Exported(rep)),
@@ -33,9 +35,11 @@ pub(crate) fn export(parts: &mut Parts, here: &Here) -> Result<Answer, SpaceErro
 #[tactic(auto, unfolding(nob_model::specs::Right::right_after))]
 pub(crate) fn dup(parts: &mut Parts, here: &Here, rep: &WireRep) -> Result<Answer, SpaceError>
     requires { IsState here.now.space here.now.n (state_of parts.old) }
-    ensures answer { StepAnswers here.now.space here.now.n (state_of parts.old) (events.Dup rep.now) result }
+    ensures answer { StepAnswers here.now.space here.now.n (state_of parts.old)
+        (events.Dup rep.now) result }
     ensures own { IsOwn (events.Dup rep.now) result }
-    ensures stands { StepStands here.now.space here.now.n (state_of parts.old) (state_of parts.new) (events.Dup rep.now) result }
+    ensures stands { StepStands here.now.space here.now.n (state_of parts.old) (state_of parts.new)
+        (events.Dup rep.now) result }
     ensures memory { result ≢ Err SpaceError.OutOfMemory }
 {
     match parts.dup(here, rep) {
@@ -48,9 +52,11 @@ pub(crate) fn dup(parts: &mut Parts, here: &Here, rep: &WireRep) -> Result<Answe
 #[tactic(auto, unfolding(nob_model::specs::Right::right_after))]
 pub(crate) fn release(parts: &mut Parts, here: &Here, rep: &WireRep) -> Result<Answer, SpaceError>
     requires { IsState here.now.space here.now.n (state_of parts.old) }
-    ensures answer { StepAnswers here.now.space here.now.n (state_of parts.old) (events.Release rep.now) result }
+    ensures answer { StepAnswers here.now.space here.now.n (state_of parts.old)
+        (events.Release rep.now) result }
     ensures own { IsOwn (events.Release rep.now) result }
-    ensures stands { StepStands here.now.space here.now.n (state_of parts.old) (state_of parts.new) (events.Release rep.now) result }
+    ensures stands { StepStands here.now.space here.now.n (state_of parts.old) (state_of parts.new)
+        (events.Release rep.now) result }
     ensures memory { result ≢ Err SpaceError.OutOfMemory }
 {
     match parts.release(here, rep) {
@@ -70,10 +76,12 @@ pub(crate) fn call(
     value: &Value,
 ) -> Result<Answer, SpaceError>
     requires { IsState here.now.space here.now.n (state_of parts.old) }
-    ensures answer { StepAnswers here.now.space here.now.n (state_of parts.old) (events.Call target.now method value.now) result }
+    ensures answer { StepAnswers here.now.space here.now.n (state_of parts.old)
+        (events.Call target.now method value.now) result }
     ensures own { IsOwn (events.Call target.now method value.now) result }
     ensures fits { HandsOnFitting (events.Call target.now method value.now) result }
-    ensures stands { StepStands here.now.space here.now.n (state_of parts.old) (state_of parts.new) (events.Call target.now method value.now) result }
+    ensures stands { StepStands here.now.space here.now.n (state_of parts.old) (state_of parts.new)
+        (events.Call target.now method value.now) result }
 {
     match parts.call(alloc, here, target, method, value) {
         Ok(call) => Ok(Answer::Called(call)),
@@ -85,9 +93,11 @@ pub(crate) fn call(
 #[tactic(auto, unfolding(nob_model::specs::Right::right_after))]
 pub(crate) fn take_reply(parts: &mut Parts, here: &Here, call: CallNo) -> Result<Answer, SpaceError>
     requires { IsState here.now.space here.now.n (state_of parts.old) }
-    ensures answer { StepAnswers here.now.space here.now.n (state_of parts.old) (events.TakeReply call) result }
+    ensures answer { StepAnswers here.now.space here.now.n (state_of parts.old)
+        (events.TakeReply call) result }
     ensures own { IsOwn (events.TakeReply call) result }
-    ensures stands { StepStands here.now.space here.now.n (state_of parts.old) (state_of parts.new) (events.TakeReply call) result }
+    ensures stands { StepStands here.now.space here.now.n (state_of parts.old) (state_of parts.new)
+        (events.TakeReply call) result }
     ensures memory { result ≢ Err SpaceError.OutOfMemory }
 {
     match parts.take_reply(here, call) {
@@ -101,9 +111,11 @@ pub(crate) fn take_reply(parts: &mut Parts, here: &Here, call: CallNo) -> Result
 #[tactic(auto, unfolding(nob_model::specs::Right::right_after))]
 pub(crate) fn claim(parts: &mut Parts, here: &Here) -> Result<Answer, SpaceError>
     requires { IsState here.now.space here.now.n (state_of parts.old) }
-    ensures answer { StepAnswers here.now.space here.now.n (state_of parts.old) events.Claim result }
+    ensures answer { StepAnswers here.now.space here.now.n
+        (state_of parts.old) events.Claim result }
     ensures own { IsOwn events.Claim result }
-    ensures stands { StepStands here.now.space here.now.n (state_of parts.old) (state_of parts.new) events.Claim result }
+    ensures stands { StepStands here.now.space here.now.n (state_of parts.old)
+        (state_of parts.new) events.Claim result }
 {
     match parts.claim(here) {
         Ok(job) => Ok(Answer::Job(job)),
@@ -121,10 +133,12 @@ pub(crate) fn finish(
     outcome: &Outcome,
 ) -> Result<Answer, SpaceError>
     requires { IsState here.now.space here.now.n (state_of parts.old) }
-    ensures answer { StepAnswers here.now.space here.now.n (state_of parts.old) (events.Finish job outcome.now) result }
+    ensures answer { StepAnswers here.now.space here.now.n (state_of parts.old)
+        (events.Finish job outcome.now) result }
     ensures own { IsOwn (events.Finish job outcome.now) result }
     ensures fits { HandsOnFitting (events.Finish job outcome.now) result }
-    ensures stands { StepStands here.now.space here.now.n (state_of parts.old) (state_of parts.new) (events.Finish job outcome.now) result }
+    ensures stands { StepStands here.now.space here.now.n (state_of parts.old) (state_of parts.new)
+        (events.Finish job outcome.now) result }
 {
     match parts.finish(alloc, here, job, outcome) {
         Ok(ReplyFate::HandedOn) => Ok(Answer::Finished),
@@ -137,9 +151,11 @@ pub(crate) fn finish(
 #[tactic(auto, unfolding(nob_model::specs::Right::right_after))]
 pub(crate) fn withdraw(parts: &mut Parts, here: &Here, index: u64) -> Result<Answer, SpaceError>
     requires { IsState here.now.space here.now.n (state_of parts.old) }
-    ensures answer { StepAnswers here.now.space here.now.n (state_of parts.old) (events.Withdraw index) result }
+    ensures answer { StepAnswers here.now.space here.now.n (state_of parts.old)
+        (events.Withdraw index) result }
     ensures own { IsOwn (events.Withdraw index) result }
-    ensures stands { StepStands here.now.space here.now.n (state_of parts.old) (state_of parts.new) (events.Withdraw index) result }
+    ensures stands { StepStands here.now.space here.now.n (state_of parts.old) (state_of parts.new)
+        (events.Withdraw index) result }
     ensures memory { result ≢ Err SpaceError.OutOfMemory }
 {
     match parts.withdraw(here, index) {
@@ -152,9 +168,11 @@ pub(crate) fn withdraw(parts: &mut Parts, here: &Here, index: u64) -> Result<Ans
 #[tactic(auto, unfolding(nob_model::specs::Right::right_after))]
 pub(crate) fn transmit(parts: &mut Parts, here: &Here, peer: SpaceId) -> Result<Answer, SpaceError>
     requires { IsState here.now.space here.now.n (state_of parts.old) }
-    ensures answer { StepAnswers here.now.space here.now.n (state_of parts.old) (events.Transmit peer) result }
+    ensures answer { StepAnswers here.now.space here.now.n (state_of parts.old)
+        (events.Transmit peer) result }
     ensures own { IsOwn (events.Transmit peer) result }
-    ensures stands { StepStands here.now.space here.now.n (state_of parts.old) (state_of parts.new) (events.Transmit peer) result }
+    ensures stands { StepStands here.now.space here.now.n (state_of parts.old) (state_of parts.new)
+        (events.Transmit peer) result }
 {
     match parts.transmit(here, peer) {
         Ok(frames) => Ok(Answer::Frames(frames)),
@@ -166,9 +184,11 @@ pub(crate) fn transmit(parts: &mut Parts, here: &Here, peer: SpaceId) -> Result<
 #[tactic(auto, unfolding(nob_model::specs::Right::right_after))]
 pub(crate) fn arrive(parts: &mut Parts, here: &Here, frame: &Frame) -> Result<Answer, SpaceError>
     requires { IsState here.now.space here.now.n (state_of parts.old) }
-    ensures answer { StepAnswers here.now.space here.now.n (state_of parts.old) (events.Arrive frame.now) result }
+    ensures answer { StepAnswers here.now.space here.now.n (state_of parts.old)
+        (events.Arrive frame.now) result }
     ensures own { IsOwn (events.Arrive frame.now) result }
-    ensures stands { StepStands here.now.space here.now.n (state_of parts.old) (state_of parts.new) (events.Arrive frame.now) result }
+    ensures stands { StepStands here.now.space here.now.n (state_of parts.old) (state_of parts.new)
+        (events.Arrive frame.now) result }
     ensures memory { is_data frame.now.kind ≡ false → result ≢ Err SpaceError.OutOfMemory }
 {
     match parts.arrive(here, frame) {
@@ -182,9 +202,11 @@ pub(crate) fn arrive(parts: &mut Parts, here: &Here, frame: &Frame) -> Result<An
 #[tactic(auto, unfolding(nob_model::specs::Right::right_after))]
 pub(crate) fn tick(parts: &mut Parts, here: &Here, peer: SpaceId) -> Result<Answer, SpaceError>
     requires { IsState here.now.space here.now.n (state_of parts.old) }
-    ensures answer { StepAnswers here.now.space here.now.n (state_of parts.old) (events.Tick peer) result }
+    ensures answer { StepAnswers here.now.space here.now.n (state_of parts.old)
+        (events.Tick peer) result }
     ensures own { IsOwn (events.Tick peer) result }
-    ensures stands { StepStands here.now.space here.now.n (state_of parts.old) (state_of parts.new) (events.Tick peer) result }
+    ensures stands { StepStands here.now.space here.now.n (state_of parts.old) (state_of parts.new)
+        (events.Tick peer) result }
     ensures memory { result ≢ Err SpaceError.OutOfMemory }
 {
     match parts.tick(here, peer) {
@@ -198,9 +220,11 @@ pub(crate) fn tick(parts: &mut Parts, here: &Here, peer: SpaceId) -> Result<Answ
 #[tactic(auto, unfolding(nob_model::specs::Right::right_after))]
 pub(crate) fn close(parts: &mut Parts, here: &Here, peer: SpaceId) -> Result<Answer, SpaceError>
     requires { IsState here.now.space here.now.n (state_of parts.old) }
-    ensures answer { StepAnswers here.now.space here.now.n (state_of parts.old) (events.Close peer) result }
+    ensures answer { StepAnswers here.now.space here.now.n (state_of parts.old)
+        (events.Close peer) result }
     ensures own { IsOwn (events.Close peer) result }
-    ensures stands { StepStands here.now.space here.now.n (state_of parts.old) (state_of parts.new) (events.Close peer) result }
+    ensures stands { StepStands here.now.space here.now.n (state_of parts.old) (state_of parts.new)
+        (events.Close peer) result }
     ensures memory { result ≢ Err SpaceError.OutOfMemory }
 {
     match parts.close(here, peer) {
@@ -218,9 +242,11 @@ pub(crate) fn act(
     peer: SpaceId,
 ) -> Result<Answer, SpaceError>
     requires { IsState here.now.space here.now.n (state_of parts.old) }
-    ensures answer { StepAnswers here.now.space here.now.n (state_of parts.old) (events.Act peer) result }
+    ensures answer { StepAnswers here.now.space here.now.n (state_of parts.old)
+        (events.Act peer) result }
     ensures own { IsOwn (events.Act peer) result }
-    ensures stands { StepStands here.now.space here.now.n (state_of parts.old) (state_of parts.new) (events.Act peer) result }
+    ensures stands { StepStands here.now.space here.now.n (state_of parts.old) (state_of parts.new)
+        (events.Act peer) result }
 {
     match nob_space_items::act(parts, alloc, here, peer) {
         Ok(done) => Ok(done.to_answer()),
@@ -232,9 +258,11 @@ pub(crate) fn act(
 #[tactic(auto, unfolding(nob_model::specs::Right::right_after))]
 pub(crate) fn settle(parts: &mut Parts, alloc: Global, here: &Here) -> Result<Answer, SpaceError>
     requires { IsState here.now.space here.now.n (state_of parts.old) }
-    ensures answer { StepAnswers here.now.space here.now.n (state_of parts.old) events.Settle result }
+    ensures answer { StepAnswers here.now.space here.now.n
+        (state_of parts.old) events.Settle result }
     ensures own { IsOwn events.Settle result }
-    ensures stands { StepStands here.now.space here.now.n (state_of parts.old) (state_of parts.new) events.Settle result }
+    ensures stands { StepStands here.now.space here.now.n (state_of parts.old)
+        (state_of parts.new) events.Settle result }
 {
     match nob_space_settling::settle(parts, alloc, here) {
         Ok(settled) => Ok(Answer::Settled(settled.peer, settled.item)),
@@ -246,9 +274,11 @@ pub(crate) fn settle(parts: &mut Parts, alloc: Global, here: &Here) -> Result<An
 #[tactic(auto, unfolding(nob_model::specs::Right::right_after))]
 pub(crate) fn clean(parts: &mut Parts, alloc: Global, here: &Here) -> Result<Answer, SpaceError>
     requires { IsState here.now.space here.now.n (state_of parts.old) }
-    ensures answer { StepAnswers here.now.space here.now.n (state_of parts.old) events.Clean result }
+    ensures answer { StepAnswers here.now.space here.now.n
+        (state_of parts.old) events.Clean result }
     ensures own { IsOwn events.Clean result }
-    ensures stands { StepStands here.now.space here.now.n (state_of parts.old) (state_of parts.new) events.Clean result }
+    ensures stands { StepStands here.now.space here.now.n (state_of parts.old)
+        (state_of parts.new) events.Clean result }
 {
     match nob_space_settling::clean(parts, alloc, here) {
         Ok(rep) => Ok(Answer::Cleaned(rep)),
@@ -266,7 +296,8 @@ pub(crate) fn step(
     requires { IsState here.now.space here.now.n (state_of parts.old) }
     ensures answer { StepAnswers here.now.space here.now.n (state_of parts.old) event.now result }
     ensures own { IsOwn event.now result }
-    ensures stands { StepStands here.now.space here.now.n (state_of parts.old) (state_of parts.new) event.now result }
+    ensures stands { StepStands here.now.space here.now.n (state_of parts.old)
+        (state_of parts.new) event.now result }
     ensures memory { wants_memory event.now ≡ false → result ≢ Err SpaceError.OutOfMemory }
     ensures fits { HandsOnFitting event.now result }
 {

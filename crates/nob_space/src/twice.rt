@@ -34,8 +34,13 @@ pub enum Spare {
 #[tactic(auto, unfolding(nob_model::specs::Right::right_after))]
 fn spare_of(parts: &Parts, here: &Here, event: &Event) -> Result<Spare, AllocError>
     requires { IsState here.now.space here.now.n (state_of parts.now) }
-    ensures fits { IfOk result (λ spare. (answer : AnswerOf) → IsComing here.now.space here.now.n (state_of parts.now) event.now answer → Fits spare answer) }
-    ensures memory { OnErr result ((limits : LimitsOf) (D : List Deed) → Stands here.now.space here.now.n limits (state_of parts.now) D → IsOk (right_after here.now.space here.now.n limits (history_of here.now.space here.now.n D) event.now)) }
+    ensures fits { IfOk result (λ spare. (answer : AnswerOf)
+        → IsComing here.now.space here.now.n (state_of parts.now) event.now answer
+        → Fits spare answer) }
+    ensures memory { OnErr result ((limits : LimitsOf) (D : List Deed)
+        → Stands here.now.space here.now.n limits (state_of parts.now) D
+        → IsOk (right_after here.now.space here.now.n limits
+        (history_of here.now.space here.now.n D) event.now)) }
 {
     match event {
         Event::TakeReply(call) => match parts.reply_value(*call) {
@@ -98,10 +103,12 @@ pub(crate) fn step_twice(
     event: &Event,
 ) -> Result<(Answer, Answer), SpaceError>
     requires { IsState here.now.space here.now.n (state_of parts.old) }
-    ensures answer { StepAnswers here.now.space here.now.n (state_of parts.old) event.now (first_of result) }
+    ensures answer { StepAnswers here.now.space here.now.n (state_of parts.old) event.now
+        (first_of result) }
     ensures equal { IfOk result (λ two. two.1 ≡ two.0) }
     ensures fits { HandsOnFitting event.now (first_of result) }
-    ensures stands { StepStands here.now.space here.now.n (state_of parts.old) (state_of parts.new) event.now (first_of result) }
+    ensures stands { StepStands here.now.space here.now.n (state_of parts.old)
+        (state_of parts.new) event.now (first_of result) }
 {
     let Ok(spare) = spare_of(parts, here, event) else {
         return Err(SpaceError::OutOfMemory);

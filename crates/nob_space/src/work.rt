@@ -15,7 +15,8 @@ use nob_space_state::Parts;
 /// What a space could do next, limits, free numbers and want of memory aside.
 #[derive(Clone, Copy, Debug, PartialEq, Eq)]
 pub struct Work {
-    /// At place p - 1: whether there is an item from space p to act on, also one whose fault closes the session.
+    /// At place p - 1: whether there is an item from space p to act on, also one whose fault closes
+    /// the session.
     pub act: [bool; 32],
     /// At place p - 1: whether a Transmit to space p would give a frame.
     pub send: [bool; 32],
@@ -31,7 +32,10 @@ pub struct Work {
 
 // Whether there is an item to act on, from each space.
 pub(crate) fn acts(parts: &Parts, here: &Here) -> [bool; 32]
-    ensures { (limits : LimitsOf) (D : List Deed) → Stands here.now.space here.now.n limits (state_of parts.now) D → (p : ℕ) → 1 ≤ p → p ≤ 32 → slice_get result (p - 1) ≡ Some (next.can_act here.now.space here.now.n p (history_of here.now.space here.now.n D)) }
+    ensures { (limits : LimitsOf) (D : List Deed)
+        → Stands here.now.space here.now.n limits (state_of parts.now) D → (p : ℕ) → 1 ≤ p → p ≤ 32
+        → slice_get result (p - 1) ≡ Some
+        (next.can_act here.now.space here.now.n p (history_of here.now.space here.now.n D)) }
 {
     let mut all = [false; 32];
     for place in 0..32 {
@@ -45,7 +49,11 @@ pub(crate) fn acts(parts: &Parts, here: &Here) -> [bool; 32]
 
 // Whether a Transmit would give a frame, to each space.
 pub(crate) fn sends(parts: &Parts, here: &Here) -> [bool; 32]
-    ensures { (limits : LimitsOf) (D : List Deed) → Stands here.now.space here.now.n limits (state_of parts.now) D → (p : ℕ) → 1 ≤ p → p ≤ 32 → slice_get result (p - 1) ≡ Some (next.can_send here.now.space here.now.n p limits.window (history_of here.now.space here.now.n D)) }
+    ensures { (limits : LimitsOf) (D : List Deed)
+        → Stands here.now.space here.now.n limits (state_of parts.now) D → (p : ℕ) → 1 ≤ p → p ≤ 32
+        → slice_get result (p - 1) ≡ Some
+        (next.can_send here.now.space here.now.n p limits.window
+        (history_of here.now.space here.now.n D)) }
 {
     let mut all = [false; 32];
     for place in 0..32 {

@@ -56,10 +56,17 @@ fn act_on(
     item: Item,
 ) -> Result<(), SpaceError>
     requires state { IsState here.now.space here.now.n (state_of parts.old) }
-    requires front { (limits : LimitsOf) (D : List Deed) → Stands here.now.space here.now.n limits (state_of parts.old) D → IsFront here.now.space here.now.n peer number item D }
-    ensures answer { (limits : LimitsOf) (D : List Deed) → Stands here.now.space here.now.n limits (state_of parts.old) D → AnswersOrWants (λ _. answers.Acted number) result (right.right_act here.now.space here.now.n peer (history_of here.now.space here.now.n D)) }
-    ensures stands { OnOk result (Did here.now.space here.now.n (state_of parts.old) (state_of parts.new) (did.Act peer number)) }
-    ensures err { OnErr result (Keeps here.now.space here.now.n (state_of parts.old) (state_of parts.new)) }
+    requires front { (limits : LimitsOf) (D : List Deed)
+        → Stands here.now.space here.now.n limits (state_of parts.old) D
+        → IsFront here.now.space here.now.n peer number item D }
+    ensures answer { (limits : LimitsOf) (D : List Deed)
+        → Stands here.now.space here.now.n limits (state_of parts.old) D
+        → AnswersOrWants (λ _. answers.Acted number) result
+        (right.right_act here.now.space here.now.n peer (history_of here.now.space here.now.n D)) }
+    ensures stands { OnOk result (Did here.now.space here.now.n (state_of parts.old)
+        (state_of parts.new) (did.Act peer number)) }
+    ensures err { OnErr result (Keeps here.now.space here.now.n (state_of parts.old)
+        (state_of parts.new)) }
 {
     match &item {
         Item::Call { .. } | Item::Reply { .. } => {}
@@ -87,11 +94,12 @@ fn act_on(
     act_on_message(parts, alloc, here, peer, number, item)
 }
 
-/// Act: the item at the front of the inbox from a peer is acted on. One with a fault closes the session instead. It is
-/// refused where there is no such peer, its session has closed here, or nothing waits; and the item stays in the inbox
-/// where a Call or a Reply would pass a limit, or a session has no number for the Dirties or the answer that it asks for.
-/// It takes memory to read a Call or a Reply, for what an item leaves here, and for what is sent; a fault of what was
-/// read takes none. Linear in the bytes, the calls, the listings, the pins, and the messages that wait.
+/// Act: the item at the front of the inbox from a peer is acted on. One with a fault closes the
+/// session instead. It is refused where there is no such peer, its session has closed here, or
+/// nothing waits; and the item stays in the inbox where a Call or a Reply would pass a limit, or a
+/// session has no number for the Dirties or the answer that it asks for. It takes memory to read a
+/// Call or a Reply, for what an item leaves here, and for what is sent; a fault of what was read
+/// takes none. Linear in the bytes, the calls, the listings, the pins, and the messages that wait.
 pub fn act(
     parts: &mut Parts,
     alloc: Global,
@@ -99,9 +107,15 @@ pub fn act(
     peer: SpaceId,
 ) -> Result<ActResult, SpaceError>
     requires { IsState here.now.space here.now.n (state_of parts.old) }
-    ensures answer { (limits : LimitsOf) (D : List Deed) → Stands here.now.space here.now.n limits (state_of parts.old) D → ActsOrWants (right_front (calls_at peer (history_of here.now.space here.now.n D))) result (right.right_act here.now.space here.now.n peer (history_of here.now.space here.now.n D)) }
-    ensures stands { IfOk result (λ done. Did here.now.space here.now.n (state_of parts.old) (state_of parts.new) (act_deed peer done)) }
-    ensures err { OnErr result (Keeps here.now.space here.now.n (state_of parts.old) (state_of parts.new)) }
+    ensures answer { (limits : LimitsOf) (D : List Deed)
+        → Stands here.now.space here.now.n limits (state_of parts.old) D
+        → ActsOrWants (right_front (calls_at peer (history_of here.now.space here.now.n D))) result
+        (right.right_act here.now.space here.now.n peer (history_of here.now.space here.now.n D)) }
+    ensures stands { IfOk result (λ done.
+        Did here.now.space here.now.n (state_of parts.old) (state_of parts.new)
+        (act_deed peer done)) }
+    ensures err { OnErr result (Keeps here.now.space here.now.n (state_of parts.old)
+        (state_of parts.new)) }
 {
     if !here.is_peer(peer) {
         return Err(SpaceError::Refused(Refusal::NoPeer));

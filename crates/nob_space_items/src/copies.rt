@@ -58,7 +58,8 @@ pub(crate) fn new_copies(
     here: &Here,
     item: &Item,
 ) -> Result<RefCopies, AllocError>
-    ensures { IfOk result (λ copies. copies ≡ specs.new_copies here.now.space here.now.n (state_of parts.now) (counted_in item.now)) }
+    ensures { IfOk result (λ copies. copies
+        ≡ specs.new_copies here.now.space here.now.n (state_of parts.now) (counted_in item.now)) }
 {
     let reps = counted_refs(alloc, item)?;
     let mut copies = Vec::with_capacity(alloc, reps.len())?;

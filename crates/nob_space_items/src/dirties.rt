@@ -15,7 +15,8 @@ use nob_table::ObjectTable;
 use std::alloc::{AllocError, Global};
 use std::marker::Model;
 
-/// A Dirty that is about to be sent: its payload is written. Contracts see the reference that it is for.
+/// A Dirty that is about to be sent: its payload is written. Contracts see the reference that it is
+/// for.
 #[derive(Drop)]
 pub struct NewDirty {
     rep: WireRep,
@@ -32,7 +33,8 @@ impl Model for NewDirty {
 
     ghost view = { λ dirty. dirty.rep };
 
-    ghost invariant = { λ dirty. (bytes_of (items.Dirty dirty.rep.index) ≡ Ok dirty.payload.items) × (0 < vec_len dirty.payload) × (vec_len dirty.payload ≤ 16384) };
+    ghost invariant = { λ dirty. (bytes_of (items.Dirty dirty.rep.index) ≡ Ok dirty.payload.items)
+        × (0 < vec_len dirty.payload) × (vec_len dirty.payload ≤ 16384) };
 }
 
 impl NewDirty {

@@ -78,7 +78,9 @@ fn fault_if(test: bool, reason: Reason) -> Option<Reason>
 // The fault of a Call of a target.
 fn fault_of_call(parts: &Parts, me: SpaceId, target: u64, item: &Item) -> Option<Reason>
     requires { Fits item.now }
-    ensures { result ≡ words.first_fault (words.fault_if (names_none me parts.now.table (own_ref me target)) Reason.BadReference) (words.fault_if (carries_none me (state_of parts.now) item.now) Reason.BadReference) }
+    ensures { result ≡ words.first_fault
+        (words.fault_if (names_none me parts.now.table (own_ref me target)) Reason.BadReference)
+        (words.fault_if (carries_none me (state_of parts.now) item.now) Reason.BadReference) }
 {
     let rep = WireRep {
         owner: me,
@@ -99,7 +101,10 @@ fn fault_of_reply(
     item: &Item,
 ) -> Option<Reason>
     requires { Fits item.now }
-    ensures { result ≡ words.first_fault (words.fault_if (not (list_any (words.awaits_reply peer call) parts.now.calls.items)) Reason.OutOfPlace) (words.fault_if (carries_none me (state_of parts.now) item.now) Reason.BadReference) }
+    ensures { result ≡ words.first_fault
+        (words.fault_if (not (list_any (words.awaits_reply peer call) parts.now.calls.items))
+        Reason.OutOfPlace) (words.fault_if
+        (carries_none me (state_of parts.now) item.now) Reason.BadReference) }
 {
     if !is_awaited(peer, call, parts.calls.as_slice()) {
         return Some(Reason::OutOfPlace);

@@ -50,8 +50,8 @@ fn lend_to(rep: &WireRep, message: &mut Message) -> u64
     lent
 }
 
-/// Makes the loans of a reference that are due to some messages: how many. Linear in their references. The caller's
-/// condition: their number can be counted in 64 bits.
+/// Makes the loans of a reference that are due to some messages: how many. Linear in their
+/// references. The caller's condition: their number can be counted in 64 bits.
 pub(crate) fn lend_to_all(rep: &WireRep, messages: &mut SlabList<Message>) -> u64
     requires { words.due_to_all rep.now messages.old.items < 2 ^ 64 }
     ensures messages { messages.new.items ≡ map (words.granted_message rep.now) messages.old.items }

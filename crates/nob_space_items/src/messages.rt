@@ -61,15 +61,18 @@ fn has(reps: &[WireRep], rep: &WireRep) -> bool
 
 // Whether a reference gets a Dirty that none of those before got.
 fn is_next(parts: &Parts, here: &Here, before: &[WireRep], rep: &WireRep) -> bool
-    ensures { result ≡ (specs.is_wanted here.now.space here.now.n (state_of parts.now) rep.now && not (list_any (is_same rep.now) before.now)) }
+    ensures { result ≡ (specs.is_wanted here.now.space here.now.n
+        (state_of parts.now) rep.now && not (list_any (is_same rep.now) before.now)) }
 {
     is_wanted(parts, here, rep) && !has(before, rep)
 }
 
-// The references of an item that get Dirties, each once, in reading order. An item carries 32 at most.
+// The references of an item that get Dirties, each once, in reading order. An item carries 32 at
+// most.
 fn wanted_refs(parts: &Parts, here: &Here, item: &Item) -> FewRefs
     requires { length (counted_in item.now) ≤ 32 }
-    ensures { result ≡ specs.wanted_refs here.now.space here.now.n (state_of parts.now) (counted_in item.now) }
+    ensures { result ≡ specs.wanted_refs here.now.space here.now.n (state_of parts.now)
+        (counted_in item.now) }
 {
     let mut wanted = FewRefs::new(WireRep {
         owner: here.space,
@@ -110,7 +113,8 @@ fn owner_count(owner: SpaceId, reps: &[WireRep]) -> usize
     }
 }
 
-// Whether the session with a reference's owner has numbers free for the Dirties of all that it owns among these.
+// Whether the session with a reference's owner has numbers free for the Dirties of all that it owns
+// among these.
 fn has_numbers_for(parts: &Parts, reps: &[WireRep], rep: &WireRep) -> bool
     ensures { result ≡ specs.has_numbers_for (state_of parts.now) reps.now rep.now }
 {
@@ -131,7 +135,9 @@ fn have_numbers(parts: &Parts, reps: &[WireRep]) -> bool
 #[tactic(auto, unfolding(crate::specs::Messages::message_refusal))]
 fn refuse_message(parts: &Parts, reps: &[WireRep]) -> Result<(), Refusal>
     ensures known { KnowsSurrogates parts.now.table }
-    ensures refusal { MatchResult result (λ _. specs.message_refusal (state_of parts.now) reps.now ≡ None) (λ refusal. specs.message_refusal (state_of parts.now) reps.now ≡ Some refusal) }
+    ensures refusal { MatchResult result
+        (λ _. specs.message_refusal (state_of parts.now) reps.now ≡ None)
+        (λ refusal. specs.message_refusal (state_of parts.now) reps.now ≡ Some refusal) }
 {
     let surrogates = parts.table.surrogate_count() as u64;
     if message_count(parts) >= MOST_MESSAGES as u64 {
@@ -146,12 +152,19 @@ fn refuse_message(parts: &Parts, reps: &[WireRep]) -> Result<(), Refusal>
     Ok(())
 }
 
-// The references of a Call or a Reply that get Dirties, or why it stays in the inbox. It takes no memory.
+// The references of a Call or a Reply that get Dirties, or why it stays in the inbox. It takes no
+// memory.
 fn judge_message(parts: &Parts, here: &Here, item: &Item) -> Result<FewRefs, Refusal>
     requires few { length (counted_in item.now) ≤ 32 }
-    ensures wanted { IfOk result (λ reps. reps ≡ specs.wanted_refs here.now.space here.now.n (state_of parts.now) (counted_in item.now)) }
+    ensures wanted { IfOk result (λ reps. reps
+        ≡ specs.wanted_refs here.now.space here.now.n (state_of parts.now) (counted_in item.now)) }
     ensures free { IfOk result (λ reps. specs.message_refusal (state_of parts.now) reps ≡ None) }
-    ensures answer { (limits : LimitsOf) (D : List Deed) → Stands here.now.space here.now.n limits (state_of parts.now) D → MatchResult result (λ _. acting.message_refusal here.now.space here.now.n item.now (history_of here.now.space here.now.n D) ≡ None) (λ refusal. acting.message_refusal here.now.space here.now.n item.now (history_of here.now.space here.now.n D) ≡ Some refusal) }
+    ensures answer { (limits : LimitsOf) (D : List Deed)
+        → Stands here.now.space here.now.n limits (state_of parts.now) D
+        → MatchResult result (λ _. acting.message_refusal here.now.space here.now.n item.now
+        (history_of here.now.space here.now.n D) ≡ None)
+        (λ refusal. acting.message_refusal here.now.space here.now.n item.now
+        (history_of here.now.space here.now.n D) ≡ Some refusal) }
 {
     let wanted = wanted_refs(parts, here, item);
     match refuse_message(parts, wanted.as_slice()) {
@@ -160,10 +173,11 @@ fn judge_message(parts: &Parts, here: &Here, item: &Item) -> Result<FewRefs, Ref
     }
 }
 
-/// Acts on a Call or a Reply from a peer that has no fault: its references that have no surrogate get Dirties, its
-/// loans are made as far as they can be, and it waits for its references or is ready. It stays in the inbox where a limit
-/// or the numbers of a session forbid it, and then nothing was sent. Linear in its value times its references, of which
-/// there are 32 at most, and in the calls.
+/// Acts on a Call or a Reply from a peer that has no fault: its references that have no surrogate
+/// get Dirties, its loans are made as far as they can be, and it waits for its references or is
+/// ready. It stays in the inbox where a limit or the numbers of a session forbid it, and then
+/// nothing was sent. Linear in its value times its references, of which there are 32 at most, and
+/// in the calls.
 pub(crate) fn act_on_message(
     parts: &mut Parts,
     alloc: Global,
@@ -174,10 +188,17 @@ pub(crate) fn act_on_message(
 ) -> Result<(), SpaceError>
     requires state { IsState here.now.space here.now.n (state_of parts.old) }
     requires message { IsMessage item }
-    requires front { (limits : LimitsOf) (D : List Deed) → Stands here.now.space here.now.n limits (state_of parts.old) D → IsFront here.now.space here.now.n peer number item D }
-    ensures answer { (limits : LimitsOf) (D : List Deed) → Stands here.now.space here.now.n limits (state_of parts.old) D → AnswersOrWants (λ _. answers.Acted number) result (right.right_act here.now.space here.now.n peer (history_of here.now.space here.now.n D)) }
-    ensures stands { OnOk result (Did here.now.space here.now.n (state_of parts.old) (state_of parts.new) (did.Act peer number)) }
-    ensures err { OnErr result (Keeps here.now.space here.now.n (state_of parts.old) (state_of parts.new)) }
+    requires front { (limits : LimitsOf) (D : List Deed)
+        → Stands here.now.space here.now.n limits (state_of parts.old) D
+        → IsFront here.now.space here.now.n peer number item D }
+    ensures answer { (limits : LimitsOf) (D : List Deed)
+        → Stands here.now.space here.now.n limits (state_of parts.old) D
+        → AnswersOrWants (λ _. answers.Acted number) result
+        (right.right_act here.now.space here.now.n peer (history_of here.now.space here.now.n D)) }
+    ensures stands { OnOk result (Did here.now.space here.now.n (state_of parts.old)
+        (state_of parts.new) (did.Act peer number)) }
+    ensures err { OnErr result (Keeps here.now.space here.now.n (state_of parts.old)
+        (state_of parts.new)) }
 {
     let wanted = match judge_message(parts, here, &item) {
         Ok(wanted) => wanted,

@@ -43,8 +43,11 @@ pub(crate) fn act_on_clean(
     index: u64,
 )
     requires state { IsState here.now.space here.now.n (state_of parts.old) }
-    requires front { (limits : LimitsOf) (D : List Deed) → Stands here.now.space here.now.n limits (state_of parts.old) D → IsFront here.now.space here.now.n peer number (items.Clean index) D }
-    ensures stands { Did here.now.space here.now.n (state_of parts.old) (state_of parts.new) (did.Act peer number) }
+    requires front { (limits : LimitsOf) (D : List Deed)
+        → Stands here.now.space here.now.n limits (state_of parts.old) D
+        → IsFront here.now.space here.now.n peer number (items.Clean index) D }
+    ensures stands { Did here.now.space here.now.n (state_of parts.old) (state_of parts.new)
+        (did.Act peer number) }
 {
     parts.dirty.clean(index, peer);
     parts.sessions[peer.get() as usize - 1].take();
@@ -53,8 +56,12 @@ pub(crate) fn act_on_clean(
 // Acts on a Settle: the pins of the item that it settles end. It takes no memory.
 pub(crate) fn act_on_settle(parts: &mut Parts, here: &Here, number: ItemNo, settled: &Settled)
     requires state { IsState here.now.space here.now.n (state_of parts.old) }
-    requires front { (limits : LimitsOf) (D : List Deed) → Stands here.now.space here.now.n limits (state_of parts.old) D → IsFront here.now.space here.now.n settled.now.peer number (items.Settle settled.now.item) D }
-    ensures stands { Did here.now.space here.now.n (state_of parts.old) (state_of parts.new) (did.Act settled.now.peer number) }
+    requires front { (limits : LimitsOf) (D : List Deed)
+        → Stands here.now.space here.now.n limits (state_of parts.old) D
+        → IsFront here.now.space here.now.n settled.now.peer number
+        (items.Settle settled.now.item) D }
+    ensures stands { Did here.now.space here.now.n (state_of parts.old) (state_of parts.new)
+        (did.Act settled.now.peer number) }
 {
     let peer = settled.peer();
     match parts.pins.settle(settled) {
@@ -83,8 +90,8 @@ fn dirty_answer(live: bool, index: u64) -> Item
     }
 }
 
-// Answers the Dirty that waits first at a session, and takes it: its sender is entered where the object is live. Only
-// memory fails it.
+// Answers the Dirty that waits first at a session, and takes it: its sender is entered where the
+// object is live. Only memory fails it.
 fn answer_dirty(
     alloc: Global,
     session: &mut Session,
@@ -95,9 +102,14 @@ fn answer_dirty(
 ) -> Result<(), AllocError>
     requires next { IsOk (next_of kinds.Note session.old.end) }
     requires waits { 0 < length session.old.end.waiting }
-    ensures session { (me other : ℕ) (limits : LimitsOf) (L : List EndEntry) → ends.Stands me other limits session.old.end L → OnOk result (ends.Stands me other limits session.new.end (calls.Take ∷ calls.Send (payload_of (dirty_answer live index)) kinds.Note (Ok (session.old.end.handed + 1)) ∷ L)) }
+    ensures session { (me other : ℕ) (limits : LimitsOf) (L : List EndEntry)
+        → ends.Stands me other limits session.old.end L
+        → OnOk result (ends.Stands me other limits session.new.end
+        (calls.Take ∷ calls.Send (payload_of (dirty_answer live index)) kinds.Note
+        (Ok (session.old.end.handed + 1)) ∷ L)) }
     ensures listed { OnOk result (EntersIf live dirty.old dirty.new index peer) }
-    ensures err { OnErr result ((session.new.end ≡ session.old.end) × ListsSame dirty.old dirty.new) }
+    ensures err { OnErr result ((session.new.end ≡ session.old.end)
+        × ListsSame dirty.old dirty.new) }
 {
     let Ok(payload) = encode(alloc, &dirty_answer(live, index)) else {
         return Err(AllocError);
@@ -113,9 +125,9 @@ fn answer_dirty(
     Ok(())
 }
 
-// Acts on a Dirty: its sender is entered at the index where the object is live, and told so; else it is told that
-// there is none. The Dirty stays in the inbox where its sender's session has no number for the answer, and for want
-// of memory.
+// Acts on a Dirty: its sender is entered at the index where the object is live, and told so; else
+// it is told that there is none. The Dirty stays in the inbox where its sender's session has no
+// number for the answer, and for want of memory.
 pub(crate) fn act_on_dirty(
     parts: &mut Parts,
     alloc: Global,
@@ -125,10 +137,17 @@ pub(crate) fn act_on_dirty(
     index: u64,
 ) -> Result<(), SpaceError>
     requires state { IsState here.now.space here.now.n (state_of parts.old) }
-    requires front { (limits : LimitsOf) (D : List Deed) → Stands here.now.space here.now.n limits (state_of parts.old) D → IsFront here.now.space here.now.n peer number (items.Dirty index) D }
-    ensures answer { (limits : LimitsOf) (D : List Deed) → Stands here.now.space here.now.n limits (state_of parts.old) D → AnswersOrWants (λ _. answers.Acted number) result (right.right_act here.now.space here.now.n peer (history_of here.now.space here.now.n D)) }
-    ensures stands { OnOk result (Did here.now.space here.now.n (state_of parts.old) (state_of parts.new) (did.Act peer number)) }
-    ensures err { OnErr result (Keeps here.now.space here.now.n (state_of parts.old) (state_of parts.new)) }
+    requires front { (limits : LimitsOf) (D : List Deed)
+        → Stands here.now.space here.now.n limits (state_of parts.old) D
+        → IsFront here.now.space here.now.n peer number (items.Dirty index) D }
+    ensures answer { (limits : LimitsOf) (D : List Deed)
+        → Stands here.now.space here.now.n limits (state_of parts.old) D
+        → AnswersOrWants (λ _. answers.Acted number) result
+        (right.right_act here.now.space here.now.n peer (history_of here.now.space here.now.n D)) }
+    ensures stands { OnOk result (Did here.now.space here.now.n (state_of parts.old)
+        (state_of parts.new) (did.Act peer number)) }
+    ensures err { OnErr result (Keeps here.now.space here.now.n (state_of parts.old)
+        (state_of parts.new)) }
 {
     if let Err(refusal) = parts.refuse_send(peer, Kind::Note) {
         return Err(SpaceError::Refused(refusal));
@@ -150,8 +169,11 @@ pub(crate) fn act_on_dirty_no(
     index: u64,
 )
     requires state { IsState here.now.space here.now.n (state_of parts.old) }
-    requires front { (limits : LimitsOf) (D : List Deed) → Stands here.now.space here.now.n limits (state_of parts.old) D → IsFront here.now.space here.now.n peer number (items.DirtyNo index) D }
-    ensures stands { Did here.now.space here.now.n (state_of parts.old) (state_of parts.new) (did.Act peer number) }
+    requires front { (limits : LimitsOf) (D : List Deed)
+        → Stands here.now.space here.now.n limits (state_of parts.old) D
+        → IsFront here.now.space here.now.n peer number (items.DirtyNo index) D }
+    ensures stands { Did here.now.space here.now.n (state_of parts.old) (state_of parts.new)
+        (did.Act peer number) }
 {
     match parts.table.refuse(WireRep { owner: peer, index }) {
         Ok(()) => {}
@@ -160,8 +182,8 @@ pub(crate) fn act_on_dirty_no(
     parts.sessions[peer.get() as usize - 1].take();
 }
 
-// Acts on a DirtyOk: the reference that was asked for is granted, and lent to the messages that wait for it. It takes
-// no memory.
+// Acts on a DirtyOk: the reference that was asked for is granted, and lent to the messages that
+// wait for it. It takes no memory.
 pub(crate) fn act_on_dirty_ok(
     parts: &mut Parts,
     here: &Here,
@@ -170,8 +192,11 @@ pub(crate) fn act_on_dirty_ok(
     index: u64,
 )
     requires state { IsState here.now.space here.now.n (state_of parts.old) }
-    requires front { (limits : LimitsOf) (D : List Deed) → Stands here.now.space here.now.n limits (state_of parts.old) D → IsFront here.now.space here.now.n peer number (items.DirtyOk index) D }
-    ensures stands { Did here.now.space here.now.n (state_of parts.old) (state_of parts.new) (did.Act peer number) }
+    requires front { (limits : LimitsOf) (D : List Deed)
+        → Stands here.now.space here.now.n limits (state_of parts.old) D
+        → IsFront here.now.space here.now.n peer number (items.DirtyOk index) D }
+    ensures stands { Did here.now.space here.now.n (state_of parts.old) (state_of parts.new)
+        (did.Act peer number) }
 {
     let rep = WireRep { owner: peer, index };
     match parts.table.grant(rep) {

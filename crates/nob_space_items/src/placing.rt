@@ -61,15 +61,17 @@ fn answer_calls(calls: &mut Vec<OwnCall>, from: SpaceId, call: CallNo)
     }
 }
 
-// Puts a message where it goes: without references a Call is a ready job and a Reply is ready, else they wait; a Reply
-// answers its call.
+// Puts a message where it goes: without references a Call is a ready job and a Reply is ready, else
+// they wait; a Reply answers its call.
 #[tactic(auto, unfolding(nob_model_work::specs::Work::after_message))]
 pub(crate) fn put_message(parts: &mut Parts, message: Message)
     requires message { IsMessage message.item }
     requires waiting { 0 < parts.old.waiting.room }
     requires ready { 0 < parts.old.ready.room }
     requires replies { 0 < parts.old.replies.room }
-    ensures { state_of parts.new ≡ with_work (after_message message message.item (state_of parts.old).work) (state_of parts.old).calls (state_of parts.old).jobs (state_of parts.old) }
+    ensures { state_of parts.new ≡ with_work
+        (after_message message message.item (state_of parts.old).work) (state_of parts.old).calls
+        (state_of parts.old).jobs (state_of parts.old) }
 {
     let waits = !message.copies.as_slice().is_empty();
     let Some(call) = answered_call(&message.item) else {

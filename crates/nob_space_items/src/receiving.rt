@@ -22,13 +22,15 @@ fn take_front(sessions: &mut Vec<Session>, peer: SpaceId)
     session.take();
 }
 
-// Receives a message for which there is room: the Dirties are sent, its loans are made, and it is put where it goes.
+// Receives a message for which there is room: the Dirties are sent, its loans are made, and it is
+// put where it goes.
 pub(crate) fn receive(parts: &mut Parts, here: &Here, message: Message, dirties: Vec<NewDirty>)
     requires can { CanReceive here.now.space (state_of parts.old) message dirties.items }
     requires waiting { 0 < parts.old.waiting.room }
     requires ready { 0 < parts.old.ready.room }
     requires replies { 0 < parts.old.replies.room }
-    ensures { Receives here.now.space (state_of parts.old) (state_of parts.new) message dirties.items }
+    ensures { Receives here.now.space (state_of parts.old)
+        (state_of parts.new) message dirties.items }
 {
     let peer = message.from;
     send_dirties(&mut parts.sessions, &mut parts.table, dirties);

@@ -1,5 +1,5 @@
-//! The messages of a space, in order: a list that keeps each of its items in a slab, so that taking one out moves none
-//! of the others.
+//! The messages of a space, in order: a list that keeps each of its items in a slab, so that taking
+//! one out moves none of the others.
 #![tactic(auto)]
 
 mod iter;

@@ -14,8 +14,9 @@ use std::alloc::{AllocError, Global};
 use std::marker::Model;
 use std::ops::{Index, IndexMut};
 
-/// Items in order. Each stands in a slab and keeps its place there, and the order is a list of their keys: what is put
-/// in, taken out or passed moves keys, never an item. Contracts see the items, and for how many more there is room.
+/// Items in order. Each stands in a slab and keeps its place there, and the order is a list of
+/// their keys: what is put in, taken out or passed moves keys, never an item. Contracts see the
+/// items, and for how many more there is room.
 #[derive(Drop)]
 pub struct SlabList<T> {
     values: Slab<T>,
@@ -42,7 +43,8 @@ impl<T> Model for SlabList<T> {
 fn drop_failing<T: Drop, F: FnMut(&T) -> bool>(values: &mut Slab<T>, keys: &[usize], mut test: F)
     requires just { HoldsJust values.old keys.now }
     requires callable { F.IsAlwaysCallable test }
-    ensures filtered { IsFiltered (CalledAt F.FnMut) test (values_at values.old keys.now) (values_at values.new keys.now) }
+    ensures filtered { IsFiltered (CalledAt F.FnMut) test (values_at values.old keys.now)
+        (values_at values.new keys.now) }
     ensures count { slab_len values.new ≡ length (values_at values.new keys.now) }
 {
     for place in 0..keys.len() {
@@ -79,8 +81,8 @@ impl<T> SlabList<T> {
         self.keys.as_slice().len()
     }
 
-    /// Makes room for so many more items. Only memory fails it, and the items are the same in any case. Constant time
-    /// on average; an item moves only where its slab grows.
+    /// Makes room for so many more items. Only memory fails it, and the items are the same in any
+    /// case. Constant time on average; an item moves only where its slab grows.
     pub fn reserve(&mut self, additional: usize) -> Result<(), AllocError>
         ensures items { self.new.items ≡ self.old.items }
         ensures room { OnOk result (additional ≤ self.new.room) }
@@ -90,7 +92,8 @@ impl<T> SlabList<T> {
         Ok(())
     }
 
-    /// Puts an item behind all others, where there is room for it. It takes no memory. Constant time.
+    /// Puts an item behind all others, where there is room for it. It takes no memory. Constant
+    /// time.
     pub fn push(&mut self, item: T)
         requires { 0 < self.old.room }
         ensures { self.new.items ≡ self.old.items ++ item ∷ [] }
@@ -99,8 +102,8 @@ impl<T> SlabList<T> {
         self.keys.push_reserved(key);
     }
 
-    /// Puts an item before all others, where there is room for it. It takes no memory. Linear in the items, of which only
-    /// the keys move.
+    /// Puts an item before all others, where there is room for it. It takes no memory. Linear in
+    /// the items, of which only the keys move.
     pub fn push_front(&mut self, item: T)
         requires { 0 < self.old.room }
         ensures { self.new.items ≡ item ∷ self.old.items }
@@ -111,7 +114,8 @@ impl<T> SlabList<T> {
         };
     }
 
-    /// Takes the item at a place out. It takes no memory. Linear in the items behind it, of which only the keys move.
+    /// Takes the item at a place out. It takes no memory. Linear in the items behind it, of which
+    /// only the keys move.
     pub fn remove(&mut self, place: usize) -> T
         requires { place < length self.old.items }
         ensures value { result ≡ slice_index_or self.old.items place result }
@@ -121,8 +125,8 @@ impl<T> SlabList<T> {
         self.values.remove(key)
     }
 
-    /// Keeps the items at which a test answers `true`, in their order, and drops the others. It takes no memory. Linear
-    /// in the items, and in what dropping costs.
+    /// Keeps the items at which a test answers `true`, in their order, and drops the others. It
+    /// takes no memory. Linear in the items, and in what dropping costs.
     pub fn retain<F: FnMut(&T) -> bool>(&mut self, test: F)
     where
         T: Drop,

@@ -27,10 +27,12 @@ use nob_space_state::{Parts, SpaceError, send_reserved};
 use nob_table::ObjectTable;
 use std::alloc::{AllocError, Global};
 
-// The first surrogate, in the order of the last Dirties, that is granted and has neither holds nor pins.
+// The first surrogate, in the order of the last Dirties, that is granted and has neither holds nor
+// pins.
 pub(crate) fn first_spare(parts: &Parts) -> Option<WireRep>
     requires { ArePlacedApart parts.now.table }
-    ensures { MatchOption result (NoneSpareBelow (state_of parts.now) parts.now.table.dirties) (λ rep. IsFirstSpare (state_of parts.now) rep) }
+    ensures { MatchOption result (NoneSpareBelow (state_of parts.now) parts.now.table.dirties)
+        (λ rep. IsFirstSpare (state_of parts.now) rep) }
 {
     let end = parts.table.dirty_count();
     let mut place = 0;
@@ -63,7 +65,10 @@ fn hand_note(session: &mut Session, payload: Vec<u8>) -> Result<ItemNo, AllocErr
     requires payload { (0 < vec_len payload) × (vec_len payload ≤ 16384) }
     requires next { IsOk (next_of Kind.Note session.old.end) }
     ensures number { IfOk result (λ number. number ≡ session.old.end.handed + 1) }
-    ensures answer { (me peer : ℕ) (limits : LimitsOf) (L : List EndEntry) → ends.Stands me peer limits session.old.end L → IfOk result (λ number. ends.Stands me peer limits session.new.end (Send payload.items Kind.Note (Ok number) ∷ L)) }
+    ensures answer { (me peer : ℕ) (limits : LimitsOf) (L : List EndEntry)
+        → ends.Stands me peer limits session.old.end L
+        → IfOk result (λ number. ends.Stands me peer limits session.new.end
+        (Send payload.items Kind.Note (Ok number) ∷ L)) }
     ensures err { OnErr result (session.new.end ≡ session.old.end) }
 {
     if session.reserve(1).is_err() {
@@ -85,15 +90,20 @@ fn forget(table: &mut ObjectTable, rep: &WireRep)
     }
 }
 
-/// Clean: the first surrogate, in the order of the last Dirties, that is granted on an open session and has neither
-/// holds nor pins is given up: its owner is told so by an item. Nothing where there is none, SeqEnd where the session
-/// with its owner has no number left. Linear in the surrogates and the pins, once more for each surrogate that nothing
-/// holds but that has pins.
+/// Clean: the first surrogate, in the order of the last Dirties, that is granted on an open session
+/// and has neither holds nor pins is given up: its owner is told so by an item. Nothing where there
+/// is none, SeqEnd where the session with its owner has no number left. Linear in the surrogates
+/// and the pins, once more for each surrogate that nothing holds but that has pins.
 pub fn clean(parts: &mut Parts, alloc: Global, here: &Here) -> Result<WireRep, SpaceError>
     requires { IsState here.now.space here.now.n (state_of parts.old) }
-    ensures answer { (limits : LimitsOf) (D : List Deed) → Stands here.now.space here.now.n limits (state_of parts.old) D → AnswersOrWants (λ rep. answers.Cleaned rep) result (right.right_clean here.now.space here.now.n (history_of here.now.space here.now.n D)) }
-    ensures stands { IfOk result (λ rep. Did here.now.space here.now.n (state_of parts.old) (state_of parts.new) (did.Clean rep)) }
-    ensures err { OnErr result (Keeps here.now.space here.now.n (state_of parts.old) (state_of parts.new)) }
+    ensures answer { (limits : LimitsOf) (D : List Deed)
+        → Stands here.now.space here.now.n limits (state_of parts.old) D
+        → AnswersOrWants (λ rep. answers.Cleaned rep) result
+        (right.right_clean here.now.space here.now.n (history_of here.now.space here.now.n D)) }
+    ensures stands { IfOk result (λ rep.
+        Did here.now.space here.now.n (state_of parts.old) (state_of parts.new) (did.Clean rep)) }
+    ensures err { OnErr result (Keeps here.now.space here.now.n (state_of parts.old)
+        (state_of parts.new)) }
 {
     let Some(rep) = first_spare(parts) else {
         return Err(SpaceError::Refused(Refusal::Nothing));

@@ -1,4 +1,5 @@
-//! What a space does when references resolve: settling the messages that wait for theirs, and giving surrogates up.
+//! What a space does when references resolve: settling the messages that wait for theirs, and
+//! giving surrogates up.
 #![tactic(auto)]
 
 mod cleaning;

@@ -15,15 +15,22 @@ use nob_space_state::Parts;
 
 /// Whether there is a message to settle. Linear in the messages that wait and their references.
 pub fn can_settle(parts: &Parts, here: &Here) -> bool
-    ensures { (limits : LimitsOf) (D : List Deed) → Stands here.now.space here.now.n limits (state_of parts.now) D → result ≡ next.can_settle here.now.space here.now.n (history_of here.now.space here.now.n D) }
+    ensures { (limits : LimitsOf) (D : List Deed)
+        → Stands here.now.space here.now.n limits (state_of parts.now) D
+        → result ≡ next.can_settle here.now.space here.now.n
+        (history_of here.now.space here.now.n D) }
 {
     first_settleable(parts, here).is_some()
 }
 
-/// Whether there is a surrogate to give up. Linear in the surrogates that it passes, times the pins.
+/// Whether there is a surrogate to give up. Linear in the surrogates that it passes, times the
+/// pins.
 pub fn can_clean(parts: &Parts, here: &Here) -> bool
     requires { IsState here.now.space here.now.n (state_of parts.now) }
-    ensures { (limits : LimitsOf) (D : List Deed) → Stands here.now.space here.now.n limits (state_of parts.now) D → result ≡ next.can_clean here.now.space here.now.n (history_of here.now.space here.now.n D) }
+    ensures { (limits : LimitsOf) (D : List Deed)
+        → Stands here.now.space here.now.n limits (state_of parts.now) D
+        → result ≡ next.can_clean here.now.space here.now.n
+        (history_of here.now.space here.now.n D) }
 {
     first_spare(parts).is_some()
 }

@@ -53,8 +53,8 @@ fn is_denied(state: State) -> bool
     }
 }
 
-/// Whether a reference is lost: it is of another owner, and that is none of the spaces, or their session has closed, or
-/// the owner has refused it.
+/// Whether a reference is lost: it is of another owner, and that is none of the spaces, or their
+/// session has closed, or the owner has refused it.
 pub fn is_lost(parts: &Parts, here: &Here, rep: &WireRep) -> bool
     ensures { result ≡ is_lost_here here.now.space here.now.n (state_of parts.now) rep.now }
 {
@@ -110,7 +110,8 @@ fn has_lost(parts: &Parts, here: &Here, message: &Message) -> bool
 
 // The place of the first message that waits whose references are all resolved.
 pub(crate) fn first_settleable(parts: &Parts, here: &Here) -> Option<usize>
-    ensures { result ≡ position (is_settleable here.now.space here.now.n (state_of parts.now)) parts.now.waiting.items }
+    ensures { result ≡ position (is_settleable here.now.space here.now.n (state_of parts.now))
+        parts.now.waiting.items }
 {
     parts
         .waiting
@@ -172,8 +173,10 @@ fn payload_of_reply(alloc: Global, call: CallNo) -> Result<Vec<u8>, AllocError>
 // The same where there is such a Call.
 fn payload_if(alloc: Global, call: Option<CallNo>) -> Result<Option<Vec<u8>>, AllocError>
     requires { IfSome call (λ k. is_call_number k ≡ true) }
-    ensures spelled { IfOk result (λ reply. option_map (λ payload. payload.items) reply ≡ option_map (λ k. payload_of (reply_to_lost k)) call) }
-    ensures size { IfOk result (λ reply. IfSome reply (λ payload. (0 < vec_len payload) × (vec_len payload ≤ 16384))) }
+    ensures spelled { IfOk result (λ reply. option_map (λ payload. payload.items) reply
+        ≡ option_map (λ k. payload_of (reply_to_lost k)) call) }
+    ensures size { IfOk result (λ reply.
+        IfSome reply (λ payload. (0 < vec_len payload) × (vec_len payload ≤ 16384))) }
 {
     let Some(call) = call else {
         return Ok(None);
@@ -193,8 +196,13 @@ fn hand_notes(
     requires settle { (0 < vec_len settle) × (vec_len settle ≤ 16384) }
     requires reply { IfSome reply (λ payload. (0 < vec_len payload) × (vec_len payload ≤ 16384)) }
     requires open { is_open_end session.old.end ≡ true }
-    requires free { session.old.end.handed + given_count (option_map (λ payload. 0) reply) ≤ last_item }
-    ensures answer { (me peer : ℕ) (limits : LimitsOf) (L : List EndEntry) → ends.Stands me peer limits session.old.end L → OnOk result (ends.Stands me peer limits session.new.end (with_note (session.old.end.handed + 2) (option_map (λ payload. payload.items) reply) (Send settle.items Kind.Note (Ok (session.old.end.handed + 1)) ∷ L))) }
+    requires free { session.old.end.handed + given_count (option_map (λ payload. 0) reply)
+        ≤ last_item }
+    ensures answer { (me peer : ℕ) (limits : LimitsOf) (L : List EndEntry)
+        → ends.Stands me peer limits session.old.end L
+        → OnOk result (ends.Stands me peer limits session.new.end
+        (with_note (session.old.end.handed + 2) (option_map (λ payload. payload.items) reply)
+        (Send settle.items Kind.Note (Ok (session.old.end.handed + 1)) ∷ L))) }
     ensures err { OnErr result (session.new.end ≡ session.old.end) }
 {
     if session.reserve(2).is_err() {
@@ -207,8 +215,8 @@ fn hand_notes(
     Ok(())
 }
 
-// Puts a Call that is settled to the ready jobs, or ends it where a reference of it is lost: then what it lent is given
-// back.
+// Puts a Call that is settled to the ready jobs, or ends it where a reference of it is lost: then
+// what it lent is given back.
 fn put_call(
     table: &mut ObjectTable,
     ready: &mut SlabList<Message>,
@@ -219,7 +227,8 @@ fn put_call(
     requires lent { lost ≡ true → HasLent table.old (loans_of me message) }
     requires room { 0 < ready.old.room }
     ensures back { GivesBack table.old table.new (if lost then loans_of me message else []) }
-    ensures put { ready.new.items ≡ (if lost then ready.old.items else ready.old.items ++ message ∷ []) }
+    ensures put { ready.new.items ≡ (if lost then ready.old.items else ready.old.items ++ message ∷
+        []) }
 {
     if lost {
         give_back_message(table, me, &message);
@@ -228,8 +237,8 @@ fn put_call(
     ready.push(message);
 }
 
-// Puts a Reply that is settled to the ready replies, or one of status 3 where a reference of it is lost: then what it
-// lent is given back.
+// Puts a Reply that is settled to the ready replies, or one of status 3 where a reference of it is
+// lost: then what it lent is given back.
 fn put_reply(
     alloc: Global,
     table: &mut ObjectTable,
@@ -242,7 +251,8 @@ fn put_reply(
     requires lent { lost ≡ true → HasLent table.old (loans_of me message) }
     requires room { 0 < replies.old.room }
     ensures back { GivesBack table.old table.new (if lost then loans_of me message else []) }
-    ensures put { replies.new.items ≡ replies.old.items ++ (if lost then lost_reply message call else message) ∷ [] }
+    ensures put { replies.new.items ≡ replies.old.items ++
+        (if lost then lost_reply message call else message) ∷ [] }
 {
     if !lost {
         replies.push(message);
@@ -267,8 +277,11 @@ fn put_settled(parts: &mut Parts, alloc: Global, me: SpaceId, message: Message, 
     requires lent { HasLent parts.old.table (loans_ended me message message.item lost) }
     requires ready { 0 < parts.old.ready.room }
     requires replies { 0 < parts.old.replies.room }
-    ensures back { GivesBack parts.old.table parts.new.table (loans_ended me message message.item lost) }
-    ensures put { state_of parts.new ≡ with_work (after_settlement message message.item lost (state_of parts.old).work) parts.old.calls_made parts.old.jobs_made (with_table parts.new.table (state_of parts.old)) }
+    ensures back { GivesBack parts.old.table parts.new.table
+        (loans_ended me message message.item lost) }
+    ensures put { state_of parts.new ≡ with_work
+        (after_settlement message message.item lost (state_of parts.old).work) parts.old.calls_made
+        parts.old.jobs_made (with_table parts.new.table (state_of parts.old)) }
 {
     match &message.item {
         Item::Call { .. } => put_call(&mut parts.table, &mut parts.ready, me, message, lost),
@@ -288,16 +301,23 @@ fn put_settled(parts: &mut Parts, alloc: Global, me: SpaceId, message: Message, 
     }
 }
 
-/// Settle: the first message, in order of acting, whose references are all resolved, that is own, granted on an open
-/// session, or lost, is settled: its sender is told so by an item. A Call becomes a ready job and a Reply a ready reply;
-/// where a reference is lost a Call is answered by a Reply of status 3 and is over, a Reply becomes one of status 3, and
-/// what they lent is given back. Nothing where there is none, SeqEnd where the session has too few numbers left.
-/// Linear in the messages that wait and their references.
+/// Settle: the first message, in order of acting, whose references are all resolved, that is own,
+/// granted on an open session, or lost, is settled: its sender is told so by an item. A Call
+/// becomes a ready job and a Reply a ready reply; where a reference is lost a Call is answered by a
+/// Reply of status 3 and is over, a Reply becomes one of status 3, and what they lent is given
+/// back. Nothing where there is none, SeqEnd where the session has too few numbers left. Linear in
+/// the messages that wait and their references.
 pub fn settle(parts: &mut Parts, alloc: Global, here: &Here) -> Result<SettledItem, SpaceError>
     requires { IsState here.now.space here.now.n (state_of parts.old) }
-    ensures answer { (limits : LimitsOf) (D : List Deed) → Stands here.now.space here.now.n limits (state_of parts.old) D → AnswersOrWants (λ settled. answers.Settled settled.peer settled.item) result (right.right_settle here.now.space here.now.n (history_of here.now.space here.now.n D)) }
-    ensures stands { IfOk result (λ settled. Did here.now.space here.now.n (state_of parts.old) (state_of parts.new) (did.Settle settled.peer settled.item)) }
-    ensures err { OnErr result (Keeps here.now.space here.now.n (state_of parts.old) (state_of parts.new)) }
+    ensures answer { (limits : LimitsOf) (D : List Deed)
+        → Stands here.now.space here.now.n limits (state_of parts.old) D
+        → AnswersOrWants (λ settled. answers.Settled settled.peer settled.item) result
+        (right.right_settle here.now.space here.now.n (history_of here.now.space here.now.n D)) }
+    ensures stands { IfOk result (λ settled.
+        Did here.now.space here.now.n (state_of parts.old) (state_of parts.new)
+        (did.Settle settled.peer settled.item)) }
+    ensures err { OnErr result (Keeps here.now.space here.now.n (state_of parts.old)
+        (state_of parts.new)) }
 {
     let Some(place) = first_settleable(parts, here) else {
         return Err(SpaceError::Refused(Refusal::Nothing));

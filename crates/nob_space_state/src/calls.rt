@@ -27,7 +27,10 @@ impl Parts {
     // Why a Call of a target with a value is refused. It takes no memory.
     #[tactic(auto, unfolding(crate::specs::Sending::call_refusal))]
     fn refuse_call(&self, here: &Here, target: &WireRep, value: &Value) -> Result<(), Refusal>
-        ensures { MatchResult result (λ _. call_refusal here.now.space here.now.n (state_of self.now) target.now value.now ≡ None) (λ refusal. call_refusal here.now.space here.now.n (state_of self.now) target.now value.now ≡ Some refusal) }
+        ensures { MatchResult result (λ _.
+            call_refusal here.now.space here.now.n (state_of self.now) target.now value.now ≡ None)
+            (λ refusal. call_refusal here.now.space here.now.n
+            (state_of self.now) target.now value.now ≡ Some refusal) }
     {
         if !here.is_peer(target.owner) {
             return Err(Refusal::NoPeer);
@@ -50,8 +53,9 @@ impl Parts {
         Ok(())
     }
 
-    /// Call: a method of the object that a reference names is called with a value, whose references are pinned until
-    /// the object's owner has settled them: the number of the call. Linear in the value.
+    /// Call: a method of the object that a reference names is called with a value, whose references
+    /// are pinned until the object's owner has settled them: the number of the call. Linear in the
+    /// value.
     pub fn call(
         &mut self,
         alloc: Global,
@@ -61,11 +65,19 @@ impl Parts {
         value: &Value,
     ) -> Result<CallNo, SpaceError>
         requires { IsState here.now.space here.now.n (state_of self.old) }
-        ensures answer { (limits : LimitsOf) (D : List Deed) → Stands here.now.space here.now.n limits (state_of self.old) D → AnswersOrWants (λ call. answers.Called call) result (right.right_call here.now.space here.now.n target.now value.now (history_of here.now.space here.now.n D)) }
-        ensures stands { IfOk result (λ call. Did here.now.space here.now.n (state_of self.old) (state_of self.new) (did.Call target.now method value.now call)) }
+        ensures answer { (limits : LimitsOf) (D : List Deed)
+            → Stands here.now.space here.now.n limits (state_of self.old) D
+            → AnswersOrWants (λ call. answers.Called call) result
+            (right.right_call here.now.space here.now.n target.now value.now
+            (history_of here.now.space here.now.n D)) }
+        ensures stands { IfOk result (λ call.
+            Did here.now.space here.now.n (state_of self.old) (state_of self.new)
+            (did.Call target.now method value.now call)) }
         // What is handed on has a spelling.
-        ensures fits { IfOk result (λ call. Fits (items.Call call target.now.index method value.now)) }
-        ensures err { OnErr result (Keeps here.now.space here.now.n (state_of self.old) (state_of self.new)) }
+        ensures fits { IfOk result (λ call.
+            Fits (items.Call call target.now.index method value.now)) }
+        ensures err { OnErr result (Keeps here.now.space here.now.n (state_of self.old)
+            (state_of self.new)) }
     {
         if let Err(refusal) = self.refuse_call(here, target, value) {
             return Err(SpaceError::Refused(refusal));

@@ -83,7 +83,8 @@ fn call_after_close(peer: SpaceId, replies: &SlabList<Message>, own: &OwnCall) -
 
 // Ends the calls to a space that have no ready reply.
 fn end_calls(peer: SpaceId, replies: &SlabList<Message>, calls: &mut Vec<OwnCall>)
-    ensures { calls.new.items ≡ map (words.call_after_close peer replies.now.items) calls.old.items }
+    ensures { calls.new.items ≡ map (words.call_after_close peer replies.now.items)
+        calls.old.items }
 {
     for place in 0..calls.len() {
         calls[place] = call_after_close(peer, replies, &calls[place]);
@@ -91,11 +92,13 @@ fn end_calls(peer: SpaceId, replies: &SlabList<Message>, calls: &mut Vec<OwnCall
 }
 
 impl Parts {
-    // What the closing of a session leaves of the parts: messages that wait and ready jobs from the peer are thrown away
-    // and what they have lent is given back, its references are lost, it is listed nowhere, what was sent to it has no
-    // pins any more, and the calls to it that have no ready reply end.
+    // What the closing of a session leaves of the parts: messages that wait and ready jobs from the
+    // peer are thrown away and what they have lent is given back, its references are lost, it is
+    // listed nowhere, what was sent to it has no pins any more, and the calls to it that have no
+    // ready reply end.
     pub(crate) fn close_down(&mut self, me: SpaceId, closed: &Closed)
-        requires { HasLent self.old.table (lent_in_vain me closed.now.peer (state_of self.old).work) }
+        requires { HasLent self.old.table
+            (lent_in_vain me closed.now.peer (state_of self.old).work) }
         ensures { ClosesDown me closed.now.peer (state_of self.old) (state_of self.new) }
     {
         let peer = closed.peer();
@@ -107,15 +110,18 @@ impl Parts {
         end_calls(peer, &self.replies, &mut self.calls);
     }
 
-    /// The session with a peer closes here for a reason: an item from it has a fault, or it was asked to close. It takes
-    /// no memory. Linear in the messages that wait, the ready jobs, the calls times the ready replies, the peer's
-    /// references, the listings and the pins. The caller's condition: it is a peer, and its session is open here.
+    /// The session with a peer closes here for a reason: an item from it has a fault, or it was
+    /// asked to close. It takes no memory. Linear in the messages that wait, the ready jobs, the
+    /// calls times the ready replies, the peer's references, the listings and the pins. The
+    /// caller's condition: it is a peer, and its session is open here.
     pub fn close_for(&mut self, here: &Here, peer: SpaceId, reason: Reason)
         requires state { IsState here.now.space here.now.n (state_of self.old) }
         requires peer { is_peer here.now.space here.now.n peer ≡ true }
         requires open { has_closed self.old.sessions.items peer ≡ false }
-        ensures item { Closes here.now.space here.now.n peer reason causes.Item (state_of self.old) (state_of self.new) }
-        ensures asked { Closes here.now.space here.now.n peer reason causes.Asked (state_of self.old) (state_of self.new) }
+        ensures item { Closes here.now.space here.now.n peer reason causes.Item (state_of self.old)
+            (state_of self.new) }
+        ensures asked { Closes here.now.space here.now.n peer reason causes.Asked
+            (state_of self.old) (state_of self.new) }
     {
         match self.sessions[peer.get() as usize - 1].close(reason) {
             Ok(closed) => self.close_down(here.space, &closed),
@@ -123,13 +129,20 @@ impl Parts {
         }
     }
 
-    /// Close: the session with a peer closes here, because it was asked to: the reason that the peer is told. It takes
-    /// no memory. It costs what `close_for` does.
+    /// Close: the session with a peer closes here, because it was asked to: the reason that the
+    /// peer is told. It takes no memory. It costs what `close_for` does.
     pub fn close(&mut self, here: &Here, peer: SpaceId) -> Result<Reason, Refusal>
         requires { IsState here.now.space here.now.n (state_of self.old) }
-        ensures answer { (limits : LimitsOf) (D : List Deed) → Stands here.now.space here.now.n limits (state_of self.old) D → Answers (λ reason. answers.Closed reason) result (right.right_closing here.now.space here.now.n peer (history_of here.now.space here.now.n D)) }
-        ensures stands { IfOk result (λ reason. Did here.now.space here.now.n (state_of self.old) (state_of self.new) (did.Closing peer reason causes.Asked)) }
-        ensures err { OnErr result (Keeps here.now.space here.now.n (state_of self.old) (state_of self.new)) }
+        ensures answer { (limits : LimitsOf) (D : List Deed)
+            → Stands here.now.space here.now.n limits (state_of self.old) D
+            → Answers (λ reason. answers.Closed reason) result
+            (right.right_closing here.now.space here.now.n peer
+            (history_of here.now.space here.now.n D)) }
+        ensures stands { IfOk result (λ reason.
+            Did here.now.space here.now.n (state_of self.old) (state_of self.new)
+            (did.Closing peer reason causes.Asked)) }
+        ensures err { OnErr result (Keeps here.now.space here.now.n (state_of self.old)
+            (state_of self.new)) }
     {
         if !here.is_peer(peer) {
             return Err(Refusal::NoPeer);

@@ -112,8 +112,10 @@ fn is_run(job: JobNo, run: &Run) -> bool
 
 // Gives back what the jobs of this number have lent.
 fn give_back_job(table: &mut ObjectTable, me: SpaceId, job: JobNo, runs: &SlabList<Run>)
-    requires { HasLent table.old (flat_map (λ run. loans_of me run.message) (filter (is_run job) runs.now.items)) }
-    ensures { GivesBack table.old table.new (flat_map (λ run. loans_of me run.message) (filter (is_run job) runs.now.items)) }
+    requires { HasLent table.old (flat_map (λ run. loans_of me run.message)
+        (filter (is_run job) runs.now.items)) }
+    ensures { GivesBack table.old table.new
+        (flat_map (λ run. loans_of me run.message) (filter (is_run job) runs.now.items)) }
 {
     for place in 0..runs.len() {
         let run = &runs[place];
@@ -125,8 +127,10 @@ fn give_back_job(table: &mut ObjectTable, me: SpaceId, job: JobNo, runs: &SlabLi
 
 // Ends the jobs of this number: what they have lent is given back.
 fn end_job(table: &mut ObjectTable, running: &mut SlabList<Run>, me: SpaceId, job: JobNo)
-    requires { HasLent table.old (flat_map (λ run. loans_of me run.message) (filter (is_run job) running.old.items)) }
-    ensures back { GivesBack table.old table.new (flat_map (λ run. loans_of me run.message) (filter (is_run job) running.old.items)) }
+    requires { HasLent table.old (flat_map (λ run. loans_of me run.message)
+        (filter (is_run job) running.old.items)) }
+    ensures back { GivesBack table.old table.new
+        (flat_map (λ run. loans_of me run.message) (filter (is_run job) running.old.items)) }
     ensures ended { running.new.items ≡ filter (λ run. not (is_run job run)) running.old.items }
 {
     give_back_job(table, me, job, running);
@@ -165,7 +169,9 @@ fn value_of<'a>(outcome: &'a Outcome, unit: &'a Value) -> &'a Value
 impl Parts {
     // Why the reply to a client may not be sent. It takes no memory.
     fn refuse_reply(&self, me: SpaceId, client: SpaceId, value: &Value) -> Result<(), Refusal>
-        ensures { MatchResult result (λ _. reply_refusal me client (state_of self.now) value.now ≡ None) (λ refusal. reply_refusal me client (state_of self.now) value.now ≡ Some refusal) }
+        ensures { MatchResult result (λ _. reply_refusal me client (state_of self.now) value.now
+            ≡ None) (λ refusal. reply_refusal me client (state_of self.now) value.now
+            ≡ Some refusal) }
     {
         if let Err(refusal) = self.refuse_value(me, value) {
             return Err(refusal);
@@ -176,9 +182,10 @@ impl Parts {
         Ok(())
     }
 
-    /// Finish: a job that runs is ended. Its outcome goes to its client as a reply, whose references are pinned until
-    /// the client has settled them; what its call had lent is given back. Where the session with the client has
-    /// closed the reply is dropped, whatever the outcome. Linear in the value and the running jobs.
+    /// Finish: a job that runs is ended. Its outcome goes to its client as a reply, whose
+    /// references are pinned until the client has settled them; what its call had lent is given
+    /// back. Where the session with the client has closed the reply is dropped, whatever the
+    /// outcome. Linear in the value and the running jobs.
     pub fn finish(
         &mut self,
         alloc: Global,
@@ -187,13 +194,23 @@ impl Parts {
         outcome: &Outcome,
     ) -> Result<ReplyFate, SpaceError>
         requires { IsState here.now.space here.now.n (state_of self.old) }
-        ensures answer { (limits : LimitsOf) (D : List Deed) → Stands here.now.space here.now.n limits (state_of self.old) D → AnswersOrWants finish_answer result (right.right_finish here.now.space job outcome.now (history_of here.now.space here.now.n D)) }
-        ensures stands { IfOk result (λ fate. Did here.now.space here.now.n (state_of self.old) (state_of self.new) (finish_deed job outcome.now fate)) }
+        ensures answer { (limits : LimitsOf) (D : List Deed)
+            → Stands here.now.space here.now.n limits (state_of self.old) D
+            → AnswersOrWants finish_answer result
+            (right.right_finish here.now.space job outcome.now
+            (history_of here.now.space here.now.n D)) }
+        ensures stands { IfOk result (λ fate.
+            Did here.now.space here.now.n (state_of self.old) (state_of self.new)
+            (finish_deed job outcome.now fate)) }
         // What is handed on has a spelling.
-        ensures fits { IfOk result (λ fate. fate ≡ ReplyFate.HandedOn → Fits (words.value_of outcome.now)) }
+        ensures fits { IfOk result (λ fate. fate ≡ ReplyFate.HandedOn
+            → Fits (words.value_of outcome.now)) }
         // A reply is dropped without memory.
-        ensures dropped { (run : RunOf) → find (is_run job) self.old.running.items ≡ Some run → has_closed self.old.sessions.items run.message.from ≡ true → result ≡ Ok ReplyFate.Dropped }
-        ensures err { OnErr result (Keeps here.now.space here.now.n (state_of self.old) (state_of self.new)) }
+        ensures dropped { (run : RunOf) → find (is_run job) self.old.running.items ≡ Some run
+            → has_closed self.old.sessions.items run.message.from ≡ true
+            → result ≡ Ok ReplyFate.Dropped }
+        ensures err { OnErr result (Keeps here.now.space here.now.n (state_of self.old)
+            (state_of self.new)) }
     {
         let Some(run) = find_run(job, &self.running) else {
             return Err(SpaceError::Refused(Refusal::NoJob));

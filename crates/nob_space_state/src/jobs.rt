@@ -23,7 +23,8 @@ use nob_space_messages::SlabList;
 
 // Whether one of these jobs has a target.
 fn is_running(target: u64, runs: &SlabList<Run>) -> bool
-    ensures { result ≡ list_any (λ run. candidates.target_of run.message.item == target) runs.now.items }
+    ensures { result ≡ list_any (λ run. candidates.target_of run.message.item == target)
+        runs.now.items }
 {
     runs.iter()
         .any(|run| target_of(&run.message.item) == target)
@@ -39,7 +40,8 @@ impl Parts {
 
     // The place of the first ready job whose target isn't running.
     pub(crate) fn first_free(&self) -> Option<usize>
-        ensures { result ≡ position (candidates.is_free (state_of self.now).work) self.now.ready.items }
+        ensures { result ≡ position (candidates.is_free (state_of self.now).work)
+            self.now.ready.items }
     {
         self.ready.iter().position(|message| self.is_free(message))
     }
@@ -48,8 +50,12 @@ impl Parts {
     #[tactic(auto, unfolding(nob_model::specs::Right::claim_of))]
     fn next_job(&self) -> Result<(usize, Job), SpaceError>
         ensures low { OnOk result (self.now.jobs_made < right.last_number) }
-        ensures place { IfOk result (λ next. position (candidates.is_free (state_of self.now).work) self.now.ready.items ≡ Some next.0) }
-        ensures answer { AnswersOrWants (λ next. answers.Job next.1) result (right.claim_of self.now.jobs_made (find (candidates.is_free (state_of self.now).work) self.now.ready.items)) }
+        ensures place { IfOk result (λ next.
+            position (candidates.is_free (state_of self.now).work) self.now.ready.items
+            ≡ Some next.0) }
+        ensures answer { AnswersOrWants (λ next. answers.Job next.1) result
+            (right.claim_of self.now.jobs_made
+            (find (candidates.is_free (state_of self.now).work) self.now.ready.items)) }
     {
         let Some(place) = self.first_free() else {
             return Err(SpaceError::Refused(Refusal::Nothing));
@@ -65,10 +71,13 @@ impl Parts {
         }
     }
 
-    /// The job that Claim would give now; its value is copied. It is refused, or wants memory, as Claim. Linear in the
-    /// ready jobs times those that run.
+    /// The job that Claim would give now; its value is copied. It is refused, or wants memory, as
+    /// Claim. Linear in the ready jobs times those that run.
     pub fn job_to_claim(&self) -> Result<Job, SpaceError>
-        ensures { (s n : ℕ) (limits : LimitsOf) (D : List Deed) → Stands s n limits (state_of self.now) D → AnswersOrWants (λ job. answers.Job job) result (right.right_claim (history_of s n D)) }
+        ensures { (s n : ℕ) (limits : LimitsOf) (D : List Deed)
+            → Stands s n limits (state_of self.now) D
+            → AnswersOrWants (λ job. answers.Job job) result
+            (right.right_claim (history_of s n D)) }
     {
         match self.next_job() {
             Ok((_, job)) => Ok(job),
@@ -76,12 +85,17 @@ impl Parts {
         }
     }
 
-    /// Claim: the first ready job, in order of becoming ready, whose target isn't running; its value is copied. Linear
-    /// in the ready jobs times those that run.
+    /// Claim: the first ready job, in order of becoming ready, whose target isn't running; its
+    /// value is copied. Linear in the ready jobs times those that run.
     pub fn claim(&mut self, here: &Here) -> Result<Job, SpaceError>
-        ensures answer { (limits : LimitsOf) (D : List Deed) → Stands here.now.space here.now.n limits (state_of self.old) D → AnswersOrWants (λ job. answers.Job job) result (right.right_claim (history_of here.now.space here.now.n D)) }
-        ensures stands { IfOk result (λ job. Did here.now.space here.now.n (state_of self.old) (state_of self.new) (did.Claim job)) }
-        ensures err { OnErr result (Keeps here.now.space here.now.n (state_of self.old) (state_of self.new)) }
+        ensures answer { (limits : LimitsOf) (D : List Deed)
+            → Stands here.now.space here.now.n limits (state_of self.old) D
+            → AnswersOrWants (λ job. answers.Job job) result
+            (right.right_claim (history_of here.now.space here.now.n D)) }
+        ensures stands { IfOk result (λ job.
+            Did here.now.space here.now.n (state_of self.old) (state_of self.new) (did.Claim job)) }
+        ensures err { OnErr result (Keeps here.now.space here.now.n (state_of self.old)
+            (state_of self.new)) }
     {
         let (place, job) = match self.next_job() {
             Ok((place, job)) => (place, job),

@@ -1,4 +1,5 @@
-//! The state of a space, in parts: what a space keeps, and for which lists of what it did that stands.
+//! The state of a space, in parts: what a space keeps, and for which lists of what it did that
+//! stands.
 #![tactic(auto)]
 
 mod calls;

@@ -44,7 +44,8 @@ impl Parts {
         counts.hand
     }
 
-    /// Whether a reference names an object of this space, not the agent, that isn't live. Constant time on average.
+    /// Whether a reference names an object of this space, not the agent, that isn't live. Constant
+    /// time on average.
     pub fn is_gone(&self, me: SpaceId, rep: &WireRep) -> bool
         ensures { result ≡ names_none me self.now.table rep.now }
     {
@@ -60,10 +61,11 @@ impl Parts {
         !self.dirty.is_empty(index)
     }
 
-    /// Whether a client is listed at an index: it was granted the object, and hasn't given it up. Linear in the
-    /// listings.
+    /// Whether a client is listed at an index: it was granted the object, and hasn't given it up.
+    /// Linear in the listings.
     pub fn lists(&self, index: u64, client: SpaceId) -> bool
-        ensures { (s n : ℕ) (limits : LimitsOf) (D : List Deed) → Stands s n limits (state_of self.now) D → result ≡ is_listed s index client D }
+        ensures { (s n : ℕ) (limits : LimitsOf) (D : List Deed)
+            → Stands s n limits (state_of self.now) D → result ≡ is_listed s index client D }
     {
         self.dirty.lists(index, client)
     }

@@ -13,9 +13,13 @@ use nob_ids::SpaceId;
 use nob_model::Here;
 
 impl Parts {
-    /// Whether there is an item from a peer to act on, also one whose fault closes the session. Constant time.
+    /// Whether there is an item from a peer to act on, also one whose fault closes the session.
+    /// Constant time.
     pub fn can_act(&self, here: &Here, peer: SpaceId) -> bool
-        ensures { (limits : LimitsOf) (D : List Deed) → Stands here.now.space here.now.n limits (state_of self.now) D → result ≡ next.can_act here.now.space here.now.n peer (history_of here.now.space here.now.n D) }
+        ensures { (limits : LimitsOf) (D : List Deed)
+            → Stands here.now.space here.now.n limits (state_of self.now) D
+            → result ≡ next.can_act here.now.space here.now.n peer
+            (history_of here.now.space here.now.n D) }
     {
         if !here.is_peer(peer) {
             return false;
@@ -31,7 +35,10 @@ impl Parts {
 
     /// Whether a Transmit to a peer would give a frame. Constant time.
     pub fn can_send(&self, here: &Here, peer: SpaceId) -> bool
-        ensures { (limits : LimitsOf) (D : List Deed) → Stands here.now.space here.now.n limits (state_of self.now) D → result ≡ next.can_send here.now.space here.now.n peer limits.window (history_of here.now.space here.now.n D) }
+        ensures { (limits : LimitsOf) (D : List Deed)
+            → Stands here.now.space here.now.n limits (state_of self.now) D
+            → result ≡ next.can_send here.now.space here.now.n peer limits.window
+            (history_of here.now.space here.now.n D) }
     {
         if !here.is_peer(peer) {
             return false;
@@ -44,15 +51,18 @@ impl Parts {
 
     /// Whether there is a job to claim. Linear in the ready jobs times those that run.
     pub fn can_claim(&self) -> bool
-        ensures { (s n : ℕ) (limits : LimitsOf) (D : List Deed) → Stands s n limits (state_of self.now) D → result ≡ next.can_claim (history_of s n D) }
+        ensures { (s n : ℕ) (limits : LimitsOf) (D : List Deed)
+            → Stands s n limits (state_of self.now) D → result ≡ next.can_claim (history_of s n D) }
     {
         self.first_free().is_some()
     }
 
-    /// The least index of a live object that Withdraw would take. Linear in the live objects without holds, times the
-    /// pins and the listings.
+    /// The least index of a live object that Withdraw would take. Linear in the live objects
+    /// without holds, times the pins and the listings.
     pub fn to_withdraw(&self, here: &Here) -> Option<u64>
-        ensures { (limits : LimitsOf) (D : List Deed) → Stands here.now.space here.now.n limits (state_of self.now) D → result ≡ next.to_withdraw here.now.space (history_of here.now.space here.now.n D) }
+        ensures { (limits : LimitsOf) (D : List Deed)
+            → Stands here.now.space here.now.n limits (state_of self.now) D
+            → result ≡ next.to_withdraw here.now.space (history_of here.now.space here.now.n D) }
     {
         let mut from = 0;
         while let Some(index) = self.table.first_unheld(from) {

@@ -1,4 +1,5 @@
-//! The events on objects and on what is in hand: Export, Dup, Release and Withdraw. None sends anything.
+//! The events on objects and on what is in hand: Export, Dup, Release and Withdraw. None sends
+//! anything.
 
 ghost use Rattle.std.specs.Prelude.{◌≡◌, ℕ, List, ◌∷◌, Some, None, Ok, Err, OnOk, OnErr, IfOk, MatchResult};
 ghost use Rattle.nob_ids.specs.declared.limits.Limits.{Limits as LimitsOf};
@@ -21,7 +22,8 @@ impl Parts {
     // Why a Dup of a reference is refused.
     #[tactic(auto, unfolding(crate::specs::Judging::dup_refusal))]
     fn refuse_dup(&self, me: SpaceId, rep: &WireRep) -> Result<(), Refusal>
-        ensures { MatchResult result (λ _. dup_refusal me (state_of self.now) rep.now ≡ None) (λ refusal. dup_refusal me (state_of self.now) rep.now ≡ Some refusal) }
+        ensures { MatchResult result (λ _. dup_refusal me (state_of self.now) rep.now ≡ None)
+            (λ refusal. dup_refusal me (state_of self.now) rep.now ≡ Some refusal) }
     {
         if self.is_gone(me, rep) {
             return Err(Refusal::NoObject);
@@ -44,7 +46,8 @@ impl Parts {
     // Why a Release of a reference is refused.
     #[tactic(auto, unfolding(crate::specs::Judging::release_refusal))]
     fn refuse_release(&self, me: SpaceId, rep: &WireRep) -> Result<(), Refusal>
-        ensures { MatchResult result (λ _. release_refusal me (state_of self.now) rep.now ≡ None) (λ refusal. release_refusal me (state_of self.now) rep.now ≡ Some refusal) }
+        ensures { MatchResult result (λ _. release_refusal me (state_of self.now) rep.now ≡ None)
+            (λ refusal. release_refusal me (state_of self.now) rep.now ≡ Some refusal) }
     {
         if self.is_gone(me, rep) {
             return Err(Refusal::NoObject);
@@ -60,9 +63,14 @@ impl Parts {
 
     /// Dup: one more hold in hand on a reference. It takes no memory. Constant time on average.
     pub fn dup(&mut self, here: &Here, rep: &WireRep) -> Result<(), Refusal>
-        ensures answer { (limits : LimitsOf) (D : List Deed) → Stands here.now.space here.now.n limits (state_of self.old) D → Answers (λ _. answers.Done) result (right.right_dup here.now.space rep.now (history_of here.now.space here.now.n D)) }
-        ensures stands { OnOk result (Did here.now.space here.now.n (state_of self.old) (state_of self.new) (did.Dup rep.now)) }
-        ensures err { OnErr result (Keeps here.now.space here.now.n (state_of self.old) (state_of self.new)) }
+        ensures answer { (limits : LimitsOf) (D : List Deed)
+            → Stands here.now.space here.now.n limits (state_of self.old) D
+            → Answers (λ _. answers.Done) result
+            (right.right_dup here.now.space rep.now (history_of here.now.space here.now.n D)) }
+        ensures stands { OnOk result (Did here.now.space here.now.n (state_of self.old)
+            (state_of self.new) (did.Dup rep.now)) }
+        ensures err { OnErr result (Keeps here.now.space here.now.n (state_of self.old)
+            (state_of self.new)) }
     {
         if let Err(refusal) = self.refuse_dup(here.space, rep) {
             return Err(refusal);
@@ -73,11 +81,17 @@ impl Parts {
         }
     }
 
-    /// Release: one hold in hand on a reference is given back. It takes no memory. Constant time on average.
+    /// Release: one hold in hand on a reference is given back. It takes no memory. Constant time on
+    /// average.
     pub fn release(&mut self, here: &Here, rep: &WireRep) -> Result<(), Refusal>
-        ensures answer { (limits : LimitsOf) (D : List Deed) → Stands here.now.space here.now.n limits (state_of self.old) D → Answers (λ _. answers.Done) result (right.right_release here.now.space rep.now (history_of here.now.space here.now.n D)) }
-        ensures stands { OnOk result (Did here.now.space here.now.n (state_of self.old) (state_of self.new) (did.Release rep.now)) }
-        ensures err { OnErr result (Keeps here.now.space here.now.n (state_of self.old) (state_of self.new)) }
+        ensures answer { (limits : LimitsOf) (D : List Deed)
+            → Stands here.now.space here.now.n limits (state_of self.old) D
+            → Answers (λ _. answers.Done) result
+            (right.right_release here.now.space rep.now (history_of here.now.space here.now.n D)) }
+        ensures stands { OnOk result (Did here.now.space here.now.n (state_of self.old)
+            (state_of self.new) (did.Release rep.now)) }
+        ensures err { OnErr result (Keeps here.now.space here.now.n (state_of self.old)
+            (state_of self.new)) }
     {
         if let Err(refusal) = self.refuse_release(here.space, rep) {
             return Err(refusal);
@@ -91,7 +105,8 @@ impl Parts {
     // Why a Withdraw of an index is refused.
     #[tactic(auto, unfolding(crate::specs::Judging::withdraw_refusal))]
     pub(crate) fn refuse_withdraw(&self, me: SpaceId, index: u64) -> Result<(), Refusal>
-        ensures { MatchResult result (λ _. withdraw_refusal me (state_of self.now) index ≡ None) (λ refusal. withdraw_refusal me (state_of self.now) index ≡ Some refusal) }
+        ensures { MatchResult result (λ _. withdraw_refusal me (state_of self.now) index ≡ None)
+            (λ refusal. withdraw_refusal me (state_of self.now) index ≡ Some refusal) }
     {
         if index == 0 {
             return Err(Refusal::StillUsed(Use::Agent));
@@ -112,12 +127,18 @@ impl Parts {
         Ok(())
     }
 
-    /// Withdraw: the object of an index is live no more. It takes no memory. Linear in the pins and the listings.
+    /// Withdraw: the object of an index is live no more. It takes no memory. Linear in the pins and
+    /// the listings.
     pub fn withdraw(&mut self, here: &Here, index: u64) -> Result<(), Refusal>
         requires { IsState here.now.space here.now.n (state_of self.old) }
-        ensures answer { (limits : LimitsOf) (D : List Deed) → Stands here.now.space here.now.n limits (state_of self.old) D → Answers (λ _. answers.Withdrawn) result (right.right_withdraw here.now.space index (history_of here.now.space here.now.n D)) }
-        ensures stands { OnOk result (Did here.now.space here.now.n (state_of self.old) (state_of self.new) (did.Withdraw index)) }
-        ensures err { OnErr result (Keeps here.now.space here.now.n (state_of self.old) (state_of self.new)) }
+        ensures answer { (limits : LimitsOf) (D : List Deed)
+            → Stands here.now.space here.now.n limits (state_of self.old) D
+            → Answers (λ _. answers.Withdrawn) result
+            (right.right_withdraw here.now.space index (history_of here.now.space here.now.n D)) }
+        ensures stands { OnOk result (Did here.now.space here.now.n (state_of self.old)
+            (state_of self.new) (did.Withdraw index)) }
+        ensures err { OnErr result (Keeps here.now.space here.now.n (state_of self.old)
+            (state_of self.new)) }
     {
         if let Err(refusal) = self.refuse_withdraw(here.space, index) {
             return Err(refusal);
@@ -130,9 +151,15 @@ impl Parts {
 
     /// Export: the reference to a new object, once in hand. Constant time on average.
     pub fn export(&mut self, here: &Here) -> Result<WireRep, SpaceError>
-        ensures answer { (limits : LimitsOf) (D : List Deed) → Stands here.now.space here.now.n limits (state_of self.old) D → AnswersOrWants (λ rep. answers.Exported rep) result (right.right_export here.now.space (history_of here.now.space here.now.n D)) }
-        ensures stands { IfOk result (λ rep. Did here.now.space here.now.n (state_of self.old) (state_of self.new) (did.Export rep)) }
-        ensures err { OnErr result (Keeps here.now.space here.now.n (state_of self.old) (state_of self.new)) }
+        ensures answer { (limits : LimitsOf) (D : List Deed)
+            → Stands here.now.space here.now.n limits (state_of self.old) D
+            → AnswersOrWants (λ rep. answers.Exported rep) result
+            (right.right_export here.now.space (history_of here.now.space here.now.n D)) }
+        ensures stands { IfOk result (λ rep.
+            Did here.now.space here.now.n (state_of self.old) (state_of self.new)
+            (did.Export rep)) }
+        ensures err { OnErr result (Keeps here.now.space here.now.n (state_of self.old)
+            (state_of self.new)) }
     {
         prove!(self.table.object_count() <= ObjectTable::MOST_OBJECTS);
         match self.table.export() {

@@ -13,9 +13,11 @@ use nob_space_messages::SlabList;
 use nob_table::ObjectTable;
 use std::alloc::{AllocError, Global};
 
-/// What a space keeps. It holds pins, so it can't be let go: the sessions are closed first, which ends the pins.
+/// What a space keeps. It holds pins, so it can't be let go: the sessions are closed first, which
+/// ends the pins.
 pub struct Parts {
-    /// The ends of the sessions: at place p - 1 the one with space p. The space's own place is never used.
+    /// The ends of the sessions: at place p - 1 the one with space p. The space's own place is
+    /// never used.
     pub sessions: Vec<Session>,
     /// The objects of the space, and its surrogates of others.
     pub table: ObjectTable,
@@ -40,11 +42,12 @@ pub struct Parts {
 }
 
 impl Parts {
-    /// The state of a space that has done nothing: its sessions with all others are open. Only memory fails it. The
-    /// caller's condition: there are 32 spaces at most.
+    /// The state of a space that has done nothing: its sessions with all others are open. Only
+    /// memory fails it. The caller's condition: there are 32 spaces at most.
     pub fn new(alloc: Global, here: &Here, limits: Limits) -> Result<Parts, AllocError>
         requires { here.now.n ≤ 32 }
-        ensures stands { IfOk result (λ parts. Stands here.now.space here.now.n limits (state_of parts) []) }
+        ensures stands { IfOk result (λ parts.
+            Stands here.now.space here.now.n limits (state_of parts) []) }
     {
         let sessions = open_all(alloc, here.space, here.n, limits)?;
         Ok(Parts {

@@ -1,4 +1,5 @@
-//! What may be sent to a peer, and the one way in which an item is handed to it: with the pins of its references.
+//! What may be sent to a peer, and the one way in which an item is handed to it: with the pins of
+//! its references.
 
 ghost use Rattle.std.specs.Prelude.{◌≡◌, ℕ, ◌+◌, ◌<◌, ◌≤◌, List, [], ◌∷◌, Some, None, Ok, Err, false, length, filter, vec_len, IsOk, IfOk, OnOk, OnErr, MatchResult};
 ghost use Rattle.nob_ids.specs.Names.{is_counted};
@@ -27,7 +28,8 @@ impl Parts {
     // Why a counted reference may not be sent.
     #[tactic(auto, unfolding(crate::specs::Sending::ref_refusal))]
     fn refuse_ref(&self, me: SpaceId, rep: &WireRep) -> Result<(), Refusal>
-        ensures { MatchResult result (λ _. ref_refusal me (state_of self.now) rep.now ≡ None) (λ refusal. ref_refusal me (state_of self.now) rep.now ≡ Some refusal) }
+        ensures { MatchResult result (λ _. ref_refusal me (state_of self.now) rep.now ≡ None)
+            (λ refusal. ref_refusal me (state_of self.now) rep.now ≡ Some refusal) }
     {
         if self.is_gone(me, rep) {
             return Err(Refusal::NoObject);
@@ -44,7 +46,8 @@ impl Parts {
     /// Why a value may not be sent. It takes no memory. Linear in the value.
     #[tactic(auto, unfolding(crate::specs::Sending::value_refusal))]
     pub fn refuse_value(&self, me: SpaceId, value: &Value) -> Result<(), Refusal>
-        ensures { MatchResult result (λ _. value_refusal me (state_of self.now) value.now ≡ None) (λ refusal. value_refusal me (state_of self.now) value.now ≡ Some refusal) }
+        ensures { MatchResult result (λ _. value_refusal me (state_of self.now) value.now ≡ None)
+            (λ refusal. value_refusal me (state_of self.now) value.now ≡ Some refusal) }
     {
         let Ok(()) = nob_pickle::fits(value) else {
             return Err(Refusal::TooBig);
@@ -61,7 +64,8 @@ impl Parts {
 
     /// Why an item of a kind can't be sent to a peer. Constant time.
     pub fn refuse_send(&self, peer: SpaceId, kind: Kind) -> Result<(), Refusal>
-        ensures { MatchResult result (λ _. send_refusal peer kind (state_of self.now) ≡ None) (λ refusal. send_refusal peer kind (state_of self.now) ≡ Some refusal) }
+        ensures { MatchResult result (λ _. send_refusal peer kind (state_of self.now) ≡ None)
+            (λ refusal. send_refusal peer kind (state_of self.now) ≡ Some refusal) }
     {
         match self.sessions.get(peer.get() as usize - 1) {
             Some(session) => match session.next(kind) {
@@ -94,15 +98,17 @@ pub(crate) fn counted_refs(alloc: Global, value: &Value) -> Result<Vec<WireRep>,
     Ok(reps)
 }
 
-/// Hands an item to the peer of a session that has room for it: the number that it gets. The caller has seen by `next`
-/// that it gets one. Constant time.
+/// Hands an item to the peer of a session that has room for it: the number that it gets. The caller
+/// has seen by `next` that it gets one. Constant time.
 pub fn send_reserved(session: &mut Session, payload: Vec<u8>, kind: Kind) -> ItemNo
     requires payload { (0 < vec_len payload) × (vec_len payload ≤ 16384) }
     requires next { IsOk (next_of kind session.old.end) }
     requires room { 0 < session.old.room }
     ensures number { result ≡ session.old.end.handed + 1 }
     ensures sent { session.new.end ≡ with_item session.old.end payload.items }
-    ensures answer { (me peer : ℕ) (limits : LimitsOf) (L : List EndEntry) → ends.Stands me peer limits session.old.end L → ends.Stands me peer limits session.new.end (Send payload.items kind (Ok result) ∷ L) }
+    ensures answer { (me peer : ℕ) (limits : LimitsOf) (L : List EndEntry)
+        → ends.Stands me peer limits session.old.end L
+        → ends.Stands me peer limits session.new.end (Send payload.items kind (Ok result) ∷ L) }
     ensures left { session.old.room ≤ session.new.room + 1 }
 {
     match session.send(payload, kind) {
@@ -133,9 +139,9 @@ fn pins_on(
     pins
 }
 
-/// Hands an item with references to a peer, and pins them: the number that the item gets. The caller has seen by `next`
-/// that it gets one. Only memory fails it; without references none is wanted where the session has room. Linear in the
-/// references.
+/// Hands an item with references to a peer, and pins them: the number that the item gets. The
+/// caller has seen by `next` that it gets one. Only memory fails it; without references none is
+/// wanted where the session has room. Linear in the references.
 pub fn hand(
     alloc: Global,
     session: &mut Session,
@@ -150,9 +156,14 @@ pub fn hand(
     requires new { has_bundle pins.old.bundles peer (session.old.end.handed + 1) ≡ false }
     ensures number { IfOk result (λ number. number ≡ session.old.end.handed + 1) }
     ensures sent { OnOk result (session.new.end ≡ with_item session.old.end payload.items) }
-    ensures answer { (me other : ℕ) (limits : LimitsOf) (L : List EndEntry) → ends.Stands me other limits session.old.end L → IfOk result (λ number. ends.Stands me other limits session.new.end (Send payload.items kind (Ok number) ∷ L)) }
-    ensures pins { OnOk result (AddsPins pins.old.bundles pins.new.bundles peer (session.old.end.handed + 1) reps.now) }
-    ensures err { OnErr result ((session.new.end ≡ session.old.end) × (pins.new.bundles ≡ pins.old.bundles)) }
+    ensures answer { (me other : ℕ) (limits : LimitsOf) (L : List EndEntry)
+        → ends.Stands me other limits session.old.end L
+        → IfOk result (λ number. ends.Stands me other limits session.new.end
+        (Send payload.items kind (Ok number) ∷ L)) }
+    ensures pins { OnOk result (AddsPins pins.old.bundles pins.new.bundles peer
+        (session.old.end.handed + 1) reps.now) }
+    ensures err { OnErr result ((session.new.end ≡ session.old.end)
+        × (pins.new.bundles ≡ pins.old.bundles)) }
     ensures memory { reps.now ≡ [] → 0 < session.old.room → IsOk result }
 {
     if reps.is_empty() {

@@ -26,9 +26,16 @@ impl Parts {
     /// Transmit: the frames that are to be sent to a peer now. Linear in them.
     pub fn transmit(&mut self, here: &Here, peer: SpaceId) -> Result<Frames, SpaceError>
         requires { IsState here.now.space here.now.n (state_of self.old) }
-        ensures answer { (limits : LimitsOf) (D : List Deed) → Stands here.now.space here.now.n limits (state_of self.old) D → AnswersOrWants (λ frames. answers.Frames frames) result (right.right_frames here.now.space here.now.n peer limits.window (history_of here.now.space here.now.n D)) }
-        ensures stands { IfOk result (λ frames. Did here.now.space here.now.n (state_of self.old) (state_of self.new) (did.Transmit peer frames)) }
-        ensures err { OnErr result (Keeps here.now.space here.now.n (state_of self.old) (state_of self.new)) }
+        ensures answer { (limits : LimitsOf) (D : List Deed)
+            → Stands here.now.space here.now.n limits (state_of self.old) D
+            → AnswersOrWants (λ frames. answers.Frames frames) result
+            (right.right_frames here.now.space here.now.n peer limits.window
+            (history_of here.now.space here.now.n D)) }
+        ensures stands { IfOk result (λ frames.
+            Did here.now.space here.now.n (state_of self.old) (state_of self.new)
+            (did.Transmit peer frames)) }
+        ensures err { OnErr result (Keeps here.now.space here.now.n (state_of self.old)
+            (state_of self.new)) }
     {
         if !here.is_peer(peer) {
             return Err(SpaceError::Refused(Refusal::NoPeer));
@@ -39,11 +46,16 @@ impl Parts {
         }
     }
 
-    /// The frames that Transmit would give now: each has a spelling. It is refused, or wants memory, as Transmit. Linear
-    /// in them.
+    /// The frames that Transmit would give now: each has a spelling. It is refused, or wants
+    /// memory, as Transmit. Linear in them.
     pub fn frames(&self, here: &Here, peer: SpaceId) -> Result<Vec<Frame>, SpaceError>
-        ensures spelt { IsState here.now.space here.now.n (state_of self.now) → IsSpace here.now.space → IfOk result (λ frames. AllByRecursion Fits frames.items) }
-        ensures answer { (limits : LimitsOf) (D : List Deed) → Stands here.now.space here.now.n limits (state_of self.now) D → AnswersOrWants (λ frames. answers.Frames frames.items) result (right.right_frames here.now.space here.now.n peer limits.window (history_of here.now.space here.now.n D)) }
+        ensures spelt { IsState here.now.space here.now.n (state_of self.now)
+            → IsSpace here.now.space → IfOk result (λ frames. AllByRecursion Fits frames.items) }
+        ensures answer { (limits : LimitsOf) (D : List Deed)
+            → Stands here.now.space here.now.n limits (state_of self.now) D
+            → AnswersOrWants (λ frames. answers.Frames frames.items) result
+            (right.right_frames here.now.space here.now.n peer limits.window
+            (history_of here.now.space here.now.n D)) }
     {
         if !here.is_peer(peer) {
             return Err(SpaceError::Refused(Refusal::NoPeer));
@@ -57,13 +69,20 @@ impl Parts {
         }
     }
 
-    /// Tick: the session with a peer counts one tick more. Where its retries are used up it closes: for which reason. It
-    /// takes no memory. Constant time, save where it closes (`close_for`).
+    /// Tick: the session with a peer counts one tick more. Where its retries are used up it closes:
+    /// for which reason. It takes no memory. Constant time, save where it closes (`close_for`).
     pub fn tick(&mut self, here: &Here, peer: SpaceId) -> Result<Option<Reason>, Refusal>
         requires { IsState here.now.space here.now.n (state_of self.old) }
-        ensures answer { (limits : LimitsOf) (D : List Deed) → Stands here.now.space here.now.n limits (state_of self.old) D → Answers tick_answer result (right.right_ticks here.now.space here.now.n peer limits.retry (history_of here.now.space here.now.n D)) }
-        ensures stands { IfOk result (λ reason. Did here.now.space here.now.n (state_of self.old) (state_of self.new) (tick_deed peer reason)) }
-        ensures err { OnErr result (Keeps here.now.space here.now.n (state_of self.old) (state_of self.new)) }
+        ensures answer { (limits : LimitsOf) (D : List Deed)
+            → Stands here.now.space here.now.n limits (state_of self.old) D
+            → Answers tick_answer result
+            (right.right_ticks here.now.space here.now.n peer limits.retry
+            (history_of here.now.space here.now.n D)) }
+        ensures stands { IfOk result (λ reason.
+            Did here.now.space here.now.n (state_of self.old) (state_of self.new)
+            (tick_deed peer reason)) }
+        ensures err { OnErr result (Keeps here.now.space here.now.n (state_of self.old)
+            (state_of self.new)) }
     {
         if !here.is_peer(peer) {
             return Err(Refusal::NoPeer);
@@ -78,15 +97,22 @@ impl Parts {
         }
     }
 
-    /// Arrive: a frame came for this space: how many items it brought, or that it closed the session with its sender.
-    /// Only a Data frame whose item is accepted takes memory. Linear in the payload and in what the frame
-    /// acknowledges, save where it closes (`close_for`).
+    /// Arrive: a frame came for this space: how many items it brought, or that it closed the
+    /// session with its sender. Only a Data frame whose item is accepted takes memory. Linear in
+    /// the payload and in what the frame acknowledges, save where it closes (`close_for`).
     pub fn arrive(&mut self, here: &Here, frame: &Frame) -> Result<Arrived, SpaceError>
         requires { IsState here.now.space here.now.n (state_of self.old) }
-        ensures answer { (limits : LimitsOf) (D : List Deed) → Stands here.now.space here.now.n limits (state_of self.old) D → AnswersOrWants arrive_answer result (right.right_arrival here.now.space here.now.n frame.now (history_of here.now.space here.now.n D)) }
-        ensures stands { IfOk result (λ arrived. Did here.now.space here.now.n (state_of self.old) (state_of self.new) (arrive_deed frame.now arrived)) }
+        ensures answer { (limits : LimitsOf) (D : List Deed)
+            → Stands here.now.space here.now.n limits (state_of self.old) D
+            → AnswersOrWants arrive_answer result
+            (right.right_arrival here.now.space here.now.n frame.now
+            (history_of here.now.space here.now.n D)) }
+        ensures stands { IfOk result (λ arrived.
+            Did here.now.space here.now.n (state_of self.old) (state_of self.new)
+            (arrive_deed frame.now arrived)) }
         ensures memory { is_data frame.now.kind ≡ false → result ≢ Err SpaceError.OutOfMemory }
-        ensures err { OnErr result (Keeps here.now.space here.now.n (state_of self.old) (state_of self.new)) }
+        ensures err { OnErr result (Keeps here.now.space here.now.n (state_of self.old)
+            (state_of self.new)) }
     {
         if frame.to != here.space {
             return Err(SpaceError::Refused(Refusal::NoPeer));

@@ -13,7 +13,8 @@ impl Parts {
     // Closes the session with a space, if that is a peer and the session is open.
     fn close_if_open(&mut self, here: &Here, peer: SpaceId)
         requires { IsState here.now.space here.now.n (state_of self.old) }
-        ensures { IsShutBelow here.now.space here.now.n peer (state_of self.old) → IsShutBelow here.now.space here.now.n (peer + 1) (state_of self.new) }
+        ensures { IsShutBelow here.now.space here.now.n peer (state_of self.old)
+            → IsShutBelow here.now.space here.now.n (peer + 1) (state_of self.new) }
     {
         if !here.is_peer(peer) {
             return;
@@ -40,8 +41,9 @@ impl Parts {
         }
     }
 
-    /// Closes each session that is open, as if it was asked to close, and ends what the space keeps: each of its pins is
-    /// given up. It takes no memory, and tells no peer. The caller's condition: there are 32 spaces at most.
+    /// Closes each session that is open, as if it was asked to close, and ends what the space
+    /// keeps: each of its pins is given up. It takes no memory, and tells no peer. The caller's
+    /// condition: there are 32 spaces at most.
     pub fn shut(self, here: &Here)
         requires few { here.now.n ≤ 32 }
         requires state { IsState here.now.space here.now.n (state_of self) }

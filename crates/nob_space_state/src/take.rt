@@ -34,7 +34,8 @@ const MOST_IN_HAND: u64 = u32::MAX as u64;
 pub enum CallResult {
     /// Its reply: the status and the value.
     Replied {
-        /// 0 where the method answered, 1 to 2 where it didn't, and 3 where a reference of it was lost.
+        /// 0 where the method answered, 1 to 2 where it didn't, and 3 where a reference of it was
+        /// lost.
         status: u8,
         /// The value.
         value: Value,
@@ -71,15 +72,19 @@ impl Parts {
 
     // Whether one of their hands would.
     fn is_overfull(&self, copies: &[RefCopy]) -> bool
-        ensures { result ≡ list_any (λ copy. is_full self.now.table (reps_of copies.now) copy.rep) copies.now }
+        ensures { result ≡ list_any (λ copy. is_full self.now.table (reps_of copies.now) copy.rep)
+            copies.now }
     {
         copies.iter().any(|copy| self.is_full(&copy.rep, copies))
     }
 
-    /// Whether TakeReply of a call would say anything but that the reply isn't ready: of a call that was never made, or
-    /// is taken, too. It takes no memory. Linear in the calls and the ready replies.
+    /// Whether TakeReply of a call would say anything but that the reply isn't ready: of a call
+    /// that was never made, or is taken, too. It takes no memory. Linear in the calls and the ready
+    /// replies.
     pub fn reply_ready(&self, call: CallNo) -> bool
-        ensures { (s n : ℕ) (limits : LimitsOf) (D : List Deed) → Stands s n limits (state_of self.now) D → result ≡ reply_ready call (history_of s n D) }
+        ensures { (s n : ℕ) (limits : LimitsOf) (D : List Deed)
+            → Stands s n limits (state_of self.now) D
+            → result ≡ reply_ready call (history_of s n D) }
     {
         let Some(at) = self.call_at(call) else {
             return true;
@@ -95,10 +100,13 @@ impl Parts {
         }
     }
 
-    /// The value that TakeReply of a call would bring, copied: `None` where it would bring none. Only memory fails it,
-    /// and not where TakeReply is refused. Linear in the calls, the ready replies and the value.
+    /// The value that TakeReply of a call would bring, copied: `None` where it would bring none.
+    /// Only memory fails it, and not where TakeReply is refused. Linear in the calls, the ready
+    /// replies and the value.
     pub fn reply_value(&self, call: CallNo) -> Result<Option<Value>, AllocError>
-        ensures value { IfOk result (λ copy. (status : ℕ) (value : ValueOf) → take_answer call (state_of self.now) ≡ Ok (answers.Replied status value) → copy ≡ Some value) }
+        ensures value { IfOk result (λ copy. (status : ℕ) (value : ValueOf)
+            → take_answer call (state_of self.now) ≡ Ok (answers.Replied status value)
+            → copy ≡ Some value) }
         ensures memory { OnErr result (IsOk (take_answer call (state_of self.now))) }
     {
         let Some(_) = self.call_at(call) else {
@@ -119,13 +127,19 @@ impl Parts {
         }
     }
 
-    /// TakeReply of a call: its reply, whose references come into the hand, or that there will be none. It takes no
-    /// memory. Linear in the calls and the ready replies.
+    /// TakeReply of a call: its reply, whose references come into the hand, or that there will be
+    /// none. It takes no memory. Linear in the calls and the ready replies.
     pub fn take_reply(&mut self, here: &Here, call: CallNo) -> Result<CallResult, Refusal>
         requires { IsState here.now.space here.now.n (state_of self.old) }
-        ensures answer { (limits : LimitsOf) (D : List Deed) → Stands here.now.space here.now.n limits (state_of self.old) D → Answers answer_of result (right.right_take_reply call (history_of here.now.space here.now.n D)) }
-        ensures stands { IfOk result (λ brought. Did here.now.space here.now.n (state_of self.old) (state_of self.new) (deed_of call brought)) }
-        ensures err { OnErr result (Keeps here.now.space here.now.n (state_of self.old) (state_of self.new)) }
+        ensures answer { (limits : LimitsOf) (D : List Deed)
+            → Stands here.now.space here.now.n limits (state_of self.old) D
+            → Answers answer_of result (right.right_take_reply call
+            (history_of here.now.space here.now.n D)) }
+        ensures stands { IfOk result (λ brought.
+            Did here.now.space here.now.n (state_of self.old) (state_of self.new)
+            (deed_of call brought)) }
+        ensures err { OnErr result (Keeps here.now.space here.now.n (state_of self.old)
+            (state_of self.new)) }
     {
         let Some(at) = self.call_at(call) else {
             return Err(Refusal::NoCall);
@@ -169,7 +183,9 @@ fn times(rep: &WireRep, copies: &[RefCopy]) -> usize
 // The references of copies, which are lent, come into the hand.
 fn take_over(table: &mut ObjectTable, copies: &[RefCopy])
     requires { CanTake table.old (reps_of copies.now) }
-    ensures { (s n : ℕ) (h : History) (H L : Rep → ℕ) → TableShows s n table.old h H L → TableShows s n table.new h (with_more (reps_of copies.now) H) (with_fewer (reps_of copies.now) L) }
+    ensures { (s n : ℕ) (h : History) (H L : Rep → ℕ) → TableShows s n table.old h H L
+        → TableShows s n table.new h (with_more (reps_of copies.now) H)
+        (with_fewer (reps_of copies.now) L) }
 {
     match copies {
         [] => {}

@@ -36,7 +36,8 @@ impl Counts {
 
     // One hold more in this part: B3 where the part is full.
     pub(crate) fn more(self, part: Part) -> Result<Counts, TableFault>
-        ensures { MatchResult result (λ counts. (hold_limit part self ≡ None) × (counts ≡ more part self)) (λ fault. hold_limit part self ≡ Some fault) }
+        ensures { MatchResult result (λ counts. (hold_limit part self ≡ None)
+            × (counts ≡ more part self)) (λ fault. hold_limit part self ≡ Some fault) }
     {
         match part {
             Part::Hand if self.hand == u32::MAX => Err(TableFault::Limit),
@@ -54,7 +55,8 @@ impl Counts {
 
     // One hold less in this part: B2 where the part is 0.
     pub(crate) fn fewer(self, part: Part) -> Result<Counts, TableFault>
-        ensures { MatchResult result (λ counts. (release_fault part self ≡ None) × (counts ≡ fewer part self)) (λ fault. release_fault part self ≡ Some fault) }
+        ensures { MatchResult result (λ counts. (release_fault part self ≡ None)
+            × (counts ≡ fewer part self)) (λ fault. release_fault part self ≡ Some fault) }
     {
         match part {
             Part::Hand if self.hand == 0 => Err(TableFault::NotHeld),

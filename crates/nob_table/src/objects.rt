@@ -11,12 +11,12 @@ use nob_ids::{SpaceId, WireRep};
 use std::alloc::{AllocError, Global};
 use std::marker::Model;
 
-// The live objects of a space with their counts, and how many indexes were given. Contracts see a row
-// for each.
+// The live objects of a space with their counts, and how many indexes were given. Contracts see a
+// row for each.
 //
-// Each object has a slot, in the order of the indexes. The slot of a withdrawn object is empty; once
-// more than half of the slots are, all empty ones are cleared in place. So a withdrawal takes no
-// memory, and over all calls constant time on average.
+// Each object has a slot, in the order of the indexes. The slot of a withdrawn object is empty;
+// once more than half of the slots are, all empty ones are cleared in place. So a withdrawal takes
+// no memory, and over all calls constant time on average.
 #[derive(Drop)]
 pub(crate) struct Objects {
     // The indexes given so far are 1 to this one.
@@ -120,8 +120,8 @@ impl Objects {
         self.slots.set(rep, Some(counts));
     }
 
-    // Takes a live object out: its slot is left empty, and all empty slots go once they are more than
-    // half.
+    // Takes a live object out: its slot is left empty, and all empty slots go once they are more
+    // than half.
     pub(crate) fn take(&mut self, rep: &WireRep)
         requires { IsSome (row_at self.old.rows rep.now) }
         ensures puts { Puts self.old.rows self.new.rows rep.now None }
@@ -136,8 +136,8 @@ impl Objects {
         }
     }
 
-    // The least index from this one on of an object that nothing holds. Logarithmic in the slots, and
-    // linear in those that it passes.
+    // The least index from this one on of an object that nothing holds. Logarithmic in the slots,
+    // and linear in those that it passes.
     pub(crate) fn first_unheld(&self, index: u64) -> Option<u64>
         ensures first { MatchOption result (AreAllHeld self.now.rows index)
             (λ found. IsFirstRow self.now.rows index found) }

@@ -18,8 +18,8 @@ use std::alloc::{AllocError, Global};
 // What the table has of one other space: the references to its objects.
 #[derive(Drop)]
 pub(crate) struct Peer {
-    // The counts of its surrogates and of its lost references. They stand beside the surrogates, so that a close moves
-    // nothing.
+    // The counts of its surrogates and of its lost references. They stand beside the surrogates, so
+    // that a close moves nothing.
     pub(crate) counted: Rows<Counts>,
     // Its surrogates on an open session, in the order of their last Dirties.
     pub(crate) surrogates: Rows<Surrogate>,
@@ -43,7 +43,8 @@ impl Peer {
         ensures surrogates { self.new.surrogates.rows ≡ self.old.surrogates.rows }
         ensures counted_room { OnOk result (additional ≤ self.new.counted.room) }
         ensures surrogates_room { OnOk result (additional ≤ self.new.surrogates.room) }
-        ensures succeeds { additional ≤ self.old.counted.room → additional ≤ self.old.surrogates.room → IsOk result }
+        ensures succeeds { additional ≤ self.old.counted.room
+            → additional ≤ self.old.surrogates.room → IsOk result }
         ensures room { PeerKeepsRoom self.old self.new }
     {
         self.counted.reserve(additional)?;
@@ -54,11 +55,17 @@ impl Peer {
     pub(crate) fn push(&mut self, rep: &WireRep, place: u128) -> Result<(), AllocError>
         requires new { row_at self.old.counted.rows rep.now ≡ None }
         requires sent { row_at self.old.surrogates.rows rep.now ≡ None }
-        requires last { (other : WireRep) → IfSome (place_in self.old.surrogates.rows other) (λ earlier. earlier < place) }
-        ensures counted { OnOk result (Puts self.old.counted.rows self.new.counted.rows rep.now (Some no_counts)) }
-        ensures surrogates { OnOk result (Puts self.old.surrogates.rows self.new.surrogates.rows rep.now (Some (sent place))) }
-        ensures len { OnOk result (length self.new.surrogates.rows ≡ length self.old.surrogates.rows + 1) }
-        ensures peer { OnOk result (IsPeer rep.now.owner self.old.counted.rows self.old.surrogates.rows → IsPeer rep.now.owner self.new.counted.rows self.new.surrogates.rows) }
+        requires last { (other : WireRep)
+            → IfSome (place_in self.old.surrogates.rows other) (λ earlier. earlier < place) }
+        ensures counted { OnOk result (Puts self.old.counted.rows self.new.counted.rows rep.now
+            (Some no_counts)) }
+        ensures surrogates { OnOk result
+            (Puts self.old.surrogates.rows self.new.surrogates.rows rep.now (Some (sent place))) }
+        ensures len { OnOk result (length self.new.surrogates.rows
+            ≡ length self.old.surrogates.rows + 1) }
+        ensures peer { OnOk result (IsPeer rep.now.owner self.old.counted.rows
+            self.old.surrogates.rows → IsPeer rep.now.owner self.new.counted.rows
+            self.new.surrogates.rows) }
         ensures succeeds { 0 < self.old.counted.room → 0 < self.old.surrogates.room → IsOk result }
         ensures counted_room { self.old.counted.room ≤ self.new.counted.room + 1 }
         ensures surrogates_room { self.old.surrogates.room ≤ self.new.surrogates.room + 1 }
@@ -76,7 +83,8 @@ impl Peer {
         requires { IsSome (row_at self.old.counted.rows rep.now) }
         ensures counted { Puts self.old.counted.rows self.new.counted.rows rep.now (Some counts) }
         ensures surrogates { self.new.surrogates.rows ≡ self.old.surrogates.rows }
-        ensures peer { (owner : ℕ) → IsPeer owner self.old.counted.rows self.old.surrogates.rows → IsPeer owner self.new.counted.rows self.new.surrogates.rows }
+        ensures peer { (owner : ℕ) → IsPeer owner self.old.counted.rows self.old.surrogates.rows
+            → IsPeer owner self.new.counted.rows self.new.surrogates.rows }
         ensures room { PeerKeepsRoom self.old self.new }
     {
         self.counted.set(rep, counts);
@@ -86,9 +94,11 @@ impl Peer {
     pub(crate) fn set_answer(&mut self, rep: &WireRep, grant: Grant)
         requires { IsSome (row_at self.old.surrogates.rows rep.now) }
         ensures counted { self.new.counted.rows ≡ self.old.counted.rows }
-        ensures surrogates { Puts self.old.surrogates.rows self.new.surrogates.rows rep.now (option_map (answered grant) (row_at self.old.surrogates.rows rep.now)) }
+        ensures surrogates { Puts self.old.surrogates.rows self.new.surrogates.rows rep.now
+            (option_map (answered grant) (row_at self.old.surrogates.rows rep.now)) }
         ensures len { length self.new.surrogates.rows ≡ length self.old.surrogates.rows }
-        ensures peer { (owner : ℕ) → IsPeer owner self.old.counted.rows self.old.surrogates.rows → IsPeer owner self.new.counted.rows self.new.surrogates.rows }
+        ensures peer { (owner : ℕ) → IsPeer owner self.old.counted.rows self.old.surrogates.rows
+            → IsPeer owner self.new.counted.rows self.new.surrogates.rows }
         ensures room { PeerKeepsRoom self.old self.new }
     {
         if let Some(surrogate) = self.surrogates.get(*rep) {
@@ -100,7 +110,8 @@ impl Peer {
     pub(crate) fn forget(&mut self, rep: &WireRep)
         ensures counted { Puts self.old.counted.rows self.new.counted.rows rep.now None }
         ensures surrogates { self.new.surrogates.rows ≡ self.old.surrogates.rows }
-        ensures peer { (owner : ℕ) → IsPeer owner self.old.counted.rows self.old.surrogates.rows → IsPeer owner self.new.counted.rows self.new.surrogates.rows }
+        ensures peer { (owner : ℕ) → IsPeer owner self.old.counted.rows self.old.surrogates.rows
+            → IsPeer owner self.new.counted.rows self.new.surrogates.rows }
         ensures room { PeerKeepsRoom self.old self.new }
     {
         self.counted.take(rep);
@@ -112,20 +123,24 @@ impl Peer {
         ensures counted { Puts self.old.counted.rows self.new.counted.rows rep.now None }
         ensures surrogates { Puts self.old.surrogates.rows self.new.surrogates.rows rep.now None }
         ensures len { length self.new.surrogates.rows + 1 ≡ length self.old.surrogates.rows }
-        ensures peer { (owner : ℕ) → IsPeer owner self.old.counted.rows self.old.surrogates.rows → IsPeer owner self.new.counted.rows self.new.surrogates.rows }
+        ensures peer { (owner : ℕ) → IsPeer owner self.old.counted.rows self.old.surrogates.rows
+            → IsPeer owner self.new.counted.rows self.new.surrogates.rows }
         ensures room { PeerKeepsRoom self.old self.new }
     {
         self.counted.take(rep);
         self.surrogates.take_in_order(rep);
     }
 
-    // Forgets all surrogates, and the counts of what nobody holds: how many surrogates there were. Linear in the
-    // references of this space and in the room for them.
+    // Forgets all surrogates, and the counts of what nobody holds: how many surrogates there were.
+    // Linear in the references of this space and in the room for them.
     pub(crate) fn close(&mut self) -> usize
         ensures len { result ≡ length self.old.surrogates.rows }
-        ensures counted { (rep : WireRep) → row_at self.new.counted.rows rep ≡ keep_if is_held (row_at self.old.counted.rows rep) }
+        ensures counted { (rep : WireRep)
+            → row_at self.new.counted.rows rep
+            ≡ keep_if is_held (row_at self.old.counted.rows rep) }
         ensures surrogates { self.new.surrogates.rows ≡ [] }
-        ensures peer { (owner : ℕ) → IsPeer owner self.old.counted.rows self.old.surrogates.rows → IsPeer owner self.new.counted.rows self.new.surrogates.rows }
+        ensures peer { (owner : ℕ) → IsPeer owner self.old.counted.rows self.old.surrogates.rows
+            → IsPeer owner self.new.counted.rows self.new.surrogates.rows }
         ensures room { PeerKeepsRoom self.old self.new }
     {
         let surrogates = self.surrogates.len();
@@ -134,12 +149,15 @@ impl Peer {
         surrogates
     }
 
-    // The surrogate with the least place from this one on that is granted and has no holds, with its place. Linear in
-    // the surrogates that it passes.
+    // The surrogate with the least place from this one on that is granted and has no holds, with
+    // its place. Linear in the surrogates that it passes.
     pub(crate) fn first_idle(&self, place: u128) -> Option<(u128, WireRep)>
         requires once { IsOnce self.now.surrogates.rows }
-        requires rising { IsRising (place_in self.now.surrogates.rows) (reps_of self.now.surrogates.rows) }
-        ensures { MatchOption result (NeverIdleIn self.now.counted.rows self.now.surrogates.rows place) (λ found. IsFirstIn self.now.counted.rows self.now.surrogates.rows place found.0 found.1) }
+        requires rising { IsRising (place_in self.now.surrogates.rows)
+            (reps_of self.now.surrogates.rows) }
+        ensures { MatchOption result (NeverIdleIn self.now.counted.rows self.now.surrogates.rows
+            place) (λ found. IsFirstIn self.now.counted.rows self.now.surrogates.rows place found.0
+            found.1) }
     {
         let start = self.surrogates.count_before(place);
         let end = self.surrogates.len();
@@ -154,7 +172,8 @@ impl Peer {
 
     // Whether this surrogate of the reference is granted and nothing holds it.
     fn is_idle(&self, rep: WireRep, surrogate: Surrogate) -> bool
-        ensures { result ≡ is_idle (far_standing (Some surrogate) (row_at self.now.counted.rows rep)) }
+        ensures { result ≡ is_idle (far_standing (Some surrogate)
+            (row_at self.now.counted.rows rep)) }
     {
         let Some(counts) = self.counted.get(rep) else {
             return false;

@@ -16,8 +16,8 @@ use nob_ids::{SpaceId, WireRep};
 use std::alloc::{AllocError, Global};
 use std::marker::Model;
 
-// What the table has of all other spaces: a peer for each, by the space's number (at 0 and at the own number there is
-// nothing). The peers are made when room is first wanted.
+// What the table has of all other spaces: a peer for each, by the space's number (at 0 and at the
+// own number there is nothing). The peers are made when room is first wanted.
 #[derive(Drop)]
 pub(crate) struct Peers {
     alloc: Global,
@@ -35,7 +35,11 @@ impl Model for Peers {
 
     ghost use Rattle.nob_table.specs.Peers.{IsPeers, counted_of, surrogates_of};
 
-    ghost view = { λ a. record { counted = counted_of a.peers.items; surrogates = surrogates_of a.peers.items; room = a.room } };
+    ghost view = { λ a. record {
+      counted = counted_of a.peers.items;
+      surrogates = surrogates_of a.peers.items;
+      room = a.room;
+    } };
 
     ghost invariant = { λ a. IsPeers a.peers.items a.count a.room };
 }
@@ -50,7 +54,8 @@ fn number_of(owner: SpaceId) -> usize
 
 // The peer of a space, if it is made.
 fn peer_of(peers: &[Peer], owner: SpaceId) -> Option<&Peer>
-    ensures { MatchOption result (slice_get peers.now owner ≡ None) (λ peer. slice_get peers.now owner ≡ Some peer.now) }
+    ensures { MatchOption result (slice_get peers.now owner ≡ None)
+        (λ peer. slice_get peers.now owner ≡ Some peer.now) }
 {
     peers.get(number_of(owner))
 }
@@ -96,16 +101,17 @@ impl Peers {
         peer.surrogates.get(rep)
     }
 
-    // The surrogate with the least place from this one on that is granted and has no holds, with its place. Linear in
-    // the surrogates that it passes.
+    // The surrogate with the least place from this one on that is granted and has no holds, with
+    // its place. Linear in the surrogates that it passes.
     pub(crate) fn first_idle(&self, place: u128) -> Option<(u128, WireRep)>
-        ensures { MatchOption result (NeverIdleIn self.now.counted self.now.surrogates place) (λ found. IsFirstIn self.now.counted self.now.surrogates place found.0 found.1) }
+        ensures { MatchOption result (NeverIdleIn self.now.counted self.now.surrogates place)
+            (λ found. IsFirstIn self.now.counted self.now.surrogates place found.0 found.1) }
     {
         first_idle_of(&self.peers, place)
     }
 
-    // Makes room for so many more surrogates in each peer. Constant where there is as much, else linear in the references
-    // of the peers that have to grow.
+    // Makes room for so many more surrogates in each peer. Constant where there is as much, else
+    // linear in the references of the peers that have to grow.
     pub(crate) fn reserve(&mut self, surrogates: usize) -> Result<(), AllocError>
         ensures counted { self.new.counted ≡ self.old.counted }
         ensures surrogates { self.new.surrogates ≡ self.old.surrogates }
@@ -126,10 +132,13 @@ impl Peers {
     pub(crate) fn push(&mut self, rep: &WireRep, place: u128) -> Result<(), AllocError>
         requires new { row_at self.old.counted rep.now ≡ None }
         requires sent { row_at self.old.surrogates rep.now ≡ None }
-        requires last { (other : WireRep) → IfSome (place_in self.old.surrogates other) (λ earlier. earlier < place) }
+        requires last { (other : WireRep)
+            → IfSome (place_in self.old.surrogates other) (λ earlier. earlier < place) }
         requires few { length self.old.surrogates < 2 ^ 32 }
-        ensures counted { OnOk result (Puts self.old.counted self.new.counted rep.now (Some no_counts)) }
-        ensures surrogates { OnOk result (Puts self.old.surrogates self.new.surrogates rep.now (Some (sent place))) }
+        ensures counted { OnOk result (Puts self.old.counted self.new.counted rep.now
+            (Some no_counts)) }
+        ensures surrogates { OnOk result
+            (Puts self.old.surrogates self.new.surrogates rep.now (Some (sent place))) }
         ensures len { OnOk result (length self.new.surrogates ≡ length self.old.surrogates + 1) }
         ensures counted_kept { OnErr result (self.new.counted ≡ self.old.counted) }
         ensures surrogates_kept { OnErr result (self.new.surrogates ≡ self.old.surrogates) }
@@ -162,7 +171,8 @@ impl Peers {
     pub(crate) fn set_answer(&mut self, rep: &WireRep, grant: Grant)
         requires { IsSome (row_at self.old.surrogates rep.now) }
         ensures counted { self.new.counted ≡ self.old.counted }
-        ensures surrogates { Puts self.old.surrogates self.new.surrogates rep.now (option_map (answered grant) (row_at self.old.surrogates rep.now)) }
+        ensures surrogates { Puts self.old.surrogates self.new.surrogates rep.now
+            (option_map (answered grant) (row_at self.old.surrogates rep.now)) }
         ensures len { length self.new.surrogates ≡ length self.old.surrogates }
         ensures room { self.old.room ≤ self.new.room }
     {
@@ -199,12 +209,18 @@ impl Peers {
         }
     }
 
-    // Forgets the surrogates of this space, and the counts of its references that nobody holds. Linear in the
-    // references of this space and in the room made for them.
+    // Forgets the surrogates of this space, and the counts of its references that nobody holds.
+    // Linear in the references of this space and in the room made for them.
     pub(crate) fn close(&mut self, owner: SpaceId)
-        ensures counted { (rep : WireRep) → row_at self.new.counted rep ≡ (if rep.owner == owner then keep_if is_held (row_at self.old.counted rep) else row_at self.old.counted rep) }
-        ensures surrogates { (rep : WireRep) → row_at self.new.surrogates rep ≡ (if rep.owner == owner then None else row_at self.old.surrogates rep) }
-        ensures len { length self.new.surrogates ≡ length (filter (λ rep. not (rep.owner == owner)) (reps_of self.old.surrogates)) }
+        ensures counted { (rep : WireRep)
+            → row_at self.new.counted rep
+            ≡ (if rep.owner == owner then keep_if is_held
+            (row_at self.old.counted rep) else row_at self.old.counted rep) }
+        ensures surrogates { (rep : WireRep)
+            → row_at self.new.surrogates rep
+            ≡ (if rep.owner == owner then None else row_at self.old.surrogates rep) }
+        ensures len { length self.new.surrogates
+            ≡ length (filter (λ rep. not (rep.owner == owner)) (reps_of self.old.surrogates)) }
         ensures room { self.old.room ≤ self.new.room }
     {
         let at = number_of(owner);
@@ -243,7 +259,10 @@ fn reserve_all(peers: &mut [Peer], surrogates: usize) -> Result<(), AllocError>
 // The first idle surrogate of these peers from this place on.
 fn first_idle_of(peers: &[Peer], place: u128) -> Option<(u128, WireRep)>
     requires { AreByNumber peers.now }
-    ensures { MatchOption result (NeverIdleIn (counted_of peers.now) (surrogates_of peers.now) place) (λ found. IsFirstIn (counted_of peers.now) (surrogates_of peers.now) place found.0 found.1) }
+    ensures { MatchOption result (NeverIdleIn (counted_of peers.now)
+        (surrogates_of peers.now) place)
+        (λ found. IsFirstIn (counted_of peers.now)
+        (surrogates_of peers.now) place found.0 found.1) }
 {
     let mut first = None;
     for peer in peers {

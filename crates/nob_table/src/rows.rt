@@ -110,7 +110,8 @@ impl<X: Copy + Drop> Rows<X> {
     pub(crate) fn take(&mut self, rep: &WireRep)
         ensures puts { Puts self.old.rows self.new.rows rep.now None }
         ensures once { IsOnce self.new.rows }
-        ensures len { length self.new.rows + (if is_some (row_at self.old.rows rep.now) then 1 else 0) ≡ length self.old.rows }
+        ensures len { length self.new.rows +
+            (if is_some (row_at self.old.rows rep.now) then 1 else 0) ≡ length self.old.rows }
         ensures room { self.old.room ≤ self.new.room }
     {
         let _row = self.map.swap_remove(rep);
@@ -121,13 +122,15 @@ impl<X: Copy + Drop> Rows<X> {
         ensures puts { Puts self.old.rows self.new.rows rep.now None }
         ensures reps { reps_of self.new.rows ≡ without rep.now (reps_of self.old.rows) }
         ensures once { IsOnce self.new.rows }
-        ensures len { length self.new.rows + (if is_some (row_at self.old.rows rep.now) then 1 else 0) ≡ length self.old.rows }
+        ensures len { length self.new.rows +
+            (if is_some (row_at self.old.rows rep.now) then 1 else 0) ≡ length self.old.rows }
         ensures room { self.old.room ≤ self.new.room }
     {
         let _row = self.map.shift_remove(rep);
     }
 
-    // Takes all rows out. Linear in the rows and the room beside them, and constant where there is no row.
+    // Takes all rows out. Linear in the rows and the room beside them, and constant where there is
+    // no row.
     pub(crate) fn clear(&mut self)
         ensures rows { self.new.rows ≡ [] }
         ensures once { IsOnce self.new.rows }
@@ -140,10 +143,11 @@ impl<X: Copy + Drop> Rows<X> {
 }
 
 impl Rows<Counts> {
-    // Takes out the rows of references that nobody holds. Linear in the rows and the room beside them, and constant where
-    // there is no row.
+    // Takes out the rows of references that nobody holds. Linear in the rows and the room beside
+    // them, and constant where there is no row.
     pub(crate) fn keep_held(&mut self)
-        ensures rows { (rep : WireRep) → row_at self.new.rows rep ≡ keep_if is_held (row_at self.old.rows rep) }
+        ensures rows { (rep : WireRep) → row_at self.new.rows rep
+            ≡ keep_if is_held (row_at self.old.rows rep) }
         ensures once { IsOnce self.new.rows }
         ensures room { self.old.room ≤ self.new.room }
     {
@@ -172,12 +176,15 @@ impl Rows<Option<Counts>> {
         );
     }
 
-    // How many rows have an index below this one: the first ones, where the indexes rise. Logarithmic in the rows.
+    // How many rows have an index below this one: the first ones, where the indexes rise.
+    // Logarithmic in the rows.
     pub(crate) fn count_below(&self, index: u64) -> usize
         requires { IsByIndex (reps_of self.now.rows) }
         ensures bound { result ≤ length self.now.rows }
-        ensures below { (at : ℕ) (row : WireRep × Option Counts) → slice_get self.now.rows at ≡ Some row → at < result → row.0.index < index }
-        ensures from { (at : ℕ) (row : WireRep × Option Counts) → slice_get self.now.rows at ≡ Some row → result ≤ at → index ≤ row.0.index }
+        ensures below { (at : ℕ) (row : WireRep × Option Counts)
+            → slice_get self.now.rows at ≡ Some row → at < result → row.0.index < index }
+        ensures from { (at : ℕ) (row : WireRep × Option Counts)
+            → slice_get self.now.rows at ≡ Some row → result ≤ at → index ≤ row.0.index }
     {
         self.map.partition_point(
             |rep: &WireRep, _slot: &Option<Counts>| -> bool
@@ -188,12 +195,15 @@ impl Rows<Option<Counts>> {
 }
 
 impl Rows<Surrogate> {
-    // How many rows have a place below this one: the first ones, where the places rise. Logarithmic in the rows.
+    // How many rows have a place below this one: the first ones, where the places rise. Logarithmic
+    // in the rows.
     pub(crate) fn count_before(&self, place: u128) -> usize
         requires { IsRising (place_in self.now.rows) (reps_of self.now.rows) }
         ensures bound { result ≤ length self.now.rows }
-        ensures below { (at : ℕ) (row : WireRep × Surrogate) → slice_get self.now.rows at ≡ Some row → at < result → row.1.place < place }
-        ensures from { (at : ℕ) (row : WireRep × Surrogate) → slice_get self.now.rows at ≡ Some row → result ≤ at → place ≤ row.1.place }
+        ensures below { (at : ℕ) (row : WireRep × Surrogate) → slice_get self.now.rows at ≡ Some row
+            → at < result → row.1.place < place }
+        ensures from { (at : ℕ) (row : WireRep × Surrogate) → slice_get self.now.rows at ≡ Some row
+            → result ≤ at → place ≤ row.1.place }
     {
         self.map.partition_point(
             |_rep: &WireRep, surrogate: &Surrogate| -> bool

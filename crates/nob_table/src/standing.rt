@@ -104,7 +104,8 @@ impl Grant {
     }
 }
 
-/// A surrogate on an open session: what its owner has answered, and where its last Dirty stands among all.
+/// A surrogate on an open session: what its owner has answered, and where its last Dirty stands
+/// among all.
 #[derive(Clone, Copy, Debug, PartialEq, Eq)]
 pub(crate) struct Surrogate {
     /// What the owner has answered to the last Dirty.

@@ -18,11 +18,12 @@ use nob_ids::{SpaceId, WireRep};
 use std::alloc::{AllocError, Global};
 use std::marker::Model;
 
-/// The object table of one space. Contracts see it as plain data: how each reference stands, and for each
-/// surrogate on an open session its place in the order of last Dirties.
+/// The object table of one space. Contracts see it as plain data: how each reference stands, and
+/// for each surrogate on an open session its place in the order of last Dirties.
 ///
-/// A place is the number of the surrogate's last Dirty, counted from 0 over all Dirties that the table was told of. So
-/// places rise in the order of last Dirties, a surrogate keeps its place, and none is given twice.
+/// A place is the number of the surrogate's last Dirty, counted from 0 over all Dirties that the
+/// table was told of. So places rise in the order of last Dirties, a surrogate keeps its place, and
+/// none is given twice.
 #[derive(Drop)]
 pub struct ObjectTable {
     me: SpaceId,
@@ -38,9 +39,19 @@ impl Model for ObjectTable {
 
     ghost use Rattle.nob_table.specs.Table.{IsTable};
 
-    ghost view = { λ a. record { me = a.me; exported = a.objects.exported; dirties = a.dirties; objects = a.objects.rows; counted = a.peers.counted; surrogates = a.peers.surrogates; export_room = a.objects.room; surrogate_room = a.peers.room } };
+    ghost view = { λ a. record {
+      me = a.me;
+      exported = a.objects.exported;
+      dirties = a.dirties;
+      objects = a.objects.rows;
+      counted = a.peers.counted;
+      surrogates = a.peers.surrogates;
+      export_room = a.objects.room;
+      surrogate_room = a.peers.room;
+    } };
 
-    ghost invariant = { λ a. IsTable a.me a.objects.exported a.dirties a.objects.rows a.peers.counted a.peers.surrogates };
+    ghost invariant = { λ a. IsTable a.me a.objects.exported a.dirties a.objects.rows
+        a.peers.counted a.peers.surrogates };
 }
 
 impl ObjectTable {
@@ -72,7 +83,8 @@ impl ObjectTable {
     /// How the reference stands. Constant time on average.
     pub fn state(&self, rep: WireRep) -> Standing
         ensures stands { result ≡ standing self.now rep }
-        ensures given { IsTrue (is_live result.state) → (1 ≤ rep.index) × (rep.index ≤ self.now.exported) }
+        ensures given { IsTrue (is_live result.state) → (1 ≤ rep.index)
+            × (rep.index ≤ self.now.exported) }
         ensures low { IsTrue (is_live result.state) → rep.index ≤ most_index }
         ensures held { IsTrue (is_lost result.state) → IsTrue (is_held result.counts) }
         ensures agent { rep.index ≡ 0 → result ≡ unknown }
@@ -110,17 +122,20 @@ impl ObjectTable {
         ensures count { result ≡ live self.now }
         ensures few { live self.now ≤ most_objects }
         ensures once { IsOnce self.now.objects }
-        ensures live { (rep : WireRep) → list_any (is_same rep) (live_reps self.now) ≡ is_live (standing self.now rep).state }
+        ensures live { (rep : WireRep) → list_any (is_same rep) (live_reps self.now)
+            ≡ is_live (standing self.now rep).state }
     {
         self.objects.len()
     }
 
-    /// The least index from this one on of a live object that nothing holds. Logarithmic in the live objects, and
-    /// linear in the slots that it passes between this index and the one found: of held objects, and of withdrawn ones
-    /// that aren't cleared yet, of which the table never has more than live objects and one. So a walk over all such
-    /// objects, each time from the index behind the last one found, passes each slot once.
+    /// The least index from this one on of a live object that nothing holds. Logarithmic in the
+    /// live objects, and linear in the slots that it passes between this index and the one found:
+    /// of held objects, and of withdrawn ones that aren't cleared yet, of which the table never has
+    /// more than live objects and one. So a walk over all such objects, each time from the index
+    /// behind the last one found, passes each slot once.
     pub fn first_unheld(&self, index: u64) -> Option<u64>
-        ensures first { MatchOption result (NeverUnheld self.now index) (λ found. IsFirstUnheld self.now index found) }
+        ensures first { MatchOption result (NeverUnheld self.now index)
+            (λ found. IsFirstUnheld self.now index found) }
         ensures given { IfSome result (λ found. (1 ≤ found) × (found ≤ self.now.exported)) }
         ensures low { IfSome result (λ found. found ≤ most_index) }
     {
@@ -132,25 +147,32 @@ impl ObjectTable {
         ensures count { result ≡ surrogate_total self.now }
         ensures few { surrogate_total self.now ≤ most_surrogates }
         ensures once { IsOnce self.now.surrogates }
-        ensures placed { (rep : WireRep) → is_some (place_of self.now rep) ≡ is_surrogate (standing self.now rep).state }
-        ensures sent { (rep : WireRep) → IfSome (place_of self.now rep) (λ place. place < self.now.dirties) }
-        ensures apart { (rep other : WireRep) → IsSome (place_of self.now rep) → place_of self.now rep ≡ place_of self.now other → IsTrue (is_same rep other) }
+        ensures placed { (rep : WireRep)
+            → is_some (place_of self.now rep) ≡ is_surrogate (standing self.now rep).state }
+        ensures sent { (rep : WireRep) → IfSome (place_of self.now rep)
+            (λ place. place < self.now.dirties) }
+        ensures apart { (rep other : WireRep) → IsSome (place_of self.now rep)
+            → place_of self.now rep ≡ place_of self.now other → IsTrue (is_same rep other) }
     {
         self.peers.len()
     }
 
-    /// How many Dirties were sent: the place that the surrogate of the next one gets. Constant time.
+    /// How many Dirties were sent: the place that the surrogate of the next one gets. Constant
+    /// time.
     pub fn dirty_count(&self) -> u128
         ensures { result ≡ self.now.dirties }
     {
         self.dirties
     }
 
-    /// One hold more on the reference, in this part: a live object's, a surrogate's, or a lost reference's that is
-    /// held already. B1 where it is none of these, B3 where the part is full. Constant time on average.
+    /// One hold more on the reference, in this part: a live object's, a surrogate's, or a lost
+    /// reference's that is held already. B1 where it is none of these, B3 where the part is full.
+    /// Constant time on average.
     pub fn hold(&mut self, rep: WireRep, part: Part) -> Result<(), TableFault>
-        ensures answer { MatchResult result (λ _. hold_fault self.old rep part ≡ None) (λ fault. hold_fault self.old rep part ≡ Some fault) }
-        ensures held { OnOk result (Becomes self.old self.new rep (after_hold part (standing self.old rep))) }
+        ensures answer { MatchResult result (λ _. hold_fault self.old rep part ≡ None)
+            (λ fault. hold_fault self.old rep part ≡ Some fault) }
+        ensures held { OnOk result (Becomes self.old self.new rep
+            (after_hold part (standing self.old rep))) }
         ensures left { ChangeLeaves self.old self.new }
         ensures err { OnErr result (Stays self.old self.new) }
     {
@@ -165,11 +187,14 @@ impl ObjectTable {
         Ok(())
     }
 
-    /// One hold less on the reference, in this part. A lost reference is forgotten with its last hold. B1 where
-    /// the table has no counts of it, B2 where the part is 0. Constant time on average.
+    /// One hold less on the reference, in this part. A lost reference is forgotten with its last
+    /// hold. B1 where the table has no counts of it, B2 where the part is 0. Constant time on
+    /// average.
     pub fn release(&mut self, rep: WireRep, part: Part) -> Result<(), TableFault>
-        ensures answer { MatchResult result (λ _. release_fault self.old rep part ≡ None) (λ fault. release_fault self.old rep part ≡ Some fault) }
-        ensures released { OnOk result (Becomes self.old self.new rep (after_release part (standing self.old rep))) }
+        ensures answer { MatchResult result (λ _. release_fault self.old rep part ≡ None)
+            (λ fault. release_fault self.old rep part ≡ Some fault) }
+        ensures released { OnOk result (Becomes self.old self.new rep
+            (after_release part (standing self.old rep))) }
         ensures left { ChangeLeaves self.old self.new }
         ensures err { OnErr result (Stays self.old self.new) }
     {
@@ -188,21 +213,23 @@ impl ObjectTable {
         Ok(())
     }
 
-    /// Makes room: after it so many exports and so many surrogates can't run out of memory, whoever the surrogates'
-    /// owners are. Constant where there is as much room, else linear in the references where the room has to grow.
+    /// Makes room: after it so many exports and so many surrogates can't run out of memory, whoever
+    /// the surrogates' owners are. Constant where there is as much room, else linear in the
+    /// references where the room has to grow.
     pub fn reserve(&mut self, exports: usize, surrogates: usize) -> Result<(), AllocError>
         ensures left { Stays self.old self.new }
         ensures exports { OnOk result (exports ≤ self.new.export_room) }
         ensures surrogates { OnOk result (surrogates ≤ self.new.surrogate_room) }
-        ensures succeeds { exports ≤ self.old.export_room → surrogates ≤ self.old.surrogate_room → IsOk result }
+        ensures succeeds { exports ≤ self.old.export_room → surrogates ≤ self.old.surrogate_room
+            → IsOk result }
     {
         self.objects.reserve(exports)?;
         self.peers.reserve(surrogates)
     }
 
-    /// A new object: the reference to it, with the next index, live and once in hand. B3 where 65,536 objects are
-    /// live or no index is left, and OutOfMemory where there was no room and none could be had. Constant time on
-    /// average, save where the room has to grow.
+    /// A new object: the reference to it, with the next index, live and once in hand. B3 where
+    /// 65,536 objects are live or no index is left, and OutOfMemory where there was no room and
+    /// none could be had. Constant time on average, save where the room has to grow.
     pub fn export(&mut self) -> Result<WireRep, TableError>
         ensures rep { IfOk result (λ rep. rep ≡ own self.old (self.old.exported + 1)) }
         ensures exported { IfOk result (λ rep. Becomes self.old self.new rep exported_standing) }
@@ -224,11 +251,12 @@ impl ObjectTable {
         Ok(self.objects.push(self.me, Counts { hand: 1, lent: 0 }))
     }
 
-    /// Withdraws a live object that nothing holds. B1 where no live object has the index, B4 where it is held.
-    /// It takes no memory. Over all calls constant time on average: a withdrawal that leaves fewer objects than empty
-    /// slots clears these, linear in both.
+    /// Withdraws a live object that nothing holds. B1 where no live object has the index, B4 where
+    /// it is held. It takes no memory. Over all calls constant time on average: a withdrawal that
+    /// leaves fewer objects than empty slots clears these, linear in both.
     pub fn withdraw(&mut self, index: u64) -> Result<(), TableFault>
-        ensures answer { MatchResult result (λ _. withdraw_fault self.old index ≡ None) (λ fault. withdraw_fault self.old index ≡ Some fault) }
+        ensures answer { MatchResult result (λ _. withdraw_fault self.old index ≡ None)
+            (λ fault. withdraw_fault self.old index ≡ Some fault) }
         ensures withdrawn { OnOk result (Becomes self.old self.new (own self.old index) withdrawn) }
         ensures live { OnOk result (live self.new + 1 ≡ live self.old) }
         ensures left { WithdrawalLeaves self.old self.new }
@@ -248,23 +276,26 @@ impl ObjectTable {
         Ok(())
     }
 
-    /// A Dirty for the reference is sent: it is a pending surrogate, the last in order. B1 where the space can't
-    /// have a surrogate of it, since it is its own or an agent's; B3 where there are 65,536 surrogates on open
-    /// sessions; B4 where it is a surrogate already, or lost and still held. Constant time on average, save where the
-    /// room has to grow. The caller's condition: the Dirties sent can be counted in 128 bits.
+    /// A Dirty for the reference is sent: it is a pending surrogate, the last in order. B1 where
+    /// the space can't have a surrogate of it, since it is its own or an agent's; B3 where there
+    /// are 65,536 surrogates on open sessions; B4 where it is a surrogate already, or lost and
+    /// still held. Constant time on average, save where the room has to grow. The caller's
+    /// condition: the Dirties sent can be counted in 128 bits.
     pub fn pending(&mut self, rep: WireRep) -> Result<(), TableError>
         requires { self.old.dirties + 1 < 2 ^ 128 }
         ensures pending { OnOk result (Becomes self.old self.new rep pending_standing) }
         ensures place { OnOk result (Places self.old self.new rep (Some self.old.dirties)) }
         ensures dirties { OnOk result (self.new.dirties ≡ self.old.dirties + 1) }
         ensures count { OnOk result (surrogate_total self.new ≡ surrogate_total self.old + 1) }
-        ensures order { OnOk result ((reps : List WireRep) → IsOrder self.old reps → IsOrder self.new (reps ++ rep ∷ [])) }
+        ensures order { OnOk result ((reps : List WireRep) → IsOrder self.old reps
+            → IsOrder self.new (reps ++ rep ∷ [])) }
         ensures room { self.old.surrogate_room ≤ self.new.surrogate_room + 1 }
         ensures left { SameObjects self.old self.new }
         ensures accepted { OnOk result (pending_fault self.old rep ≡ None) }
         ensures refused { IfErr result (IsRefusal (pending_fault self.old rep)) }
         ensures err { OnErr result (Stays self.old self.new) }
-        ensures succeeds { 0 < self.old.surrogate_room → pending_fault self.old rep ≡ None → IsOk result }
+        ensures succeeds { 0 < self.old.surrogate_room → pending_fault self.old rep ≡ None
+            → IsOk result }
     {
         if rep.owner == self.me || rep.index == 0 {
             return Err(TableError::Fault(TableFault::Absent));
@@ -280,43 +311,54 @@ impl ObjectTable {
         Ok(())
     }
 
-    /// The owner has granted the pending reference. B1 where it isn't pending. Constant time on average.
+    /// The owner has granted the pending reference. B1 where it isn't pending. Constant time on
+    /// average.
     pub fn grant(&mut self, rep: WireRep) -> Result<(), TableFault>
-        ensures answer { MatchResult result (λ _. answer_fault self.old rep ≡ None) (λ fault. answer_fault self.old rep ≡ Some fault) }
-        ensures granted { OnOk result (Becomes self.old self.new rep (in_state State.Granted (standing self.old rep))) }
+        ensures answer { MatchResult result (λ _. answer_fault self.old rep ≡ None)
+            (λ fault. answer_fault self.old rep ≡ Some fault) }
+        ensures granted { OnOk result (Becomes self.old self.new rep
+            (in_state State.Granted (standing self.old rep))) }
         ensures left { ChangeLeaves self.old self.new }
         ensures err { OnErr result (Stays self.old self.new) }
     {
         self.answer(rep, Grant::Given)
     }
 
-    /// The owner has refused the pending reference. B1 where it isn't pending. Constant time on average.
+    /// The owner has refused the pending reference. B1 where it isn't pending. Constant time on
+    /// average.
     pub fn refuse(&mut self, rep: WireRep) -> Result<(), TableFault>
-        ensures answer { MatchResult result (λ _. answer_fault self.old rep ≡ None) (λ fault. answer_fault self.old rep ≡ Some fault) }
-        ensures refused { OnOk result (Becomes self.old self.new rep (in_state State.Refused (standing self.old rep))) }
+        ensures answer { MatchResult result (λ _. answer_fault self.old rep ≡ None)
+            (λ fault. answer_fault self.old rep ≡ Some fault) }
+        ensures refused { OnOk result (Becomes self.old self.new rep
+            (in_state State.Refused (standing self.old rep))) }
         ensures left { ChangeLeaves self.old self.new }
         ensures err { OnErr result (Stays self.old self.new) }
     {
         self.answer(rep, Grant::Denied)
     }
 
-    /// The first surrogate in the order of the last Dirties, from this place on, that is granted and without holds, with
-    /// its place. Linear in the surrogates that it passes: of each owner those from the place on, up to the first such one.
+    /// The first surrogate in the order of the last Dirties, from this place on, that is granted
+    /// and without holds, with its place. Linear in the surrogates that it passes: of each owner
+    /// those from the place on, up to the first such one.
     pub fn first_idle(&self, place: u128) -> Option<(u128, WireRep)>
-        ensures first { MatchOption result (NoneIdle self.now place self.now.dirties) (λ found. IsFirstIdle self.now place found.0 found.1) }
+        ensures first { MatchOption result (NoneIdle self.now place self.now.dirties)
+            (λ found. IsFirstIdle self.now place found.0 found.1) }
         ensures sent { IfSome result (λ found. found.0 < self.now.dirties) }
     {
         self.peers.first_idle(place)
     }
 
-    /// A Clean for the surrogate is sent: the table forgets it, and the others keep their places. B1 where it
-    /// isn't granted, B4 where it is held. Linear in the surrogates of the same owner behind it.
+    /// A Clean for the surrogate is sent: the table forgets it, and the others keep their places.
+    /// B1 where it isn't granted, B4 where it is held. Linear in the surrogates of the same owner
+    /// behind it.
     pub fn remove(&mut self, rep: WireRep) -> Result<(), TableFault>
-        ensures answer { MatchResult result (λ _. remove_fault self.old rep ≡ None) (λ fault. remove_fault self.old rep ≡ Some fault) }
+        ensures answer { MatchResult result (λ _. remove_fault self.old rep ≡ None)
+            (λ fault. remove_fault self.old rep ≡ Some fault) }
         ensures removed { OnOk result (Becomes self.old self.new rep unknown) }
         ensures place { OnOk result (Places self.old self.new rep None) }
         ensures count { OnOk result (surrogate_total self.new + 1 ≡ surrogate_total self.old) }
-        ensures order { OnOk result ((reps : List WireRep) → IsOrder self.old reps → IsOrder self.new (filter (λ other. not (is_same rep other)) reps)) }
+        ensures order { OnOk result ((reps : List WireRep) → IsOrder self.old reps
+            → IsOrder self.new (filter (λ other. not (is_same rep other)) reps)) }
         ensures left { RemovalLeaves self.old self.new }
         ensures err { OnErr result (Stays self.old self.new) }
     {
@@ -332,13 +374,19 @@ impl ObjectTable {
         Ok(())
     }
 
-    /// The session with the owner has closed: each of its surrogates is lost, and forgotten where nothing holds
-    /// it. The others keep their places. Linear in the references of this owner (and in the room made for them).
+    /// The session with the owner has closed: each of its surrogates is lost, and forgotten where
+    /// nothing holds it. The others keep their places. Linear in the references of this owner (and
+    /// in the room made for them).
     pub fn close(&mut self, owner: SpaceId)
-        ensures closed { (rep : WireRep) → standing self.new rep ≡ (if is_of self.old owner rep then after_close (standing self.old rep) else standing self.old rep) }
-        ensures places { (rep : WireRep) → place_of self.new rep ≡ (if rep.owner == owner then None else place_of self.old rep) }
-        ensures count { surrogate_total self.new ≡ length (filter (λ rep. not (rep.owner == owner)) (surrogate_reps self.old)) }
-        ensures order { (reps : List WireRep) → IsOrder self.old reps → IsOrder self.new (filter (λ rep. not (rep.owner == owner)) reps) }
+        ensures closed { (rep : WireRep)
+            → standing self.new rep ≡ (if is_of self.old owner rep then after_close
+            (standing self.old rep) else standing self.old rep) }
+        ensures places { (rep : WireRep)
+            → place_of self.new rep ≡ (if rep.owner == owner then None else place_of self.old rep) }
+        ensures count { surrogate_total self.new
+            ≡ length (filter (λ rep. not (rep.owner == owner)) (surrogate_reps self.old)) }
+        ensures order { (reps : List WireRep) → IsOrder self.old reps
+            → IsOrder self.new (filter (λ rep. not (rep.owner == owner)) reps) }
         ensures left { RemovalLeaves self.old self.new }
     {
         self.peers.close(owner);
@@ -346,8 +394,10 @@ impl ObjectTable {
 
     // Writes the owner's answer to a pending reference.
     fn answer(&mut self, rep: WireRep, grant: Grant) -> Result<(), TableFault>
-        ensures answer { MatchResult result (λ _. answer_fault self.old rep ≡ None) (λ fault. answer_fault self.old rep ≡ Some fault) }
-        ensures answered { OnOk result (Becomes self.old self.new rep (in_state (state_of grant) (standing self.old rep))) }
+        ensures answer { MatchResult result (λ _. answer_fault self.old rep ≡ None)
+            (λ fault. answer_fault self.old rep ≡ Some fault) }
+        ensures answered { OnOk result (Becomes self.old self.new rep
+            (in_state (state_of grant) (standing self.old rep))) }
         ensures left { ChangeLeaves self.old self.new }
         ensures err { OnErr result (Stays self.old self.new) }
     {
@@ -363,8 +413,10 @@ impl ObjectTable {
     // Writes the counts of a reference that has some.
     fn write(&mut self, rep: &WireRep, counts: Counts)
         requires known { IsTrue (is_known (standing self.old rep.now).state) }
-        requires held { IsTrue (is_lost (standing self.old rep.now).state) → IsTrue (is_held counts) }
-        ensures written { Becomes self.old self.new rep.now (with_counts counts (standing self.old rep.now)) }
+        requires held { IsTrue (is_lost (standing self.old rep.now).state)
+            → IsTrue (is_held counts) }
+        ensures written { Becomes self.old self.new rep.now
+            (with_counts counts (standing self.old rep.now)) }
         ensures left { ChangeLeaves self.old self.new }
     {
         if rep.owner == self.me {

@@ -23,11 +23,13 @@ use nob_model_text::{Unread, number_at, refusal_of};
 use nob_model_types::{Answer, Event, Refusal};
 use std::alloc::Global;
 
-/// The entry that a line of a trace spells, without its newline. Only memory and a line that spells none fail it. It
-/// costs time and memory in proportion to the line, and recurses once for each level of a value.
+/// The entry that a line of a trace spells, without its newline. Only memory and a line that spells
+/// none fail it. It costs time and memory in proportion to the line, and recurses once for each
+/// level of a value.
 pub fn entry_of(alloc: Global, line: &[u8]) -> Result<Stamped, Unread>
     ensures found { IfOk result (λ entry. IsTraced entry × (line.now ≡ entry_text entry)) }
-    ensures only { (entry : StampedOf) → IsTraced entry → line.now ≡ entry_text entry → Reads (λ e. e ≡ entry) result }
+    ensures only { (entry : StampedOf) → IsTraced entry → line.now ≡ entry_text entry
+        → Reads (λ e. e ≡ entry) result }
 {
     let (stamp, behind) = number_at(alloc, line)?;
     let (event, answer) = sides_of(after_space(behind)?)?;
@@ -61,8 +63,10 @@ fn sides_of(text: &[u8]) -> Result<(&[u8], &[u8]), Unread>
 
 // The event of a trace that a text spells.
 fn traced_event(alloc: Global, text: &[u8]) -> Result<Event, Unread>
-    ensures found { IfOk result (λ event. IsTracedEvent event × (text.now ≡ event_text (arrival_text event) event)) }
-    ensures only { (event : EventOf) → IsTracedEvent event → text.now ≡ event_text (arrival_text event) event → Reads (λ e. e ≡ event) result }
+    ensures found { IfOk result (λ event. IsTracedEvent event
+        × (text.now ≡ event_text (arrival_text event) event)) }
+    ensures only { (event : EventOf) → IsTracedEvent event
+        → text.now ≡ event_text (arrival_text event) event → Reads (λ e. e ≡ event) result }
 {
     match after_arrive(text) {
         Some(rest) => arrival_of(alloc, rest),
@@ -72,7 +76,8 @@ fn traced_event(alloc: Global, text: &[u8]) -> Result<Event, Unread>
 
 // What follows the word of an arrival with which a text begins.
 fn after_arrive(text: &[u8]) -> Option<&[u8]>
-    ensures { MatchOption result ((rest : List ℕ) → text.now ≡ codes "arrive " ++ rest → ⊥) (λ rest. text.now ≡ codes "arrive " ++ rest.now) }
+    ensures { MatchOption result ((rest : List ℕ) → text.now ≡ codes "arrive " ++ rest → ⊥)
+        (λ rest. text.now ≡ codes "arrive " ++ rest.now) }
 {
     match text {
         [b'a', b'r', b'r', b'i', b'v', b'e', b' ', rest @ ..] => Some(rest),
@@ -82,8 +87,10 @@ fn after_arrive(text: &[u8]) -> Option<&[u8]>
 
 // The arrival that a text spells behind its word.
 fn arrival_of(alloc: Global, text: &[u8]) -> Result<Event, Unread>
-    ensures found { IfOk result (λ event. IsTracedEvent event × (codes "arrive " ++ text.now ≡ event_text (arrival_text event) event)) }
-    ensures only { (frame : FrameOf) → IsFramed frame → text.now ≡ frame_text frame → Reads (λ e. e ≡ Event.Arrive frame) result }
+    ensures found { IfOk result (λ event. IsTracedEvent event
+        × (codes "arrive " ++ text.now ≡ event_text (arrival_text event) event)) }
+    ensures only { (frame : FrameOf) → IsFramed frame → text.now ≡ frame_text frame
+        → Reads (λ e. e ≡ Event.Arrive frame) result }
 {
     match whole_frame(alloc, text) {
         Ok(frame) => Ok(Event::Arrive(frame)),
@@ -93,8 +100,10 @@ fn arrival_of(alloc: Global, text: &[u8]) -> Result<Event, Unread>
 
 // The event of a script that a text spells.
 fn script_event(alloc: Global, text: &[u8]) -> Result<Event, Unread>
-    ensures found { IfOk result (λ event. IsTracedEvent event × (text.now ≡ event_text (arrival_text event) event)) }
-    ensures only { (event : EventOf) → IsSpoken event → text.now ≡ event_text [] event → Reads (λ e. e ≡ event) result }
+    ensures found { IfOk result (λ event. IsTracedEvent event
+        × (text.now ≡ event_text (arrival_text event) event)) }
+    ensures only { (event : EventOf) → IsSpoken event → text.now ≡ event_text [] event
+        → Reads (λ e. e ≡ event) result }
 {
     match whole_event(alloc, text) {
         Ok(event) => Ok(event),
@@ -104,8 +113,10 @@ fn script_event(alloc: Global, text: &[u8]) -> Result<Event, Unread>
 
 // The result in a trace that a text spells.
 fn traced_result(alloc: Global, text: &[u8]) -> Result<Result<Answer, Refusal>, Unread>
-    ensures found { IfOk result (λ response. IsTracedResult response × (text.now ≡ result_text response)) }
-    ensures only { (response : ResultOf AnswerOf RefusalOf) → IsTracedResult response → text.now ≡ result_text response → Reads (λ r. r ≡ response) result }
+    ensures found { IfOk result (λ response. IsTracedResult response
+        × (text.now ≡ result_text response)) }
+    ensures only { (response : ResultOf AnswerOf RefusalOf) → IsTracedResult response
+        → text.now ≡ result_text response → Reads (λ r. r ≡ response) result }
 {
     if begins_as_refusal(text) {
         return refusal_result(text);
@@ -140,8 +151,10 @@ fn begins_as_frames(text: &[u8]) -> bool
 
 // The refusal that a text spells, as a result. It takes no memory.
 fn refusal_result(text: &[u8]) -> Result<Result<Answer, Refusal>, Unread>
-    ensures found { IfOk result (λ response. IsTracedResult response × (text.now ≡ result_text response)) }
-    ensures only { (refusal : RefusalOf) → text.now ≡ result_text (Err refusal) → Reads (λ r. r ≡ Err refusal) result }
+    ensures found { IfOk result (λ response. IsTracedResult response
+        × (text.now ≡ result_text response)) }
+    ensures only { (refusal : RefusalOf) → text.now ≡ result_text (Err refusal)
+        → Reads (λ r. r ≡ Err refusal) result }
 {
     match refusal_of(text) {
         Some(refusal) => Ok(Err(refusal)),
@@ -151,8 +164,11 @@ fn refusal_result(text: &[u8]) -> Result<Result<Answer, Refusal>, Unread>
 
 // The frames that a text spells, as a result.
 fn frames_result(alloc: Global, text: &[u8]) -> Result<Result<Answer, Refusal>, Unread>
-    ensures found { IfOk result (λ response. IsTracedResult response × (text.now ≡ result_text response)) }
-    ensures only { (frames : List FrameOf) → IsTracedResult (Ok (Answer.Frames frames)) → text.now ≡ result_text (Ok (Answer.Frames frames)) → Reads (λ r. r ≡ Ok (Answer.Frames frames)) result }
+    ensures found { IfOk result (λ response. IsTracedResult response
+        × (text.now ≡ result_text response)) }
+    ensures only { (frames : List FrameOf) → IsTracedResult (Ok (Answer.Frames frames))
+        → text.now ≡ result_text (Ok (Answer.Frames frames))
+        → Reads (λ r. r ≡ Ok (Answer.Frames frames)) result }
 {
     match whole_frames(alloc, text) {
         Ok(frames) => Ok(Ok(Answer::Frames(frames))),
@@ -162,8 +178,10 @@ fn frames_result(alloc: Global, text: &[u8]) -> Result<Result<Answer, Refusal>, 
 
 // The answer without frames that a text spells, as a result.
 fn answer_result(alloc: Global, text: &[u8]) -> Result<Result<Answer, Refusal>, Unread>
-    ensures found { IfOk result (λ response. IsTracedResult response × (text.now ≡ result_text response)) }
-    ensures only { (answer : AnswerOf) → IsTold answer → text.now ≡ answer_text [] answer → Reads (λ r. r ≡ Ok answer) result }
+    ensures found { IfOk result (λ response. IsTracedResult response
+        × (text.now ≡ result_text response)) }
+    ensures only { (answer : AnswerOf) → IsTold answer → text.now ≡ answer_text [] answer
+        → Reads (λ r. r ≡ Ok answer) result }
 {
     match whole_answer(alloc, text) {
         Ok(answer) => Ok(Ok(answer)),

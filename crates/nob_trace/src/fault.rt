@@ -6,8 +6,8 @@ ghost use Rattle.nob_trace.specs.declared.fault.TraceError.TheVariants.{Fault, O
 use std::alloc::{AllocError, AllocFailed};
 use thiserror::Error;
 
-/// What is wrong with the text of a trace, at the first line that isn't as it should be, or with a trace that is to
-/// be written.
+/// What is wrong with the text of a trace, at the first line that isn't as it should be, or with a
+/// trace that is to be written.
 #[derive(Clone, Copy, Debug, PartialEq, Eq, Error)]
 pub enum TraceFault {
     /// R1: the first line isn't whole, or fewer whole lines follow than it says.

@@ -18,7 +18,8 @@ use std::alloc::Global;
 // The frame that a text spells.
 pub fn whole_frame(alloc: Global, text: &[u8]) -> Result<Frame, Unread>
     ensures found { IfOk result (λ frame. IsFramed frame × (text.now ≡ frame_text frame)) }
-    ensures only { (frame : FrameOf) → IsFramed frame → text.now ≡ frame_text frame → Reads (λ f. f ≡ frame) result }
+    ensures only { (frame : FrameOf) → IsFramed frame → text.now ≡ frame_text frame
+        → Reads (λ f. f ≡ frame) result }
 {
     let (frame, rest) = frame_at(alloc, text)?;
     if !rest.is_empty() {
@@ -29,8 +30,10 @@ pub fn whole_frame(alloc: Global, text: &[u8]) -> Result<Frame, Unread>
 
 // The frames of a transmit that a text spells.
 pub fn whole_frames(alloc: Global, text: &[u8]) -> Result<Frames, Unread>
-    ensures found { IfOk result (λ frames. AllByRecursion IsFramed frames × (text.now ≡ frames_text frames)) }
-    ensures only { (frames : List FrameOf) → AllByRecursion IsFramed frames → text.now ≡ frames_text frames → Reads (λ fs. fs ≡ frames) result }
+    ensures found { IfOk result (λ frames. AllByRecursion IsFramed frames
+        × (text.now ≡ frames_text frames)) }
+    ensures only { (frames : List FrameOf) → AllByRecursion IsFramed frames
+        → text.now ≡ frames_text frames → Reads (λ fs. fs ≡ frames) result }
 {
     if text == b"frames none".as_slice() {
         return Ok(Frames::from_vec(Vec::new(alloc)));
@@ -44,8 +47,10 @@ pub fn whole_frames(alloc: Global, text: &[u8]) -> Result<Frames, Unread>
 
 // The frames, each behind a space, that a text spells.
 fn spaced_frames(alloc: Global, text: &[u8]) -> Result<Frames, Unread>
-    ensures found { IfOk result (λ frames. AllByRecursion IsFramed frames × (text.now ≡ spaced_text frames)) }
-    ensures only { (frames : List FrameOf) → AllByRecursion IsFramed frames → text.now ≡ spaced_text frames → Reads (λ fs. fs ≡ frames) result }
+    ensures found { IfOk result (λ frames. AllByRecursion IsFramed frames
+        × (text.now ≡ spaced_text frames)) }
+    ensures only { (frames : List FrameOf) → AllByRecursion IsFramed frames
+        → text.now ≡ spaced_text frames → Reads (λ fs. fs ≡ frames) result }
 {
     let mut frames = Vec::new(alloc);
     let mut left = text;
@@ -59,8 +64,10 @@ fn spaced_frames(alloc: Global, text: &[u8]) -> Result<Frames, Unread>
 
 // The frame at the front of a text, and what is left.
 fn frame_at(alloc: Global, text: &[u8]) -> Result<(Frame, &[u8]), Unread>
-    ensures found { IfOk result (λ parts. IsFramed parts.0 × (text.now ≡ frame_text parts.0 ++ parts.1.now)) }
-    ensures only { (frame : FrameOf) (rest : List ℕ) → IsFramed frame → Stops rest → text.now ≡ frame_text frame ++ rest
+    ensures found { IfOk result (λ parts. IsFramed parts.0
+        × (text.now ≡ frame_text parts.0 ++ parts.1.now)) }
+    ensures only { (frame : FrameOf) (rest : List ℕ) → IsFramed frame → Stops rest
+        → text.now ≡ frame_text frame ++ rest
         → Reads (λ parts. (parts.0 ≡ frame) × (parts.1.now ≡ rest)) result }
 {
     let (bytes, rest) = bytes_at(alloc, text)?;

@@ -15,7 +15,8 @@ use std::alloc::Global;
 // What a first line says.
 pub fn head_of(alloc: Global, line: &[u8]) -> Result<Head, Unread>
     ensures found { IfOk result (λ head. spec.IsHead head × (line.now ≡ spec.head_text head)) }
-    ensures only { (head : HeadOf) → spec.IsHead head → line.now ≡ spec.head_text head → Reads (λ h. h ≡ head) result }
+    ensures only { (head : HeadOf) → spec.IsHead head → line.now ≡ spec.head_text head
+        → Reads (λ h. h ≡ head) result }
 {
     let (space, n, behind) = numbers_at(alloc, line)?;
     let Some(space) = space_of(space) else {
@@ -34,9 +35,12 @@ pub fn head_of(alloc: Global, line: &[u8]) -> Result<Head, Unread>
     })
 }
 
-// The numbers of the space and of how many there are at the front of a first line, and what is left.
+// The numbers of the space and of how many there are at the front of a first line, and what is
+// left.
 fn numbers_at(alloc: Global, text: &[u8]) -> Result<(u64, u64, &[u8]), Unread>
-    ensures found { IfOk result (λ parts. text.now ≡ codes "trace " ++ (decimal parts.0 ++ (codes " of " ++ (decimal parts.1 ++ parts.2.now)))) }
+    ensures found { IfOk result (λ parts. text.now
+        ≡ codes "trace " ++ (decimal parts.0 ++
+        (codes " of " ++ (decimal parts.1 ++ parts.2.now)))) }
     ensures only { (space n : ℕ) (rest : List ℕ) → space < 2 ^ 64 → n < 2 ^ 64 → Stops rest
         → text.now ≡ codes "trace " ++ (decimal space ++ (codes " of " ++ (decimal n ++ rest)))
         → Reads (λ parts. (parts.0 ≡ space) × (parts.1 ≡ n) × (parts.2.now ≡ rest)) result }

@@ -21,12 +21,16 @@ use crate::trace::{Entries, Trace};
 use nob_model_text::Unread;
 use std::alloc::Global;
 
-/// The traces that a text is, one after the other, or what the first line that isn't as it should be is refused for:
-/// R1, R2 or R3. An empty text is no traces. It costs time and memory in proportion to the text.
+/// The traces that a text is, one after the other, or what the first line that isn't as it should
+/// be is refused for: R1, R2 or R3. An empty text is no traces. It costs time and memory in
+/// proportion to the text.
 pub fn decode_all(alloc: Global, text: &[u8]) -> Result<Vec<Trace>, TraceError>
-    ensures found { spec.Answers (λ all. AllByRecursion traces.IsTrace all.items × (text.now ≡ flat_map traces.trace_text all.items))
-        (λ fault. (all : List TraceOf) × (left : List ℕ) × spec.TracesProblem text.now fault all left) result }
-    ensures only { (all : List TraceOf) → AllByRecursion traces.IsTrace all → text.now ≡ flat_map traces.trace_text all → spec.Finds (λ r. r.items ≡ all) result }
+    ensures found { spec.Answers (λ all. AllByRecursion traces.IsTrace all.items
+        × (text.now ≡ flat_map traces.trace_text all.items))
+        (λ fault. (all : List TraceOf) × (left : List ℕ)
+        × spec.TracesProblem text.now fault all left) result }
+    ensures only { (all : List TraceOf) → AllByRecursion traces.IsTrace all
+        → text.now ≡ flat_map traces.trace_text all → spec.Finds (λ r. r.items ≡ all) result }
 {
     let mut all = Vec::new(alloc);
     let mut left = text;
@@ -38,11 +42,14 @@ pub fn decode_all(alloc: Global, text: &[u8]) -> Result<Vec<Trace>, TraceError>
     Ok(all)
 }
 
-/// The one trace that a text is, or what the first line that isn't as it should be is refused for: R1 to R4. It costs
-/// time and memory in proportion to the text, and recurses once for each level of a value.
+/// The one trace that a text is, or what the first line that isn't as it should be is refused for:
+/// R1 to R4. It costs time and memory in proportion to the text, and recurses once for each level
+/// of a value.
 pub fn decode(alloc: Global, text: &[u8]) -> Result<Trace, TraceError>
-    ensures found { spec.Answers (λ trace. traces.IsTrace trace × (text.now ≡ traces.trace_text trace)) (λ fault. spec.TraceProblem text.now fault) result }
-    ensures only { (trace : TraceOf) → traces.IsTrace trace → text.now ≡ traces.trace_text trace → spec.Finds (λ t. t ≡ trace) result }
+    ensures found { spec.Answers (λ trace. traces.IsTrace trace
+        × (text.now ≡ traces.trace_text trace)) (λ fault. spec.TraceProblem text.now fault) result }
+    ensures only { (trace : TraceOf) → traces.IsTrace trace → text.now ≡ traces.trace_text trace
+        → spec.Finds (λ t. t ≡ trace) result }
 {
     let (trace, rest) = trace_at(alloc, text)?;
     if !rest.is_empty() {
@@ -51,11 +58,14 @@ pub fn decode(alloc: Global, text: &[u8]) -> Result<Trace, TraceError>
     Ok(trace)
 }
 
-/// The trace with which a text begins and what is left, or what the first line that isn't as it should be is refused
-/// for: R1, R2 or R3. It costs time and memory in proportion to the trace.
+/// The trace with which a text begins and what is left, or what the first line that isn't as it
+/// should be is refused for: R1, R2 or R3. It costs time and memory in proportion to the trace.
 pub fn trace_at(alloc: Global, text: &[u8]) -> Result<(Trace, &[u8]), TraceError>
-    ensures found { spec.Answers (λ parts. traces.IsTrace parts.0 × (text.now ≡ traces.trace_text parts.0 ++ parts.1.now)) (λ fault. spec.TextFault text.now fault) result }
-    ensures only { (trace : TraceOf) (rest : List ℕ) → traces.IsTrace trace → text.now ≡ traces.trace_text trace ++ rest
+    ensures found { spec.Answers (λ parts. traces.IsTrace parts.0
+        × (text.now ≡ traces.trace_text parts.0 ++ parts.1.now))
+        (λ fault. spec.TextFault text.now fault) result }
+    ensures only { (trace : TraceOf) (rest : List ℕ) → traces.IsTrace trace
+        → text.now ≡ traces.trace_text trace ++ rest
         → spec.Finds (λ parts. (parts.0 ≡ trace) × (parts.1.now ≡ rest)) result }
 {
     let Some((line, lines)) = whole_line(text) else {
@@ -76,8 +86,10 @@ pub fn trace_at(alloc: Global, text: &[u8]) -> Result<(Trace, &[u8]), TraceError
 
 // The first line that a line spells, or R2.
 fn spelt_head(alloc: Global, line: &[u8]) -> Result<Head, TraceError>
-    ensures found { spec.Answers (λ head. traces.IsHead head × (line.now ≡ traces.head_text head)) (λ fault. (fault ≡ faults.Entry) × spec.IsNoHead line.now) result }
-    ensures only { (head : HeadOf) → traces.IsHead head → line.now ≡ traces.head_text head → spec.Finds (λ h. h ≡ head) result }
+    ensures found { spec.Answers (λ head. traces.IsHead head × (line.now ≡ traces.head_text head))
+        (λ fault. (fault ≡ faults.Entry) × spec.IsNoHead line.now) result }
+    ensures only { (head : HeadOf) → traces.IsHead head → line.now ≡ traces.head_text head
+        → spec.Finds (λ h. h ≡ head) result }
 {
     match head_of(alloc, line) {
         Ok(head) => Ok(head),
@@ -88,8 +100,11 @@ fn spelt_head(alloc: Global, line: &[u8]) -> Result<Head, TraceError>
 
 // The entry that a line spells, or R2.
 fn spelt_entry(alloc: Global, line: &[u8]) -> Result<Stamped, TraceError>
-    ensures found { spec.Answers (λ entry. entries.IsTraced entry × (line.now ≡ entries.entry_text entry)) (λ fault. (fault ≡ faults.Entry) × spec.IsNoEntry line.now) result }
-    ensures only { (entry : StampedOf) → entries.IsTraced entry → line.now ≡ entries.entry_text entry → spec.Finds (λ e. e ≡ entry) result }
+    ensures found { spec.Answers (λ entry. entries.IsTraced entry
+        × (line.now ≡ entries.entry_text entry))
+        (λ fault. (fault ≡ faults.Entry) × spec.IsNoEntry line.now) result }
+    ensures only { (entry : StampedOf) → entries.IsTraced entry
+        → line.now ≡ entries.entry_text entry → spec.Finds (λ e. e ≡ entry) result }
 {
     match entry_of(alloc, line) {
         Ok(entry) => Ok(entry),
@@ -100,9 +115,12 @@ fn spelt_entry(alloc: Global, line: &[u8]) -> Result<Stamped, TraceError>
 
 // So many entries, whose stamps rise, at the front of lines, and what is left; or R1, R2 or R3.
 fn entries_at(alloc: Global, text: &[u8], count: u64) -> Result<(Entries, &[u8]), TraceError>
-    ensures found { spec.Answers (λ parts. (length parts.0 ≡ count) × Rise 0 parts.0 × AllByRecursion entries.IsTraced parts.0 × (text.now ≡ traces.entries_text parts.0 ++ parts.1.now))
+    ensures found { spec.Answers (λ parts. (length parts.0 ≡ count) × Rise 0 parts.0
+        × AllByRecursion entries.IsTraced parts.0
+        × (text.now ≡ traces.entries_text parts.0 ++ parts.1.now))
         (λ fault. spec.EntriesFault text.now count fault) result }
-    ensures only { (all : List StampedOf) (rest : List ℕ) → length all ≡ count → Rise 0 all → AllByRecursion entries.IsTraced all → text.now ≡ traces.entries_text all ++ rest
+    ensures only { (all : List StampedOf) (rest : List ℕ) → length all ≡ count → Rise 0 all
+        → AllByRecursion entries.IsTraced all → text.now ≡ traces.entries_text all ++ rest
         → spec.Finds (λ parts. (parts.0 ≡ all) × (parts.1.now ≡ rest)) result }
 {
     let mut all = Entries::new(alloc);

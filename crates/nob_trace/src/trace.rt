@@ -58,8 +58,8 @@ impl Entries {
         }
     }
 
-    /// Adds an entry whose stamp is above the last one. Only memory fails it, and then the entry is gone and the
-    /// others are as they were.
+    /// Adds an entry whose stamp is above the last one. Only memory fails it, and then the entry is
+    /// gone and the others are as they were.
     pub fn push(&mut self, entry: Stamped) -> Result<(), AllocError>
         requires rise { spec.last_stamp 0 self.old < entry.stamp }
         ensures ok { OnOk result (self.new ≡ self.old ++ entry ∷ []) }

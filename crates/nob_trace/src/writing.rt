@@ -21,11 +21,12 @@ use nob_model_text::{answer_text, event_text, refusal_text};
 use nob_model_types::{Answer, Event, Refusal};
 use std::alloc::{AllocError, Global};
 
-/// The text of a trace, or R2 where a frame in it has no spelling. Want of memory comes where there is room for no
-/// more, whatever stands behind. It costs time and memory in proportion to the text, and recurses once for each level
-/// of a value.
+/// The text of a trace, or R2 where a frame in it has no spelling. Want of memory comes where there
+/// is room for no more, whatever stands behind. It costs time and memory in proportion to the text,
+/// and recurses once for each level of a value.
 pub fn encode(alloc: Global, trace: &Trace) -> Result<String, TraceError>
-    ensures { Writes (λ text. string_bytes text ≡ spec.trace_text trace.now) (spec.IsWritable trace.now) result }
+    ensures { Writes (λ text. string_bytes text ≡ spec.trace_text trace.now)
+        (spec.IsWritable trace.now) result }
 {
     let head = Head {
         space: trace.space,
@@ -53,7 +54,9 @@ fn head_text(alloc: Global, head: &Head) -> Result<String, AllocError>
 
 // Puts the lines of entries behind a text.
 fn put_entries(alloc: Global, text: &mut String, all: &[Stamped]) -> Result<(), TraceError>
-    ensures { Writes (λ _. string_bytes text.new ≡ string_bytes text.old ++ spec.entries_text all.now) (AllByRecursion entries.HasSpelling all.now) result }
+    ensures { Writes (λ _. string_bytes text.new
+        ≡ string_bytes text.old ++ spec.entries_text all.now)
+        (AllByRecursion entries.HasSpelling all.now) result }
 {
     for entry in all {
         let line = entry_text(alloc, entry)?;
@@ -65,7 +68,8 @@ fn put_entries(alloc: Global, text: &mut String, all: &[Stamped]) -> Result<(), 
 
 // The text of an entry.
 fn entry_text(alloc: Global, entry: &Stamped) -> Result<String, TraceError>
-    ensures { Writes (λ text. string_bytes text ≡ entries.entry_text entry.now) (entries.HasSpelling entry.now) result }
+    ensures { Writes (λ text. string_bytes text ≡ entries.entry_text entry.now)
+        (entries.HasSpelling entry.now) result }
 {
     let stamp = entry.stamp;
     let event = traced_event_text(alloc, &entry.event)?;
@@ -75,7 +79,9 @@ fn entry_text(alloc: Global, entry: &Stamped) -> Result<String, TraceError>
 
 // The text of an event in a trace.
 fn traced_event_text(alloc: Global, event: &Event) -> Result<String, TraceError>
-    ensures { Writes (λ text. string_bytes text ≡ events.event_text (entries.arrival_text event.now) event.now) (entries.ArrivalFits event.now) result }
+    ensures { Writes (λ text. string_bytes text
+        ≡ events.event_text (entries.arrival_text event.now) event.now)
+        (entries.ArrivalFits event.now) result }
 {
     match event {
         Event::Arrive(frame) => {
@@ -88,7 +94,8 @@ fn traced_event_text(alloc: Global, event: &Event) -> Result<String, TraceError>
 
 /// The text of a result in a trace, or R2 where a frame in it has no spelling.
 pub fn result_text(alloc: Global, response: &Result<Answer, Refusal>) -> Result<String, TraceError>
-    ensures { Writes (λ text. string_bytes text ≡ entries.result_text response.now) (entries.TransmitFits response.now) result }
+    ensures { Writes (λ text. string_bytes text ≡ entries.result_text response.now)
+        (entries.TransmitFits response.now) result }
 {
     match response {
         Ok(Answer::Frames(list)) => frames_text(alloc, list.as_slice()),
@@ -99,7 +106,8 @@ pub fn result_text(alloc: Global, response: &Result<Answer, Refusal>) -> Result<
 
 // The text of the frames that a transmit gave.
 fn frames_text(alloc: Global, list: &[Frame]) -> Result<String, TraceError>
-    ensures { Writes (λ text. string_bytes text ≡ frames.frames_text list.now) (AllByRecursion Fits list.now) result }
+    ensures { Writes (λ text. string_bytes text ≡ frames.frames_text list.now)
+        (AllByRecursion Fits list.now) result }
 {
     if list.is_empty() {
         return Ok(String::from_str(alloc, "frames none")?);
@@ -111,7 +119,9 @@ fn frames_text(alloc: Global, list: &[Frame]) -> Result<String, TraceError>
 
 // Puts frames, each behind a space, behind a text.
 fn put_frames(alloc: Global, text: &mut String, list: &[Frame]) -> Result<(), TraceError>
-    ensures { Writes (λ _. string_bytes text.new ≡ string_bytes text.old ++ frames.spaced_text list.now) (AllByRecursion Fits list.now) result }
+    ensures { Writes (λ _. string_bytes text.new
+        ≡ string_bytes text.old ++ frames.spaced_text list.now)
+        (AllByRecursion Fits list.now) result }
 {
     for frame in list {
         let spelling = frame_text(alloc, frame)?;
@@ -123,7 +133,8 @@ fn put_frames(alloc: Global, text: &mut String, list: &[Frame]) -> Result<(), Tr
 
 // The text of a frame.
 fn frame_text(alloc: Global, frame: &Frame) -> Result<String, TraceError>
-    ensures { Writes (λ text. string_bytes text ≡ frames.frame_text frame.now) (Fits frame.now) result }
+    ensures { Writes (λ text. string_bytes text ≡ frames.frame_text frame.now)
+        (Fits frame.now) result }
 {
     match nob_frame::encode(alloc, frame) {
         Ok(bytes) => Ok(hex::encode(alloc, bytes.as_slice())?),

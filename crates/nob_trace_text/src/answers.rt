@@ -6,8 +6,8 @@ ghost use Rattle.nob_trace_text.specs.Lines.{bad_step_text};
 
 use std::alloc::{AllocError, Global};
 
-/// Writes a line with a mark and an answer behind it, whole or not at all. Only memory fails it. The caller's condition:
-/// the mark has 3 bytes at most.
+/// Writes a line with a mark and an answer behind it, whole or not at all. Only memory fails it.
+/// The caller's condition: the mark has 3 bytes at most.
 pub fn push_line(
     text: &mut Vec<u8>,
     line: &[u8],
@@ -15,7 +15,8 @@ pub fn push_line(
     answer: &[u8],
 ) -> Result<(), AllocError>
     requires { length mark.now ≤ 3 }
-    ensures ok { OnOk result (text.new.items ≡ text.old.items ++ ((line.now ++ mark.now ++ answer.now) ++ 10 ∷ [])) }
+    ensures ok { OnOk result (text.new.items
+        ≡ text.old.items ++ ((line.now ++ mark.now ++ answer.now) ++ 10 ∷ [])) }
     ensures err { OnErr result (text.new.items ≡ text.old.items) }
 {
     text.reserve(line.len().saturating_add(answer.len()).saturating_add(4))?;

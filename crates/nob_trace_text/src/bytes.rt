@@ -7,11 +7,12 @@ ghost use Rattle.hex.specs.Hex.{encode_lower, IsBytes};
 use hex::FromHexError;
 use std::alloc::{AllocError, Global};
 
-/// The bytes that a text spells, two lower case hexadecimal digits each: `None` where it spells none. Only memory
-/// fails it.
+/// The bytes that a text spells, two lower case hexadecimal digits each: `None` where it spells
+/// none. Only memory fails it.
 pub fn bytes_of(alloc: Global, text: &[u8]) -> Result<Option<Vec<u8>>, AllocError>
     ensures found { IfOk result (λ r. IfSome r (λ bytes. text.now ≡ encode_lower bytes.items)) }
-    ensures only { IfOk result (λ r. (bytes : List ℕ) → IsBytes bytes → text.now ≡ encode_lower bytes → IsSomeOf r bytes) }
+    ensures only { IfOk result (λ r. (bytes : List ℕ) → IsBytes bytes
+        → text.now ≡ encode_lower bytes → IsSomeOf r bytes) }
     ensures bytes { IfOk result (λ r. IfSome r (λ bytes. IsBytes bytes.items)) }
 {
     let Some(bytes) = decoded(alloc, text)? else {
@@ -34,7 +35,8 @@ fn is_spelling(alloc: Global, bytes: &[u8], text: &[u8]) -> Result<bool, AllocEr
 
 // The bytes that a text spells, perhaps in upper case.
 fn decoded(alloc: Global, text: &[u8]) -> Result<Option<Vec<u8>>, AllocError>
-    ensures { IfOk result (λ r. (bytes : List ℕ) → IsBytes bytes → text.now ≡ encode_lower bytes → IsSomeOf r bytes) }
+    ensures { IfOk result (λ r. (bytes : List ℕ) → IsBytes bytes → text.now ≡ encode_lower bytes
+        → IsSomeOf r bytes) }
 {
     match hex::decode(alloc, text) {
         Ok(bytes) => Ok(Some(bytes)),

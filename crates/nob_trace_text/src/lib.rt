@@ -1,4 +1,5 @@
-//! The exact texts of numbers, bytes and lines: each has one spelling, and what is read is what that spelling says.
+//! The exact texts of numbers, bytes and lines: each has one spelling, and what is read is what
+//! that spelling says.
 #![tactic(auto)]
 
 mod answers;

@@ -3,10 +3,12 @@
 ghost use Rattle.std.specs.Prelude.{◌≡◌, ◌<◌, ◌∷◌, [], length, IfSome, MatchOption, position};
 ghost use Rattle.nob_trace_text.specs.Lines as spec;
 
-/// The first line of a text, without its newline, and the text after it: `None` of an empty text, which has no line.
+/// The first line of a text, without its newline, and the text after it: `None` of an empty text,
+/// which has no line.
 #[tactic(auto, using(crate::proofs::LineTexts::newline_first, crate::proofs::LineTexts::newline_none))]
 pub fn first_line(text: &[u8]) -> Option<(&[u8], &[u8])>
-    ensures lines { MatchOption result (text.now ≡ []) (λ parts. spec.lines_of text.now ≡ parts.0.now ∷ spec.lines_of parts.1.now) }
+    ensures lines { MatchOption result (text.now ≡ [])
+        (λ parts. spec.lines_of text.now ≡ parts.0.now ∷ spec.lines_of parts.1.now) }
     ensures shorter { IfSome result (λ parts. length parts.1.now < length text.now) }
 {
     if text.is_empty() {

@@ -5,8 +5,8 @@ ghost use Rattle.std.specs.Fmt.{decimal};
 
 use std::alloc::{AllocError, Global};
 
-/// The number that a text spells, in decimal digits without leading zeros: `None` where it spells none below
-/// 2^64. Only memory fails it.
+/// The number that a text spells, in decimal digits without leading zeros: `None` where it spells
+/// none below 2^64. Only memory fails it.
 pub fn number_of(alloc: Global, text: &[u8]) -> Result<Option<u64>, AllocError>
     ensures found { IfOk result (λ r. IfSome r (λ n. text.now ≡ decimal n)) }
     ensures only { IfOk result (λ r. (n : ℕ) → n < 2 ^ 64 → text.now ≡ decimal n → r ≡ Some n) }

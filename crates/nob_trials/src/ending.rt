@@ -1,5 +1,6 @@
-//! The end of a list: sessions that one end closed are closed, jobs are finished, replies taken, holds given back; then
-//! all that is under way is brought, until nothing is new, and each object is withdrawn.
+//! The end of a list: sessions that one end closed are closed, jobs are finished, replies taken,
+//! holds given back; then all that is under way is brought, until nothing is new, and each object
+//! is withdrawn.
 
 use crate::facts::Facts;
 use crate::steps::space_of;
@@ -107,7 +108,8 @@ fn repeat(
     Ok(())
 }
 
-// Brings what each space has to send to each other, which acts on it; and settles and gives up what there is.
+// Brings what each space has to send to each other, which acts on it; and settles and gives up what
+// there is.
 fn bring_all(world: &mut World, facts: &mut Facts) -> Result<(), AllocError> {
     for place in 0..facts.n {
         let space = space_at(place);

@@ -48,8 +48,8 @@ impl Facts {
         self.replies > 0 && self.settlements > 0 && self.cleanings > 0 && self.withdrawals > 0
     }
 
-    /// Makes a step, and notes what it was answered: whether the space refused it, and why. A step that there is no
-    /// space or no frame for is none. Only memory fails it.
+    /// Makes a step, and notes what it was answered: whether the space refused it, and why. A step
+    /// that there is no space or no frame for is none. Only memory fails it.
     pub fn make(
         &mut self,
         world: &mut World,
@@ -99,7 +99,8 @@ impl Facts {
         Ok(())
     }
 
-    // Notes which session a step closed. One that an arrival closes is that of its frame, which both ends close in the end.
+    // Notes which session a step closed. One that an arrival closes is that of its frame, which
+    // both ends close in the end.
     fn note_close(&mut self, step: &WorldStep) -> Result<(), AllocError> {
         match step {
             WorldStep::Do(space, Event::Act(peer)) => self.closed.push((*space, *peer))?,

@@ -1,5 +1,6 @@
-//! The program `nob_trials`: lists of random steps in worlds of three and four spaces. What happened is judged; and once
-//! what is closed, called and held has been ended, and all is quiet, each object must have been withdrawn.
+//! The program `nob_trials`: lists of random steps in worlds of three and four spaces. What
+//! happened is judged; and once what is closed, called and held has been ended, and all is quiet,
+//! each object must have been withdrawn.
 #![tactic(auto)]
 
 mod ending;

@@ -10,7 +10,8 @@ use std::alloc::{AllocError, Global};
 // So many of the last frames are delivered with preference.
 const LAST_FRAMES: u64 = 12;
 
-/// A random step, where so many frames were transmitted: one of three delivers a frame, mostly one of the last.
+/// A random step, where so many frames were transmitted: one of three delivers a frame, mostly one
+/// of the last.
 pub fn random_step(
     alloc: Global,
     words: &mut Words,
@@ -128,7 +129,8 @@ fn random_value(alloc: Global, words: &mut Words, facts: &Facts) -> Result<Value
     }
 }
 
-// One of the objects, one of the last six mostly; or the agent of the first space, where there is none.
+// One of the objects, one of the last six mostly; or the agent of the first space, where there is
+// none.
 fn random_object(words: &mut Words, facts: &Facts) -> WireRep {
     let objects = facts.objects.as_slice();
     let count = objects.len() as u64;

@@ -1,4 +1,5 @@
-//! Words that look random: x(0) is the seed, each x is made of the one before, and a word is its upper half.
+//! Words that look random: x(0) is the seed, each x is made of the one before, and a word is its
+//! upper half.
 
 // The factor and the summand of the step from one to the next.
 const FACTOR: u64 = 6_364_136_223_846_793_005;

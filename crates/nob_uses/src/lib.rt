@@ -60,7 +60,8 @@ pub fn length_in_front(bytes: &[u8]) -> Option<u16>
     }
 }
 
-/// The value once more, by its pickle: where it has one only memory fails it, and else it is refused as a pickle.
+/// The value once more, by its pickle: where it has one only memory fails it, and else it is
+/// refused as a pickle.
 pub fn by_pickle(alloc: Global, value: &Value) -> Result<Value, PickleError>
     ensures same { IfOk result (λ copy. copy ≡ value.now) }
     ensures exact { PickleGives spelling result (pickle_of value.now) }
@@ -71,8 +72,8 @@ pub fn by_pickle(alloc: Global, value: &Value) -> Result<Value, PickleError>
     nob_pickle::decode(alloc, bytes.as_slice())
 }
 
-/// The frames in front of the bytes, which are the only ones that they can be, or the fault of what stands behind them.
-/// An empty text takes no memory.
+/// The frames in front of the bytes, which are the only ones that they can be, or the fault of what
+/// stands behind them. An empty text takes no memory.
 pub fn frames_of(alloc: Global, bytes: &[u8]) -> Result<Vec<Frame>, FrameError>
     // It is what a new Feed answers to the bytes as its first piece, whatever that leaves.
     ensures answer { (left : Kept) × Answers (λ given. given.items) (Ok []) bytes.now result left }
@@ -86,24 +87,29 @@ pub fn frames_of(alloc: Global, bytes: &[u8]) -> Result<Vec<Frame>, FrameError>
 
 /// The counted references of the item that the bytes spell: else they are refused as an item is.
 pub fn counted_by(alloc: Global, bytes: &[u8]) -> Result<Vec<WireRep>, ItemError>
-    ensures counted { IfOk result (λ refs. (item : ItemOf) × ItemSpelt bytes.now item × (refs.items ≡ counted_in item)) }
-    ensures only { (item : ItemOf) → ItemSpelt bytes.now item → IfOk result (λ refs. refs.items ≡ counted_in item) }
+    ensures counted { IfOk result (λ refs. (item : ItemOf) × ItemSpelt bytes.now item
+        × (refs.items ≡ counted_in item)) }
+    ensures only { (item : ItemOf) → ItemSpelt bytes.now item
+        → IfOk result (λ refs. refs.items ≡ counted_in item) }
     ensures refused { IfErr result (λ e. ItemFails e (item_read bytes.now)) }
     // A note takes no memory.
-    ensures memory { (item : ItemOf) → ItemSpelt bytes.now item → is_note item ≡ true → IsOk result }
+    ensures memory { (item : ItemOf) → ItemSpelt bytes.now item → is_note item ≡ true
+        → IsOk result }
 {
     let item = nob_item::decode(alloc, bytes)?;
     Ok(counted_refs(alloc, &item)?)
 }
 
-/// Hands a note to the end: judged first, then room, then the change, which can't fail. It takes no memory where the
-/// end has room.
+/// Hands a note to the end: judged first, then room, then the change, which can't fail. It takes no
+/// memory where the end has room.
 pub fn send_note(session: &mut Session, note: Vec<u8>) -> Result<ItemNo, SessionError>
     requires { (0 < vec_len note) × (vec_len note ≤ 16384) }
-    ensures next { Answered (λ number. number) result (λ answer. answer ≡ next_of KindOf.Note session.old.end) }
+    ensures next { Answered (λ number. number) result
+        (λ answer. answer ≡ next_of KindOf.Note session.old.end) }
     ensures handed { OnOk result (session.new.end ≡ with_item session.old.end note.items) }
     ensures err { OnErr result (session.new.end ≡ session.old.end) }
-    ensures memory_last { result ≡ Err session_errors.OutOfMemory → IsOk (next_of KindOf.Note session.old.end) }
+    ensures memory_last { result ≡ Err session_errors.OutOfMemory
+        → IsOk (next_of KindOf.Note session.old.end) }
     ensures reserved { 0 < session.old.room → result ≢ Err session_errors.OutOfMemory }
 {
     let _number = session.next(Kind::Note)?;
@@ -111,10 +117,13 @@ pub fn send_note(session: &mut Session, note: Vec<u8>) -> Result<ItemNo, Session
     session.send(note, Kind::Note)
 }
 
-/// Withdraws the first object from an index on that nothing holds: its index, or `None` where there is none.
+/// Withdraws the first object from an index on that nothing holds: its index, or `None` where there
+/// is none.
 pub fn withdraw_first(table: &mut ObjectTable, from: u64) -> Option<u64>
-    ensures first { MatchOption result (NeverUnheld table.old from) (λ index. IsFirstUnheld table.old from index) }
-    ensures withdrawn { IfSome result (λ index. Becomes table.old table.new (own table.old index) withdrawn) }
+    ensures first { MatchOption result (NeverUnheld table.old from)
+        (λ index. IsFirstUnheld table.old from index) }
+    ensures withdrawn { IfSome result (λ index.
+        Becomes table.old table.new (own table.old index) withdrawn) }
     ensures none { result ≡ None → table.new ≡ table.old }
     ensures left { WithdrawalLeaves table.old table.new }
 {
@@ -134,11 +143,13 @@ pub fn clean_last(sets: &mut DirtySets, index: u64, client: SpaceId) -> bool
     sets.is_empty(index)
 }
 
-/// Ends the pins of the item that a note of this peer settles: false where it is no Settle, G1 where there are none.
+/// Ends the pins of the item that a note of this peer settles: false where it is no Settle, G1
+/// where there are none.
 pub fn settle_by(pins: &mut PinTable, peer: SpaceId, note: &Item) -> Result<bool, PinFault>
     ensures settle { (item : ℕ) → note.now ≡ Settle item → MatchResult result
         (λ done. (done ≡ true) × TakesOut pins.old.bundles pins.new.bundles peer item)
-        (λ fault. (fault ≡ PinFault.NoBundle) × (has_bundle pins.old.bundles peer item ≡ false) × Unchanged pins.old pins.new) }
+        (λ fault. (fault ≡ PinFault.NoBundle) × (has_bundle pins.old.bundles peer item ≡ false)
+        × Unchanged pins.old pins.new) }
     ensures other { settled_by peer note.now ≡ None → (result ≡ Ok false) × (pins.new ≡ pins.old) }
 {
     let Some(settled) = Settled::of_note(peer, note) else {

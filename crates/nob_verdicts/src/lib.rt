@@ -1,4 +1,5 @@
-//! What programs say of a trace: that its results are right, the first that isn't, or why it is refused.
+//! What programs say of a trace: that its results are right, the first that isn't, or why it is
+//! refused.
 #![tactic(auto)]
 
 mod fault;

@@ -24,7 +24,8 @@ pub fn wrong_line(alloc: Global, count: usize) -> Result<String, AllocError>
     format!(in alloc; "wrong {place}\n")
 }
 
-/// Whether two results have a text in traces, and it is the same. Only memory fails it. Linear in the texts.
+/// Whether two results have a text in traces, and it is the same. Only memory fails it. Linear in
+/// the texts.
 pub fn have_one_text(
     alloc: Global,
     one: &Result<Answer, Refusal>,
@@ -46,7 +47,8 @@ fn spelling_of(
     alloc: Global,
     response: &Result<Answer, Refusal>,
 ) -> Result<Option<String>, AllocError>
-    ensures { IfOk result (λ text. MatchOption text (TransmitFits response.now → ⊥) (λ text. TransmitFits response.now × (string_bytes text ≡ spelling response.now))) }
+    ensures { IfOk result (λ text. MatchOption text (TransmitFits response.now → ⊥)
+        (λ text. TransmitFits response.now × (string_bytes text ≡ spelling response.now))) }
 {
     match result_text(alloc, response) {
         Ok(text) => Ok(Some(text)),

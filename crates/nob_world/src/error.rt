@@ -9,7 +9,8 @@ pub enum WorldError {
     /// X1: there is no such space.
     #[error("X1: there is no such space")]
     NoSpace,
-    /// X2: no such frame was transmitted, or a space is asked to let one arrive that isn't delivered.
+    /// X2: no such frame was transmitted, or a space is asked to let one arrive that isn't
+    /// delivered.
     #[error("X2: no such frame was transmitted")]
     NoFrame,
     /// X3: there is no memory.

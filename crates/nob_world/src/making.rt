@@ -36,7 +36,8 @@ pub(crate) fn carry(alloc: Global, frame: &Frame) -> Result<Frame, AllocError>
 
 // The frame of a number, counted from 1.
 pub(crate) fn frame_at(frames: &[Frame], number: u64) -> Option<&Frame>
-    ensures { MatchOption result (runs.frame_of number frames.now ≡ None) (λ frame. runs.frame_of number frames.now ≡ Some frame.now) }
+    ensures { MatchOption result (runs.frame_of number frames.now ≡ None)
+        (λ frame. runs.frame_of number frames.now ≡ Some frame.now) }
 {
     if number == 0 {
         return None;
@@ -50,9 +51,13 @@ pub(crate) fn frames_due(
     space: &Space,
     event: &Event,
 ) -> Result<Vec<Frame>, AllocError>
-    ensures frames { IfOk result (λ frames. (L : List EntryOf) (answer : AnswerOf) → StandsFor space.now L → right space.now.id space.now.n space.now.limits L event.now ≡ Ok answer → frames.items ≡ frames_of (deed_of event.now answer)) }
-    ensures to { IfOk result (λ frames. (L : List EntryOf) → StandsFor space.now L → AllByRecursion (λ frame. frame.to ≤ space.now.n) frames.items) }
-    ensures spelt { IsSpace space.now.id → IfOk result (λ frames. AllByRecursion Fits frames.items) }
+    ensures frames { IfOk result (λ frames. (L : List EntryOf) (answer : AnswerOf)
+        → StandsFor space.now L → right space.now.id space.now.n space.now.limits L event.now
+        ≡ Ok answer → frames.items ≡ frames_of (deed_of event.now answer)) }
+    ensures to { IfOk result (λ frames. (L : List EntryOf) → StandsFor space.now L
+        → AllByRecursion (λ frame. frame.to ≤ space.now.n) frames.items) }
+    ensures spelt { IsSpace space.now.id
+        → IfOk result (λ frames. AllByRecursion Fits frames.items) }
 {
     let Event::Transmit(peer) = event else {
         return Ok(Vec::new(alloc));
@@ -92,7 +97,8 @@ fn put_entry(entries: &mut Vec<Entry>, entry: Entry)
     }
 }
 
-// What an event makes of the spaces of a world and of what is kept of them. All growth is made first.
+// What an event makes of the spaces of a world and of what is kept of them. All growth is made
+// first.
 pub(crate) fn make(
     alloc: Global,
     spaces: &mut Vec<Space>,
@@ -102,8 +108,13 @@ pub(crate) fn make(
     event: Event,
 ) -> Result<Result<Answer, Refusal>, WorldError>
     requires { space ≤ length spaces.old.items }
-    ensures entries { IfOk result (λ answer. entries.new.items ≡ entries.old.items ++ spec.entry_of space event answer ∷ []) }
-    ensures world { (n : ℕ) (limits : LimitsOf) → spec.IsWorld (spec.world_of n limits spaces.old.items entries.old.items frames.old.items) → ArrivesGiven event (reverse entries.old.items) → spec.IsWorld (spec.world_of n limits spaces.new.items entries.new.items frames.new.items) }
+    ensures entries { IfOk result (λ answer. entries.new.items
+        ≡ entries.old.items ++ spec.entry_of space event answer ∷ []) }
+    ensures world { (n : ℕ) (limits : LimitsOf)
+        → spec.IsWorld (spec.world_of n limits spaces.old.items entries.old.items frames.old.items)
+        → ArrivesGiven event (reverse entries.old.items)
+        → spec.IsWorld (spec.world_of n limits spaces.new.items entries.new.items
+        frames.new.items) }
     ensures only { IfErr result (λ error. error ≡ WorldError.OutOfMemory) }
     ensures err { OnErr result (entries.new.items ≡ entries.old.items) }
     ensures err_frames { OnErr result (frames.new.items ≡ frames.old.items) }
@@ -165,11 +176,18 @@ pub(crate) fn take_step(
     frames: &mut Vec<Frame>,
     step: &WorldStep,
 ) -> Result<Result<Answer, Refusal>, WorldError>
-    requires { (limits : LimitsOf) × spec.IsWorld (spec.world_of n limits spaces.old.items entries.old.items frames.old.items) }
-    ensures entries { IfOk result (λ answer. spec.AddsTo step.now answer entries.old.items entries.new.items) }
-    ensures world { (limits : LimitsOf) → spec.IsWorld (spec.world_of n limits spaces.old.items entries.old.items frames.old.items) → spec.IsWorld (spec.world_of n limits spaces.new.items entries.new.items frames.new.items) }
-    ensures fault { (fault : WorldErrorOf) → spec.step_fault n frames.old.items step.now ≡ Some fault → result ≡ Err fault }
-    ensures only { IfErr result (λ error. error ≢ WorldError.OutOfMemory → spec.step_fault n frames.old.items step.now ≡ Some error) }
+    requires { (limits : LimitsOf) × spec.IsWorld
+        (spec.world_of n limits spaces.old.items entries.old.items frames.old.items) }
+    ensures entries { IfOk result (λ answer.
+        spec.AddsTo step.now answer entries.old.items entries.new.items) }
+    ensures world { (limits : LimitsOf) → spec.IsWorld
+        (spec.world_of n limits spaces.old.items entries.old.items frames.old.items)
+        → spec.IsWorld (spec.world_of n limits spaces.new.items entries.new.items
+        frames.new.items) }
+    ensures fault { (fault : WorldErrorOf)
+        → spec.step_fault n frames.old.items step.now ≡ Some fault → result ≡ Err fault }
+    ensures only { IfErr result (λ error. error ≢ WorldError.OutOfMemory
+        → spec.step_fault n frames.old.items step.now ≡ Some error) }
     ensures err { OnErr result (entries.new.items ≡ entries.old.items) }
     ensures err_frames { OnErr result (frames.new.items ≡ frames.old.items) }
 {

@@ -16,9 +16,10 @@ use nob_space::Space;
 use std::alloc::{AllocError, Global};
 use std::marker::Model;
 
-/// Spaces from 1 to `n` and the frames between them. A step is an event at one space, or a frame that was transmitted
-/// before arrives: which frames arrive, how often and when is the caller's choice. Contracts see the entries, which are
-/// a run of a world, and the frames. It holds spaces, so it can't be let go: `shut` ends it.
+/// Spaces from 1 to `n` and the frames between them. A step is an event at one space, or a frame
+/// that was transmitted before arrives: which frames arrive, how often and when is the caller's
+/// choice. Contracts see the entries, which are a run of a world, and the frames. It holds spaces,
+/// so it can't be let go: `shut` ends it.
 pub struct World {
     n: u16,
     limits: Limits,
@@ -41,9 +42,22 @@ impl Model for World {
 
     ghost coded = { Prim.hlevel (codes, trees_code) };
 
-    ghost view = { λ world. record { n = world.n; limits = world.limits; spaces = world.spaces.items; entries = world.entries.items; frames = world.frames.items } };
+    ghost view = { λ world. record {
+      n = world.n;
+      limits = world.limits;
+      spaces = world.spaces.items;
+      entries = world.entries.items;
+      frames = world.frames.items;
+    } };
 
-    ghost invariant = { λ world. IsWorld (record { n = world.n; limits = world.limits; spaces = world.spaces.items; entries = world.entries.items; frames = world.frames.items }) };
+    ghost invariant = { λ world. IsWorld
+        (record {
+          n = world.n;
+          limits = world.limits;
+          spaces = world.spaces.items;
+          entries = world.entries.items;
+          frames = world.frames.items;
+        }) };
 }
 
 impl World {
@@ -61,7 +75,8 @@ impl World {
         self.limits
     }
 
-    /// What was asked of the spaces and what they answered, the first entry first: a run of a world.
+    /// What was asked of the spaces and what they answered, the first entry first: a run of a
+    /// world.
     pub fn entries(&self) -> &[Entry]
         ensures entries { result.now ≡ self.now.entries }
         ensures run { WorldRun self.now.n (λ _. self.now.limits) (reverse result.now) }
@@ -70,7 +85,8 @@ impl World {
         self.entries.as_slice()
     }
 
-    /// The frames that were ever transmitted, the first first: a frame's number is its place, counted from 1.
+    /// The frames that were ever transmitted, the first first: a frame's number is its place,
+    /// counted from 1.
     pub fn frames(&self) -> &[Frame]
         ensures frames { result.now ≡ self.now.frames }
         ensures given { result.now ≡ given (spec.journal self.now) }
@@ -78,8 +94,9 @@ impl World {
         self.frames.as_slice()
     }
 
-    /// So many spaces, with these limits for all sessions, that did nothing. Only memory fails it. The caller's
-    /// condition: there are 1 to 32. Their sessions are made at once: it costs the square of their number.
+    /// So many spaces, with these limits for all sessions, that did nothing. Only memory fails it.
+    /// The caller's condition: there are 1 to 32. Their sessions are made at once: it costs the
+    /// square of their number.
     pub fn new(alloc: Global, n: u16, limits: Limits) -> Result<World, AllocError>
         requires some { 1 ≤ n }
         requires few { n ≤ 32 }
@@ -100,7 +117,9 @@ impl World {
 
     /// The space of a number, if there is one.
     pub fn space(&self, id: SpaceId) -> Option<&Space>
-        ensures { MatchOption result (self.now.n < id) (λ space. spec.IsSpaceOf self.now.n self.now.limits (spec.journal self.now) id space.now) }
+        ensures { MatchOption result (self.now.n < id)
+            (λ space. spec.IsSpaceOf self.now.n self.now.limits
+            (spec.journal self.now) id space.now) }
     {
         let Some(space) = self.spaces.get(id.get() as usize - 1) else {
             return None;
@@ -108,15 +127,20 @@ impl World {
         Some(space)
     }
 
-    /// One step: what the space answers, or why it refuses, which makes an entry too. A step that there is no space or no
-    /// frame for makes none, nor does one that memory is wanted for: then the world is as it was. It costs what the
-    /// event costs at its space, the frame's bytes, and copies of the event, the answer and the frames.
+    /// One step: what the space answers, or why it refuses, which makes an entry too. A step that
+    /// there is no space or no frame for makes none, nor does one that memory is wanted for: then
+    /// the world is as it was. It costs what the event costs at its space, the frame's bytes, and
+    /// copies of the event, the answer and the frames.
     pub fn step(&mut self, step: &WorldStep) -> Result<Result<Answer, Refusal>, WorldError>
-        ensures adds { IfOk result (λ answer. spec.AddsTo step.now answer self.old.entries self.new.entries) }
+        ensures adds { IfOk result (λ answer.
+            spec.AddsTo step.now answer self.old.entries self.new.entries) }
         ensures safe { spec.IsSafe self.new.n (spec.journal self.new) }
         // X1 and X2 come exactly where they are due.
-        ensures fault { (fault : WorldErrorOf) → spec.step_fault self.old.n self.old.frames step.now ≡ Some fault → result ≡ Err fault }
-        ensures only { IfErr result (λ error. error ≢ WorldError.OutOfMemory → spec.step_fault self.old.n self.old.frames step.now ≡ Some error) }
+        ensures fault { (fault : WorldErrorOf)
+            → spec.step_fault self.old.n self.old.frames step.now ≡ Some fault
+            → result ≡ Err fault }
+        ensures only { IfErr result (λ error. error ≢ WorldError.OutOfMemory
+            → spec.step_fault self.old.n self.old.frames step.now ≡ Some error) }
         ensures err { OnErr result (self.new.entries ≡ self.old.entries) }
         ensures err_frames { OnErr result (self.new.frames ≡ self.old.frames) }
         ensures n { self.new.n ≡ self.old.n }
@@ -132,14 +156,18 @@ impl World {
         )
     }
 
-    /// Steps, one after the other, up to the first that makes no entry: how many were made before it, and why. What they
-    /// made stands. It costs what they cost.
+    /// Steps, one after the other, up to the first that makes no entry: how many were made before
+    /// it, and why. What they made stands. It costs what they cost.
     pub fn run(&mut self, steps: &[WorldStep]) -> Result<(), (usize, WorldError)>
-        ensures from { (before : List WorldStepOf) → From before (spec.journal self.old) → From (reverse (spec.steps_made steps.now result) ++ before) (spec.journal self.new) }
+        ensures from { (before : List WorldStepOf) → From before (spec.journal self.old)
+            → From (reverse (spec.steps_made steps.now result) ++ before) (spec.journal self.new) }
         // The headline: after every list of steps.
         ensures safe { spec.IsSafe self.new.n (spec.journal self.new) }
         // It stops at a step that there is no space or no frame for, or that memory is wanted for.
-        ensures stopped { IfErr result (λ stop. (step : WorldStepOf) × (slice_get steps.now stop.0 ≡ Some step) × (stop.1 ≢ WorldError.OutOfMemory → spec.step_fault self.new.n self.new.frames step ≡ Some stop.1)) }
+        ensures stopped { IfErr result (λ stop. (step : WorldStepOf)
+            × (slice_get steps.now stop.0 ≡ Some step)
+            × (stop.1 ≢ WorldError.OutOfMemory
+            → spec.step_fault self.new.n self.new.frames step ≡ Some stop.1)) }
         ensures n { self.new.n ≡ self.old.n }
         ensures limits { self.new.limits ≡ self.old.limits }
     {
