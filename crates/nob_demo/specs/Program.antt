@@ -79,10 +79,10 @@ world_status_of (endings.Judged (No promise)) = 1
 world_status_of endings.BadStep = 1
 world_status_of endings.OutOfMemory = 1
 
--- what a script of this kind gives, and the status that its run ends with; the verdict on a world is never no
-abbrev pub Gives : Script → (script text : List ℕ) → (status : ℕ) → Type 0
-Gives Pair script text status = (outcome : Outcome) × Plays script text outcome × (status ≡ status_of outcome)
-Gives World script text status = (ending : Ending) × worlds.Plays script text ending × worlds.SaysYes ending × (status ≡ world_status_of ending)
+-- what is written for a script of this kind, and the status that its run ends with; the verdict on a world is never no
+abbrev pub PlaysScript : Script → (script text : List ℕ) → (status : ℕ) → Type 0
+PlaysScript Pair script text status = (outcome : Outcome) × Plays script text outcome × (status ≡ status_of outcome)
+PlaysScript World script text status = (ending : Ending) × worlds.Plays script text ending × worlds.SaysYes ending × (status ≡ world_status_of ending)
 
 -- what a run was given, and how far it came: whether clap took the words, what they run, what was read, the bytes of `out` before and after, and whether a write to it failed
 pub record Attempt : Type 0 where
@@ -99,7 +99,7 @@ OutKept a = Keeps a.out_before a.out_after × (a.out_failed ≡ false)
 
 -- what was written to `out` is what a script gives that has as many bytes as were read: the input, where the reader tells it
 abbrev pub IsPlayed : Attempt → (status : ℕ) → Type 0
-IsPlayed a status = (script text : List ℕ) × (length script ≡ a.reading.bytes) × IfSome a.reading.input (λ input. script ≡ input) × Gives a.script script text status × Appends a.out_before a.out_after text
+IsPlayed a status = (script text : List ℕ) × (length script ≡ a.reading.bytes) × IfSome a.reading.input (λ input. script ≡ input) × PlaysScript a.script script text status × Appends a.out_before a.out_after text
 
 -- clap refuses the words, and nothing was read
 abbrev pub IsRefused : Attempt → Type 0

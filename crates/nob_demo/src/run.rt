@@ -3,7 +3,7 @@
 ghost use Rattle.std.specs.Prelude.{◌≡◌, ◌++◌, [], ℕ, true, false, map, not, IsOk, IsErr};
 ghost use Rattle.std.specs.Io.KnownBytes.{Appends};
 ghost use Rattle.nob_demo.specs.Words.{script_of, word_faults, takes_words};
-ghost use Rattle.nob_demo.specs.Program.{Ended, Gives, Goes, status_of, world_status_of};
+ghost use Rattle.nob_demo.specs.Program.{Ended, PlaysScript, Goes, status_of, world_status_of};
 
 use crate::fault::Fault;
 use crate::reading::read_all;
@@ -105,7 +105,7 @@ fn attempt<S: AsStr, R: Read, W: Write>(
 // out: that line, and the status that the run ends with.
 fn play(alloc: Global, kind: Script, script: &[u8], text: &mut Vec<u8>) -> (&'static [u8], u8)
     requires { text.old.items ≡ [] }
-    ensures { Gives kind script.now (text.new.items ++ result.0.now) result.1 }
+    ensures { PlaysScript kind script.now (text.new.items ++ result.0.now) result.1 }
 {
     match kind {
         Script::Pair => {

@@ -1,7 +1,7 @@
 use Rattle.std.proofs.Common.{◌++◌, List, ℕ, map, ap, subst, sym, ◌∙◌}
 use Rattle.std.specs.Io.KnownBytes.{Appends}
 use Rattle.nob_demo.specs.Words.{script_of}
-use Rattle.nob_demo.specs.Program.{Gives}
+use Rattle.nob_demo.specs.Program.{PlaysScript}
 use Rattle.nob_demo.specs.declared.words.Script.{Script}
 use Rattle.nob_demo.proofs.Known.{appends_more}
 use Rattle.nob_demo.proofs.run.attempt.Goals as goal
@@ -11,8 +11,8 @@ returns g c =
     let text : List ℕ = c.play-status.new.text.items in
     let last : List ℕ = c.play-status.result.0.now in
     let status = c.play-status.result.1 in
-    let played : Gives c.in_ok-script.script c.in_ok-input.input.items (text ++ last) status = subst (λ (script : List ℕ). Gives c.in_ok-script.script script (text ++ last) status) c.deref.ensures.value c.play-status.ensures in
-    let played_it : Gives (script_of (map g.S.AsStr.text c.args.words.now)) c.in_ok-input.input.items (text ++ last) status = subst (λ (kind : Script). Gives kind c.in_ok-input.input.items (text ++ last) status) c.in_ok-script.ensures.script played in
+    let played : PlaysScript c.in_ok-script.script c.in_ok-input.input.items (text ++ last) status = subst (λ (script : List ℕ). PlaysScript c.in_ok-script.script script (text ++ last) status) c.deref.ensures.value c.play-status.ensures in
+    let played_it : PlaysScript (script_of (map g.S.AsStr.text c.args.words.now)) c.in_ok-input.input.items (text ++ last) status = subst (λ (kind : Script). PlaysScript kind c.in_ok-input.input.items (text ++ last) status) c.in_ok-script.ensures.script played in
     let first = subst (λ (bytes : List ℕ). Appends (g.W.Write.contents c.args.out.now.writer) (g.W.Write.contents c.write_all.new.self.writer) bytes) c.deref-2.ensures.value c.in-Ok.ensures.bytes in
     record {
       ended = (
