@@ -1,5 +1,5 @@
 -- Every reference is found: no session is closed because of what came over it. So each Call that is acted on names a live
--- object or the agent, and each own reference that comes to its owner is live.
+-- object or the agent, and each own counted reference that comes to its owner is live.
 use Rattle.std.specs.Prelude.{◌≡◌, Bool, true, false, List, Result, Ok}
 use Rattle.std.specs.List.{AllByRecursion}
 use Rattle.nob_ids.specs.declared.reason.Reason.{Reason}

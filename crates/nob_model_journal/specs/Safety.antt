@@ -1,4 +1,5 @@
--- No object is withdrawn too early: not while a space on an open session can use it, nor while its reference is on its way.
+-- No object is withdrawn too early: not while a space on an open session can use it, nor while its reference is in
+-- open transit.
 use Rattle.std.specs.Prelude.{◌≡◌, ℕ, Bool, false, ◌&&◌, ◌||◌, not, List, Some}
 use Rattle.std.specs.List.{list_any}
 use Rattle.nob_ids.specs.declared.wire_rep.WireRep.{WireRep}
