@@ -58,7 +58,7 @@ idle_deeds entry J s none = by (s == entry.space) refl
 
 -- ---- a ledger for each space
 
-any_at : (n s : ℕ) (J : List Entry) (xs : List ℕ) → list_any (λ ledger. ledger.here.space == s) (map (ledger_at n J) xs) ≡ is_in s xs
+any_at : (n s : ℕ) (J : List Entry) (xs : List ℕ) → list_any (λ ledger. ledger.index.here.space == s) (map (ledger_at n J) xs) ≡ is_in s xs
 any_at n s J [] = refl
 any_at n s J (x ∷ xs) = ap (λ (b : Bool). (x == s) || b) (any_at n s J xs)
 

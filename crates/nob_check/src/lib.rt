@@ -1,5 +1,6 @@
-//! The judge of a journal: whether all holds that the runtime promises of all spaces together, or what fails first. It
-//! passes the entries once, the first first, and keeps a ledger for each space: no entry is read again for a later one.
+//! The judge of a journal: whether all holds that the runtime promises of all spaces together, or
+//! what fails first. It passes the entries once, the first first, and keeps a ledger for each
+//! space: no entry is read again for a later one.
 #![tactic(auto)]
 
 mod books;

@@ -1,6 +1,7 @@
-//! The program `nob_plain`: the definitions of a space and of a journal as something one can run. It reads a script of a
-//! world, one trace, or the entries of a journal, from standard input; it answers each step by the plain program of
-//! nob_model, and says of a journal by that of nob_model_journal which promise isn't kept. It is slow on purpose.
+//! The program `nob_plain`: the definitions of a space and of a journal as something one can run.
+//! It reads a script of a world, one trace, or the entries of a journal, from standard input; it
+//! answers each step by the plain program of nob_model, and says of a journal by that of
+//! nob_model_journal which promise isn't kept. It is slow on purpose.
 #![tactic(auto)]
 
 ghost use Rattle.std.specs.Prelude.{◌≡◌, true, false};
@@ -39,16 +40,19 @@ fn run(rt: &HostRuntime) -> io::Result<()> {
     }
 }
 
-// Whether the command line has words beside the program's name: then traces are written as they were read.
+// Whether the command line has words beside the program's name: then traces are written as they
+// were read.
 fn has_words(rt: &HostRuntime) -> io::Result<bool> {
     let mut words = env::args(rt)?;
     words.next();
     Ok(words.next().is_some())
 }
 
-// What is written for an input: a trace is judged or written again, entries are judged, and any other input is a script.
+// What is written for an input: a trace is judged or written again, entries are judged, and any
+// other input is a script.
 fn output_of(alloc: Global, input: &[u8], is_copy: bool) -> Result<Vec<u8>, TraceError>
-    ensures { Answers (λ text. IsOutput is_copy input.now text.items) (IsRefused is_copy input.now) result }
+    ensures { Answers (λ text. IsOutput is_copy input.now text.items)
+        (IsRefused is_copy input.now) result }
 {
     if is_copy {
         return trace::copy_of(alloc, input);
@@ -73,7 +77,8 @@ fn begins_as_trace(input: &[u8]) -> bool
     }
 }
 
-// Whether an equals sign stands in the second line of an input: a step has none, and an entry has one before its result.
+// Whether an equals sign stands in the second line of an input: a step has none, and an entry has
+// one before its result.
 fn has_results(input: &[u8]) -> bool
     ensures { result ≡ has_results_of (lines_of input.now) }
 {

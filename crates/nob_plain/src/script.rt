@@ -46,7 +46,12 @@ impl Model for World {
 
     ghost coded = { Prim.hlevel (codes, trees_code) };
 
-    ghost view = { λ world. record { n = world.n; limits = world.limits; journal = world.journal.items; frames = world.frames.items } };
+    ghost view = { λ world. record {
+      n = world.n;
+      limits = world.limits;
+      journal = world.journal.items;
+      frames = world.frames.items;
+    } };
 }
 
 impl World {
@@ -76,10 +81,11 @@ impl World {
         right::right(alloc, &here, &self.limits, entries.as_slice(), event)
     }
 
-    // What an event at a space makes of the world, and the text of the answer. Where memory runs out some frames may be
-    // kept already.
+    // What an event at a space makes of the world, and the text of the answer. Where memory runs
+    // out some frames may be kept already.
     fn make(&mut self, alloc: Global, space: SpaceId, event: Event) -> Result<String, AllocError>
-        ensures { IfOk result (λ text. (string_bytes text, self.new) ≡ spec.does self.old space event) }
+        ensures { IfOk result (λ text. (string_bytes text, self.new)
+            ≡ spec.does self.old space event) }
     {
         let result = self.right_in(alloc, space, &event)?;
         let text = result_text(alloc, self.frames.len(), &result)?;
@@ -108,7 +114,8 @@ impl World {
 
     // What a step makes of the world, and the text of the answer.
     fn step(&mut self, alloc: Global, step: WorldStep) -> Result<String, AllocError>
-        ensures { IfOk result (λ text. (string_bytes text, self.new) ≡ spec.outcome_of self.old step) }
+        ensures { IfOk result (λ text. (string_bytes text, self.new)
+            ≡ spec.outcome_of self.old step) }
     {
         match step {
             WorldStep::Deliver(number) => match self.frame_of(number)? {
@@ -169,9 +176,10 @@ fn push_copies(frames: &mut Vec<Frame>, more: &[Frame]) -> Result<(), AllocError
     Ok(())
 }
 
-/// The first line, each step with its answer, and the verdict on all that was done; or these up to the first line that is
-/// no step, `line N: bad step`. Only memory fails it. A step costs time and memory in proportion to all that its space
-/// did before it, and more; so does each entry for the verdict.
+/// The first line, each step with its answer, and the verdict on all that was done; or these up to
+/// the first line that is no step, `line N: bad step`. Only memory fails it. A step costs time and
+/// memory in proportion to all that its space did before it, and more; so does each entry for the
+/// verdict.
 pub fn answers_of(alloc: Global, input: &[u8]) -> Result<Vec<u8>, AllocError>
     ensures { IfOk result (λ text. IsAnswers input.now text.items) }
 {
@@ -191,7 +199,9 @@ fn put_answers(
     steps: &[u8],
     text: &mut Vec<u8>,
 ) -> Result<(), AllocError>
-    ensures { OnOk result ((ending : EndingOf) × Grows text.old.items text.new.items (λ written. FromOpening false line.now (lines_of steps.now) written ending)) }
+    ensures { OnOk result ((ending : EndingOf)
+        × Grows text.old.items text.new.items
+        (λ written. FromOpening false line.now (lines_of steps.now) written ending)) }
 {
     let Some(opening) = opening_of(alloc, line)? else {
         return push_bad_step(alloc, text, 1);
@@ -201,15 +211,17 @@ fn put_answers(
     put_steps(alloc, &mut world, steps, text)
 }
 
-// Makes the steps of these lines, of which the first is line 2, and puts them with their answers, and then the verdict,
-// behind a text.
+// Makes the steps of these lines, of which the first is line 2, and puts them with their answers,
+// and then the verdict, behind a text.
 fn put_steps(
     alloc: Global,
     world: &mut World,
     steps: &[u8],
     text: &mut Vec<u8>,
 ) -> Result<(), AllocError>
-    ensures { OnOk result ((ending : EndingOf) × Grows text.old.items text.new.items (λ written. FromLines false 2 world.old (lines_of steps.now) written ending)) }
+    ensures { OnOk result ((ending : EndingOf)
+        × Grows text.old.items text.new.items
+        (λ written. FromLines false 2 world.old (lines_of steps.now) written ending)) }
 {
     let mut left = steps;
     let mut number: u64 = 2;

@@ -18,11 +18,12 @@ use nob_trace::{Stamped, Trace, TraceError, decode, decode_all, encode};
 use nob_verdicts::{have_one_text, right_line, wrong_line};
 use std::alloc::{AllocError, Global};
 
-/// `right` and how many entries the one trace has, or `wrong` and the place, from 1, of the first whose result isn't
-/// right; or what the first line that isn't as it should be is refused for. An entry costs time and memory in
-/// proportion to all entries before it, and more.
+/// `right` and how many entries the one trace has, or `wrong` and the place, from 1, of the first
+/// whose result isn't right; or what the first line that isn't as it should be is refused for. An
+/// entry costs time and memory in proportion to all entries before it, and more.
 pub fn verdict_of(alloc: Global, input: &[u8]) -> Result<Vec<u8>, TraceError>
-    ensures { reading.Answers (λ text. IsJudged input.now text.items) (reading.TraceProblem input.now) result }
+    ensures { reading.Answers (λ text. IsJudged input.now text.items)
+        (reading.TraceProblem input.now) result }
 {
     let trace = decode(alloc, input)?;
     Ok(verdict_on(alloc, &trace)?.into_bytes())
@@ -66,7 +67,8 @@ fn entry_at(space: SpaceId, entry: &Stamped) -> Result<Entry, AllocError>
     }
 }
 
-// Whether an entry's result is the right one after the entries before it, the newest of which stands first.
+// Whether an entry's result is the right one after the entries before it, the newest of which
+// stands first.
 fn is_right(
     alloc: Global,
     here: &Here,
@@ -74,14 +76,16 @@ fn is_right(
     entries: &[Entry],
     stamped: &Stamped,
 ) -> Result<bool, AllocError>
-    ensures { IfOk result (λ is_right. (is_right ≡ true) ↔ HaveOneText stamped.now.result (model.right here.now.space here.now.n limits.now entries.now stamped.now.event)) }
+    ensures { IfOk result (λ is_right. (is_right ≡ true)
+        ↔ HaveOneText stamped.now.result
+        (model.right here.now.space here.now.n limits.now entries.now stamped.now.event)) }
 {
     let answer = right::right(alloc, here, limits, entries, &stamped.event)?;
     have_one_text(alloc, &stamped.result, &answer)
 }
 
-/// The traces of an input, one after the other, as they are written; or what the first line that isn't as it should be
-/// is refused for.
+/// The traces of an input, one after the other, as they are written; or what the first line that
+/// isn't as it should be is refused for.
 pub fn copy_of(alloc: Global, input: &[u8]) -> Result<Vec<u8>, TraceError>
     ensures { reading.Answers (λ text. IsCopy input.now text.items) (IsUncopied input.now) result }
 {
@@ -104,7 +108,8 @@ fn texts_of(alloc: Global, all: &[Trace]) -> Result<String, AllocError>
 // Puts the text of a trace behind a text.
 fn put_trace(alloc: Global, text: &mut String, trace: &Trace) -> Result<(), AllocError>
     requires { traces.IsTrace trace.now }
-    ensures { IfOk result (λ _. string_bytes text.new ≡ string_bytes text.old ++ traces.trace_text trace.now) }
+    ensures { IfOk result (λ _. string_bytes text.new
+        ≡ string_bytes text.old ++ traces.trace_text trace.now) }
 {
     match encode(alloc, trace) {
         Ok(spelling) => text.push_str(spelling.as_str()),

@@ -1,0 +1,30 @@
+-- A list that is made of another, one element after the other.
+use Rattle.std.proofs.Common.{◌≡◌, ℕ, ◌+◌, ◌<◌, ◌≤◌, List, [], ◌∷◌, ◌++◌, length, drop, get_or, map, refl, sym, ap, ◌∙◌, append_assoc, append-nil, arith}
+use Rattle.std.proofs.lemmas.List.{drop_more, drop_all}
+
+-- the next is made
+pub next_made : {A B : Type 0} (f : A → B) (left rest : List A) (x : A) (y : B) (made more all : List B) → left ≡ x ∷ rest → y ≡ f x → more ≡ made ++ y ∷ [] → made ++ map f left ≡ all → more ++ map f rest ≡ all
+next_made f left rest x y made more all ahead one pushed so_far =
+    ap (λ ys. ys ++ map f rest) pushed
+    ∙ append_assoc made (y ∷ []) (map f rest)
+    ∙ ap (λ z. made ++ z ∷ map f rest) one
+    ∙ ap (λ xs. made ++ map f xs) (sym ahead)
+    ∙ so_far
+
+-- the next by its place
+pub next_at : {A B : Type 0} (f : A → B) (xs : List A) (i : ℕ) (x : A) (y : B) (made more all : List B) → i < length xs → x ≡ get_or xs i x → y ≡ f x → more ≡ made ++ y ∷ [] → made ++ map f (drop i xs) ≡ all → more ++ map f (drop (i + 1) xs) ≡ all
+next_at f xs i x y made more all less same one pushed so_far =
+    next_made f (drop i xs) (drop (i + 1) xs) x y made more all (drop_more xs i x less ∙ ap (λ z. z ∷ drop (i + 1) xs) (sym same)) one pushed so_far
+
+-- nothing is left
+pub none_left : {A B : Type 0} (f : A → B) (left : List A) (made all : List B) → left ≡ [] → made ++ map f left ≡ all → made ≡ all
+none_left f left made all empty so_far = sym (append-nil made) ∙ ap (λ xs. made ++ map f xs) (sym empty) ∙ so_far
+
+-- nothing is left behind the last place
+pub none_behind : {A B : Type 0} (f : A → B) (xs : List A) (i : ℕ) (made all : List B) → length xs ≤ i → made ++ map f (drop i xs) ≡ all → made ≡ all
+none_behind f xs i made all end so_far = none_left f (drop i xs) made all (drop_all i xs end) so_far
+
+-- a list with no length
+pub nothing_left : {A : Type 0} (xs : List A) → length xs ≡ 0 → xs ≡ []
+nothing_left [] h = refl
+nothing_left (x ∷ xs) h = absurd (omega arith)
