@@ -55,15 +55,15 @@ abbrev pub with_ledger : (n s : ℕ) → List Ledger → List Ledger
 with_ledger n s books = if list_any (λ ledger. ledger.index.here.space == s) books then books else ledger_of s n [] ∷ books
 
 -- the ledgers after a deed of a space
-abbrev pub grown : ℕ → Deed → List Ledger → List Ledger
-grown s deed [] = []
-grown s deed (ledger ∷ books) = if ledger.index.here.space == s then ledger_after deed ledger ∷ books else ledger ∷ grown s deed books
+abbrev pub ledgers_after : ℕ → Deed → List Ledger → List Ledger
+ledgers_after s deed [] = []
+ledgers_after s deed (ledger ∷ books) = if ledger.index.here.space == s then ledger_after deed ledger ∷ books else ledger ∷ ledgers_after s deed books
 
 -- the ledgers after what a space did
-abbrev pub grown_by : ℕ → Option Deed → List Ledger → List Ledger
-grown_by s None books = books
-grown_by s (Some deed) books = grown s deed books
+abbrev pub ledgers_after_by : ℕ → Option Deed → List Ledger → List Ledger
+ledgers_after_by s None books = books
+ledgers_after_by s (Some deed) books = ledgers_after s deed books
 
 -- the ledgers after an entry of a space that did this
 abbrev pub with_entry : (n s : ℕ) → Option Deed → List Ledger → List Ledger
-with_entry n s deed books = grown_by s deed (with_ledger n s books)
+with_entry n s deed books = ledgers_after_by s deed (with_ledger n s books)

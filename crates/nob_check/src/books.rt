@@ -120,13 +120,13 @@ fn with_ledger(
 }
 
 // The ledgers after a deed of a space.
-fn grown(
+fn ledgers_after(
     alloc: Global,
     space: SpaceId,
     deed: Deed,
     mut ledgers: Vec<Ledger>,
 ) -> Result<Vec<Ledger>, AllocError>
-    ensures { IfOk result (λ after. after.items ≡ words.grown space deed ledgers.items) }
+    ensures { IfOk result (λ after. after.items ≡ words.ledgers_after space deed ledgers.items) }
 {
     if ledgers.is_empty() {
         return Ok(ledgers);
@@ -137,7 +137,7 @@ fn grown(
         ledgers.insert(0, after)?;
         return Ok(ledgers);
     }
-    let mut rest = grown(alloc, space, deed, ledgers)?;
+    let mut rest = ledgers_after(alloc, space, deed, ledgers)?;
     rest.insert(0, first)?;
     Ok(rest)
 }
@@ -154,7 +154,7 @@ pub fn with_entry(
 {
     let ledgers = with_ledger(alloc, here, books.into_vec())?;
     match deed {
-        Some(deed) => Ok(Books::from_vec(grown(alloc, here.space, deed, ledgers)?)),
+        Some(deed) => Ok(Books::from_vec(ledgers_after(alloc, here.space, deed, ledgers)?)),
         None => Ok(Books::from_vec(ledgers)),
     }
 }
