@@ -15,6 +15,7 @@ use nob_model_work::{Gift, InHand};
 use std::alloc::{AllocError, Global};
 
 /// What one pass over a journal keeps of a space.
+#[derive(Drop)]
 pub struct Ledger {
     /// What it did, and among how many spaces, to be looked up.
     pub index: DeedIndex,
@@ -28,20 +29,6 @@ pub struct Ledger {
     pub acts_open: bool,
     /// Whether it sent nothing after the session with the receiver closed.
     pub sends_open: bool,
-}
-
-// By hand, so that the many tables are taken apart here alone and not at each end of each caller.
-impl Drop for Ledger {
-    fn drop(self) {
-        let Ledger {
-            index: _,
-            work: _,
-            sent_items: _,
-            acted_items: _,
-            acts_open: _,
-            sends_open: _,
-        } = self;
-    }
 }
 
 /// The ledger of a space that did nothing.
