@@ -1,1 +1,1 @@
-mod Firsts
+pub mod Firsts

@@ -271,15 +271,9 @@ fn of_message(
 pub fn find_waiting(peer: SpaceId, number: ItemNo, messages: &[Message]) -> Option<&Message>
     ensures { option_map (λ message. message.now) result ≡ find (is_of peer number) messages.now }
 {
-    match messages {
-        [] => None,
-        [message, others @ ..] => {
-            if message::is_of(peer, number, message) {
-                return Some(message);
-            }
-            find_waiting(peer, number, others)
-        }
-    }
+    messages
+        .iter()
+        .find(|message| message::is_of(peer, number, message))
 }
 
 // What Settle of the message that came from a peer in an item of this number gives.
@@ -354,15 +348,7 @@ fn reply_to(
 fn find_run(job: JobNo, runs: &[Run]) -> Option<&Run>
     ensures { option_map (λ run. run.now) result ≡ find (is_run job) runs.now }
 {
-    match runs {
-        [] => None,
-        [run, others @ ..] => {
-            if run.job == job {
-                return Some(run);
-            }
-            find_run(job, others)
-        }
-    }
+    runs.iter().find(|run| run.job == job)
 }
 
 /// What the end of a job gives.

@@ -1,7 +1,7 @@
 //! The work in hand at a space.
 
 ghost use Rattle.std.specs.Prelude.{◌≡◌, [], ◌∷◌, ◌++◌, not, IfOk, Some, None, map, filter, find, if◌then◌else◌};
-ghost use Rattle.std.specs.List.{list_any};
+ghost use Rattle.std.specs.List.{list_any, position};
 ghost use Rattle.nob_model_words.specs.declared.deed.Deed.TheVariants as did;
 ghost use Rattle.nob_model_words.specs.Sessions.{item_at};
 ghost use Rattle.nob_model_words.specs.Messages as message_words;
@@ -267,15 +267,12 @@ fn calls_after_reply(
     ensures { IfOk result (λ after. after.items
         ≡ map (words.call_after_reply peer call) calls.now) }
 {
-    match calls {
-        [] => Ok(Vec::new(alloc)),
-        [own, others @ ..] => {
-            let mut after = calls_after_reply(alloc, peer, call, others)?;
-            let first = call_after_reply(peer, call, own);
-            after.insert(0, first)?;
-            Ok(after)
-        }
+    let mut after = Vec::new(alloc);
+    for own in calls {
+        let next = call_after_reply(peer, call, own);
+        after.push(next)?;
     }
+    Ok(after)
 }
 
 /// A message that was acted on.
@@ -420,49 +417,54 @@ pub fn after_settlement(
     }
 }
 
+// Where the first message that came from a peer in an item of this number stands.
+fn waiting_at(peer: SpaceId, number: ItemNo, messages: &[Message]) -> Option<usize>
+    ensures { result ≡ position (message_words.is_of peer number) messages.now }
+{
+    messages
+        .iter()
+        .position(|message| is_of(peer, number, message))
+}
+
 /// The first message that came from a peer in an item of this number, and all others.
 pub fn take_waiting(
     peer: SpaceId,
     number: ItemNo,
     mut messages: Vec<Message>,
-) -> Result<(Option<Message>, Vec<Message>), AllocError>
-    ensures first { IfOk result (λ taken. taken.0
-        ≡ find (message_words.is_of peer number) messages.items) }
-    ensures rest { IfOk result (λ taken. taken.1.items
-        ≡ words.without_first (message_words.is_of peer number) messages.items) }
+) -> (Option<Message>, Vec<Message>)
+    ensures first { result.0 ≡ find (message_words.is_of peer number) messages.items }
+    ensures rest { result.1.items
+        ≡ words.without_first (message_words.is_of peer number) messages.items }
 {
-    if messages.is_empty() {
-        return Ok((None, messages));
+    match waiting_at(peer, number, messages.as_slice()) {
+        Some(place) => {
+            let message = messages.remove(place);
+            (Some(message), messages)
+        }
+        None => (None, messages),
     }
-    let first = messages.remove(0);
-    if is_of(peer, number, &first) {
-        return Ok((Some(first), messages));
-    }
-    let (found, mut rest) = take_waiting(peer, number, messages)?;
-    rest.insert(0, first)?;
-    Ok((found, rest))
+}
+
+// Where the first message with the contents of a job stands.
+fn ready_at(job: &Job, messages: &[Message]) -> Option<usize>
+    ensures { result ≡ position (message_words.is_job job.now) messages.now }
+{
+    messages.iter().position(|message| is_job(job, message))
 }
 
 // The first message with the contents of a job, and all others.
-fn take_job(
-    job: &Job,
-    mut messages: Vec<Message>,
-) -> Result<(Option<Message>, Vec<Message>), AllocError>
-    ensures first { IfOk result (λ taken. taken.0
-        ≡ find (message_words.is_job job.now) messages.items) }
-    ensures rest { IfOk result (λ taken. taken.1.items
-        ≡ words.without_first (message_words.is_job job.now) messages.items) }
+fn take_job(job: &Job, mut messages: Vec<Message>) -> (Option<Message>, Vec<Message>)
+    ensures first { result.0 ≡ find (message_words.is_job job.now) messages.items }
+    ensures rest { result.1.items
+        ≡ words.without_first (message_words.is_job job.now) messages.items }
 {
-    if messages.is_empty() {
-        return Ok((None, messages));
+    match ready_at(job, messages.as_slice()) {
+        Some(place) => {
+            let message = messages.remove(place);
+            (Some(message), messages)
+        }
+        None => (None, messages),
     }
-    let first = messages.remove(0);
-    if is_job(job, &first) {
-        return Ok((Some(first), messages));
-    }
-    let (found, mut rest) = take_job(job, messages)?;
-    rest.insert(0, first)?;
-    Ok((found, rest))
 }
 
 // What is in hand after Settle of the message that came from a peer in an item of this number.
@@ -486,7 +488,7 @@ fn after_settle(
         replies,
         calls,
     } = work;
-    let (found, rest) = take_waiting(peer, number, waiting.into_vec())?;
+    let (found, rest) = take_waiting(peer, number, waiting.into_vec());
     let waiting = Messages::from_vec(rest);
     let others = InHand {
         waiting,
@@ -540,7 +542,7 @@ pub fn after_claim(job: &Job, work: InHand) -> Result<InHand, AllocError>
         replies,
         calls,
     } = work;
-    let (found, rest) = take_job(job, ready.into_vec())?;
+    let (found, rest) = take_job(job, ready.into_vec());
     let ready = Messages::from_vec(rest);
     let others = InHand {
         waiting,
@@ -711,15 +713,12 @@ fn calls_after_close(
     ensures { IfOk result (λ after. after.items
         ≡ map (words.call_after_close peer replies.now) calls.now) }
 {
-    match calls {
-        [] => Ok(Vec::new(alloc)),
-        [own, others @ ..] => {
-            let mut after = calls_after_close(alloc, peer, replies, others)?;
-            let first = call_after_close(peer, replies, own);
-            after.insert(0, first)?;
-            Ok(after)
-        }
+    let mut after = Vec::new(alloc);
+    for own in calls {
+        let next = call_after_close(peer, replies, own);
+        after.push(next)?;
     }
+    Ok(after)
 }
 
 /// What is in hand after the session with a peer closed.

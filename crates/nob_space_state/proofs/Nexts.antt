@@ -26,7 +26,7 @@ use Rattle.nob_space_state.specs.Judging.{withdraw_refusal}
 use Rattle.nob_space_state.specs.Looks.{has_closed, has_clients, has_holds}
 use Rattle.nob_space_state.specs.Parts.{State}
 use Rattle.nob_space_state.specs.Stands.{Stands}
-use Rattle.nob_space_state.proofs.Firsts.{no_place, place_first}
+use Rattle.nob_model_work.proofs.Firsts.{no_place, place_first}
 use Rattle.nob_space_state.proofs.Exported.{withdraw_passes, withdraw_right}
 use Rattle.nob_space_state.proofs.Rows.{differ}
 use Rattle.nob_space_state.proofs.Told.{closed_there}

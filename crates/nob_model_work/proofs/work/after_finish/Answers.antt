@@ -1,10 +1,6 @@
-use Rattle.std.proofs.Common.{◌≡◌, ◌∙◌, ◌==◌, not, ap, filter, refl, rules}
+use Rattle.std.proofs.Common.{not, refl, rules}
 use Rattle.std.proofs.lemmas.Fn.{filter_same}
-use Rattle.nob_model_work.specs.declared.work.InHand.{InHand}
 use Rattle.nob_model_work.specs.declared.work.Run.{Run}
-use Rattle.nob_model_work.specs.declared.work.OwnCall.{OwnCall}
-use Rattle.nob_model_words.specs.declared.message.Message.{Message}
-use Rattle.nob_model_words.specs.Messages.{is_not_from, message_after}
 use Rattle.nob_model_work.specs.Work as words
 use Rattle.nob_model_work.proofs.work.after_finish.Goals as goal
 

@@ -14,7 +14,8 @@ use Rattle.nob_space_state.specs.Returns.{HasLent, GivesBack}
 use Rattle.nob_space_state.specs.Stands.{Stands}
 use Rattle.nob_space_state.proofs.Calling.{peer_range}
 use Rattle.nob_space_state.proofs.Ends.{end_there, stands_kept}
-use Rattle.nob_space_state.proofs.Firsts.{some_same, no_place, at_place}
+use Rattle.nob_model_work.proofs.Firsts.{no_place, at_place}
+use Rattle.nob_space_state.proofs.Firsts.{some_same}
 use Rattle.nob_space_settling.specs.Settling.{is_settleable, has_lost, lost_call, given_count, loans_ended}
 use Rattle.nob_space_settling.proofs.Resolving.{message_sound, settle_none, settle_full, settle_right, settle_wants, some_given}
 use Rattle.nob_space_settling.proofs.Settlements.{settle_lent, settle_open, settle_stands, same_count, lost_numbered}

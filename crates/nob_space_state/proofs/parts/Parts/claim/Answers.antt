@@ -5,7 +5,7 @@ use Rattle.nob_model.specs.Candidates.{is_free}
 use Rattle.nob_model.specs.Right.{claim_of, job_of}
 use Rattle.nob_space_state.specs.Parts.{state_of}
 use Rattle.nob_space_state.proofs.Claiming.{claim_right, claim_done, claimed_is, wants_same}
-use Rattle.nob_space_state.proofs.Firsts.{at_place}
+use Rattle.nob_model_work.proofs.Firsts.{at_place}
 use Rattle.nob_space_state.proofs.Orderly.{claim_is}
 use Rattle.nob_space_state.proofs.parts.Parts.claim.Goals as goal
 

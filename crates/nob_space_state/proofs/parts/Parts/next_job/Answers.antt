@@ -5,7 +5,7 @@ use Rattle.nob_model.specs.Candidates.{is_free}
 use Rattle.nob_model.specs.Right.{job_of}
 use Rattle.nob_space_state.specs.Parts.{state_of}
 use Rattle.nob_space_state.proofs.Claiming.{claim_none, claim_limit, claim_job, wants_same}
-use Rattle.nob_space_state.proofs.Firsts.{no_place, at_place, place_first}
+use Rattle.nob_model_work.proofs.Firsts.{no_place, at_place, place_first}
 use Rattle.nob_space_state.proofs.parts.Parts.next_job.Goals as goal
 
 pub returns-in_default-clause-answer : goal.returns-in_default-clause-answer

@@ -11,7 +11,8 @@ use Rattle.nob_space_state.specs.Parts.{state_of}
 use Rattle.nob_space_state.specs.Stands.{TableShows}
 use Rattle.nob_space_state.specs.Taking.{reps_of, is_overfull, is_reply, CanTake, with_more, with_fewer}
 use Rattle.nob_model.proofs.Accepted.{found_passes}
-use Rattle.nob_space_state.proofs.Firsts.{no_place, at_place, place_first, some_same}
+use Rattle.nob_model_work.proofs.Firsts.{no_place, at_place, place_first}
+use Rattle.nob_space_state.proofs.Firsts.{some_same}
 use Rattle.nob_space_state.proofs.Orderly.{take_is, end_is}
 use Rattle.nob_space_state.proofs.Replies.{take_right, take_no_call, take_no_reply, take_reply_there, reply_is, full_answer, reply_answer, overfull_there, reply_told, can_take, take_stands, end_stands}
 use Rattle.nob_space_state.proofs.parts.Parts.take_reply.Goals as goal
