@@ -14,13 +14,14 @@ use Rattle.nob_model_words.specs.declared.deed.Deed.TheVariants.{Act, Withdraw}
 use Rattle.nob_model_work.specs.Gifts.{all_gifts}
 use Rattle.nob_model.specs.Right.{own_ref}
 use Rattle.nob_model_journal.specs.Journals.{deeds_at, sent_to, acted_from}
-use Rattle.nob_model_journal.specs.Tests.{spaces_in, senders_in, is_front, is_unneeded, is_lossless, acts_while_open, sends_while_open, has_fronts, keeps_fronts}
+use Rattle.nob_model_journal.specs.Tests.{spaces_in, senders_in, is_front, is_unneeded, reps_at_risk, is_excused, is_lossless, acts_while_open, sends_while_open, has_fronts, keeps_fronts}
 use Rattle.nob_check_ledgers.specs.Ledgers.{acted_items}
 use Rattle.nob_check_ledgers.specs.declared.lists.ActedItem.{ActedItem}
 use Rattle.nob_check_ledgers.specs.declared.ledger.Ledger.{Ledger}
-use Rattle.nob_check.specs.Books.{books_of, did_by, sent_by}
-use Rattle.nob_check.specs.Checks.{needs_by, is_unneeded_by, is_lossless_by, acted_from_by, items_to, is_in_order_by, has_fronts_by, keeps_fronts_by}
-use Rattle.nob_check.proofs.Ledgers.{ledger_at, did_same, sent_is}
+use Rattle.nob_check.specs.Books.{books_of, find_ledger, did_by, sent_by}
+use Rattle.nob_check.specs.Checks.{needs_by, is_unneeded_by, is_act_excused_by, is_lossless_in, is_lossless_by, acted_from_by, items_to, is_in_order_by, has_fronts_by, keeps_fronts_by}
+use Rattle.nob_model_journal.proofs.Looking.{is_in, no_deed}
+use Rattle.nob_check.proofs.Ledgers.{ledger_at, found_at, did_same, sent_is}
 
 -- whether a deed isn't the withdrawal of what a space needs
 pub unneeded_is : (n s : ℕ) (deed : Option Deed) (J : List Entry) → is_unneeded_by s deed (books_of n J) ≡ is_unneeded n s deed J
@@ -30,14 +31,22 @@ unneeded_is n s (Some (Withdraw index)) J =
     ∙ ap (λ (did : ℕ → List Deed). list_all (λ x. not (needs_by did (own_ref s index) (ledger_at n J x))) (spaces_in J)) (did_same n J)
 unneeded_is n s (Some _) J = refl
 
-lossless_by : (n s : ℕ) (deed : Option Deed) (J : List Entry) → is_lossless_by (λ x. deeds_at x J) n s deed ≡ is_lossless n s deed J
-lossless_by n s None J = refl
-lossless_by n s (Some (Act p k)) J = refl
-lossless_by n s (Some _) J = refl
+-- whether what an Act loses is excused
+act_lossless : (n s p k : ℕ) (J : List Entry) (t : Bool) → is_in s (spaces_in J) ≡ t → is_lossless_in (did_by (books_of n J)) p k (find_ledger s (books_of n J)) ≡ is_lossless n s (Some (Act p k)) J
+act_lossless n s p k J true there =
+    ap (λ (found : Option Ledger). is_lossless_in (did_by (books_of n J)) p k found) (found_at n J s (spaces_in J))
+    ∙ ap (λ (b : Bool). is_lossless_in (did_by (books_of n J)) p k (cond b (Some (ledger_at n J s)) None)) there
+    ∙ ap (λ (did : ℕ → List Deed). is_act_excused_by did n s p k (deeds_at s J)) (did_same n J)
+act_lossless n s p k J false none =
+    ap (λ (found : Option Ledger). is_lossless_in (did_by (books_of n J)) p k found) (found_at n J s (spaces_in J))
+    ∙ ap (λ (b : Bool). is_lossless_in (did_by (books_of n J)) p k (cond b (Some (ledger_at n J s)) None)) none
+    ∙ sym (ap (λ (D : List Deed). list_all (is_excused n s p k J) (reps_at_risk p (item_at p k D))) (no_deed s J none))
 
 -- whether what a deed loses is excused
-pub lossless_is : (n s : ℕ) (deed : Option Deed) (J : List Entry) → is_lossless_by (did_by (books_of n J)) n s deed ≡ is_lossless n s deed J
-lossless_is n s deed J = ap (λ (did : ℕ → List Deed). is_lossless_by did n s deed) (did_same n J) ∙ lossless_by n s deed J
+pub lossless_is : (n s : ℕ) (deed : Option Deed) (J : List Entry) → is_lossless_by s deed (books_of n J) ≡ is_lossless n s deed J
+lossless_is n s None J = refl
+lossless_is n s (Some (Act p k)) J = act_lossless n s p k J (is_in s (spaces_in J)) refl
+lossless_is n s (Some _) J = refl
 
 -- ---- fronts
 

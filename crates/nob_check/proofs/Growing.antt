@@ -11,7 +11,7 @@ use Rattle.nob_model_journal.specs.Tests.{spaces_in, with_space}
 use Rattle.nob_model_journal.proofs.Looking.{is_in, no_deed}
 use Rattle.nob_check_ledgers.specs.Ledgers.{ledger_of, ledger_after}
 use Rattle.nob_check_ledgers.proofs.Kept.{ledger_kept}
-use Rattle.nob_check.specs.Books.{books_of, with_ledger, grown, grown_by, with_entry}
+use Rattle.nob_check.specs.Books.{books_of, with_ledger, ledgers_after, ledgers_after_by, with_entry}
 use Rattle.nob_check.proofs.Ledgers.{ledger_at}
 
 -- ---- each space once
@@ -58,7 +58,7 @@ idle_deeds entry J s none = by (s == entry.space) refl
 
 -- ---- a ledger for each space
 
-any_at : (n s : ℕ) (J : List Entry) (xs : List ℕ) → list_any (λ ledger. ledger.here.space == s) (map (ledger_at n J) xs) ≡ is_in s xs
+any_at : (n s : ℕ) (J : List Entry) (xs : List ℕ) → list_any (λ ledger. ledger.index.here.space == s) (map (ledger_at n J) xs) ≡ is_in s xs
 any_at n s J [] = refl
 any_at n s J (x ∷ xs) = ap (λ (b : Bool). (x == s) || b) (any_at n s J xs)
 
@@ -93,30 +93,30 @@ unmoved n entry J (x ∷ xs) none =
 moved : (n : ℕ) (entry : Entry) (J : List Entry) (deed : Deed) → deed_in entry ≡ Some deed → ledger_after deed (ledger_at n J entry.space) ≡ ledger_at n (entry ∷ J) entry.space
 moved n entry J deed is = ledger_kept entry.space n deed (deeds_at entry.space J) ∙ ap (ledger_of entry.space n) (sym (own_deeds entry J (Some deed) is))
 
-grown_is : (n : ℕ) (entry : Entry) (J : List Entry) (deed : Deed) → deed_in entry ≡ Some deed → (xs : List ℕ) → AreOnce xs → grown entry.space deed (map (ledger_at n J) xs) ≡ map (ledger_at n (entry ∷ J)) xs
-grown_is n entry J deed is [] once = refl
-grown_is n entry J deed is (x ∷ xs) once = by (grown_is n entry J deed is xs once.1) (x == entry.space) refl
+ledgers_after_is : (n : ℕ) (entry : Entry) (J : List Entry) (deed : Deed) → deed_in entry ≡ Some deed → (xs : List ℕ) → AreOnce xs → ledgers_after entry.space deed (map (ledger_at n J) xs) ≡ map (ledger_at n (entry ∷ J)) xs
+ledgers_after_is n entry J deed is [] once = refl
+ledgers_after_is n entry J deed is (x ∷ xs) once = by (ledgers_after_is n entry J deed is xs once.1) (x == entry.space) refl
   where
-    by : grown entry.space deed (map (ledger_at n J) xs) ≡ map (ledger_at n (entry ∷ J)) xs → (t : Bool) → x == entry.space ≡ t → grown entry.space deed (map (ledger_at n J) (x ∷ xs)) ≡ map (ledger_at n (entry ∷ J)) (x ∷ xs)
+    by : ledgers_after entry.space deed (map (ledger_at n J) xs) ≡ map (ledger_at n (entry ∷ J)) xs → (t : Bool) → x == entry.space ≡ t → ledgers_after entry.space deed (map (ledger_at n J) (x ∷ xs)) ≡ map (ledger_at n (entry ∷ J)) (x ∷ xs)
     by grew true same =
         let here : x ≡ entry.space = eqb-true x entry.space same in
         let first : ledger_after deed (ledger_at n J x) ≡ ledger_at n (entry ∷ J) x = subst (λ (s : ℕ). ledger_after deed (ledger_at n J s) ≡ ledger_at n (entry ∷ J) s) (sym here) (moved n entry J deed is) in
         let rest = unmoved n entry J xs (subst (λ (s : ℕ). is_in s xs ≡ false) here once.0) in
-        ap (λ (b : Bool). cond b (ledger_after deed (ledger_at n J x) ∷ map (ledger_at n J) xs) (ledger_at n J x ∷ grown entry.space deed (map (ledger_at n J) xs))) same
+        ap (λ (b : Bool). cond b (ledger_after deed (ledger_at n J x) ∷ map (ledger_at n J) xs) (ledger_at n J x ∷ ledgers_after entry.space deed (map (ledger_at n J) xs))) same
         ∙ (λ i. first i ∷ rest i)
     by grew false other =
         let first = far_deeds entry J x other in
-        ap (λ (b : Bool). cond b (ledger_after deed (ledger_at n J x) ∷ map (ledger_at n J) xs) (ledger_at n J x ∷ grown entry.space deed (map (ledger_at n J) xs))) other
+        ap (λ (b : Bool). cond b (ledger_after deed (ledger_at n J x) ∷ map (ledger_at n J) xs) (ledger_at n J x ∷ ledgers_after entry.space deed (map (ledger_at n J) xs))) other
         ∙ (λ i. ledger_of x n (first i) ∷ grew i)
 
 -- the ledgers after an entry are those of one entry more
 pub books_kept : (n : ℕ) (entry : Entry) (J : List Entry) → with_entry n entry.space (deed_in entry) (books_of n J) ≡ books_of n (entry ∷ J)
-books_kept n entry J = ap (grown_by entry.space (deed_in entry)) (opened n entry.space J) ∙ by (deed_in entry) refl
+books_kept n entry J = ap (ledgers_after_by entry.space (deed_in entry)) (opened n entry.space J) ∙ by (deed_in entry) refl
   where
-    by : (found : Option Deed) → deed_in entry ≡ found → grown_by entry.space (deed_in entry) (map (ledger_at n J) (spaces_in (entry ∷ J))) ≡ books_of n (entry ∷ J)
+    by : (found : Option Deed) → deed_in entry ≡ found → ledgers_after_by entry.space (deed_in entry) (map (ledger_at n J) (spaces_in (entry ∷ J))) ≡ books_of n (entry ∷ J)
     by None is =
-        ap (λ (did : Option Deed). grown_by entry.space did (map (ledger_at n J) (spaces_in (entry ∷ J)))) is
+        ap (λ (did : Option Deed). ledgers_after_by entry.space did (map (ledger_at n J) (spaces_in (entry ∷ J)))) is
         ∙ (λ i. map (λ s. ledger_of s n (idle_deeds entry J s is i)) (spaces_in (entry ∷ J)))
     by (Some deed) is =
-        ap (λ (did : Option Deed). grown_by entry.space did (map (ledger_at n J) (spaces_in (entry ∷ J)))) is
-        ∙ grown_is n entry J deed is (spaces_in (entry ∷ J)) (spaces_once (entry ∷ J))
+        ap (λ (did : Option Deed). ledgers_after_by entry.space did (map (ledger_at n J) (spaces_in (entry ∷ J)))) is
+        ∙ ledgers_after_is n entry J deed is (spaces_in (entry ∷ J)) (spaces_once (entry ∷ J))

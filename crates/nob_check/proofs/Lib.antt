@@ -2,4 +2,6 @@ pub mod Ledgers
 pub mod Growing
 pub mod Checked
 pub mod Passing
+pub mod Fronting
+pub mod Opening
 pub mod Judged

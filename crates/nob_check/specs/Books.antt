@@ -18,12 +18,12 @@ books_of n J = map (λ s. ledger_of s n (deeds_at s J)) (spaces_in J)
 
 -- the ledger of a space
 abbrev pub find_ledger : ℕ → List Ledger → Option Ledger
-find_ledger s books = find (λ ledger. ledger.here.space == s) books
+find_ledger s books = find (λ ledger. ledger.index.here.space == s) books
 
 -- the deeds of a ledger, where there is one
 abbrev pub deeds_in : Option Ledger → List Deed
 deeds_in None = []
-deeds_in (Some ledger) = ledger.deeds
+deeds_in (Some ledger) = ledger.index.deeds
 
 -- what was sent by a ledger, where there is one
 abbrev pub sent_in : Option Ledger → List SentItem
@@ -52,18 +52,18 @@ reaches_owner_by did c rep = is_own c rep || both_open_by did c rep.owner
 
 -- the ledgers with one of a space, an empty one where there is none
 abbrev pub with_ledger : (n s : ℕ) → List Ledger → List Ledger
-with_ledger n s books = if list_any (λ ledger. ledger.here.space == s) books then books else ledger_of s n [] ∷ books
+with_ledger n s books = if list_any (λ ledger. ledger.index.here.space == s) books then books else ledger_of s n [] ∷ books
 
 -- the ledgers after a deed of a space
-abbrev pub grown : ℕ → Deed → List Ledger → List Ledger
-grown s deed [] = []
-grown s deed (ledger ∷ books) = if ledger.here.space == s then ledger_after deed ledger ∷ books else ledger ∷ grown s deed books
+abbrev pub ledgers_after : ℕ → Deed → List Ledger → List Ledger
+ledgers_after s deed [] = []
+ledgers_after s deed (ledger ∷ books) = if ledger.index.here.space == s then ledger_after deed ledger ∷ books else ledger ∷ ledgers_after s deed books
 
 -- the ledgers after what a space did
-abbrev pub grown_by : ℕ → Option Deed → List Ledger → List Ledger
-grown_by s None books = books
-grown_by s (Some deed) books = grown s deed books
+abbrev pub ledgers_after_by : ℕ → Option Deed → List Ledger → List Ledger
+ledgers_after_by s None books = books
+ledgers_after_by s (Some deed) books = ledgers_after s deed books
 
 -- the ledgers after an entry of a space that did this
 abbrev pub with_entry : (n s : ℕ) → Option Deed → List Ledger → List Ledger
-with_entry n s deed books = grown_by s deed (with_ledger n s books)
+with_entry n s deed books = ledgers_after_by s deed (with_ledger n s books)

@@ -1,5 +1,5 @@
 -- What is tested of an entry by the ledgers of all spaces before it, and of all fronts at the end.
-use Rattle.std.specs.Prelude.{ℕ, Bool, true, ◌&&◌, ◌||◌, not, ◌==◌, List, ◌∷◌, Option, Some, map, filter}
+use Rattle.std.specs.Prelude.{ℕ, Bool, true, ◌&&◌, ◌||◌, not, ◌==◌, List, [], ◌∷◌, Option, Some, None, map, filter, if◌then◌else◌}
 use Rattle.std.specs.List.{list_any, list_all}
 use Rattle.nob_ids.specs.declared.wire_rep.WireRep.{WireRep}
 use Rattle.nob_item.specs.declared.item.Item.{Item}
@@ -11,21 +11,26 @@ use Rattle.nob_model_history.specs.Transit.{is_settled}
 use Rattle.nob_model_history.specs.declared.transit.SentItem.{SentItem}
 use Rattle.nob_model.specs.Right.{own_ref}
 use Rattle.nob_model_journal.specs.Losses.{is_loss, sources}
-use Rattle.nob_model_journal.specs.Tests.{reps_at_risk, senders_in, is_front}
+use Rattle.nob_model_journal.specs.Tests.{reps_at_risk, senders_in, same_item, is_front}
 use Rattle.nob_check_ledgers.specs.Ledgers.{is_held_by}
+use Rattle.nob_check_ledgers.specs.declared.sent.Place.{Place}
 use Rattle.nob_check_ledgers.specs.declared.lists.ActedItem.{ActedItem}
 use Rattle.nob_check_ledgers.specs.declared.ledger.Ledger.{Ledger}
-use Rattle.nob_check.specs.Books.{did_by, sent_by, both_open_by, reaches_owner_by}
+use Rattle.nob_check.specs.Books.{find_ledger, did_by, sent_by, both_open_by, reaches_owner_by}
 
 -- ---- withdrawals
 
 -- whether the space of a ledger can use a reference
 abbrev pub can_use_by : (ℕ → List Deed) → WireRep → Ledger → Bool
-can_use_by did rep ledger = is_held_by rep ledger && reaches_owner_by did ledger.here.space rep
+can_use_by did rep ledger = is_held_by rep ledger && reaches_owner_by did ledger.index.here.space rep
+
+-- whether what the space of a ledger sent to a place isn't settled, on a session that is open at both ends, and the space reaches the owner of a reference
+abbrev pub is_open_place_by : (ℕ → List Deed) → WireRep → Ledger → Place → Bool
+is_open_place_by did rep ledger place = not (is_settled place.to place.number ledger.index.deeds) && both_open_by did ledger.index.here.space place.to && reaches_owner_by did ledger.index.here.space rep
 
 -- whether what the space of a ledger sent carries a reference in open transit
 abbrev pub is_open_copy_by : (ℕ → List Deed) → WireRep → Ledger → SentItem → Bool
-is_open_copy_by did rep ledger sent_item = carries rep sent_item.item && not (is_settled sent_item.to sent_item.number ledger.deeds) && both_open_by did ledger.here.space sent_item.to && reaches_owner_by did ledger.here.space rep
+is_open_copy_by did rep ledger sent_item = carries rep sent_item.item && not (is_settled sent_item.to sent_item.number ledger.index.deeds) && both_open_by did ledger.index.here.space sent_item.to && reaches_owner_by did ledger.index.here.space rep
 
 -- whether the space of a ledger needs a reference
 abbrev pub needs_by : (ℕ → List Deed) → WireRep → Ledger → Bool
@@ -50,10 +55,15 @@ is_excused_by did n s p k D rep = not (is_loss s n p rep (item_at p k D) D) || l
 abbrev pub is_act_excused_by : (ℕ → List Deed) → (n s p k : ℕ) → List Deed → Bool
 is_act_excused_by did n s p k D = list_all (is_excused_by did n s p k D) (reps_at_risk p (item_at p k D))
 
+-- whether each reference that is lost where the space of a ledger acts on item k from p is excused; without a ledger no item came
+abbrev pub is_lossless_in : (ℕ → List Deed) → (p k : ℕ) → Option Ledger → Bool
+is_lossless_in did p k None = true
+is_lossless_in did p k (Some ledger) = is_act_excused_by did ledger.index.here.n ledger.index.here.space p k ledger.index.deeds
+
 -- whether each reference that is lost by a deed of space s is excused
-abbrev pub is_lossless_by : (ℕ → List Deed) → (n s : ℕ) → Option Deed → Bool
-is_lossless_by did n s (Some (Act p k)) = is_act_excused_by did n s p k (did s)
-is_lossless_by did n s _ = true
+abbrev pub is_lossless_by : ℕ → Option Deed → List Ledger → Bool
+is_lossless_by s (Some (Act p k)) books = is_lossless_in (did_by books) p k (find_ledger s books)
+is_lossless_by s _ books = true
 
 -- ---- fronts
 
@@ -65,13 +75,19 @@ acted_from_by a items = map (λ acted_item. (acted_item.number, acted_item.item)
 abbrev pub items_to : ℕ → List SentItem → List Item
 items_to b sent_items = map (λ sent_item. sent_item.item) (filter (λ sent_item. sent_item.to == b) sent_items)
 
+-- what is left of these items behind the first, where that is the one that was acted on and has its number
+abbrev pub behind : ℕ → ℕ × Option Item → List Item → Option (List Item)
+behind k (number, None) items = None
+behind k (number, Some item) [] = None
+behind k (number, Some item) (sent_item ∷ items) = if number == k && same_item item sent_item then Some items else None
+
 -- whether what the space of a ledger acted on from a is a front of what a sent it
 abbrev pub is_in_order_by : (ℕ → List SentItem) → Ledger → ℕ → Bool
-is_in_order_by sent ledger a = is_front 1 (acted_from_by a ledger.acted_items) (items_to ledger.here.space (sent a))
+is_in_order_by sent ledger a = is_front 1 (acted_from_by a ledger.acted_items) (items_to ledger.index.here.space (sent a))
 
 -- whether the fronts of the space of a ledger are as they should be
 abbrev pub has_fronts_by : (ℕ → List SentItem) → Ledger → Bool
-has_fronts_by sent ledger = list_all (is_in_order_by sent ledger) (senders_in ledger.deeds) && ledger.acts_open && ledger.sends_open
+has_fronts_by sent ledger = list_all (is_in_order_by sent ledger) (senders_in ledger.index.deeds) && ledger.acts_open && ledger.sends_open
 
 -- whether all fronts are
 abbrev pub keeps_fronts_by : List Ledger → Bool

@@ -7,7 +7,7 @@ use Rattle.nob_model_journal.specs.Tests.{withdraws_safely, excuses_losses, find
 use Rattle.nob_model_journal.specs.declared.verdict.Promise.TheVariants as promises
 use Rattle.nob_model_journal.specs.declared.verdict.Verdict.{Verdict}
 use Rattle.nob_model_journal.specs.declared.verdict.Verdict.TheVariants.{Yes, No}
-use Rattle.nob_check.specs.Books.{books_of, did_by, with_entry}
+use Rattle.nob_check.specs.Books.{books_of, with_entry}
 use Rattle.nob_check.specs.Checks.{is_unneeded_by, is_lossless_by, keeps_fronts_by}
 use Rattle.nob_check.specs.declared.judging.Judging.{Judging}
 
@@ -20,7 +20,7 @@ abbrev pub with_next : ℕ → Entry → Judging → Judging
 with_next n entry judging = record {
   books = with_entry n entry.space (deed_in entry) judging.books;
   withdraws = is_unneeded_by entry.space (deed_in entry) judging.books && judging.withdraws;
-  losses = is_lossless_by (did_by judging.books) n entry.space (deed_in entry) && judging.losses;
+  losses = is_lossless_by entry.space (deed_in entry) judging.books && judging.losses;
   found = not (is_fault_found entry.result) && judging.found;
 }
 

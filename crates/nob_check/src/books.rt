@@ -7,13 +7,13 @@ ghost use Rattle.nob_check.specs.Books as words;
 
 use nob_check_ledgers::{Ledger, new_ledger, with_deed};
 use nob_ids::{SpaceId, WireRep};
-use nob_model_words::{Deed, Here, sessions};
+use nob_model_words::{Deed, Here};
 use std::alloc::{AllocError, Global};
 use std::marker::Model;
 
 /// The ledgers of the spaces that have entries, the one that came last first. Contracts see the
 /// list.
-#[derive(Debug, Drop)]
+#[derive(Drop)]
 pub struct Books {
     ledgers: Vec<Ledger>,
 }
@@ -63,7 +63,7 @@ pub fn find_ledger(space: SpaceId, books: &[Ledger]) -> Option<&Ledger>
     match books {
         [] => None,
         [ledger, others @ ..] => {
-            if ledger.here.space == space {
+            if ledger.index.here().space == space {
                 return Some(ledger);
             }
             find_ledger(space, others)
@@ -76,7 +76,7 @@ pub fn closed_at(space: SpaceId, peer: SpaceId, books: &[Ledger]) -> bool
     ensures { result ≡ words.closed_by (words.did_by books.now) space peer }
 {
     match find_ledger(space, books) {
-        Some(ledger) => sessions::closed(peer, ledger.deeds.as_slice()),
+        Some(ledger) => ledger.index.is_closed(peer),
         None => false,
     }
 }
@@ -97,9 +97,11 @@ pub fn reaches_owner(space: SpaceId, rep: &WireRep, books: &[Ledger]) -> bool
 
 // Whether a space has a ledger.
 fn has_ledger(space: SpaceId, books: &[Ledger]) -> bool
-    ensures { result ≡ list_any (λ ledger. ledger.here.space == space) books.now }
+    ensures { result ≡ list_any (λ ledger. ledger.index.here.space == space) books.now }
 {
-    books.iter().any(|ledger| ledger.here.space == space)
+    books
+        .iter()
+        .any(|ledger| ledger.index.here().space == space)
 }
 
 // The ledgers with one of a space, an empty one where there is none.
@@ -118,24 +120,24 @@ fn with_ledger(
 }
 
 // The ledgers after a deed of a space.
-fn grown(
+fn ledgers_after(
     alloc: Global,
     space: SpaceId,
     deed: Deed,
     mut ledgers: Vec<Ledger>,
 ) -> Result<Vec<Ledger>, AllocError>
-    ensures { IfOk result (λ after. after.items ≡ words.grown space deed ledgers.items) }
+    ensures { IfOk result (λ after. after.items ≡ words.ledgers_after space deed ledgers.items) }
 {
     if ledgers.is_empty() {
         return Ok(ledgers);
     }
     let first = ledgers.remove(0);
-    if first.here.space == space {
+    if first.index.here().space == space {
         let after = with_deed(alloc, deed, first)?;
         ledgers.insert(0, after)?;
         return Ok(ledgers);
     }
-    let mut rest = grown(alloc, space, deed, ledgers)?;
+    let mut rest = ledgers_after(alloc, space, deed, ledgers)?;
     rest.insert(0, first)?;
     Ok(rest)
 }
@@ -152,7 +154,7 @@ pub fn with_entry(
 {
     let ledgers = with_ledger(alloc, here, books.into_vec())?;
     match deed {
-        Some(deed) => Ok(Books::from_vec(grown(alloc, here.space, deed, ledgers)?)),
+        Some(deed) => Ok(Books::from_vec(ledgers_after(alloc, here.space, deed, ledgers)?)),
         None => Ok(Books::from_vec(ledgers)),
     }
 }

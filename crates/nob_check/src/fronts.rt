@@ -1,7 +1,8 @@
 //! Gapless fronts.
 
-ghost use Rattle.std.specs.Prelude.{◌≡◌, ◌<◌, ◌+◌, ◌^◌, IfOk, length};
+ghost use Rattle.std.specs.Prelude.{◌≡◌, ◌<◌, ◌+◌, ◌^◌, [], ◌∷◌, ◌++◌, IfOk, length};
 ghost use Rattle.std.specs.List.{list_all};
+ghost use Rattle.std.specs.Option.{option_map};
 ghost use Rattle.nob_model_journal.specs.Tests as tests;
 ghost use Rattle.nob_check.specs.Books as books_words;
 ghost use Rattle.nob_check.specs.Checks as words;
@@ -12,26 +13,44 @@ use nob_check_ledgers::{ActedItem, Ledger};
 use nob_ids::{ItemNo, SpaceId};
 use nob_item::Item;
 use nob_model_history::SentItem;
-use nob_model_journal::journals::senders_in;
 use std::alloc::{AllocError, Global};
 
-// Whether items with their numbers are the first of these, which are counted from `number` on.
-fn is_front(number: u64, acted_on: &[(ItemNo, Option<Item>)], items: &[Item]) -> bool
-    requires { number + length acted_on.now < 2 ^ 64 }
-    ensures { result ≡ tests.is_front number acted_on.now items.now }
+// What is left of these items behind the first, where that is the one that was acted on and has its
+// number.
+fn behind<'a>(
+    number: u64,
+    acted_on: &(ItemNo, Option<Item>),
+    items: &'a [Item],
+) -> Option<&'a [Item]>
+    ensures { option_map (λ rest. rest.now) result ≡ words.behind number acted_on.now items.now }
 {
-    match acted_on {
-        [] => true,
-        [(own_number, Some(item)), later @ ..] => match items {
-            [] => false,
-            [sent_item, rest @ ..] => {
-                own_number.get() == number
-                    && same_item(item, sent_item)
-                    && is_front(number + 1, later, rest)
-            }
-        },
-        [_, ..] => false,
+    let (own_number, Some(item)) = acted_on else {
+        return None;
+    };
+    let [sent_item, rest @ ..] = items else {
+        return None;
+    };
+    if own_number.get() == number && same_item(item, sent_item) {
+        return Some(rest);
     }
+    None
+}
+
+// Whether items with their numbers are the first of these, which are counted from 1 on.
+fn is_front(acted_on: &[(ItemNo, Option<Item>)], items: &[Item]) -> bool
+    requires { 1 + length acted_on.now < 2 ^ 64 }
+    ensures { result ≡ tests.is_front 1 acted_on.now items.now }
+{
+    let mut number = 1;
+    let mut rest = items;
+    for one in acted_on {
+        let Some(later) = behind(number, one, rest) else {
+            return false;
+        };
+        number += 1;
+        rest = later;
+    }
+    true
 }
 
 // An equal item, where there is one.
@@ -44,6 +63,23 @@ fn copy_of(item: &Option<Item>) -> Result<Option<Item>, AllocError>
     }
 }
 
+// Items from a space with one more that was acted on, if it is from there too.
+fn with_acted(
+    sender: SpaceId,
+    acted_item: &ActedItem,
+    mut items: Vec<(ItemNo, Option<Item>)>,
+) -> Result<Vec<(ItemNo, Option<Item>)>, AllocError>
+    ensures { IfOk result (λ more. more.items
+        ≡ items.items ++ words.acted_from_by sender (acted_item.now ∷ [])) }
+{
+    if acted_item.from != sender {
+        return Ok(items);
+    }
+    let item = copy_of(&acted_item.item)?;
+    items.push((acted_item.number, item))?;
+    Ok(items)
+}
+
 // The items from a space among these that were acted on, with the numbers that were answered.
 fn acted_from(
     alloc: Global,
@@ -52,17 +88,28 @@ fn acted_from(
 ) -> Result<Vec<(ItemNo, Option<Item>)>, AllocError>
     ensures { IfOk result (λ items. items.items ≡ words.acted_from_by sender acted_items.now) }
 {
-    match acted_items {
-        [] => Ok(Vec::new(alloc)),
-        [acted_item, others @ ..] => {
-            let mut items = acted_from(alloc, sender, others)?;
-            if acted_item.from == sender {
-                let item = copy_of(&acted_item.item)?;
-                items.insert(0, (acted_item.number, item))?;
-            }
-            Ok(items)
-        }
+    let mut items = Vec::new(alloc);
+    for acted_item in acted_items {
+        items = with_acted(sender, acted_item, items)?;
     }
+    Ok(items)
+}
+
+// Items to a space with one more that was sent, if it went there too.
+fn with_sent(
+    receiver: SpaceId,
+    sent_item: &SentItem,
+    mut items: Vec<Item>,
+) -> Result<Vec<Item>, AllocError>
+    ensures { IfOk result (λ more. more.items
+        ≡ items.items ++ words.items_to receiver (sent_item.now ∷ [])) }
+{
+    if sent_item.to != receiver {
+        return Ok(items);
+    }
+    let item = sent_item.item.copy()?;
+    items.push(item)?;
+    Ok(items)
 }
 
 // The items among these that went to a space.
@@ -73,16 +120,11 @@ fn items_to(
 ) -> Result<Vec<Item>, AllocError>
     ensures { IfOk result (λ items. items.items ≡ words.items_to receiver sent_items.now) }
 {
-    match sent_items {
-        [] => Ok(Vec::new(alloc)),
-        [sent_item, others @ ..] => {
-            let mut items = items_to(alloc, receiver, others)?;
-            if sent_item.to == receiver {
-                items.insert(0, sent_item.item.copy()?)?;
-            }
-            Ok(items)
-        }
+    let mut items = Vec::new(alloc);
+    for sent_item in sent_items {
+        items = with_sent(receiver, sent_item, items)?;
     }
+    Ok(items)
 }
 
 // The items that a space sent to another, the first first.
@@ -112,8 +154,8 @@ fn is_in_order(
         ≡ words.is_in_order_by (books_words.sent_by books.now) ledger.now sender) }
 {
     let acted_on = acted_from(alloc, sender, ledger.acted_items.as_slice())?;
-    let items = sent_to(alloc, sender, ledger.here.space, books)?;
-    Ok(is_front(1, acted_on.as_slice(), items.as_slice()))
+    let items = sent_to(alloc, sender, ledger.index.here().space, books)?;
+    Ok(is_front(acted_on.as_slice(), items.as_slice()))
 }
 
 // Whether what the space of a ledger acted on from each of these senders is a front of what was
@@ -143,8 +185,7 @@ fn has_fronts(alloc: Global, ledger: &Ledger, books: &[Ledger]) -> Result<bool, 
     ensures { IfOk result (λ answer. answer
         ≡ words.has_fronts_by (books_words.sent_by books.now) ledger.now) }
 {
-    let senders = senders_in(alloc, ledger.deeds.as_slice())?;
-    if !are_in_order(alloc, ledger, senders.as_slice(), books)? {
+    if !are_in_order(alloc, ledger, ledger.index.senders(), books)? {
         return Ok(false);
     }
     Ok(ledger.acts_open && ledger.sends_open)

@@ -17,7 +17,7 @@ use std::alloc::{AllocError, Global};
 const MOST_SPACES: u16 = 32;
 
 /// What was seen of the entries so far.
-#[derive(Debug, Drop)]
+#[derive(Drop)]
 pub struct Judging {
     /// The ledgers of all spaces.
     pub books: Books,
@@ -55,7 +55,7 @@ fn with_next(alloc: Global, n: u16, entry: &Entry, judging: Judging) -> Result<J
     let here = Here { space, n };
     let deed = Deed::of_entry(entry)?;
     let unneeded = is_unneeded(alloc, space, &deed, books.as_slice())?;
-    let lossless = is_lossless(alloc, &here, &deed, books.as_slice())?;
+    let lossless = is_lossless(alloc, space, &deed, books.as_slice())?;
     let faultless = !is_fault_found(&entry.result);
     let books = with_entry(alloc, here, deed, books)?;
     Ok(Judging {
@@ -110,9 +110,8 @@ fn verdict_on(alloc: Global, judging: &Judging) -> Result<Verdict, AllocError>
 
 /// The verdict on a journal of 32 spaces, the first entry first: yes where all four promises are
 /// kept, else the first that isn't. Only memory fails it. It passes the entries once and keeps a
-/// ledger of each space; an entry costs what its space's ledger does: it looks back over that
-/// space's own deeds for the references that the entry and the messages in hand name. A Withdraw
-/// looks at all ledgers.
+/// ledger of each space; an entry costs what its space's ledger does: it looks up what the entry
+/// touches, and passes the messages in hand. A Withdraw looks at all ledgers.
 pub fn judge(alloc: Global, journal: &[Entry]) -> Result<Verdict, AllocError>
     ensures { IfOk result (λ verdict. IsVerdict most_spaces (reverse journal.now) verdict) }
 {

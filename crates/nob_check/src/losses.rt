@@ -1,19 +1,21 @@
 //! No reference is lost without a cause, and every reference is found.
 
-ghost use Rattle.std.specs.Prelude.{◌≡◌, IfOk};
+ghost use Rattle.std.specs.Prelude.{◌≡◌, ◌∷◌, IfOk, Some};
 ghost use Rattle.std.specs.List.{list_all};
 ghost use Rattle.nob_model_words.specs.Sessions.{item_at};
+ghost use Rattle.nob_model_journal.specs.Losses.{sources};
 ghost use Rattle.nob_model_journal.specs.Findings as findings;
 ghost use Rattle.nob_model_journal.specs.Tests as tests;
 ghost use Rattle.nob_check.specs.Books as books_words;
 ghost use Rattle.nob_check.specs.Checks as words;
 
 use crate::books::{both_open, find_ledger};
-use nob_check_ledgers::{Ledger, is_loss, sources_with};
+use nob_check_index::DeedIndex;
+use nob_check_ledgers::{Ledger, is_carried, is_loss};
 use nob_ids::{ItemNo, Reason, SpaceId, WireRep};
 use nob_item::Item;
 use nob_model_types::{Answer, Refusal};
-use nob_model_words::{Deed, Here, sessions};
+use nob_model_words::Deed;
 use std::alloc::{AllocError, Global};
 
 // Whether a session closes for this reason because of what came over it.
@@ -48,118 +50,149 @@ fn are_excuses(space: SpaceId, rep: &WireRep, all: &[SpaceId], books: &[Ledger])
     ensures { result ≡ list_all (words.is_excuse_by (books_words.did_by books.now) space rep.now)
         all.now }
 {
-    match all {
-        [] => true,
-        [source, others @ ..] => {
-            is_excuse(space, rep, *source, books) && are_excuses(space, rep, others, books)
+    for source in all {
+        if !is_excuse(space, rep, *source, books) {
+            return false;
         }
     }
+    true
+}
+
+// Whether each copy of a reference that came excuses its loss.
+fn are_all_excuses(past: &DeedIndex, rep: &WireRep, books: &[Ledger]) -> bool
+    ensures { result ≡ list_all (words.is_excuse_by
+        (books_words.did_by books.now) past.now.here.space rep.now)
+        (sources past.now.here.space past.now.here.n rep.now past.now.deeds) }
+{
+    are_excuses(past.here().space, rep, past.sources(rep), books)
+}
+
+// Whether each copy of a reference that came excuses its loss, that of the item which is acted on
+// too.
+fn has_excuses(
+    alloc: Global,
+    from: SpaceId,
+    number: ItemNo,
+    past: &DeedIndex,
+    rep: &WireRep,
+    books: &[Ledger],
+) -> Result<bool, AllocError>
+    ensures { IfOk result (λ answer. answer
+        ≡ list_all (words.is_excuse_by (books_words.did_by books.now) past.now.here.space rep.now)
+        (sources past.now.here.space past.now.here.n rep.now
+        (Deed.Act from number ∷ past.now.deeds))) }
+{
+    let others = are_all_excuses(past, rep, books);
+    if is_carried(alloc, from, number, rep, past)? {
+        return Ok(is_excuse(past.here().space, rep, from, books) && others);
+    }
+    Ok(others)
 }
 
 // Whether a reference isn't lost where a space acts on an item, or is with an excuse for each copy.
 fn is_excused(
     alloc: Global,
-    here: &Here,
     from: SpaceId,
     number: ItemNo,
-    deeds: &[Deed],
+    past: &DeedIndex,
     rep: &WireRep,
     books: &[Ledger],
 ) -> Result<bool, AllocError>
     ensures { IfOk result (λ answer. answer
-        ≡ words.is_excused_by (books_words.did_by books.now) here.now.n here.now.space from number
-        deeds.now rep.now) }
+        ≡ words.is_excused_by (books_words.did_by books.now) past.now.here.n past.now.here.space
+        from number past.now.deeds rep.now) }
 {
-    let item = sessions::item_at(alloc, from, number, deeds)?;
-    if !is_loss(alloc, here, from, rep, &item, deeds)? {
+    if !is_loss(alloc, from, number, rep, past)? {
         return Ok(true);
     }
-    let all = sources_with(alloc, here, from, number, rep, deeds)?;
-    Ok(are_excuses(here.space, rep, all.as_slice(), books))
+    has_excuses(alloc, from, number, past, rep, books)
 }
 
 // Whether each of these references isn't lost there, or is with an excuse for each copy.
 fn are_excused(
     alloc: Global,
-    here: &Here,
     from: SpaceId,
     number: ItemNo,
-    deeds: &[Deed],
+    past: &DeedIndex,
     reps: &[WireRep],
     books: &[Ledger],
 ) -> Result<bool, AllocError>
     ensures { IfOk result (λ answer. answer
-        ≡ list_all (words.is_excused_by (books_words.did_by books.now) here.now.n here.now.space
-        from number deeds.now) reps.now) }
+        ≡ list_all (words.is_excused_by (books_words.did_by books.now) past.now.here.n
+        past.now.here.space from number past.now.deeds) reps.now) }
 {
     match reps {
         [] => Ok(true),
         [rep, others @ ..] => {
-            if !is_excused(alloc, here, from, number, deeds, rep, books)? {
+            if !is_excused(alloc, from, number, past, rep, books)? {
                 return Ok(false);
             }
-            are_excused(alloc, here, from, number, deeds, others, books)
+            are_excused(alloc, from, number, past, others, books)
         }
     }
 }
 
 // The references that can be lost by an item from a space that is acted on.
-fn reps_at_risk(
-    alloc: Global,
-    owner: SpaceId,
-    item: &Option<Item>,
-) -> Result<Vec<WireRep>, AllocError>
-    ensures { IfOk result (λ reps. reps.items ≡ tests.reps_at_risk owner item.now) }
+fn reps_of(alloc: Global, owner: SpaceId, item: &Item) -> Result<Vec<WireRep>, AllocError>
+    ensures { IfOk result (λ reps. reps.items ≡ tests.reps_at_risk owner (Some item.now)) }
 {
     let mut reps = Vec::new(alloc);
     match item {
-        Some(item) => match item {
-            Item::Call { .. } | Item::Reply { .. } => nob_item::counted_refs(alloc, item),
-            Item::DirtyNo(index) => {
-                let index = *index;
-                reps.push(WireRep { owner, index })?;
-                Ok(reps)
-            }
-            _ => Ok(reps),
-        },
-        None => Ok(reps),
+        Item::Call { .. } | Item::Reply { .. } => nob_item::counted_refs(alloc, item),
+        Item::DirtyNo(index) => {
+            let index = *index;
+            reps.push(WireRep { owner, index })?;
+            Ok(reps)
+        }
+        _ => Ok(reps),
     }
 }
 
-// Whether each reference that is lost where a space acts on an item after these deeds is excused.
-fn is_act_excused(
+// The references that can be lost by the item of this number from a space.
+fn reps_at_risk(
     alloc: Global,
-    here: &Here,
     from: SpaceId,
     number: ItemNo,
-    deeds: &[Deed],
+    past: &DeedIndex,
+) -> Result<Vec<WireRep>, AllocError>
+    ensures { IfOk result (λ reps. reps.items
+        ≡ tests.reps_at_risk from (item_at from number past.now.deeds)) }
+{
+    match past.item_at(from, number) {
+        Some(item) => reps_of(alloc, from, item),
+        None => Ok(Vec::new(alloc)),
+    }
+}
+
+// Whether each reference that is lost where a space acts on an item is excused.
+fn is_act_excused(
+    alloc: Global,
+    from: SpaceId,
+    number: ItemNo,
+    past: &DeedIndex,
     books: &[Ledger],
 ) -> Result<bool, AllocError>
     ensures { IfOk result (λ answer. answer
-        ≡ words.is_act_excused_by (books_words.did_by books.now) here.now.n here.now.space from
-        number deeds.now) }
+        ≡ words.is_act_excused_by (books_words.did_by books.now) past.now.here.n past.now.here.space
+        from number past.now.deeds) }
 {
-    let item = sessions::item_at(alloc, from, number, deeds)?;
-    let reps = reps_at_risk(alloc, from, &item)?;
-    are_excused(alloc, here, from, number, deeds, reps.as_slice(), books)
+    let reps = reps_at_risk(alloc, from, number, past)?;
+    are_excused(alloc, from, number, past, reps.as_slice(), books)
 }
 
 /// Whether each reference that is lost by a deed of a space is excused. It looks at the item that
 /// is acted on, and, where a reference is lost, from where copies of it came.
 pub fn is_lossless(
     alloc: Global,
-    here: &Here,
+    space: SpaceId,
     deed: &Option<Deed>,
     books: &[Ledger],
 ) -> Result<bool, AllocError>
-    ensures { IfOk result (λ answer. answer
-        ≡ words.is_lossless_by (books_words.did_by books.now) here.now.n here.now.space deed.now) }
+    ensures { IfOk result (λ answer. answer ≡ words.is_lossless_by space deed.now books.now) }
 {
     match deed {
-        Some(Deed::Act(from, number)) => match find_ledger(here.space, books) {
-            Some(ledger) => {
-                is_act_excused(alloc, here, *from, *number, ledger.deeds.as_slice(), books)
-            }
+        Some(Deed::Act(from, number)) => match find_ledger(space, books) {
+            Some(ledger) => is_act_excused(alloc, *from, *number, &ledger.index, books),
             None => Ok(true),
         },
         _ => Ok(true),

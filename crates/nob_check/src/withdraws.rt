@@ -6,55 +6,42 @@ ghost use Rattle.nob_check.specs.Books as books_words;
 ghost use Rattle.nob_check.specs.Checks as words;
 
 use crate::books::{both_open, reaches_owner};
-use nob_check_ledgers::{Ledger, is_held};
+use nob_check_ledgers::{Ledger, Place, is_held};
 use nob_ids::{SpaceId, WireRep};
-use nob_model_history::{SentItem, transit};
-use nob_model_words::{Deed, turns};
+use nob_model_words::Deed;
 use std::alloc::{AllocError, Global};
 
-// Whether what the space of a ledger sent carries a reference in open transit.
-fn is_open_copy(
-    alloc: Global,
-    rep: &WireRep,
-    ledger: &Ledger,
-    sent_item: &SentItem,
-    books: &[Ledger],
-) -> Result<bool, AllocError>
-    ensures { IfOk result (λ answer. answer
-        ≡ words.is_open_copy_by (books_words.did_by books.now) rep.now ledger.now sent_item.now) }
+// Whether what the space of a ledger sent to a place isn't settled, on a session that is open at
+// both ends, and the space reaches the owner of a reference.
+fn is_open_place(rep: &WireRep, ledger: &Ledger, place: &Place, books: &[Ledger]) -> bool
+    ensures { result ≡ words.is_open_place_by
+        (books_words.did_by books.now) rep.now ledger.now place.now }
 {
-    if !turns::carries(alloc, *rep, &sent_item.item)? {
-        return Ok(false);
-    }
-    let deeds = ledger.deeds.as_slice();
-    if transit::is_settled(alloc, sent_item.to, sent_item.number, deeds)? {
-        return Ok(false);
-    }
-    let sender = ledger.here.space;
-    Ok(both_open(sender, sent_item.to, books) && reaches_owner(sender, rep, books))
+    let sender = ledger.index.here().space;
+    !ledger.index.is_settled(place.to, place.number)
+        && both_open(sender, place.to, books)
+        && reaches_owner(sender, rep, books)
 }
 
-// Whether one of these items that the space of a ledger sent carries a reference in open transit.
-fn is_any_open_copy(
-    alloc: Global,
-    rep: &WireRep,
-    ledger: &Ledger,
-    sent_items: &[SentItem],
-    books: &[Ledger],
-) -> Result<bool, AllocError>
-    ensures { IfOk result (λ answer. answer
-        ≡ list_any (words.is_open_copy_by (books_words.did_by books.now) rep.now ledger.now)
-        sent_items.now) }
+// Whether one of these places is such a one.
+fn is_any_open(rep: &WireRep, ledger: &Ledger, places: &[Place], books: &[Ledger]) -> bool
+    ensures { result ≡ list_any (words.is_open_place_by
+        (books_words.did_by books.now) rep.now ledger.now) places.now }
 {
-    match sent_items {
-        [] => Ok(false),
-        [sent_item, others @ ..] => {
-            if is_open_copy(alloc, rep, ledger, sent_item, books)? {
-                return Ok(true);
-            }
-            is_any_open_copy(alloc, rep, ledger, others, books)
+    for place in places {
+        if is_open_place(rep, ledger, place, books) {
+            return true;
         }
     }
+    false
+}
+
+// Whether something that the space of a ledger sent carries a reference in open transit.
+fn has_open_copy(rep: &WireRep, ledger: &Ledger, books: &[Ledger]) -> bool
+    ensures { result ≡ list_any (words.is_open_copy_by
+        (books_words.did_by books.now) rep.now ledger.now) ledger.now.sent_items }
+{
+    is_any_open(rep, ledger, ledger.sent_items.places(rep), books)
 }
 
 // Whether the space of a ledger can use a reference: it holds it, and reaches its owner.
@@ -70,7 +57,7 @@ fn can_use(
     if !is_held(alloc, rep, ledger)? {
         return Ok(false);
     }
-    Ok(reaches_owner(ledger.here.space, rep, books))
+    Ok(reaches_owner(ledger.index.here().space, rep, books))
 }
 
 // Whether the space of a ledger needs a reference.
@@ -86,7 +73,7 @@ fn needs(
     if can_use(alloc, rep, ledger, books)? {
         return Ok(true);
     }
-    is_any_open_copy(alloc, rep, ledger, ledger.sent_items.as_slice(), books)
+    Ok(has_open_copy(rep, ledger, books))
 }
 
 // Whether none of the spaces of these ledgers needs a reference.
@@ -111,8 +98,9 @@ fn no_space_needs(
     }
 }
 
-/// Whether a deed of a space isn't the withdrawal of an object that a space needs. It looks at all
-/// ledgers for a Withdraw, and at none for any other deed.
+/// Whether a deed of a space isn't the withdrawal of an object that a space needs. For a Withdraw
+/// it passes all ledgers, what each has in hand and where each sent the reference; it looks at none
+/// for any other deed.
 pub fn is_unneeded(
     alloc: Global,
     owner: SpaceId,

@@ -22,11 +22,21 @@ use std::marker::Model;
 
 /// What a space did, with tables in which each question about it is looked up: no look-up reads the
 /// deeds. Contracts see what it did, the newest first.
-#[derive(Drop)]
 pub struct DeedIndex {
     here: Here,
     past: Past,
     lookups: Lookups,
+}
+
+// By hand, so that the many tables are taken apart here alone and not at each end of each caller.
+impl Drop for DeedIndex {
+    fn drop(self) {
+        let DeedIndex {
+            here: _,
+            past: _,
+            lookups: _,
+        } = self;
+    }
 }
 
 impl Model for DeedIndex {

@@ -17,8 +17,7 @@ acts_kept (_) D = refl
 -- the ledger by one deed more
 pub ledger_kept : (s n : ℕ) (deed : Deed) (D : List Deed) → ledger_after deed (ledger_of s n D) ≡ ledger_of s n (deed ∷ D)
 ledger_kept s n deed D = λ i. record {
-  here = record { space = s; n = n };
-  deeds = deed ∷ D;
+  index = record { here = record { space = s; n = n }; deeds = deed ∷ D };
   work = work s n (deed ∷ D);
   sent_items = sent_of (all_gifts s n (deed ∷ D));
   acted_items = acted_items (deed ∷ D);

@@ -42,8 +42,7 @@ work_with s n (deed ∷ D) W = with_loans s n (deed ∷ D) (work_after s n deed 
 -- the ledger of space s, among n, that did this
 abbrev pub ledger_of : (s n : ℕ) → List Deed → Ledger
 ledger_of s n D = record {
-  here = record { space = s; n = n };
-  deeds = D;
+  index = record { here = record { space = s; n = n }; deeds = D };
   work = work s n D;
   sent_items = sent_of (all_gifts s n D);
   acted_items = acted_items D;
@@ -54,19 +53,18 @@ ledger_of s n D = record {
 -- the ledger after a deed that gave this
 abbrev pub ledger_with : Deed → List Gift → Ledger → Ledger
 ledger_with deed given ledger = record {
-  here = ledger.here;
-  deeds = deed ∷ ledger.deeds;
-  work = work_with ledger.here.space ledger.here.n (deed ∷ ledger.deeds) ledger.work;
+  index = record { here = ledger.index.here; deeds = deed ∷ ledger.index.deeds };
+  work = work_with ledger.index.here.space ledger.index.here.n (deed ∷ ledger.index.deeds) ledger.work;
   sent_items = with_gifts ledger.sent_items given;
-  acted_items = acted_after deed ledger.deeds ledger.acted_items;
-  acts_open = acts_open_after deed ledger.deeds ledger.acts_open;
-  sends_open = are_open given ledger.deeds && ledger.sends_open;
+  acted_items = acted_after deed ledger.index.deeds ledger.acted_items;
+  acts_open = acts_open_after deed ledger.index.deeds ledger.acts_open;
+  sends_open = are_open given ledger.index.deeds && ledger.sends_open;
 }
 
 -- the ledger after a deed
 abbrev pub ledger_after : Deed → Ledger → Ledger
-ledger_after deed ledger = ledger_with deed (gifts ledger.here.space ledger.here.n deed ledger.deeds ledger.work) ledger
+ledger_after deed ledger = ledger_with deed (gifts ledger.index.here.space ledger.index.here.n deed ledger.index.deeds ledger.work) ledger
 
 -- whether the space of a ledger holds a reference
 abbrev pub is_held_by : WireRep → Ledger → Bool
-is_held_by rep ledger = not ((times rep (gains ledger.deeds) + times rep (lent_in ledger.here.space ledger.work)) - times rep (releases ledger.deeds) == 0)
+is_held_by rep ledger = not ((times rep (gains ledger.index.deeds) + times rep (lent_in ledger.index.here.space ledger.work)) - times rep (releases ledger.index.deeds) == 0)

@@ -5,5 +5,6 @@ pub use Rattle.nob_model_history.specs.Holds
 pub use Rattle.nob_model_history.specs.Transit
 pub use Rattle.nob_model_journal.specs.Losses
 pub use Rattle.nob_model_journal.specs.Tests
+pub mod Sent
 pub mod Ledgers
 pub mod Laws

@@ -5,16 +5,18 @@ ghost use Rattle.nob_check_ledgers.specs.Ledgers as words;
 
 use crate::ledger::Ledger;
 use nob_ids::WireRep;
-use nob_model_history::holds::{gains, lent_in, releases, times};
+use nob_model_history::holds::{lent_in, times};
 use std::alloc::{AllocError, Global};
 
-/// Whether the space of a ledger holds a reference. Linear in its deeds and in what it has in hand.
+/// Whether the space of a ledger holds a reference. It passes what is in hand. No journal has so
+/// many holds on a reference that they can't be counted.
 pub fn is_held(alloc: Global, rep: &WireRep, ledger: &Ledger) -> Result<bool, AllocError>
     ensures { IfOk result (λ answer. answer ≡ words.is_held_by rep.now ledger.now) }
 {
-    let came = gains(alloc, ledger.deeds.as_slice())?;
-    let lent = lent_in(alloc, ledger.here.space, &ledger.work)?;
-    let gone = releases(alloc, ledger.deeds.as_slice())?;
-    let more = times(rep, came.as_slice()) + times(rep, lent.as_slice());
-    Ok(more.saturating_sub(times(rep, gone.as_slice())) != 0)
+    let lent = lent_in(alloc, ledger.index.here().space, &ledger.work)?;
+    let came = ledger.index.gain_count(rep);
+    let Some(more) = came.checked_add(times(rep, lent.as_slice()) as u64) else {
+        return Err(AllocError);
+    };
+    Ok(more.saturating_sub(ledger.index.release_count(rep)) != 0)
 }

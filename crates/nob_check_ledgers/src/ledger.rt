@@ -1,23 +1,24 @@
 //! The ledger of a space, from one deed to the next.
 
-ghost use Rattle.std.specs.Prelude.{◌≡◌, ◌≤◌, ◌∷◌, ◌++◌, ◌+◌, [], IfOk, length};
+ghost use Rattle.std.specs.Prelude.{◌≡◌, ◌∷◌, ◌++◌, ◌+◌, [], IfOk};
+ghost use Rattle.nob_model_words.specs.Sessions.{item_at as item_word};
 ghost use Rattle.nob_model_history.specs.Transit.{count_to as count_word, with_gifts as with_gifts_word};
 ghost use Rattle.nob_check_ledgers.specs.Ledgers as words;
 
-use crate::lists::{ActedItem, ActedItems, DeedList, SentItems};
+use crate::lists::{ActedItem, ActedItems};
+use crate::sent::SentItems;
+use nob_check_index::DeedIndex;
 use nob_ids::{ItemNo, SpaceId};
-use nob_model_history::SentItem;
-use nob_model_words::{Deed, Here, sessions};
-use nob_model_work::{Gift, InHand, gifts, work};
+use nob_item::Item;
+use nob_model_words::{Deed, Here};
+use nob_model_work::{Gift, InHand};
 use std::alloc::{AllocError, Global};
 
 /// What one pass over a journal keeps of a space.
-#[derive(Debug, Drop)]
+#[derive(Drop)]
 pub struct Ledger {
-    /// The space, and among how many.
-    pub here: Here,
-    /// What it did, the newest first.
-    pub deeds: DeedList,
+    /// What it did, and among how many spaces, to be looked up.
+    pub index: DeedIndex,
     /// What it has in hand.
     pub work: InHand,
     /// What it sent, with the numbers, the first first.
@@ -35,78 +36,69 @@ pub fn new_ledger(alloc: Global, here: Here) -> Ledger
     ensures { result ≡ words.ledger_of here.space here.n [] }
 {
     Ledger {
-        here,
-        deeds: DeedList::from_vec(Vec::new(alloc)),
+        index: DeedIndex::new(alloc, here),
         work: InHand::none(alloc),
-        sent_items: SentItems::from_vec(Vec::new(alloc)),
+        sent_items: SentItems::none(alloc),
         acted_items: ActedItems::from_vec(Vec::new(alloc)),
         acts_open: true,
         sends_open: true,
     }
 }
 
-// How many items were sent to a peer.
-fn count_to(peer: SpaceId, sent_items: &[SentItem]) -> usize
-    ensures value { result ≡ count_word peer sent_items.now }
-    ensures bound { result ≤ length sent_items.now }
-{
-    sent_items
-        .iter()
-        .filter(|sent_item| sent_item.to == peer)
-        .count()
-}
-
 // What was sent with one gift more.
-fn with_gift(gift: &Gift, mut sent_items: Vec<SentItem>) -> Result<Vec<SentItem>, AllocError>
-    ensures { IfOk result (λ more. more.items
-        ≡ sent_items.items ++ record {
-          to = gift.now.to;
-          number = count_word gift.now.to sent_items.items + 1;
-          item = gift.now.item;
-        } ∷ []) }
+fn with_gift(alloc: Global, gift: &Gift, sent_items: SentItems) -> Result<SentItems, AllocError>
+    ensures { IfOk result (λ more. more ≡ sent_items ++ record
+        { to = gift.now.to; number = count_word gift.now.to sent_items + 1; item = gift.now.item } ∷
+        []) }
 {
-    let to = gift.to;
-    let number = ItemNo::new(count_to(to, sent_items.as_slice()) as u64 + 1);
     let item = gift.item.copy()?;
-    sent_items.push(SentItem { to, number, item })?;
-    Ok(sent_items)
+    sent_items.with_item(alloc, gift.to, item)
 }
 
-// What was sent with some gifts more.
-fn with_gifts(gifts: &[Gift], sent_items: Vec<SentItem>) -> Result<Vec<SentItem>, AllocError>
-    ensures { IfOk result (λ more. more.items ≡ with_gifts_word sent_items.items gifts.now) }
+// What was sent with some gifts more: a deed gives few.
+fn with_gifts(alloc: Global, gifts: &[Gift], sent_items: SentItems) -> Result<SentItems, AllocError>
+    ensures { IfOk result (λ more. more ≡ with_gifts_word sent_items gifts.now) }
 {
     match gifts {
         [] => Ok(sent_items),
         [gift, rest @ ..] => {
-            let more = with_gift(gift, sent_items)?;
-            with_gifts(rest, more)
+            let more = with_gift(alloc, gift, sent_items)?;
+            with_gifts(alloc, rest, more)
         }
     }
 }
 
 // Whether the sessions with the receivers of gifts are open.
-fn are_open(gifts: &[Gift], deeds: &[Deed]) -> bool
-    ensures { result ≡ words.are_open gifts.now deeds.now }
+fn are_open(gifts: &[Gift], past: &DeedIndex) -> bool
+    ensures { result ≡ words.are_open gifts.now past.now.deeds }
 {
     match gifts {
         [] => true,
-        [gift, others @ ..] => !sessions::closed(gift.to, deeds) && are_open(others, deeds),
+        [gift, others @ ..] => !past.is_closed(gift.to) && are_open(others, past),
+    }
+}
+
+// An item from a peer, where its payload came and spells one.
+fn item_at(from: SpaceId, number: ItemNo, past: &DeedIndex) -> Result<Option<Item>, AllocError>
+    ensures { IfOk result (λ item. item ≡ item_word from number past.now.deeds) }
+{
+    match past.item_at(from, number) {
+        Some(item) => Ok(Some(item.copy()?)),
+        None => Ok(None),
     }
 }
 
 // What was acted on after a deed, behind these.
 fn acted_after(
-    alloc: Global,
     deed: &Deed,
-    older: &[Deed],
+    past: &DeedIndex,
     acted_items: ActedItems,
 ) -> Result<ActedItems, AllocError>
-    ensures { IfOk result (λ after. after ≡ words.acted_after deed.now older.now acted_items) }
+    ensures { IfOk result (λ after. after ≡ words.acted_after deed.now past.now.deeds acted_items) }
 {
     match deed {
         Deed::Act(from, number) => {
-            let item = sessions::item_at(alloc, *from, *number, older)?;
+            let item = item_at(*from, *number, past)?;
             let mut items = acted_items.into_vec();
             items.push(ActedItem {
                 from: *from,
@@ -120,57 +112,36 @@ fn acted_after(
 }
 
 // Whether nothing was acted on after its session closed, after a deed.
-fn acts_open_after(deed: &Deed, older: &[Deed], before: bool) -> bool
-    ensures { result ≡ words.acts_open_after deed.now older.now before }
+fn acts_open_after(deed: &Deed, past: &DeedIndex, before: bool) -> bool
+    ensures { result ≡ words.acts_open_after deed.now past.now.deeds before }
 {
     match deed {
-        Deed::Act(from, _) => !sessions::closed(*from, older) && before,
+        Deed::Act(from, _) => !past.is_closed(*from) && before,
         _ => before,
     }
 }
 
-// What is in hand after the first of these deeds, by what was in hand before it.
-fn work_after(
-    alloc: Global,
-    here: &Here,
-    deeds: &[Deed],
-    work: InHand,
-) -> Result<InHand, AllocError>
-    ensures { IfOk result (λ after. after
-        ≡ words.work_with here.now.space here.now.n deeds.now work) }
-{
-    match deeds {
-        [] => Ok(work),
-        [deed, older @ ..] => work::after(alloc, here, deed, older, deeds, work),
-    }
-}
-
-/// The ledger after a deed. Only memory fails it. It looks back over the space's deeds for what the
-/// deed and the messages in hand touch.
+/// The ledger after a deed. Only memory fails it. It looks up what the deed touches, and passes
+/// what is in hand.
 pub fn with_deed(alloc: Global, deed: Deed, ledger: Ledger) -> Result<Ledger, AllocError>
     ensures step { IfOk result (λ after. after ≡ words.ledger_after deed ledger) }
 {
     let Ledger {
-        here,
-        deeds,
+        index,
         work,
         sent_items,
         acted_items,
         acts_open,
         sends_open,
     } = ledger;
-    let given = gifts::gifts(alloc, &here, &deed, deeds.as_slice(), &work)?;
-    let sends_open = are_open(given.as_slice(), deeds.as_slice()) && sends_open;
-    let sent_items = SentItems::from_vec(with_gifts(given.as_slice(), sent_items.into_vec())?);
-    let acts_open = acts_open_after(&deed, deeds.as_slice(), acts_open);
-    let acted_items = acted_after(alloc, &deed, deeds.as_slice(), acted_items)?;
-    let mut done = deeds.into_vec();
-    done.insert(0, deed)?;
-    let work = work_after(alloc, &here, done.as_slice(), work)?;
-    let deeds = DeedList::from_vec(done);
+    let given = nob_check_work::gifts(alloc, &deed, &index, &work)?;
+    let sends_open = are_open(given.as_slice(), &index) && sends_open;
+    let sent_items = with_gifts(alloc, given.as_slice(), sent_items)?;
+    let acts_open = acts_open_after(&deed, &index, acts_open);
+    let acted_items = acted_after(&deed, &index, acted_items)?;
+    let (index, work) = nob_check_work::with_deed(alloc, deed, index, work)?;
     Ok(Ledger {
-        here,
-        deeds,
+        index,
         work,
         sent_items,
         acted_items,

@@ -1,6 +1,6 @@
-//! The ledger of a space: what one pass over a journal keeps of it. It has what the space did and
-//! has in hand, what it sent and what it acted on, and whether it did so on open sessions; and it
-//! goes from one deed to the next. It is kept for every list of deeds, run or not.
+//! The ledger of a space: what one pass over a journal keeps of it. It has what the space did, to
+//! be looked up, and has in hand, what it sent and what it acted on, and whether it did so on open
+//! sessions; and it goes from one deed to the next. It is kept for every list of deeds, run or not.
 #![tactic(auto)]
 
 mod held;
@@ -8,8 +8,10 @@ pub mod laws;
 mod ledger;
 mod lists;
 mod losses;
+mod sent;
 
 pub use held::is_held;
 pub use ledger::{Ledger, new_ledger, with_deed};
-pub use lists::{ActedItem, ActedItems, DeedList, SentItems};
-pub use losses::{is_loss, sources_with};
+pub use lists::{ActedItem, ActedItems};
+pub use losses::{is_carried, is_loss};
+pub use sent::{Carriers, Place, Places, SentCounts, SentItems};

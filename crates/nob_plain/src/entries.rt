@@ -6,8 +6,8 @@ ghost use Rattle.nob_model_types.specs.declared.entry.Entry.{Entry as EntryOf};
 ghost use Rattle.nob_trace_text.specs.Lines.{lines_of};
 ghost use Rattle.nob_plain.specs.Journals as spec;
 
+use nob_check::judge;
 use nob_model::Entry;
-use nob_model_journal::verdict_of as verdict_on;
 use nob_model_reading::opening_of;
 use nob_model_text::{Unread, space_of};
 use nob_script_text::verdict_line;
@@ -15,13 +15,9 @@ use nob_trace::{Stamped, entry_of};
 use nob_trace_text::first_line;
 use std::alloc::{AllocError, Global};
 
-// As many spaces as there can be: a journal is judged as one of these, however many its first line
-// states.
-const MOST_SPACES: u16 = 32;
-
 /// The verdict on the journal that these lines are, behind a first line as a script has it; or
-/// `line N: bad entry` with the first line that is none. Only memory fails it. Each entry costs
-/// time and memory in proportion to all entries before it, and more.
+/// `line N: bad entry` with the first line that is none. It is judged as one of 32 spaces, however
+/// many the first line states. Only memory fails it. It costs what the judge does.
 pub fn verdict_of(alloc: Global, input: &[u8]) -> Result<Vec<u8>, AllocError>
     ensures { IfOk result (λ text. spec.FromJournal (lines_of input.now) text.items) }
 {
@@ -45,12 +41,12 @@ fn verdict_on_lines(alloc: Global, lines: &[u8]) -> Result<Vec<u8>, AllocError>
         let Some(entry) = journal_entry_of(alloc, line)? else {
             return bad_entry(alloc, number);
         };
-        journal.insert(0, entry)?;
+        journal.push(entry)?;
         left = rest;
         number += 1;
     }
     let mut text = Vec::new(alloc);
-    let verdict = verdict_on(alloc, MOST_SPACES, journal.as_slice())?;
+    let verdict = judge(alloc, journal.as_slice())?;
     text.extend_from_slice(verdict_line(verdict))?;
     Ok(text)
 }
