@@ -7,7 +7,6 @@ mod books;
 mod fronts;
 mod judging;
 mod losses;
-mod same;
 mod withdraws;
 
 pub use judging::judge;

@@ -15,4 +15,5 @@ mod same;
 mod verdict;
 
 pub use promises::verdict_of;
+pub use same::same_item;
 pub use verdict::{Promise, Verdict};
