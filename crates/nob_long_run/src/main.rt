@@ -3,7 +3,7 @@
 #![tactic(auto)]
 
 use nob_check::judge;
-use nob_ids::{CallNo, Limits, SpaceId, WireRep};
+use nob_ids::{CallNo, JobNo, Limits, SpaceId, WireRep};
 use nob_model::{Answer, Event, Outcome, WorldStep};
 use nob_model_journal::Verdict;
 use nob_pickle::Value;
@@ -95,7 +95,7 @@ fn space_at(place: u32) -> SpaceId {
 // The whole life of a reference: exported, sent in a call, asked for and granted, settled, given up
 // and withdrawn. Whether it came to its end.
 fn one_life(world: &mut World, owner: SpaceId, client: SpaceId) -> Result<bool, WorldError> {
-    let Some(Answer::Exported(rep)) = ask(world, owner, Event::Export)? else {
+    let Some(rep) = export(world, owner)? else {
         return Ok(false);
     };
     let Some(call) = call_with(world, owner, client, &rep)? else {
@@ -105,10 +105,10 @@ fn one_life(world: &mut World, owner: SpaceId, client: SpaceId) -> Result<bool, 
     carry(world, client, owner)?;
     carry(world, owner, client)?;
     ask(world, client, Event::Settle)?;
-    let Some(Answer::Job(job)) = ask(world, client, Event::Claim)? else {
+    let Some(job) = claim(world, client)? else {
         return Ok(false);
     };
-    ask(world, client, Event::Finish(job.job, Outcome::NoMethod))?;
+    ask(world, client, Event::Finish(job, Outcome::NoMethod))?;
     ask(world, client, Event::Clean)?;
     carry(world, client, owner)?;
     ask(world, owner, Event::TakeReply(call))?;
@@ -123,6 +123,24 @@ fn ask(world: &mut World, space: SpaceId, event: Event) -> Result<Option<Answer>
     match world.step(&WorldStep::Do(space, event))? {
         Ok(answer) => Ok(Some(answer)),
         Err(_) => Ok(None),
+    }
+}
+
+// Exports an object.
+fn export(world: &mut World, space: SpaceId) -> Result<Option<WireRep>, WorldError> {
+    let answer = ask(world, space, Event::Export)?;
+    match &answer {
+        Some(Answer::Exported(rep)) => Ok(Some(*rep)),
+        _ => Ok(None),
+    }
+}
+
+// Claims a job.
+fn claim(world: &mut World, space: SpaceId) -> Result<Option<JobNo>, WorldError> {
+    let answer = ask(world, space, Event::Claim)?;
+    match &answer {
+        Some(Answer::Job(job)) => Ok(Some(job.job)),
+        _ => Ok(None),
     }
 }
 
@@ -141,8 +159,9 @@ fn call_with(
         method: METHOD,
         value: Value::Ref(*rep),
     };
-    match ask(world, space, event)? {
-        Some(Answer::Called(call)) => Ok(Some(call)),
+    let answer = ask(world, space, event)?;
+    match &answer {
+        Some(Answer::Called(call)) => Ok(Some(*call)),
         _ => Ok(None),
     }
 }
