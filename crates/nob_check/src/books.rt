@@ -1,6 +1,6 @@
 //! The ledgers of all spaces.
 
-ghost use Rattle.std.specs.Prelude.{◌≡◌, ◌==◌, IfOk};
+ghost use Rattle.std.specs.Prelude.{◌≡◌, ◌==◌, IfOk, true};
 ghost use Rattle.std.specs.List.{list_any};
 ghost use Rattle.std.specs.Option.{option_map};
 ghost use Rattle.nob_check.specs.Books as words;
@@ -126,6 +126,7 @@ fn ledgers_after(
     deed: Deed,
     mut ledgers: Vec<Ledger>,
 ) -> Result<Vec<Ledger>, AllocError>
+    requires lent { words.have_loans_made ledgers.items ≡ true }
     ensures { IfOk result (λ after. after.items ≡ words.ledgers_after space deed ledgers.items) }
 {
     if ledgers.is_empty() {
@@ -150,6 +151,7 @@ pub fn with_entry(
     deed: Option<Deed>,
     books: Books,
 ) -> Result<Books, AllocError>
+    requires lent { words.have_loans_made books ≡ true }
     ensures { IfOk result (λ after. after ≡ words.with_entry here.n here.space deed books) }
 {
     let ledgers = with_ledger(alloc, here, books.into_vec())?;

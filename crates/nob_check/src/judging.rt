@@ -1,7 +1,8 @@
 //! The pass over a journal.
 
-ghost use Rattle.std.specs.Prelude.{◌≡◌, [], reverse, IfOk};
+ghost use Rattle.std.specs.Prelude.{◌≡◌, [], reverse, IfOk, true};
 ghost use Rattle.nob_model_journal.specs.Verdicts.{IsVerdict, most_spaces};
+ghost use Rattle.nob_check.specs.Books.{have_loans_made};
 ghost use Rattle.nob_check.specs.Judging as words;
 
 use crate::books::{Books, with_entry};
@@ -43,6 +44,7 @@ fn no_entry(alloc: Global) -> Judging
 
 // What was seen once there is an entry more.
 fn with_next(alloc: Global, n: u16, entry: &Entry, judging: Judging) -> Result<Judging, AllocError>
+    requires lent { have_loans_made judging.books ≡ true }
     ensures { IfOk result (λ after. after ≡ words.with_next n entry.now judging) }
 {
     let Judging {
@@ -73,6 +75,7 @@ fn with_all(
     journal: &[Entry],
     mut judging: Judging,
 ) -> Result<Judging, AllocError>
+    requires lent { have_loans_made judging.books ≡ true }
     ensures { IfOk result (λ after. after ≡ words.with_all n journal.now judging) }
 {
     for entry in journal {

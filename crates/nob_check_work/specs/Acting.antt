@@ -10,7 +10,7 @@ use Rattle.nob_model_words.specs.declared.message.Loan.TheVariants as loans
 use Rattle.nob_model_words.specs.declared.message.RefCopy.{RefCopy}
 use Rattle.nob_model_words.specs.declared.message.Message.{Message}
 use Rattle.nob_model_words.specs.Sessions.{item_at}
-use Rattle.nob_model_words.specs.Messages.{is_of, is_job, new_message}
+use Rattle.nob_model_words.specs.Messages.{is_of, is_job, new_message, message_after}
 use Rattle.nob_model_work.specs.Work.{after_call, after_take, after_end, after_claim, after_finish, after_settle, after_close, after_message}
 use Rattle.nob_model_work.specs.declared.work.InHand.{InHand}
 
@@ -42,6 +42,11 @@ acted_on (_) D = None
 unfoldable pub after_acted : (s n : ℕ) → List Deed → Option Message → InHand → InHand
 after_acted s n D None work = work
 after_acted s n D (Some message) work = after_message (new_message s n message.from message.number message.item D) message.item work
+
+-- what is in hand once it is a message whose own loans are made
+unfoldable pub after_lent : (s n : ℕ) → List Deed → Option Message → InHand → InHand
+after_lent s n D None work = work
+after_lent s n D (Some message) work = after_message (message_after s n D (new_message s n message.from message.number message.item D)) message.item work
 
 -- what is in hand after a deed that is no Act, the loans aside
 unfoldable pub after_other : (s n : ℕ) → Deed → List Deed → InHand → InHand

@@ -1,11 +1,12 @@
 //! Messages in hand: the references that come in them, and what is lent by them.
 
-ghost use Rattle.std.specs.Prelude.{◌≡◌, ◌||◌, IfOk, map};
+ghost use Rattle.std.specs.Prelude.{◌≡◌, IfOk, map};
 ghost use Rattle.std.specs.List.{list_any};
 ghost use Rattle.nob_model_words.specs.Messages as words;
 ghost use Rattle.nob_model_words.specs.Turns as turns_words;
 ghost use Rattle.nob_model_work.specs.Work as work_words;
 ghost use Rattle.nob_check_work.specs.Acting.{is_due, has_due};
+ghost use Rattle.nob_check_work.specs.Making.{can_lend};
 
 use nob_check_index::DeedIndex;
 use nob_ids::WireRep;
@@ -96,10 +97,9 @@ pub fn new_message(alloc: Global, past: &DeedIndex, message: Message) -> Result<
     })
 }
 
-// Whether a reference is own or usable.
-fn is_lendable(past: &DeedIndex, rep: &WireRep) -> bool
-    ensures { result ≡ (turns_words.is_own past.now.here.space rep.now || turns_words.is_usable
-        past.now.here.space past.now.here.n rep.now past.now.deeds) }
+/// Whether a loan of a reference can be made: it is own or usable.
+pub fn is_lendable(past: &DeedIndex, rep: &WireRep) -> bool
+    ensures { result ≡ can_lend past.now.here.space past.now.here.n past.now.deeds rep.now }
 {
     if rep.owner == past.here().space {
         return true;
@@ -173,9 +173,13 @@ fn waits_for_loan(message: &Message) -> bool
     is_any_due(message.copies.as_slice())
 }
 
-// A message with the loans made that can be made now. Nothing is done where none is due.
+/// A message with the loans made that can be made now. Nothing is done where none is due.
 #[tactic(auto, unfolding(nob_model_words::specs::Messages::message_after))]
-fn message_after(alloc: Global, past: &DeedIndex, message: Message) -> Result<Message, AllocError>
+pub fn message_after(
+    alloc: Global,
+    past: &DeedIndex,
+    message: Message,
+) -> Result<Message, AllocError>
     ensures { IfOk result (λ after. after
         ≡ words.message_after past.now.here.space past.now.here.n past.now.deeds message) }
 {
