@@ -1,3 +1,4 @@
+pub mod Loaning
 pub mod Ledgers
 pub mod Growing
 pub mod Checked

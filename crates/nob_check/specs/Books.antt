@@ -1,6 +1,6 @@
 -- The ledgers of all spaces, and what is read off them.
 use Rattle.std.specs.Prelude.{ℕ, Bool, ◌&&◌, ◌||◌, not, ◌==◌, List, [], ◌∷◌, Option, Some, None, map, find, if◌then◌else◌}
-use Rattle.std.specs.List.{list_any}
+use Rattle.std.specs.List.{list_any, list_all}
 use Rattle.nob_ids.specs.declared.wire_rep.WireRep.{WireRep}
 use Rattle.nob_model_types.specs.declared.entry.Entry.{Entry}
 use Rattle.nob_model_words.specs.Sessions.{closed}
@@ -9,7 +9,7 @@ use Rattle.nob_model_words.specs.declared.deed.Deed.{Deed}
 use Rattle.nob_model_history.specs.declared.transit.SentItem.{SentItem}
 use Rattle.nob_model_journal.specs.Journals.{deeds_at}
 use Rattle.nob_model_journal.specs.Tests.{spaces_in}
-use Rattle.nob_check_ledgers.specs.Ledgers.{ledger_of, ledger_after}
+use Rattle.nob_check_ledgers.specs.Ledgers.{ledger_of, ledger_after, has_loans_made}
 use Rattle.nob_check_ledgers.specs.declared.ledger.Ledger.{Ledger}
 
 -- the ledgers of a journal of n spaces: of each space that has entries
@@ -49,6 +49,10 @@ both_open_by did a b = not (closed_by did a b) && not (closed_by did b a)
 -- whether a space is the owner of a reference, or its session with the owner is open at both ends
 abbrev pub reaches_owner_by : (ℕ → List Deed) → ℕ → WireRep → Bool
 reaches_owner_by did c rep = is_own c rep || both_open_by did c rep.owner
+
+-- whether no loan in hand at any space is due that can be made
+abbrev pub have_loans_made : List Ledger → Bool
+have_loans_made books = list_all has_loans_made books
 
 -- the ledgers with one of a space, an empty one where there is none
 abbrev pub with_ledger : (n s : ℕ) → List Ledger → List Ledger

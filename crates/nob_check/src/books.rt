@@ -1,6 +1,6 @@
 //! The ledgers of all spaces.
 
-ghost use Rattle.std.specs.Prelude.{◌≡◌, ◌==◌, IfOk};
+ghost use Rattle.std.specs.Prelude.{◌≡◌, ◌==◌, IfOk, true};
 ghost use Rattle.std.specs.List.{list_any};
 ghost use Rattle.std.specs.Option.{option_map};
 ghost use Rattle.nob_check.specs.Books as words;
@@ -126,6 +126,7 @@ fn ledgers_after(
     deed: Deed,
     mut ledgers: Vec<Ledger>,
 ) -> Result<Vec<Ledger>, AllocError>
+    requires lent { words.have_loans_made ledgers.items ≡ true }
     ensures { IfOk result (λ after. after.items ≡ words.ledgers_after space deed ledgers.items) }
 {
     if ledgers.is_empty() {
@@ -142,14 +143,16 @@ fn ledgers_after(
     Ok(rest)
 }
 
-/// The ledgers after an entry of a space that did this. The space's own ledger changes, and no
-/// other.
+/// The ledgers after an entry of a space that did this, where no loan is due before that can be
+/// made. The space's own ledger changes, and no other.
+#[tactic(auto, using(crate::proofs::Loaning::ledger_lent))]
 pub fn with_entry(
     alloc: Global,
     here: Here,
     deed: Option<Deed>,
     books: Books,
 ) -> Result<Books, AllocError>
+    requires lent { words.have_loans_made books ≡ true }
     ensures { IfOk result (λ after. after ≡ words.with_entry here.n here.space deed books) }
 {
     let ledgers = with_ledger(alloc, here, books.into_vec())?;

@@ -1,7 +1,8 @@
 //! The pass over a journal.
 
-ghost use Rattle.std.specs.Prelude.{◌≡◌, [], reverse, IfOk};
+ghost use Rattle.std.specs.Prelude.{◌≡◌, [], reverse, IfOk, true};
 ghost use Rattle.nob_model_journal.specs.Verdicts.{IsVerdict, most_spaces};
+ghost use Rattle.nob_check.specs.Books.{have_loans_made};
 ghost use Rattle.nob_check.specs.Judging as words;
 
 use crate::books::{Books, with_entry};
@@ -43,6 +44,7 @@ fn no_entry(alloc: Global) -> Judging
 
 // What was seen once there is an entry more.
 fn with_next(alloc: Global, n: u16, entry: &Entry, judging: Judging) -> Result<Judging, AllocError>
+    requires lent { have_loans_made judging.books ≡ true }
     ensures { IfOk result (λ after. after ≡ words.with_next n entry.now judging) }
 {
     let Judging {
@@ -73,6 +75,7 @@ fn with_all(
     journal: &[Entry],
     mut judging: Judging,
 ) -> Result<Judging, AllocError>
+    requires lent { have_loans_made judging.books ≡ true }
     ensures { IfOk result (λ after. after ≡ words.with_all n journal.now judging) }
 {
     for entry in journal {
@@ -111,7 +114,8 @@ fn verdict_on(alloc: Global, judging: &Judging) -> Result<Verdict, AllocError>
 /// The verdict on a journal of 32 spaces, the first entry first: yes where all four promises are
 /// kept, else the first that isn't. Only memory fails it. It passes the entries once and keeps a
 /// ledger of each space; an entry costs what its space's ledger does: it looks up what the entry
-/// touches, and passes the messages in hand. A Withdraw looks at all ledgers.
+/// touches, and passes the messages in hand only where it makes a reference usable. A Withdraw
+/// looks at all ledgers.
 pub fn judge(alloc: Global, journal: &[Entry]) -> Result<Verdict, AllocError>
     ensures { IfOk result (λ verdict. IsVerdict most_spaces (reverse journal.now) verdict) }
 {

@@ -1,2 +1,3 @@
+pub mod Loaning
 pub mod Kept
 pub mod Sending

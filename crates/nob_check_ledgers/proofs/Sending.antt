@@ -1,9 +1,10 @@
 -- The tables of what was sent, by one item more.
-use Rattle.std.proofs.Common.{◌≡◌, ◌&&◌, ◌||◌, ℕ, ◌+◌, Bool, true, false, cond, List, [], ◌∷◌, ◌++◌, length, Option, Some, None, filter, refl, sym, ap, subst, ◌∙◌, arith}
+use Rattle.std.proofs.Common.{◌≡◌, ◌&&◌, ◌||◌, ℕ, ◌+◌, Bool, true, false, cond, List, [], ◌∷◌, ◌++◌, length, Option, Some, None, if◌then◌else◌, filter, refl, sym, ap, subst, ◌∙◌, arith}
 use Rattle.std.specs.Prelude.{◌==◌}
 use Rattle.std.specs.Cmp.{both_ways}
 use Rattle.std.specs.List.{list_any}
 use Rattle.std.specs.Map.{lookup}
+use Rattle.indexmap.specs.IndexMap.{insert_entry}
 use Rattle.std.proofs.lemmas.Bool.{eqb-true, eq-eqb}
 use Rattle.std.proofs.lemmas.List.{length-append}
 use Rattle.std.proofs.lemmas.List.Elements.{filter-append}
@@ -79,6 +80,26 @@ put_places r rep places rows =
     ap found_places (put_at is_same same_ref same_self r rep places rows)
     ∙ places_if (is_same r rep) places (lookup (is_same r) rows)
 
+-- what is put in twice is there as it was put in last
+put_twice : {K V : Type 0} (eq : K → K → Bool) → ((a : K) → eq a a ≡ true) → (k : K) (v w : V) (es : List (K × V)) → insert_entry eq (insert_entry eq es k v) k w ≡ insert_entry eq es k w
+put_twice eq own k v w [] = ap (λ (b : Bool). if b then (k, w) ∷ [] else (k, v) ∷ (k, w) ∷ []) (own k)
+put_twice eq own k v w (e ∷ es) = by (put_twice eq own k v w es) (eq k e.0) refl
+  where
+    by : insert_entry eq (insert_entry eq es k v) k w ≡ insert_entry eq es k w → (t : Bool) → eq k e.0 ≡ t → insert_entry eq (insert_entry eq (e ∷ es) k v) k w ≡ insert_entry eq (e ∷ es) k w
+    by rest true here =
+        ap (λ (b : Bool). insert_entry eq (if b then (e.0, v) ∷ es else e ∷ insert_entry eq es k v) k w) here
+        ∙ ap (λ (b : Bool). if b then (e.0, w) ∷ es else (e.0, v) ∷ insert_entry eq es k w) here
+        ∙ sym (ap (λ (b : Bool). if b then (e.0, w) ∷ es else e ∷ insert_entry eq es k w) here)
+    by rest false other =
+        ap (λ (b : Bool). insert_entry eq (if b then (e.0, v) ∷ es else e ∷ insert_entry eq es k v) k w) other
+        ∙ ap (λ (b : Bool). if b then (e.0, w) ∷ insert_entry eq es k v else e ∷ insert_entry eq (insert_entry eq es k v) k w) other
+        ∙ ap (λ (xs : List (K × V)). e ∷ xs) rest
+        ∙ sym (ap (λ (b : Bool). if b then (e.0, w) ∷ es else e ∷ insert_entry eq es k w) other)
+
+-- the places of a reference put in where it had none
+pub place_put : (rep : WireRep) (places : List Place) (rows : List (WireRep × List Place)) → with_places rep places (with_places rep [] rows) ≡ with_places rep places rows
+place_put rep places rows = put_twice is_same same_self rep [] places rows
+
 or_last : (a b : Bool) → (a || (b || false)) ≡ (b || a)
 or_last true true = refl
 or_last true false = refl
@@ -88,18 +109,18 @@ or_last false false = refl
 -- a test of the places of a reference once one has one more
 one_place : (r rep : WireRep) (place : Place) (test : PlaceTest) (rows : List (WireRep × List Place)) → list_any test (places_in r (with_place rep place rows)) ≡ ((is_same r rep && test place) || list_any test (places_in r rows))
 one_place r rep place test rows =
-    ap (list_any test) (put_places r rep (places_in rep rows ++ place ∷ []) (with_places rep [] rows) ∙ ap (λ (xs : List Place). cond (is_same r rep) (places_in rep rows ++ place ∷ []) xs) (put_places r rep [] rows))
+    ap (list_any test) (put_places r rep (places_in rep rows ++ place ∷ []) rows)
     ∙ by (is_same r rep) refl
   where
-    by : (b : Bool) → is_same r rep ≡ b → list_any test (cond (is_same r rep) (places_in rep rows ++ place ∷ []) (cond (is_same r rep) [] (places_in r rows))) ≡ ((is_same r rep && test place) || list_any test (places_in r rows))
+    by : (b : Bool) → is_same r rep ≡ b → list_any test (cond (is_same r rep) (places_in rep rows ++ place ∷ []) (places_in r rows)) ≡ ((is_same r rep && test place) || list_any test (places_in r rows))
     by true here =
-        ap (λ (b : Bool). list_any test (cond b (places_in rep rows ++ place ∷ []) (cond b [] (places_in r rows)))) here
+        ap (λ (b : Bool). list_any test (cond b (places_in rep rows ++ place ∷ []) (places_in r rows))) here
         ∙ list_any-append test (places_in rep rows) (place ∷ [])
         ∙ or_last (list_any test (places_in rep rows)) (test place)
         ∙ ap (λ (x : WireRep). test place || list_any test (places_in x rows)) (sym (same_ref r rep here))
         ∙ sym (ap (λ (b : Bool). (b && test place) || list_any test (places_in r rows)) here)
     by false other =
-        ap (λ (b : Bool). list_any test (cond b (places_in rep rows ++ place ∷ []) (cond b [] (places_in r rows)))) other
+        ap (λ (b : Bool). list_any test (cond b (places_in rep rows ++ place ∷ []) (places_in r rows))) other
         ∙ sym (ap (λ (b : Bool). (b && test place) || list_any test (places_in r rows)) other)
 
 split_or : (a b t rest : Bool) → ((b && t) || ((a && t) || rest)) ≡ (((a || b) && t) || rest)

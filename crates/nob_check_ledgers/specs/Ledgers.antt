@@ -12,6 +12,7 @@ use Rattle.nob_model_work.specs.declared.work.InHand.{InHand}
 use Rattle.nob_model_history.specs.Holds.{times, gains, releases, lent_in}
 use Rattle.nob_model_history.specs.Transit.{sent_of, with_gifts}
 use Rattle.nob_model_journal.specs.Tests.{acts_while_open, sends_while_open}
+use Rattle.nob_check_work.specs.Making.{all_lent}
 use Rattle.nob_check_ledgers.specs.declared.lists.ActedItem.{ActedItem}
 use Rattle.nob_check_ledgers.specs.declared.ledger.Ledger.{Ledger}
 
@@ -49,6 +50,10 @@ ledger_of s n D = record {
   acts_open = acts_while_open D;
   sends_open = sends_while_open D (all_gifts s n D);
 }
+
+-- whether no loan in hand is due that can be made
+abbrev pub has_loans_made : Ledger → Bool
+has_loans_made ledger = all_lent ledger.index.here.space ledger.index.here.n ledger.index.deeds ledger.work
 
 -- the ledger after a deed that gave this
 abbrev pub ledger_with : Deed → List Gift → Ledger → Ledger

@@ -36,9 +36,9 @@ places_in rep rows = found_places (lookup (is_same rep) rows)
 abbrev pub with_places : WireRep → List Place → List (WireRep × List Place) → List (WireRep × List Place)
 with_places rep places rows = insert_entry is_same rows rep places
 
--- the rows with one place more of a reference, whose row is emptied first
+-- the rows with one place more of a reference
 abbrev pub with_place : WireRep → Place → List (WireRep × List Place) → List (WireRep × List Place)
-with_place rep place rows = with_places rep (places_in rep rows ++ place ∷ []) (with_places rep [] rows)
+with_place rep place rows = with_places rep (places_in rep rows ++ place ∷ []) rows
 
 -- the rows with one place more of each of some references
 abbrev pub with_all : List WireRep → Place → List (WireRep × List Place) → List (WireRep × List Place)

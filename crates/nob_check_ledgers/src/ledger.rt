@@ -1,6 +1,6 @@
 //! The ledger of a space, from one deed to the next.
 
-ghost use Rattle.std.specs.Prelude.{◌≡◌, ◌∷◌, ◌++◌, ◌+◌, [], IfOk};
+ghost use Rattle.std.specs.Prelude.{◌≡◌, ◌∷◌, ◌++◌, ◌+◌, [], IfOk, true};
 ghost use Rattle.nob_model_words.specs.Sessions.{item_at as item_word};
 ghost use Rattle.nob_model_history.specs.Transit.{count_to as count_word, with_gifts as with_gifts_word};
 ghost use Rattle.nob_check_ledgers.specs.Ledgers as words;
@@ -121,9 +121,11 @@ fn acts_open_after(deed: &Deed, past: &DeedIndex, before: bool) -> bool
     }
 }
 
-/// The ledger after a deed. Only memory fails it. It looks up what the deed touches, and passes
-/// what is in hand.
+/// The ledger after a deed, where no loan is due before that can be made. Only memory fails it. It
+/// looks up what the deed touches, and passes what is in hand only where the deed makes a reference
+/// usable.
 pub fn with_deed(alloc: Global, deed: Deed, ledger: Ledger) -> Result<Ledger, AllocError>
+    requires lent { words.has_loans_made ledger ≡ true }
     ensures step { IfOk result (λ after. after ≡ words.ledger_after deed ledger) }
 {
     let Ledger {

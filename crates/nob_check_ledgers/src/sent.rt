@@ -185,6 +185,7 @@ impl Carriers {
 }
 
 // These once a reference was sent to one place more.
+#[tactic(auto, using(crate::proofs::Sending::place_put))]
 fn with_place(
     alloc: Global,
     rep: &WireRep,

@@ -1,3 +1,4 @@
 pub mod Acting
-pub mod Loans
-pub mod Passing
+pub mod Usable
+pub mod Keeping
+pub mod Quiet

@@ -1,7 +1,6 @@
 -- A deed by two steps: what it makes of what is in hand where it is no Act, and then the item that it acts on, which is
 -- looked at once the deed is done.
 use Rattle.std.specs.Prelude.{ℕ, Bool, true, false, List, [], Option, Some, None, find}
-use Rattle.std.specs.List.{list_any}
 use Rattle.nob_item.specs.declared.item.Item.{Item}
 use Rattle.nob_model_words.specs.declared.deed.Deed.{Deed}
 use Rattle.nob_model_words.specs.declared.deed.Deed.TheVariants.{Call, TakeReply, TakeEnd, Claim, Finish, DropReply, Act, Settle, Closing}
@@ -10,7 +9,7 @@ use Rattle.nob_model_words.specs.declared.message.Loan.TheVariants as loans
 use Rattle.nob_model_words.specs.declared.message.RefCopy.{RefCopy}
 use Rattle.nob_model_words.specs.declared.message.Message.{Message}
 use Rattle.nob_model_words.specs.Sessions.{item_at}
-use Rattle.nob_model_words.specs.Messages.{is_of, is_job, new_message}
+use Rattle.nob_model_words.specs.Messages.{is_of, is_job, new_message, message_after}
 use Rattle.nob_model_work.specs.Work.{after_call, after_take, after_end, after_claim, after_finish, after_settle, after_close, after_message}
 use Rattle.nob_model_work.specs.declared.work.InHand.{InHand}
 
@@ -23,10 +22,6 @@ is_due_loan loans.Never = false
 -- whether the loan of a copy isn't made yet
 abbrev pub is_due : RefCopy → Bool
 is_due copy = is_due_loan copy.loan
-
--- whether a loan of a message isn't made yet
-abbrev pub has_due : Message → Bool
-has_due message = list_any is_due message.copies
 
 -- an item from p as a message of which no reference is looked at yet
 abbrev pub unseen : (p k : ℕ) → Option Item → Option Message
@@ -42,6 +37,11 @@ acted_on (_) D = None
 unfoldable pub after_acted : (s n : ℕ) → List Deed → Option Message → InHand → InHand
 after_acted s n D None work = work
 after_acted s n D (Some message) work = after_message (new_message s n message.from message.number message.item D) message.item work
+
+-- what is in hand once it is a message whose own loans are made
+unfoldable pub after_lent : (s n : ℕ) → List Deed → Option Message → InHand → InHand
+after_lent s n D None work = work
+after_lent s n D (Some message) work = after_message (message_after s n D (new_message s n message.from message.number message.item D)) message.item work
 
 -- what is in hand after a deed that is no Act, the loans aside
 unfoldable pub after_other : (s n : ℕ) → Deed → List Deed → InHand → InHand

@@ -3,3 +3,4 @@ pub use Rattle.nob_model_words.specs.Messages
 pub use Rattle.nob_model_work.specs.Work
 pub use Rattle.nob_model_work.specs.Gifts
 pub mod Acting
+pub mod Making

@@ -1,11 +1,11 @@
 //! Messages in hand: the references that come in them, and what is lent by them.
 
-ghost use Rattle.std.specs.Prelude.{◌≡◌, ◌||◌, IfOk, map};
+ghost use Rattle.std.specs.Prelude.{◌≡◌, IfOk, map};
 ghost use Rattle.std.specs.List.{list_any};
 ghost use Rattle.nob_model_words.specs.Messages as words;
 ghost use Rattle.nob_model_words.specs.Turns as turns_words;
 ghost use Rattle.nob_model_work.specs.Work as work_words;
-ghost use Rattle.nob_check_work.specs.Acting.{is_due, has_due};
+ghost use Rattle.nob_check_work.specs.Making.{can_lend};
 
 use nob_check_index::DeedIndex;
 use nob_ids::WireRep;
@@ -96,10 +96,9 @@ pub fn new_message(alloc: Global, past: &DeedIndex, message: Message) -> Result<
     })
 }
 
-// Whether a reference is own or usable.
-fn is_lendable(past: &DeedIndex, rep: &WireRep) -> bool
-    ensures { result ≡ (turns_words.is_own past.now.here.space rep.now || turns_words.is_usable
-        past.now.here.space past.now.here.n rep.now past.now.deeds) }
+/// Whether a loan of a reference can be made: it is own or usable.
+pub fn is_lendable(past: &DeedIndex, rep: &WireRep) -> bool
+    ensures { result ≡ can_lend past.now.here.space past.now.here.n past.now.deeds rep.now }
 {
     if rep.owner == past.here().space {
         return true;
@@ -134,172 +133,66 @@ fn copy_after(past: &DeedIndex, copy: &RefCopy) -> RefCopy
     }
 }
 
-// Copies with the loans made that can be made now.
-fn copies_after(
-    alloc: Global,
-    past: &DeedIndex,
-    copies: &[RefCopy],
-) -> Result<Vec<RefCopy>, AllocError>
-    ensures { IfOk result (λ after. after.items
-        ≡ map (λ copy. words.copy_after past.now.here.space past.now.here.n past.now.deeds copy)
-        copies.now) }
-{
-    let mut after = Vec::new(alloc);
-    for copy in copies {
-        let next = copy_after(past, copy);
-        after.push(next)?;
-    }
-    Ok(after)
-}
-
-// Whether a loan isn't made yet.
-fn is_awaited(copy: &RefCopy) -> bool
-    ensures { result ≡ is_due copy.now }
-{
-    matches!(copy.loan, Loan::Due)
-}
-
-// Whether one of these loans isn't made yet.
-fn is_any_due(copies: &[RefCopy]) -> bool
-    ensures { result ≡ list_any is_due copies.now }
-{
-    copies.iter().any(|copy| is_awaited(copy))
-}
-
-// Whether a loan of a message isn't made yet.
-fn waits_for_loan(message: &Message) -> bool
-    ensures { result ≡ has_due message.now }
-{
-    is_any_due(message.copies.as_slice())
-}
-
-// A message with the loans made that can be made now. Nothing is done where none is due.
+// Makes the loans of a message that can be made now.
 #[tactic(auto, unfolding(nob_model_words::specs::Messages::message_after))]
-fn message_after(alloc: Global, past: &DeedIndex, message: Message) -> Result<Message, AllocError>
-    ensures { IfOk result (λ after. after
-        ≡ words.message_after past.now.here.space past.now.here.n past.now.deeds message) }
+fn lend_message(past: &DeedIndex, message: &mut Message)
+    ensures { message.new ≡ words.message_after past.now.here.space past.now.here.n past.now.deeds
+        message.old }
 {
-    let Message {
-        from,
-        number,
-        item,
-        copies,
-    } = message;
-    let copies = lent_copies(alloc, past, copies)?;
-    Ok(Message {
-        from,
-        number,
-        item,
-        copies,
-    })
+    for place in 0..message.copies.as_slice().len() {
+        let copy = copy_after(past, &message.copies.as_slice()[place]);
+        message.copies.set(place, copy);
+    }
 }
 
-// The copies of a message with the loans made that can be made now.
-fn lent_copies(alloc: Global, past: &DeedIndex, copies: RefCopies) -> Result<RefCopies, AllocError>
-    ensures { IfOk result (λ after. after
-        ≡ map (λ copy. words.copy_after past.now.here.space past.now.here.n past.now.deeds copy)
-        copies) }
+// Makes the loans of a job that runs that can be made now.
+#[tactic(auto, unfolding(nob_model_work::specs::Work::run_after))]
+fn lend_run(past: &DeedIndex, run: &mut Run)
+    ensures { run.new ≡ work_words.run_after past.now.here.space past.now.here.n past.now.deeds
+        run.old }
 {
-    if is_any_due(copies.as_slice()) {
-        let after = copies_after(alloc, past, copies.as_slice())?;
-        return Ok(RefCopies::from_vec(after));
-    }
-    Ok(copies)
+    lend_message(past, &mut run.message);
+}
+
+/// A message with the loans made that can be made now. It takes no memory.
+pub fn message_after(past: &DeedIndex, mut message: Message) -> Message
+    ensures { result ≡ words.message_after past.now.here.space past.now.here.n past.now.deeds
+        message }
+{
+    lend_message(past, &mut message);
+    message
 }
 
 // Messages with the loans made that can be made now.
-fn messages_after(
-    alloc: Global,
-    past: &DeedIndex,
-    messages: Vec<Message>,
-) -> Result<Vec<Message>, AllocError>
-    ensures { IfOk result (λ after. after.items
-        ≡ map (λ message. words.message_after past.now.here.space past.now.here.n past.now.deeds
-        message) messages.items) }
+fn message_loans(past: &DeedIndex, messages: Messages) -> Messages
+    ensures { result ≡ map (λ message. words.message_after past.now.here.space past.now.here.n
+        past.now.deeds message) messages }
 {
-    let mut after = Vec::new(alloc);
-    for message in messages {
-        let next = message_after(alloc, past, message)?;
-        after.push(next)?;
+    let mut messages = messages.into_vec();
+    for message in messages.iter_mut() {
+        lend_message(past, message);
     }
-    Ok(after)
-}
-
-// A job that runs with the loans made that can be made now.
-#[tactic(auto, unfolding(nob_model_work::specs::Work::run_after))]
-fn run_after(alloc: Global, past: &DeedIndex, run: Run) -> Result<Run, AllocError>
-    ensures { IfOk result (λ after. after
-        ≡ work_words.run_after past.now.here.space past.now.here.n past.now.deeds run) }
-{
-    let Run { job, message } = run;
-    let message = message_after(alloc, past, message)?;
-    Ok(Run { job, message })
+    Messages::from_vec(messages)
 }
 
 // Jobs that run with the loans made that can be made now.
-fn runs_after(alloc: Global, past: &DeedIndex, runs: Vec<Run>) -> Result<Vec<Run>, AllocError>
-    ensures { IfOk result (λ after. after.items
-        ≡ map (λ run. work_words.run_after past.now.here.space past.now.here.n past.now.deeds run)
-        runs.items) }
+fn run_loans(past: &DeedIndex, runs: Runs) -> Runs
+    ensures { result ≡ map (λ run. work_words.run_after past.now.here.space past.now.here.n
+        past.now.deeds run) runs }
 {
-    let mut after = Vec::new(alloc);
-    for run in runs {
-        let next = run_after(alloc, past, run)?;
-        after.push(next)?;
+    let mut runs = runs.into_vec();
+    for run in runs.iter_mut() {
+        lend_run(past, run);
     }
-    Ok(after)
+    Runs::from_vec(runs)
 }
 
-// Whether a loan of one of these messages isn't made yet.
-fn is_any_waiting(messages: &[Message]) -> bool
-    ensures { result ≡ list_any has_due messages.now }
-{
-    messages.iter().any(|message| waits_for_loan(message))
-}
-
-// Whether a loan of one of these jobs isn't made yet.
-fn is_any_run_waiting(runs: &[Run]) -> bool
-    ensures { result ≡ list_any (λ run. has_due run.message) runs.now }
-{
-    runs.iter().any(|run| waits_for_loan(&run.message))
-}
-
-// The loans of messages made. They are only looked at where none is due.
-fn message_loans(
-    alloc: Global,
-    past: &DeedIndex,
-    messages: Messages,
-) -> Result<Messages, AllocError>
-    ensures { IfOk result (λ after. after
-        ≡ map (λ message. words.message_after past.now.here.space past.now.here.n past.now.deeds
-        message) messages) }
-{
-    if is_any_waiting(messages.as_slice()) {
-        let after = messages_after(alloc, past, messages.into_vec())?;
-        return Ok(Messages::from_vec(after));
-    }
-    Ok(messages)
-}
-
-// The loans of jobs that run made. They are only looked at where none is due.
-fn run_loans(alloc: Global, past: &DeedIndex, runs: Runs) -> Result<Runs, AllocError>
-    ensures { IfOk result (λ after. after
-        ≡ map (λ run. work_words.run_after past.now.here.space past.now.here.n past.now.deeds run)
-        runs) }
-{
-    if is_any_run_waiting(runs.as_slice()) {
-        let after = runs_after(alloc, past, runs.into_vec())?;
-        return Ok(Runs::from_vec(after));
-    }
-    Ok(runs)
-}
-
-/// What is in hand with the loans made that can be made now. It passes the messages in hand, and
-/// looks up the references whose loans are due.
+/// What is in hand with the loans made that can be made now. It takes no memory. It passes the
+/// messages in hand, and looks up the references whose loans are due.
 #[tactic(auto, unfolding(nob_model_work::specs::Work::with_loans))]
-pub fn with_loans(alloc: Global, past: &DeedIndex, work: InHand) -> Result<InHand, AllocError>
-    ensures { IfOk result (λ after. after
-        ≡ work_words.with_loans past.now.here.space past.now.here.n past.now.deeds work) }
+pub fn with_loans(past: &DeedIndex, work: InHand) -> InHand
+    ensures { result ≡ work_words.with_loans past.now.here.space past.now.here.n past.now.deeds
+        work }
 {
     let InHand {
         waiting,
@@ -308,15 +201,11 @@ pub fn with_loans(alloc: Global, past: &DeedIndex, work: InHand) -> Result<InHan
         replies,
         calls,
     } = work;
-    let waiting = message_loans(alloc, past, waiting)?;
-    let ready = message_loans(alloc, past, ready)?;
-    let running = run_loans(alloc, past, running)?;
-    let replies = message_loans(alloc, past, replies)?;
-    Ok(InHand {
-        waiting,
-        ready,
-        running,
-        replies,
+    InHand {
+        waiting: message_loans(past, waiting),
+        ready: message_loans(past, ready),
+        running: run_loans(past, running),
+        replies: message_loans(past, replies),
         calls,
-    })
+    }
 }

@@ -5,6 +5,7 @@
 
 mod giving;
 mod lending;
+mod making;
 mod working;
 
 pub use giving::gifts;

@@ -1,12 +1,14 @@
 //! What a space did and has in hand, from one deed to the next.
 
-ghost use Rattle.std.specs.Prelude.{◌≡◌, ◌∷◌, [], IfOk, find};
+ghost use Rattle.std.specs.Prelude.{◌≡◌, ◌∷◌, [], IfOk, true, find};
 ghost use Rattle.nob_model_words.specs.Sessions.{item_at};
 ghost use Rattle.nob_model_words.specs.Messages.{is_of};
 ghost use Rattle.nob_model_work.specs.Work as words;
 ghost use Rattle.nob_check_work.specs.Acting as acting;
+ghost use Rattle.nob_check_work.specs.Making as making;
 
-use crate::lending::{is_lost_message, new_message, with_loans};
+use crate::lending::{is_lost_message, message_after, new_message, with_loans};
+use crate::making::{awaited_by, is_any_lendable};
 use nob_check_index::DeedIndex;
 use nob_ids::{ItemNo, SpaceId};
 use nob_item::Item;
@@ -142,16 +144,38 @@ fn after_acted(
     }
 }
 
-/// What a space did and has in hand once there is a deed more. Only memory fails it. It looks up
-/// the item that the deed acts on and the references that come in it, and passes the messages in
-/// hand for those whose loans are due.
-#[tactic(auto, using(crate::proofs::Acting::acted_law))]
+// What is in hand once the item that was acted on is a message whose own loans are made.
+#[tactic(auto, unfolding(crate::specs::Acting::after_lent, nob_model_words::specs::Messages::message_after))]
+fn after_lent(
+    alloc: Global,
+    acted: Option<Message>,
+    past: &DeedIndex,
+    work: InHand,
+) -> Result<InHand, AllocError>
+    ensures { IfOk result (λ after. after
+        ≡ acting.after_lent past.now.here.space past.now.here.n past.now.deeds acted work) }
+{
+    match acted {
+        Some(message) => {
+            let new = new_message(alloc, past, message)?;
+            let lent = message_after(past, new);
+            after_message(alloc, lent, work)
+        }
+        None => Ok(work),
+    }
+}
+
+/// What a space did and has in hand once there is a deed more, where no loan is due before that can
+/// be made. Only memory fails it. It looks up the item that the deed acts on and the references in
+/// it, and passes the messages in hand only where the deed makes a reference usable that was not.
+#[tactic(auto, using(crate::proofs::Acting::acted_law, crate::proofs::Quiet::quiet_law))]
 pub fn with_deed(
     alloc: Global,
     deed: Deed,
     past: DeedIndex,
     work: InHand,
 ) -> Result<(DeedIndex, InHand), AllocError>
+    requires lent { making.all_lent past.here.space past.here.n past.deeds work ≡ true }
     ensures past { IfOk result (λ after. after.0
         ≡ record { here = past.here; deeds = deed ∷ past.deeds }) }
     ensures work { IfOk result (λ after. after.1
@@ -159,9 +183,14 @@ pub fn with_deed(
         (words.work_after past.here.space past.here.n deed past.deeds work)) }
 {
     let acted = acted_on(alloc, &deed, &past)?;
+    let awaited = awaited_by(alloc, &deed, &past)?;
     let others = after_other(alloc, &deed, &past, work)?;
     let now = past.with_deed(alloc, deed)?;
-    let done = after_acted(alloc, acted, &now, others)?;
-    let after = with_loans(alloc, &now, done)?;
+    if is_any_lendable(&now, awaited.as_slice()) {
+        let done = after_acted(alloc, acted, &now, others)?;
+        let after = with_loans(&now, done);
+        return Ok((now, after));
+    }
+    let after = after_lent(alloc, acted, &now, others)?;
     Ok((now, after))
 }

@@ -10,20 +10,10 @@ use Rattle.nob_model_words.specs.declared.message.Loan.{Loan}
 use Rattle.nob_model_words.specs.declared.message.Loan.TheVariants as loans
 use Rattle.nob_model_words.specs.declared.message.Message.{Message}
 use Rattle.nob_model_words.specs.Messages.{loan_after}
+use Rattle.nob_model_words.proofs.Mapped.{changed_next}
 use Rattle.nob_space_items.specs.Granting.{is_due, due_to, due_to_all}
-use Rattle.nob_space_items.proofs.Mapped.{changed_next}
 
 -- ---- lists
-
--- behind the elements that were changed stand those that weren't
-get_behind : {A : Type 0} (f : A → A) (xs : List A) (i : ℕ) (x : A) → i < length xs → get_or (map f (take i xs) ++ drop i xs) i x ≡ get_or xs i x
-get_behind f [] i x lt = absurd (omega (arith, lt))
-get_behind f (y ∷ xs) zero x lt = refl
-get_behind f (y ∷ xs) (suc i) x lt = get_behind f xs i x (omega (arith, lt))
-
--- the next element
-pub here_is : {A : Type 0} (f : A → A) (xs now : List A) (i : ℕ) (x : A) → now ≡ map f (take i xs) ++ drop i xs → i < length xs → x ≡ get_or now i x → x ≡ get_or xs i x
-here_is {A} f xs now i x are lt is = is ∙ ap (λ (zs : List A). get_or zs i x) are ∙ get_behind f xs i x lt
 
 -- an element that is written where it stands
 set_same : {A : Type 0} (xs : List A) (i : ℕ) (x : A) → i < length xs → x ≡ get_or xs i x → set xs i x ≡ xs

@@ -9,7 +9,6 @@ pub mod Among
 pub mod Refused
 pub mod Sends
 pub mod Lends
-pub mod Mapped
 pub mod Grown
 pub mod Message
 pub mod Asks

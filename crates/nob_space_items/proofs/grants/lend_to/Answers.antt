@@ -3,9 +3,9 @@ use Rattle.nob_model_words.specs.declared.message.Message.{Message}
 use Rattle.nob_model_words.specs.declared.message.RefCopy.{RefCopy}
 use Rattle.nob_model_words.specs.declared.message.Loan.{Loan}
 use Rattle.nob_model_words.specs.declared.message.Loan.TheVariants as loans
+use Rattle.nob_model_words.proofs.Mapped.{changed_next, here_is}
 use Rattle.nob_space_items.specs.Granting.{waits_for, granted_copy}
-use Rattle.nob_space_items.proofs.Granting.{few_first, here_is, kept_next, pass_next, waits_granted, else_granted}
-use Rattle.nob_space_items.proofs.Mapped.{changed_next}
+use Rattle.nob_space_items.proofs.Granting.{few_first, kept_next, pass_next, waits_granted, else_granted}
 use Rattle.nob_space_items.proofs.grants.lend_to.Goals as goal
 use Rattle.nob_space_items.proofs.grants.lend_to.Goals.{then-waits_for, else-waits_for}
 

@@ -1,7 +1,7 @@
 use Rattle.std.proofs.Common.{◌+◌, ◌<◌, length, take, rules, sym, ap, ◌∙◌, arith}
+use Rattle.nob_model_words.proofs.Mapped.{changed_next, here_is}
 use Rattle.nob_space_items.specs.Granting.{granted_message, due_to_all}
-use Rattle.nob_space_items.proofs.Granting.{here_is, due_next, due_first}
-use Rattle.nob_space_items.proofs.Mapped.{changed_next}
+use Rattle.nob_space_items.proofs.Granting.{due_next, due_first}
 use Rattle.nob_space_items.proofs.grants.lend_to_all.Goals as goal
 
 pub overflow_add-lent : goal.overflow_add-lent

@@ -1,6 +1,6 @@
 use Rattle.std.proofs.Common.{rules}
 use Rattle.nob_model_work.specs.Work.{call_after_reply}
-use Rattle.nob_space_items.proofs.Mapped.{changed_next}
+use Rattle.nob_model_words.proofs.Mapped.{changed_next}
 use Rattle.nob_space_items.proofs.placing.answer_calls.Goals as goal
 
 pub loop-at-preserved : goal.loop-at-preserved
