@@ -1,7 +1,7 @@
 -- The ledgers have their loans made after each entry.
-use Rattle.std.proofs.Common.{◌≡◌, ◌&&◌, ℕ, Bool, true, false, cond, List, [], ◌∷◌, Option, Some, None, if◌then◌else◌, refl, ap, ◌∙◌}
+use Rattle.std.proofs.Common.{◌≡◌, ℕ, true, false, List, [], ◌∷◌, Option, Some, None, drop, if◌then◌else◌, refl, ap, ◌∙◌}
 use Rattle.std.specs.Prelude.{◌==◌}
-use Rattle.std.specs.List.{list_any, list_all}
+use Rattle.std.specs.List.{list_any}
 use Rattle.std.proofs.lemmas.Bool.{and_parts, and_from}
 use Rattle.nob_model_types.specs.declared.entry.Entry.{Entry}
 use Rattle.nob_model_words.specs.Deeds.{deed_in}
@@ -12,6 +12,11 @@ use Rattle.nob_check_ledgers.proofs.Loaning.{loans_made}
 use Rattle.nob_check.specs.Books.{have_loans_made, with_ledger, ledgers_after, with_entry}
 use Rattle.nob_check.specs.Judging.{with_next}
 use Rattle.nob_check.specs.declared.judging.Judging.{Judging}
+
+-- all ledgers but the first
+pub rest_lent : (books rest : List Ledger) → rest ≡ drop 1 books → have_loans_made books ≡ true → have_loans_made rest ≡ true
+rest_lent [] rest is lent = ap have_loans_made is
+rest_lent (ledger ∷ books) rest is lent = ap have_loans_made is ∙ (and_parts (has_loans_made ledger) (have_loans_made books) lent).1
 
 after_lent : (s : ℕ) (deed : Deed) (books : List Ledger) → have_loans_made books ≡ true → have_loans_made (ledgers_after s deed books) ≡ true
 after_lent s deed [] lent = refl

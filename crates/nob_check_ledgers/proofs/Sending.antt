@@ -1,5 +1,5 @@
 -- The tables of what was sent, by one item more.
-use Rattle.std.proofs.Common.{◌≡◌, ◌&&◌, ◌||◌, ℕ, ◌+◌, Bool, true, false, cond, List, [], ◌∷◌, ◌++◌, length, Option, Some, None, if◌then◌else◌, filter, refl, sym, ap, subst, ◌∙◌, arith}
+use Rattle.std.proofs.Common.{◌≡◌, ◌&&◌, ◌||◌, ℕ, ◌+◌, Bool, true, false, cond, List, [], ◌∷◌, ◌++◌, length, Option, Some, if◌then◌else◌, filter, refl, sym, ap, ◌∙◌, arith}
 use Rattle.std.specs.Prelude.{◌==◌}
 use Rattle.std.specs.Cmp.{both_ways}
 use Rattle.std.specs.List.{list_any}
@@ -83,7 +83,7 @@ put_places r rep places rows =
 -- what is put in twice is there as it was put in last
 put_twice : {K V : Type 0} (eq : K → K → Bool) → ((a : K) → eq a a ≡ true) → (k : K) (v w : V) (es : List (K × V)) → insert_entry eq (insert_entry eq es k v) k w ≡ insert_entry eq es k w
 put_twice eq own k v w [] = ap (λ (b : Bool). if b then (k, w) ∷ [] else (k, v) ∷ (k, w) ∷ []) (own k)
-put_twice eq own k v w (e ∷ es) = by (put_twice eq own k v w es) (eq k e.0) refl
+put_twice {K} {V} eq own k v w (e ∷ es) = by (put_twice eq own k v w es) (eq k e.0) refl
   where
     by : insert_entry eq (insert_entry eq es k v) k w ≡ insert_entry eq es k w → (t : Bool) → eq k e.0 ≡ t → insert_entry eq (insert_entry eq (e ∷ es) k v) k w ≡ insert_entry eq (e ∷ es) k w
     by rest true here =

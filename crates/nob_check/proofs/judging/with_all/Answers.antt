@@ -5,5 +5,5 @@ use Rattle.nob_check.proofs.judging.with_all.Goals as goal
 pub loop-entry-preserved : goal.loop-entry-preserved
 loop-entry-preserved c = record {
   whole = one_more c.args.n c.args.journal.now c.loop-entry.entry-index c.entry-item.result _ _ _ c.loop-entry-test.true c.entry-item.is c.in_ok-judging.ensures c.loop-entry.invariant.whole;
-  lent = next_lent c.args.n c.entry-item.result.now c.loop-entry.judging c.in_ok-judging.judging c.in_ok-judging.ensures c.loop-entry.invariant.lent;
+  lent = next_lent c.args.n c.entry-item.result c.loop-entry.judging c.in_ok-judging.judging c.in_ok-judging.ensures c.loop-entry.invariant.lent;
 }
