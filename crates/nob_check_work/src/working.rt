@@ -167,7 +167,8 @@ fn after_lent(
 
 /// What a space did and has in hand once there is a deed more, where no loan is due before that can
 /// be made. Only memory fails it. It looks up the item that the deed acts on and the references in
-/// it, and passes the messages in hand only where the deed makes a reference usable that was not.
+/// it. For loans it passes the messages in hand only where the deed makes a reference usable that
+/// was not; README.md says which deeds look along what is in hand besides.
 #[tactic(auto, using(crate::proofs::Acting::acted_law, crate::proofs::Quiet::quiet_law))]
 pub fn with_deed(
     alloc: Global,
