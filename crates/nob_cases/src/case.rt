@@ -6,7 +6,8 @@ use crate::sets::SetCase;
 use crate::tables::TableCase;
 use crate::transit::PinCase;
 use nob_case_texts::{Unanswered, deep_value, items, value, words};
-use nob_ids::ItemNo;
+use nob_ids::{ItemNo, SpaceId, WireRep};
+use nob_pickle::Value;
 use nob_session::Kind;
 use nob_table::Part;
 use std::alloc::Global;
@@ -28,16 +29,38 @@ pub enum Case {
     Pins(Vec<PinCase>),
 }
 
-/// The case that a line spells, and how often it is to be made: once where the line doesn't say it.
-pub fn case_of(alloc: Global, line: &str) -> Result<(Case, u64), Unanswered> {
+/// A case, and how often it is to be made.
+pub struct RepeatedCase {
+    /// The case.
+    pub case: Case,
+    /// How often it is to be made: once where the line doesn't say it.
+    pub count: u64,
+}
+
+// By hand, so that the case is taken apart here alone and not at each end of each caller.
+impl Drop for RepeatedCase {
+    fn drop(self) {
+        let RepeatedCase { case: _, count: _ } = self;
+    }
+}
+
+/// The case that a line spells, and how often it is to be made.
+pub fn case_of(alloc: Global, line: &str) -> Result<RepeatedCase, Unanswered> {
     if let Some(calls) = line.strip_prefix("pins ") {
-        return Ok((Case::Pins(pin_cases(alloc, calls)?), 1));
+        let case = Case::Pins(pin_cases(alloc, calls)?);
+        return Ok(RepeatedCase { case, count: 1 });
     }
     let words: Vec<&str> = line.split(' ').collect(alloc)?;
-    match words.as_slice() {
-        ["times", count, words @ ..] => Ok((lone_case(alloc, words)?, words::times(alloc, count)?)),
-        words => Ok((lone_case(alloc, words)?, 1)),
-    }
+    repeated_case(alloc, &words)
+}
+
+fn repeated_case(alloc: Global, words: &[&str]) -> Result<RepeatedCase, Unanswered> {
+    let (count, words) = match words {
+        ["times", count, words @ ..] => (words::times(alloc, count)?, words),
+        words => (1, words),
+    };
+    let case = lone_case(alloc, words)?;
+    Ok(RepeatedCase { case, count })
 }
 
 fn lone_case(alloc: Global, words: &[&str]) -> Result<Case, Unanswered> {
@@ -53,36 +76,48 @@ fn lone_case(alloc: Global, words: &[&str]) -> Result<Case, Unanswered> {
 
 fn codec_case(alloc: Global, words: &[&str]) -> Result<CodecCase, Unanswered> {
     match words {
-        ["value", bytes] => Ok(CodecCase::ReadValue(words::bytes(alloc, bytes)?)),
-        ["item", bytes] => Ok(CodecCase::ReadItem(words::bytes(alloc, bytes)?)),
-        ["frame", bytes] => Ok(CodecCase::ReadFrame(words::bytes(alloc, bytes)?)),
-        ["feed", "each", count, bytes] => Ok(CodecCase::FeedEach(
+        ["feed", words @ ..] => feed_case(alloc, words),
+        ["counted", words @ ..] => counted_case(alloc, words),
+        ["note", words @ ..] => Ok(CodecCase::IsNote(items::item(alloc, words)?)),
+        ["references", words @ ..] => Ok(CodecCase::References(value_in(alloc, words)?)),
+        ["fits", words @ ..] => Ok(CodecCase::Fits(value_in(alloc, words)?)),
+        [format, bytes] => reading_case(format, words::bytes(alloc, bytes)?),
+        _ => Err(Unanswered::NoCase),
+    }
+}
+
+fn reading_case(format: &str, bytes: Vec<u8>) -> Result<CodecCase, Unanswered> {
+    match format {
+        "value" => Ok(CodecCase::ReadValue(bytes)),
+        "item" => Ok(CodecCase::ReadItem(bytes)),
+        "frame" => Ok(CodecCase::ReadFrame(bytes)),
+        _ => Err(Unanswered::NoCase),
+    }
+}
+
+fn feed_case(alloc: Global, words: &[&str]) -> Result<CodecCase, Unanswered> {
+    match words {
+        ["each", count, bytes] => Ok(CodecCase::FeedEach(
             words::times(alloc, count)?,
             words::bytes(alloc, bytes)?,
         )),
-        ["feed", pieces @ ..] => Ok(CodecCase::Feed(pieces_of(alloc, pieces)?)),
-        ["references", "deep", lists, innermost] => {
-            Ok(CodecCase::References(deep(alloc, lists, innermost)?))
-        }
-        ["references", word] => Ok(CodecCase::References(value(alloc, word)?)),
-        ["fits", word] => Ok(CodecCase::Fits(value(alloc, word)?)),
-        ["fits", "deep", lists, innermost] => Ok(CodecCase::Fits(deep(alloc, lists, innermost)?)),
-        ["counted", "behind", place, words @ ..] => Ok(CodecCase::CountedOne(
+        pieces => Ok(CodecCase::Feed(pieces_of(alloc, pieces)?)),
+    }
+}
+
+fn counted_case(alloc: Global, words: &[&str]) -> Result<CodecCase, Unanswered> {
+    match words {
+        ["behind", place, words @ ..] => Ok(CodecCase::CountedOne(
             words::short_number(alloc, place)? as usize,
             items::item(alloc, words)?,
         )),
-        ["counted", words @ ..] => Ok(CodecCase::Counted(items::item(alloc, words)?)),
-        ["note", words @ ..] => Ok(CodecCase::IsNote(items::item(alloc, words)?)),
-        _ => Err(Unanswered::NoCase),
+        words => Ok(CodecCase::Counted(items::item(alloc, words)?)),
     }
 }
 
 fn writing_case(alloc: Global, words: &[&str]) -> Result<CodecCase, Unanswered> {
     match words {
-        ["value", word] => Ok(CodecCase::WriteValue(value(alloc, word)?)),
-        ["value", "deep", lists, innermost] => {
-            Ok(CodecCase::WriteValue(deep(alloc, lists, innermost)?))
-        }
+        ["value", words @ ..] => Ok(CodecCase::WriteValue(value_in(alloc, words)?)),
         ["parts", words @ ..] => Ok(CodecCase::WriteParts(items::item(alloc, words)?)),
         ["item", words @ ..] => Ok(CodecCase::WriteItem(items::item(alloc, words)?)),
         ["frame", words @ ..] => Ok(CodecCase::WriteFrame(items::frame(alloc, words)?)),
@@ -90,9 +125,15 @@ fn writing_case(alloc: Global, words: &[&str]) -> Result<CodecCase, Unanswered> 
     }
 }
 
-// A value inside of so many lists.
-fn deep(alloc: Global, lists: &str, innermost: &str) -> Result<nob_pickle::Value, Unanswered> {
-    deep_value(alloc, words::times(alloc, lists)?, value(alloc, innermost)?)
+// A value, or one inside of so many lists.
+fn value_in(alloc: Global, words: &[&str]) -> Result<Value, Unanswered> {
+    match words {
+        [word] => value(alloc, word),
+        ["deep", lists, innermost] => {
+            deep_value(alloc, words::times(alloc, lists)?, value(alloc, innermost)?)
+        }
+        _ => Err(Unanswered::NoCase),
+    }
 }
 
 fn pieces_of(alloc: Global, words: &[&str]) -> Result<Vec<Vec<u8>>, Unanswered> {
@@ -105,28 +146,39 @@ fn pieces_of(alloc: Global, words: &[&str]) -> Result<Vec<Vec<u8>>, Unanswered> 
 
 fn end_case(alloc: Global, words: &[&str]) -> Result<EndCase, Unanswered> {
     match words {
+        [call] => bare_end_case(call),
         ["open", me, peer, "window", window, "retry", retry] => Ok(EndCase::Open(
             words::space(alloc, me)?,
             words::space(alloc, peer)?,
             words::limits(alloc, window, retry)?,
         )),
+        ["send", kind, bytes] => Ok(EndCase::Send(kind_of(kind)?, words::bytes(alloc, bytes)?)),
+        ["next", kind] => Ok(EndCase::Next(kind_of(kind)?)),
         ["reserve", count] => Ok(EndCase::Reserve(words::times(alloc, count)? as usize)),
-        ["send", "limited", bytes] => {
-            Ok(EndCase::Send(Kind::Limited, words::bytes(alloc, bytes)?))
-        }
-        ["send", "note", bytes] => Ok(EndCase::Send(Kind::Note, words::bytes(alloc, bytes)?)),
-        ["next", "limited"] => Ok(EndCase::Next(Kind::Limited)),
-        ["next", "note"] => Ok(EndCase::Next(Kind::Note)),
-        ["numbers"] => Ok(EndCase::FreeNumbers),
-        ["has", "frames"] => Ok(EndCase::HasFrames),
-        ["frames"] => Ok(EndCase::Frames),
         ["arrive", bytes] => Ok(EndCase::Arrive(words::bytes(alloc, bytes)?)),
         ["close", reason] => Ok(EndCase::Close(words::reason(alloc, reason)?)),
-        ["transmit"] => Ok(EndCase::Transmit),
-        ["front"] => Ok(EndCase::Front),
-        ["take"] => Ok(EndCase::Take),
-        ["tick"] => Ok(EndCase::Tick),
+        ["has", "frames"] => Ok(EndCase::HasFrames),
         ["is", "open"] => Ok(EndCase::IsOpen),
+        _ => Err(Unanswered::NoCase),
+    }
+}
+
+fn bare_end_case(call: &str) -> Result<EndCase, Unanswered> {
+    match call {
+        "numbers" => Ok(EndCase::FreeNumbers),
+        "frames" => Ok(EndCase::Frames),
+        "transmit" => Ok(EndCase::Transmit),
+        "front" => Ok(EndCase::Front),
+        "take" => Ok(EndCase::Take),
+        "tick" => Ok(EndCase::Tick),
+        _ => Err(Unanswered::NoCase),
+    }
+}
+
+fn kind_of(kind: &str) -> Result<Kind, Unanswered> {
+    match kind {
+        "limited" => Ok(Kind::Limited),
+        "note" => Ok(Kind::Note),
         _ => Err(Unanswered::NoCase),
     }
 }
@@ -138,8 +190,7 @@ fn table_case(alloc: Global, words: &[&str]) -> Result<TableCase, Unanswered> {
             words::times(alloc, exports)? as usize,
             words::times(alloc, surrogates)? as usize,
         )),
-        ["export"] => Ok(TableCase::Export),
-        ["counts"] => Ok(TableCase::Counts),
+        [call] => bare_table_case(call),
         ["withdraw", index] => Ok(TableCase::Withdraw(words::number(alloc, index)?)),
         ["unheld", index] => Ok(TableCase::Unheld(words::number(alloc, index)?)),
         ["idle", place] => Ok(TableCase::Idle(words::number(alloc, place)?)),
@@ -150,7 +201,15 @@ fn table_case(alloc: Global, words: &[&str]) -> Result<TableCase, Unanswered> {
     }
 }
 
-fn surrogate_case(call: &str, rep: nob_ids::WireRep) -> Result<TableCase, Unanswered> {
+fn bare_table_case(call: &str) -> Result<TableCase, Unanswered> {
+    match call {
+        "export" => Ok(TableCase::Export),
+        "counts" => Ok(TableCase::Counts),
+        _ => Err(Unanswered::NoCase),
+    }
+}
+
+fn surrogate_case(call: &str, rep: WireRep) -> Result<TableCase, Unanswered> {
     match call {
         "state" => Ok(TableCase::State(rep)),
         "pending" => Ok(TableCase::Pending(rep)),
@@ -161,7 +220,7 @@ fn surrogate_case(call: &str, rep: nob_ids::WireRep) -> Result<TableCase, Unansw
     }
 }
 
-fn hold_case(call: &str, rep: nob_ids::WireRep, part: &str) -> Result<TableCase, Unanswered> {
+fn hold_case(call: &str, rep: WireRep, part: &str) -> Result<TableCase, Unanswered> {
     let part = match part {
         "hand" => Part::Hand,
         "lent" => Part::Lent,
@@ -189,7 +248,7 @@ fn set_case(alloc: Global, words: &[&str]) -> Result<SetCase, Unanswered> {
     }
 }
 
-fn listing_case(call: &str, index: u64, client: nob_ids::SpaceId) -> Result<SetCase, Unanswered> {
+fn listing_case(call: &str, index: u64, client: SpaceId) -> Result<SetCase, Unanswered> {
     match call {
         "dirty" => Ok(SetCase::Dirty(index, client)),
         "clean" => Ok(SetCase::Clean(index, client)),

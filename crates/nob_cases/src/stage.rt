@@ -1,6 +1,6 @@
 //! What the lines so far have left.
 
-use crate::case::{Case, case_of};
+use crate::case::{Case, RepeatedCase, case_of};
 use crate::plain::Plain;
 use crate::tables::CountedTable;
 use crate::{codecs, ends, plain, sets, tables, transit};
@@ -10,13 +10,25 @@ use nob_session::Session;
 use std::alloc::{AllocError, Global};
 
 /// The end, the table and the sets on which the next cases are made.
-#[derive(Drop)]
 pub struct Stage {
     alloc: Global,
     end: Option<Session>,
     plain: Option<Plain>,
     table: Option<CountedTable>,
     sets: DirtySets,
+}
+
+// By hand, so that it is taken apart here alone and not at each end of each caller.
+impl Drop for Stage {
+    fn drop(self) {
+        let Stage {
+            alloc: _,
+            end: _,
+            plain: _,
+            table: _,
+            sets: _,
+        } = self;
+    }
 }
 
 impl Stage {
@@ -39,24 +51,24 @@ impl Stage {
             return String::from_str(alloc, line);
         }
         match case_of(alloc, line) {
-            Ok((case, count)) => self.answered_case(line, &case, count),
+            Ok(repeated) => self.answered_case(line, &repeated),
             Err(Unanswered::NoCase) => format!(in alloc; "{line} = no case"),
             Err(Unanswered::Memory) => format!(in alloc; "{line} = memory"),
         }
     }
 
     // A case that is made several times answers what it answers the last time, and memory fails it.
-    fn answered_case(&mut self, line: &str, case: &Case, count: u64) -> Result<String, AllocError> {
+    fn answered_case(&mut self, line: &str, repeated: &RepeatedCase) -> Result<String, AllocError> {
         let alloc = self.alloc;
-        for _ in 1..count {
-            let _ = self.make(case)?;
+        for _ in 1..repeated.count {
+            let _ = self.make(&repeated.case)?;
         }
-        match self.make(case) {
+        match self.make(&repeated.case) {
             Ok(answer) => {
                 let answer = text_of(alloc, &answer)?;
                 format!(in alloc; "{line} = {answer}")
             }
-            Err(AllocError) if count == 1 => format!(in alloc; "{line} = memory"),
+            Err(AllocError) if repeated.count == 1 => format!(in alloc; "{line} = memory"),
             Err(AllocError) => Err(AllocError),
         }
     }

@@ -11,9 +11,15 @@ use std::marker::Model;
 
 /// How often each reference was counted. Contracts see the pairs, in the order in which the
 /// references came.
-#[derive(Drop)]
 pub struct RefCounts {
     map: IndexMap<WireRep, u64>,
+}
+
+// By hand, so that the table is taken apart here alone and not at each end of each caller.
+impl Drop for RefCounts {
+    fn drop(self) {
+        let RefCounts { map: _ } = self;
+    }
 }
 
 impl Model for RefCounts {

@@ -11,9 +11,15 @@ use std::marker::Model;
 
 /// The references that Export answered, each once. Contracts see the list, in the order in which
 /// they were put in.
-#[derive(Drop)]
 pub struct Exports {
     reps: IndexSet<WireRep>,
+}
+
+// By hand, so that the table is taken apart here alone and not at each end of each caller.
+impl Drop for Exports {
+    fn drop(self) {
+        let Exports { reps: _ } = self;
+    }
 }
 
 impl Model for Exports {
@@ -66,9 +72,15 @@ impl Exports {
 
 /// The indexes of the objects that were withdrawn, each once. Contracts see the list, in the order
 /// in which they were put in.
-#[derive(Drop)]
 pub struct Withdrawals {
     indexes: IndexSet<u64>,
+}
+
+// By hand, so that the table is taken apart here alone and not at each end of each caller.
+impl Drop for Withdrawals {
+    fn drop(self) {
+        let Withdrawals { indexes: _ } = self;
+    }
 }
 
 impl Model for Withdrawals {

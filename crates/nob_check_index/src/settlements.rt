@@ -23,9 +23,15 @@ pub struct Settlement {
 
 /// The items whose Settle was acted on, each once. Contracts see the list, in the order in which
 /// they were put in.
-#[derive(Drop)]
 pub struct Settlements {
     set: IndexSet<Settlement>,
+}
+
+// By hand, so that the table is taken apart here alone and not at each end of each caller.
+impl Drop for Settlements {
+    fn drop(self) {
+        let Settlements { set: _ } = self;
+    }
 }
 
 impl Model for Settlements {

@@ -15,9 +15,15 @@ use std::marker::Model;
 
 /// From which spaces the copies of each reference came since it was given up last. Contracts see
 /// the rows, in the order in which the references came.
-#[derive(Drop)]
 pub struct SourceRows {
     map: IndexMap<WireRep, Spaces>,
+}
+
+// By hand, so that the table is taken apart here alone and not at each end of each caller.
+impl Drop for SourceRows {
+    fn drop(self) {
+        let SourceRows { map: _ } = self;
+    }
 }
 
 impl Model for SourceRows {

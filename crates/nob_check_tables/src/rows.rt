@@ -16,9 +16,15 @@ use std::marker::Model;
 
 /// The turns of each reference that has any. Contracts see the rows, in the order in which they
 /// came.
-#[derive(Drop)]
 pub struct TurnRows {
     map: IndexMap<WireRep, Turns>,
+}
+
+// By hand, so that the table is taken apart here alone and not at each end of each caller.
+impl Drop for TurnRows {
+    fn drop(self) {
+        let TurnRows { map: _ } = self;
+    }
 }
 
 impl Model for TurnRows {
