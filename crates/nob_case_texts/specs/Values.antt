@@ -8,9 +8,9 @@ use Rattle.nob_pickle.specs.declared.value.Value.TheVariants as values
 use Rattle.nob_case_texts.specs.Words.{reference_word}
 
 -- a value within so many lists, each of which has nothing else
-abbrev pub nested : ℕ → Tree → Tree
-nested zero t = t
-nested (suc n) t = list (more (nested n t) none)
+abbrev pub within_lists : ℕ → Tree → Tree
+within_lists zero t = t
+within_lists (suc n) t = list (more (within_lists n t) none)
 
 -- what stands behind a text once a value is written that is neither bytes nor a list: of these this says nothing
 abbrev pub Adds : Value → List ℕ → List ℕ → Type 0

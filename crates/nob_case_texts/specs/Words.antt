@@ -6,9 +6,9 @@ use Rattle.nob_frame.specs.declared.frame.FrameKind.{FrameKind}
 use Rattle.nob_frame.specs.declared.frame.FrameKind.TheVariants as kinds
 use Rattle.nob_item.specs.declared.item.Item.{Item}
 use Rattle.nob_item.specs.declared.item.Item.TheVariants as items
-use Rattle.nob_table.specs.declared.standing.State.{State}
-use Rattle.nob_table.specs.declared.standing.State.TheVariants as states
-use Rattle.nob_table.specs.declared.standing.Standing.{Standing}
+use Rattle.nob_table_rows.specs.declared.standing.State.{State}
+use Rattle.nob_table_rows.specs.declared.standing.State.TheVariants as states
+use Rattle.nob_table_rows.specs.declared.standing.Standing.{Standing}
 
 -- a number that says how often something stands: once at least, and a million times at most
 abbrev pub IsTimes : ℕ → Type 0

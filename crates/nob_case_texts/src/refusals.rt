@@ -5,7 +5,7 @@ ghost use Rattle.nob_frame.specs.declared.fault.FrameError.TheVariants as frame_
 ghost use Rattle.nob_item.specs.declared.fault.ItemError.TheVariants as item_errors;
 ghost use Rattle.nob_pickle.specs.declared.fault.PickleError.TheVariants as pickle_errors;
 ghost use Rattle.nob_session.specs.declared.error.SessionError.TheVariants as end_errors;
-ghost use Rattle.nob_table.specs.declared.fault.TableError.TheVariants as table_errors;
+ghost use Rattle.nob_table_rows.specs.declared.fault.TableError.TheVariants as table_errors;
 ghost use Rattle.nob_case_texts.specs.declared.answer.Answer.TheVariants as answers;
 ghost use Rattle.nob_case_texts.specs.declared.answer.Refusal.TheVariants as refusals;
 

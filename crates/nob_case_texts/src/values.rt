@@ -26,7 +26,7 @@ pub fn value(alloc: Global, word: &str) -> Result<Value, Unanswered> {
 
 /// A value inside of so many lists.
 pub fn deep_value(alloc: Global, lists: u64, innermost: Value) -> Result<Value, Unanswered>
-    ensures { IfOk result (λ value. tree value ≡ spec.nested lists (tree innermost)) }
+    ensures { IfOk result (λ value. tree value ≡ spec.within_lists lists (tree innermost)) }
 {
     let mut value = innermost;
     for _ in 0..lists {

@@ -23,7 +23,7 @@ use Rattle.nob_check_tables.proofs.Looking.{put_at}
 use Rattle.nob_check_tables.proofs.Sessions.{item_is}
 use Rattle.nob_check_tables.proofs.Turning.{turns_are}
 use Rattle.nob_check_index.specs.Spaces.{each_once, senders_of}
-use Rattle.nob_check_index.specs.Sources.{found_sources, sources_in, with_sources, with_source, with_copies, with_item, cleaned, sources_of}
+use Rattle.nob_check_index.specs.Sources.{found_sources, sources_in, with_sources, with_source, with_copies, with_item, sources_with_clean, sources_of}
 use Rattle.nob_check_index.proofs.Keys.{same_rep}
 
 -- ---- spaces, each once
@@ -126,7 +126,7 @@ item_copies : (p : ℕ) (r : WireRep) (item : Option Item) (rows : List (WireRep
 item_copies p r None rows = refl
 item_copies p r (Some item) rows = copies p r (counted_in item) rows
 
-given_up : (r rep : WireRep) (asks : Bool) (rows : List (WireRep × List ℕ)) → sources_in r (cleaned rep asks rows) ≡ cond (is_same r rep && asks) [] (sources_in r rows)
+given_up : (r rep : WireRep) (asks : Bool) (rows : List (WireRep × List ℕ)) → sources_in r (sources_with_clean rep asks rows) ≡ cond (is_same r rep && asks) [] (sources_in r rows)
 given_up r rep false rows = by (is_same r rep)
   where
     by : (b : Bool) → sources_in r rows ≡ cond (b && false) [] (sources_in r rows)

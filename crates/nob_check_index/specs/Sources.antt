@@ -42,13 +42,13 @@ with_item p None rows = rows
 with_item p (Some item) rows = with_copies p (counted_in item) rows
 
 -- the rows once a Clean of a reference was sent, where it was asked for before
-abbrev pub cleaned : WireRep → Bool → List (WireRep × List ℕ) → List (WireRep × List ℕ)
-cleaned rep asks rows = if not asks then rows else with_sources rep [] rows
+abbrev pub sources_with_clean : WireRep → Bool → List (WireRep × List ℕ) → List (WireRep × List ℕ)
+sources_with_clean rep asks rows = if not asks then rows else with_sources rep [] rows
 
 -- the rows after a deed, by the tables before it
 abbrev pub sources_after : Deed → Tables → List (WireRep × List ℕ) → List (WireRep × List ℕ)
 sources_after (Act p k) tables rows = with_item p (item_in p k tables.came) rows
-sources_after (Clean rep) tables rows = cleaned rep (turns_in rep tables.rows).asks rows
+sources_after (Clean rep) tables rows = sources_with_clean rep (turns_in rep tables.rows).asks rows
 sources_after (_) tables rows = rows
 
 -- the rows of space s, among n, that did this

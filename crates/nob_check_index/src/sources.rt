@@ -122,13 +122,13 @@ fn with_item(
 }
 
 // The rows once a Clean of a reference was sent, where it was asked for before.
-fn cleaned(
+fn sources_with_clean(
     alloc: Global,
     rep: &WireRep,
     asks: bool,
     rows: SourceRows,
 ) -> Result<SourceRows, AllocError>
-    ensures { IfOk result (λ after. after ≡ words.cleaned rep.now asks rows) }
+    ensures { IfOk result (λ after. after ≡ words.sources_with_clean rep.now asks rows) }
 {
     if !asks {
         return Ok(rows);
@@ -151,7 +151,7 @@ pub fn sources_after(
             let item = tables.came.item_at(*from, *number);
             with_item(alloc, *from, item, rows)
         }
-        Deed::Clean(rep) => cleaned(alloc, rep, tables.rows.turns(rep).asks, rows),
+        Deed::Clean(rep) => sources_with_clean(alloc, rep, tables.rows.turns(rep).asks, rows),
         _ => Ok(rows),
     }
 }

@@ -78,9 +78,15 @@ fn found_places(alloc: Global, places: Option<Places>) -> Places
 
 /// How many items were sent to each peer. Contracts see the pairs, in the order in which the peers
 /// came.
-#[derive(Drop)]
 pub struct SentCounts {
     map: IndexMap<SpaceId, u64>,
+}
+
+// By hand, so that the table is taken apart here alone and not at each end of each caller.
+impl Drop for SentCounts {
+    fn drop(self) {
+        let SentCounts { map: _ } = self;
+    }
 }
 
 impl Model for SentCounts {
@@ -125,9 +131,15 @@ impl SentCounts {
 
 /// Where each reference was sent. Contracts see the rows, in the order in which the references
 /// came.
-#[derive(Drop)]
 pub struct Carriers {
     map: IndexMap<WireRep, Places>,
+}
+
+// By hand, so that the table is taken apart here alone and not at each end of each caller.
+impl Drop for Carriers {
+    fn drop(self) {
+        let Carriers { map: _ } = self;
+    }
 }
 
 impl Model for Carriers {
@@ -218,11 +230,21 @@ fn with_all(
 }
 
 /// What a space sent, with the numbers, the first first. Contracts see the list.
-#[derive(Drop)]
 pub struct SentItems {
     sent_items: Vec<SentItem>,
     counts: SentCounts,
     carriers: Carriers,
+}
+
+// By hand, so that the tables are taken apart here alone and not at each end of each caller.
+impl Drop for SentItems {
+    fn drop(self) {
+        let SentItems {
+            sent_items: _,
+            counts: _,
+            carriers: _,
+        } = self;
+    }
 }
 
 impl Model for SentItems {

@@ -17,7 +17,7 @@ use Rattle.nob_model_history.proofs.Dirtying.{same_self}
 use Rattle.nob_model_history.proofs.Turning.{same_ref}
 use Rattle.nob_check_tables.specs.Closed.{is_among}
 use Rattle.nob_check_tables.specs.Came.{item_in}
-use Rattle.nob_check_tables.specs.Rows.{found_turns, turns_in, with_turns, wants_dirty_by, asked, all_asked, with_item}
+use Rattle.nob_check_tables.specs.Rows.{found_turns, turns_in, with_turns, wants_dirty_by, rows_with_dirty, rows_with_dirties, with_item}
 use Rattle.nob_check_tables.specs.Tables.{tables_of}
 use Rattle.nob_check_tables.specs.Laws.{TablesLaw}
 use Rattle.nob_check_tables.proofs.Looking.{put_at}
@@ -48,7 +48,7 @@ module _ (s n : ℕ) (peers : List ℕ) (D : List Deed) (same : (p : ℕ) → is
   abbrev pub if_asked : WireRep → Bool → Turns → Turns
   if_asked r carried t = cond (carried && wants_dirty s n r D t) (with_dirty t) t
 
-  asked_is : (r rep : WireRep) (rows : List (WireRep × Turns)) → turns_in r (asked s n peers rep rows) ≡ if_asked r (is_same r rep) (turns_in r rows)
+  asked_is : (r rep : WireRep) (rows : List (WireRep × Turns)) → turns_in r (rows_with_dirty s n peers rep rows) ≡ if_asked r (is_same r rep) (turns_in r rows)
   asked_is r rep rows = by (wants_dirty_by s n peers rep (turns_in rep rows)) (is_same r rep) refl refl
     where
       t : Turns
@@ -60,7 +60,7 @@ module _ (s n : ℕ) (peers : List ℕ) (D : List Deed) (same : (p : ℕ) → is
       wants_same : is_same r rep ≡ true → wants_dirty s n r D t ≡ wants_dirty_by s n peers rep (turns_in rep rows)
       wants_same here = sym (wants_is r t) ∙ ap (λ (x : WireRep). wants_dirty_by s n peers x (turns_in x rows)) (same_ref r rep here)
 
-      by : (w e : Bool) → wants_dirty_by s n peers rep (turns_in rep rows) ≡ w → is_same r rep ≡ e → turns_in r (asked s n peers rep rows) ≡ if_asked r (is_same r rep) t
+      by : (w e : Bool) → wants_dirty_by s n peers rep (turns_in rep rows) ≡ w → is_same r rep ≡ e → turns_in r (rows_with_dirty s n peers rep rows) ≡ if_asked r (is_same r rep) t
       by true true wants here =
           ap (λ (b : Bool). turns_in r (cond b new rows)) wants ∙ changed with_dirty r rep rows
           ∙ ap (λ (b : Bool). cond b (with_dirty t) t) here
@@ -76,7 +76,7 @@ module _ (s n : ℕ) (peers : List ℕ) (D : List Deed) (same : (p : ℕ) → is
           ap (λ (b : Bool). turns_in r (cond b new rows)) wants
           ∙ sym (ap (λ (b : Bool). if_asked r b t) other)
 
-  all_asked_is : (r : WireRep) (reps : List WireRep) (rows : List (WireRep × Turns)) → turns_in r (all_asked s n peers reps rows) ≡ if_asked r (list_any (is_same r) reps) (turns_in r rows)
+  all_asked_is : (r : WireRep) (reps : List WireRep) (rows : List (WireRep × Turns)) → turns_in r (rows_with_dirties s n peers reps rows) ≡ if_asked r (list_any (is_same r) reps) (turns_in r rows)
   all_asked_is r [] rows = refl
   all_asked_is r (rep ∷ reps) rows = by (all_asked_is r reps rows) (list_any (is_same rep) reps) (is_same r rep) refl refl
     where
@@ -84,26 +84,26 @@ module _ (s n : ℕ) (peers : List ℕ) (D : List Deed) (same : (p : ℕ) → is
       t = turns_in r rows
 
       before : List (WireRep × Turns)
-      before = all_asked s n peers reps rows
+      before = rows_with_dirties s n peers reps rows
 
-      by : turns_in r before ≡ if_asked r (list_any (is_same r) reps) t → (a e : Bool) → list_any (is_same rep) reps ≡ a → is_same r rep ≡ e → turns_in r (all_asked s n peers (rep ∷ reps) rows) ≡ if_asked r (is_same r rep || list_any (is_same r) reps) t
+      by : turns_in r before ≡ if_asked r (list_any (is_same r) reps) t → (a e : Bool) → list_any (is_same rep) reps ≡ a → is_same r rep ≡ e → turns_in r (rows_with_dirties s n peers (rep ∷ reps) rows) ≡ if_asked r (is_same r rep || list_any (is_same r) reps) t
       by rest true true there here =
-          ap (λ (b : Bool). turns_in r (cond b before (asked s n peers rep before))) there
+          ap (λ (b : Bool). turns_in r (cond b before (rows_with_dirty s n peers rep before))) there
           ∙ rest
           ∙ ap (λ (b : Bool). if_asked r b t) (subst (λ (x : WireRep). list_any (is_same x) reps ≡ true) (sym (same_ref r rep here)) there)
           ∙ sym (ap (λ (b : Bool). if_asked r (b || list_any (is_same r) reps) t) here)
       by rest true false there other =
-          ap (λ (b : Bool). turns_in r (cond b before (asked s n peers rep before))) there
+          ap (λ (b : Bool). turns_in r (cond b before (rows_with_dirty s n peers rep before))) there
           ∙ rest
           ∙ sym (ap (λ (b : Bool). if_asked r (b || list_any (is_same r) reps) t) other)
       by rest false true none here =
           let first : turns_in r before ≡ t = rest ∙ ap (λ (b : Bool). if_asked r b t) (subst (λ (x : WireRep). list_any (is_same x) reps ≡ false) (sym (same_ref r rep here)) none) in
-          ap (λ (b : Bool). turns_in r (cond b before (asked s n peers rep before))) none
+          ap (λ (b : Bool). turns_in r (cond b before (rows_with_dirty s n peers rep before))) none
           ∙ asked_is r rep before
           ∙ (λ i. if_asked r (here i) (first i))
           ∙ sym (ap (λ (b : Bool). if_asked r (b || list_any (is_same r) reps) t) here)
       by rest false false none other =
-          ap (λ (b : Bool). turns_in r (cond b before (asked s n peers rep before))) none
+          ap (λ (b : Bool). turns_in r (cond b before (rows_with_dirty s n peers rep before))) none
           ∙ asked_is r rep before
           ∙ ap (λ (b : Bool). if_asked r b (turns_in r before)) other
           ∙ rest

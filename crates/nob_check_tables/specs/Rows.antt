@@ -33,29 +33,29 @@ abbrev pub wants_dirty_by : (s n : ℕ) → List ℕ → WireRep → Turns → B
 wants_dirty_by s n closed rep turns = is_peer s n rep.owner && not (is_among rep.owner closed) && not (is_standing turns)
 
 -- the rows once a reference got a Dirty, if it gets one
-abbrev pub asked : (s n : ℕ) → List ℕ → WireRep → List (WireRep × Turns) → List (WireRep × Turns)
-asked s n closed rep rows = if wants_dirty_by s n closed rep (turns_in rep rows) then with_turns rep (with_dirty (turns_in rep rows)) rows else rows
+abbrev pub rows_with_dirty : (s n : ℕ) → List ℕ → WireRep → List (WireRep × Turns) → List (WireRep × Turns)
+rows_with_dirty s n closed rep rows = if wants_dirty_by s n closed rep (turns_in rep rows) then with_turns rep (with_dirty (turns_in rep rows)) rows else rows
 
 -- the rows once each of some references got a Dirty, if it gets one, each once
-abbrev pub all_asked : (s n : ℕ) → List ℕ → List WireRep → List (WireRep × Turns) → List (WireRep × Turns)
-all_asked s n closed [] rows = rows
-all_asked s n closed (rep ∷ reps) rows = if list_any (is_same rep) reps then all_asked s n closed reps rows else asked s n closed rep (all_asked s n closed reps rows)
+abbrev pub rows_with_dirties : (s n : ℕ) → List ℕ → List WireRep → List (WireRep × Turns) → List (WireRep × Turns)
+rows_with_dirties s n closed [] rows = rows
+rows_with_dirties s n closed (rep ∷ reps) rows = if list_any (is_same rep) reps then rows_with_dirties s n closed reps rows else rows_with_dirty s n closed rep (rows_with_dirties s n closed reps rows)
 
 -- the rows once the owner of a reference answered
-abbrev pub answered : WireRep → OwnerAnswer → List (WireRep × Turns) → List (WireRep × Turns)
-answered rep answer rows = with_turns rep (with_answer answer (turns_in rep rows)) rows
+abbrev pub rows_with_answer : WireRep → OwnerAnswer → List (WireRep × Turns) → List (WireRep × Turns)
+rows_with_answer rep answer rows = with_turns rep (with_answer answer (turns_in rep rows)) rows
 
 -- the rows once a reference was cleaned
-abbrev pub cleaned : WireRep → List (WireRep × Turns) → List (WireRep × Turns)
-cleaned rep rows = with_turns rep (with_clean (turns_in rep rows)) rows
+abbrev pub rows_with_clean : WireRep → List (WireRep × Turns) → List (WireRep × Turns)
+rows_with_clean rep rows = with_turns rep (with_clean (turns_in rep rows)) rows
 
 -- the rows once an item from p was acted on
 abbrev pub with_item : (s n p : ℕ) → Option Item → List ℕ → List (WireRep × Turns) → List (WireRep × Turns)
 with_item s n p None closed rows = rows
-with_item s n p (Some (items.Call call target method value)) closed rows = all_asked s n closed (counted_in (items.Call call target method value)) rows
-with_item s n p (Some (items.Reply call status value)) closed rows = all_asked s n closed (counted_in (items.Reply call status value)) rows
+with_item s n p (Some (items.Call call target method value)) closed rows = rows_with_dirties s n closed (counted_in (items.Call call target method value)) rows
+with_item s n p (Some (items.Reply call status value)) closed rows = rows_with_dirties s n closed (counted_in (items.Reply call status value)) rows
 with_item s n p (Some (items.Settle item)) closed rows = rows
 with_item s n p (Some (items.Dirty index)) closed rows = rows
-with_item s n p (Some (items.DirtyOk index)) closed rows = answered (record { owner = p; index = index }) said.Yes rows
-with_item s n p (Some (items.DirtyNo index)) closed rows = answered (record { owner = p; index = index }) said.No rows
+with_item s n p (Some (items.DirtyOk index)) closed rows = rows_with_answer (record { owner = p; index = index }) said.Yes rows
+with_item s n p (Some (items.DirtyNo index)) closed rows = rows_with_answer (record { owner = p; index = index }) said.No rows
 with_item s n p (Some (items.Clean index)) closed rows = rows

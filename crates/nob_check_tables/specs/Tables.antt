@@ -6,13 +6,13 @@ use Rattle.nob_model_words.specs.declared.deed.Deed.TheVariants.{Act, Clean}
 use Rattle.nob_model_words.specs.declared.turns.Turns.{Turns}
 use Rattle.nob_check_tables.specs.Closed.{closed_after}
 use Rattle.nob_check_tables.specs.Came.{came_after, item_in}
-use Rattle.nob_check_tables.specs.Rows.{with_item, cleaned}
+use Rattle.nob_check_tables.specs.Rows.{with_item, rows_with_clean}
 use Rattle.nob_check_tables.specs.declared.tables.Tables.{Tables}
 
 -- the rows after a deed
 abbrev pub rows_after : Deed → Tables → List (WireRep × Turns)
 rows_after (Act p k) tables = with_item tables.here.space tables.here.n p (item_in p k tables.came) tables.closed tables.rows
-rows_after (Clean rep) tables = cleaned rep tables.rows
+rows_after (Clean rep) tables = rows_with_clean rep tables.rows
 rows_after (_) tables = tables.rows
 
 -- the tables after a deed

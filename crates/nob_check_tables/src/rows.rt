@@ -107,14 +107,14 @@ fn wants_dirty(here: &Here, rep: &WireRep, closed: &Closed, turns: Turns) -> boo
 }
 
 // The rows once a reference got a Dirty, if it gets one.
-fn asked(
+fn rows_with_dirty(
     here: &Here,
     rep: &WireRep,
     closed: &Closed,
     rows: TurnRows,
 ) -> Result<TurnRows, AllocError>
     ensures { IfOk result (λ after. after
-        ≡ words.asked here.now.space here.now.n closed.now rep.now rows) }
+        ≡ words.rows_with_dirty here.now.space here.now.n closed.now rep.now rows) }
 {
     let turns = rows.turns(rep);
     if !wants_dirty(here, rep, closed, turns) {
@@ -131,38 +131,42 @@ fn is_in(rep: &WireRep, others: &[WireRep]) -> bool
 }
 
 // The rows once each of some references got a Dirty, if it gets one.
-fn all_asked(
+fn rows_with_dirties(
     here: &Here,
     reps: &[WireRep],
     closed: &Closed,
     rows: TurnRows,
 ) -> Result<TurnRows, AllocError>
     ensures { IfOk result (λ after. after
-        ≡ words.all_asked here.now.space here.now.n closed.now reps.now rows) }
+        ≡ words.rows_with_dirties here.now.space here.now.n closed.now reps.now rows) }
 {
     match reps {
         [] => Ok(rows),
         [rep, others @ ..] => {
-            let after = all_asked(here, others, closed, rows)?;
+            let after = rows_with_dirties(here, others, closed, rows)?;
             if is_in(rep, others) {
                 return Ok(after);
             }
-            asked(here, rep, closed, after)
+            rows_with_dirty(here, rep, closed, after)
         }
     }
 }
 
 // The rows once the owner of a reference answered.
-fn answered(rep: WireRep, answer: OwnerAnswer, rows: TurnRows) -> Result<TurnRows, AllocError>
-    ensures { IfOk result (λ after. after ≡ words.answered rep answer rows) }
+fn rows_with_answer(
+    rep: WireRep,
+    answer: OwnerAnswer,
+    rows: TurnRows,
+) -> Result<TurnRows, AllocError>
+    ensures { IfOk result (λ after. after ≡ words.rows_with_answer rep answer rows) }
 {
     let turns = rows.turns(&rep);
     rows.with_turns(rep, with_answer(turns, answer)?)
 }
 
 /// The rows once a reference was cleaned. Only memory fails it.
-pub fn cleaned(rep: &WireRep, rows: TurnRows) -> Result<TurnRows, AllocError>
-    ensures { IfOk result (λ after. after ≡ words.cleaned rep.now rows) }
+pub fn rows_with_clean(rep: &WireRep, rows: TurnRows) -> Result<TurnRows, AllocError>
+    ensures { IfOk result (λ after. after ≡ words.rows_with_clean rep.now rows) }
 {
     let before = rows.turns(rep);
     rows.with_turns(
@@ -192,21 +196,21 @@ pub fn with_item(
     match item {
         Item::Call { .. } | Item::Reply { .. } => {
             let reps = nob_item::counted_refs(alloc, item)?;
-            all_asked(here, reps.as_slice(), closed, rows)
+            rows_with_dirties(here, reps.as_slice(), closed, rows)
         }
         Item::DirtyOk(index) => {
             let rep = WireRep {
                 owner: peer,
                 index: *index,
             };
-            answered(rep, OwnerAnswer::Yes, rows)
+            rows_with_answer(rep, OwnerAnswer::Yes, rows)
         }
         Item::DirtyNo(index) => {
             let rep = WireRep {
                 owner: peer,
                 index: *index,
             };
-            answered(rep, OwnerAnswer::No, rows)
+            rows_with_answer(rep, OwnerAnswer::No, rows)
         }
         Item::Settle(_) | Item::Dirty(_) | Item::Clean(_) => Ok(rows),
     }

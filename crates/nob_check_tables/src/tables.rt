@@ -7,7 +7,7 @@ ghost use Rattle.nob_check_tables.specs.Tables as words;
 
 use crate::came::Came;
 use crate::closed::Closed;
-use crate::rows::{TurnRows, cleaned, with_item};
+use crate::rows::{TurnRows, rows_with_clean, with_item};
 use nob_ids::{ItemNo, SpaceId};
 use nob_model_words::{Deed, Here};
 use std::alloc::{AllocError, Global};
@@ -79,7 +79,7 @@ pub fn with_deed(alloc: Global, deed: &Deed, tables: Tables) -> Result<Tables, A
             })
         }
         Deed::Clean(rep) => {
-            let rows = cleaned(rep, rows)?;
+            let rows = rows_with_clean(rep, rows)?;
             Ok(Tables {
                 here,
                 closed,

@@ -6,10 +6,10 @@ use Rattle.nob_model_words.specs.declared.deed.Deed.TheVariants.{Act}
 use Rattle.nob_model_words.specs.Sessions.{item_at}
 use Rattle.nob_model_work.specs.Work.{after_act, work_after}
 use Rattle.nob_model_work.specs.declared.work.InHand.{InHand}
-use Rattle.nob_check_work.specs.Acting.{unseen, acted_on, after_acted, after_other}
+use Rattle.nob_check_work.specs.Acting.{fresh_message, acted_on, after_acted, after_other}
 
 -- an item that is acted on
-act_law : (s n p k : ℕ) (D : List Deed) (item : Option Item) (work : InHand) → after_acted s n (Act p k ∷ D) (unseen p k item) work ≡ after_act s n p k D item work
+act_law : (s n p k : ℕ) (D : List Deed) (item : Option Item) (work : InHand) → after_acted s n (Act p k ∷ D) (fresh_message p k item) work ≡ after_act s n p k D item work
 unfolding after_acted after_act
 act_law s n p k D None work = refl
 act_law s n p k D (Some item) work = refl

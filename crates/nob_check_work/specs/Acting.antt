@@ -24,13 +24,13 @@ abbrev pub is_due : RefCopy → Bool
 is_due copy = is_due_loan copy.loan
 
 -- an item from p as a message of which no reference is looked at yet
-abbrev pub unseen : (p k : ℕ) → Option Item → Option Message
-unseen p k None = None
-unseen p k (Some item) = Some (record { from = p; number = k; item = item; copies = [] })
+abbrev pub fresh_message : (p k : ℕ) → Option Item → Option Message
+fresh_message p k None = None
+fresh_message p k (Some item) = Some (record { from = p; number = k; item = item; copies = [] })
 
 -- the item that a deed acts on, as such a message
 abbrev pub acted_on : Deed → List Deed → Option Message
-acted_on (Act p k) D = unseen p k (item_at p k D)
+acted_on (Act p k) D = fresh_message p k (item_at p k D)
 acted_on (_) D = None
 
 -- what is in hand once it is a message, by what was done

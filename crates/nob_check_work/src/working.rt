@@ -22,7 +22,12 @@ use nob_model_work::work::{
 use std::alloc::{AllocError, Global};
 
 // An item from a peer as a message of which no reference is looked at yet.
-fn unseen(alloc: Global, from: SpaceId, number: ItemNo, item: &Item) -> Result<Message, AllocError>
+fn fresh_message(
+    alloc: Global,
+    from: SpaceId,
+    number: ItemNo,
+    item: &Item,
+) -> Result<Message, AllocError>
     ensures { IfOk result (λ message. message
         ≡ record { from = from; number = number; item = item.now; copies = [] }) }
 {
@@ -37,17 +42,17 @@ fn unseen(alloc: Global, from: SpaceId, number: ItemNo, item: &Item) -> Result<M
 }
 
 // The item of this number from a peer as such a message.
-fn unseen_at(
+fn message_at(
     alloc: Global,
     from: SpaceId,
     number: ItemNo,
     past: &DeedIndex,
 ) -> Result<Option<Message>, AllocError>
     ensures { IfOk result (λ message. message
-        ≡ acting.unseen from number (item_at from number past.now.deeds)) }
+        ≡ acting.fresh_message from number (item_at from number past.now.deeds)) }
 {
     match past.item_at(from, number) {
-        Some(item) => Ok(Some(unseen(alloc, from, number, item)?)),
+        Some(item) => Ok(Some(fresh_message(alloc, from, number, item)?)),
         None => Ok(None),
     }
 }
@@ -57,7 +62,7 @@ fn acted_on(alloc: Global, deed: &Deed, past: &DeedIndex) -> Result<Option<Messa
     ensures { IfOk result (λ message. message ≡ acting.acted_on deed.now past.now.deeds) }
 {
     match deed {
-        Deed::Act(from, number) => unseen_at(alloc, *from, *number, past),
+        Deed::Act(from, number) => message_at(alloc, *from, *number, past),
         _ => Ok(None),
     }
 }

@@ -11,7 +11,7 @@ use Rattle.nob_model_end.specs.declared.entry.PairEntry.{PairEntry}
 use Rattle.nob_model_end.specs.declared.entry.PairEntry.TheVariants.{First, Second}
 use Rattle.nob_model_end.specs.End.{is_open, lowest, accepted, unacknowledged, data_arrived, owes_close, ending}
 use Rattle.nob_model_end.specs.Right.{right_transmit, data_frames, open_frames, closed_frames}
-use Rattle.nob_model_end.specs.Pair.{first_calls, second_calls, given, PairRun}
+use Rattle.nob_model_end.specs.Pair.{first_calls, second_calls, transmitted_frames, PairRun}
 use Rattle.std.proofs.lemmas.Option.{slice_get_within, get_or_from_slice_get}
 use Rattle.nob_demo_pair.specs.Run.{all_given, frame_numbered}
 use Prim.Native.Nat.{zero}
@@ -53,19 +53,19 @@ to_peer me peer window L = to_peer_either me peer window L (is_open L)
 -- ---- each frame of a run was given by the other end than that to which it goes
 
 abbrev pub FromOther : List PairEntry → Frame → Type 0
-FromOther J f = ((f.to ≡ 1) × Contains (given (second_calls J)) f) ⊎ ((f.to ≡ 2) × Contains (given (first_calls J)) f)
+FromOther J f = ((f.to ≡ 1) × Contains (transmitted_frames (second_calls J)) f) ⊎ ((f.to ≡ 2) × Contains (transmitted_frames (first_calls J)) f)
 
 by_first : (limits : Limits) (J : List PairEntry) (frames : List Frame) (f : Frame) → frames ≡ right_transmit 1 2 limits.window (first_calls J)
     → FromOther J f ⊎ Contains frames f → FromOther (First (Transmit frames) ∷ J) f
 by_first limits J frames f is (inl (inl (to, among))) = inl (to, among)
-by_first limits J frames f is (inl (inr (to, among))) = inr (to, Contains-append_left (given (first_calls J)) frames f among)
-by_first limits J frames f is (inr among) = inr (held (λ (g : Frame). g.to ≡ 2) frames f (subst (AllByRecursion (λ (g : Frame). g.to ≡ 2)) (sym is) (to_peer 1 2 limits.window (first_calls J))) among, Contains-append_right (given (first_calls J)) frames f among)
+by_first limits J frames f is (inl (inr (to, among))) = inr (to, Contains-append_left (transmitted_frames (first_calls J)) frames f among)
+by_first limits J frames f is (inr among) = inr (held (λ (g : Frame). g.to ≡ 2) frames f (subst (AllByRecursion (λ (g : Frame). g.to ≡ 2)) (sym is) (to_peer 1 2 limits.window (first_calls J))) among, Contains-append_right (transmitted_frames (first_calls J)) frames f among)
 
 by_second : (limits : Limits) (J : List PairEntry) (frames : List Frame) (f : Frame) → frames ≡ right_transmit 2 1 limits.window (second_calls J)
     → FromOther J f ⊎ Contains frames f → FromOther (Second (Transmit frames) ∷ J) f
-by_second limits J frames f is (inl (inl (to, among))) = inl (to, Contains-append_left (given (second_calls J)) frames f among)
+by_second limits J frames f is (inl (inl (to, among))) = inl (to, Contains-append_left (transmitted_frames (second_calls J)) frames f among)
 by_second limits J frames f is (inl (inr (to, among))) = inr (to, among)
-by_second limits J frames f is (inr among) = inl (held (λ (g : Frame). g.to ≡ 1) frames f (subst (AllByRecursion (λ (g : Frame). g.to ≡ 1)) (sym is) (to_peer 2 1 limits.window (second_calls J))) among, Contains-append_right (given (second_calls J)) frames f among)
+by_second limits J frames f is (inr among) = inl (held (λ (g : Frame). g.to ≡ 1) frames f (subst (AllByRecursion (λ (g : Frame). g.to ≡ 1)) (sym is) (to_peer 2 1 limits.window (second_calls J))) among, Contains-append_right (transmitted_frames (second_calls J)) frames f among)
 
 earlier : (limits : Limits) (J : List PairEntry) (frames : List Frame) (f : Frame) → ((Contains (all_given J) f) → FromOther J f) → Contains (all_given J ++ frames) f → FromOther J f ⊎ Contains frames f
 earlier limits J frames f before among = elim (Contains-append_cases (all_given J) frames f among) [ inl a ↦ inl (before a) | inr b ↦ inr b ]

@@ -6,7 +6,7 @@ use Rattle.nob_model_end.specs.declared.entry.EndEntry.TheVariants.{Arrive}
 use Rattle.nob_model_end.specs.declared.entry.PairEntry.{PairEntry}
 use Rattle.nob_model_end.specs.End.{is_open}
 use Rattle.nob_model_end.specs.Right.{right_transmit, right_front, right_arrive}
-use Rattle.nob_model_end.specs.Pair.{first_calls, second_calls, given, PairRun}
+use Rattle.nob_model_end.specs.Pair.{first_calls, second_calls, transmitted_frames, PairRun}
 use Rattle.nob_session.specs.Stands.{End, Stands}
 use Rattle.nob_demo_pair.specs.declared.step.Side.{Side}
 use Rattle.nob_demo_pair.specs.declared.step.Side.TheVariants.{First, Second}
@@ -90,13 +90,13 @@ to_first f is = rw (is) refl
 to_second : (f : Frame) → f.to ≢ 1 → side_to f ≡ Second
 to_second f is = let no : (f.to == 1) ≡ false = grind (arith, nat_tests, is) in rw (no) refl
 
-from_second : (limits : Limits) (J : List PairEntry) (k : ℕ) (f : Frame) → PairRun 1 2 limits limits J → frame_numbered k (all_given J) ≡ Some f → f.to ≡ 1 → Contains (given (second_calls J)) f
+from_second : (limits : Limits) (J : List PairEntry) (k : ℕ) (f : Frame) → PairRun 1 2 limits limits J → frame_numbered k (all_given J) ≡ Some f → f.to ≡ 1 → Contains (transmitted_frames (second_calls J)) f
 from_second limits J k f run numbered is = elim (from_other limits J run f (numbered_among k (all_given J) f numbered)) [
   | inl h ↦ h.1
   | inr h ↦ absurd (omega (arith, h.0, is))
 ]
 
-from_first : (limits : Limits) (J : List PairEntry) (k : ℕ) (f : Frame) → PairRun 1 2 limits limits J → frame_numbered k (all_given J) ≡ Some f → f.to ≢ 1 → Contains (given (first_calls J)) f
+from_first : (limits : Limits) (J : List PairEntry) (k : ℕ) (f : Frame) → PairRun 1 2 limits limits J → frame_numbered k (all_given J) ≡ Some f → f.to ≢ 1 → Contains (transmitted_frames (first_calls J)) f
 from_first limits J k f run numbered is = elim (from_other limits J run f (numbered_among k (all_given J) f numbered)) [
   | inl h ↦ absurd (is h.0)
   | inr h ↦ h.1

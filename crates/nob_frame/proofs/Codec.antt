@@ -20,7 +20,7 @@ use Rattle.nob_frame.specs.declared.frame.FrameKind.TheVariants.{Data, Ack, Clos
 use Rattle.nob_frame.specs.declared.header.Header.{Header}
 use Rattle.nob_frame.specs.Kinds.{kind_number, kind_of}
 use Rattle.nob_frame.specs.Spelling.{marks, numbers, heading, header_of, spelling, HasSeq, Carries, Fits, Spelt}
-use Rattle.nob_frame.specs.Reading.{◌>>=◌, are_spaces, is_seq, is_next, is_length, is_payload, sound, known, kind_at, numbers_at, header_at, payload_at, framed, front_of, front_at, frame_at, bytes_of, Gives}
+use Rattle.nob_frame.specs.Reading.{◌>>=◌, are_spaces, is_seq, is_next, is_length, is_payload, sound, known, kind_at, numbers_at, header_at, payload_at, frame_of, front_of, front_at, frame_at, bytes_of, Gives}
 use Rattle.nob_frame.specs.Laws.{NoFront}
 
 -- the value of a step that did not fail
@@ -179,16 +179,16 @@ heading_taken bytes header fits e =
 pub front_taken : (bytes : List ℕ) (frame : Frame) (after : List ℕ) → IsBytes bytes → front_at bytes ≡ Ok (frame, after) → Fits frame × (bytes ≡ spelling frame ++ after)
 unfolding front_at payload_at
 front_taken bytes frame after fits e =
-    let b = bind_ok (header_at bytes) (λ header. payload_at header.kind header.length (drop 28 bytes) >>= λ parts. Ok (framed header parts.0, parts.1)) (frame, after) e in
+    let b = bind_ok (header_at bytes) (λ header. payload_at header.kind header.length (drop 28 bytes) >>= λ parts. Ok (frame_of header parts.0, parts.1)) (frame, after) e in
     let h = b.0 in
     let t = heading_taken bytes h fits b.1 in
     let rest = drop 28 bytes in
-    let c = bind_ok (payload_at h.kind h.length rest) (λ parts. Ok (framed h parts.0, parts.1)) (frame, after) b.2 in
+    let c = bind_ok (payload_at h.kind h.length rest) (λ parts. Ok (frame_of h parts.0, parts.1)) (frame, after) b.2 in
     let g1 = guard_ok (ltb (length rest) h.length) faults.Short _ c.0 c.1 in
     let g2 = guard_ok (not (is_payload h.kind (take h.length rest))) faults.Reason (Ok (take h.length rest, drop h.length rest)) c.0 g1.1 in
     let size : length (take h.length rest) ≡ h.length = length-take-le h.length rest (ltb-false _ _ g1.0) in
     let made : Frame × List ℕ = front_of h bytes in
-    let is : made ≡ (frame, after) = ap (λ (parts : List ℕ × List ℕ). (framed h parts.0, parts.1)) (ok_is (take h.length rest, drop h.length rest) c.0 g2.1) ∙ ok_is (framed h c.0.0, c.0.1) (frame, after) c.2 in
+    let is : made ≡ (frame, after) = ap (λ (parts : List ℕ × List ℕ). (frame_of h parts.0, parts.1)) (ok_is (take h.length rest, drop h.length rest) c.0 g2.1) ∙ ok_is (frame_of h c.0.0, c.0.1) (frame, after) c.2 in
     let same : header_of made.0 ≡ h = ap (λ (n : ℕ). record h { length = n }) size in
     let fit : Fits made.0 = fits_from made.0 (subst Passes (sym same) t.1) (not_false _ g2.0) in
     let front : heading (header_of made.0) ≡ take 28 bytes = ap heading same ∙ t.0 in
@@ -266,8 +266,8 @@ front_again frame after fits =
     let back : drop (length frame.payload) rest ≡ after = drop_at frame.payload after (length frame.payload) refl in
     let right : is_payload frame.kind frame.payload ≡ true = p.1 in
     let two : payload_at frame.kind (length frame.payload) rest ≡ Ok (frame.payload, after) = rw (enough, front, back, right) refl in
-    ap (λ (r : Result Header FrameFault). r >>= λ header. payload_at header.kind header.length rest >>= λ parts. Ok (framed header parts.0, parts.1)) one
-    ∙ ap (λ (r : Result (List ℕ × List ℕ) FrameFault). r >>= λ parts. Ok (framed h parts.0, parts.1)) two
+    ap (λ (r : Result Header FrameFault). r >>= λ header. payload_at header.kind header.length rest >>= λ parts. Ok (frame_of header parts.0, parts.1)) one
+    ∙ ap (λ (r : Result (List ℕ × List ℕ) FrameFault). r >>= λ parts. Ok (frame_of h parts.0, parts.1)) two
 
 pub frame_again : (frame : Frame) → Fits frame → frame_at (spelling frame) ≡ Ok frame
 unfolding frame_at

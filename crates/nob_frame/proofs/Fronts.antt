@@ -12,7 +12,7 @@ use Rattle.nob_frame.specs.declared.frame.FrameKind.{FrameKind}
 use Rattle.nob_frame.specs.declared.frame.FrameKind.TheVariants.{Data, Ack, Close}
 use Rattle.nob_frame.specs.declared.header.Header.{Header}
 use Rattle.nob_frame.specs.Kinds.{kind_of}
-use Rattle.nob_frame.specs.Reading.{◌>>=◌, are_spaces, is_seq, is_next, is_length, is_payload, sound, known, kind_at, numbers_at, header_at, payload_at, framed, front_at, frame_at}
+use Rattle.nob_frame.specs.Reading.{◌>>=◌, are_spaces, is_seq, is_next, is_length, is_payload, sound, known, kind_at, numbers_at, header_at, payload_at, frame_of, front_at, frame_at}
 use Rattle.nob_frame.specs.Streams.{BeginsNone, wanted_by}
 use Rattle.nob_frame.proofs.Codec.{bind_ok, guard_ok, Passes, sound_passes, front_again}
 
@@ -83,7 +83,7 @@ header_more rest more h =
     ∙ ap (λ (b : Bool). cond b (Err faults.Short) (with_numbers rest (kind_at rest))) (sym short)
 
 after_header : List ℕ → Result Header FrameFault → Result (Frame × List ℕ) FrameFault
-after_header rest header = header >>= λ h. payload_at h.kind h.length rest >>= λ parts. Ok (framed h parts.0, parts.1)
+after_header rest header = header >>= λ h. payload_at h.kind h.length rest >>= λ parts. Ok (frame_of h parts.0, parts.1)
 
 -- the front by its header
 front_is : (bytes : List ℕ) → front_at bytes ≡ after_header (drop 28 bytes) (header_at bytes)
@@ -99,7 +99,7 @@ pub front_short : (bytes : List ℕ) → length bytes < 28 → front_at bytes �
 unfolding front_at header_at
 front_short bytes h =
     let short : ltb (length bytes) 28 ≡ true = lt-ltb _ _ h in
-    ap (λ (b : Bool). cond b (Err faults.Short) (kind_at bytes >>= λ kind. sound (numbers_at kind bytes)) >>= λ header. payload_at header.kind header.length (drop 28 bytes) >>= λ parts. Ok (framed header parts.0, parts.1)) short
+    ap (λ (b : Bool). cond b (Err faults.Short) (kind_at bytes >>= λ kind. sound (numbers_at kind bytes)) >>= λ header. payload_at header.kind header.length (drop 28 bytes) >>= λ parts. Ok (frame_of header parts.0, parts.1)) short
 
 -- ---- a fault stays
 
@@ -123,7 +123,7 @@ unfolding after_header
 after_header_stays rest more (Err f) fault e ne = e
 after_header_stays rest more (Ok h) fault e ne =
     let P : FrameFault → Type 0 = λ f. f ≢ faults.Short → after_header (rest ++ more) (Ok h) ≡ Err f in
-    let made : List ℕ × List ℕ → Result (Frame × List ℕ) FrameFault = λ parts. Ok (framed h parts.0, parts.1) in
+    let made : List ℕ × List ℕ → Result (Frame × List ℕ) FrameFault = λ parts. Ok (frame_of h parts.0, parts.1) in
     bind_err P (payload_at h.kind h.length rest) made fault e
     (λ refused not_short. ap (λ r. r >>= made) (payload_fault_stays h.kind h.length rest more fault refused not_short))
     (λ parts found ended. absurd cc)
@@ -152,7 +152,7 @@ unfolding after_header payload_at
 waits_after tail more (Err f) e less = e
 waits_after tail more (Ok h) e less =
     let short : ltb (length (tail ++ more)) h.length ≡ true = lt-ltb _ _ (less h refl) in
-    let made : List ℕ × List ℕ → Result (Frame × List ℕ) FrameFault = λ parts. Ok (framed h parts.0, parts.1) in
+    let made : List ℕ × List ℕ → Result (Frame × List ℕ) FrameFault = λ parts. Ok (frame_of h parts.0, parts.1) in
     let refused : payload_at h.kind h.length (tail ++ more) ≡ Err faults.Short = rw short refl in
     ap (λ r. r >>= made) refused
 
@@ -236,9 +236,9 @@ payload_stands bytes header fault passes e =
 pub front_stands : (bytes : List ℕ) (fault : FrameFault) → front_at bytes ≡ Err fault → Stands bytes fault
 unfolding front_at
 front_stands bytes fault e =
-    bind_err (Stands bytes) (header_at bytes) (λ header. payload_at header.kind header.length (drop 28 bytes) >>= λ parts. Ok (framed header parts.0, parts.1)) fault e
+    bind_err (Stands bytes) (header_at bytes) (λ header. payload_at header.kind header.length (drop 28 bytes) >>= λ parts. Ok (frame_of header parts.0, parts.1)) fault e
     (header_stands bytes fault)
-    (λ header found e1. bind_err (Stands bytes) (payload_at header.kind header.length (drop 28 bytes)) (λ parts. Ok (framed header parts.0, parts.1)) fault e1
+    (λ header found e1. bind_err (Stands bytes) (payload_at header.kind header.length (drop 28 bytes)) (λ parts. Ok (frame_of header parts.0, parts.1)) fault e1
     (payload_stands bytes header fault (header_read bytes header found).1)
     (λ parts found ended. absurd cc))
 

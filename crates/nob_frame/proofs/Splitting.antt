@@ -7,7 +7,7 @@ use Rattle.nob_frame.specs.declared.fault.FrameFault.TheVariants as faults
 use Rattle.nob_frame.specs.declared.frame.Frame.{Frame}
 use Rattle.nob_frame.specs.declared.header.Header.{Header}
 use Rattle.nob_frame.specs.Spelling.{Fits, spelling}
-use Rattle.nob_frame.specs.Reading.{framed, front_of, front_at}
+use Rattle.nob_frame.specs.Reading.{frame_of, front_of, front_at}
 use Rattle.nob_frame.specs.Laws.{OneSplit}
 use Rattle.nob_frame.specs.Streams.{Splits, IsCut, IsBroken}
 use Rattle.nob_bytes.proofs.Lists.{IsBytes, IsBytes-drop}
@@ -62,14 +62,14 @@ reads_on bytes frames rest frame after fits so_far e =
 
 -- the same, as the code has the parts of the frame
 pub reads_push : (bytes : List ℕ) (frames : List Frame) (rest : List ℕ) (header : Header) (frame : Frame) (payload after tail : List ℕ) → IsBytes bytes → Reads bytes frames rest
-    → front_at rest ≡ Ok (front_of header rest) → tail ≡ drop 28 rest → payload ≡ take header.length tail → after ≡ drop header.length tail → frame ≡ framed header payload
+    → front_at rest ≡ Ok (front_of header rest) → tail ≡ drop 28 rest → payload ≡ take header.length tail → after ≡ drop header.length tail → frame ≡ frame_of header payload
     → Reads bytes (frames ++ frame ∷ []) after
 reads_push bytes frames rest header frame payload after tail fits so_far e tail_is payload_is after_is frame_is =
     let bytes_are : payload ≡ take header.length (drop 28 rest) = payload_is ∙ ap (take header.length) tail_is in
-    let frame_at_front : framed header (take header.length (drop 28 rest)) ≡ frame = ap (framed header) (sym bytes_are) ∙ sym frame_is in
+    let frame_at_front : frame_of header (take header.length (drop 28 rest)) ≡ frame = ap (frame_of header) (sym bytes_are) ∙ sym frame_is in
     let after_front : drop header.length (drop 28 rest) ≡ after = ap (drop header.length) (sym tail_is) ∙ sym after_is in
-    let on = reads_on bytes frames rest (framed header (take header.length (drop 28 rest))) (drop header.length (drop 28 rest)) fits so_far e in
-    subst (λ (f : Frame). Reads bytes (frames ++ f ∷ []) after) frame_at_front (subst (λ (r : List ℕ). Reads bytes (frames ++ framed header (take header.length (drop 28 rest)) ∷ []) r) after_front on)
+    let on = reads_on bytes frames rest (frame_of header (take header.length (drop 28 rest))) (drop header.length (drop 28 rest)) fits so_far e in
+    subst (λ (f : Frame). Reads bytes (frames ++ f ∷ []) after) frame_at_front (subst (λ (r : List ℕ). Reads bytes (frames ++ frame_of header (take header.length (drop 28 rest)) ∷ []) r) after_front on)
 
 pub reads_end : (bytes : List ℕ) (frames : List Frame) (rest : List ℕ) (fault : FrameFault) → Reads bytes frames rest → front_at rest ≡ Err fault → Splits bytes frames rest
 reads_end bytes frames rest fault so_far e = record { whole = so_far.parts; each = so_far.each; none = begins_none rest fault e }

@@ -98,19 +98,19 @@ payload_at kind len rest =
     else Ok (take len rest, drop len rest)
 
 -- a frame with a header and a payload
-abbrev pub framed : Header → List ℕ → Frame
-framed header payload = record { kind = header.kind; from = header.from; to = header.to; seq = header.seq; ack = header.ack; payload = payload }
+abbrev pub frame_of : Header → List ℕ → Frame
+frame_of header payload = record { kind = header.kind; from = header.from; to = header.to; seq = header.seq; ack = header.ack; payload = payload }
 
 -- the frame that a header begins, and the bytes after it
 abbrev pub front_of : Header → List ℕ → Frame × List ℕ
-front_of header bytes = (framed header (take header.length (drop 28 bytes)), drop header.length (drop 28 bytes))
+front_of header bytes = (frame_of header (take header.length (drop 28 bytes)), drop header.length (drop 28 bytes))
 
 -- F1 to F10 of the bytes, or the frame at their front with the bytes after it
 unfoldable pub front_at : List ℕ → Result (Frame × List ℕ) FrameFault
 front_at bytes = do
   header ← header_at bytes
   parts ← payload_at header.kind header.length (drop 28 bytes)
-  Ok (framed header parts.0, parts.1)
+  Ok (frame_of header parts.0, parts.1)
 
 -- F1 to F11 of the bytes, or the frame that all of them are
 unfoldable pub frame_at : List ℕ → Result Frame FrameFault

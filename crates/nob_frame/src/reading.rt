@@ -4,7 +4,7 @@ ghost use Rattle.std.specs.Prelude.{◌≡◌, ◌≤◌, ◌+◌, ◌<◌, leng
 ghost use Rattle.nob_frame.specs.declared.fault.FrameError.TheVariants.{OutOfMemory};
 ghost use Rattle.nob_frame.specs.declared.frame.Frame.{Frame};
 ghost use Rattle.nob_frame.specs.Spelling.{Spelt};
-ghost use Rattle.nob_frame.specs.Reading.{Gives, Sees, is_payload, payload_at, framed, front_of, front_at, frame_at};
+ghost use Rattle.nob_frame.specs.Reading.{Gives, Sees, is_payload, payload_at, frame_of, front_of, front_at, frame_at};
 
 use crate::fault::{FrameError, FrameFault};
 use crate::frame::{Frame, FrameKind};
@@ -56,7 +56,7 @@ pub(crate) fn front_from(bytes: &[u8]) -> Result<Header, FrameFault>
 
 /// The frame of a header and a payload. Only memory fails it, and no payload takes none.
 pub(crate) fn frame_of(alloc: Global, header: Header, payload: &[u8]) -> Result<Frame, AllocError>
-    ensures frame { IfOk result (λ frame. frame ≡ framed header payload.now) }
+    ensures frame { IfOk result (λ frame. frame ≡ frame_of header payload.now) }
     ensures memory { OnErr result (0 < length payload.now) }
 {
     let payload = Bytes::from_slice(alloc, payload)?;

@@ -39,9 +39,9 @@ use Rattle.nob_model_history.specs.Ends.{calls_at}
 use Rattle.nob_model_history.specs.Holds.{hand, is_held}
 use Rattle.nob_model_history.specs.Transit.{pins}
 use Rattle.nob_model_history.specs.Listing.{is_any_listed}
-use Rattle.nob_model.specs.Sending.{◌or_else◌, refuse_if, value_refused, send_refused, has_numbers, unless}
-use Rattle.nob_model.specs.Acting.{fault_of, act_refusal, answer_of_act, act_on}
-use Rattle.nob_model.specs.Candidates.{to_settle, to_clean, to_claim}
+use Rattle.nob_model_acting.specs.Sending.{◌or_else◌, refuse_if, value_refused, send_refused, has_numbers, unless}
+use Rattle.nob_model_acting.specs.Acting.{fault_of, act_refusal, answer_of_act, act_on}
+use Rattle.nob_model_acting.specs.Candidates.{to_settle, to_clean, to_claim}
 use Rattle.nob_model.specs.Right.{most_objects, last_number, most_in_hand, right_export, is_not_live, right_dup, right_release, calls_made, is_last_call, right_call, is_handful, answer_of_reply, answer_of_stage, answer_of_call, take_of, right_take_reply, jobs_made, job_of, claim_of, right_claim, finish_of, right_finish, act_of, right_act, settle_count, settle_of, right_settle, clean_of, right_clean, own_ref, withdraw_refused, right_withdraw, right_frames, arrival_of, right_arrival, tick_of, right_ticks, closing_of, right_closing}
 
 -- ---- results

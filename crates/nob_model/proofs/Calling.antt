@@ -46,8 +46,8 @@ use Rattle.nob_model_history.specs.Histories.{history_of}
 use Rattle.nob_model_history.specs.Ends.{kind_of, items_to, payload_of, with_sends, own_calls, call_of_closing, calls_at}
 use Rattle.nob_model_history.specs.Transit.{is_idle, by_last_dirty}
 use Rattle.nob_model_history.proofs.Inbox.{calls_sent, sends_front, open_calls}
-use Rattle.nob_model.specs.Sending.{refusal_in, send_refused, has_numbers}
-use Rattle.nob_model.specs.Acting.{new_dirties, has_numbers_among, all_have_numbers, is_too_much, message_refusal, act_refusal}
+use Rattle.nob_model_acting.specs.Sending.{refusal_in, send_refused, has_numbers}
+use Rattle.nob_model_acting.specs.Acting.{new_dirties, has_numbers_among, all_have_numbers, is_too_much, message_refusal, act_refusal}
 use Rattle.nob_model.specs.Right.{right_after, settle_count}
 use Rattle.nob_model.specs.Lists.{IsRightDeed, AreRightDeeds}
 use Rattle.nob_model.specs.Laws.{AreRightCalls, CallsLaw}

@@ -23,7 +23,7 @@ use Rattle.nob_model_history.proofs.Dirtying.{same_self}
 use Rattle.nob_model_work.specs.declared.work.InHand.{InHand}
 use Rattle.nob_model_work.specs.Work.{without_first, wait, make_ready, make_reply, is_none_of, after_message, after_act, after_settlement, without_waiting, after_settle, after_claim, after_finish, after_take, after_end, after_call, after_close, work_after, with_loans, work}
 use Rattle.nob_model_history.specs.Histories.{history_of}
-use Rattle.nob_model.specs.Candidates.{target_of, is_free, to_claim}
+use Rattle.nob_model_acting.specs.Candidates.{target_of, is_free, to_claim}
 use Rattle.nob_model.specs.Right.{last_number, jobs_made, job_of, claim_of, right_claim, right_after}
 use Rattle.nob_model.specs.Lists.{IsRightDeed}
 use Rattle.nob_model.proofs.Doing.{was_answered}

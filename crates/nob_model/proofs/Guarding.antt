@@ -43,7 +43,7 @@ use Rattle.nob_model_history.specs.Transit.{sent, is_settle_of, is_settled, is_s
 use Rattle.nob_model_history.proofs.Sending.{next_item, new_items}
 use Rattle.nob_model_history.proofs.Pinning.{bundles_more}
 use Rattle.nob_model_history.proofs.Turning.{same_ref}
-use Rattle.nob_model.specs.Sending.{◌or_else◌, refuse_if, is_own_and_not_live, ref_refused, refs_refused, value_refused}
+use Rattle.nob_model_acting.specs.Sending.{◌or_else◌, refuse_if, is_own_and_not_live, ref_refused, refs_refused, value_refused}
 use Rattle.nob_model.specs.Right.{own_ref}
 use Rattle.nob_model.proofs.Accepted.{call_tells, finish_tells}
 use Rattle.nob_model.proofs.Calling.{refused_none}

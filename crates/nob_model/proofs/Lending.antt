@@ -40,7 +40,7 @@ use Rattle.nob_model_history.specs.Histories.{history_of}
 use Rattle.nob_model_history.specs.Ends.{calls_at, own_calls, with_sends, items_to, call_of_closing}
 use Rattle.nob_model_history.proofs.Turning.{same_ref, wanted_none}
 use Rattle.nob_model_history.specs.Premises.{TookTurns, AnswersPending}
-use Rattle.nob_model.specs.Candidates.{is_all_resolved, to_settle}
+use Rattle.nob_model_acting.specs.Candidates.{is_all_resolved, to_settle}
 use Rattle.nob_model.specs.Right.{right_after}
 use Rattle.nob_model.specs.Lists.{IsRightDeed, AreRightDeeds}
 use Rattle.nob_model.proofs.Accepted.{act_tells, settle_tells, found_passes}

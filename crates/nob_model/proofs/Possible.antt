@@ -21,9 +21,9 @@ use Rattle.nob_model_history.specs.declared.history.History.{History}
 use Rattle.nob_model_history.specs.Ends.{calls_at}
 use Rattle.nob_model_history.specs.Transit.{is_some_of}
 use Rattle.nob_model_history.proofs.Turning.{same_ref}
-use Rattle.nob_model.specs.Sending.{has_numbers, unless}
-use Rattle.nob_model.specs.Acting.{fault_of, is_too_much, all_have_numbers, new_dirties, message_refusal, act_refusal, answer_of_act, act_on}
-use Rattle.nob_model.specs.Candidates.{to_settle, to_clean}
+use Rattle.nob_model_acting.specs.Sending.{has_numbers, unless}
+use Rattle.nob_model_acting.specs.Acting.{fault_of, is_too_much, all_have_numbers, new_dirties, message_refusal, act_refusal, answer_of_act, act_on}
+use Rattle.nob_model_acting.specs.Candidates.{to_settle, to_clean}
 use Rattle.nob_model.specs.Right.{right_act, act_of, right_frames, settle_count, settle_of, right_settle, clean_of, right_clean, withdraw_refused, right_withdraw, right_take_reply}
 use Rattle.nob_model.specs.Next.{can_withdraw, lesser, least, to_withdraw, is_not_ready}
 use Rattle.nob_model.specs.Laws.{is_possible, gives_frame, ActLaw, SendLaw, SettleLaw, CleanLaw, WithdrawLaw, LeastLaw, ReplyLaw}

@@ -31,7 +31,7 @@ use Rattle.nob_model_history.specs.Transit.{count_to, sent, is_settle_of, has_bu
 use Rattle.nob_model_history.specs.Premises.{AcceptsNext, InTurn, SettlesSent, AnswersPending, TookTurns, ObjectsInTurn}
 use Rattle.nob_model_history.proofs.Arriving.{front_payload}
 use Rattle.nob_model_history.proofs.Pinning.{bundle_sent}
-use Rattle.nob_model.specs.Acting.{fault_of, fault_if, awaits_answer}
+use Rattle.nob_model_acting.specs.Acting.{fault_of, fault_if, awaits_answer}
 use Rattle.nob_model.specs.Right.{right_after}
 use Rattle.nob_model.specs.Lists.{IsRightDeed, AreRightDeeds}
 use Rattle.nob_model.proofs.Doing.{was_answered}

@@ -22,7 +22,7 @@ use Rattle.nob_model_work.specs.declared.work.Stage.{Stage}
 use Rattle.nob_model_work.specs.declared.work.Stage.TheVariants as stages
 use Rattle.nob_model_work.specs.Work.{wait, make_ready, make_reply, with_calls, call_after_reply, call_after_close, stage_after_reply, is_reply_from, work, work_after, with_loans, without_first, is_none_of, lost_reply, is_call, is_not_reply, after_message, after_act, after_settlement, after_settle, after_claim, after_finish, after_take, after_end, after_call, after_close, without_waiting}
 use Rattle.nob_model_history.specs.Histories.{history_of}
-use Rattle.nob_model.specs.Acting.{is_sent, awaits_reply, fault_of, fault_if, first_fault}
+use Rattle.nob_model_acting.specs.Acting.{is_sent, awaits_reply, fault_of, fault_if, first_fault}
 use Rattle.nob_model.specs.Right.{calls_made, right_after}
 use Rattle.nob_model.specs.Lists.{IsRightDeed, AreRightDeeds}
 use Rattle.nob_model.proofs.Accepted.{call_tells}

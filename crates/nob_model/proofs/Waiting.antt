@@ -20,8 +20,8 @@ use Rattle.nob_model_work.specs.Work.{without_first, wait, make_ready, make_repl
 use Rattle.nob_model_history.specs.Histories.{history_of}
 use Rattle.nob_model_history.specs.Ends.{calls_at}
 use Rattle.nob_model_history.proofs.Inbox.{takes_acted, takes_no_fewer, acted_takes, front_number}
-use Rattle.nob_model.specs.Candidates.{is_all_resolved, to_settle}
-use Rattle.nob_model.specs.Sending.{has_numbers}
+use Rattle.nob_model_acting.specs.Candidates.{is_all_resolved, to_settle}
+use Rattle.nob_model_acting.specs.Sending.{has_numbers}
 use Rattle.nob_model.specs.Right.{right_after, settle_count}
 use Rattle.nob_model.specs.Lists.{IsRightDeed, AreRightDeeds}
 use Rattle.nob_model.specs.Laws.{AreFrom, ActedLaw}

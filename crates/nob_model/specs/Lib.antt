@@ -13,9 +13,9 @@ pub use Rattle.nob_model_history.specs.Ends
 pub use Rattle.nob_model_history.specs.Holds
 pub use Rattle.nob_model_history.specs.Transit
 pub use Rattle.nob_model_history.specs.Listing
-pub mod Sending
-pub mod Acting
-pub mod Candidates
+pub use Rattle.nob_model_acting.specs.Sending
+pub use Rattle.nob_model_acting.specs.Acting
+pub use Rattle.nob_model_acting.specs.Candidates
 pub mod Right
 pub mod Lists
 pub mod Next

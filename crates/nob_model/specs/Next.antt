@@ -9,7 +9,7 @@ use Rattle.nob_model_words.specs.Objects.{live}
 use Rattle.nob_model_history.specs.declared.history.History.{History}
 use Rattle.nob_model_history.specs.Ends.{calls_at}
 use Rattle.nob_model_history.specs.Transit.{is_some_of}
-use Rattle.nob_model.specs.Candidates.{to_settle, to_clean, to_claim}
+use Rattle.nob_model_acting.specs.Candidates.{to_settle, to_clean, to_claim}
 use Rattle.nob_model.specs.Right.{withdraw_refused, right_take_reply}
 
 -- whether there is an item from p to act on, also one whose fault closes the session

@@ -48,9 +48,9 @@ use Rattle.nob_model_history.specs.Ends.{calls_at}
 use Rattle.nob_model_history.specs.Holds.{times, hand, is_held}
 use Rattle.nob_model_history.specs.Transit.{pins, first_idle}
 use Rattle.nob_model_history.specs.Listing.{is_any_listed}
-use Rattle.nob_model.specs.Sending.{◌or_else◌, refuse_if, is_own_and_not_live, value_refused, send_refused, has_numbers, unless}
-use Rattle.nob_model.specs.Acting.{act_on}
-use Rattle.nob_model.specs.Candidates.{to_settle, to_clean, to_claim}
+use Rattle.nob_model_acting.specs.Sending.{◌or_else◌, refuse_if, is_own_and_not_live, value_refused, send_refused, has_numbers, unless}
+use Rattle.nob_model_acting.specs.Acting.{act_on}
+use Rattle.nob_model_acting.specs.Candidates.{to_settle, to_clean, to_claim}
 
 -- so many live objects and no more
 abbrev pub most_objects : ℕ

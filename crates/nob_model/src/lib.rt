@@ -4,12 +4,9 @@
 //! the crates below are passed on.
 #![tactic(auto)]
 
-pub mod acting;
-pub mod candidates;
 pub mod laws;
 pub mod next;
 pub mod right;
-pub mod sending;
 
 pub use nob_model_end::{Arrived, EndEntry, EndRefusal, Ending, Frames, Kind, PairEntry};
 pub use nob_model_history::{History, SentItem, history_of, make_history};

@@ -28,7 +28,7 @@ use Rattle.nob_model_journal.specs.declared.verdict.Verdict.{Verdict}
 use Rattle.nob_model_journal.specs.declared.verdict.Verdict.TheVariants.{Yes, No}
 use Rattle.nob_model_journal.specs.Journals.{Each, deeds_at, acted_from}
 use Rattle.nob_model_journal.specs.Runs.{WorldRun}
-use Rattle.nob_model_journal.specs.Fronts.{numbered, SendsWhileOpen, Fronts}
+use Rattle.nob_model_journal.specs.Fronts.{with_numbers, SendsWhileOpen, Fronts}
 use Rattle.nob_model_journal.specs.Safety.{reaches_owner, is_open_copy, NoneNeeds, SafeWithdraw}
 use Rattle.nob_model_journal.specs.Losses.{is_carried, sources, is_loss, is_excuse, LosesExcused, NoFalseLoss}
 use Rattle.nob_model_journal.specs.Verdicts.{IsVerdict, most_spaces}
@@ -95,7 +95,7 @@ sends_alike s n m (deed ∷ D) same sends = (
 
 fronts_alike : (n m : ℕ) (J : List Entry) → AllAlike n m J → Fronts n J → Fronts m J
 fronts_alike n m J alike fronts = record {
-  order = λ a b. subst (λ (h : History). IsBeginning (acted_from a b J) (numbered 1 (map (λ (one : SentItem). one.item) (filter (λ (one : SentItem). one.to == b) (sent h))))) (alike a).histories (fronts.order a b);
+  order = λ a b. subst (λ (h : History). IsBeginning (acted_from a b J) (with_numbers 1 (map (λ (one : SentItem). one.item) (filter (λ (one : SentItem). one.to == b) (sent h))))) (alike a).histories (fronts.order a b);
   acts = fronts.acts;
   sends = λ s. sends_alike s n m (deeds_at s J) (ap (λ (h : History). h.all_gifts) (alike s).histories) (fronts.sends s);
 }

@@ -31,7 +31,7 @@ use Rattle.nob_model_history.specs.Histories.{history_of}
 use Rattle.nob_model_history.specs.Ends.{items_to}
 use Rattle.nob_model_history.specs.Transit.{sent}
 use Rattle.nob_model_history.proofs.Numbered.{items_sent_to, gifts_sent_to}
-use Rattle.nob_model.specs.Acting.{is_sent, awaits_reply}
+use Rattle.nob_model_acting.specs.Acting.{is_sent, awaits_reply}
 use Rattle.nob_model.specs.Right.{calls_made, right_after}
 use Rattle.nob_model.specs.Lists.{AreRightDeeds}
 use Rattle.nob_model.proofs.Doing.{was_answered}

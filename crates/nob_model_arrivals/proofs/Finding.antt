@@ -34,8 +34,8 @@ use Rattle.nob_model_history.specs.declared.history.History.{History}
 use Rattle.nob_model_history.specs.Ends.{calls_at}
 use Rattle.nob_model_history.specs.Listing.{is_entered}
 use Rattle.nob_model_history.proofs.Dirtying.{same_self}
-use Rattle.nob_model.specs.Sending.{is_own_and_not_live}
-use Rattle.nob_model.specs.Acting.{fault_if, first_fault, fault_of, names_not_live}
+use Rattle.nob_model_acting.specs.Sending.{is_own_and_not_live}
+use Rattle.nob_model_acting.specs.Acting.{fault_if, first_fault, fault_of, names_not_live}
 use Rattle.nob_model.specs.Right.{right_after, own_ref}
 use Rattle.nob_model.proofs.Accepted.{ClosesFor, fault_tells, arrive_end_tells, tick_end_tells, close_tells}
 use Rattle.nob_model.proofs.Waiting.{all_weaker}

@@ -35,7 +35,7 @@ use Rattle.nob_model_history.specs.Listing.{is_entered, is_entered_after}
 use Rattle.nob_model_history.specs.Transit.{sent}
 use Rattle.nob_model_history.proofs.Numbered.{items_sent_to, gifts_sent_to}
 use Rattle.nob_model_history.proofs.Turning.{same_ref}
-use Rattle.nob_model.specs.Sending.{refs_refused, is_faulty, value_refused}
+use Rattle.nob_model_acting.specs.Sending.{refs_refused, is_faulty, value_refused}
 use Rattle.nob_model.specs.Right.{right_after, own_ref}
 use Rattle.nob_model.specs.Lists.{IsRightDeed, AreRightDeeds}
 use Rattle.nob_model.proofs.Doing.{was_answered}
@@ -44,7 +44,7 @@ use Rattle.nob_model.proofs.Carrying.{all_filter}
 use Rattle.nob_model.proofs.Waiting.{all_weaker}
 use Rattle.nob_model_journal.specs.Journals.{deeds_at, history_at, sent_to, acted_from}
 use Rattle.nob_model_journal.specs.Runs.{WorldRun}
-use Rattle.nob_model_journal.specs.Fronts.{numbered, ActsInOrder}
+use Rattle.nob_model_journal.specs.Fronts.{with_numbers, ActsInOrder}
 use Rattle.nob_model_safety.specs.Typed.{AreOfTypes}
 use Rattle.nob_model_safety.specs.Asking.{ask_in, asks_among, items_among, dirties_in, last_or, turns_by, asked, heard, was_asked, gave}
 use Rattle.nob_model_safety.proofs.Lists.{all_map, all_both, all_pass, place_in_whole, some_same}
@@ -223,7 +223,7 @@ none_behind before [] (true ∷ more) none last = absurd (omega (arith, none))
 none_behind before [] (false ∷ more) none last = absurd (no_dirty_last more none last)
 none_behind before (ask ∷ asks) more none last = none_behind ask asks more none last
 
-items_numbered : (k : ℕ) (sent : List Item) → items_among (numbered k sent) ≡ sent
+items_numbered : (k : ℕ) (sent : List Item) → items_among (with_numbers k sent) ≡ sent
 items_numbered k [] = refl
 items_numbered k (item ∷ sent) = ap (λ more. item ∷ more) (items_numbered (k + 1) sent)
 
@@ -231,12 +231,12 @@ tail_same : {A : Type 0} (x y : A) (xs ys : List A) → x ∷ xs ≡ y ∷ ys �
 tail_same x y xs ys e = cc
 
 -- what stands behind a beginning of numbered items
-behind_numbered : (k : ℕ) (pairs rest : List (ℕ × Option Item)) (whole : List Item) → pairs ++ rest ≡ numbered k whole → drop (length pairs) whole ≡ items_among rest
+behind_numbered : (k : ℕ) (pairs rest : List (ℕ × Option Item)) (whole : List Item) → pairs ++ rest ≡ with_numbers k whole → drop (length pairs) whole ≡ items_among rest
 behind_numbered k [] rest whole is = sym (items_numbered k whole) ∙ ap items_among (sym is)
 behind_numbered k (pair ∷ pairs) rest [] is = cc
-behind_numbered k (pair ∷ pairs) rest (item ∷ whole) is = behind_numbered (k + 1) pairs rest whole (tail_same pair (k, Some item) (pairs ++ rest) (numbered (k + 1) whole) is)
+behind_numbered k (pair ∷ pairs) rest (item ∷ whole) is = behind_numbered (k + 1) pairs rest whole (tail_same pair (k, Some item) (pairs ++ rest) (with_numbers (k + 1) whole) is)
 
-length_numbered : (k : ℕ) (whole : List Item) → length (numbered k whole) ≡ length whole
+length_numbered : (k : ℕ) (whole : List Item) → length (with_numbers k whole) ≡ length whole
 length_numbered k [] = refl
 length_numbered k (item ∷ whole) = ap suc (length_numbered (k + 1) whole)
 

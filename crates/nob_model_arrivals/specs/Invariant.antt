@@ -6,7 +6,7 @@ use Rattle.nob_model_types.specs.declared.entry.Entry.{Entry}
 use Rattle.nob_model_words.specs.Messages.{replies_to}
 use Rattle.nob_model_work.specs.Work.{work}
 use Rattle.nob_model_history.specs.Listing.{is_entered}
-use Rattle.nob_model.specs.Acting.{awaits_reply}
+use Rattle.nob_model_acting.specs.Acting.{awaits_reply}
 use Rattle.nob_model_journal.specs.Journals.{deeds_at, closed_at, sent_to, acted_from}
 use Rattle.nob_model_safety.specs.Asking.{items_among}
 use Rattle.nob_model_arrivals.specs.Underway.{under_way, AreGuarded}

@@ -23,7 +23,7 @@ use Rattle.nob_model_end.specs.declared.entry.PairEntry.{PairEntry}
 use Rattle.nob_model_end.specs.declared.entry.PairEntry.TheVariants.{First, Second}
 use Rattle.nob_model_end.specs.End.{is_open, ending, handed, lowest, unacknowledged, greatest_seq, accepted, takes, waiting, transmitted, data_arrived, owes_close}
 use Rattle.nob_model_end.specs.Right.{data_frames, open_frames, closed_frames, right_send, right_transmit, right_arrive, right_front, first_of, is_limited, queue_limit, is_of_pair, is_accepted, last_item, inbox_limit, IsRight}
-use Rattle.nob_model_end.specs.Pair.{first_calls, second_calls, given, ArrivesFrom, PairRun, sent, told, taken, numbered, IsBeginning, TakesWhileOpen, PairFronts, PairLaw, Reaches, AcceptedLaw}
+use Rattle.nob_model_end.specs.Pair.{first_calls, second_calls, transmitted_frames, ArrivesFrom, PairRun, handed_items, told_item, taken_items, with_numbers, IsBeginning, TakesWhileOpen, PairFronts, PairLaw, Reaches, AcceptedLaw}
 
 -- the payload of this number
 pub record Placed (payloads : List (List ℕ)) (n : ℕ) (payload : List ℕ) : Type 0 where
@@ -162,31 +162,31 @@ transmit_acks me peer w L = All-from_recursion (Acks (length (accepted L))) (rig
 
 pub record Inv (sender receiver : List EndEntry) : Type 0 where
   -- each Data frame that was given carries the payload of its number, and that was transmitted
-  pub carried : All (Carries (handed sender)) (given sender)
-  pub below : All (Below (transmitted sender)) (given sender)
+  pub carried : All (Carries (handed sender)) (transmitted_frames sender)
+  pub below : All (Below (transmitted sender)) (transmitted_frames sender)
   pub high : transmitted sender ≤ length (handed sender)
   -- the numbers that `send` told are 1, 2, ..
-  pub numbers : sent sender ≡ numbered 1 (handed sender)
+  pub numbers : handed_items sender ≡ with_numbers 1 (handed sender)
   -- what was accepted is a beginning of what was handed, and was transmitted
   pub rest : List (List ℕ)
   pub front : accepted receiver ++ rest ≡ handed sender
   pub low : length (accepted receiver) ≤ transmitted sender
   -- what the receiver's frames acknowledge was accepted, and so was what the sender heard
-  pub acks : All (Acks (length (accepted receiver))) (given receiver)
+  pub acks : All (Acks (length (accepted receiver))) (transmitted_frames receiver)
   pub heard : lowest sender ≤ length (accepted receiver) + 1
   -- what `front` told last is the first that waits
-  pub looked : is_open receiver ≡ true → (item : ℕ × List ℕ) → told receiver ≡ Some item → right_front receiver ≡ Some item
+  pub looked : is_open receiver ≡ true → (item : ℕ × List ℕ) → told_item receiver ≡ Some item → right_front receiver ≡ Some item
   -- what was taken is a beginning of what was accepted, with its numbers
   pub few : takes receiver ≤ length (accepted receiver)
-  pub taken_is : taken receiver ≡ numbered 1 (take (takes receiver) (accepted receiver))
+  pub taken_is : taken_items receiver ≡ with_numbers 1 (take (takes receiver) (accepted receiver))
   pub while_open : TakesWhileOpen receiver
 
 All-weaker : (P Q : Frame → Type 0) → ((f : Frame) → P f → Q f) → (fs : List Frame) → All P fs → All Q fs
 All-weaker P Q w fs h = λ k d lt. w _ (h k d lt)
 
-numbered-append : (n : ℕ) (xs ys : List (List ℕ)) → numbered n (xs ++ ys) ≡ numbered n xs ++ numbered (n + length xs) ys
-numbered-append n [] ys = ap (λ (m : ℕ). numbered m ys) (omega arith)
-numbered-append n (x ∷ xs) ys = ap (λ (zs : List (ℕ × List ℕ)). (n, x) ∷ zs) (numbered-append (n + 1) xs ys ∙ ap (λ (m : ℕ). numbered (n + 1) xs ++ numbered m ys) (omega arith))
+numbered-append : (n : ℕ) (xs ys : List (List ℕ)) → with_numbers n (xs ++ ys) ≡ with_numbers n xs ++ with_numbers (n + length xs) ys
+numbered-append n [] ys = ap (λ (m : ℕ). with_numbers m ys) (omega arith)
+numbered-append n (x ∷ xs) ys = ap (λ (zs : List (ℕ × List ℕ)). (n, x) ∷ zs) (numbered-append (n + 1) xs ys ∙ ap (λ (m : ℕ). with_numbers (n + 1) xs ++ with_numbers m ys) (omega arith))
 
 -- the number that `send` tells is the next
 number_by : (n count : ℕ) (closed full over : Bool) → Ok n ≡ cond closed (Err refusal.Closed) (cond full (Err refusal.QueueFull) (cond over (Err refusal.SeqEnd) (Ok (count + 1)))) → n ≡ count + 1
@@ -200,10 +200,10 @@ send_step kind payload n S R right i =
     let next : n ≡ length (handed S) + 1 = number_by n (length (handed S)) (not (is_open S)) (is_limited kind && leb queue_limit (length (unacknowledged S))) (leb last_item (length (handed S))) right in
     let number : n ≡ 1 + length (handed S) = omega (arith, next) in
     record {
-      carried = All-weaker (Carries (handed S)) (Carries (handed S ++ payload ∷ [])) (λ f c d. Placed-append (handed S) (payload ∷ []) f.seq f.payload (c d)) (given S) i.carried;
+      carried = All-weaker (Carries (handed S)) (Carries (handed S ++ payload ∷ [])) (λ f c d. Placed-append (handed S) (payload ∷ []) f.seq f.payload (c d)) (transmitted_frames S) i.carried;
       below = i.below;
       high = omega (arith, i.high, length-append (handed S) (payload ∷ []));
-      numbers = ap (λ (xs : List (ℕ × List ℕ)). xs ++ (n, payload) ∷ []) i.numbers ∙ ap (λ (m : ℕ). numbered 1 (handed S) ++ (m, payload) ∷ []) number ∙ sym (numbered-append 1 (handed S) (payload ∷ []));
+      numbers = ap (λ (xs : List (ℕ × List ℕ)). xs ++ (n, payload) ∷ []) i.numbers ∙ ap (λ (m : ℕ). with_numbers 1 (handed S) ++ (m, payload) ∷ []) number ∙ sym (numbered-append 1 (handed S) (payload ∷ []));
       rest = i.rest ++ payload ∷ [];
       front = sym (append_assoc (accepted R) i.rest (payload ∷ [])) ∙ ap (λ (hs : List (List ℕ)). hs ++ payload ∷ []) i.front;
       low = i.low;
@@ -219,9 +219,9 @@ transmit_step : (me peer window : ℕ) (frames : List Frame) (S R : List EndEntr
 transmit_step me peer window frames S R right i =
     let most : greatest_seq frames ≤ length (handed S) = subst (λ (fs : List Frame). greatest_seq fs ≤ length (handed S)) (sym right) (transmit_low me peer window S) in
     record {
-      carried = All-append (Carries (handed S)) (given S) frames i.carried (subst (λ (fs : List Frame). All (Carries (handed S)) fs) (sym right) (transmit_carries me peer window S));
-      below = All-append (Below (max (transmitted S) (greatest_seq frames))) (given S) frames
-          (All-weaker (Below (transmitted S)) (Below (max (transmitted S) (greatest_seq frames))) (λ f low d. omega (arith, low d)) (given S) i.below)
+      carried = All-append (Carries (handed S)) (transmitted_frames S) frames i.carried (subst (λ (fs : List Frame). All (Carries (handed S)) fs) (sym right) (transmit_carries me peer window S));
+      below = All-append (Below (max (transmitted S) (greatest_seq frames))) (transmitted_frames S) frames
+          (All-weaker (Below (transmitted S)) (Below (max (transmitted S) (greatest_seq frames))) (λ f low d. omega (arith, low d)) (transmitted_frames S) i.below)
           (All-from_recursion (Below (max (transmitted S) (greatest_seq frames))) frames (all_below (max (transmitted S) (greatest_seq frames)) frames (omega arith)));
       high = omega (arith, i.high, most);
       numbers = i.numbers;
@@ -241,11 +241,11 @@ heard_low true m n k low more = omega arith
 heard_low false m n k low more = low
 
 -- a call of the sender keeps it
-sender_step : (me peer : ℕ) (limits : Limits) (e : EndEntry) (S R : List EndEntry) → IsRight me peer limits e S → ArrivesFrom (given R) e → Inv S R → Inv (e ∷ S) R
+sender_step : (me peer : ℕ) (limits : Limits) (e : EndEntry) (S R : List EndEntry) → IsRight me peer limits e S → ArrivesFrom (transmitted_frames R) e → Inv S R → Inv (e ∷ S) R
 sender_step me peer limits (Send payload kind (Ok n)) S R right from i = send_step kind payload n S R right i
 sender_step me peer limits (Transmit frames) S R right from i = transmit_step me peer limits.window frames S R right i
 sender_step me peer limits (Arrive frame (Ok (arrived.Took k))) S R right from i =
-    record { carried = i.carried; below = i.below; high = i.high; numbers = i.numbers; rest = i.rest; front = i.front; low = i.low; acks = i.acks; heard = heard_low (is_open S && not (is_close frame.kind)) (lowest S) frame.ack (length (accepted R)) i.heard (All-contains (Acks (length (accepted R))) (given R) frame i.acks from); looked = i.looked; few = i.few; taken_is = i.taken_is; while_open = i.while_open }
+    record { carried = i.carried; below = i.below; high = i.high; numbers = i.numbers; rest = i.rest; front = i.front; low = i.low; acks = i.acks; heard = heard_low (is_open S && not (is_close frame.kind)) (lowest S) frame.ack (length (accepted R)) i.heard (All-contains (Acks (length (accepted R))) (transmitted_frames R) frame i.acks from); looked = i.looked; few = i.few; taken_is = i.taken_is; while_open = i.while_open }
 sender_step me peer limits (_) S R right from i = record { carried = i.carried; below = i.below; high = i.high; numbers = i.numbers; rest = i.rest; front = i.front; low = i.low; acks = i.acks; heard = i.heard; looked = i.looked; few = i.few; taken_is = i.taken_is; while_open = i.while_open }
 
 -- ---- a call of the receiver keeps it
@@ -312,11 +312,11 @@ front_stays : (b : Bool) (k : ℕ) (xs ys : List (List ℕ)) (item : ℕ × List
 front_stays false k xs ys item few opened e = absurd cc
 front_stays true k xs ys item few opened e = subst (λ (zs : List (List ℕ)). first_of (k + 1) zs ≡ Some item) (sym (drop-append-le k xs ys few)) (first_stays (k + 1) (drop k xs) ys item e)
 
-arrive_step : (me peer : ℕ) (limits : Limits) (frame : Frame) (k : ℕ) (S R : List EndEntry) → IsRight me peer limits (Arrive frame (Ok (arrived.Took (suc k)))) R → Contains (given S) frame → Inv S R → Inv S (Arrive frame (Ok (arrived.Took (suc k))) ∷ R)
+arrive_step : (me peer : ℕ) (limits : Limits) (frame : Frame) (k : ℕ) (S R : List EndEntry) → IsRight me peer limits (Arrive frame (Ok (arrived.Took (suc k)))) R → Contains (transmitted_frames S) frame → Inv S R → Inv S (Arrive frame (Ok (arrived.Took (suc k))) ∷ R)
 arrive_step me peer limits frame k S R right from i =
     let next = accepted_seq frame R (accepted_is me peer frame R k right) in
-    let placed : Placed (handed S) frame.seq frame.payload = All-contains (Carries (handed S)) (given S) frame i.carried from next.0 in
-    let given_before : frame.seq ≤ transmitted S = All-contains (Below (transmitted S)) (given S) frame i.below from next.0 in
+    let placed : Placed (handed S) frame.seq frame.payload = All-contains (Carries (handed S)) (transmitted_frames S) frame i.carried from next.0 in
+    let given_before : frame.seq ≤ transmitted S = All-contains (Below (transmitted S)) (transmitted_frames S) frame i.below from next.0 in
     let len : length (accepted R) ≡ length placed.front = omega (arith, next.1, placed.place) in
     record {
       carried = i.carried;
@@ -326,11 +326,11 @@ arrive_step me peer limits frame k S R right from i =
       rest = placed.rest;
       front = same_front (accepted R) placed.front frame.payload i.rest placed.rest len (i.front ∙ sym placed.whole) ∙ i.front;
       low = omega (arith, next.1, given_before, length-append (accepted R) (frame.payload ∷ []));
-      acks = All-weaker (Acks (length (accepted R))) (Acks (length (accepted R ++ frame.payload ∷ []))) (λ f a. omega (arith, a, length-append (accepted R) (frame.payload ∷ []))) (given R) i.acks;
+      acks = All-weaker (Acks (length (accepted R))) (Acks (length (accepted R ++ frame.payload ∷ []))) (λ f a. omega (arith, a, length-append (accepted R) (frame.payload ∷ []))) (transmitted_frames R) i.acks;
       heard = omega (arith, i.heard, length-append (accepted R) (frame.payload ∷ []));
       looked = λ opened item e. front_stays (is_open R) (takes R) (accepted R) (frame.payload ∷ []) item i.few opened (i.looked opened item e);
       few = omega (arith, i.few, length-append (accepted R) (frame.payload ∷ []));
-      taken_is = i.taken_is ∙ ap (numbered 1) (sym (take-append-le (takes R) (accepted R) (frame.payload ∷ []) i.few));
+      taken_is = i.taken_is ∙ ap (with_numbers 1) (sym (take-append-le (takes R) (accepted R) (frame.payload ∷ []) i.few));
       while_open = i.while_open;
     }
 
@@ -359,13 +359,13 @@ take_step S R right i =
       looked = λ o item none. absurd cc;
       few = omega (arith, next.1);
       taken_is =
-          ap (λ (o : Option (ℕ × List ℕ)). taken R ++ option_to_list o) (same_look (told R) (right_front R) (i.looked opened.0))
-          ∙ ap (λ (w : List (List ℕ)). taken R ++ option_to_list (first_of (takes R + 1) w)) first.2
+          ap (λ (o : Option (ℕ × List ℕ)). taken_items R ++ option_to_list o) (same_look (told_item R) (right_front R) (i.looked opened.0))
+          ∙ ap (λ (w : List (List ℕ)). taken_items R ++ option_to_list (first_of (takes R + 1) w)) first.2
           ∙ ap (λ (xs : List (ℕ × List ℕ)). xs ++ (takes R + 1, first.0) ∷ []) i.taken_is
-          ∙ ap (λ (m : ℕ). numbered 1 (take (takes R) (accepted R)) ++ (m, first.0) ∷ []) (sym len)
+          ∙ ap (λ (m : ℕ). with_numbers 1 (take (takes R) (accepted R)) ++ (m, first.0) ∷ []) (sym len)
           ∙ sym (numbered-append 1 (take (takes R) (accepted R)) (first.0 ∷ []))
-          ∙ ap (numbered 1) (sym next.0)
-          ∙ ap (λ (m : ℕ). numbered 1 (take m (accepted R))) (sym more);
+          ∙ ap (with_numbers 1) (sym next.0)
+          ∙ ap (λ (m : ℕ). with_numbers 1 (take m (accepted R))) (sym more);
       while_open = (opened.0, i.while_open);
     }
 
@@ -379,7 +379,7 @@ given_step me peer window frames S R right i = record {
   rest = i.rest;
   front = i.front;
   low = i.low;
-  acks = All-append (Acks (length (accepted R))) (given R) frames i.acks (subst (λ (fs : List Frame). All (Acks (length (accepted R))) fs) (sym right) (transmit_acks me peer window R));
+  acks = All-append (Acks (length (accepted R))) (transmitted_frames R) frames i.acks (subst (λ (fs : List Frame). All (Acks (length (accepted R))) fs) (sym right) (transmit_acks me peer window R));
   heard = i.heard;
   looked = i.looked;
   few = i.few;
@@ -393,7 +393,7 @@ front_step answer S R right i =
     record { carried = i.carried; below = i.below; high = i.high; numbers = i.numbers; rest = i.rest; front = i.front; low = i.low; acks = i.acks; heard = i.heard; looked = λ opened item e. sym right ∙ e; few = i.few; taken_is = i.taken_is; while_open = i.while_open }
 
 -- so does a call that closes: nothing waits then
-closing_step : (e : EndEntry) (S R : List EndEntry) → accepted (e ∷ R) ≡ accepted R → given (e ∷ R) ≡ given R → takes (e ∷ R) ≡ takes R → taken (e ∷ R) ≡ taken R → is_open (e ∷ R) ≡ false → TakesWhileOpen (e ∷ R) → Inv S R → Inv S (e ∷ R)
+closing_step : (e : EndEntry) (S R : List EndEntry) → accepted (e ∷ R) ≡ accepted R → transmitted_frames (e ∷ R) ≡ transmitted_frames R → takes (e ∷ R) ≡ takes R → taken_items (e ∷ R) ≡ taken_items R → is_open (e ∷ R) ≡ false → TakesWhileOpen (e ∷ R) → Inv S R → Inv S (e ∷ R)
 closing_step e S R same_accepted same_given same_takes same_taken closed while_open i = record {
   carried = i.carried;
   below = i.below;
@@ -402,15 +402,15 @@ closing_step e S R same_accepted same_given same_takes same_taken closed while_o
   rest = i.rest;
   front = subst (λ (xs : List (List ℕ)). xs ++ i.rest ≡ handed S) (sym same_accepted) i.front;
   low = subst (λ (xs : List (List ℕ)). length xs ≤ transmitted S) (sym same_accepted) i.low;
-  acks = subst (λ (fs : List Frame). All (Acks (length (accepted (e ∷ R)))) fs) (sym same_given) (subst (λ (xs : List (List ℕ)). All (Acks (length xs)) (given R)) (sym same_accepted) i.acks);
+  acks = subst (λ (fs : List Frame). All (Acks (length (accepted (e ∷ R)))) fs) (sym same_given) (subst (λ (xs : List (List ℕ)). All (Acks (length xs)) (transmitted_frames R)) (sym same_accepted) i.acks);
   heard = subst (λ (xs : List (List ℕ)). lowest S ≤ length xs + 1) (sym same_accepted) i.heard;
   looked = λ opened item told_it. let no : true ≡ false = sym opened ∙ closed in absurd cc;
   few = subst (λ (n : ℕ). n ≤ length (accepted (e ∷ R))) (sym same_takes) (subst (λ (xs : List (List ℕ)). takes R ≤ length xs) (sym same_accepted) i.few);
-  taken_is = same_taken ∙ i.taken_is ∙ ap (λ (n : ℕ). numbered 1 (take n (accepted R))) (sym same_takes) ∙ ap (λ (xs : List (List ℕ)). numbered 1 (take (takes (e ∷ R)) xs)) (sym same_accepted);
+  taken_is = same_taken ∙ i.taken_is ∙ ap (λ (n : ℕ). with_numbers 1 (take n (accepted R))) (sym same_takes) ∙ ap (λ (xs : List (List ℕ)). with_numbers 1 (take (takes (e ∷ R)) xs)) (sym same_accepted);
   while_open = while_open;
 }
 
-receiver_step : (me peer : ℕ) (limits : Limits) (e : EndEntry) (S R : List EndEntry) → IsRight me peer limits e R → ArrivesFrom (given S) e → Inv S R → Inv S (e ∷ R)
+receiver_step : (me peer : ℕ) (limits : Limits) (e : EndEntry) (S R : List EndEntry) → IsRight me peer limits e R → ArrivesFrom (transmitted_frames S) e → Inv S R → Inv S (e ∷ R)
 receiver_step me peer limits (Arrive frame (Ok (arrived.Took (suc k)))) S R right from i = arrive_step me peer limits frame k S R right from i
 receiver_step me peer limits Take S R right from i = take_step S R right i
 receiver_step me peer limits (Front answer) S R right from i = front_step answer S R right i
@@ -425,13 +425,13 @@ receiver_step me peer limits (_) S R right from i = record { carried = i.carried
 none : Inv [] []
 none = record { carried = All-nil (Carries []); below = All-nil (Below 0); high = omega arith; numbers = refl; rest = []; front = refl; low = omega arith; acks = All-nil (Acks 0); heard = omega arith; looked = λ opened item e. absurd cc; few = omega arith; taken_is = refl; while_open = tt }
 
-fronts_of : (S R : List EndEntry) → Inv S R → IsBeginning (taken R) (sent S)
+fronts_of : (S R : List EndEntry) → Inv S R → IsBeginning (taken_items R) (handed_items S)
 fronts_of S R i =
     let k = takes R in
     let all : take k (accepted R) ++ (drop k (accepted R) ++ i.rest) ≡ handed S = sym (append_assoc (take k (accepted R)) (drop k (accepted R)) i.rest) ∙ ap (λ (xs : List (List ℕ)). xs ++ i.rest) (take-append-drop k (accepted R)) ∙ i.front in (
-      numbered (1 + length (take k (accepted R))) (drop k (accepted R) ++ i.rest),
-      ap (λ (xs : List (ℕ × List ℕ)). xs ++ numbered (1 + length (take k (accepted R))) (drop k (accepted R) ++ i.rest)) i.taken_is
-          ∙ sym (numbered-append 1 (take k (accepted R)) (drop k (accepted R) ++ i.rest)) ∙ ap (numbered 1) all ∙ sym i.numbers,
+      with_numbers (1 + length (take k (accepted R))) (drop k (accepted R) ++ i.rest),
+      ap (λ (xs : List (ℕ × List ℕ)). xs ++ with_numbers (1 + length (take k (accepted R))) (drop k (accepted R) ++ i.rest)) i.taken_is
+          ∙ sym (numbered-append 1 (take k (accepted R)) (drop k (accepted R) ++ i.rest)) ∙ ap (with_numbers 1) all ∙ sym i.numbers,
     )
 
 reach_of : (S R : List EndEntry) → Inv S R → Reaches S R

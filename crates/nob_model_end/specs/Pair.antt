@@ -23,10 +23,10 @@ second_calls (First entry ∷ J) = second_calls J
 second_calls (Second entry ∷ J) = entry ∷ second_calls J
 
 -- all frames that the transmits of an end gave, the first first
-abbrev pub given : List EndEntry → List Frame
-given [] = []
-given (Transmit frames ∷ L) = given L ++ frames
-given (_ ∷ L) = given L
+abbrev pub transmitted_frames : List EndEntry → List Frame
+transmitted_frames [] = []
+transmitted_frames (Transmit frames ∷ L) = transmitted_frames L ++ frames
+transmitted_frames (_ ∷ L) = transmitted_frames L
 
 -- a frame that arrives is one of these
 abbrev pub ArrivesFrom : List Frame → EndEntry → Type 0
@@ -36,32 +36,32 @@ ArrivesFrom frames (_) = Unit {0}
 -- a run of two ends between the spaces a and b: each answer is the right one on the calls of that end before, and each arriving frame was given by an earlier transmit of the other end. A frame that never arrives is lost; one may arrive any number of times, in any order
 abbrev pub PairRun : (a b : ℕ) → (at_a at_b : Limits) → List PairEntry → Type 0
 PairRun a b at_a at_b [] = Unit {0}
-PairRun a b at_a at_b (First entry ∷ J) = PairRun a b at_a at_b J × IsRight a b at_a entry (first_calls J) × ArrivesFrom (given (second_calls J)) entry
-PairRun a b at_a at_b (Second entry ∷ J) = PairRun a b at_a at_b J × IsRight b a at_b entry (second_calls J) × ArrivesFrom (given (first_calls J)) entry
+PairRun a b at_a at_b (First entry ∷ J) = PairRun a b at_a at_b J × IsRight a b at_a entry (first_calls J) × ArrivesFrom (transmitted_frames (second_calls J)) entry
+PairRun a b at_a at_b (Second entry ∷ J) = PairRun a b at_a at_b J × IsRight b a at_b entry (second_calls J) × ArrivesFrom (transmitted_frames (first_calls J)) entry
 
 -- the items that `send` took, each with the number that it told, the first first
-abbrev pub sent : List EndEntry → List (ℕ × List ℕ)
-sent [] = []
-sent (Send payload kind (Ok n) ∷ L) = sent L ++ (n, payload) ∷ []
-sent (_ ∷ L) = sent L
+abbrev pub handed_items : List EndEntry → List (ℕ × List ℕ)
+handed_items [] = []
+handed_items (Send payload kind (Ok n) ∷ L) = handed_items L ++ (n, payload) ∷ []
+handed_items (_ ∷ L) = handed_items L
 
 -- the item that `front` told last, with its number, if nothing was taken since
-abbrev pub told : List EndEntry → Option (ℕ × List ℕ)
-told [] = None
-told (Front answer ∷ L) = answer
-told (Take ∷ L) = None
-told (_ ∷ L) = told L
+abbrev pub told_item : List EndEntry → Option (ℕ × List ℕ)
+told_item [] = None
+told_item (Front answer ∷ L) = answer
+told_item (Take ∷ L) = None
+told_item (_ ∷ L) = told_item L
 
 -- the items that were taken at an end, each with the number that `front` told before, the first first. Where `front` told none, it is the first that waits
-abbrev pub taken : List EndEntry → List (ℕ × List ℕ)
-taken [] = []
-taken (Take ∷ L) = taken L ++ option_to_list (option_or (told L) (right_front L))
-taken (_ ∷ L) = taken L
+abbrev pub taken_items : List EndEntry → List (ℕ × List ℕ)
+taken_items [] = []
+taken_items (Take ∷ L) = taken_items L ++ option_to_list (option_or (told_item L) (right_front L))
+taken_items (_ ∷ L) = taken_items L
 
 -- payloads with their numbers, from n on
-abbrev pub numbered : ℕ → List (List ℕ) → List (ℕ × List ℕ)
-numbered n [] = []
-numbered n (payload ∷ payloads) = (n, payload) ∷ numbered (n + 1) payloads
+abbrev pub with_numbers : ℕ → List (List ℕ) → List (ℕ × List ℕ)
+with_numbers n [] = []
+with_numbers n (payload ∷ payloads) = (n, payload) ∷ with_numbers (n + 1) payloads
 
 -- xs is a beginning of ys
 abbrev pub IsBeginning : {A : Type 0} → List A → List A → Type 0
@@ -75,10 +75,10 @@ TakesWhileOpen (_ ∷ L) = TakesWhileOpen L
 
 -- the fronts of a pair: what was taken at each end, with the numbers that `front` told, is a beginning of what `send` of the other end took, with the numbers that it told, every item once and in order; these numbers are 1, 2, ..; and nothing is taken after that end closed
 pub record PairFronts (J : List PairEntry) : Type 0 where
-  pub at_second : IsBeginning (taken (second_calls J)) (sent (first_calls J))
-  pub at_first : IsBeginning (taken (first_calls J)) (sent (second_calls J))
-  pub first_numbers : sent (first_calls J) ≡ numbered 1 (handed (first_calls J))
-  pub second_numbers : sent (second_calls J) ≡ numbered 1 (handed (second_calls J))
+  pub at_second : IsBeginning (taken_items (second_calls J)) (handed_items (first_calls J))
+  pub at_first : IsBeginning (taken_items (first_calls J)) (handed_items (second_calls J))
+  pub first_numbers : handed_items (first_calls J) ≡ with_numbers 1 (handed (first_calls J))
+  pub second_numbers : handed_items (second_calls J) ≡ with_numbers 1 (handed (second_calls J))
   pub second_while_open : TakesWhileOpen (second_calls J)
   pub first_while_open : TakesWhileOpen (first_calls J)
 

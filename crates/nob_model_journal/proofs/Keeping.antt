@@ -24,7 +24,7 @@ use Rattle.nob_model_history.specs.Holds.{is_held}
 use Rattle.nob_model_history.specs.Transit.{sent}
 use Rattle.nob_model.specs.Right.{own_ref}
 use Rattle.nob_model_journal.specs.Journals.{deeds_at, sent_to, acted_from}
-use Rattle.nob_model_journal.specs.Fronts.{Fronts, ActsInOrder, ActsWhileOpen, SendsWhileOpen, numbered}
+use Rattle.nob_model_journal.specs.Fronts.{Fronts, ActsInOrder, ActsWhileOpen, SendsWhileOpen, with_numbers}
 use Rattle.nob_model_journal.specs.Safety.{can_use, has_open_copy, is_open_copy, reaches_owner, NoneNeeds, WithdrawsUnneeded, SafeWithdraw}
 use Rattle.nob_model_journal.specs.Losses.{is_loss, is_excuse, sources, LosesExcused, NoFalseLoss}
 use Rattle.nob_model_journal.specs.Findings.{is_fault_found, Found}
@@ -35,8 +35,8 @@ use Rattle.nob_model_journal.proofs.Looking.{is_in, all_of, of_space, of_rep, al
 -- ---- fronts
 
 -- a test that finds each item with its number where it should stand finds a beginning, and finds each beginning
-front_is : (k : ℕ) (xs : List (ℕ × Option Item)) (items : List Item) → is_front k xs items ≡ true → IsBeginning xs (numbered k items)
-front_is k [] items h = (numbered k items, refl)
+front_is : (k : ℕ) (xs : List (ℕ × Option Item)) (items : List Item) → is_front k xs items ≡ true → IsBeginning xs (with_numbers k items)
+front_is k [] items h = (with_numbers k items, refl)
 front_is k ((number, None) ∷ xs) items h = absurd (true≢false (sym h))
 front_is k ((number, Some item) ∷ xs) [] h = absurd (true≢false (sym h))
 front_is k ((number, Some item) ∷ xs) (one ∷ items) h =
@@ -45,7 +45,7 @@ front_is k ((number, Some item) ∷ xs) (one ∷ items) h =
     let numbers : number ≡ k = eqb-true number k first.0 in
     let same : item ≡ one = item_is item one first.1 in
     let rest = front_is (k + 1) xs items last.1 in
-    let joined : xs ++ rest.0 ≡ numbered (k + 1) items = rest.1 in
+    let joined : xs ++ rest.0 ≡ with_numbers (k + 1) items = rest.1 in
     (rest.0, cc)
 
 head_is : {A : Type 0} (x y : A) (xs ys : List A) → x ∷ xs ≡ y ∷ ys → x ≡ y
@@ -66,17 +66,17 @@ first_is x y xs ys e =
     let head = head_is x y xs ys e in
     (ap (λ (z : ℕ × Option Item). z.0) head, ap (λ (z : ℕ × Option Item). z.1) head)
 
-is_the_front : (k : ℕ) (xs : List (ℕ × Option Item)) (items : List Item) → IsBeginning xs (numbered k items) → is_front k xs items ≡ true
+is_the_front : (k : ℕ) (xs : List (ℕ × Option Item)) (items : List Item) → IsBeginning xs (with_numbers k items) → is_front k xs items ≡ true
 is_the_front k [] items h = refl
 is_the_front k ((number, None) ∷ xs) [] (rest, e) = absurd (cc)
-is_the_front k ((number, None) ∷ xs) (one ∷ items) (rest, e) = absurd (no_item_is one (first_is (number, None) (k, Some one) (xs ++ rest) (numbered (k + 1) items) e).1)
+is_the_front k ((number, None) ∷ xs) (one ∷ items) (rest, e) = absurd (no_item_is one (first_is (number, None) (k, Some one) (xs ++ rest) (with_numbers (k + 1) items) e).1)
 is_the_front k ((number, Some item) ∷ xs) [] (rest, e) = absurd (cc)
 is_the_front k ((number, Some item) ∷ xs) (one ∷ items) (rest, e) =
-    let first = first_is (number, Some item) (k, Some one) (xs ++ rest) (numbered (k + 1) items) e in
+    let first = first_is (number, Some item) (k, Some one) (xs ++ rest) (with_numbers (k + 1) items) e in
     let same : item ≡ one = some_is item one first.1 in
-    and_from _ _ (and_from _ _ (eq-eqb number k first.0) (subst (λ (x : Item). same_item item x ≡ true) same (item_self item))) (is_the_front (k + 1) xs items (rest, rest_is (number, Some item) (k, Some one) (xs ++ rest) (numbered (k + 1) items) e))
+    and_from _ _ (and_from _ _ (eq-eqb number k first.0) (subst (λ (x : Item). same_item item x ≡ true) same (item_self item))) (is_the_front (k + 1) xs items (rest, rest_is (number, Some item) (k, Some one) (xs ++ rest) (with_numbers (k + 1) items) e))
 
-front_decides : (xs : List (ℕ × Option Item)) (items : List Item) → Decides (is_front 1 xs items) (IsBeginning xs (numbered 1 items))
+front_decides : (xs : List (ℕ × Option Item)) (items : List Item) → Decides (is_front 1 xs items) (IsBeginning xs (with_numbers 1 items))
 front_decides xs items = (front_is 1 xs items, is_the_front 1 xs items)
 
 not_decides : (b : Bool) → Decides (not b) (b ≡ false)
@@ -106,7 +106,7 @@ in_order n a b J all = by (is_in a (senders_in (deeds_at b J))) refl
   where
     by : (t : Bool) → is_in a (senders_in (deeds_at b J)) ≡ t → ActsInOrder n a b J
     by true there = front_is 1 (acted_from a b J) (sent_to n a b J) (of_space (λ x. is_front 1 (acted_from x b J) (sent_to n x b J)) a (senders_in (deeds_at b J)) all there)
-    by false none = subst (λ (xs : List (ℕ × Option Item)). IsBeginning xs (numbered 1 (sent_to n a b J))) (sym (no_item a (deeds_at b J) none)) (numbered 1 (sent_to n a b J), refl)
+    by false none = subst (λ (xs : List (ℕ × Option Item)). IsBeginning xs (with_numbers 1 (sent_to n a b J))) (sym (no_item a (deeds_at b J) none)) (with_numbers 1 (sent_to n a b J), refl)
 
 fronts_of : (n : ℕ) (J : List Entry) (b : ℕ) → has_fronts n J b ≡ true → FrontsOf n J b
 fronts_of n J b h =
@@ -120,7 +120,7 @@ fronts_of n J b h =
 
 no_fronts : (n : ℕ) (J : List Entry) (b : ℕ) → deeds_at b J ≡ [] → FrontsOf n J b
 no_fronts n J b none = record {
-  order = λ a. subst (λ (D : List Deed). IsBeginning (acted a D) (numbered 1 (sent_to n a b J))) (sym none) (numbered 1 (sent_to n a b J), refl);
+  order = λ a. subst (λ (D : List Deed). IsBeginning (acted a D) (with_numbers 1 (sent_to n a b J))) (sym none) (with_numbers 1 (sent_to n a b J), refl);
   acts = subst ActsWhileOpen (sym none) tt;
   sends = subst (SendsWhileOpen b n) (sym none) tt;
 }

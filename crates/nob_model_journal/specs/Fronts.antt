@@ -13,13 +13,13 @@ use Rattle.nob_model_work.specs.Gifts.{gifts}
 use Rattle.nob_model_journal.specs.Journals.{deeds_at, sent_to, acted_from}
 
 -- items with their numbers, from k on
-abbrev pub numbered : ℕ → List Item → List (ℕ × Option Item)
-numbered k [] = []
-numbered k (item ∷ items) = (k, Some item) ∷ numbered (k + 1) items
+abbrev pub with_numbers : ℕ → List Item → List (ℕ × Option Item)
+with_numbers k [] = []
+with_numbers k (item ∷ items) = (k, Some item) ∷ with_numbers (k + 1) items
 
 -- what b acted on from a is a gapless front of what a sent to b
 abbrev pub ActsInOrder : (n a b : ℕ) → List Entry → Type 0
-ActsInOrder n a b J = IsBeginning (acted_from a b J) (numbered 1 (sent_to n a b J))
+ActsInOrder n a b J = IsBeginning (acted_from a b J) (with_numbers 1 (sent_to n a b J))
 
 -- nothing is acted on after the session with its sender closed
 abbrev pub ActsWhileOpen : List Deed → Type 0

@@ -46,9 +46,9 @@ frames_of (Some (Transmit p frames)) = frames
 frames_of _ = []
 
 -- all frames that the Transmits of all spaces gave, the first first
-abbrev pub given : List Entry → List Frame
-given [] = []
-given (entry ∷ J) = given J ++ frames_of (deed_in entry)
+abbrev pub transmitted_frames : List Entry → List Frame
+transmitted_frames [] = []
+transmitted_frames (entry ∷ J) = transmitted_frames J ++ frames_of (deed_in entry)
 
 -- something holds of each entry of a journal and the entries before it
 abbrev pub Each : (Entry → List Entry → Type 0) → List Entry → Type 0

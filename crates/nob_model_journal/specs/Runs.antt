@@ -11,11 +11,11 @@ use Rattle.nob_model_types.specs.declared.entry.Entry.{Entry}
 use Rattle.nob_model_types.specs.declared.entry.WorldStep.{WorldStep}
 use Rattle.nob_model_types.specs.declared.entry.WorldStep.TheVariants.{Do, Deliver}
 use Rattle.nob_model.specs.Right.{IsRight}
-use Rattle.nob_model_journal.specs.Journals.{at, given}
+use Rattle.nob_model_journal.specs.Journals.{at, transmitted_frames}
 
 -- a frame that arrives was given by an earlier Transmit: one that never arrives is lost, and one may arrive any number of times, in any order
 abbrev pub ArrivesGiven : Event → List Entry → Type 0
-ArrivesGiven (Arrive frame) J = Contains (given J) frame
+ArrivesGiven (Arrive frame) J = Contains (transmitted_frames J) frame
 ArrivesGiven (_) J = ⊤
 
 -- an entry of a world of n spaces, each with limits of its own, after the entries before: it is of one of the spaces, its result is the right one for this space's entries, and what arrives was given
@@ -38,7 +38,7 @@ frame_of (suc place) frames = slice_get frames place
 -- a step made an entry after the entries before: of the space and the event that it names, or of the frame that it delivers, which arrives at the space that it goes to
 abbrev pub IsMadeBy : WorldStep → Entry → List Entry → Type 0
 IsMadeBy (Do space event) entry J = (entry.space ≡ space) × (entry.event ≡ event)
-IsMadeBy (Deliver number) entry J = (frame : Frame) × (frame_of number (given J) ≡ Some frame) × (entry.space ≡ frame.to) × (entry.event ≡ Arrive frame)
+IsMadeBy (Deliver number) entry J = (frame : Frame) × (frame_of number (transmitted_frames J) ≡ Some frame) × (entry.space ≡ frame.to) × (entry.event ≡ Arrive frame)
 
 -- a journal came from steps, the last of which stands first: they are as many, and each made its entry
 abbrev pub From : List WorldStep → List Entry → Type 0

@@ -21,7 +21,7 @@ use Rattle.nob_model_history.specs.Histories.{history_of}
 use Rattle.nob_model_history.specs.Premises.{TookTurns}
 use Rattle.nob_model_history.proofs.Inbox.{acted_takes}
 use Rattle.nob_model_history.proofs.Turning.{same_ref, shapes, pending_waits, waiting_stands, granted_answered, after_clean}
-use Rattle.nob_model.specs.Candidates.{is_all_resolved}
+use Rattle.nob_model_acting.specs.Candidates.{is_all_resolved}
 use Rattle.nob_model.specs.Lists.{AreRightDeeds}
 use Rattle.nob_model.proofs.Accepted.{found_passes}
 use Rattle.nob_model.proofs.Carrying.{Carries, all_carry, all_found}

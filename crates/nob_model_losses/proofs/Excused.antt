@@ -31,7 +31,7 @@ use Rattle.nob_model.specs.Lists.{AreRightDeeds}
 use Rattle.nob_model.proofs.Carrying.{all_filter}
 use Rattle.nob_model.proofs.Premises.{took_turns}
 use Rattle.nob_model.proofs.Waiting.{act_open, all_weaker}
-use Rattle.nob_model_journal.specs.Fronts.{numbered, ActsInOrder}
+use Rattle.nob_model_journal.specs.Fronts.{with_numbers, ActsInOrder}
 use Rattle.nob_model_journal.specs.Journals.{deeds_at, history_at, closed_at, both_open, sent_to, acted_from}
 use Rattle.nob_model_journal.specs.Losses.{is_carried, is_loss, is_excuse, sources, LosesExcused}
 use Rattle.nob_model_journal.specs.Runs.{WorldRun}
@@ -116,7 +116,7 @@ pub record IsSentAs (n a b k : ℕ) (item : Item) (J : List Entry) : Type 0 wher
 has_it : (n a b k : ℕ) (item : Item) (J : List Entry) (its : IsSentAs n a b k item J) (P : SentItem → Type 0) → AllByRecursion P (sent (history_at a n J)) → P its.one
 has_it n a b k item J its P are = all_at P (filter (λ (o : SentItem). o.to == b) (sent (history_at a n J))) (k - 1) its.one (all_filter P (λ (o : SentItem). o.to == b) (sent (history_at a n J)) are) its.place
 
-sent_as : (n a b k : ℕ) (item : Item) (J : List Entry) → slice_get (numbered 1 (sent_to n a b J)) (k - 1) ≡ Some (k, Some item) → IsSentAs n a b k item J
+sent_as : (n a b k : ℕ) (item : Item) (J : List Entry) → slice_get (with_numbers 1 (sent_to n a b J)) (k - 1) ≡ Some (k, Some item) → IsSentAs n a b k item J
 sent_as n a b k item J there =
     let its = numbered_item 1 (sent_to n a b J) (k - 1) k item there in
     let all : List SentItem = sent (history_at a n J) in
@@ -138,7 +138,7 @@ other_granted true granted none is = absurd (both_ways true none refl)
 other_granted false granted none is = is
 
 -- a copy of what was denied that wasn't settled is excused
-unsettled_excused : (n a b k : ℕ) (limits : ℕ → Limits) (J : List Entry) (rep : WireRep) (item : Item) → WorldRun n limits J → AreOfTypes J → has_no (gave n rep.owner b rep.index J) ≡ true → slice_get (numbered 1 (sent_to n a b J)) (k - 1) ≡ Some (k, Some item) → carries rep item ≡ true → is_in k (settles_among (sent_to n b a J)) ≡ false → is_excuse b rep J a ≡ true
+unsettled_excused : (n a b k : ℕ) (limits : ℕ → Limits) (J : List Entry) (rep : WireRep) (item : Item) → WorldRun n limits J → AreOfTypes J → has_no (gave n rep.owner b rep.index J) ≡ true → slice_get (with_numbers 1 (sent_to n a b J)) (k - 1) ≡ Some (k, Some item) → carries rep item ≡ true → is_in k (settles_among (sent_to n b a J)) ≡ false → is_excuse b rep J a ≡ true
 unsettled_excused n a b k limits J rep item run typed refuses there carried none = and_from _ _ (not_from_false _ not_own) (not_from_false _ not_open)
   where
     its : IsSentAs n a b k item J
@@ -247,8 +247,8 @@ new_excused n p b k limits J rep item run typed right is refused carried =
     let number = next.next in
     let place : k - 1 ≡ t = omega (arith, number) in
     let same : next.item ≡ item = some_same next.item item (sym next.found ∙ is) in
-    let there : slice_get (numbered 1 (sent_to n p b J)) (k - 1) ≡ Some (k, Some item) =
-    ap (slice_get (numbered 1 (sent_to n p b J))) place ∙ numbered_at 1 (sent_to n p b J) t next.item next.was_sent ∙ ap (λ (m : ℕ). Some (m, Some next.item)) (let one : 1 + t ≡ k = omega (arith, number) in one) ∙ ap (λ (i : Item). Some (k, Some i)) same in
+    let there : slice_get (with_numbers 1 (sent_to n p b J)) (k - 1) ≡ Some (k, Some item) =
+    ap (slice_get (with_numbers 1 (sent_to n p b J))) place ∙ numbered_at 1 (sent_to n p b J) t next.item next.was_sent ∙ ap (λ (m : ℕ). Some (m, Some next.item)) (let one : 1 + t ≡ k = omega (arith, number) in one) ∙ ap (λ (i : Item). Some (k, Some i)) same in
     unsettled_excused n p b k limits J rep item run typed (refused_denied n limits J run typed b rep refused) there carried
     (above_none t k (settles_among (sent_to n b p J)) ((settlements n limits J run).were_acted p b) number)
 

@@ -32,12 +32,12 @@ use Rattle.nob_model_history.specs.Listing.{is_entered, is_listed, is_any_listed
 use Rattle.nob_model_history.specs.Transit.{is_some_of, is_settle_of, is_settled, is_pinned, pins, sent, is_idle, by_last_dirty}
 use Rattle.nob_model_history.proofs.Listed.{any_listed}
 use Rattle.nob_model_history.proofs.Turning.{same_ref, pending_waits}
-use Rattle.nob_model.specs.Candidates.{is_all_resolved, to_settle, to_clean}
-use Rattle.nob_model.specs.Sending.{has_numbers}
+use Rattle.nob_model_acting.specs.Candidates.{is_all_resolved, to_settle, to_clean}
+use Rattle.nob_model_acting.specs.Sending.{has_numbers}
 use Rattle.nob_model.specs.Right.{own_ref, settle_count, settle_of, right_settle, clean_of, right_clean, withdraw_refused, right_withdraw}
 use Rattle.nob_model.specs.Lists.{AreRightDeeds}
 use Rattle.nob_model.proofs.Orderly.{exported}
-use Rattle.nob_model_journal.specs.Fronts.{numbered}
+use Rattle.nob_model_journal.specs.Fronts.{with_numbers}
 use Rattle.nob_model_journal.specs.Journals.{deeds_at, history_at, closed_at, both_open, sent_to, acted_from}
 use Rattle.nob_model_journal.specs.Runs.{WorldRun}
 use Rattle.nob_model_journal.specs.Safety.{can_use}
@@ -87,7 +87,7 @@ heard_out : (n a b : ℕ) (J : List Entry) → IsAtRest n a b J → closed_at a 
 heard_out n a b J (inl both) up = absurd (both_ways (closed_at a b J) up both.0)
 heard_out n a b J (inr out) up = out
 
-items_numbered : (k : ℕ) (more : List Item) → items_among (numbered k more) ≡ more
+items_numbered : (k : ℕ) (more : List Item) → items_among (with_numbers k more) ≡ more
 items_numbered k [] = refl
 items_numbered k (item ∷ more) = ap (λ (rest : List Item). item ∷ rest) (items_numbered (k + 1) more)
 

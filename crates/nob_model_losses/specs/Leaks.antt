@@ -6,7 +6,7 @@ use Rattle.nob_model_types.specs.declared.entry.Entry.{Entry}
 use Rattle.nob_model_words.specs.Sessions.{is_peer}
 use Rattle.nob_model_words.specs.Objects.{is_live}
 use Rattle.nob_model.specs.Right.{own_ref, right_settle, right_clean, right_withdraw}
-use Rattle.nob_model_journal.specs.Fronts.{numbered}
+use Rattle.nob_model_journal.specs.Fronts.{with_numbers}
 use Rattle.nob_model_journal.specs.Journals.{deeds_at, history_at, closed_at, sent_to, acted_from}
 use Rattle.nob_model_journal.specs.Safety.{can_use}
 
@@ -14,8 +14,8 @@ use Rattle.nob_model_journal.specs.Safety.{can_use}
 pub record IsHeardOut (n a b : ℕ) (J : List Entry) : Type 0 where
   pub open_here : closed_at a b J ≡ false
   pub open_there : closed_at b a J ≡ false
-  pub acted_there : acted_from a b J ≡ numbered 1 (sent_to n a b J)
-  pub acted_here : acted_from b a J ≡ numbered 1 (sent_to n b a J)
+  pub acted_there : acted_from a b J ≡ with_numbers 1 (sent_to n a b J)
+  pub acted_here : acted_from b a J ≡ with_numbers 1 (sent_to n b a J)
 
 -- a session is at rest: both ends have closed, or neither has and each has acted on all that the other sent
 abbrev pub IsAtRest : (n a b : ℕ) → List Entry → Type 0

@@ -30,8 +30,8 @@ use Rattle.nob_model_history.specs.Holds.{times, gains, releases, hand, loans_of
 use Rattle.nob_model_history.specs.Premises.{ObjectsInTurn}
 use Rattle.nob_model_history.proofs.Living.{withdrawn_exported}
 use Rattle.nob_model_history.proofs.Turning.{same_ref, named_ref}
-use Rattle.nob_model.specs.Sending.{is_own_and_not_live}
-use Rattle.nob_model.specs.Acting.{fault_if, first_fault, fault_of, names_not_live, awaits_reply}
+use Rattle.nob_model_acting.specs.Sending.{is_own_and_not_live}
+use Rattle.nob_model_acting.specs.Acting.{fault_if, first_fault, fault_of, names_not_live, awaits_reply}
 use Rattle.nob_model.specs.Right.{right_after, own_ref}
 use Rattle.nob_model.specs.Lists.{IsRightDeed, AreRightDeeds}
 use Rattle.nob_model.proofs.Doing.{was_answered}

@@ -12,7 +12,7 @@ use Rattle.nob_model_words.specs.declared.deed.Deed.TheVariants as did
 use Rattle.nob_model_words.specs.Sessions.{item_at, acted}
 use Rattle.nob_model_history.specs.Transit.{is_settle_of, is_settled}
 use Rattle.nob_model_history.proofs.Sending.{up_to}
-use Rattle.nob_model_journal.specs.Fronts.{numbered}
+use Rattle.nob_model_journal.specs.Fronts.{with_numbers}
 use Rattle.nob_model_safety.specs.Asking.{items_among}
 use Rattle.nob_model_safety.specs.Settles.{settle_in, settles_among, is_in, AreOnce}
 use Rattle.nob_model_safety.proofs.Lists.{some_same}
@@ -21,7 +21,7 @@ none_some : {X : Type 0} (x : X) → None ≡ Some x → ⊥
 none_some x e = cc
 
 -- the item at a place among numbered ones
-pub numbered_item : (m : ℕ) (xs : List Item) (place k : ℕ) (x : Item) → slice_get (numbered m xs) place ≡ Some (k, Some x) → (slice_get xs place ≡ Some x) × (k ≡ m + place)
+pub numbered_item : (m : ℕ) (xs : List Item) (place k : ℕ) (x : Item) → slice_get (with_numbers m xs) place ≡ Some (k, Some x) → (slice_get xs place ≡ Some x) × (k ≡ m + place)
 numbered_item m [] place k x at = absurd (none_some _ at)
 numbered_item m (y ∷ xs) zero k x at = let same = some_same (m, Some y) (k, Some x) at in (ap (λ (pair : ℕ × Option Item). pair.1) same, let number = ap (λ (pair : ℕ × Option Item). pair.0) same in omega (arith, number))
 numbered_item m (y ∷ xs) (suc place) k x at = let rest = numbered_item (m + 1) xs place k x at in (rest.0, let number = rest.1 in omega (arith, number))

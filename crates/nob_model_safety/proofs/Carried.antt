@@ -18,7 +18,7 @@ use Rattle.nob_model_history.specs.Ends.{calls_at}
 use Rattle.nob_model.specs.Laws.{AreRightCalls}
 use Rattle.nob_model.proofs.Waiting.{all_weaker}
 use Rattle.nob_model.proofs.Calling.{calls_law}
-use Rattle.nob_model_journal.specs.Journals.{deeds_at, history_at, given}
+use Rattle.nob_model_journal.specs.Journals.{deeds_at, history_at, transmitted_frames}
 use Rattle.nob_model_journal.specs.Runs.{WorldRun}
 use Rattle.nob_model_safety.specs.Invariant.{IsCarried}
 use Rattle.nob_model_safety.proofs.Lists.{all_append, place_in_whole}
@@ -125,20 +125,20 @@ later_all : (call : EndEntry) (calls : List EndEntry) (frames : List Frame) → 
 later_all call calls frames all = all_weaker (IsCarried calls) (IsCarried (call ∷ calls)) (carried_later calls (call ∷ calls) (call_longer call calls)) frames all
 
 -- each frame that right calls gave is carried
-all_carried : (me peer : ℕ) (limits : Limits) (calls : List EndEntry) → AreRightCalls me peer limits calls → AllByRecursion (IsCarried calls) (pair.given calls)
+all_carried : (me peer : ℕ) (limits : Limits) (calls : List EndEntry) → AreRightCalls me peer limits calls → AllByRecursion (IsCarried calls) (pair.transmitted_frames calls)
 all_carried me peer limits [] right = tt
 all_carried me peer limits (ends.Transmit frames ∷ calls) right =
-    all_append (IsCarried (ends.Transmit frames ∷ calls)) (pair.given calls) frames
-    (later_all (ends.Transmit frames) calls (pair.given calls) (all_carried me peer limits calls right.1))
+    all_append (IsCarried (ends.Transmit frames ∷ calls)) (pair.transmitted_frames calls) frames
+    (later_all (ends.Transmit frames) calls (pair.transmitted_frames calls) (all_carried me peer limits calls right.1))
     (now_carried (handed calls) (length (accepted calls)) (ends.Transmit frames ∷ calls) frames refl refl (omega arith) (subst (AllByRecursion (IsGood (handed calls) (length (accepted calls)))) (sym right.0) (transmit_good me peer limits.window calls)))
-all_carried me peer limits (call ∷ calls) right = later_all call calls (pair.given calls) (all_carried me peer limits calls right.1)
+all_carried me peer limits (call ∷ calls) right = later_all call calls (pair.transmitted_frames calls) (all_carried me peer limits calls right.1)
 
 -- ---- in a run
 
 -- each frame that was ever given is as its sender's end gave it
-pub frames_carried : (n : ℕ) (limits : ℕ → Limits) (J : List Entry) → WorldRun n limits J → (frame : Frame) → Contains (given J) frame → IsCarried (calls_at frame.to (history_at frame.from n J)) frame
+pub frames_carried : (n : ℕ) (limits : ℕ → Limits) (J : List Entry) → WorldRun n limits J → (frame : Frame) → Contains (transmitted_frames J) frame → IsCarried (calls_at frame.to (history_at frame.from n J)) frame
 frames_carried n limits J run frame from =
     let calls : List EndEntry = calls_at frame.to (history_at frame.from n J) in
-    All-contains (IsCarried calls) (pair.given calls) frame
-    (All-from_recursion (IsCarried calls) (pair.given calls) (all_carried frame.from frame.to (limits frame.from) calls (calls_law frame.from n (limits frame.from) (deeds_at frame.from J) (right_deeds_at n limits J run frame.from) frame.to)))
+    All-contains (IsCarried calls) (pair.transmitted_frames calls) frame
+    (All-from_recursion (IsCarried calls) (pair.transmitted_frames calls) (all_carried frame.from frame.to (limits frame.from) calls (calls_law frame.from n (limits frame.from) (deeds_at frame.from J) (right_deeds_at n limits J run frame.from) frame.to)))
     (given_there n limits J frame run from)

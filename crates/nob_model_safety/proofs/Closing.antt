@@ -30,9 +30,9 @@ use Rattle.nob_model_words.specs.Sessions.{is_peer, closed}
 use Rattle.nob_model_work.specs.Gifts.{value_of}
 use Rattle.nob_model_history.specs.Ends.{calls_at}
 use Rattle.nob_model.proofs.Accepted.{accepted, err_ok}
-use Rattle.nob_model.specs.Sending.{◌or_else◌, unless, value_refused, send_refused, has_numbers}
+use Rattle.nob_model_acting.specs.Sending.{◌or_else◌, unless, value_refused, send_refused, has_numbers}
 use Rattle.nob_model.specs.Right.{right_export, right_dup, right_release, right_call, answer_of_reply, answer_of_stage, answer_of_call, take_of, right_take_reply, job_of, claim_of, right_claim, finish_of, right_finish, settle_count, settle_of, right_settle, last_number, clean_of, right_clean, right_withdraw, right_frames, right_after}
-use Rattle.nob_model.specs.Candidates.{to_settle, to_clean, to_claim}
+use Rattle.nob_model_acting.specs.Candidates.{to_settle, to_clean, to_claim}
 
 -- ---- answers that close nothing
 

@@ -18,7 +18,7 @@ use Rattle.nob_model_words.specs.Deeds.{deed_of, deed_by, deed_in, deeds}
 use Rattle.nob_model.specs.Right.{IsRight}
 use Rattle.nob_model.specs.Lists.{AreRight, AreRightDeeds}
 use Rattle.nob_model.proofs.Doing.{right_deeds}
-use Rattle.nob_model_journal.specs.Journals.{at, deeds_at, given}
+use Rattle.nob_model_journal.specs.Journals.{at, deeds_at, transmitted_frames}
 use Rattle.nob_model_journal.specs.Runs.{ArrivesGiven, WorldRun}
 use Rattle.nob_model_safety.proofs.Lists.{some_same}
 
@@ -67,33 +67,33 @@ ComesFrom frames (_) = ⊤
 none_some : {A : Type 0} (x : A) → None ≡ Some x → ⊥
 none_some x e = cc
 
-comes_by : (event : Event) (answer : Answer) (J : List Entry) (deed : Deed) → ArrivesGiven event J → deed_of event answer ≡ Some deed → ComesFrom (given J) deed
-comes_by events.Export (answers.Exported rep) J deed from e = subst (ComesFrom (given J)) (some_same (did.Export rep) deed e) tt
-comes_by (events.Dup rep) answers.Done J deed from e = subst (ComesFrom (given J)) (some_same (did.Dup rep) deed e) tt
-comes_by (events.Release rep) answers.Done J deed from e = subst (ComesFrom (given J)) (some_same (did.Release rep) deed e) tt
-comes_by (events.Call target method value) (answers.Called call) J deed from e = subst (ComesFrom (given J)) (some_same (did.Call target method value call) deed e) tt
-comes_by (events.TakeReply call) (answers.Replied status value) J deed from e = subst (ComesFrom (given J)) (some_same (did.TakeReply call status value) deed e) tt
-comes_by (events.TakeReply call) answers.Ended J deed from e = subst (ComesFrom (given J)) (some_same (did.TakeEnd call) deed e) tt
-comes_by events.Claim (answers.Job job) J deed from e = subst (ComesFrom (given J)) (some_same (did.Claim job) deed e) tt
-comes_by (events.Finish job outcome) answers.Finished J deed from e = subst (ComesFrom (given J)) (some_same (did.Finish job outcome) deed e) tt
-comes_by (events.Finish job outcome) answers.Dropped J deed from e = subst (ComesFrom (given J)) (some_same (did.DropReply job) deed e) tt
-comes_by (events.Act p) (answers.Acted k) J deed from e = subst (ComesFrom (given J)) (some_same (did.Act p k) deed e) tt
-comes_by (events.Act p) (answers.Closed reason) J deed from e = subst (ComesFrom (given J)) (some_same (did.Closing p reason causes.Item) deed e) tt
-comes_by events.Settle (answers.Settled p k) J deed from e = subst (ComesFrom (given J)) (some_same (did.Settle p k) deed e) tt
-comes_by events.Clean (answers.Cleaned rep) J deed from e = subst (ComesFrom (given J)) (some_same (did.Clean rep) deed e) tt
-comes_by (events.Withdraw index) answers.Withdrawn J deed from e = subst (ComesFrom (given J)) (some_same (did.Withdraw index) deed e) tt
-comes_by (events.Transmit p) (answers.Frames frames) J deed from e = subst (ComesFrom (given J)) (some_same (did.Transmit p frames) deed e) tt
-comes_by (events.Arrive frame) (answers.Took count) J deed from e = subst (ComesFrom (given J)) (some_same (did.Arrive frame count) deed e) from
-comes_by (events.Arrive frame) (answers.Closed reason) J deed from e = subst (ComesFrom (given J)) (some_same (did.Closing frame.from reason (causes.Frame frame)) deed e) from
-comes_by (events.Tick p) answers.Done J deed from e = subst (ComesFrom (given J)) (some_same (did.Tick p) deed e) tt
-comes_by (events.Tick p) (answers.Closed reason) J deed from e = subst (ComesFrom (given J)) (some_same (did.Closing p reason causes.Ticks) deed e) tt
-comes_by (events.Close p) (answers.Closed reason) J deed from e = subst (ComesFrom (given J)) (some_same (did.Closing p reason causes.Asked) deed e) tt
+comes_by : (event : Event) (answer : Answer) (J : List Entry) (deed : Deed) → ArrivesGiven event J → deed_of event answer ≡ Some deed → ComesFrom (transmitted_frames J) deed
+comes_by events.Export (answers.Exported rep) J deed from e = subst (ComesFrom (transmitted_frames J)) (some_same (did.Export rep) deed e) tt
+comes_by (events.Dup rep) answers.Done J deed from e = subst (ComesFrom (transmitted_frames J)) (some_same (did.Dup rep) deed e) tt
+comes_by (events.Release rep) answers.Done J deed from e = subst (ComesFrom (transmitted_frames J)) (some_same (did.Release rep) deed e) tt
+comes_by (events.Call target method value) (answers.Called call) J deed from e = subst (ComesFrom (transmitted_frames J)) (some_same (did.Call target method value call) deed e) tt
+comes_by (events.TakeReply call) (answers.Replied status value) J deed from e = subst (ComesFrom (transmitted_frames J)) (some_same (did.TakeReply call status value) deed e) tt
+comes_by (events.TakeReply call) answers.Ended J deed from e = subst (ComesFrom (transmitted_frames J)) (some_same (did.TakeEnd call) deed e) tt
+comes_by events.Claim (answers.Job job) J deed from e = subst (ComesFrom (transmitted_frames J)) (some_same (did.Claim job) deed e) tt
+comes_by (events.Finish job outcome) answers.Finished J deed from e = subst (ComesFrom (transmitted_frames J)) (some_same (did.Finish job outcome) deed e) tt
+comes_by (events.Finish job outcome) answers.Dropped J deed from e = subst (ComesFrom (transmitted_frames J)) (some_same (did.DropReply job) deed e) tt
+comes_by (events.Act p) (answers.Acted k) J deed from e = subst (ComesFrom (transmitted_frames J)) (some_same (did.Act p k) deed e) tt
+comes_by (events.Act p) (answers.Closed reason) J deed from e = subst (ComesFrom (transmitted_frames J)) (some_same (did.Closing p reason causes.Item) deed e) tt
+comes_by events.Settle (answers.Settled p k) J deed from e = subst (ComesFrom (transmitted_frames J)) (some_same (did.Settle p k) deed e) tt
+comes_by events.Clean (answers.Cleaned rep) J deed from e = subst (ComesFrom (transmitted_frames J)) (some_same (did.Clean rep) deed e) tt
+comes_by (events.Withdraw index) answers.Withdrawn J deed from e = subst (ComesFrom (transmitted_frames J)) (some_same (did.Withdraw index) deed e) tt
+comes_by (events.Transmit p) (answers.Frames frames) J deed from e = subst (ComesFrom (transmitted_frames J)) (some_same (did.Transmit p frames) deed e) tt
+comes_by (events.Arrive frame) (answers.Took count) J deed from e = subst (ComesFrom (transmitted_frames J)) (some_same (did.Arrive frame count) deed e) from
+comes_by (events.Arrive frame) (answers.Closed reason) J deed from e = subst (ComesFrom (transmitted_frames J)) (some_same (did.Closing frame.from reason (causes.Frame frame)) deed e) from
+comes_by (events.Tick p) answers.Done J deed from e = subst (ComesFrom (transmitted_frames J)) (some_same (did.Tick p) deed e) tt
+comes_by (events.Tick p) (answers.Closed reason) J deed from e = subst (ComesFrom (transmitted_frames J)) (some_same (did.Closing p reason causes.Ticks) deed e) tt
+comes_by (events.Close p) (answers.Closed reason) J deed from e = subst (ComesFrom (transmitted_frames J)) (some_same (did.Closing p reason causes.Asked) deed e) tt
 comes_by _ _ J deed from e = absurd (none_some deed e)
 
-comes_if : (event : Event) (result : Result Answer Refusal) (J : List Entry) (deed : Deed) → ArrivesGiven event J → deed_by event result ≡ Some deed → ComesFrom (given J) deed
+comes_if : (event : Event) (result : Result Answer Refusal) (J : List Entry) (deed : Deed) → ArrivesGiven event J → deed_by event result ≡ Some deed → ComesFrom (transmitted_frames J) deed
 comes_if event (Ok answer) J deed from e = comes_by event answer J deed from e
 comes_if event (Err refusal) J deed from e = absurd (none_some deed e)
 
 -- a frame that came in by an entry of a run was given before
-pub comes : (entry : Entry) (J : List Entry) (deed : Deed) → ArrivesGiven entry.event J → deed_in entry ≡ Some deed → ComesFrom (given J) deed
+pub comes : (entry : Entry) (J : List Entry) (deed : Deed) → ArrivesGiven entry.event J → deed_in entry ≡ Some deed → ComesFrom (transmitted_frames J) deed
 comes entry J deed from e = comes_if entry.event entry.result J deed from e

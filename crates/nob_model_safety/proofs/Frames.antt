@@ -27,7 +27,7 @@ use Rattle.nob_model.specs.Right.{right_after}
 use Rattle.nob_model.specs.Lists.{IsRightDeed, AreRightDeeds}
 use Rattle.nob_model.proofs.Doing.{was_answered}
 use Rattle.nob_model.proofs.Accepted.{transmit_tells}
-use Rattle.nob_model_journal.specs.Journals.{deeds_at, history_at, frames_of, given}
+use Rattle.nob_model_journal.specs.Journals.{deeds_at, history_at, frames_of, transmitted_frames}
 use Rattle.nob_model_journal.specs.Runs.{WorldRun}
 use Rattle.nob_model_safety.proofs.Entries.{grows, grows_own, right_deeds_at}
 
@@ -64,25 +64,25 @@ transmit_between me peer window L frame from =
 
 -- ---- what was given on an end
 
-sends_given : (items : List Item) (calls : List EndEntry) → pair.given (with_sends items calls) ≡ pair.given calls
+sends_given : (items : List Item) (calls : List EndEntry) → pair.transmitted_frames (with_sends items calls) ≡ pair.transmitted_frames calls
 sends_given [] calls = refl
 sends_given (item ∷ items) calls = sends_given items (ends.Send (payload_of item) (kind_of item) (Ok (length (handed calls) + 1)) ∷ calls)
 
-if_given : (own : Bool) (call : EndEntry) (calls : List EndEntry) → pair.given (call ∷ calls) ≡ pair.given calls → pair.given (cond own (call ∷ calls) calls) ≡ pair.given calls
+if_given : (own : Bool) (call : EndEntry) (calls : List EndEntry) → pair.transmitted_frames (call ∷ calls) ≡ pair.transmitted_frames calls → pair.transmitted_frames (cond own (call ∷ calls) calls) ≡ pair.transmitted_frames calls
 if_given true call calls same = same
 if_given false call calls same = refl
 
-closing_given : (p : ℕ) (reason : Reason) (cause : Cause) (calls : List EndEntry) → pair.given (call_of_closing p reason cause ∷ calls) ≡ pair.given calls
+closing_given : (p : ℕ) (reason : Reason) (cause : Cause) (calls : List EndEntry) → pair.transmitted_frames (call_of_closing p reason cause ∷ calls) ≡ pair.transmitted_frames calls
 closing_given p reason causes.Item calls = refl
 closing_given p reason (causes.Frame frame) calls = refl
 closing_given p reason causes.Ticks calls = refl
 closing_given p reason causes.Asked calls = refl
 
-transmit_given : (own : Bool) (frames : List Frame) (calls : List EndEntry) (frame : Frame) → Contains (pair.given calls) frame → Contains (pair.given (cond own (ends.Transmit frames ∷ calls) calls)) frame
-transmit_given true frames calls frame from = Contains-append_left (pair.given calls) frames frame from
+transmit_given : (own : Bool) (frames : List Frame) (calls : List EndEntry) (frame : Frame) → Contains (pair.transmitted_frames calls) frame → Contains (pair.transmitted_frames (cond own (ends.Transmit frames ∷ calls) calls)) frame
+transmit_given true frames calls frame from = Contains-append_left (pair.transmitted_frames calls) frames frame from
 transmit_given false frames calls frame from = from
 
-own_given : (p : ℕ) (deed : Deed) (calls : List EndEntry) (frame : Frame) → Contains (pair.given calls) frame → Contains (pair.given (own_calls p deed calls)) frame
+own_given : (p : ℕ) (deed : Deed) (calls : List EndEntry) (frame : Frame) → Contains (pair.transmitted_frames calls) frame → Contains (pair.transmitted_frames (own_calls p deed calls)) frame
 own_given p (did.Act q k) calls frame from = subst (λ frames. Contains frames frame) (sym (if_given (q == p) ends.Take calls refl)) from
 own_given p (did.Transmit q frames) calls frame from = transmit_given (q == p) frames calls frame from
 own_given p (did.Arrive other count) calls frame from = subst (λ frames. Contains frames frame) (sym (if_given (other.from == p) _ calls refl)) from
@@ -91,42 +91,42 @@ own_given p (did.Closing q reason cause) calls frame from = subst (λ frames. Co
 own_given p deed calls frame from = from
 
 -- what was given on an end stays given
-given_later : (s n p : ℕ) (deed : Deed) (D : List Deed) (frame : Frame) → Contains (pair.given (calls_at p (history_of s n D))) frame → Contains (pair.given (calls_at p (history_of s n (deed ∷ D)))) frame
+given_later : (s n p : ℕ) (deed : Deed) (D : List Deed) (frame : Frame) → Contains (pair.transmitted_frames (calls_at p (history_of s n D))) frame → Contains (pair.transmitted_frames (calls_at p (history_of s n (deed ∷ D)))) frame
 given_later s n p deed D frame from =
     own_given p deed (with_sends (items_to p (gifts s n deed D (work s n D))) (calls_at p (history_of s n D))) frame
     (subst (λ frames. Contains frames frame) (sym (sends_given (items_to p (gifts s n deed D (work s n D))) (calls_at p (history_of s n D)))) from)
 
-transmit_own : (own : Bool) (frames : List Frame) (calls : List EndEntry) (frame : Frame) → own ≡ true → Contains frames frame → Contains (pair.given (cond own (ends.Transmit frames ∷ calls) calls)) frame
-transmit_own true frames calls frame own from = Contains-append_right (pair.given calls) frames frame from
+transmit_own : (own : Bool) (frames : List Frame) (calls : List EndEntry) (frame : Frame) → own ≡ true → Contains frames frame → Contains (pair.transmitted_frames (cond own (ends.Transmit frames ∷ calls) calls)) frame
+transmit_own true frames calls frame own from = Contains-append_right (pair.transmitted_frames calls) frames frame from
 transmit_own false frames calls frame own from = cc
 
 -- what a Transmit gives is given on its end
-given_now : (s n p : ℕ) (frames : List Frame) (D : List Deed) (frame : Frame) → Contains frames frame → Contains (pair.given (calls_at p (history_of s n (did.Transmit p frames ∷ D)))) frame
+given_now : (s n p : ℕ) (frames : List Frame) (D : List Deed) (frame : Frame) → Contains frames frame → Contains (pair.transmitted_frames (calls_at p (history_of s n (did.Transmit p frames ∷ D)))) frame
 given_now s n p frames D frame from = transmit_own (p == p) frames _ frame (eq-eqb p p refl) from
 
 -- ---- in a run
 
 -- a frame is given on the end of its sender with its receiver
 abbrev pub IsGivenThere : (n : ℕ) → List Entry → Frame → Type 0
-IsGivenThere n J frame = Contains (pair.given (calls_at frame.to (history_at frame.from n J))) frame
+IsGivenThere n J frame = Contains (pair.transmitted_frames (calls_at frame.to (history_at frame.from n J))) frame
 
 later_there : (n : ℕ) (entry : Entry) (J : List Entry) (frame : Frame) → IsGivenThere n J frame → IsGivenThere n (entry ∷ J) frame
 later_there n entry J frame from =
     elim (grows frame.from entry J) [
-      | inl same ↦ subst (λ D. Contains (pair.given (calls_at frame.to (history_of frame.from n D))) frame) (sym same) from
-      | inr more ↦ subst (λ D. Contains (pair.given (calls_at frame.to (history_of frame.from n D))) frame) (sym more.3) (given_later frame.from n frame.to more.0 (deeds_at frame.from J) frame from)
+      | inl same ↦ subst (λ D. Contains (pair.transmitted_frames (calls_at frame.to (history_of frame.from n D))) frame) (sym same) from
+      | inr more ↦ subst (λ D. Contains (pair.transmitted_frames (calls_at frame.to (history_of frame.from n D))) frame) (sym more.3) (given_later frame.from n frame.to more.0 (deeds_at frame.from J) frame from)
     ]
 
 in_none : (frame : Frame) → Contains [] frame → ⊥
 in_none frame from = let low = from.1 in omega (arith, low)
 
 -- what one space gave by the newest of its deeds
-now_there : (s n : ℕ) (limits : Limits) (deed : Deed) (D : List Deed) (frame : Frame) → IsRightDeed s n limits deed D → Contains (frames_of (Some deed)) frame → (frame.from ≡ s) × Contains (pair.given (calls_at frame.to (history_of s n (deed ∷ D)))) frame
+now_there : (s n : ℕ) (limits : Limits) (deed : Deed) (D : List Deed) (frame : Frame) → IsRightDeed s n limits deed D → Contains (frames_of (Some deed)) frame → (frame.from ≡ s) × Contains (pair.transmitted_frames (calls_at frame.to (history_of s n (deed ∷ D)))) frame
 unfolding right_after
 now_there s n limits (did.Transmit q frames) D frame right from =
     let told = transmit_tells s n q limits.window frames (history_of s n D) (was_answered s n limits (did.Transmit q frames) D right) in
     let ways = transmit_between s q limits.window (calls_at q (history_of s n D)) frame (subst (λ fs. Contains fs frame) told.1 from) in
-    (ways.0, subst (λ (p : ℕ). Contains (pair.given (calls_at p (history_of s n (did.Transmit q frames ∷ D)))) frame) (sym ways.1) (given_now s n q frames D frame from))
+    (ways.0, subst (λ (p : ℕ). Contains (pair.transmitted_frames (calls_at p (history_of s n (did.Transmit q frames ∷ D)))) frame) (sym ways.1) (given_now s n q frames D frame from))
 now_there s n limits deed D frame right from = absurd (in_none frame from)
 
 own_there : (n : ℕ) (limits : ℕ → Limits) (entry : Entry) (J : List Entry) (frame : Frame) (found : Option Deed) → deed_in entry ≡ found → WorldRun n limits (entry ∷ J) → Contains (frames_of found) frame → IsGivenThere n (entry ∷ J) frame
@@ -135,13 +135,13 @@ own_there n limits entry J frame (Some deed) is run from =
     let more : deeds_at entry.space (entry ∷ J) ≡ deed ∷ deeds_at entry.space J = grows_own entry J deed is in
     let right : AreRightDeeds entry.space n (limits entry.space) (deed ∷ deeds_at entry.space J) = subst (AreRightDeeds entry.space n (limits entry.space)) more (right_deeds_at n limits (entry ∷ J) run entry.space) in
     let there = now_there entry.space n (limits entry.space) deed (deeds_at entry.space J) frame right.0 from in
-    subst (λ (s : ℕ). Contains (pair.given (calls_at frame.to (history_at s n (entry ∷ J)))) frame) (sym there.0) (subst (λ D. Contains (pair.given (calls_at frame.to (history_of entry.space n D))) frame) (sym more) there.1)
+    subst (λ (s : ℕ). Contains (pair.transmitted_frames (calls_at frame.to (history_at s n (entry ∷ J)))) frame) (sym there.0) (subst (λ D. Contains (pair.transmitted_frames (calls_at frame.to (history_of entry.space n D))) frame) (sym more) there.1)
 
 -- a frame that a Transmit of a run gave
-pub given_there : (n : ℕ) (limits : ℕ → Limits) (J : List Entry) (frame : Frame) → WorldRun n limits J → Contains (given J) frame → IsGivenThere n J frame
+pub given_there : (n : ℕ) (limits : ℕ → Limits) (J : List Entry) (frame : Frame) → WorldRun n limits J → Contains (transmitted_frames J) frame → IsGivenThere n J frame
 given_there n limits [] frame run from = absurd (in_none frame from)
 given_there n limits (entry ∷ J) frame run from =
-    elim (Contains-append_cases (given J) (frames_of (deed_in entry)) frame from) [
+    elim (Contains-append_cases (transmitted_frames J) (frames_of (deed_in entry)) frame from) [
       | inl before ↦ later_there n entry J frame (given_there n limits J frame run.1 before)
       | inr now ↦ own_there n limits entry J frame (deed_in entry) refl run now
     ]

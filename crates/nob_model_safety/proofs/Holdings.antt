@@ -37,7 +37,7 @@ use Rattle.nob_model_history.specs.Transit.{sent, is_settled, is_pinned, bundles
 use Rattle.nob_model_history.specs.Premises.{TookTurns}
 use Rattle.nob_model_history.proofs.Sending.{new_items, next_item, sent_more}
 use Rattle.nob_model_history.proofs.Turning.{same_ref}
-use Rattle.nob_model.specs.Sending.{refs_refused, is_faulty, value_refused}
+use Rattle.nob_model_acting.specs.Sending.{refs_refused, is_faulty, value_refused}
 use Rattle.nob_model.specs.Right.{right_after}
 use Rattle.nob_model.specs.Lists.{AreRightDeeds}
 use Rattle.nob_model.proofs.Doing.{was_answered}

@@ -12,7 +12,7 @@ use Rattle.nob_model_words.specs.declared.turns.OwnerAnswer.TheVariants as said
 use Rattle.nob_model_words.specs.declared.turns.Turns.{Turns}
 use Rattle.nob_model_words.specs.Turns.{turns, is_granted, is_yes}
 use Rattle.nob_model_journal.specs.Journals.{deeds_at, sent_to, acted_from}
-use Rattle.nob_model_journal.specs.Fronts.{numbered, ActsInOrder}
+use Rattle.nob_model_journal.specs.Fronts.{with_numbers, ActsInOrder}
 use Rattle.nob_model_safety.specs.Asking.{ask_in, answer_in, asks_among, answers_among, items_among, dirties_in, last_or, last_word, turns_by, asked, heard, was_asked, gave}
 use Rattle.nob_model_safety.specs.Laws.{ListingsLaw}
 use Rattle.nob_model_safety.proofs.Order.{in_order}
@@ -20,7 +20,7 @@ use Rattle.nob_model_safety.proofs.Points.{clients, owners}
 
 -- ---- what is acted on is a beginning of what is sent
 
-items_numbered : (k : ℕ) (items : List Item) → items_among (numbered k items) ≡ items
+items_numbered : (k : ℕ) (items : List Item) → items_among (with_numbers k items) ≡ items
 items_numbered k [] = refl
 items_numbered k (item ∷ items) = ap (λ more. item ∷ more) (items_numbered (k + 1) items)
 

@@ -33,7 +33,7 @@ use Rattle.nob_model_history.specs.Histories.{history_of}
 use Rattle.nob_model_history.specs.Holds.{target_lent, gains, is_held}
 use Rattle.nob_model_history.specs.Transit.{sent, asks_for, once_last, by_last_dirty, is_idle}
 use Rattle.nob_model_history.proofs.Sending.{new_items, next_item, sent_more}
-use Rattle.nob_model.specs.Sending.{refs_refused, is_faulty, value_refused}
+use Rattle.nob_model_acting.specs.Sending.{refs_refused, is_faulty, value_refused}
 use Rattle.nob_model.specs.Right.{right_after}
 use Rattle.nob_model.specs.Lists.{IsRightDeed, AreRightDeeds}
 use Rattle.nob_model.proofs.Doing.{was_answered}

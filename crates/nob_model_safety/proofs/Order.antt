@@ -38,7 +38,7 @@ use Rattle.nob_model.proofs.Calling.{calls_law}
 use Rattle.nob_model.proofs.Carrying.{all_filter}
 use Rattle.nob_model_journal.specs.Journals.{deeds_at, history_at, sent_to, acted_from}
 use Rattle.nob_model_journal.specs.Runs.{WorldRun}
-use Rattle.nob_model_journal.specs.Fronts.{numbered, ActsInOrder}
+use Rattle.nob_model_journal.specs.Fronts.{with_numbers, ActsInOrder}
 use Rattle.nob_model_safety.specs.Typed.{AreOfTypes}
 use Rattle.nob_model_safety.specs.Invariant.{Sessions}
 use Rattle.nob_model_safety.proofs.Lists.{all_map, all_at, some_same, place_in_whole, place_before, begins_longer, begins_further, numbered-append, numbered_at}
@@ -184,24 +184,24 @@ sent_grows n a b entry J =
       )
     ]
 
-sent_longer : (n a b : ℕ) (entry : Entry) (J : List Entry) (pairs : List (ℕ × Option Item)) → IsBeginning pairs (numbered 1 (sent_to n a b J)) → IsBeginning pairs (numbered 1 (sent_to n a b (entry ∷ J)))
+sent_longer : (n a b : ℕ) (entry : Entry) (J : List Entry) (pairs : List (ℕ × Option Item)) → IsBeginning pairs (with_numbers 1 (sent_to n a b J)) → IsBeginning pairs (with_numbers 1 (sent_to n a b (entry ∷ J)))
 sent_longer n a b entry J pairs begins =
     let more = sent_grows n a b entry J in
-    subst (λ items. IsBeginning pairs (numbered 1 items)) (sym more.1)
-    (subst (IsBeginning pairs) (sym (numbered-append 1 (sent_to n a b J) more.0)) (begins_longer pairs (numbered 1 (sent_to n a b J)) _ begins))
+    subst (λ items. IsBeginning pairs (with_numbers 1 items)) (sym more.1)
+    (subst (IsBeginning pairs) (sym (numbered-append 1 (sent_to n a b J) more.0)) (begins_longer pairs (with_numbers 1 (sent_to n a b J)) _ begins))
 
-next_acted : (n a b k : ℕ) (J : List Entry) → IsNextOf n a b k J → ActsInOrder n a b J → IsBeginning (acted_from a b J ++ (k, item_at a k (deeds_at b J)) ∷ []) (numbered 1 (sent_to n a b J))
+next_acted : (n a b k : ℕ) (J : List Entry) → IsNextOf n a b k J → ActsInOrder n a b J → IsBeginning (acted_from a b J ++ (k, item_at a k (deeds_at b J)) ∷ []) (with_numbers 1 (sent_to n a b J))
 next_acted n a b k J next begins =
     let t : ℕ = length (acted_from a b J) in
     let same : (1 + t, Some next.item) ≡ (k, item_at a k (deeds_at b J)) = ap (λ (m : ℕ). (m, Some next.item)) (let number = next.next in omega (arith, number)) ∙ ap (λ item. (k, item)) (sym next.found) in
-    subst (λ pair. IsBeginning (acted_from a b J ++ pair ∷ []) (numbered 1 (sent_to n a b J))) same
-    (begins_further (acted_from a b J) (numbered 1 (sent_to n a b J)) (1 + t, Some next.item) begins (numbered_at 1 (sent_to n a b J) t next.item next.was_sent))
+    subst (λ pair. IsBeginning (acted_from a b J ++ pair ∷ []) (with_numbers 1 (sent_to n a b J))) same
+    (begins_further (acted_from a b J) (with_numbers 1 (sent_to n a b J)) (1 + t, Some next.item) begins (numbered_at 1 (sent_to n a b J) t next.item next.was_sent))
 
-act_step : (n a b q k : ℕ) (J : List Entry) (own : Bool) → (own ≡ true → IsNextOf n a b k J) → ActsInOrder n a b J → IsBeginning (cond own (acted_from a b J ++ (k, item_at a k (deeds_at b J)) ∷ []) (acted_from a b J)) (numbered 1 (sent_to n a b J))
+act_step : (n a b q k : ℕ) (J : List Entry) (own : Bool) → (own ≡ true → IsNextOf n a b k J) → ActsInOrder n a b J → IsBeginning (cond own (acted_from a b J ++ (k, item_at a k (deeds_at b J)) ∷ []) (acted_from a b J)) (with_numbers 1 (sent_to n a b J))
 act_step n a b q k J true next begins = next_acted n a b k J (next refl) begins
 act_step n a b q k J false next begins = begins
 
-deed_step : (n a b : ℕ) (limits : ℕ → Limits) (deed : Deed) (J : List Entry) → WorldRun n limits J → AllFit a n (deeds_at a J) → IsRightDeed b n (limits b) deed (deeds_at b J) → ActsInOrder n a b J → IsBeginning (acted a (deed ∷ deeds_at b J)) (numbered 1 (sent_to n a b J))
+deed_step : (n a b : ℕ) (limits : ℕ → Limits) (deed : Deed) (J : List Entry) → WorldRun n limits J → AllFit a n (deeds_at a J) → IsRightDeed b n (limits b) deed (deeds_at b J) → ActsInOrder n a b J → IsBeginning (acted a (deed ∷ deeds_at b J)) (with_numbers 1 (sent_to n a b J))
 deed_step n a b limits (did.Act q k) J run all right begins =
     act_step n a b q k J (q == a) (λ own. acts_on_next a b n k limits J run all (subst (λ (p : ℕ). IsRightDeed b n (limits b) (did.Act p k) (deeds_at b J)) (eqb-true q a own) right)) begins
 deed_step n a b limits deed J run all right begins = begins
@@ -213,10 +213,10 @@ in_order n limits (entry ∷ J) run typed a b =
     let before : ActsInOrder n a b J = in_order n limits J run.1 typed.1 a b in
     sent_longer n a b entry J (acted a (deeds_at b (entry ∷ J)))
     elim (grows b entry J) [
-      | inl same ↦ subst (λ D. IsBeginning (acted a D) (numbered 1 (sent_to n a b J))) (sym same) before
+      | inl same ↦ subst (λ D. IsBeginning (acted a D) (with_numbers 1 (sent_to n a b J))) (sym same) before
       | inr more ↦
           let right : AreRightDeeds b n (limits b) (more.0 ∷ deeds_at b J) = subst (AreRightDeeds b n (limits b)) more.3 (right_deeds_at n limits (entry ∷ J) run b) in
-          subst (λ D. IsBeginning (acted a D) (numbered 1 (sent_to n a b J))) (sym more.3) (deed_step n a b limits more.0 J run.1 (all_fit n limits J run.1 typed.1 a) right.0 before)
+          subst (λ D. IsBeginning (acted a D) (with_numbers 1 (sent_to n a b J))) (sym more.3) (deed_step n a b limits more.0 J run.1 (all_fit n limits J run.1 typed.1 a) right.0 before)
     ]
 
 -- ---- the sessions of a run

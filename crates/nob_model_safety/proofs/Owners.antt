@@ -30,7 +30,7 @@ use Rattle.nob_model_history.specs.Ends.{items_to}
 use Rattle.nob_model_history.specs.Transit.{sent}
 use Rattle.nob_model_history.specs.Listing.{is_entered, is_entered_after}
 use Rattle.nob_model_history.proofs.Numbered.{items_sent_to, gifts_sent_to}
-use Rattle.nob_model.specs.Acting.{fault_of, is_unknown}
+use Rattle.nob_model_acting.specs.Acting.{fault_of, is_unknown}
 use Rattle.nob_model.specs.Right.{right_after}
 use Rattle.nob_model.specs.Lists.{AreRightDeeds}
 use Rattle.nob_model.proofs.Doing.{was_answered}

@@ -33,7 +33,7 @@ use Rattle.nob_model.specs.Laws.{AreRightCalls}
 use Rattle.nob_model.proofs.Doing.{was_answered}
 use Rattle.nob_model.proofs.Accepted.{arrive_tells, arrive_end_tells}
 use Rattle.nob_model.proofs.Calling.{calls_law}
-use Rattle.nob_model_journal.specs.Journals.{deeds_at, history_at, given}
+use Rattle.nob_model_journal.specs.Journals.{deeds_at, history_at, transmitted_frames}
 use Rattle.nob_model_journal.specs.Runs.{WorldRun}
 use Rattle.nob_model_safety.proofs.Entries.{grows, right_deeds_at, ComesFrom, comes}
 use Rattle.nob_model_safety.proofs.Frames.{given_there}
@@ -74,12 +74,12 @@ turned_run a b at_a at_b [] is = tt
 turned_run a b at_a at_b (First call ∷ run) is = (
   turned_run a b at_a at_b run is.0,
   subst (λ calls. end.IsRight a b at_a call calls) (sym (turned_second run)) is.1,
-  subst (λ calls. ArrivesFrom (pair.given calls) call) (sym (turned_first run)) is.2,
+  subst (λ calls. ArrivesFrom (pair.transmitted_frames calls) call) (sym (turned_first run)) is.2,
 )
 turned_run a b at_a at_b (Second call ∷ run) is = (
   turned_run a b at_a at_b run is.0,
   subst (λ calls. end.IsRight b a at_b call calls) (sym (turned_first run)) is.1,
-  subst (λ calls. ArrivesFrom (pair.given calls) call) (sym (turned_second run)) is.2,
+  subst (λ calls. ArrivesFrom (pair.transmitted_frames calls) call) (sym (turned_second run)) is.2,
 )
 
 turn : (a b : ℕ) (at_a at_b : Limits) (first second : List EndEntry) → Paired a b at_a at_b first second → Paired b a at_b at_a second first
@@ -92,13 +92,13 @@ turn a b at_a at_b first second paired = record {
 
 -- ---- one call more at the first end
 
-call_more : (a b : ℕ) (at_a at_b : Limits) (call : EndEntry) (first second : List EndEntry) → end.IsRight a b at_a call first → ArrivesFrom (pair.given second) call → Paired a b at_a at_b first second → Paired a b at_a at_b (call ∷ first) second
+call_more : (a b : ℕ) (at_a at_b : Limits) (call : EndEntry) (first second : List EndEntry) → end.IsRight a b at_a call first → ArrivesFrom (pair.transmitted_frames second) call → Paired a b at_a at_b first second → Paired a b at_a at_b (call ∷ first) second
 call_more a b at_a at_b call first second right from paired = record {
   run = First call ∷ paired.run;
   is_run = (
     paired.is_run,
     subst (λ calls. end.IsRight a b at_a call calls) (sym paired.firsts) right,
-    subst (λ calls. ArrivesFrom (pair.given calls) call) (sym paired.seconds) from,
+    subst (λ calls. ArrivesFrom (pair.transmitted_frames calls) call) (sym paired.seconds) from,
   );
   firsts = ap (λ calls. call ∷ calls) paired.firsts;
   seconds = paired.seconds;
@@ -120,7 +120,7 @@ Comes b frames (did.Arrive frame count) = (frame.from == b) ≡ true → Contain
 Comes b frames (did.Closing p reason (causes.Frame frame)) = (p == b) ≡ true → Contains frames frame
 Comes b frames (_) = ⊤
 
-if_more : (a b : ℕ) (at_a at_b : Limits) (own : Bool) (call : EndEntry) (first second : List EndEntry) → AreRightCalls a b at_a (cond own (call ∷ first) first) → (own ≡ true → ArrivesFrom (pair.given second) call) → Paired a b at_a at_b first second → Paired a b at_a at_b (cond own (call ∷ first) first) second
+if_more : (a b : ℕ) (at_a at_b : Limits) (own : Bool) (call : EndEntry) (first second : List EndEntry) → AreRightCalls a b at_a (cond own (call ∷ first) first) → (own ≡ true → ArrivesFrom (pair.transmitted_frames second) call) → Paired a b at_a at_b first second → Paired a b at_a at_b (cond own (call ∷ first) first) second
 if_more a b at_a at_b true call first second right from paired = call_more a b at_a at_b call first second right.0 (from refl) paired
 if_more a b at_a at_b false call first second right from paired = paired
 
@@ -130,12 +130,12 @@ closing_from b p reason (causes.Frame frame) frames from own = from own
 closing_from b p reason causes.Ticks frames from own = tt
 closing_from b p reason causes.Asked frames from own = tt
 
-own_more : (a b : ℕ) (at_a at_b : Limits) (deed : Deed) (first second : List EndEntry) → AreRightCalls a b at_a (own_calls b deed first) → Comes b (pair.given second) deed → Paired a b at_a at_b first second → Paired a b at_a at_b (own_calls b deed first) second
+own_more : (a b : ℕ) (at_a at_b : Limits) (deed : Deed) (first second : List EndEntry) → AreRightCalls a b at_a (own_calls b deed first) → Comes b (pair.transmitted_frames second) deed → Paired a b at_a at_b first second → Paired a b at_a at_b (own_calls b deed first) second
 own_more a b at_a at_b (did.Act q k) first second right from paired = if_more a b at_a at_b (q == b) ends.Take first second right (λ own. tt) paired
 own_more a b at_a at_b (did.Transmit q frames) first second right from paired = if_more a b at_a at_b (q == b) (ends.Transmit frames) first second right (λ own. tt) paired
 own_more a b at_a at_b (did.Arrive frame count) first second right from paired = if_more a b at_a at_b (frame.from == b) (ends.Arrive frame (Ok (arrived.Took count))) first second right from paired
 own_more a b at_a at_b (did.Tick q) first second right from paired = if_more a b at_a at_b (q == b) (ends.Tick (Ok None)) first second right (λ own. tt) paired
-own_more a b at_a at_b (did.Closing q reason cause) first second right from paired = if_more a b at_a at_b (q == b) (call_of_closing b reason cause) first second right (closing_from b q reason cause (pair.given second) from) paired
+own_more a b at_a at_b (did.Closing q reason cause) first second right from paired = if_more a b at_a at_b (q == b) (call_of_closing b reason cause) first second right (closing_from b q reason cause (pair.transmitted_frames second) from) paired
 own_more a b at_a at_b deed first second right from paired = paired
 
 if_before : (a b : ℕ) (at_a : Limits) (own : Bool) (call : EndEntry) (calls : List EndEntry) → AreRightCalls a b at_a (cond own (call ∷ calls) calls) → AreRightCalls a b at_a calls
@@ -151,7 +151,7 @@ own_before a b at_a (did.Closing q reason cause) calls right = if_before a b at_
 own_before a b at_a deed calls right = right
 
 -- by one right deed more at a, whose frame from b was given there, the calls on both ends are still those of a run
-pub deed_more : (a b n : ℕ) (at_a at_b : Limits) (deed : Deed) (D : List Deed) (second : List EndEntry) → AreRightDeeds a n at_a (deed ∷ D) → Comes b (pair.given second) deed → Paired a b at_a at_b (calls_at b (history_of a n D)) second → Paired a b at_a at_b (calls_at b (history_of a n (deed ∷ D))) second
+pub deed_more : (a b n : ℕ) (at_a at_b : Limits) (deed : Deed) (D : List Deed) (second : List EndEntry) → AreRightDeeds a n at_a (deed ∷ D) → Comes b (pair.transmitted_frames second) deed → Paired a b at_a at_b (calls_at b (history_of a n D)) second → Paired a b at_a at_b (calls_at b (history_of a n (deed ∷ D))) second
 deed_more a b n at_a at_b deed D second right from paired =
     let are = calls_law a n at_a (deed ∷ D) right b in
     own_more a b at_a at_b deed (calls_sent a n b deed D) second are from
@@ -160,17 +160,17 @@ deed_more a b n at_a at_b deed D second right from paired =
 -- ---- in a run of a world
 
 -- a frame from b that came in at a by a right deed was given on the end of b
-comes_from : (a b n : ℕ) (limits : ℕ → Limits) (deed : Deed) (J : List Entry) → WorldRun n limits J → IsRightDeed a n (limits a) deed (deeds_at a J) → ComesFrom (given J) deed → Comes b (pair.given (calls_at a (history_at b n J))) deed
+comes_from : (a b n : ℕ) (limits : ℕ → Limits) (deed : Deed) (J : List Entry) → WorldRun n limits J → IsRightDeed a n (limits a) deed (deeds_at a J) → ComesFrom (transmitted_frames J) deed → Comes b (pair.transmitted_frames (calls_at a (history_at b n J))) deed
 unfolding right_after
 comes_from a b n limits (did.Arrive frame count) J run right from = λ own.
     let told = arrive_tells a n count frame (history_at a n J) (was_answered a n (limits a) (did.Arrive frame count) (deeds_at a J) right) in
-    subst (λ (q : ℕ). Contains (pair.given (calls_at a (history_at q n J))) frame) (eqb-true frame.from b own)
-    (subst (λ (q : ℕ). Contains (pair.given (calls_at q (history_at frame.from n J))) frame) (eqb-true frame.to a told.0) (given_there n limits J frame run from))
+    subst (λ (q : ℕ). Contains (pair.transmitted_frames (calls_at a (history_at q n J))) frame) (eqb-true frame.from b own)
+    (subst (λ (q : ℕ). Contains (pair.transmitted_frames (calls_at q (history_at frame.from n J))) frame) (eqb-true frame.to a told.0) (given_there n limits J frame run from))
 comes_from a b n limits (did.Closing p reason (causes.Frame frame)) J run right from = λ own.
     let answered = was_answered a n (limits a) (did.Closing p reason (causes.Frame frame)) (deeds_at a J) right in
     let told = arrive_end_tells a n reason frame (history_at a n J) answered.1 in
-    subst (λ (q : ℕ). Contains (pair.given (calls_at a (history_at q n J))) frame) (answered.0 ∙ eqb-true p b own)
-    (subst (λ (q : ℕ). Contains (pair.given (calls_at q (history_at frame.from n J))) frame) (eqb-true frame.to a told.0) (given_there n limits J frame run from))
+    subst (λ (q : ℕ). Contains (pair.transmitted_frames (calls_at a (history_at q n J))) frame) (answered.0 ∙ eqb-true p b own)
+    (subst (λ (q : ℕ). Contains (pair.transmitted_frames (calls_at q (history_at frame.from n J))) frame) (eqb-true frame.to a told.0) (given_there n limits J frame run from))
 comes_from a b n limits deed J run right from = tt
 
 -- the calls on the ends of a with b and of b with a

@@ -15,7 +15,7 @@ use Rattle.nob_item.specs.declared.item.Item.TheVariants as items
 use Rattle.nob_model_types.specs.declared.entry.Entry.{Entry}
 use Rattle.nob_model_words.specs.Objects.{is_exported}
 use Rattle.nob_model_words.specs.Turns.{is_pending}
-use Rattle.nob_model.specs.Acting.{fault_if, fault_of, is_unknown, awaits_answer}
+use Rattle.nob_model_acting.specs.Acting.{fault_if, fault_of, is_unknown, awaits_answer}
 use Rattle.nob_model.proofs.Orderly.{exported}
 use Rattle.nob_model_journal.specs.Journals.{deeds_at, history_at, sent_to, acted_from}
 use Rattle.nob_model_journal.specs.Runs.{WorldRun}

@@ -19,7 +19,7 @@ use Rattle.nob_item.specs.declared.item.Item.TheVariants as items
 use Rattle.nob_model_types.specs.declared.refusal.Refusal.{Refusal}
 use Rattle.nob_model_types.specs.declared.refusal.Refusal.TheVariants as refusals
 use Rattle.nob_model_history.specs.declared.history.History.{History}
-use Rattle.nob_model.specs.Sending.{◌or_else◌, refuse_if, is_own_and_not_live, ref_refused, is_faulty, refs_refused, value_refused}
+use Rattle.nob_model_acting.specs.Sending.{◌or_else◌, refuse_if, is_own_and_not_live, ref_refused, is_faulty, refs_refused, value_refused}
 use Rattle.nob_model_history.specs.Holds.{is_held}
 use Rattle.std.proofs.lemmas.Bool.{not-false}
 use Rattle.nob_model.proofs.Carrying.{all_filter}

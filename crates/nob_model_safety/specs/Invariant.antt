@@ -27,7 +27,7 @@ use Rattle.nob_model.specs.Right.{own_ref}
 use Rattle.nob_model_safety.specs.Settles.{settles_among, is_in, AreOnce, IsCarrying}
 use Rattle.nob_model_safety.specs.Naming.{NamesExported}
 use Rattle.nob_model_safety.specs.Asking.{asked, heard, was_asked, gave, turns_by, has_no, last_or, last_word, AskedInTurn, AnsweredInTurn}
-use Rattle.nob_model_journal.specs.Journals.{deeds_at, closed_at, history_at, sent_to, acted_from, given}
+use Rattle.nob_model_journal.specs.Journals.{deeds_at, closed_at, history_at, sent_to, acted_from, transmitted_frames}
 use Rattle.nob_model_journal.specs.Fronts.{ActsInOrder}
 
 -- a frame as an end gave it: it acknowledges no more than what the end accepted, and a Data frame carries the payload of its number, which was transmitted
@@ -43,7 +43,7 @@ pub record Sessions (n : ℕ) (J : List Entry) : Type 0 where
   pub reached : (a b : ℕ) → a ≢ b → Reaches (calls_at b (history_at a n J)) (calls_at a (history_at b n J))
   pub accepted_in_order : (a b : ℕ) → a ≢ b → IsBeginning (accepted (calls_at a (history_at b n J))) (map payload_of (sent_to n a b J))
   pub acted_in_order : (a b : ℕ) → ActsInOrder n a b J
-  pub frames_carry : (frame : Frame) → Contains (given J) frame → IsCarried (calls_at frame.to (history_at frame.from n J)) frame
+  pub frames_carry : (frame : Frame) → Contains (transmitted_frames J) frame → IsCarried (calls_at frame.to (history_at frame.from n J)) frame
 
 -- every client took turns with every owner: its turns for a reference are what it asked and what it heard
 pub record Clients (n : ℕ) (J : List Entry) : Type 0 where

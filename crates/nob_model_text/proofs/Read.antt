@@ -8,7 +8,7 @@ use Rattle.nob_ids.specs.Names.{IsSpace}
 use Rattle.nob_ids.specs.declared.wire_rep.WireRep.{WireRep}
 use Rattle.std.proofs.Common.{◌^◌, Result, Ok, Err, ◌≡◌, ℕ, ◌+◌, ◌≤◌, List, [], ◌∷◌, ◌++◌, length, refl, sym, ap, ◌∙◌, append_assoc, arith, subst}
 use Rattle.nob_pickle.specs.Trees.{Tree, unit, int, bytes, list, ref, Trees, none, more}
-use Rattle.nob_pickle.specs.Marks.{joined, joined-none}
+use Rattle.nob_pickle.specs.Marks.{append_trees, joined-none}
 use Rattle.nob_pickle.specs.Shape.{tree, forest}
 use Rattle.nob_pickle.specs.declared.value.Value.{Value}
 use Rattle.nob_pickle.proofs.Forests.{forest-append, joined_assoc}
@@ -32,19 +32,19 @@ apart a b xs ys e differ = differ (head_is a b xs ys e)
 
 -- whatever the rest spells, the text spells what was read and that
 abbrev pub FoundSoFar : List ℕ → Trees → List ℕ → Type 0
-FoundSoFar text front left = (ts : Trees) (end : List ℕ) → left ≡ behind_text ts ++ end → text ≡ inside_text (joined front ts) ++ end
+FoundSoFar text front left = (ts : Trees) (end : List ℕ) → left ≡ behind_text ts ++ end → text ≡ inside_text (append_trees front ts) ++ end
 
 -- whatever the text spells, that is what was read and something that the rest spells
 abbrev pub OnlySoFar : ℕ → List ℕ → Trees → List ℕ → Type 0
 OnlySoFar lists text front left =
     (t : Tree) (ts : Trees) (end : List ℕ) → AreTyped (more t ts) → most_nested (more t ts) ≤ lists → text ≡ inside_text (more t ts) ++ end
-    → (us : Trees) × (more t ts ≡ joined front us) × AreTyped us × (most_nested us ≤ lists) × (left ≡ behind_text us ++ end)
+    → (us : Trees) × (more t ts ≡ append_trees front us) × AreTyped us × (most_nested us ≤ lists) × (left ≡ behind_text us ++ end)
 
 pub stops_behind : (ts : Trees) (end : List ℕ) → Stops (behind_text ts ++ end)
 stops_behind none end = refl
 stops_behind (more t ts) end = refl
 
-joined_more : (front : Trees) (t : Tree) (ts : Trees) → joined (joined front (more t none)) ts ≡ joined front (more t ts)
+joined_more : (front : Trees) (t : Tree) (ts : Trees) → append_trees (append_trees front (more t none)) ts ≡ append_trees front (more t ts)
 joined_more front t ts = joined_assoc front (more t none) ts
 
 pub found_first : (text left : List ℕ) (v : Value) → text ≡ tree_text (tree v) ++ left → FoundSoFar text (forest ([] ++ v ∷ [])) left
@@ -56,7 +56,7 @@ found_next text left next after vs v comma found so_far ts end is =
     let whole : next ≡ (tree_text (tree v) ++ behind_text ts) ++ end =
     found ∙ ap (λ (bs : List ℕ). tree_text (tree v) ++ bs) is ∙ sym (append_assoc (tree_text (tree v)) (behind_text ts) end) in
     so_far (more (tree v) ts) end (comma ∙ ap (λ (bs : List ℕ). 44 ∷ bs) whole)
-    ∙ ap (λ (us : Trees). inside_text us ++ end) (sym (ap (λ (us : Trees). joined us ts) (forest-append vs (v ∷ [])) ∙ joined_more (forest vs) (tree v) ts))
+    ∙ ap (λ (us : Trees). inside_text us ++ end) (sym (ap (λ (us : Trees). append_trees us ts) (forest-append vs (v ∷ [])) ∙ joined_more (forest vs) (tree v) ts))
 
 -- how a value is read
 abbrev pub IsRead : ℕ → List ℕ → Value → List ℕ → Type 0
@@ -68,11 +68,11 @@ only_first lists text left v read t ts end typed deep spelt =
     (ts, ap (λ (u : Tree). more u ts) (sym r.0), typed.1, omega (arith, deep), r.1)
 
 abbrev Left : ℕ → Trees → Trees → List ℕ → List ℕ → Type 0
-Left lists all front left end = (us : Trees) × (all ≡ joined front us) × AreTyped us × (most_nested us ≤ lists) × (left ≡ behind_text us ++ end)
+Left lists all front left end = (us : Trees) × (all ≡ append_trees front us) × AreTyped us × (most_nested us ≤ lists) × (left ≡ behind_text us ++ end)
 
 -- the first of those that are left, which is behind a comma
 next_of : (lists : ℕ) (all front : Trees) (left next end : List ℕ) → left ≡ 44 ∷ next → Left lists all front left end
-    → (u : Tree) × (us : Trees) × (all ≡ joined front (more u us)) × AreTyped (more u us) × (most_nested (more u us) ≤ lists) × (next ≡ tree_text u ++ (behind_text us ++ end))
+    → (u : Tree) × (us : Trees) × (all ≡ append_trees front (more u us)) × AreTyped (more u us) × (most_nested (more u us) ≤ lists) × (next ≡ tree_text u ++ (behind_text us ++ end))
 next_of lists all front left next end comma (none, same, typed, deep, is) = absurd (apart 44 93 next end (sym comma ∙ is) (λ e. omega (arith, e)))
 next_of lists all front left next end comma (more u us, same, typed, deep, is) =
     (u, us, same, typed, deep, tail_is 44 44 next _ (sym comma ∙ is) ∙ append_assoc (tree_text u) (behind_text us) end)
@@ -81,8 +81,8 @@ pub only_next : (lists : ℕ) (text left next after : List ℕ) (vs : List Value
 only_next lists text left next after vs v comma read so_far t ts end typed deep spelt =
     let n = next_of lists (more t ts) (forest vs) left next end comma (so_far t ts end typed deep spelt) in
     let r = read n.0 (behind_text n.1 ++ end) n.3.0 (omega (arith, n.4)) (stops_behind n.1 end) n.5 in
-    let same : joined (forest (vs ++ v ∷ [])) n.1 ≡ joined (forest vs) (more n.0 n.1) =
-    ap (λ (us : Trees). joined us n.1) (forest-append vs (v ∷ [])) ∙ joined_more (forest vs) (tree v) n.1 ∙ ap (λ (u : Tree). joined (forest vs) (more u n.1)) r.0 in
+    let same : append_trees (forest (vs ++ v ∷ [])) n.1 ≡ append_trees (forest vs) (more n.0 n.1) =
+    ap (λ (us : Trees). append_trees us n.1) (forest-append vs (v ∷ [])) ∙ joined_more (forest vs) (tree v) n.1 ∙ ap (λ (u : Tree). append_trees (forest vs) (more u n.1)) r.0 in
     (n.1, n.2 ∙ sym same, n.3.1, omega (arith, n.4), r.1)
 
 -- ---- where nothing is read

@@ -1,7 +1,7 @@
 -- Elements read so far, and those that are left.
 use Rattle.std.proofs.Common.{◌≡◌, ℕ, zero, suc, ◌+◌, ◌-◌, ◌<◌, ◌≤◌, List, [], ◌∷◌, ◌++◌, Ok, Err, refl, sym, ap, ◌∙◌, arith}
 use Rattle.nob_pickle.specs.Trees.{Tree, Trees, none, more}
-use Rattle.nob_pickle.specs.Marks.{joined, joined-none}
+use Rattle.nob_pickle.specs.Marks.{append_trees, joined-none}
 use Rattle.nob_pickle.specs.Shape.{tree, forest}
 use Rattle.nob_pickle.specs.Writing.{◌>>=◌, Fails}
 use Rattle.nob_pickle.specs.Reading.{Front, trees_at, tree_by, tree_at}
@@ -25,11 +25,11 @@ tree_at_some (suc levels) left bs e =
 
 -- trees in front of those that were read
 abbrev pub with_front : Trees → Front Trees → Front Trees
-with_front front (Ok x) = Ok (joined front x.0, x.1, x.2)
+with_front front (Ok x) = Ok (append_trees front x.0, x.1, x.2)
 with_front front (Err e) = Err e
 
 -- one more tree that was read stands in front of the rest
-regroup : (front : Trees) (v : Value) (rest : Front Trees) → with_front front (rest >>= λ others. Ok (more (tree v) others.0, others.1, others.2)) ≡ with_front (joined front (more (tree v) none)) rest
+regroup : (front : Trees) (v : Value) (rest : Front Trees) → with_front front (rest >>= λ others. Ok (more (tree v) others.0, others.1, others.2)) ≡ with_front (append_trees front (more (tree v) none)) rest
 regroup front v (Ok x) = ap (λ (ts : Trees). Ok (ts, x.1, x.2)) (sym (joined_assoc front (more (tree v) none) x.0))
 regroup front v (Err e) = refl
 

@@ -3,7 +3,7 @@ use Rattle.std.proofs.Common.{◌≡◌, ℕ, suc, ◌+◌, ◌<◌, List, [], �
 use Rattle.std.proofs.lemmas.List.{take_more, append-nil}
 use Rattle.byteorder.specs.Endian.{big_bytes}
 use Rattle.nob_pickle.specs.Trees.{Tree, Trees, none, more, list}
-use Rattle.nob_pickle.specs.Marks.{joined}
+use Rattle.nob_pickle.specs.Marks.{append_trees}
 use Rattle.nob_pickle.specs.Shape.{tree, forest}
 use Rattle.nob_pickle.specs.Spelling.{spelled, spelled_all}
 use Rattle.nob_pickle.specs.Limits.{IsTyped, AreTyped}
@@ -19,9 +19,9 @@ first_ahead vs i v lt same =
     rw (add-one i) (step ∙ ap (λ (w : Value). w ∷ drop (suc i) vs) (sym same))
 
 -- the values so far end with this one
-last_so_far : (vs : List Value) (i : ℕ) (v : Value) → i < length vs → v ≡ get_or vs i v → forest (take (i + 1) vs) ≡ joined (forest (take i vs)) (more (tree v) none)
+last_so_far : (vs : List Value) (i : ℕ) (v : Value) → i < length vs → v ≡ get_or vs i v → forest (take (i + 1) vs) ≡ append_trees (forest (take i vs)) (more (tree v) none)
 last_so_far vs i v lt same =
-    ap forest (take_more vs i v lt) ∙ forest-append (take i vs) (get_or vs i v ∷ []) ∙ ap (λ (w : Value). joined (forest (take i vs)) (more (tree w) none)) (sym same)
+    ap forest (take_more vs i v lt) ∙ forest-append (take i vs) (get_or vs i v ∷ []) ∙ ap (λ (w : Value). append_trees (forest (take i vs)) (more (tree w) none)) (sym same)
 
 pub left_goes_on : (vs : List Value) (i : ℕ) (v : Value) (levels left left' : ℕ) (total : Result ℕ PickleFault) → i < length vs → v ≡ get_or vs i v → references_left (tree v) levels left ≡ Ok left'
     → left_after_all (forest (drop i vs)) levels left ≡ total → left_after_all (forest (drop (i + 1) vs)) levels left' ≡ total
@@ -39,7 +39,7 @@ written_goes_on vs i v old now next lt same so_far one =
     ap spelled_all (last_so_far vs i v lt same) ∙ spelled_all-joined (forest (take i vs)) (more (tree v) none) ∙ ap (λ (bs : List ℕ). spelled_all (forest (take i vs)) ++ bs) (append-nil (spelled (tree v))) in
     one ∙ ap (λ (bs : List ℕ). bs ++ spelled (tree v)) so_far ∙ append_assoc old (spelled_all (forest (take i vs))) (spelled (tree v)) ∙ ap (λ (bs : List ℕ). old ++ bs) (sym end)
 
-typed-joined : (ts : Trees) (t : Tree) → AreTyped ts → IsTyped t → AreTyped (joined ts (more t none))
+typed-joined : (ts : Trees) (t : Tree) → AreTyped ts → IsTyped t → AreTyped (append_trees ts (more t none))
 typed-joined none t all one = (one, tt)
 typed-joined (more u us) t all one = (all.0, typed-joined us t all.1 one)
 

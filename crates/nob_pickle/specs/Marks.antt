@@ -89,11 +89,11 @@ read_back (opens ∷ ms) = shut (read_back ms).0 (read_back ms).1
 read_back (closes ∷ ms) = (none, (read_back ms).0 ∷ (read_back ms).1)
 
 -- trees, and then these
-abbrev pub joined : Trees → Trees → Trees
-joined none us = us
-joined (more t ts) us = more t (joined ts us)
+abbrev pub append_trees : Trees → Trees → Trees
+append_trees none us = us
+append_trees (more t ts) us = more t (append_trees ts us)
 
-pub joined-none : (ts : Trees) → joined ts none ≡ ts
+pub joined-none : (ts : Trees) → append_trees ts none ≡ ts
 joined-none none = refl
 joined-none (more t ts) = ap (more t) (joined-none ts)
 
@@ -107,7 +107,7 @@ mutual
       let inner = read_back-all_marks ts (closes ∷ after) in
       ap (λ (o : Open). shut o.0 o.1) inner ∙ ap (λ (us : Trees). onto (list us) (read_back after)) (joined-none ts)
 
-  read_back-all_marks : (ts : Trees) (after : List Mark) → read_back (all_marks ts after) ≡ (joined ts (read_back after).0, (read_back after).1)
+  read_back-all_marks : (ts : Trees) (after : List Mark) → read_back (all_marks ts after) ≡ (append_trees ts (read_back after).0, (read_back after).1)
   read_back-all_marks none after = refl
   read_back-all_marks (more t ts) after =
       read_back-marks t (all_marks ts after) ∙ ap (λ (o : Open). onto t o) (read_back-all_marks ts after)

@@ -15,7 +15,7 @@ use Rattle.nob_model_types.specs.declared.entry.WorldStep.{WorldStep}
 use Rattle.nob_model_types.specs.declared.entry.WorldStep.TheVariants.{Do, Deliver}
 use Rattle.nob_model_words.specs.Deeds.{deed_in}
 use Rattle.nob_model.specs.Right.{right}
-use Rattle.nob_model_journal.specs.Journals.{at, given, frames_of}
+use Rattle.nob_model_journal.specs.Journals.{at, transmitted_frames, frames_of}
 use Rattle.nob_model_journal.specs.Runs.{IsMadeBy, IsOfWorld, WorldRun, frame_of}
 use Rattle.nob_model_text.specs.Events.{IsSpoken}
 use Rattle.nob_model_reading.specs.Scripts.{IsStep}
@@ -26,7 +26,7 @@ use Rattle.nob_script_text.specs.Worlds.{delivers, does, entry_in, makes_entry, 
 use Rattle.nob_world.specs.Worlds.{World, journal, AddsTo, entry_of, is_arrival, is_there, step_fault}
 use Rattle.nob_world.specs.declared.error.WorldError.{WorldError}
 use Rattle.nob_world.specs.declared.error.WorldError.TheVariants.{NoSpace, NoFrame, OutOfMemory}
-use Rattle.nob_script.specs.Plays.{seen, step_result_text}
+use Rattle.nob_script.specs.Plays.{script_world, step_result_text}
 
 -- an entry is that of its parts
 entry_is : (e : Entry) (space : ℕ) (event : Event) (result : Result Answer Refusal) → e.space ≡ space → e.event ≡ event → e.result ≡ result → e ≡ entry_of space event result
@@ -46,8 +46,8 @@ pub record Makes (w v : World) (e : Entry) : Type 0 where
   pub same_n : v.n ≡ w.n
   pub same_limits : v.limits ≡ w.limits
   pub run : WorldRun v.n (λ _. v.limits) (journal v)
-  pub before : w.frames ≡ given (journal w)
-  pub after : v.frames ≡ given (journal v)
+  pub before : w.frames ≡ transmitted_frames (journal w)
+  pub after : v.frames ≡ transmitted_frames (journal v)
 
 module _ (w v : World) (e : Entry) (makes : Makes w v e) where
   newest : journal v ≡ e ∷ journal w
@@ -60,19 +60,19 @@ module _ (w v : World) (e : Entry) (makes : Makes w v e) where
   is_right = of_world.is_right ∙ ap (λ (x : ℕ). right e.space x v.limits (at e.space (journal w)) e.event) makes.same_n ∙ ap (λ (x : Limits). right e.space w.n x (at e.space (journal w)) e.event) makes.same_limits
 
   -- the space's right answer, and the world with that entry
-  pub does_this : (space : ℕ) (event : Event) → e.space ≡ space → e.event ≡ event → (e.result ≡ scripts.right_in (seen w) space event) × (seen v ≡ with_entry (seen w) (entry_in (seen w) space event))
+  pub does_this : (space : ℕ) (event : Event) → e.space ≡ space → e.event ≡ event → (e.result ≡ scripts.right_in (script_world w) space event) × (script_world v ≡ with_entry (script_world w) (entry_in (script_world w) space event))
   does_this space event s ev =
-      let right_there : e.result ≡ scripts.right_in (seen w) space event = is_right ∙ ap (λ (x : ℕ). right x w.n w.limits (at x (journal w)) e.event) s ∙ ap (λ (x : Event). right space w.n w.limits (at space (journal w)) x) ev in
-      let entry : e ≡ entry_in (seen w) space event = entry_is e space event (scripts.right_in (seen w) space event) s ev right_there in
-      let frames : v.frames ≡ w.frames ++ frames_of (deed_in (entry_in (seen w) space event)) = makes.after ∙ ap given newest ∙ ap (λ (fs : List Frame). fs ++ frames_of (deed_in e)) (sym makes.before) ∙ ap (λ (x : Entry). w.frames ++ frames_of (deed_in x)) entry in
-      (right_there, same_world v.n w.n v.limits w.limits (journal v) (entry_in (seen w) space event ∷ journal w) v.frames (w.frames ++ frames_of (deed_in (entry_in (seen w) space event))) makes.same_n makes.same_limits (newest ∙ ap (λ (x : Entry). x ∷ journal w) entry) frames)
+      let right_there : e.result ≡ scripts.right_in (script_world w) space event = is_right ∙ ap (λ (x : ℕ). right x w.n w.limits (at x (journal w)) e.event) s ∙ ap (λ (x : Event). right space w.n w.limits (at space (journal w)) x) ev in
+      let entry : e ≡ entry_in (script_world w) space event = entry_is e space event (scripts.right_in (script_world w) space event) s ev right_there in
+      let frames : v.frames ≡ w.frames ++ frames_of (deed_in (entry_in (script_world w) space event)) = makes.after ∙ ap transmitted_frames newest ∙ ap (λ (fs : List Frame). fs ++ frames_of (deed_in e)) (sym makes.before) ∙ ap (λ (x : Entry). w.frames ++ frames_of (deed_in x)) entry in
+      (right_there, same_world v.n w.n v.limits w.limits (journal v) (entry_in (script_world w) space event ∷ journal w) v.frames (w.frames ++ frames_of (deed_in (entry_in (script_world w) space event))) makes.same_n makes.same_limits (newest ∙ ap (λ (x : Entry). x ∷ journal w) entry) frames)
 
   -- what a step that made this entry is answered by, and the world after it
-  pub made_right : (step : WorldStep) (answer : Result Answer Refusal) → e.result ≡ answer → IsMadeBy step e (journal w) → (result_text (length w.frames) answer ≡ (outcome_of (seen w) step).0) × (seen v ≡ (outcome_of (seen w) step).1)
+  pub made_right : (step : WorldStep) (answer : Result Answer Refusal) → e.result ≡ answer → IsMadeBy step e (journal w) → (result_text (length w.frames) answer ≡ (outcome_of (script_world w) step).0) × (script_world v ≡ (outcome_of (script_world w) step).1)
   made_right (Do space event) answer is made =
       let there : nat_lt w.n space ≡ false = let low = of_world.last in let same = makes.same_n in let s = made.0 in grind (arith, nat_tests, low, same, s) in
       let does_it = does_this space event made.0 made.1 in
-      let chosen : outcome_of (seen w) (Do space event) ≡ does (seen w) space event = ap (λ (b : Bool). if b then (codes "X1", seen w) else does (seen w) space event) there in (
+      let chosen : outcome_of (script_world w) (Do space event) ≡ does (script_world w) space event = ap (λ (b : Bool). if b then (codes "X1", script_world w) else does (script_world w) space event) there in (
         ap (result_text (length w.frames)) (sym is ∙ does_it.0) ∙ sym (ap (λ (o : scripts.Outcome). o.0) chosen),
         does_it.1 ∙ sym (ap (λ (o : scripts.Outcome). o.1) chosen),
       )
@@ -80,13 +80,13 @@ module _ (w v : World) (e : Entry) (makes : Makes w v e) where
       let frame = made.0 in
       let there : frame_of number w.frames ≡ Some frame = ap (frame_of number) makes.before ∙ made.1 in
       let does_it = does_this frame.to (events.Arrive frame) made.2 made.3 in
-      let chosen : outcome_of (seen w) (Deliver number) ≡ does (seen w) frame.to (events.Arrive frame) = ap (delivers (seen w)) there in (
+      let chosen : outcome_of (script_world w) (Deliver number) ≡ does (script_world w) frame.to (events.Arrive frame) = ap (delivers (script_world w)) there in (
         ap (result_text (length w.frames)) (sym is ∙ does_it.0) ∙ sym (ap (λ (o : scripts.Outcome). o.0) chosen),
         does_it.1 ∙ sym (ap (λ (o : scripts.Outcome). o.1) chosen),
       )
 
 -- a world that is as it was is seen as it was
-same_seen : (w v : World) → v.entries ≡ w.entries → v.frames ≡ w.frames → v.n ≡ w.n → v.limits ≡ w.limits → seen v ≡ seen w
+same_seen : (w v : World) → v.entries ≡ w.entries → v.frames ≡ w.frames → v.n ≡ w.n → v.limits ≡ w.limits → script_world v ≡ script_world w
 same_seen w v entries frames same_n same_limits = same_world v.n w.n v.limits w.limits (journal v) (journal w) v.frames w.frames same_n same_limits (ap reverse entries) frames
 
 -- a spoken event is no arrival
@@ -118,23 +118,23 @@ fault_of_do w space event is spoken =
     ∙ ap (λ (b : Bool). if nat_lt w.n space then Some NoSpace else (if b then Some NoFrame else None)) (no_arrival event spoken)
 
 -- a step that there is no space for
-no_space : (w : World) (step : WorldStep) → IsStep step → step_fault w.n w.frames step ≡ Some NoSpace → (codes "X1" ≡ (outcome_of (seen w) step).0) × (seen w ≡ (outcome_of (seen w) step).1)
+no_space : (w : World) (step : WorldStep) → IsStep step → step_fault w.n w.frames step ≡ Some NoSpace → (codes "X1" ≡ (outcome_of (script_world w) step).0) × (script_world w ≡ (outcome_of (script_world w) step).1)
 no_space w (Do space event) is fault =
     let known = sym (fault_of_do w space event is.0 is.1) ∙ fault in
-    elim (nat_lt w.n space) as (λ b. nat_lt w.n space ≡ b → (codes "X1" ≡ (if b then (codes "X1", seen w) else does (seen w) space event).0) × (seen w ≡ (if b then (codes "X1", seen w) else does (seen w) space event).1)) [ true ↦ λ t. (refl, refl) | false ↦ λ f. let none = subst (λ (b : Bool). (if b then Some NoSpace else None) ≡ Some NoSpace) f known in absurd cc ] refl
+    elim (nat_lt w.n space) as (λ b. nat_lt w.n space ≡ b → (codes "X1" ≡ (if b then (codes "X1", script_world w) else does (script_world w) space event).0) × (script_world w ≡ (if b then (codes "X1", script_world w) else does (script_world w) space event).1)) [ true ↦ λ t. (refl, refl) | false ↦ λ f. let none = subst (λ (b : Bool). (if b then Some NoSpace else None) ≡ Some NoSpace) f known in absurd cc ] refl
 no_space w (Deliver number) is fault =
-    elim (frame_of number w.frames) as (λ found. (if is_there found then None else Some NoFrame) ≡ Some NoSpace → (codes "X1" ≡ (delivers (seen w) found).0) × (seen w ≡ (delivers (seen w) found).1)) [ Some frame ↦ λ known. absurd cc | None ↦ λ known. absurd cc ] fault
+    elim (frame_of number w.frames) as (λ found. (if is_there found then None else Some NoFrame) ≡ Some NoSpace → (codes "X1" ≡ (delivers (script_world w) found).0) × (script_world w ≡ (delivers (script_world w) found).1)) [ Some frame ↦ λ known. absurd cc | None ↦ λ known. absurd cc ] fault
 
 -- a step that there is no frame for
-no_frame : (w : World) (step : WorldStep) → IsStep step → step_fault w.n w.frames step ≡ Some NoFrame → (codes "X2" ≡ (outcome_of (seen w) step).0) × (seen w ≡ (outcome_of (seen w) step).1)
+no_frame : (w : World) (step : WorldStep) → IsStep step → step_fault w.n w.frames step ≡ Some NoFrame → (codes "X2" ≡ (outcome_of (script_world w) step).0) × (script_world w ≡ (outcome_of (script_world w) step).1)
 no_frame w (Do space event) is fault =
     let known = sym (fault_of_do w space event is.0 is.1) ∙ fault in
-    elim (nat_lt w.n space) as (λ b. (if b then Some NoSpace else None) ≡ Some NoFrame → (codes "X2" ≡ (if b then (codes "X1", seen w) else does (seen w) space event).0) × (seen w ≡ (if b then (codes "X1", seen w) else does (seen w) space event).1)) [ true ↦ λ known. absurd cc | false ↦ λ known. absurd cc ] known
+    elim (nat_lt w.n space) as (λ b. (if b then Some NoSpace else None) ≡ Some NoFrame → (codes "X2" ≡ (if b then (codes "X1", script_world w) else does (script_world w) space event).0) × (script_world w ≡ (if b then (codes "X1", script_world w) else does (script_world w) space event).1)) [ true ↦ λ known. absurd cc | false ↦ λ known. absurd cc ] known
 no_frame w (Deliver number) is fault =
-    elim (frame_of number w.frames) as (λ found. (if is_there found then None else Some NoFrame) ≡ Some NoFrame → (codes "X2" ≡ (delivers (seen w) found).0) × (seen w ≡ (delivers (seen w) found).1)) [ Some frame ↦ λ known. absurd cc | None ↦ λ known. (refl, refl) ] fault
+    elim (frame_of number w.frames) as (λ found. (if is_there found then None else Some NoFrame) ≡ Some NoFrame → (codes "X2" ≡ (delivers (script_world w) found).0) × (script_world w ≡ (delivers (script_world w) found).1)) [ Some frame ↦ λ known. absurd cc | None ↦ λ known. (refl, refl) ] fault
 
 -- a step that nothing is wrong with makes an entry where there is memory
-may_make : (w : World) (step : WorldStep) → IsStep step → ((fault : WorldError) → step_fault w.n w.frames step ≡ Some fault → fault ≡ OutOfMemory) → makes_entry (seen w) step ≡ true
+may_make : (w : World) (step : WorldStep) → IsStep step → ((fault : WorldError) → step_fault w.n w.frames step ≡ Some fault → fault ≡ OutOfMemory) → makes_entry (script_world w) step ≡ true
 may_make w (Do space event) is none =
     elim (nat_lt w.n space) as (λ b. nat_lt w.n space ≡ b → not b ≡ true) [ true ↦ λ t. let wrong = none NoSpace (fault_of_do w space event is.0 is.1 ∙ ap (λ (b : Bool). if b then Some NoSpace else None) t) in absurd cc | false ↦ λ f. refl ] refl
 may_make w (Deliver number) is none =
@@ -151,8 +151,8 @@ pub step_made : (w v : World) (line written : List ℕ) (step : WorldStep) (r : 
     → ((fault : WorldError) → step_fault w.n w.frames step ≡ Some fault → r ≡ Err fault)
     → IfErr r (λ error. error ≢ OutOfMemory → step_fault w.n w.frames step ≡ Some error)
     → OnErr r (v.entries ≡ w.entries) → OnErr r (v.frames ≡ w.frames) → v.n ≡ w.n → v.limits ≡ w.limits
-    → WorldRun v.n (λ _. v.limits) (journal v) → w.frames ≡ given (journal w) → v.frames ≡ given (journal v)
-    → written ≡ answered_text line (step_result_text (length w.frames) r) → StepMade true (seen w) line (seen v) written
+    → WorldRun v.n (λ _. v.limits) (journal v) → w.frames ≡ transmitted_frames (journal w) → v.frames ≡ transmitted_frames (journal v)
+    → written ≡ answered_text line (step_result_text (length w.frames) r) → StepMade true (script_world w) line (script_world v) written
 step_made w v line written step (Ok answer) is adds fault only kept kept_frames same_n same_limits run before after text =
     let makes : Makes w v adds.entry = record { added = adds.added; same_n = same_n; same_limits = same_limits; run = run; before = before; after = after } in
     let right_there = made_right w v adds.entry makes step answer adds.result_is adds.made in

@@ -15,8 +15,8 @@ use Rattle.nob_world.specs.declared.error.WorldError.{WorldError}
 use Rattle.nob_world.specs.declared.error.WorldError.TheVariants.{NoSpace, NoFrame, OutOfMemory}
 
 -- a world of spaces as a script speaks of it
-abbrev pub seen : World → scripts.World
-seen world = record { n = world.n; limits = world.limits; journal = journal world; frames = world.frames }
+abbrev pub script_world : World → scripts.World
+script_world world = record { n = world.n; limits = world.limits; journal = journal world; frames = world.frames }
 
 -- what is written of what a step gave, where so many frames were transmitted before
 abbrev pub step_result_text : ℕ → Result (Result Answer Refusal) WorldError → List ℕ

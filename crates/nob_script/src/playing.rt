@@ -6,7 +6,7 @@ ghost use Rattle.nob_ids.specs.declared.limits.Limits.{Limits as LimitsOf};
 ghost use Rattle.nob_model_reading.specs.declared.opening.Opening.{Opening as OpeningOf};
 ghost use Rattle.nob_script_text.specs.Scripts.{AreLimitsOf, FromLines, FromOpening, Grows, IsNoStep, IsOpeningLine, StepMade, last_line};
 ghost use Rattle.nob_script_text.specs.Worlds.{new_world};
-ghost use Rattle.nob_script.specs.Plays.{EndsBadly, Plays, SaysYes, seen};
+ghost use Rattle.nob_script.specs.Plays.{EndsBadly, Plays, SaysYes, script_world};
 
 use crate::judging::judge;
 use crate::stepping::make_step;
@@ -65,7 +65,7 @@ fn play_in(
     text: &mut Vec<u8>,
 ) -> Ending
     ensures plays { (opening : OpeningOf) (limits : LimitsOf) → IsOpeningLine line.now opening
-        → AreLimitsOf opening.limits limits → seen world.old ≡ new_world opening.n limits
+        → AreLimitsOf opening.limits limits → script_world world.old ≡ new_world opening.n limits
         → Grows text.old.items (text.new.items ++ last_line result)
         (λ written. FromOpening true line.now (lines_of steps.now) written result) }
     ensures yes { SaysYes result }
@@ -80,7 +80,7 @@ fn play_in(
 // and then the verdict.
 fn play_steps(alloc: Global, world: &mut World, steps: &[u8], text: &mut Vec<u8>) -> Ending
     ensures plays { Grows text.old.items (text.new.items ++ last_line result)
-        (λ written. FromLines true 2 (seen world.old) (lines_of steps.now) written result) }
+        (λ written. FromLines true 2 (script_world world.old) (lines_of steps.now) written result) }
     ensures yes { SaysYes result }
 {
     let mut left = steps;
@@ -107,7 +107,7 @@ fn play_line(
 ) -> Result<bool, AllocError>
     ensures made { IfOk result (λ is_step. is_step ≡ true
         → Grows text.old.items text.new.items
-        (StepMade true (seen world.old) line.now (seen world.new))) }
+        (StepMade true (script_world world.old) line.now (script_world world.new))) }
     ensures none { IfOk result (λ is_step. is_step ≡ false → IsNoStep line.now) }
     ensures kept { IfOk result (λ is_step. is_step ≡ false → text.new.items ≡ text.old.items) }
     ensures err { OnErr result (text.new.items ≡ text.old.items) }

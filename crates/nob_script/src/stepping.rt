@@ -3,7 +3,7 @@
 ghost use Rattle.std.specs.Prelude.{◌≡◌, length, true, IfOk, OnOk, OnErr};
 ghost use Rattle.std.specs.String.{string_bytes};
 ghost use Rattle.nob_script_text.specs.Scripts.{Grows, IsStepLine, StepMade};
-ghost use Rattle.nob_script.specs.Plays.{seen, step_result_text as text_of_step};
+ghost use Rattle.nob_script.specs.Plays.{script_world, step_result_text as text_of_step};
 
 use nob_model::{Answer, Refusal, WorldStep};
 use nob_script_text::result_text;
@@ -22,7 +22,7 @@ pub(crate) fn make_step(
 ) -> Result<(), AllocError>
     requires { IsStepLine line.now step.now }
     ensures made { OnOk result (Grows text.old.items text.new.items
-        (StepMade true (seen world.old) line.now (seen world.new))) }
+        (StepMade true (script_world world.old) line.now (script_world world.new))) }
     ensures err { OnErr result (text.new.items ≡ text.old.items) }
 {
     let before = world.frames().len();

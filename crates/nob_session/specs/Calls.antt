@@ -9,7 +9,7 @@ use Rattle.nob_model_end.specs.End.{greatest_seq}
 use Rattle.nob_model_end.specs.Right.{queue_limit, last_item, is_limited, open_frames, closed_frames}
 use Rattle.nob_session.specs.declared.closed.Arrival.{Arrival}
 use Rattle.nob_session.specs.declared.closed.Arrival.TheVariants as arrival
-use Rattle.nob_session.specs.Stands.{End, is_open_end, ended}
+use Rattle.nob_session.specs.Stands.{End, is_open_end, closed_end}
 
 -- what `send` answers: the next number, unless the end is closed, or too many limited items are unacknowledged, or the numbers are used up
 abbrev pub next_of : Kind → End → Result ℕ EndRefusal
@@ -95,7 +95,7 @@ pub record SameHanded (old new : End) : Type 0 where
 -- whether a call closed the end: it is as open as before, or it was open and has closed as the evidence says, which names its peer
 abbrev pub EndsBy : End → End → Option Ending → Type 0
 EndsBy old new None = new.ending ≡ old.ending
-EndsBy old new (Some ending) = (is_open_end old ≡ true) × (ending.peer ≡ old.peer) × (new ≡ ended old ending.reason)
+EndsBy old new (Some ending) = (is_open_end old ≡ true) × (ending.peer ≡ old.peer) × (new ≡ closed_end old ending.reason)
 
 -- the evidence that an arriving frame gave, if it closed the end
 abbrev pub evidence_of : Arrival → Option Ending

@@ -6,8 +6,8 @@ use Rattle.nob_session.specs.Items.{IsItem}
 use Rattle.nob_session.specs.Stands.{End, Roomy}
 
 -- a session's fields as callers see them
-abbrev pub seen : Inside → Roomy
-seen s =
+abbrev pub as_seen : Inside → Roomy
+as_seen s =
     record {
       end = record {
         me = s.me;

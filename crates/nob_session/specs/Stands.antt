@@ -58,8 +58,8 @@ end_of me peer limits L =
     }
 
 -- an open end once it is closed for a reason: what is unacknowledged and what waits is thrown away, and a Close is owed unless the peer has closed
-abbrev pub ended : End → Reason → End
-ended e reason =
+abbrev pub closed_end : End → Reason → End
+closed_end e reason =
     record {
       me = e.me;
       peer = e.peer;

@@ -13,7 +13,7 @@ ghost use Rattle.std.specs.List.{AllByRecursion};
 ghost use Rattle.nob_frame.specs.Kinds.{is_data};
 ghost use Rattle.nob_frame.specs.Spelling.{Fits};
 ghost use Rattle.nob_session.specs.Items.{IsItem, IsPair};
-ghost use Rattle.nob_session.specs.Stands.{KeepsRoom, Stands, ended, heard, is_open_end};
+ghost use Rattle.nob_session.specs.Stands.{KeepsRoom, Stands, closed_end, heard, is_open_end};
 ghost use Rattle.nob_session.specs.Calls.{EndsBy, SameHanded, after_transmit, evidence_of, frames_of, next_of, with_item, without_front};
 ghost use Rattle.nob_session.specs.Answers.{Answered, arrived_of};
 
@@ -57,9 +57,9 @@ impl Model for Session {
 
     ghost Value = { Roomy };
 
-    ghost use Rattle.nob_session.specs.Sound.{seen, IsSound};
+    ghost use Rattle.nob_session.specs.Sound.{as_seen, IsSound};
 
-    ghost view = { seen };
+    ghost view = { as_seen };
 
     ghost invariant = { IsSound };
 }
@@ -451,7 +451,7 @@ impl Session {
     fn end(&mut self, reason: Reason) -> Closed
         requires { self.old.end.ending ≡ None }
         ensures closed { (result.peer ≡ self.old.end.peer) × (result.reason ≡ reason) }
-        ensures thrown_away { self.new.end ≡ ended self.old.end reason }
+        ensures thrown_away { self.new.end ≡ closed_end self.old.end reason }
     {
         self.sent.clear();
         self.received.clear();

@@ -3,7 +3,7 @@ use Rattle.std.proofs.Common.{◌≡◌, ℕ, ◌+◌, ◌-◌, ◌<◌, ◌≤�
 use Prim.Native.Nat.{zero, suc}
 use lib.ListN.{set}
 use Rattle.std.proofs.lemmas.Bool.Decides.{nat_tests, Decides-eqb}
-use Rattle.nob_table.proofs.Flat.{get_set_other}
+use Rattle.nob_table_rows.proofs.Flat.{get_set_other}
 
 -- up to a place, counted from 1, a list has what a word tells of each number
 abbrev pub IsWrittenTo : (ℕ → Bool) → ℕ → List Bool → Type 0

@@ -4,7 +4,7 @@ use Rattle.std.specs.List.{AllByRecursion, IsDistinct, list_any}
 use Rattle.std.proofs.lemmas.Bool.{or_parts}
 use Rattle.nob_ids.specs.Names.{is_same}
 use Rattle.nob_ids.specs.declared.wire_rep.WireRep.{WireRep}
-use Rattle.nob_table.proofs.Same.{same_is}
+use Rattle.nob_table_rows.proofs.Same.{same_is}
 use Rattle.nob_model_history.specs.Transit.{once_last}
 
 -- what passes a test

@@ -37,8 +37,8 @@ use Rattle.nob_model_history.proofs.Inbox.{open_calls}
 use Rattle.nob_model_history.proofs.Numbered.{calls_more}
 use Rattle.nob_model_history.proofs.Pinning.{bundles_kept, no_settle}
 use Rattle.nob_model_history.proofs.Sending.{new_items}
-use Rattle.nob_model.specs.Acting.{act_refusal, fault_of, is_unknown}
-use Rattle.nob_model.specs.Sending.{refusal_in, send_refused}
+use Rattle.nob_model_acting.specs.Acting.{act_refusal, fault_of, is_unknown}
+use Rattle.nob_model_acting.specs.Sending.{refusal_in, send_refused}
 use Rattle.nob_model.proofs.Guarding.{listed_law}
 use Rattle.nob_space_state.specs.Parts.{State}
 use Rattle.nob_space_state.specs.Sending.{send_refusal}

@@ -9,15 +9,15 @@ use Rattle.nob_ids.specs.declared.limits.Limits.{Limits}
 use Rattle.nob_ids.specs.declared.wire_rep.WireRep.{WireRep}
 use Rattle.nob_item.specs.Kinds.{counted_in, refs_carried}
 use Rattle.nob_item.specs.declared.item.Item.{Item}
-use Rattle.nob_table.specs.declared.counts.Counts.{Counts}
-use Rattle.nob_table.specs.declared.standing.State.TheVariants as states
-use Rattle.nob_table.specs.declared.standing.Standing.{Standing}
-use Rattle.nob_table.specs.declared.standing.Surrogate.{Surrogate}
-use Rattle.nob_table.specs.declared.standing.Grant.TheVariants.{Waits, Given, Denied}
-use Rattle.nob_table.specs.Counts.{is_held, no_counts}
-use Rattle.nob_table.specs.Rows.{row_at}
-use Rattle.nob_table.specs.Standings as standings
-use Rattle.nob_table.specs.Standings.{is_unknown, is_surrogate, own_standing, far_standing, pending_standing}
+use Rattle.nob_table_rows.specs.declared.counts.Counts.{Counts}
+use Rattle.nob_table_rows.specs.declared.standing.State.TheVariants as states
+use Rattle.nob_table_rows.specs.declared.standing.Standing.{Standing}
+use Rattle.nob_table_rows.specs.declared.standing.Surrogate.{Surrogate}
+use Rattle.nob_table_rows.specs.declared.standing.Grant.TheVariants.{Waits, Given, Denied}
+use Rattle.nob_table_rows.specs.Counts.{is_held, no_counts}
+use Rattle.nob_table_rows.specs.Rows.{row_at}
+use Rattle.nob_table_rows.specs.Standings as standings
+use Rattle.nob_table_rows.specs.Standings.{is_unknown, is_surrogate, own_standing, far_standing, pending_standing}
 use Rattle.nob_table.specs.Table.{Table, standing, place_of, was_given}
 use Rattle.nob_model_words.specs.declared.deed.Deed.{Deed}
 use Rattle.nob_model_words.specs.declared.deed.Deed.TheVariants.{Act}
@@ -31,7 +31,8 @@ use Rattle.nob_model_history.specs.Transit.{dirties, last_place}
 use Rattle.nob_model_history.proofs.Dirtying.{place_push, same_flip}
 use Rattle.nob_model.specs.Right.{own_ref}
 use Rattle.nob_space_state.specs.Parts.{State}
-use Rattle.nob_space_state.specs.Stands.{Stands, TableShows, far_state}
+use Rattle.nob_space_holds.specs.Shows.{TableShows, far_state}
+use Rattle.nob_space_state.specs.Stands.{Stands}
 use Rattle.nob_space_items.specs.Asking.{AsksFor, place_after}
 use Rattle.nob_space_items.specs.Fronts.{IsFront}
 use Rattle.nob_space_items.specs.Messages.{is_wanted, wanted_refs}

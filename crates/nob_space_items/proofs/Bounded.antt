@@ -25,13 +25,13 @@ use Rattle.nob_model_history.specs.Ends.{calls_at}
 use Rattle.nob_model_history.specs.Holds.{times, lent_in, loans_of, target_lent, copies_lent, is_lent}
 use Rattle.nob_model_history.specs.Transit.{asks_for, count_to, dirties, sent}
 use Rattle.nob_model_history.proofs.Numbered.{count_handed}
-use Rattle.nob_model.specs.Acting.{messages}
+use Rattle.nob_model_acting.specs.Acting.{messages}
 use Rattle.nob_model.specs.Right.{own_ref}
 use Rattle.nob_model.proofs.Calling.{calls_law}
 use Rattle.nob_model.proofs.Carrying.{AllInHand, all_in_hand}
 use Rattle.nob_space_state.specs.Parts.{State}
 use Rattle.nob_space_state.specs.Stands.{Stands}
-use Rattle.nob_space_state.proofs.Pinned.{times_both}
+use Rattle.nob_space_holds.proofs.Counted.{times_both}
 use Rattle.nob_space_items.specs.Messages.{owner_count}
 use Rattle.nob_space_settling.proofs.Spares.{CanBeAsked, all_asked as dirties_asked}
 use Rattle.nob_space_items.proofs.ReadItems.{item_few}

@@ -19,7 +19,7 @@ use Rattle.nob_model_words.specs.Sessions.{is_peer, closed, item_spelt}
 use Rattle.nob_model_history.specs.declared.history.History.{History}
 use Rattle.nob_model_history.specs.Histories.{history_of}
 use Rattle.nob_model_history.specs.Ends.{calls_at}
-use Rattle.nob_model.specs.Acting.{fault_of, act_on}
+use Rattle.nob_model_acting.specs.Acting.{fault_of, act_on}
 use Rattle.nob_model.specs.Right.{right_act, act_of, right_after}
 use Rattle.nob_model.specs.Lists.{IsRightDeed}
 use Rattle.nob_space_state.specs.Looks.{has_closed}

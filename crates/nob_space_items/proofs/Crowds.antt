@@ -18,7 +18,7 @@ use Rattle.nob_model_work.specs.declared.work.InHand.{InHand}
 use Rattle.nob_model_work.specs.declared.work.Run.{Run}
 use Rattle.nob_model_work.specs.Work.{work, work_after, with_loans, run_after, wait, make_ready, make_reply, with_calls, call_after_reply, is_none_of, lost_reply, is_run, is_not_reply, without_first, without_waiting, after_message, after_act, after_settlement, after_settle, after_claim, after_finish, after_take, after_end, after_call, after_close}
 use Rattle.nob_model_history.specs.Histories.{history_of}
-use Rattle.nob_model.specs.Acting.{messages, is_too_much, message_refusal, act_refusal}
+use Rattle.nob_model_acting.specs.Acting.{messages, is_too_much, message_refusal, act_refusal}
 use Rattle.nob_model.specs.Lists.{AreRightDeeds}
 use Rattle.nob_model.specs.Right.{right_after}
 use Rattle.nob_model.proofs.Accepted.{act_tells}

@@ -6,7 +6,7 @@ use Rattle.std.proofs.lemmas.List.{length-set}
 use Rattle.std.proofs.lemmas.Option.{slice_get_read}
 use Rattle.nob_ids.specs.declared.wire_rep.WireRep.{WireRep}
 use Rattle.nob_session.specs.Stands.{Roomy}
-use Rattle.nob_table.proofs.Flat.{get_set_other}
+use Rattle.nob_table_rows.proofs.Flat.{get_set_other}
 use Rattle.nob_space_state.proofs.Ends.{set_here}
 use Rattle.nob_space_state.proofs.Rows.{differ}
 use Rattle.nob_space_items.specs.Growing.{SameEnds, HasRoom, HaveRoom}

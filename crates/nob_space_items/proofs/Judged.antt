@@ -17,12 +17,12 @@ use Rattle.nob_item.specs.Spelling.{Fits}
 use Rattle.nob_item.specs.declared.item.Item.{Item}
 use Rattle.nob_item.specs.declared.item.Item.TheVariants as items
 use Rattle.nob_pins.specs.Bundles.{Pinned, is_of, has_bundle}
-use Rattle.nob_table.specs.declared.counts.Counts.{Counts}
-use Rattle.nob_table.specs.declared.standing.Standing.{Standing}
-use Rattle.nob_table.specs.declared.standing.State.TheVariants as states
-use Rattle.nob_table.specs.Counts.{is_held}
-use Rattle.nob_table.specs.Rows.{row_at}
-use Rattle.nob_table.specs.Standings as standings
+use Rattle.nob_table_rows.specs.declared.counts.Counts.{Counts}
+use Rattle.nob_table_rows.specs.declared.standing.Standing.{Standing}
+use Rattle.nob_table_rows.specs.declared.standing.State.TheVariants as states
+use Rattle.nob_table_rows.specs.Counts.{is_held}
+use Rattle.nob_table_rows.specs.Rows.{row_at}
+use Rattle.nob_table_rows.specs.Standings as standings
 use Rattle.nob_table.specs.Table.{standing, was_given}
 use Rattle.nob_model_words.specs.declared.deed.Deed.{Deed}
 use Rattle.nob_model_words.specs.declared.deed.Deed.TheVariants.{Act, Clean}
@@ -36,13 +36,14 @@ use Rattle.nob_model_history.specs.declared.transit.SentItem.{SentItem}
 use Rattle.nob_model_history.specs.Histories.{history_of}
 use Rattle.nob_model_history.specs.Transit as transit
 use Rattle.nob_model_history.specs.Transit.{is_some_of}
-use Rattle.nob_model.specs.Acting.{fault_of, fault_if, first_fault, is_unknown, awaits_reply}
-use Rattle.nob_model.specs.Acting as model
+use Rattle.nob_model_acting.specs.Acting.{fault_of, fault_if, first_fault, is_unknown, awaits_reply}
+use Rattle.nob_model_acting.specs.Acting as model
 use Rattle.nob_model.specs.Right.{own_ref}
-use Rattle.nob_model.specs.Sending.{is_own_and_not_live}
+use Rattle.nob_model_acting.specs.Sending.{is_own_and_not_live}
 use Rattle.nob_space_state.specs.Looks.{names_none}
 use Rattle.nob_space_state.specs.Parts.{State}
-use Rattle.nob_space_state.specs.Stands.{Stands, bundle, far_state}
+use Rattle.nob_space_holds.specs.Shows.{far_state}
+use Rattle.nob_space_state.specs.Stands.{Stands, bundle}
 use Rattle.nob_space_state.proofs.Calling.{few_refs}
 use Rattle.nob_space_state.proofs.Orderly.{orderly}
 use Rattle.nob_space_state.proofs.Told.{gone_there}

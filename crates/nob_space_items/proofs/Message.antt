@@ -10,11 +10,11 @@ use Rattle.nob_ids.specs.declared.wire_rep.WireRep.{WireRep}
 use Rattle.nob_item.specs.Kinds.{counted_in, refs_carried}
 use Rattle.nob_item.specs.declared.item.Item.{Item}
 use Rattle.nob_item.specs.declared.item.Item.TheVariants as items
-use Rattle.nob_table.specs.declared.standing.State.TheVariants as states
-use Rattle.nob_table.specs.Counts.{is_held}
-use Rattle.nob_table.specs.Standings as standings
+use Rattle.nob_table_rows.specs.declared.standing.State.TheVariants as states
+use Rattle.nob_table_rows.specs.Counts.{is_held}
+use Rattle.nob_table_rows.specs.Standings as standings
 use Rattle.nob_table.specs.Table.{standing}
-use Rattle.nob_table.proofs.Same.{same_is}
+use Rattle.nob_table_rows.proofs.Same.{same_is}
 use Rattle.nob_model_types.specs.declared.answer.Answer.TheVariants as answers
 use Rattle.nob_model_types.specs.declared.event.Event.TheVariants as events
 use Rattle.nob_model_words.specs.declared.deed.Deed.{Deed}
@@ -45,15 +45,16 @@ use Rattle.nob_model_history.proofs.Pinning.{bundles_kept, no_settle}
 use Rattle.nob_model_history.proofs.Sending.{new_items, next_item}
 use Rattle.nob_model_history.proofs.Turning as turning
 use Rattle.nob_model_history.proofs.Turning.{after_dirty, shapes, wanted_none}
-use Rattle.nob_model.specs.Acting.{act_on, act_refusal, answer_of_act, fault_of}
-use Rattle.nob_model.specs.Acting as acting
+use Rattle.nob_model_acting.specs.Acting.{act_on, act_refusal, answer_of_act, fault_of}
+use Rattle.nob_model_acting.specs.Acting as acting
 use Rattle.nob_model.specs.Lists.{IsRightDeed}
 use Rattle.nob_model.specs.Right.{right_act, act_of, right_after}
 use Rattle.nob_model.proofs.Made.{loans_made}
 use Rattle.nob_model.proofs.Premises.{front_item, in_turn, took_turns}
 use Rattle.nob_space_state.specs.Parts.{State}
 use Rattle.nob_space_state.specs.Looks.{has_closed}
-use Rattle.nob_space_state.specs.Stands.{Stands, far_state}
+use Rattle.nob_space_holds.specs.Shows.{far_state}
+use Rattle.nob_space_state.specs.Stands.{Stands}
 use Rattle.nob_space_state.proofs.Told.{closed_there}
 use Rattle.nob_space_items.specs.Fronts.{IsFront}
 use Rattle.nob_space_items.specs.Messages.{is_wanted, wanted_refs, new_loan, new_copies}

@@ -35,7 +35,7 @@ use Rattle.nob_model_history.specs.Transit as transit
 use Rattle.nob_model_history.specs.Transit.{is_pinned, is_settle_of, sent}
 use Rattle.nob_model_history.proofs.Pinning.{bundles_kept, bundles_settled, no_settle}
 use Rattle.nob_model_history.proofs.Sending.{new_items}
-use Rattle.nob_model.specs.Acting.{act_refusal, fault_of, fault_if}
+use Rattle.nob_model_acting.specs.Acting.{act_refusal, fault_of, fault_if}
 use Rattle.nob_space_state.specs.Parts.{State}
 use Rattle.nob_space_state.specs.Stands.{Stands, bundle}
 use Rattle.nob_space_items.specs.Fronts.{IsFront}

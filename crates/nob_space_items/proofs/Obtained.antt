@@ -11,11 +11,11 @@ use Rattle.nob_model_end.specs.declared.entry.EndEntry.{EndEntry}
 use Rattle.nob_model_end.specs.declared.entry.EndEntry.TheVariants as ends
 use Rattle.nob_session.specs.Stands as session
 use Rattle.nob_session.specs.Stands.{Roomy}
-use Rattle.nob_table.specs.declared.standing.Standing.{Standing}
-use Rattle.nob_table.specs.declared.standing.State.TheVariants as states
-use Rattle.nob_table.specs.Standings.{in_state, is_known}
+use Rattle.nob_table_rows.specs.declared.standing.Standing.{Standing}
+use Rattle.nob_table_rows.specs.declared.standing.State.TheVariants as states
+use Rattle.nob_table_rows.specs.Standings.{in_state, is_known}
 use Rattle.nob_table.specs.Table.{Table, standing, Becomes, ChangeLeaves}
-use Rattle.nob_table.proofs.Same.{same_laws, same_is}
+use Rattle.nob_table_rows.proofs.Same.{same_laws, same_is}
 use Rattle.nob_model_words.specs.declared.deed.Deed.{Deed}
 use Rattle.nob_model_words.specs.declared.deed.Deed.TheVariants.{Act}
 use Rattle.nob_model_words.specs.declared.message.Message.{Message}
@@ -24,11 +24,12 @@ use Rattle.nob_model_work.specs.declared.work.InHand.{InHand}
 use Rattle.nob_model_work.specs.Work.{work, with_loans}
 use Rattle.nob_model_history.specs.Histories.{history_of}
 use Rattle.nob_model_history.specs.Holds.{hand, times, lent_in}
-use Rattle.nob_model.specs.Acting.{act_refusal}
+use Rattle.nob_model_acting.specs.Acting.{act_refusal}
 use Rattle.nob_model.specs.Lists.{IsRightDeed}
 use Rattle.nob_model.specs.Right.{own_ref}
 use Rattle.nob_space_state.specs.Parts.{State}
-use Rattle.nob_space_state.specs.Stands.{Stands, TableShows}
+use Rattle.nob_space_holds.specs.Shows.{TableShows}
+use Rattle.nob_space_state.specs.Stands.{Stands}
 use Rattle.nob_space_items.specs.Fronts.{IsFront}
 use Rattle.nob_space_items.specs.Granting.{granted_message, due_to_all}
 use Rattle.nob_space_items.specs.Lending.{CanLend, Lends}

@@ -12,12 +12,12 @@ use Rattle.nob_model_end.specs.declared.entry.EndEntry.{EndEntry}
 use Rattle.nob_model_end.specs.declared.entry.EndEntry.TheVariants as ends
 use Rattle.nob_session.specs.Stands as session
 use Rattle.nob_session.specs.Stands.{Roomy}
-use Rattle.nob_table.specs.declared.standing.Standing.{Standing}
-use Rattle.nob_table.specs.declared.standing.State.{State as TableState}
-use Rattle.nob_table.specs.declared.standing.State.TheVariants as states
-use Rattle.nob_table.specs.Counts.{is_held}
-use Rattle.nob_table.specs.Standings as standings
-use Rattle.nob_table.specs.Standings.{in_state}
+use Rattle.nob_table_rows.specs.declared.standing.Standing.{Standing}
+use Rattle.nob_table_rows.specs.declared.standing.State.{State as TableState}
+use Rattle.nob_table_rows.specs.declared.standing.State.TheVariants as states
+use Rattle.nob_table_rows.specs.Counts.{is_held}
+use Rattle.nob_table_rows.specs.Standings as standings
+use Rattle.nob_table_rows.specs.Standings.{in_state}
 use Rattle.nob_table.specs.Table.{Table, standing, Becomes, ChangeLeaves}
 use Rattle.nob_model_words.specs.declared.deed.Deed.{Deed}
 use Rattle.nob_model_words.specs.declared.deed.Deed.TheVariants.{Act}
@@ -38,12 +38,13 @@ use Rattle.nob_model_history.specs.Transit as transit
 use Rattle.nob_model_history.proofs.Turning.{after_answer, named_ref}
 use Rattle.nob_model_history.proofs.Turning as turning
 use Rattle.nob_model_history.proofs.Unasked.{is_message}
-use Rattle.nob_model.specs.Acting.{act_refusal, fault_of}
+use Rattle.nob_model_acting.specs.Acting.{act_refusal, fault_of}
 use Rattle.nob_model.specs.Right.{own_ref}
 use Rattle.nob_model.proofs.Made.{loans_made}
 use Rattle.nob_space_state.specs.Parts.{State}
-use Rattle.nob_space_state.specs.Stands.{Stands, TableShows, bundle, far_state}
-use Rattle.nob_space_state.proofs.Shows.{one_row}
+use Rattle.nob_space_holds.specs.Shows.{TableShows, far_state}
+use Rattle.nob_space_state.specs.Stands.{Stands, bundle}
+use Rattle.nob_space_holds.proofs.Shows.{one_row}
 use Rattle.nob_space_items.specs.Fronts.{IsFront}
 use Rattle.nob_space_items.specs.Judging.{awaits_answer}
 use Rattle.nob_space_items.proofs.Judged.{awaits_there}

@@ -19,15 +19,15 @@ use Rattle.nob_model_end.specs.Right.{first_of, right_front}
 use Rattle.nob_model_end.specs.declared.entry.EndEntry.{EndEntry}
 use Rattle.nob_session.specs.Stands as session
 use Rattle.nob_session.specs.Stands.{Roomy, End, is_open_end}
-use Rattle.nob_table.specs.declared.standing.Standing.{Standing}
-use Rattle.nob_table.specs.declared.standing.State.{State as TableState}
-use Rattle.nob_table.specs.declared.standing.State.TheVariants as states
-use Rattle.nob_table.specs.Standings as standings
-use Rattle.nob_table.specs.Standings.{is_known, is_unknown, pending_standing}
-use Rattle.nob_table.specs.Order.{place_in}
+use Rattle.nob_table_rows.specs.declared.standing.Standing.{Standing}
+use Rattle.nob_table_rows.specs.declared.standing.State.{State as TableState}
+use Rattle.nob_table_rows.specs.declared.standing.State.TheVariants as states
+use Rattle.nob_table_rows.specs.Standings as standings
+use Rattle.nob_table_rows.specs.Standings.{is_known, is_unknown, pending_standing}
+use Rattle.nob_table_rows.specs.Order.{place_in}
 use Rattle.nob_table.specs.Table as table
 use Rattle.nob_table.specs.Table.{Table, standing, place_of, surrogate_total, is_far}
-use Rattle.nob_table.proofs.Same.{same_refl}
+use Rattle.nob_table_rows.proofs.Same.{same_refl}
 use Rattle.nob_model_types.specs.declared.refusal.Refusal.TheVariants as refusals
 use Rattle.nob_model_words.specs.declared.deed.Deed.{Deed}
 use Rattle.nob_model_words.specs.declared.message.Loan.{Loan}
@@ -45,10 +45,10 @@ use Rattle.nob_model_history.specs.Ends.{calls_at, items_to, with_sends}
 use Rattle.nob_model_history.specs.Holds.{times, lent_in, loans_of, target_lent, copies_lent, is_lent}
 use Rattle.nob_model_history.specs.Transit.{dirties}
 use Rattle.nob_model_history.proofs.Inbox.{sends_front}
-use Rattle.nob_model.specs.Acting.{messages, fault_of, first_fault, names_not_live}
+use Rattle.nob_model_acting.specs.Acting.{messages, fault_of, first_fault, names_not_live}
 use Rattle.nob_model.specs.Right.{own_ref}
 use Rattle.nob_model.proofs.Premises.{no_fault}
-use Rattle.nob_model.specs.Sending.{is_own_and_not_live}
+use Rattle.nob_model_acting.specs.Sending.{is_own_and_not_live}
 use Rattle.nob_space_state.specs.Parts.{State}
 use Rattle.nob_space_state.specs.Looks.{end_with, has_closed, is_closed_end}
 use Rattle.nob_space_state.specs.Stands.{Stands}

@@ -19,14 +19,14 @@ use Rattle.nob_model_end.specs.declared.refusal.EndRefusal.TheVariants as end_re
 use Rattle.nob_model_end.specs.declared.entry.EndEntry.{EndEntry}
 use Rattle.nob_model_end.specs.declared.entry.EndEntry.TheVariants as ends
 use Rattle.nob_session.specs.Stands.{End}
-use Rattle.nob_table.specs.Rows.{IsOnce, reps_of, row_at}
-use Rattle.nob_table.specs.declared.standing.Surrogate.{Surrogate}
-use Rattle.nob_table.specs.Standings as standings
-use Rattle.nob_table.specs.declared.standing.State.TheVariants as states
-use Rattle.nob_table.specs.Counts.{is_held}
+use Rattle.nob_table_rows.specs.Rows.{IsOnce, reps_of, row_at}
+use Rattle.nob_table_rows.specs.declared.standing.Surrogate.{Surrogate}
+use Rattle.nob_table_rows.specs.Standings as standings
+use Rattle.nob_table_rows.specs.declared.standing.State.TheVariants as states
+use Rattle.nob_table_rows.specs.Counts.{is_held}
 use Rattle.nob_table.specs.Table.{standing, place_of, surrogate_total}
-use Rattle.nob_table.proofs.Same.{same_is, same_laws}
-use Rattle.nob_table.proofs.Stands.{any_key}
+use Rattle.nob_table_rows.proofs.Same.{same_is, same_laws}
+use Rattle.nob_table_rows.proofs.Keys.{any_key}
 use Rattle.nob_model_types.specs.declared.refusal.Refusal.TheVariants as refusals
 use Rattle.nob_model_words.specs.declared.deed.Deed.{Deed}
 use Rattle.nob_model_words.specs.declared.turns.Turns.{Turns}
@@ -40,13 +40,14 @@ use Rattle.nob_model_history.specs.Ends.{calls_at, items_to}
 use Rattle.nob_model_history.specs.Transit.{dirties, last_place, once_last, by_last_dirty, surrogates}
 use Rattle.nob_model_history.proofs.Dirtying.{none_placed}
 use Rattle.nob_model_history.proofs.Surrogates.{has_surrogate}
-use Rattle.nob_model.specs.Acting as acting
-use Rattle.nob_model.specs.Acting.{messages, most_messages, most_surrogates, new_dirties, has_numbers_among, all_have_numbers}
+use Rattle.nob_model_acting.specs.Acting as acting
+use Rattle.nob_model_acting.specs.Acting.{messages, most_messages, most_surrogates, new_dirties, has_numbers_among, all_have_numbers}
 use Rattle.nob_model.specs.Laws.{AreRightCalls}
 use Rattle.nob_model.proofs.Calling.{calls_law}
 use Rattle.nob_space_state.specs.Parts.{State}
 use Rattle.nob_space_state.specs.Looks.{has_closed}
-use Rattle.nob_space_state.specs.Stands.{Stands, far_state}
+use Rattle.nob_space_holds.specs.Shows.{far_state}
+use Rattle.nob_space_state.specs.Stands.{Stands}
 use Rattle.nob_space_state.proofs.Calling.{end_of_peer}
 use Rattle.nob_space_state.proofs.Rows.{distinct_filtered}
 use Rattle.nob_space_state.proofs.Told.{closed_there}

@@ -16,9 +16,9 @@ use Rattle.nob_model_end.specs.declared.entry.EndEntry.TheVariants.{Send}
 use Rattle.nob_model_end.specs.declared.entry.Kind.TheVariants.{Note}
 use Rattle.nob_session.specs.Stands as session
 use Rattle.nob_session.specs.Stands.{Roomy, End, is_open_end}
-use Rattle.nob_table.proofs.Flat.{get_set_other}
-use Rattle.nob_table.specs.Standings.{is_unknown, pending_standing}
-use Rattle.nob_table.specs.declared.standing.Standing.{Standing}
+use Rattle.nob_table_rows.proofs.Flat.{get_set_other}
+use Rattle.nob_table_rows.specs.Standings.{is_unknown, pending_standing}
+use Rattle.nob_table_rows.specs.declared.standing.Standing.{Standing}
 use Rattle.nob_table.specs.Table.{Table, SameObjects, Becomes, standing, surrogate_total, is_far}
 use Rattle.nob_model_work.specs.declared.gifts.Gift.{Gift}
 use Rattle.nob_model_work.specs.Gifts.{dirty_for}

@@ -14,8 +14,8 @@ use Rattle.nob_model_end.specs.Right.{first_of}
 use Rattle.nob_model_end.specs.declared.entry.EndEntry.TheVariants as ends
 use Rattle.nob_session.specs.Stands as session
 use Rattle.nob_session.specs.Stands.{End, Roomy}
-use Rattle.nob_table.specs.Counts.{is_held}
-use Rattle.nob_table.specs.Standings as standings
+use Rattle.nob_table_rows.specs.Counts.{is_held}
+use Rattle.nob_table_rows.specs.Standings as standings
 use Rattle.nob_table.specs.Table.{Table, standing}
 use Rattle.nob_pins.specs.Bundles as pins
 use Rattle.nob_model_types.specs.declared.answer.Answer.TheVariants as answers
@@ -39,13 +39,14 @@ use Rattle.nob_model_history.specs.Listing.{is_listed}
 use Rattle.nob_model_history.specs.Transit as transit
 use Rattle.nob_model_history.proofs.Numbered.{calls_more}
 use Rattle.nob_model_history.proofs.Unasked.{is_message, dirties_same}
-use Rattle.nob_model.specs.Acting.{act_refusal, answer_of_act, act_on}
+use Rattle.nob_model_acting.specs.Acting.{act_refusal, answer_of_act, act_on}
 use Rattle.nob_model.specs.Right.{right_act, act_of, right_after}
 use Rattle.nob_model.specs.Lists.{IsRightDeed, AreRightDeeds}
 use Rattle.nob_model.proofs.Made.{loans_made}
 use Rattle.nob_model.proofs.Premises.{front_item, in_turn}
 use Rattle.nob_space_state.specs.Parts.{State}
-use Rattle.nob_space_state.specs.Stands.{Stands, EndsStand, TableStands, PinsStand, far_state}
+use Rattle.nob_space_holds.specs.Shows.{TableStands, far_state}
+use Rattle.nob_space_state.specs.Stands.{Stands, EndsStand, PinsStand}
 use Rattle.nob_space_state.proofs.Ends.{end_there, ends_changed}
 use Rattle.nob_space_items.specs.Fronts.{IsFront}
 

@@ -7,7 +7,7 @@ use Rattle.std.proofs.lemmas.Map.Views.{any-filter_same}
 use Rattle.std.proofs.lemmas.Option.{slice_get_within, get_or_from_slice_get, slice_get_cases, none-some}
 use Rattle.nob_ids.specs.Names.{is_same}
 use Rattle.nob_ids.specs.declared.wire_rep.WireRep.{WireRep}
-use Rattle.nob_table.proofs.Same.{same_is}
+use Rattle.nob_table_rows.proofs.Same.{same_is}
 use Rattle.nob_model_work.specs.Gifts.{once}
 use Rattle.nob_model_history.proofs.Dirtying.{same_flip}
 use Rattle.nob_space_state.specs.Parts.{State}

@@ -11,7 +11,7 @@ use Rattle.nob_model_end.specs.declared.entry.Kind.TheVariants.{Note}
 use Rattle.nob_item.specs.declared.item.Item.TheVariants as items
 use Rattle.nob_session.specs.Stands as session
 use Rattle.nob_session.specs.Stands.{Roomy, is_open_end}
-use Rattle.nob_table.specs.Standings.{is_unknown, pending_standing}
+use Rattle.nob_table_rows.specs.Standings.{is_unknown, pending_standing}
 use Rattle.nob_table.specs.Table.{Table, SameObjects, standing, place_of, surrogate_total, is_far}
 use Rattle.nob_table.specs.Table as table
 use Rattle.nob_model_work.specs.Gifts.{dirty_for}

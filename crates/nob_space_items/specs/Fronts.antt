@@ -6,7 +6,7 @@ use Rattle.nob_model_words.specs.declared.deed.Deed.{Deed}
 use Rattle.nob_model_words.specs.Sessions.{is_peer, closed, item_spelt}
 use Rattle.nob_model_history.specs.Histories.{history_of}
 use Rattle.nob_model_history.specs.Ends.{calls_at}
-use Rattle.nob_model.specs.Acting.{fault_of}
+use Rattle.nob_model_acting.specs.Acting.{fault_of}
 
 -- the front of the inbox from peer p is item k: the session is open, the bytes spell the item, and it has no fault
 pub record IsFront (s n p k : ℕ) (item : Item) (D : List Deed) : Type 0 where

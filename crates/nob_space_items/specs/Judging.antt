@@ -7,9 +7,9 @@ use Rattle.nob_item.specs.Kinds.{counted_in}
 use Rattle.nob_item.specs.declared.item.Item.{Item}
 use Rattle.nob_item.specs.declared.item.Item.TheVariants as items
 use Rattle.nob_pins.specs.Bundles.{has_bundle}
-use Rattle.nob_table.specs.Standings.{is_pending, is_unknown}
+use Rattle.nob_table_rows.specs.Standings.{is_pending, is_unknown}
 use Rattle.nob_table.specs.Table.{standing}
-use Rattle.nob_model.specs.Acting.{awaits_reply, fault_if, first_fault}
+use Rattle.nob_model_acting.specs.Acting.{awaits_reply, fault_if, first_fault}
 use Rattle.nob_model.specs.Right.{own_ref}
 use Rattle.nob_space_state.specs.Looks.{names_none}
 use Rattle.nob_space_state.specs.Parts.{State}

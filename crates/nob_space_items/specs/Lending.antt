@@ -2,11 +2,11 @@
 use Rattle.std.specs.Prelude.{◌≡◌, ℕ, ◌+◌, ◌≤◌, true, List}
 use Rattle.std.specs.List.{AllByRecursion}
 use Rattle.nob_ids.specs.declared.wire_rep.WireRep.{WireRep}
-use Rattle.nob_table.specs.Standings.{is_known}
+use Rattle.nob_table_rows.specs.Standings.{is_known}
 use Rattle.nob_table.specs.Table.{Table, standing}
 use Rattle.nob_model_history.specs.declared.history.History.{History}
 use Rattle.nob_model_history.specs.Holds.{times}
-use Rattle.nob_space_state.specs.Stands.{TableShows}
+use Rattle.nob_space_holds.specs.Shows.{TableShows}
 
 -- so many loans of a reference can be counted and no more
 abbrev pub most_lent : ℕ

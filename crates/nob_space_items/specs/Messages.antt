@@ -3,8 +3,8 @@ use Rattle.std.specs.Prelude.{◌≡◌, ℕ, ◌+◌, ◌-◌, Bool, false, ◌
 use Rattle.std.specs.List.{list_all}
 use Rattle.nob_ids.specs.declared.wire_rep.WireRep.{WireRep}
 use Rattle.nob_session.specs.Stands.{Roomy}
-use Rattle.nob_table.specs.Standings.{is_surrogate, is_granted}
-use Rattle.nob_table.specs.Rows.{IsOnce}
+use Rattle.nob_table_rows.specs.Standings.{is_surrogate, is_granted}
+use Rattle.nob_table_rows.specs.Rows.{IsOnce}
 use Rattle.nob_table.specs.Table.{Table, standing, surrogate_total, place_of}
 use Rattle.nob_model_end.specs.Right.{last_item}
 use Rattle.nob_model_types.specs.declared.refusal.Refusal.{Refusal}
@@ -14,7 +14,7 @@ use Rattle.nob_model_words.specs.declared.message.Loan.TheVariants as loans
 use Rattle.nob_model_words.specs.declared.message.RefCopy.{RefCopy}
 use Rattle.nob_model_words.specs.Sessions.{is_peer}
 use Rattle.nob_model_work.specs.Gifts.{once}
-use Rattle.nob_model.specs.Acting.{messages, most_messages, most_surrogates}
+use Rattle.nob_model_acting.specs.Acting.{messages, most_messages, most_surrogates}
 use Rattle.nob_space_state.specs.Parts.{State}
 use Rattle.nob_space_state.specs.Looks.{end_with, has_closed}
 use Rattle.nob_space_settling.specs.Settling.{is_lost_here}

@@ -1,7 +1,7 @@
 //! The references of a message as they come.
 
 ghost use Rattle.std.specs.Prelude.{◌≡◌, IfOk};
-ghost use Rattle.nob_table.specs.Standings as standings;
+ghost use Rattle.nob_table_rows.specs.Standings as standings;
 ghost use Rattle.nob_item.specs.Kinds.{counted_in};
 ghost use Rattle.nob_space_state.specs.Parts.{state_of};
 ghost use Rattle.nob_space_items.specs.Messages as specs;

@@ -1,7 +1,7 @@
 //! Dirties that are sent for references.
 
 ghost use Rattle.std.specs.Prelude.{◌≡◌, ◌+◌, ◌-◌, ◌≤◌, [], ◌∷◌, Some, IfOk};
-ghost use Rattle.nob_table.specs.Standings.{pending_standing};
+ghost use Rattle.nob_table_rows.specs.Standings.{pending_standing};
 ghost use Rattle.nob_table.specs.Table.{Becomes, Places, SameObjects, surrogate_total};
 ghost use Rattle.nob_space_items.specs.Asking.{CanAsk, AsksFor, CanSend, CanSendAll, SendsOne, SendsNext, SendsAll};
 
@@ -10,7 +10,7 @@ use nob_ids::WireRep;
 use nob_item::{Item, ItemError, encode};
 use nob_model::Kind;
 use nob_session::Session;
-use nob_space_state::send_reserved;
+use nob_space_holds::send_reserved;
 use nob_table::ObjectTable;
 use std::alloc::{AllocError, Global};
 use std::marker::Model;

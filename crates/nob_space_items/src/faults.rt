@@ -3,7 +3,7 @@
 ghost use Rattle.std.specs.Prelude.{◌≡◌, ◌==◌, not};
 ghost use Rattle.std.specs.List.{list_any};
 ghost use Rattle.nob_item.specs.Spelling.{Fits};
-ghost use Rattle.nob_model.specs.Acting as words;
+ghost use Rattle.nob_model_acting.specs.Acting as words;
 ghost use Rattle.nob_model.specs.Right.{own_ref};
 ghost use Rattle.nob_space_state.specs.Looks.{names_none};
 ghost use Rattle.nob_space_state.specs.Parts.{state_of};

@@ -9,7 +9,7 @@ ghost use Rattle.nob_model_end.specs.declared.entry.EndEntry.TheVariants as call
 ghost use Rattle.nob_model_end.specs.declared.entry.Kind.TheVariants as kinds;
 ghost use Rattle.nob_session.specs.Calls.{next_of};
 ghost use Rattle.nob_session.specs.Stands as ends;
-ghost use Rattle.nob_table.specs.Standings as standings;
+ghost use Rattle.nob_table_rows.specs.Standings as standings;
 ghost use Rattle.nob_table.specs.Table.{standing};
 ghost use Rattle.nob_model_types.specs.declared.answer.Answer.TheVariants as answers;
 ghost use Rattle.nob_model_words.specs.declared.deed.Deed.{Deed};
@@ -30,7 +30,8 @@ use nob_item::{Item, encode};
 use nob_model::{Here, Kind};
 use nob_pins::Settled;
 use nob_session::Session;
-use nob_space_state::{Parts, SpaceError, send_reserved};
+use nob_space_holds::send_reserved;
+use nob_space_state::{Parts, SpaceError};
 use nob_table::State;
 use std::alloc::{AllocError, Global};
 

@@ -14,15 +14,15 @@ use Rattle.nob_model_end.specs.declared.entry.Kind.TheVariants.{Note}
 use Rattle.nob_session.specs.Calls.{next_of}
 use Rattle.nob_session.specs.Stands as session
 use Rattle.nob_session.specs.Stands.{End, Roomy, is_open_end}
-use Rattle.nob_table.specs.Counts.{is_held, no_counts}
-use Rattle.nob_table.specs.declared.counts.Counts.{Counts}
-use Rattle.nob_table.specs.declared.standing.Standing.{Standing}
-use Rattle.nob_table.specs.declared.standing.State.{State as TableState}
-use Rattle.nob_table.specs.declared.standing.State.TheVariants as states
-use Rattle.nob_table.specs.Standings as standings
-use Rattle.nob_table.specs.Standings.{unknown}
+use Rattle.nob_table_rows.specs.Counts.{is_held, no_counts}
+use Rattle.nob_table_rows.specs.declared.counts.Counts.{Counts}
+use Rattle.nob_table_rows.specs.declared.standing.Standing.{Standing}
+use Rattle.nob_table_rows.specs.declared.standing.State.{State as TableState}
+use Rattle.nob_table_rows.specs.declared.standing.State.TheVariants as states
+use Rattle.nob_table_rows.specs.Standings as standings
+use Rattle.nob_table_rows.specs.Standings.{unknown}
 use Rattle.nob_table.specs.Table.{Table, standing, place_of, Becomes, Places, RemovalLeaves}
-use Rattle.nob_table.proofs.Same.{same_laws}
+use Rattle.nob_table_rows.proofs.Same.{same_laws}
 use Rattle.nob_model_types.specs.declared.answer.Answer.TheVariants as answers
 use Rattle.nob_model_types.specs.declared.event.Event.TheVariants as events
 use Rattle.nob_model_types.specs.declared.refusal.Refusal.TheVariants as refusals
@@ -43,9 +43,10 @@ use Rattle.nob_space_settling.proofs.Fixing.{still_fixed}
 use Rattle.nob_model.specs.Lists.{IsRightDeed}
 use Rattle.nob_model.specs.Right.{right_after, right_clean, clean_of, own_ref}
 use Rattle.nob_space_state.specs.Parts.{State}
-use Rattle.nob_space_state.specs.Stands.{Stands, TableStands, far_state}
+use Rattle.nob_space_holds.specs.Shows.{TableStands, far_state}
+use Rattle.nob_space_state.specs.Stands.{Stands}
 use Rattle.nob_space_state.proofs.Ends.{end_there}
-use Rattle.nob_space_state.proofs.Shows.{one_row, no_holds}
+use Rattle.nob_space_holds.proofs.Shows.{one_row, no_holds}
 use Rattle.nob_space_settling.specs.Cleaning.{NoneSpareBelow, IsFirstSpare}
 use Rattle.nob_space_settling.proofs.Noting.{GivesNotes, same_dirties, sent_next, stands_noted, open_there}
 use Rattle.nob_space_settling.proofs.Spares.{asked_there, idle_there, first_there, none_there}

@@ -16,8 +16,8 @@ use Rattle.nob_model_end.specs.declared.entry.EndEntry.TheVariants as ends
 use Rattle.nob_model_end.specs.declared.entry.Kind.{Kind}
 use Rattle.nob_session.specs.Stands as session
 use Rattle.nob_session.specs.Stands.{End, Roomy, end_of, is_open_end}
-use Rattle.nob_table.specs.Counts.{is_held}
-use Rattle.nob_table.specs.Standings as standings
+use Rattle.nob_table_rows.specs.Counts.{is_held}
+use Rattle.nob_table_rows.specs.Standings as standings
 use Rattle.nob_table.specs.Table.{Table, standing}
 use Rattle.nob_model_words.specs.declared.deed.Deed.{Deed}
 use Rattle.nob_model_words.specs.Objects as objects
@@ -41,7 +41,8 @@ use Rattle.nob_model_history.proofs.Unasked.{acts_on_message, dirties_same}
 use Rattle.nob_model.specs.Lists.{IsRightDeed}
 use Rattle.nob_model.specs.Right.{own_ref, calls_made, jobs_made}
 use Rattle.nob_space_state.specs.Parts.{State}
-use Rattle.nob_space_state.specs.Stands.{Stands, TableShows, TableStands, bundle, far_state}
+use Rattle.nob_space_holds.specs.Shows.{TableShows, TableStands, far_state}
+use Rattle.nob_space_state.specs.Stands.{Stands, bundle}
 use Rattle.nob_space_state.proofs.Ends.{end_there, ends_changed}
 use Rattle.nob_space_state.proofs.Sent.{gift_to}
 use Rattle.nob_space_state.proofs.Told.{ended_there}

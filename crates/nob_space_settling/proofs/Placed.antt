@@ -16,7 +16,7 @@ use Rattle.nob_model_history.specs.Holds.{times, loans_of, lent_in}
 use Rattle.nob_model.proofs.Carrying.{all_found, all_without, all_push}
 use Rattle.nob_model.proofs.Made.{AreFixed}
 use Rattle.nob_space_state.proofs.Firsts.{times_without}
-use Rattle.nob_space_state.proofs.Pinned.{times_both}
+use Rattle.nob_space_holds.proofs.Counted.{times_both}
 use Rattle.nob_space_settling.specs.Settling.{loans_ended}
 
 -- a Call that is settled is ready, or over

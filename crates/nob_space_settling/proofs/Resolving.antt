@@ -11,9 +11,9 @@ use Rattle.nob_item.specs.declared.item.Item.TheVariants as items
 use Rattle.nob_model_end.specs.End.{handed}
 use Rattle.nob_model_end.specs.Right.{last_item}
 use Rattle.nob_session.specs.Stands.{End, Roomy}
-use Rattle.nob_table.specs.Counts.{is_held}
-use Rattle.nob_table.specs.declared.standing.State.TheVariants as states
-use Rattle.nob_table.specs.Standings as standings
+use Rattle.nob_table_rows.specs.Counts.{is_held}
+use Rattle.nob_table_rows.specs.declared.standing.State.TheVariants as states
+use Rattle.nob_table_rows.specs.Standings as standings
 use Rattle.nob_table.specs.Table.{standing}
 use Rattle.nob_model_types.specs.declared.answer.Answer.TheVariants as answers
 use Rattle.nob_model_types.specs.declared.event.Event.TheVariants as events
@@ -33,12 +33,13 @@ use Rattle.nob_model_work.specs.declared.work.InHand.{InHand}
 use Rattle.nob_model_history.specs.Histories.{history_of}
 use Rattle.nob_model_history.specs.Ends.{calls_at}
 use Rattle.nob_model_history.proofs.Turning.{pending_waits, waiting_stands}
-use Rattle.nob_model.specs.Candidates.{is_all_resolved, to_settle}
+use Rattle.nob_model_acting.specs.Candidates.{is_all_resolved, to_settle}
 use Rattle.nob_model.specs.Lists.{IsRightDeed}
 use Rattle.nob_model.specs.Right.{right_after, right_settle, settle_of, settle_count}
 use Rattle.nob_space_state.specs.Parts.{State}
 use Rattle.nob_space_state.specs.Looks.{has_closed}
-use Rattle.nob_space_state.specs.Stands.{Stands, far_state}
+use Rattle.nob_space_holds.specs.Shows.{far_state}
+use Rattle.nob_space_state.specs.Stands.{Stands}
 use Rattle.nob_space_state.proofs.Ends.{end_there}
 use Rattle.nob_space_state.proofs.Finishing.{state_sound}
 use Rattle.nob_space_state.proofs.Running.{IsSound, all_found}

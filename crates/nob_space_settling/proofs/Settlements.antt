@@ -36,8 +36,9 @@ use Rattle.nob_model.proofs.Accepted.{found_passes}
 use Rattle.nob_model.proofs.Made.{work_fixed, fixed_stays}
 use Rattle.nob_model.proofs.Waiting.{settled_message}
 use Rattle.nob_space_state.specs.Parts.{State}
-use Rattle.nob_space_state.specs.Returns.{HasLent, GivesBack}
-use Rattle.nob_space_state.specs.Stands.{Stands, TableStands}
+use Rattle.nob_space_holds.specs.Returns.{HasLent, GivesBack}
+use Rattle.nob_space_holds.specs.Shows.{TableStands}
+use Rattle.nob_space_state.specs.Stands.{Stands}
 use Rattle.nob_space_state.proofs.Finishing.{none_of, counted_append, counted_copies, counted_target}
 use Rattle.nob_space_state.proofs.Firsts.{some_same}
 use Rattle.nob_space_state.proofs.Rows.{differ}

@@ -12,12 +12,12 @@ use Rattle.nob_item.specs.Kinds.{counted_in, refs_carried}
 use Rattle.nob_item.specs.declared.item.Item.{Item}
 use Rattle.nob_item.specs.declared.item.Item.TheVariants as items
 use Rattle.nob_pins.specs.Bundles.{count_of}
-use Rattle.nob_table.specs.Counts.{is_held}
-use Rattle.nob_table.specs.Standings as standings
-use Rattle.nob_table.specs.declared.standing.State.{State as TableState}
-use Rattle.nob_table.specs.declared.standing.State.TheVariants as states
+use Rattle.nob_table_rows.specs.Counts.{is_held}
+use Rattle.nob_table_rows.specs.Standings as standings
+use Rattle.nob_table_rows.specs.declared.standing.State.{State as TableState}
+use Rattle.nob_table_rows.specs.declared.standing.State.TheVariants as states
 use Rattle.nob_table.specs.Table.{standing, place_of, NoneIdle}
-use Rattle.nob_table.proofs.Same.{same_is, same_laws}
+use Rattle.nob_table_rows.proofs.Same.{same_is, same_laws}
 use Rattle.nob_model_words.specs.declared.deed.Deed.{Deed}
 use Rattle.nob_model_words.specs.declared.deed.Deed.TheVariants as did
 use Rattle.nob_model_words.specs.declared.turns.Turns.{Turns}
@@ -33,7 +33,8 @@ use Rattle.nob_model_history.proofs.Unasked.{dirties_same}
 use Rattle.nob_model.proofs.Carrying.{all_filter}
 use Rattle.nob_model.proofs.Waiting.{all_weaker}
 use Rattle.nob_space_state.specs.Parts.{State}
-use Rattle.nob_space_state.specs.Stands.{Stands, far_state}
+use Rattle.nob_space_holds.specs.Shows.{far_state}
+use Rattle.nob_space_state.specs.Stands.{Stands}
 use Rattle.nob_space_state.proofs.Told.{held_there}
 use Rattle.nob_space_state.proofs.Pinned.{pins_there}
 use Rattle.nob_space_settling.specs.Cleaning.{is_spare, NoneSpareBelow, IsFirstSpare, ArePlacedApart}

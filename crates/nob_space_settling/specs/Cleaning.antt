@@ -3,7 +3,7 @@ use Rattle.std.specs.Prelude.{◌≡◌, ◌<◌, ℕ, Bool, true, false, ◌&&�
 use Rattle.nob_ids.specs.Names.{is_same}
 use Rattle.nob_ids.specs.declared.wire_rep.WireRep.{WireRep}
 use Rattle.nob_pins.specs.Bundles.{count_of}
-use Rattle.nob_table.specs.Standings.{is_idle}
+use Rattle.nob_table_rows.specs.Standings.{is_idle}
 use Rattle.nob_table.specs.Table.{Table, standing, place_of}
 use Rattle.nob_space_state.specs.Parts.{State}
 

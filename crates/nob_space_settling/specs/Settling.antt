@@ -8,9 +8,9 @@ use Rattle.nob_pickle.specs.declared.value.Value.TheVariants as values
 use Rattle.nob_model_end.specs.declared.entry.EndEntry.{EndEntry}
 use Rattle.nob_model_end.specs.declared.entry.EndEntry.TheVariants.{Send}
 use Rattle.nob_model_end.specs.declared.entry.Kind.TheVariants.{Note}
-use Rattle.nob_table.specs.declared.standing.State.{State as TableState}
-use Rattle.nob_table.specs.declared.standing.State.TheVariants as states
-use Rattle.nob_table.specs.Standings.{is_granted}
+use Rattle.nob_table_rows.specs.declared.standing.State.{State as TableState}
+use Rattle.nob_table_rows.specs.declared.standing.State.TheVariants as states
+use Rattle.nob_table_rows.specs.Standings.{is_granted}
 use Rattle.nob_table.specs.Table.{standing}
 use Rattle.nob_model_words.specs.declared.message.Message.{Message}
 use Rattle.nob_model_words.specs.Sessions.{is_peer}

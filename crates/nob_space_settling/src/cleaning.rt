@@ -15,7 +15,7 @@ ghost use Rattle.nob_model_end.specs.declared.entry.EndEntry.{EndEntry};
 ghost use Rattle.nob_model_end.specs.declared.entry.EndEntry.TheVariants.{Send};
 ghost use Rattle.nob_session.specs.Calls.{next_of};
 ghost use Rattle.nob_session.specs.Stands as ends;
-ghost use Rattle.nob_table.specs.Standings.{is_idle, unknown};
+ghost use Rattle.nob_table_rows.specs.Standings.{is_idle, unknown};
 ghost use Rattle.nob_table.specs.Table.{standing, Becomes, Places, RemovalLeaves};
 ghost use Rattle.nob_space_settling.specs.Cleaning.{NoneSpareBelow, IsFirstSpare, ArePlacedApart};
 
@@ -23,7 +23,8 @@ use nob_ids::{ItemNo, WireRep};
 use nob_item::{Item, ItemError, encode};
 use nob_model::{Here, Kind, Refusal};
 use nob_session::Session;
-use nob_space_state::{Parts, SpaceError, send_reserved};
+use nob_space_holds::send_reserved;
+use nob_space_state::{Parts, SpaceError};
 use nob_table::ObjectTable;
 use std::alloc::{AllocError, Global};
 

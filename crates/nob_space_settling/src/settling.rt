@@ -19,7 +19,7 @@ ghost use Rattle.nob_model.specs.Right as right;
 ghost use Rattle.nob_session.specs.Stands as ends;
 ghost use Rattle.nob_session.specs.Stands.{is_open_end};
 ghost use Rattle.nob_space_state.specs.Parts.{state_of, with_table, with_work};
-ghost use Rattle.nob_space_state.specs.Returns.{HasLent, GivesBack};
+ghost use Rattle.nob_space_holds.specs.Returns.{HasLent, GivesBack};
 ghost use Rattle.nob_space_state.specs.Stands.{Stands, IsState, Keeps, Did, AnswersOrWants};
 ghost use Rattle.nob_space_settling.specs.Settling.{is_denied, is_lost_here, is_resolved_here, is_settleable, has_lost, lost_call, reply_to_lost, items_given, given_count, with_note, loans_ended};
 
@@ -29,8 +29,9 @@ use nob_model::{Here, Kind, Message, RefCopy, Refusal};
 use nob_model_words::message::RefCopies;
 use nob_pickle::Value;
 use nob_session::Session;
+use nob_space_holds::{give_back_message, send_reserved};
 use nob_space_messages::SlabList;
-use nob_space_state::{Parts, SpaceError, give_back_message, send_reserved};
+use nob_space_state::{Parts, SpaceError};
 use nob_table::{ObjectTable, State};
 use std::alloc::{AllocError, Global};
 

@@ -11,9 +11,9 @@ use Rattle.std.specs.List.{sum_by, IsDistinct}
 use Rattle.nob_ids.specs.Names.{is_same}
 use Rattle.nob_ids.specs.declared.wire_rep.WireRep.{WireRep}
 use Rattle.nob_dirty.specs.Sets.{ListsNothing}
-use Rattle.nob_table.specs.declared.standing.Standing.{Standing}
-use Rattle.nob_table.specs.Order.{place_in}
-use Rattle.nob_table.specs.Standings.{is_live, unknown}
+use Rattle.nob_table_rows.specs.declared.standing.Standing.{Standing}
+use Rattle.nob_table_rows.specs.Order.{place_in}
+use Rattle.nob_table_rows.specs.Standings.{is_live, unknown}
 use Rattle.nob_table.specs.Table.{Table, standing, place_of, surrogate_total}
 use Rattle.nob_model_work.specs.Work.{no_work}
 use Rattle.nob_space_state.specs.Parts.{State}

@@ -52,13 +52,15 @@ use Rattle.nob_model_history.specs.Histories.{history_of}
 use Rattle.nob_model_history.specs.Ends.{bytes_if, calls_at, kind_of, payload_of}
 use Rattle.nob_model_history.specs.Holds.{hand, is_held, times, lent_in}
 use Rattle.nob_model.specs.Right.{right_call, is_last_call, calls_made, last_number, most_calls}
-use Rattle.nob_model.specs.Sending.{◌or_else◌, refuse_if, unless, is_own_and_not_live, is_faulty, ref_refused, refs_refused, value_refused, send_refused, refusal_in}
+use Rattle.nob_model_acting.specs.Sending.{◌or_else◌, refuse_if, unless, is_own_and_not_live, is_faulty, ref_refused, refs_refused, value_refused, send_refused, refusal_in}
 use Rattle.nob_space_state.specs.Parts.{State}
 use Rattle.nob_space_state.specs.Looks.{end_with, has_closed, has_holds, names_none}
-use Rattle.nob_space_state.specs.Sending.{ref_refusal, refs_refusal, value_refusal, next_refusal, send_refusal, has_last_call, call_refusal, AddsPins}
+use Rattle.nob_space_holds.specs.Pins.{AddsPins}
+use Rattle.nob_space_state.specs.Sending.{ref_refusal, refs_refusal, value_refusal, next_refusal, send_refusal, has_last_call, call_refusal}
 use Rattle.nob_model.specs.Lists.{IsRightDeed}
 use Rattle.nob_space_state.proofs.Orderly.{orderly}
-use Rattle.nob_space_state.specs.Stands.{Stands, TableStands}
+use Rattle.nob_space_holds.specs.Shows.{TableStands}
+use Rattle.nob_space_state.specs.Stands.{Stands}
 use Rattle.nob_model.proofs.Made.{loans_made}
 use Rattle.nob_space_state.proofs.Ends.{end_there, ends_changed, ends_kept}
 use Rattle.nob_space_state.proofs.Sent.{HandsOne, calls_here, calls_elsewhere, pins_then, shows_handed, stands_handed}

@@ -10,7 +10,7 @@ use Rattle.nob_item.specs.declared.item.Item.TheVariants as items
 use Rattle.nob_pickle.specs.Shape.{tree}
 use Rattle.nob_pickle.specs.declared.value.Value.{Value}
 use Rattle.nob_pickle.specs.Trees.{Tree, Trees, unit, int, bytes, list, ref, none, more}
-use Rattle.nob_table.proofs.Same.{same_refl}
+use Rattle.nob_table_rows.proofs.Same.{same_refl}
 use Rattle.nob_model_types.specs.declared.answer.Answer.{Answer}
 use Rattle.nob_model_types.specs.declared.answer.Answer.TheVariants as answers
 use Rattle.nob_model_types.specs.declared.refusal.Refusal.{Refusal}
@@ -31,7 +31,7 @@ use Rattle.nob_model_work.specs.Gifts.{gifts, gifts_of}
 use Rattle.nob_model_history.specs.Histories.{history_of}
 use Rattle.nob_model_history.specs.Holds.{times, loans_of, lent_in}
 use Rattle.nob_model.specs.Right.{right_claim, claim_of, job_of, last_number}
-use Rattle.nob_model.specs.Candidates.{target_of, is_free}
+use Rattle.nob_model_acting.specs.Candidates.{target_of, is_free}
 use Rattle.nob_space_state.specs.Parts.{State, with_work}
 use Rattle.nob_model.specs.Lists.{IsRightDeed}
 use Rattle.nob_space_state.specs.Stands.{Stands, AnswersOrWants}
@@ -39,7 +39,7 @@ use Rattle.nob_space_state.proofs.Firsts.{narrower_first, times_without}
 use Rattle.nob_model.proofs.Accepted.{found_passes}
 use Rattle.nob_model.proofs.Carrying.{all_found, all_without}
 use Rattle.nob_model.proofs.Made.{AreFixed, work_fixed, fixed_stays}
-use Rattle.nob_space_state.proofs.Pinned.{times_both}
+use Rattle.nob_space_holds.proofs.Counted.{times_both}
 
 mutual
   -- a tree is the same as itself

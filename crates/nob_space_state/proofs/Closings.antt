@@ -22,11 +22,11 @@ use Rattle.nob_model_end.specs.declared.entry.EndEntry.{EndEntry}
 use Rattle.nob_model_end.specs.declared.entry.Ending.{Ending}
 use Rattle.nob_model_types.specs.declared.answer.Answer.TheVariants as answers
 use Rattle.nob_model_types.specs.declared.refusal.Refusal.TheVariants as refusals
-use Rattle.nob_table.specs.Counts.{is_held}
-use Rattle.nob_table.specs.declared.counts.Counts.{Counts}
-use Rattle.nob_table.specs.declared.standing.Standing.{Standing}
-use Rattle.nob_table.specs.declared.standing.State.TheVariants as states
-use Rattle.nob_table.specs.Standings.{after_close, in_state, unknown, is_live, is_surrogate}
+use Rattle.nob_table_rows.specs.Counts.{is_held}
+use Rattle.nob_table_rows.specs.declared.counts.Counts.{Counts}
+use Rattle.nob_table_rows.specs.declared.standing.Standing.{Standing}
+use Rattle.nob_table_rows.specs.declared.standing.State.TheVariants as states
+use Rattle.nob_table_rows.specs.Standings.{after_close, in_state, unknown, is_live, is_surrogate}
 use Rattle.nob_table.specs.Table.{Table, standing, place_of}
 use Rattle.nob_model_words.specs.declared.deed.Deed.{Deed}
 use Rattle.nob_model_words.specs.declared.deed.Deed.TheVariants.{Closing}
@@ -56,29 +56,23 @@ use Rattle.nob_model.proofs.Made.{AreFixed, all_fixed, fixed_map, work_fixed, fi
 use Rattle.nob_model.proofs.Waiting.{all_weaker}
 use Rattle.nob_model.specs.Lists.{IsRightDeed}
 use Rattle.nob_model.specs.Right.{own_ref, right_closing}
-use Rattle.nob_space_state.specs.Closing.{is_from, lent_from, lent_in_vain, LosesOwner, TableLoses, ClosesDown}
+use Rattle.nob_space_holds.specs.Returns.{is_from, lent_from}
+use Rattle.nob_space_state.specs.Closing.{lent_in_vain, LosesOwner, TableLoses, ClosesDown}
 use Rattle.nob_space_state.specs.Looks.{has_closed}
 use Rattle.nob_space_state.specs.Parts.{State, with_sessions}
-use Rattle.nob_space_state.specs.Returns.{HasLent}
-use Rattle.nob_space_state.specs.Stands.{Stands, EndsStand, TableShows, TableStands, PinsStand, bundle, far_state}
+use Rattle.nob_space_holds.specs.Returns.{HasLent}
+use Rattle.nob_space_holds.specs.Shows.{TableShows, TableStands, far_state}
+use Rattle.nob_space_state.specs.Stands.{Stands, EndsStand, PinsStand, bundle}
 use Rattle.nob_space_state.proofs.Claiming.{times_lent}
 use Rattle.nob_space_state.proofs.Ends.{end_there, ends_changed}
 use Rattle.nob_space_state.proofs.Finishing.{none_of, counted_append, counted_copies, counted_target, state_sound}
-use Rattle.nob_space_state.proofs.Pinned.{times_both}
+use Rattle.nob_space_holds.proofs.Counted.{times_both}
 use Rattle.nob_space_state.proofs.Running.{IsSound, AreSound, all_filter}
-use Rattle.nob_space_state.proofs.Shows.{no_holds}
+use Rattle.nob_space_holds.proofs.Shows.{no_holds}
 use Rattle.nob_space_state.proofs.Told.{closed_there}
 use Rattle.nob_space_state.proofs.Words.{open_calls}
 
 -- ---- what messages from a space have lent
-
-pub from_both : (s p : ℕ) (xs ys : List Message) → lent_from s p (xs ++ ys) ≡ lent_from s p xs ++ lent_from s p ys
-from_both s p xs ys = ap (flat_map (loans_of s)) (filter-append (is_from p) xs ys) ∙ flat_map-append (loans_of s) (filter (is_from p) xs) (filter (is_from p) ys)
-
--- a message from the space lends what it lends, and another nothing
-pub from_lends : (s p : ℕ) (message : Message) (b : Bool) → is_from p message ≡ b → lent_from s p (message ∷ []) ≡ (if b then loans_of s message else [])
-from_lends s p message true is = ap (λ (b : Bool). flat_map (loans_of s) (cond b (message ∷ []) [])) is ∙ append-nil (loans_of s message)
-from_lends s p message false is = ap (λ (b : Bool). flat_map (loans_of s) (cond b (message ∷ []) [])) is
 
 -- each reference stands among all loans as often as among those of the space's messages and of the others
 from_parts : (s p : ℕ) (rep : WireRep) (messages : List Message) → times rep (flat_map (loans_of s) messages) ≡ times rep (lent_from s p messages) + times rep (flat_map (loans_of s) (filter (is_not_from p) messages))

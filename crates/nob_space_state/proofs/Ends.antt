@@ -11,8 +11,8 @@ use Rattle.nob_model_types.specs.declared.refusal.Refusal.TheVariants as refusal
 use Rattle.nob_model_end.specs.Right.{right_transmit}
 use Rattle.std.proofs.lemmas.Bool.Decides.{nat_tests, Decides-eqb}
 use Rattle.nob_ids.specs.Names.{is_same}
-use Rattle.nob_table.proofs.Flat.{get_set_other}
-use Rattle.nob_table.specs.Standings as standings
+use Rattle.nob_table_rows.proofs.Flat.{get_set_other}
+use Rattle.nob_table_rows.specs.Standings as standings
 use Rattle.nob_model_end.specs.declared.entry.Arrived.TheVariants as arrived
 use Rattle.nob_model_end.specs.declared.entry.EndEntry.{EndEntry}
 use Rattle.nob_model_end.specs.declared.entry.EndEntry.TheVariants as ends
@@ -23,7 +23,7 @@ use Rattle.nob_ids.specs.declared.wire_rep.WireRep.{WireRep}
 use Rattle.nob_frame.specs.declared.frame.Frame.{Frame}
 use Rattle.nob_session.specs.Stands as session
 use Rattle.nob_session.specs.Stands.{Roomy, end_of}
-use Rattle.nob_table.specs.Counts.{is_held}
+use Rattle.nob_table_rows.specs.Counts.{is_held}
 use Rattle.nob_table.specs.Table.{standing}
 use Rattle.nob_model_words.specs.declared.deed.Deed.{Deed}
 use Rattle.nob_model_words.specs.declared.deed.Deed.TheVariants.{Transmit, Tick, Arrive}
@@ -42,7 +42,8 @@ use Rattle.nob_model_history.specs.Transit as transit
 use Rattle.nob_model.specs.Right.{calls_made, jobs_made, right_frames}
 use Rattle.nob_space_state.specs.Parts.{State, with_sessions}
 use Rattle.nob_model.specs.Lists.{IsRightDeed}
-use Rattle.nob_space_state.specs.Stands.{Stands, EndsStand, bundle, far_state}
+use Rattle.nob_space_holds.specs.Shows.{far_state}
+use Rattle.nob_space_state.specs.Stands.{Stands, EndsStand, bundle}
 use Rattle.nob_model.proofs.Made.{loans_made}
 
 -- one element changes

@@ -12,16 +12,16 @@ use Rattle.nob_ids.specs.declared.limits.Limits.{Limits}
 use Rattle.nob_ids.specs.declared.wire_rep.WireRep.{WireRep}
 use Rattle.nob_dirty.proofs.Membership.{empty_there}
 use Rattle.nob_pins.specs.Bundles.{count_of}
-use Rattle.nob_table.specs.declared.counts.Counts.{Counts}
-use Rattle.nob_table.specs.declared.fault.TableFault.{TableFault}
-use Rattle.nob_table.specs.declared.fault.TableFault.TheVariants.{Absent, StillUsed, Limit}
-use Rattle.nob_table.specs.declared.fault.TableError.TheVariants as errors
-use Rattle.nob_table.specs.Counts as table_counts
-use Rattle.nob_table.specs.Rows.{IsOnce}
-use Rattle.nob_table.specs.Standings.{is_live, withdrawn, exported_standing}
+use Rattle.nob_table_rows.specs.declared.counts.Counts.{Counts}
+use Rattle.nob_table_rows.specs.declared.fault.TableFault.{TableFault}
+use Rattle.nob_table_rows.specs.declared.fault.TableFault.TheVariants.{Absent, StillUsed, Limit}
+use Rattle.nob_table_rows.specs.declared.fault.TableError.TheVariants as errors
+use Rattle.nob_table_rows.specs.Counts as table_counts
+use Rattle.nob_table_rows.specs.Rows.{IsOnce}
+use Rattle.nob_table_rows.specs.Standings.{is_live, withdrawn, exported_standing}
 use Rattle.nob_table.specs.Table as table
 use Rattle.nob_table.specs.Table.{Table, standing, live_reps, own, withdraw_fault, export_fault, IsRefusal, Becomes, ExportLeaves, WithdrawalLeaves, SameSurrogates}
-use Rattle.nob_table.proofs.Same.{same_laws, same_is, same_refl}
+use Rattle.nob_table_rows.proofs.Same.{same_laws, same_is, same_refl}
 use Rattle.nob_model_types.specs.declared.answer.Answer.TheVariants as answers
 use Rattle.nob_model_types.specs.declared.refusal.Refusal.TheVariants as refusals
 use Rattle.nob_model_types.specs.declared.refusal.Use.TheVariants as uses
@@ -33,15 +33,15 @@ use Rattle.nob_model_history.specs.Histories.{history_of}
 use Rattle.nob_model_history.specs.Holds.{hand, times, gains, releases, lent_in}
 use Rattle.nob_model_history.specs.Listing.{is_listed, is_any_listed}
 use Rattle.nob_model.specs.Right.{right_export, right_withdraw, withdraw_refused, own_ref, most_objects, last_number}
-use Rattle.nob_model.specs.Sending.{◌or_else◌, refuse_if, unless}
+use Rattle.nob_model_acting.specs.Sending.{◌or_else◌, refuse_if, unless}
 use Rattle.nob_space_state.specs.Judging.{export_refusal, withdraw_refusal}
 use Rattle.nob_space_state.specs.Looks.{has_holds, has_clients}
 use Rattle.nob_space_state.specs.Parts.{State, with_table}
 use Rattle.nob_space_state.specs.Stands.{Stands}
 use Rattle.nob_model.specs.Lists.{IsRightDeed}
 use Rattle.nob_space_state.proofs.Orderly.{orderly}
-use Rattle.nob_space_state.proofs.Hands.{times_more}
-use Rattle.nob_space_state.proofs.Shows.{no_holds}
+use Rattle.nob_space_holds.proofs.Counted.{times_more}
+use Rattle.nob_space_holds.proofs.Shows.{no_holds}
 use Rattle.nob_space_state.proofs.Listed.{nobody_listed, somebody_listed}
 use Rattle.nob_space_state.proofs.Pinned.{pins_there}
 use Rattle.nob_space_state.proofs.Quiet.{IsQuiet, export_is_quiet, withdraw_is_quiet}

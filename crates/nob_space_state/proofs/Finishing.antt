@@ -20,7 +20,7 @@ use Rattle.nob_session.specs.Stands as session
 use Rattle.nob_session.specs.Stands.{Roomy}
 use Rattle.nob_pins.specs.Bundles as pins
 use Rattle.nob_table.specs.Table.{Table, standing}
-use Rattle.nob_table.proofs.Same.{same_is}
+use Rattle.nob_table_rows.proofs.Same.{same_is}
 use Rattle.nob_model_types.specs.declared.answer.Answer.TheVariants as answers
 use Rattle.nob_model_types.specs.declared.event.Outcome.{Outcome}
 use Rattle.nob_model_types.specs.declared.event.Outcome.TheVariants as outcomes
@@ -38,16 +38,18 @@ use Rattle.nob_model_history.specs.Histories.{history_of}
 use Rattle.nob_model_history.specs.Ends.{bytes_if, calls_at, kind_of}
 use Rattle.nob_model_history.specs.Holds.{hand, times, is_lent, copies_lent, target_lent, loans_of, lent_in}
 use Rattle.nob_model.specs.Right.{right_finish, finish_of}
-use Rattle.nob_model.specs.Sending.{◌or_else◌, unless}
+use Rattle.nob_model_acting.specs.Sending.{◌or_else◌, unless}
 use Rattle.nob_space_state.specs.Parts.{State}
 use Rattle.nob_space_state.specs.Looks.{has_closed}
-use Rattle.nob_space_state.specs.Returns.{HasLent, GivesBack}
-use Rattle.nob_space_state.specs.Sending.{value_refusal, send_refusal, reply_refusal, AddsPins}
+use Rattle.nob_space_holds.specs.Returns.{HasLent, GivesBack}
+use Rattle.nob_space_holds.specs.Pins.{AddsPins}
+use Rattle.nob_space_state.specs.Sending.{value_refusal, send_refusal, reply_refusal}
 use Rattle.nob_model.specs.Lists.{IsRightDeed}
-use Rattle.nob_space_state.specs.Stands.{Stands, TableShows, TableStands}
+use Rattle.nob_space_holds.specs.Shows.{TableShows, TableStands}
+use Rattle.nob_space_state.specs.Stands.{Stands}
 use Rattle.nob_space_state.proofs.Orderly.{orderly}
 use Rattle.nob_space_state.proofs.Calling.{value_there, send_there, pickle_there, or_none, stands_sent}
-use Rattle.nob_space_state.proofs.Pinned.{times_both}
+use Rattle.nob_space_holds.proofs.Counted.{times_both}
 use Rattle.nob_model.proofs.Made.{loans_made}
 use Rattle.nob_space_state.proofs.Running.{IsCall, IsSoundRun, AreSound, HasCallNumber, all_filter, all_found, work_sound}
 use Rattle.nob_space_state.proofs.Sent.{HandsOne, shows_handed}

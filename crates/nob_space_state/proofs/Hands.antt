@@ -5,15 +5,15 @@ use Rattle.std.proofs.lemmas.Bool.Decides.{nat_tests}
 use Rattle.nob_ids.specs.Names.{is_same}
 use Rattle.nob_ids.specs.declared.limits.Limits.{Limits}
 use Rattle.nob_ids.specs.declared.wire_rep.WireRep.{WireRep}
-use Rattle.nob_table.specs.declared.counts.Counts.{Counts}
-use Rattle.nob_table.specs.declared.counts.Part.TheVariants.{Hand}
-use Rattle.nob_table.specs.declared.standing.Grant.TheVariants.{Waits, Given, Denied}
-use Rattle.nob_table.specs.declared.standing.Surrogate.{Surrogate}
-use Rattle.nob_table.specs.Counts as table_counts
-use Rattle.nob_table.specs.Rows.{row_at}
-use Rattle.nob_table.specs.Standings.{is_known, own_standing, far_standing, state_of}
+use Rattle.nob_table_rows.specs.declared.counts.Counts.{Counts}
+use Rattle.nob_table_rows.specs.declared.counts.Part.TheVariants.{Hand}
+use Rattle.nob_table_rows.specs.declared.standing.Grant.TheVariants.{Waits, Given, Denied}
+use Rattle.nob_table_rows.specs.declared.standing.Surrogate.{Surrogate}
+use Rattle.nob_table_rows.specs.Counts as table_counts
+use Rattle.nob_table_rows.specs.Rows.{row_at}
+use Rattle.nob_table_rows.specs.Standings.{is_known, own_standing, far_standing, state_of}
 use Rattle.nob_table.specs.Table.{Table, standing, was_given, hold_fault, release_fault}
-use Rattle.nob_table.proofs.Same.{same_laws}
+use Rattle.nob_table_rows.proofs.Same.{same_laws}
 use Rattle.nob_model_types.specs.declared.answer.Answer.TheVariants as answers
 use Rattle.nob_model_types.specs.declared.refusal.Refusal.TheVariants as refusals
 use Rattle.nob_model_words.specs.declared.deed.Deed.{Deed}
@@ -22,12 +22,14 @@ use Rattle.nob_model_work.specs.Work.{work}
 use Rattle.nob_model_history.specs.Histories.{history_of}
 use Rattle.nob_model_history.specs.Holds.{hand, times, gains, releases, lent_in}
 use Rattle.nob_model.specs.Right.{right_dup, right_release, most_in_hand}
-use Rattle.nob_model.specs.Sending.{◌or_else◌, refuse_if, unless}
+use Rattle.nob_model_acting.specs.Sending.{◌or_else◌, refuse_if, unless}
 use Rattle.nob_space_state.specs.Judging.{dup_refusal, release_refusal}
 use Rattle.nob_space_state.specs.Looks.{has_holds, names_none, is_cut}
-use Rattle.nob_space_state.specs.Holds.{one_more, one_fewer}
+use Rattle.nob_space_holds.specs.Holds.{one_more, one_fewer}
 use Rattle.nob_space_state.specs.Parts.{State, with_table}
-use Rattle.nob_space_state.specs.Stands.{Stands, TableShows}
+use Rattle.nob_space_holds.specs.Shows.{TableShows}
+use Rattle.nob_space_holds.proofs.Counted.{held_known, times_more}
+use Rattle.nob_space_state.specs.Stands.{Stands}
 use Rattle.nob_model.specs.Lists.{IsRightDeed}
 use Rattle.nob_space_state.proofs.Orderly.{orderly}
 use Rattle.nob_space_state.proofs.Quiet.{IsQuiet, dup_is_quiet, release_is_quiet}
@@ -50,16 +52,6 @@ release_chain true agent empty = refl
 release_chain false true empty = refl
 release_chain false false true = refl
 release_chain false false false = refl
-
--- what has holds is known
-pub held_known : (mine given : Bool) (row : Option Counts) (surrogate : Option Surrogate) (counts : Option Counts) → table_counts.is_held (if mine then own_standing given row else far_standing surrogate counts).counts ≡ true
-    → is_known (if mine then own_standing given row else far_standing surrogate counts).state ≡ true
-held_known true given (Some c) surrogate counts held = refl
-held_known true true None surrogate counts held = absurd (cc)
-held_known true false None surrogate counts held = absurd (cc)
-held_known false given row surrogate None held = absurd (cc)
-held_known false given row None (Some c) held = refl
-held_known false given row (Some g) (Some c) held = elim g.grant as (λ k. is_known (state_of k) ≡ true) [ Waits ↦ refl | Given ↦ refl | Denied ↦ refl ]
 
 -- what a chain that ends in no refusal has passed
 dup_passes : (gone agent held cut full : Bool) → (if gone then Some refusals.NoObject else if agent then Some refusals.NotHeld else if not held then Some refusals.NotHeld else if cut then Some refusals.Closed else if full then Some refusals.Limit else None) ≡ None → (held ≡ true) × (full ≡ false)
@@ -114,10 +106,6 @@ module _ {s n : ℕ} {limits : Limits} {st : State} {D : List Deed} (stands : St
         rw (sym (gone_there stands rep), sym (stands.table.hands rep (rw counted refl)))
         (release_chain (names_none s st.table rep) (rep.index == 0) ((standing st.table rep).counts.hand == 0))
   ] refl
-
--- one more of a list
-pub times_more : (rep other : WireRep) (reps : List WireRep) → times other (rep ∷ reps) ≡ (if is_same rep other then times other reps + 1 else times other reps)
-times_more rep other reps = rw (same_laws.symm rep other) (elim (is_same other rep) as (λ b. length (cond b (rep ∷ filter (is_same other) reps) (filter (is_same other) reps)) ≡ (if b then times other reps + 1 else times other reps)) [ true ↦ omega arith | false ↦ refl ])
 
 -- no more is released where one more came into the hand
 pub gains_more : (rep other : WireRep) (D : List Deed) → times other (releases D) ≤ times other (gains D) → times other (releases D) ≤ times other (rep ∷ gains D)

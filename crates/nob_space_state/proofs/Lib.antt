@@ -1,7 +1,6 @@
 pub mod Words
 pub mod Orderly
 pub mod Told
-pub mod Shows
 pub mod Quiet
 pub mod Rows
 pub mod Stood
@@ -15,10 +14,8 @@ pub mod Firsts
 pub mod Claiming
 pub mod Sent
 pub mod Calling
-pub mod Taking
 pub mod Replies
 pub mod Running
-pub mod Returned
 pub mod Finishing
 pub mod Closings
 pub mod Arrivals

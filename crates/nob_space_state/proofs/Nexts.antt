@@ -6,7 +6,7 @@ use Rattle.std.proofs.lemmas.Bool.Decides.{nat_tests, Decides-eqb}
 use Rattle.std.proofs.lemmas.Cmp.{nat_eq_equiv}
 use Rattle.std.proofs.lemmas.Option.{none-some}
 use Rattle.nob_pins.specs.Bundles.{count_of}
-use Rattle.nob_table.specs.Standings.{is_live, is_unheld}
+use Rattle.nob_table_rows.specs.Standings.{is_live, is_unheld}
 use Rattle.nob_table.specs.Table.{standing, own, NeverUnheld, IsFirstUnheld}
 use Rattle.nob_model_types.specs.declared.answer.Answer.TheVariants as answers
 use Rattle.nob_model_types.specs.declared.refusal.Refusal.{Refusal}
@@ -17,10 +17,10 @@ use Rattle.nob_model_words.specs.Sessions.{is_peer}
 use Rattle.nob_model_work.specs.declared.work.InHand.{InHand}
 use Rattle.nob_model_history.specs.Ends.{calls_at}
 use Rattle.nob_model_history.specs.Histories.{history_of}
-use Rattle.nob_model.specs.Candidates.{is_free}
+use Rattle.nob_model_acting.specs.Candidates.{is_free}
 use Rattle.nob_model.specs.Next.{can_act, can_claim, to_withdraw}
 use Rattle.nob_model.specs.Right.{own_ref, right_withdraw}
-use Rattle.nob_model.specs.Sending.{unless}
+use Rattle.nob_model_acting.specs.Sending.{unless}
 use Rattle.nob_model.proofs.Possible.{least_law}
 use Rattle.nob_space_state.specs.Judging.{withdraw_refusal}
 use Rattle.nob_space_state.specs.Looks.{has_closed, has_clients, has_holds}

@@ -9,7 +9,7 @@ use Rattle.nob_ids.specs.declared.limits.Limits.{Limits}
 use Rattle.nob_ids.specs.declared.wire_rep.WireRep.{WireRep}
 use Rattle.nob_item.specs.Kinds.{counted_in}
 use Rattle.nob_pins.specs.Bundles as pins
-use Rattle.nob_table.proofs.Same.{same_laws}
+use Rattle.nob_table_rows.proofs.Same.{same_laws}
 use Rattle.nob_model_words.specs.declared.deed.Deed.{Deed}
 use Rattle.nob_model_history.specs.declared.transit.SentItem.{SentItem}
 use Rattle.nob_model_history.specs.Histories.{history_of}
@@ -17,10 +17,7 @@ use Rattle.nob_model_history.specs.Holds.{times}
 use Rattle.nob_model_history.specs.Transit as transit
 use Rattle.nob_space_state.specs.Parts.{State}
 use Rattle.nob_space_state.specs.Stands.{Stands, bundle}
-
--- how often a reference stands in two lists
-pub times_both : (rep : WireRep) (one other : List WireRep) → times rep (one ++ other) ≡ times rep one + times rep other
-times_both rep one other = ap length (filter-append (is_same rep) one other) ∙ length-append (filter (is_same rep) one) (filter (is_same rep) other)
+use Rattle.nob_space_holds.proofs.Counted.{times_both}
 
 -- the same in whichever order two references are compared
 times_same : (rep : WireRep) (reps : List WireRep) → pins.times rep reps ≡ times rep reps

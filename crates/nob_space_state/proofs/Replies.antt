@@ -18,7 +18,7 @@ use Rattle.nob_item.specs.Kinds.{counted_in, refs_carried}
 use Rattle.nob_item.specs.declared.item.Item.{Item}
 use Rattle.nob_item.specs.declared.item.Item.TheVariants as items
 use Rattle.nob_table.specs.Table.{Table, standing}
-use Rattle.nob_table.proofs.Same.{same_is}
+use Rattle.nob_table_rows.proofs.Same.{same_is}
 use Rattle.nob_model_types.specs.declared.answer.Answer.TheVariants as answers
 use Rattle.nob_model_types.specs.declared.refusal.Refusal.TheVariants as refusals
 use Rattle.nob_model_words.specs.declared.deed.Deed.{Deed}
@@ -37,18 +37,20 @@ use Rattle.nob_model.specs.Lists.{IsRightDeed}
 use Rattle.nob_model.specs.Right.{most_in_hand, is_handful, right_take_reply, take_of, answer_of_stage}
 use Rattle.nob_model.specs.Right as right
 use Rattle.nob_model.specs.Next.{is_not_ready, reply_ready}
-use Rattle.nob_model.specs.Sending.{refuse_if, unless}
+use Rattle.nob_model_acting.specs.Sending.{refuse_if, unless}
 use Rattle.nob_model.proofs.Carrying.{Carries, all_carry, all_found, all_without}
 use Rattle.nob_model.proofs.Lending.{IsAllLent, all_lent}
 use Rattle.nob_model.proofs.Made.{AreFixed, work_fixed, fixed_stays}
 use Rattle.nob_model.proofs.Replying.{answered_once}
 use Rattle.nob_space_state.specs.Parts.{State}
-use Rattle.nob_space_state.specs.Stands.{Stands, TableShows}
-use Rattle.nob_space_state.specs.Taking.{reps_of, is_full, is_overfull, is_reply, answer_of_item, answer_of_reply, answer_of_call, take_answer, CanTake, with_more, with_fewer}
+use Rattle.nob_space_holds.specs.Shows.{TableShows}
+use Rattle.nob_space_state.specs.Stands.{Stands}
+use Rattle.nob_space_holds.specs.TakingOver.{reps_of, CanTake, with_more, with_fewer}
+use Rattle.nob_space_state.specs.Taking.{is_full, is_overfull, is_reply, answer_of_item, answer_of_reply, answer_of_call, take_answer}
 use Rattle.nob_space_state.proofs.Claiming.{times_lent}
 use Rattle.nob_space_state.proofs.Firsts.{times_without}
 use Rattle.nob_space_state.proofs.Orderly.{orderly}
-use Rattle.nob_space_state.proofs.Pinned.{times_both}
+use Rattle.nob_space_holds.proofs.Counted.{times_both}
 use Rattle.nob_space_state.proofs.Rows.{differ}
 
 -- ---- counted references

@@ -5,24 +5,24 @@ use Rattle.std.proofs.lemmas.Map.Views.{any-filter_same}
 use Rattle.std.specs.List.{IsDistinct, AllByRecursion, list_any, filter}
 use Rattle.nob_ids.specs.Names.{is_same, is_counted}
 use Rattle.nob_ids.specs.declared.wire_rep.WireRep.{WireRep}
-use Rattle.nob_table.specs.declared.counts.Counts.{Counts}
-use Rattle.nob_table.specs.declared.standing.Grant.TheVariants.{Waits, Given, Denied}
-use Rattle.nob_table.specs.declared.standing.Standing.{Standing}
-use Rattle.nob_table.specs.declared.standing.Surrogate.{Surrogate}
-use Rattle.nob_table.specs.Counts.{no_counts}
-use Rattle.nob_table.specs.Rows.{row_at, IsOnce}
-use Rattle.nob_table.specs.Standings.{is_live, is_surrogate, own_standing, far_standing, state_of}
+use Rattle.nob_table_rows.specs.declared.counts.Counts.{Counts}
+use Rattle.nob_table_rows.specs.declared.standing.Grant.TheVariants.{Waits, Given, Denied}
+use Rattle.nob_table_rows.specs.declared.standing.Standing.{Standing}
+use Rattle.nob_table_rows.specs.declared.standing.Surrogate.{Surrogate}
+use Rattle.nob_table_rows.specs.Counts.{no_counts}
+use Rattle.nob_table_rows.specs.Rows.{row_at, IsOnce}
+use Rattle.nob_table_rows.specs.Standings.{is_live, is_surrogate, own_standing, far_standing, state_of}
 use Rattle.nob_table.specs.Table.{Table, standing, live_reps, was_given, Becomes, SameSurrogates}
-use Rattle.nob_table.proofs.Same.{same_laws, same_is}
+use Rattle.nob_table_rows.proofs.Same.{same_laws, same_is}
 use Rattle.nob_model_words.specs.Objects as objects
 use Rattle.nob_model_words.specs.Turns.{is_own, turns}
 use Rattle.nob_model_words.specs.Sessions.{closed}
 use Rattle.nob_model_history.specs.declared.history.History.{History}
 use Rattle.nob_model_history.specs.Transit as transit
 use Rattle.nob_model.specs.Right.{own_ref}
-use Rattle.nob_table.specs.Counts as counts
-use Rattle.nob_space_state.specs.Stands.{TableShows, far_state}
-use Rattle.nob_space_state.proofs.Shows.{one_row}
+use Rattle.nob_table_rows.specs.Counts as counts
+use Rattle.nob_space_holds.specs.Shows.{TableShows, far_state}
+use Rattle.nob_space_holds.proofs.Shows.{one_row}
 use Rattle.nob_space_state.proofs.Told.{own_is}
 
 -- an own object is no surrogate, and without counts where it isn't live

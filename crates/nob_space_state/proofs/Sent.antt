@@ -14,8 +14,8 @@ use Rattle.nob_model_end.specs.End.{accepted, handed}
 use Rattle.nob_model_end.specs.declared.entry.EndEntry.{EndEntry}
 use Rattle.nob_model_end.specs.declared.entry.EndEntry.TheVariants as ends
 use Rattle.nob_session.specs.Stands.{Roomy}
-use Rattle.nob_table.specs.Counts.{is_held}
-use Rattle.nob_table.specs.Standings as standings
+use Rattle.nob_table_rows.specs.Counts.{is_held}
+use Rattle.nob_table_rows.specs.Standings as standings
 use Rattle.nob_table.specs.Table.{Table, standing}
 use Rattle.nob_pins.specs.Bundles.{Pinned, bundle_of, is_of, has_bundle}
 use Rattle.nob_pins.specs.Bundles as pins
@@ -41,9 +41,10 @@ use Rattle.nob_model_history.proofs.Pinning.{bundles_kept, bundle_sent, new_pins
 use Rattle.nob_model_history.proofs.Sending.{new_items}
 use Rattle.nob_model.specs.Right.{own_ref, calls_made, jobs_made}
 use Rattle.nob_space_state.specs.Parts.{State}
-use Rattle.nob_space_state.specs.Sending.{AddsPins}
+use Rattle.nob_space_holds.specs.Pins.{AddsPins}
 use Rattle.nob_model.specs.Lists.{IsRightDeed}
-use Rattle.nob_space_state.specs.Stands.{Stands, EndsStand, TableShows, TableStands, PinsStand, bundle, far_state}
+use Rattle.nob_space_holds.specs.Shows.{TableShows, TableStands, far_state}
+use Rattle.nob_space_state.specs.Stands.{Stands, EndsStand, PinsStand, bundle}
 
 -- an item that goes to a peer
 abbrev pub gift_to : ℕ → Item → Gift

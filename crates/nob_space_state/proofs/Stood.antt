@@ -5,8 +5,8 @@ use Rattle.nob_ids.specs.Names.{is_counted}
 use Rattle.nob_ids.specs.declared.limits.Limits.{Limits}
 use Rattle.nob_ids.specs.declared.wire_rep.WireRep.{WireRep}
 use Rattle.nob_session.specs.Stands.{end_of}
-use Rattle.nob_table.specs.Counts.{is_held}
-use Rattle.nob_table.specs.Standings as standings
+use Rattle.nob_table_rows.specs.Counts.{is_held}
+use Rattle.nob_table_rows.specs.Standings as standings
 use Rattle.nob_table.specs.Table.{Table, standing}
 use Rattle.nob_model_words.specs.declared.deed.Deed.{Deed}
 use Rattle.nob_model_words.specs.Objects as objects
@@ -16,7 +16,8 @@ use Rattle.nob_model_history.specs.Histories.{history_of}
 use Rattle.nob_model_history.specs.Transit as transit
 use Rattle.nob_model.specs.Lists.{IsRightDeed}
 use Rattle.nob_space_state.specs.Parts.{State, with_table}
-use Rattle.nob_space_state.specs.Stands.{Stands, TableShows, TableStands, bundle, far_state}
+use Rattle.nob_space_holds.specs.Shows.{TableShows, TableStands, far_state}
+use Rattle.nob_space_state.specs.Stands.{Stands, bundle}
 use Rattle.nob_space_state.proofs.Quiet.{IsQuiet}
 
 module _ {s n : ℕ} {deed : Deed} {D : List Deed} (quiet : IsQuiet s n deed D) where

@@ -6,9 +6,9 @@ use Rattle.nob_ids.specs.Names.{is_counted}
 use Rattle.nob_ids.specs.declared.limits.Limits.{Limits}
 use Rattle.nob_ids.specs.declared.wire_rep.WireRep.{WireRep}
 use Rattle.nob_session.specs.Stands.{Roomy, is_open_end}
-use Rattle.nob_table.specs.Counts as counts
+use Rattle.nob_table_rows.specs.Counts as counts
 use Rattle.nob_table.specs.Table.{standing}
-use Rattle.nob_table.specs.Standings as standings
+use Rattle.nob_table_rows.specs.Standings as standings
 use Rattle.nob_model_end.specs.End.{is_open}
 use Rattle.nob_model_words.specs.declared.deed.Deed.{Deed}
 use Rattle.nob_model_words.specs.Objects as objects

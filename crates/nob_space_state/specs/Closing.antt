@@ -5,7 +5,7 @@ use Rattle.nob_ids.specs.declared.reason.Reason.{Reason}
 use Rattle.nob_ids.specs.declared.wire_rep.WireRep.{WireRep}
 use Rattle.nob_dirty.specs.Sets.{LeavesAll}
 use Rattle.nob_pins.specs.Bundles.{TakesOutAll}
-use Rattle.nob_table.specs.Standings.{after_close}
+use Rattle.nob_table_rows.specs.Standings.{after_close}
 use Rattle.nob_table.specs.Table.{Table, standing, place_of, is_of, RemovalLeaves}
 use Rattle.nob_frame.specs.declared.frame.Frame.{Frame}
 use Rattle.nob_model_end.specs.declared.entry.Arrived.{Arrived}
@@ -24,16 +24,8 @@ use Rattle.nob_model_work.specs.Work as work
 use Rattle.nob_model_history.specs.Holds.{loans_of}
 use Rattle.nob_model.specs.Lists.{IsRightDeed}
 use Rattle.nob_space_state.specs.Parts.{State}
-use Rattle.nob_space_state.specs.Returns.{GivesBack}
+use Rattle.nob_space_holds.specs.Returns.{GivesBack, lent_from}
 use Rattle.nob_space_state.specs.Stands.{Stands}
-
--- whether a message came from p
-abbrev pub is_from : ℕ → Message → Bool
-is_from p message = message.from == p
-
--- what the messages from p among some have lent
-abbrev pub lent_from : (s p : ℕ) → List Message → List WireRep
-lent_from s p messages = flat_map (loans_of s) (filter (is_from p) messages)
 
 -- what the messages from p that wait and the ready jobs from p have lent
 abbrev pub lent_in_vain : (s p : ℕ) → InHand → List WireRep

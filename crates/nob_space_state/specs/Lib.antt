@@ -1,12 +1,10 @@
 pub use Rattle.nob_table.specs.Table
-pub use Rattle.nob_table.specs.Standings
+pub use Rattle.nob_table_rows.specs.Standings
 pub use Rattle.nob_model_history.specs.Histories
-pub mod Holds
 pub mod Looks
 pub mod Judging
 pub mod Sending
 pub mod Parts
 pub mod Taking
 pub mod Stands
-pub mod Returns
 pub mod Closing

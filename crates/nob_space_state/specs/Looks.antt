@@ -5,9 +5,9 @@ use Rattle.std.specs.List.{list_any}
 use Rattle.nob_dirty.specs.declared.sets.Listing.{Listing}
 use Rattle.nob_dirty.specs.Sets.{has_index}
 use Rattle.nob_session.specs.Stands.{Roomy, is_open_end}
-use Rattle.nob_table.specs.Standings.{is_live}
+use Rattle.nob_table_rows.specs.Standings.{is_live}
 use Rattle.nob_table.specs.Table.{Table, standing}
-use Rattle.nob_table.specs.Counts as counts
+use Rattle.nob_table_rows.specs.Counts as counts
 
 -- whether an end, where there is one, has closed
 abbrev pub is_closed_end : Option Roomy → Bool

@@ -19,7 +19,7 @@ use Rattle.nob_model_words.specs.declared.deed.Deed.{Deed}
 use Rattle.nob_model_words.specs.declared.deed.Deed.TheVariants as did
 use Rattle.nob_model_words.specs.Sessions.{is_peer}
 use Rattle.nob_model.specs.Right.{most_calls, last_number}
-use Rattle.nob_model.specs.Sending.{◌or_else◌, refuse_if, is_faulty, refusal_in}
+use Rattle.nob_model_acting.specs.Sending.{◌or_else◌, refuse_if, is_faulty, refusal_in}
 use Rattle.nob_space_state.specs.declared.finish.ReplyFate.{ReplyFate}
 use Rattle.nob_space_state.specs.declared.finish.ReplyFate.TheVariants as fates
 use Rattle.nob_space_state.specs.Parts.{State}
@@ -58,11 +58,6 @@ call_refusal s n st target value = refuse_if (not (is_peer s n target.owner)) re
 -- why the Reply to a client may not be sent
 abbrev pub reply_refusal : (s client : ℕ) → State → Value → Option Refusal
 reply_refusal s client st value = value_refusal s st value or_else send_refusal client Limited st
-
--- new has the bundles of old, and that of these references to a peer in an item where there are any
-abbrev pub AddsPins : List Pinned → List Pinned → (peer item : ℕ) → List WireRep → Type 0
-AddsPins old new peer item [] = new ≡ old
-AddsPins old new peer item (rep ∷ reps) = Adds old new (bundle_of peer item (rep ∷ reps))
 
 -- the answer to a Finish, by what became of the reply
 abbrev pub finish_answer : ReplyFate → Answer

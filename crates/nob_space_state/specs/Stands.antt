@@ -8,10 +8,10 @@ use Rattle.nob_ids.specs.declared.wire_rep.WireRep.{WireRep}
 use Rattle.nob_item.specs.Kinds.{counted_in}
 use Rattle.nob_session.specs.Stands as session
 use Rattle.nob_session.specs.Stands.{Roomy}
-use Rattle.nob_table.specs.declared.standing.State.{State as TableState}
-use Rattle.nob_table.specs.declared.standing.State.TheVariants as states
-use Rattle.nob_table.specs.Counts.{is_held}
-use Rattle.nob_table.specs.Standings as standings
+use Rattle.nob_table_rows.specs.declared.standing.State.{State as TableState}
+use Rattle.nob_table_rows.specs.declared.standing.State.TheVariants as states
+use Rattle.nob_table_rows.specs.Counts.{is_held}
+use Rattle.nob_table_rows.specs.Standings as standings
 use Rattle.nob_table.specs.Table.{Table, standing, place_of}
 use Rattle.nob_dirty.specs.Sets.{lists}
 use Rattle.nob_pins.specs.Bundles.{Pinned, bundle_of}
@@ -32,6 +32,7 @@ use Rattle.nob_model_history.specs.Transit as transit
 use Rattle.nob_model_history.specs.Listing.{is_listed}
 use Rattle.nob_model.specs.Right.{own_ref, calls_made, jobs_made}
 use Rattle.nob_model.specs.Lists.{AreRightDeeds}
+use Rattle.nob_space_holds.specs.Shows.{TableStands}
 use Rattle.nob_space_state.specs.declared.error.SpaceError.{SpaceError}
 use Rattle.nob_space_state.specs.declared.error.SpaceError.TheVariants as errors
 use Rattle.nob_space_state.specs.Parts.{State}
@@ -40,27 +41,6 @@ use Rattle.nob_space_state.specs.Parts.{State}
 pub record EndsStand (s n : ℕ) (limits : Limits) (sessions : List Roomy) (h : History) : Type 0 where
   pub each : length sessions ≡ n
   pub ends : (place : ℕ) (end : Roomy) → slice_get sessions place ≡ Some end → session.Stands s (place + 1) limits end.end (calls_at (place + 1) h)
-
--- how a reference to another space's object stands: while the session with its owner is open here by what was asked and answered, and then lost as long as it is held
-abbrev pub far_state : (has_closed has_holds : Bool) → Turns → TableState
-far_state true has_holds t = if has_holds then states.Lost else states.Unknown
-far_state false has_holds t = if is_pending t then states.Pending else if is_granted t then states.Granted else if is_refused t then states.Refused else states.Unknown
-
--- the table has the objects and the surrogates of a history, in the order of their Dirties, and these holds: so many in hand and so many lent
-pub record TableShows (s n : ℕ) (t : Table) (h : History) (in_hand on_loan : WireRep → ℕ) : Type 0 where
-  pub me : t.me ≡ s
-  -- as many indexes were given as Exports were answered
-  pub exported : t.exported ≡ length (objects.exports h.deeds)
-  pub live : (index : ℕ) → standings.is_live (standing t (own_ref s index)).state ≡ objects.is_live s index h.deeds
-  pub far : (rep : WireRep) → is_counted rep ≡ true → is_own s rep ≡ false → (standing t rep).state ≡ far_state (closed rep.owner h.deeds) (is_held (standing t rep).counts) (turns s n rep h.deeds)
-  pub hands : (rep : WireRep) → is_counted rep ≡ true → (standing t rep).counts.hand ≡ in_hand rep
-  pub loans : (rep : WireRep) → is_counted rep ≡ true → (standing t rep).counts.lent ≡ on_loan rep
-  pub dirties : t.dirties ≡ length (transit.dirties h)
-  pub places : (rep : WireRep) → place_of t rep ≡ (if standings.is_surrogate (standing t rep).state then transit.place rep h else None)
-
--- the table stands for a history: its holds are those of the history
-abbrev pub TableStands : (s n : ℕ) → Table → History → Type 0
-TableStands s n t h = TableShows s n t h (λ rep. hand rep h.deeds) (λ rep. times rep (lent_in s h.work))
 
 -- what was sent, as the bundle of its pins
 abbrev pub bundle : SentItem → Pinned

@@ -17,15 +17,12 @@ use Rattle.nob_model_words.specs.Messages.{replies_to}
 use Rattle.nob_model_work.specs.declared.work.OwnCall.{OwnCall}
 use Rattle.nob_model_work.specs.Work.{is_call}
 use Rattle.nob_model_history.specs.Holds.{times}
-use Rattle.nob_model.specs.Sending.{refuse_if, unless}
+use Rattle.nob_model_acting.specs.Sending.{refuse_if, unless}
 use Rattle.nob_model.specs.Right.{most_in_hand, answer_of_stage}
+use Rattle.nob_space_holds.specs.TakingOver.{reps_of}
 use Rattle.nob_space_state.specs.declared.take.CallResult.{CallResult}
 use Rattle.nob_space_state.specs.declared.take.CallResult.TheVariants as results
 use Rattle.nob_space_state.specs.Parts.{State}
-
--- the references that copies are of, in order
-abbrev pub reps_of : List RefCopy → List WireRep
-reps_of copies = map (λ copy. copy.rep) copies
 
 -- whether the hand of a reference would pass its limit by references that come into it
 abbrev pub is_full : Table → List WireRep → WireRep → Bool
@@ -72,15 +69,3 @@ answer_of results.Ended = answers.Ended
 abbrev pub deed_of : ℕ → CallResult → Deed
 deed_of k (results.Replied status value) = did.TakeReply k status value
 deed_of k results.Ended = did.TakeEnd k
-
--- references are lent as often as they stand in a list, and that often the hand can take them
-pub record CanTake (t : Table) (reps : List WireRep) : Type 0 where
-  pub lent : (rep : WireRep) → times rep reps ≤ (standing t rep).counts.lent
-  pub room : (rep : WireRep) → 1 ≤ times rep reps → (standing t rep).counts.hand + times rep reps ≤ most_in_hand
-
--- holds with more references, and with fewer
-abbrev pub with_more : List WireRep → (WireRep → ℕ) → WireRep → ℕ
-with_more reps holds rep = holds rep + times rep reps
-
-abbrev pub with_fewer : List WireRep → (WireRep → ℕ) → WireRep → ℕ
-with_fewer reps holds rep = holds rep - times rep reps

@@ -15,12 +15,12 @@ ghost use Rattle.nob_space_state.specs.Stands.{Stands, IsState, Keeps, Did, Answ
 
 use crate::error::SpaceError;
 use crate::parts::Parts;
-use crate::sending::{counted_refs, hand};
 use nob_ids::{CallNo, SpaceId, WireRep};
 use nob_item::{ItemError, encode_call};
 use nob_model::right::{LAST_NUMBER, MOST_CALLS};
 use nob_model::{Here, Kind, OwnCall, Refusal, Stage};
 use nob_pickle::Value;
+use nob_space_holds::{counted_refs, hand};
 use std::alloc::Global;
 
 impl Parts {

@@ -1,62 +1,29 @@
 //! The closing of a session, by whichever event. It takes no memory.
 
-ghost use Rattle.std.specs.Prelude.{◌≡◌, ℕ, List, ◌∷◌, true, false, filter, map, OnErr, IfOk};
+ghost use Rattle.std.specs.Prelude.{◌≡◌, List, true, false, map, OnErr, IfOk};
 ghost use Rattle.std.specs.List.{list_any};
 ghost use Rattle.nob_ids.specs.declared.limits.Limits.{Limits as LimitsOf};
 ghost use Rattle.nob_model_types.specs.declared.answer.Answer.TheVariants as answers;
 ghost use Rattle.nob_model_words.specs.declared.deed.Deed.{Deed};
 ghost use Rattle.nob_model_words.specs.declared.deed.Deed.TheVariants as did;
 ghost use Rattle.nob_model_words.specs.declared.deed.Cause.TheVariants as causes;
-ghost use Rattle.nob_model_words.specs.Messages.{is_not_from};
 ghost use Rattle.nob_model_words.specs.Sessions.{is_peer};
 ghost use Rattle.nob_model_work.specs.Work as words;
 ghost use Rattle.nob_model_history.specs.Histories.{history_of};
 ghost use Rattle.nob_model.specs.Right as right;
-ghost use Rattle.nob_model.specs.Lists.{IsRightDeed};
-ghost use Rattle.nob_space_state.specs.Closing.{is_from, lent_from, lent_in_vain, ClosesDown, Closes};
+ghost use Rattle.nob_space_state.specs.Closing.{lent_in_vain, ClosesDown, Closes};
 ghost use Rattle.nob_space_state.specs.Looks.{has_closed};
 ghost use Rattle.nob_space_state.specs.Parts.{state_of};
-ghost use Rattle.nob_space_state.specs.Returns.{HasLent, GivesBack};
+ghost use Rattle.nob_space_holds.specs.Returns.{HasLent};
 ghost use Rattle.nob_space_state.specs.Stands.{Stands, IsState, Keeps, Did, Answers};
 
-use crate::finish::give_back_message;
 use crate::parts::Parts;
 use nob_ids::{CallNo, Reason, SpaceId};
 use nob_model::{Here, Message, OwnCall, Refusal, Stage};
 use nob_model_words::message::replies_to;
 use nob_session::Closed;
+use nob_space_holds::throw_away;
 use nob_space_messages::SlabList;
-use nob_table::ObjectTable;
-
-// Whether a message came from a space.
-fn is_from(peer: SpaceId, message: &Message) -> bool
-    ensures { result ≡ is_from peer message.now }
-{
-    message.from == peer
-}
-
-// Gives back what the messages from a space have lent.
-fn give_back_from(table: &mut ObjectTable, me: SpaceId, peer: SpaceId, messages: &SlabList<Message>)
-    requires { HasLent table.old (lent_from me peer messages.now.items) }
-    ensures { GivesBack table.old table.new (lent_from me peer messages.now.items) }
-{
-    for place in 0..messages.len() {
-        let message = &messages[place];
-        if is_from(peer, message) {
-            give_back_message(table, me, message);
-        }
-    }
-}
-
-// Throws the messages from a space away: what they have lent is given back.
-fn throw_away(table: &mut ObjectTable, messages: &mut SlabList<Message>, me: SpaceId, peer: SpaceId)
-    requires { HasLent table.old (lent_from me peer messages.old.items) }
-    ensures back { GivesBack table.old table.new (lent_from me peer messages.old.items) }
-    ensures left { messages.new.items ≡ filter (is_not_from peer) messages.old.items }
-{
-    give_back_from(table, me, peer, messages);
-    messages.retain(|message| !is_from(peer, message));
-}
 
 // Whether a Reply from a space to a call is ready.
 fn is_replied(peer: SpaceId, call: CallNo, replies: &SlabList<Message>) -> bool

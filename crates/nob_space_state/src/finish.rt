@@ -1,9 +1,7 @@
-//! The event Finish, and how what a message has lent is given back.
+//! The event Finish.
 
-ghost use Rattle.std.specs.Prelude.{◌≡◌, ℕ, ◌-◌, ◌<◌, ◌≤◌, List, [], ◌∷◌, true, Some, None, Ok, Err, filter, flat_map, find, not, option_map, OnErr, IfOk, IfSome, MatchOption, MatchResult};
+ghost use Rattle.std.specs.Prelude.{◌≡◌, ◌-◌, ◌<◌, List, true, Some, None, Ok, Err, find, not, OnErr, IfOk, MatchResult};
 ghost use Rattle.nob_ids.specs.declared.limits.Limits.{Limits as LimitsOf};
-ghost use Rattle.nob_ids.specs.declared.wire_rep.WireRep.{WireRep as WireRepOf};
-ghost use Rattle.nob_model_types.specs.declared.event.Outcome.{Outcome as OutcomeOf};
 ghost use Rattle.nob_model_words.specs.declared.deed.Deed.{Deed};
 ghost use Rattle.nob_model_work.specs.Gifts as words;
 ghost use Rattle.nob_pickle.specs.Limits.{Fits};
@@ -11,25 +9,19 @@ ghost use Rattle.nob_pickle.specs.declared.value.Value.TheVariants as values;
 ghost use Rattle.nob_model_work.specs.declared.work.Run.{Run as RunOf};
 ghost use Rattle.nob_model_work.specs.Work.{is_run};
 ghost use Rattle.nob_model_history.specs.Histories.{history_of};
-ghost use Rattle.nob_model_history.specs.declared.history.History.{History};
-ghost use Rattle.nob_model_history.specs.Holds.{times, copies_lent, target_lent, loans_of, is_lent};
 ghost use Rattle.nob_model.specs.Right as right;
-ghost use Rattle.nob_table.specs.Table.{standing};
 ghost use Rattle.nob_space_state.specs.Looks.{has_closed};
 ghost use Rattle.nob_space_state.specs.Parts.{state_of};
 ghost use Rattle.nob_space_state.specs.Sending.{reply_refusal, finish_answer, finish_deed};
-ghost use Rattle.nob_space_state.specs.Returns.{HasLent, GivesBack};
 ghost use Rattle.nob_space_state.specs.Stands.{Stands, IsState, Keeps, Did, AnswersOrWants};
 
 use crate::error::SpaceError;
 use crate::parts::Parts;
-use crate::sending::{counted_refs, hand};
-use nob_ids::{CallNo, JobNo, SpaceId, WireRep};
+use nob_ids::{JobNo, SpaceId};
 use nob_item::{Item, ItemError, encode_reply};
-use nob_model::{Here, Kind, Loan, Message, Outcome, RefCopy, Refusal, Run};
+use nob_model::{Here, Kind, Outcome, Refusal};
 use nob_pickle::Value;
-use nob_space_messages::SlabList;
-use nob_table::{ObjectTable, Part};
+use nob_space_holds::{counted_refs, end_job, find_run, hand};
 use std::alloc::Global;
 
 /// What became of the reply to a job that was ended.
@@ -39,109 +31,6 @@ pub enum ReplyFate {
     HandedOn,
     /// It is dropped: the session with the client has closed.
     Dropped,
-}
-
-/// Gives back one loan of a reference. Constant time on average.
-pub fn give_back(table: &mut ObjectTable, rep: WireRep)
-    requires { 0 < (standing table.old rep).counts.lent }
-    ensures { GivesBack table.old table.new (rep ∷ []) }
-{
-    match table.release(rep, Part::Lent) {
-        Ok(()) => {}
-        Err(_) => unreachable!(),
-    }
-}
-
-// Whether a loan is made.
-fn is_lent(loan: Loan) -> bool
-    ensures { result ≡ is_lent loan }
-{
-    match loan {
-        Loan::Lent => true,
-        Loan::Due | Loan::Never => false,
-    }
-}
-
-// Gives back what these copies have lent.
-fn give_back_copies(table: &mut ObjectTable, copies: &[RefCopy])
-    requires { HasLent table.old (copies_lent copies.now) }
-    ensures { GivesBack table.old table.new (copies_lent copies.now) }
-{
-    for copy in copies {
-        if is_lent(copy.loan) {
-            give_back(table, copy.rep);
-        }
-    }
-}
-
-// Gives back the target that a Call has lent.
-fn give_back_target(table: &mut ObjectTable, me: SpaceId, item: &Item)
-    requires { HasLent table.old (target_lent me item.now) }
-    ensures { GivesBack table.old table.new (target_lent me item.now) }
-{
-    let Item::Call { target, .. } = item else {
-        return;
-    };
-    if *target == 0 {
-        return;
-    }
-    give_back(
-        table,
-        WireRep {
-            owner: me,
-            index: *target,
-        },
-    );
-}
-
-/// Gives back what a message has lent: the target of a Call, and its copies. Linear in them.
-pub fn give_back_message(table: &mut ObjectTable, me: SpaceId, message: &Message)
-    requires { HasLent table.old (loans_of me message.now) }
-    ensures { GivesBack table.old table.new (loans_of me message.now) }
-{
-    give_back_target(table, me, &message.item);
-    give_back_copies(table, message.copies.as_slice());
-}
-
-// Whether a job has this number.
-fn is_run(job: JobNo, run: &Run) -> bool
-    ensures { result ≡ is_run job run.now }
-{
-    run.job == job
-}
-
-// Gives back what the jobs of this number have lent.
-fn give_back_job(table: &mut ObjectTable, me: SpaceId, job: JobNo, runs: &SlabList<Run>)
-    requires { HasLent table.old (flat_map (λ run. loans_of me run.message)
-        (filter (is_run job) runs.now.items)) }
-    ensures { GivesBack table.old table.new
-        (flat_map (λ run. loans_of me run.message) (filter (is_run job) runs.now.items)) }
-{
-    for place in 0..runs.len() {
-        let run = &runs[place];
-        if is_run(job, run) {
-            give_back_message(table, me, &run.message);
-        }
-    }
-}
-
-// Ends the jobs of this number: what they have lent is given back.
-fn end_job(table: &mut ObjectTable, running: &mut SlabList<Run>, me: SpaceId, job: JobNo)
-    requires { HasLent table.old (flat_map (λ run. loans_of me run.message)
-        (filter (is_run job) running.old.items)) }
-    ensures back { GivesBack table.old table.new
-        (flat_map (λ run. loans_of me run.message) (filter (is_run job) running.old.items)) }
-    ensures ended { running.new.items ≡ filter (λ run. not (is_run job run)) running.old.items }
-{
-    give_back_job(table, me, job, running);
-    running.retain(|run| !is_run(job, run));
-}
-
-// The job that runs under this number.
-fn find_run(job: JobNo, runs: &SlabList<Run>) -> Option<&Run>
-    ensures { option_map (λ run. run.now) result ≡ find (is_run job) runs.now.items }
-{
-    runs.iter().find(|run| is_run(job, run))
 }
 
 // The status of an outcome.

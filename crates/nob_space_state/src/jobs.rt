@@ -7,7 +7,7 @@ ghost use Rattle.nob_model_types.specs.declared.answer.Answer.TheVariants as ans
 ghost use Rattle.nob_model_words.specs.declared.deed.Deed.{Deed};
 ghost use Rattle.nob_model_words.specs.declared.deed.Deed.TheVariants as did;
 ghost use Rattle.nob_model_history.specs.Histories.{history_of};
-ghost use Rattle.nob_model.specs.Candidates as candidates;
+ghost use Rattle.nob_model_acting.specs.Candidates as candidates;
 ghost use Rattle.nob_model.specs.Right as right;
 ghost use Rattle.nob_space_state.specs.Parts.{state_of};
 ghost use Rattle.nob_space_state.specs.Stands.{Stands, Keeps, Did, AnswersOrWants};
@@ -16,9 +16,9 @@ use crate::error::SpaceError;
 use crate::parts::Parts;
 use nob_ids::{JobNo, SpaceId};
 use nob_item::Item;
-use nob_model::candidates::target_of;
 use nob_model::right::LAST_NUMBER;
 use nob_model::{Here, Job, Message, Refusal, Run};
+use nob_model_acting::candidates::target_of;
 use nob_space_messages::SlabList;
 
 // Whether one of these jobs has a target.

@@ -17,7 +17,6 @@ mod shut;
 mod take;
 
 pub use error::SpaceError;
-pub use finish::{ReplyFate, give_back, give_back_message};
+pub use finish::ReplyFate;
 pub use parts::Parts;
-pub use sending::{hand, send_reserved};
 pub use take::CallResult;

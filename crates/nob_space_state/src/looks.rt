@@ -6,7 +6,7 @@ ghost use Rattle.nob_model_words.specs.declared.deed.Deed.{Deed};
 ghost use Rattle.nob_model_history.specs.Listing.{is_listed};
 ghost use Rattle.nob_space_state.specs.Parts.{state_of};
 ghost use Rattle.nob_space_state.specs.Stands.{Stands};
-ghost use Rattle.nob_table.specs.Standings as standings;
+ghost use Rattle.nob_table_rows.specs.Standings as standings;
 ghost use Rattle.nob_table.specs.Table.{standing};
 ghost use Rattle.nob_space_state.specs.Looks.{has_closed, has_holds, names_none, is_cut, has_clients};
 ghost use Rattle.nob_pins.specs.Bundles.{count_of};

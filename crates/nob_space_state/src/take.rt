@@ -1,21 +1,19 @@
 //! TakeReply: what a call brought.
 
-ghost use Rattle.std.specs.Prelude.{◌≡◌, ◌≤◌, ℕ, ◌+◌, ◌<◌, List, ◌∷◌, filter, find, map, not, length, Some, None, Ok, IsOk, OnErr, OnOk, IfOk};
+ghost use Rattle.std.specs.Prelude.{◌≡◌, ℕ, ◌+◌, ◌<◌, List, not, Some, None, Ok, IsOk, OnErr, IfOk};
 ghost use Rattle.std.specs.List.{list_any, position};
 ghost use Rattle.nob_ids.specs.declared.limits.Limits.{Limits as LimitsOf};
-ghost use Rattle.nob_ids.specs.declared.wire_rep.WireRep.{WireRep as Rep};
 ghost use Rattle.nob_pickle.specs.declared.value.Value.{Value as ValueOf};
 ghost use Rattle.nob_model_types.specs.declared.answer.Answer.TheVariants as answers;
 ghost use Rattle.nob_model_words.specs.declared.deed.Deed.{Deed};
 ghost use Rattle.nob_model_work.specs.Work.{is_call};
-ghost use Rattle.nob_model_history.specs.declared.history.History.{History};
 ghost use Rattle.nob_model_history.specs.Histories.{history_of};
-ghost use Rattle.nob_model_history.specs.Holds.{times as times_word};
 ghost use Rattle.nob_model.specs.Right as right;
 ghost use Rattle.nob_model.specs.Next.{reply_ready};
 ghost use Rattle.nob_space_state.specs.Parts.{state_of};
-ghost use Rattle.nob_space_state.specs.Stands.{Stands, IsState, TableShows, Keeps, Did, Answers};
-ghost use Rattle.nob_space_state.specs.Taking.{reps_of, is_full, is_reply, take_answer, answer_of, deed_of, CanTake, with_more, with_fewer};
+ghost use Rattle.nob_space_state.specs.Stands.{Stands, IsState, Keeps, Did, Answers};
+ghost use Rattle.nob_space_holds.specs.TakingOver.{reps_of};
+ghost use Rattle.nob_space_state.specs.Taking.{is_full, is_reply, take_answer, answer_of, deed_of};
 
 use crate::parts::Parts;
 use nob_ids::{CallNo, WireRep};
@@ -23,7 +21,7 @@ use nob_item::Item;
 use nob_model::{Here, Message, RefCopy, Refusal, Stage};
 use nob_model_words::message::replies_to;
 use nob_pickle::Value;
-use nob_table::{ObjectTable, Part};
+use nob_space_holds::{take_over, times};
 use std::alloc::AllocError;
 
 // The greatest hand.
@@ -162,43 +160,6 @@ impl Parts {
         match item {
             Item::Reply { status, value, .. } => Ok(CallResult::Replied { status, value }),
             _ => unreachable!(),
-        }
-    }
-}
-
-// How often a reference stands among copies.
-fn times(rep: &WireRep, copies: &[RefCopy]) -> usize
-    ensures times { result ≡ times_word rep.now (reps_of copies.now) }
-    ensures bound { result ≤ length copies.now }
-{
-    match copies {
-        [] => 0,
-        [copy, others @ ..] => {
-            let more = times(rep, others);
-            if copy.rep == *rep { more + 1 } else { more }
-        }
-    }
-}
-
-// The references of copies, which are lent, come into the hand.
-fn take_over(table: &mut ObjectTable, copies: &[RefCopy])
-    requires { CanTake table.old (reps_of copies.now) }
-    ensures { (s n : ℕ) (h : History) (H L : Rep → ℕ) → TableShows s n table.old h H L
-        → TableShows s n table.new h (with_more (reps_of copies.now) H)
-        (with_fewer (reps_of copies.now) L) }
-{
-    match copies {
-        [] => {}
-        [copy, others @ ..] => {
-            match table.hold(copy.rep, Part::Hand) {
-                Ok(()) => {}
-                Err(_) => unreachable!(),
-            }
-            match table.release(copy.rep, Part::Lent) {
-                Ok(()) => {}
-                Err(_) => unreachable!(),
-            }
-            take_over(table, others);
         }
     }
 }

@@ -1,14 +1,4 @@
-pub mod Changed
-pub mod First
-pub mod Flat
-pub mod Grown
-pub mod Idle
 pub mod Ordered
-pub mod Owned
-pub mod Parted
-pub mod Rising
-pub mod Same
-pub mod Slots
 pub mod Stands
 pub mod Tables
 pub mod Unheld

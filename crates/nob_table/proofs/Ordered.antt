@@ -3,9 +3,9 @@ use Rattle.std.proofs.Common.{◌≡◌, ℕ, ◌<◌, Bool, true, false, ◌||�
 use Rattle.std.specs.List.{list_any, AllByRecursion}
 use Rattle.nob_ids.specs.declared.wire_rep.WireRep.{WireRep}
 use Rattle.nob_ids.specs.Names.{is_same}
-use Rattle.nob_table.specs.Order.{IsBefore, IsRising}
-use Rattle.nob_table.proofs.Same.{same_refl, same_is, same_laws}
-use Rattle.nob_table.proofs.Rising.{all_members, rising_same, rising_push, rising_filter}
+use Rattle.nob_table_rows.specs.Order.{IsBefore, IsRising}
+use Rattle.nob_table_rows.proofs.Same.{same_refl, same_is, same_laws}
+use Rattle.nob_table_rows.proofs.Rising.{all_members, rising_same, rising_push, rising_filter}
 
 any_push : (test : WireRep → Bool) (xs : List WireRep) (y : WireRep) → list_any test (xs ++ y ∷ []) ≡ list_any test xs || test y
 any_push test [] y = elim (test y) as (λ b. (b || false) ≡ b) [ true ↦ refl | false ↦ refl ]

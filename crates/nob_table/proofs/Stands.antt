@@ -1,38 +1,26 @@
 -- What a change of the rows of another space's reference makes of how each reference stands.
-use Rattle.std.proofs.Common.{◌≡◌, ℕ, Bool, true, false, ◌==◌, ◌||◌, cond, List, [], ◌∷◌, Option, Some, None, IsSome, is_some, if◌then◌else◌, refl, sym, ap, ◌∙◌}
+use Rattle.std.proofs.Common.{◌≡◌, ℕ, Bool, true, false, ◌==◌, List, Option, Some, None, IsSome, is_some, if◌then◌else◌, refl, sym, ap, ◌∙◌}
 use Rattle.std.proofs.lemmas.Cmp.{nat_eq_equiv}
 use Rattle.std.specs.List.{list_any}
 use Rattle.std.specs.Option.{option_map}
-use Rattle.std.specs.Map.{lookup, keys_of}
 use Rattle.nob_ids.specs.declared.wire_rep.WireRep.{WireRep}
-use Rattle.nob_table.specs.declared.counts.Counts.{Counts}
-use Rattle.nob_table.specs.declared.standing.Grant.{Grant}
-use Rattle.nob_table.specs.declared.standing.Grant.TheVariants.{Waits, Given, Denied}
-use Rattle.nob_table.specs.declared.standing.Standing.{Standing}
-use Rattle.nob_table.specs.declared.standing.Surrogate.{Surrogate}
-use Rattle.nob_table.specs.Order.{place_in}
+use Rattle.nob_table_rows.specs.declared.counts.Counts.{Counts}
+use Rattle.nob_table_rows.specs.declared.standing.Grant.{Grant}
+use Rattle.nob_table_rows.specs.declared.standing.Grant.TheVariants.{Waits, Given, Denied}
+use Rattle.nob_table_rows.specs.declared.standing.Standing.{Standing}
+use Rattle.nob_table_rows.specs.declared.standing.Surrogate.{Surrogate}
+use Rattle.nob_table_rows.specs.Order.{place_in}
 use Rattle.nob_ids.specs.Names.{is_same}
-use Rattle.nob_table.specs.Rows.{row_at, reps_of, Puts}
-use Rattle.nob_table.specs.Standings.{own_standing, far_standing, is_known, is_live, is_pending, is_surrogate, state_of, in_state, with_counts, answered}
+use Rattle.nob_table_rows.specs.Rows.{row_at, reps_of, Puts}
+use Rattle.nob_table_rows.specs.Standings.{own_standing, far_standing, is_known, is_live, is_pending, is_surrogate, state_of, in_state, with_counts, with_grant}
 use Rattle.nob_table.specs.Table.{stands, was_given, IsTable}
-use Rattle.nob_table.proofs.Same.{same_refl, same_is}
-
--- a list of rows has what it has
-puts_same : {X : Type 0} (rows : List (WireRep × X)) (rep : WireRep) → Puts rows rows rep (row_at rows rep)
-puts_same rows rep other =
-    elim (is_same rep other) as (λ b. is_same rep other ≡ b → row_at rows other ≡ (if b then row_at rows rep else row_at rows other)) [
-      | true ↦ λ t. ap (λ (w : WireRep). row_at rows w) (sym (same_is rep other t))
-      | false ↦ λ u. refl
-    ] refl
-
--- what is put at a reference stands there
-pub put_there : {X : Type 0} (old new : List (WireRep × X)) (rep : WireRep) (row : Option X) → Puts old new rep row → row_at new rep ≡ row
-put_there old new rep row puts = puts rep ∙ (rw same_refl refl)
+use Rattle.nob_table_rows.proofs.Same.{same_is}
+use Rattle.nob_table_rows.proofs.Keys.{puts_same, put_there, any_key}
 
 -- only a surrogate is pending, and an answer changes its state alone
 answer_state : (mine given : Bool) (row : Option Counts) (old : Option Surrogate) (counts : Option Counts) (grant : Grant)
     → is_pending (if mine then own_standing given row else far_standing old counts).state ≡ true
-    → (mine ≡ false) × (IsSome old) × (far_standing (option_map (answered grant) old) counts ≡ in_state (state_of grant) (far_standing old counts))
+    → (mine ≡ false) × (IsSome old) × (far_standing (option_map (with_grant grant) old) counts ≡ in_state (state_of grant) (far_standing old counts))
 answer_state true true None old counts grant p = absurd (cc)
 answer_state true false None old counts grant p = absurd (cc)
 answer_state true true (Some x) old counts grant p = absurd (cc)
@@ -80,15 +68,6 @@ live_state false given None surrogate None owned = refl
 live_state false given None None (Some c) owned = refl
 live_state false given None (Some g) (Some c) owned = sym (grant_state g.grant).1
 
--- a key is among the keys where a look-up finds it
-pub any_key : {K X : Type 0} (test : K → Bool) (es : List (K × X)) → list_any test (keys_of es) ≡ is_some (lookup test es)
-any_key test [] = refl
-any_key test (e ∷ es) =
-    elim (test e.0) as (λ b. (b || list_any test (keys_of es)) ≡ is_some (cond b (Some e.1) (lookup test es))) [
-      | true ↦ refl
-      | false ↦ any_key test es
-    ]
-
 module _ (me exported : ℕ) (objects counted : List (WireRep × Counts)) (surrogates : List (WireRep × Surrogate)) (rep : WireRep) where
   -- rows of another space's reference
   far_put : (counted' : List (WireRep × Counts)) (surrogates' : List (WireRep × Surrogate)) (counts : Option Counts) (grant : Option Surrogate) → rep.owner == me ≡ false
@@ -105,12 +84,12 @@ module _ (me exported : ℕ) (objects counted : List (WireRep × Counts)) (surro
 
   -- the owner's answer to a pending reference
   pub answered_one : (surrogates' : List (WireRep × Surrogate)) (grant : Grant) → is_pending (stands me exported objects counted surrogates rep).state ≡ true
-      → Puts surrogates surrogates' rep (option_map (answered grant) (row_at surrogates rep)) → (other : WireRep)
+      → Puts surrogates surrogates' rep (option_map (with_grant grant) (row_at surrogates rep)) → (other : WireRep)
       → stands me exported objects counted surrogates' other ≡ (if is_same rep other then in_state (state_of grant) (stands me exported objects counted surrogates rep) else stands me exported objects counted surrogates other)
   answered_one surrogates' grant pending puts other =
       let says = answer_state (rep.owner == me) (was_given exported rep.index) (row_at objects rep) (row_at surrogates rep) (row_at counted rep) grant pending in
       let is : stands me exported objects counted surrogates rep ≡ far_standing (row_at surrogates rep) (row_at counted rep) = rw says.0 refl in
-      far_put counted surrogates' (row_at counted rep) (option_map (answered grant) (row_at surrogates rep)) says.0 (puts_same counted rep) puts other
+      far_put counted surrogates' (row_at counted rep) (option_map (with_grant grant) (row_at surrogates rep)) says.0 (puts_same counted rep) puts other
       ∙ ap (λ (s : Standing). if is_same rep other then s else stands me exported objects counted surrogates other) (says.2 ∙ ap (in_state (state_of grant)) (sym is))
 
   -- other counts of a reference that has some

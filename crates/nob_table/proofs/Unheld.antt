@@ -2,11 +2,11 @@
 use Rattle.std.proofs.Common.{◌≡◌, ℕ, ◌≤◌, Bool, true, false, not, Option, Some, None, IfSome, MatchOption, refl, sym, ap, subst, ◌∙◌, arith, rules, is_some}
 use Rattle.std.proofs.lemmas.Cmp.{nat_eq_equiv}
 use Rattle.nob_ids.specs.declared.wire_rep.WireRep.{WireRep}
-use Rattle.nob_table.specs.declared.counts.Counts.{Counts}
-use Rattle.nob_table.specs.Counts.{is_held}
-use Rattle.nob_table.specs.Objects.{AreAllHeld, IsFirstRow}
-use Rattle.nob_table.specs.Rows.{row_at}
-use Rattle.nob_table.specs.Standings.{own_standing, is_unheld}
+use Rattle.nob_table_rows.specs.declared.counts.Counts.{Counts}
+use Rattle.nob_table_rows.specs.Counts.{is_held}
+use Rattle.nob_table_rows.specs.Objects.{AreAllHeld, IsFirstRow}
+use Rattle.nob_table_rows.specs.Rows.{row_at}
+use Rattle.nob_table_rows.specs.Standings.{own_standing, is_unheld}
 use Rattle.nob_table.specs.Table.{Table, IsTable, standing, own, was_given, NeverUnheld, IsFirstUnheld}
 
 -- an own reference without a row isn't live

@@ -1,8 +1,6 @@
 pub use Rattle.nob_ids.specs.Names
-pub mod Counts
-pub mod Objects
-pub mod Order
-pub mod Peers
-pub mod Rows
-pub mod Standings
+pub use Rattle.nob_table_rows.specs.Counts
+pub use Rattle.nob_table_rows.specs.Order
+pub use Rattle.nob_table_rows.specs.Rows
+pub use Rattle.nob_table_rows.specs.Standings
 pub mod Table

@@ -2,20 +2,20 @@
 use Rattle.std.specs.Prelude.{◌≡◌, ℕ, ◌<◌, ◌≤◌, ◌==◌, ◌&&◌, ◌||◌, Bool, true, false, not, nat_le, List, length, Option, Some, None, IsSome, IfSome, is_some, if◌then◌else◌}
 use Rattle.std.specs.List.{list_any}
 use Rattle.nob_ids.specs.declared.wire_rep.WireRep.{WireRep}
-use Rattle.nob_table.specs.declared.counts.Counts.{Counts}
-use Rattle.nob_table.specs.declared.counts.Part.{Part}
-use Rattle.nob_table.specs.declared.standing.Surrogate.{Surrogate}
-use Rattle.nob_table.specs.declared.standing.Standing.{Standing}
-use Rattle.nob_table.specs.declared.fault.TableFault.{TableFault}
-use Rattle.nob_table.specs.declared.fault.TableFault.TheVariants.{Absent, Limit, StillUsed}
-use Rattle.nob_table.specs.declared.fault.TableError.{TableError}
-use Rattle.nob_table.specs.declared.fault.TableError.TheVariants.{Fault, OutOfMemory}
-use Rattle.nob_table.specs.Counts as counts
-use Rattle.nob_table.specs.Counts.{is_held}
+use Rattle.nob_table_rows.specs.declared.counts.Counts.{Counts}
+use Rattle.nob_table_rows.specs.declared.counts.Part.{Part}
+use Rattle.nob_table_rows.specs.declared.standing.Surrogate.{Surrogate}
+use Rattle.nob_table_rows.specs.declared.standing.Standing.{Standing}
+use Rattle.nob_table_rows.specs.declared.fault.TableFault.{TableFault}
+use Rattle.nob_table_rows.specs.declared.fault.TableFault.TheVariants.{Absent, Limit, StillUsed}
+use Rattle.nob_table_rows.specs.declared.fault.TableError.{TableError}
+use Rattle.nob_table_rows.specs.declared.fault.TableError.TheVariants.{Fault, OutOfMemory}
+use Rattle.nob_table_rows.specs.Counts as counts
+use Rattle.nob_table_rows.specs.Counts.{is_held}
 use Rattle.nob_ids.specs.Names.{is_same}
-use Rattle.nob_table.specs.Order.{place_in, IsRising}
-use Rattle.nob_table.specs.Rows.{row_at, reps_of}
-use Rattle.nob_table.specs.Standings.{is_known, is_unknown, is_live, is_pending, is_granted, is_idle, is_unheld, own_standing, far_standing}
+use Rattle.nob_table_rows.specs.Order.{place_in, IsRising}
+use Rattle.nob_table_rows.specs.Rows.{row_at, reps_of}
+use Rattle.nob_table_rows.specs.Standings.{is_known, is_unknown, is_live, is_pending, is_granted, is_idle, is_unheld, own_standing, far_standing}
 
 -- the table of a space, with the room beside its items: how many more exports and surrogates fit without memory
 pub record Table : Type 0 where

@@ -3,9 +3,7 @@
 
 ghost use Rattle.std.specs.Prelude.{◌≡◌, ◌↔◌, true};
 
-use crate::counts::{Counts, Part};
-use crate::fault::{TableError, TableFault};
-use crate::standing::{Standing, State};
+use nob_table_rows::{Counts, Part, Standing, State, TableError, TableFault};
 
 /// Two parts are equal exactly where they are one.
 pub fn same_part(part: Part, other: Part) -> bool

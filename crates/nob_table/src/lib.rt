@@ -9,16 +9,7 @@
 #![tactic(auto)]
 
 pub mod comparing;
-mod counts;
-mod fault;
-mod objects;
-mod peer;
-mod peers;
-mod rows;
-mod standing;
 mod table;
 
-pub use counts::{Counts, Part};
-pub use fault::{TableError, TableFault};
-pub use standing::{Standing, State};
+pub use nob_table_rows::{Counts, Part, Standing, State, TableError, TableFault};
 pub use table::ObjectTable;

@@ -2,19 +2,17 @@
 
 ghost use Rattle.std.specs.Prelude.{◌≡◌, List, is_some, ◌+◌, ◌^◌, ◌<◌, ◌≤◌, ◌==◌, ◌++◌, ◌∷◌, [], filter, not, length, slice_get, None, Some, IsSome, IfSome, IsTrue, IsOk, OnOk, OnErr, IfOk, IfErr, MatchOption, MatchResult, if◌then◌else◌};
 ghost use Rattle.nob_ids.specs.declared.wire_rep.WireRep.{WireRep};
-ghost use Rattle.nob_table.specs.Counts.{is_held};
+ghost use Rattle.nob_table_rows.specs.Counts.{is_held};
 ghost use Rattle.nob_ids.specs.Names.{is_same};
-ghost use Rattle.nob_table.specs.Rows.{IsOnce};
+ghost use Rattle.nob_table_rows.specs.Rows.{IsOnce};
 ghost use Rattle.std.specs.List.{list_any};
-ghost use Rattle.nob_table.specs.Standings.{unknown, is_known, is_live, is_lost, is_surrogate, state_of, withdrawn, exported_standing, pending_standing, with_counts, in_state, after_hold, after_release, after_close};
+ghost use Rattle.nob_table_rows.specs.Standings.{unknown, is_known, is_live, is_lost, is_surrogate, state_of, withdrawn, exported_standing, pending_standing, with_counts, in_state, after_hold, after_release, after_close};
 ghost use Rattle.nob_table.specs.Table.{Table, standing, surrogate_total, most_objects, most_surrogates, most_index, surrogate_reps, place_of, IsOrder, live, live_reps, own, export_fault, hold_fault, release_fault, pending_fault, answer_fault, remove_fault, withdraw_fault, Becomes, SameObjects, ExportLeaves, WithdrawalLeaves, ChangeLeaves, RemovalLeaves, Stays, Places, IsRefusal, NoneIdle, IsFirstIdle, NeverUnheld, IsFirstUnheld, is_of};
 
-use crate::counts::{Counts, Part};
-use crate::fault::{TableError, TableFault};
-use crate::objects::Objects;
-use crate::peers::Peers;
-use crate::standing::{Grant, Standing, State};
 use nob_ids::{SpaceId, WireRep};
+use nob_table_rows::{
+    Counts, Grant, Objects, Part, Peers, Standing, State, TableError, TableFault,
+};
 use std::alloc::{AllocError, Global};
 use std::marker::Model;
 

@@ -27,10 +27,10 @@ use Rattle.nob_model_words.specs.Sessions.{is_peer}
 use Rattle.nob_model_history.specs.Histories.{history}
 use Rattle.nob_model_history.specs.Ends.{calls_at}
 use Rattle.nob_model.specs.Right.{right, right_after, right_frames}
-use Rattle.nob_model_journal.specs.Journals.{at, given, frames_of}
+use Rattle.nob_model_journal.specs.Journals.{at, transmitted_frames, frames_of}
 use Rattle.nob_model_journal.specs.Runs.{ArrivesGiven, WorldRun, frame_of}
 use Rattle.nob_model_safety.specs.Typed.{IsOfTypes, AreOfTypes}
-use Rattle.nob_table.proofs.Flat.{get_set_other}
+use Rattle.nob_table_rows.proofs.Flat.{get_set_other}
 use Rattle.nob_space_state.proofs.Ends.{set_here}
 use Rattle.nob_space.specs.Spaces.{Owner, StandsFor, SameSpace}
 use Rattle.nob_world.specs.Worlds.{IsSpaceOf, SpacesStand, IsWorld, world_of, entry_of, is_arrival}
@@ -151,7 +151,7 @@ module _ {n : ℕ} {limits : Limits} {spaces : List Owner} {entries : List Entry
         few = asked.world.few;
         spaces = subst (SpacesStand n limits (set spaces (p - 1) new)) newest spaces';
         run = subst (λ (its : List Entry). WorldRun n (λ _. limits) its) newest (record { first = asked.low; last = high; is_right = is_right; arrives = asked.arrives }, asked.world.run);
-        frames = ap (λ fs. fs ++ more) asked.world.frames ∙ ap (λ fs. given J ++ fs) gives ∙ ap given newest;
+        frames = ap (λ fs. fs ++ more) asked.world.frames ∙ ap (λ fs. transmitted_frames J ++ fs) gives ∙ ap transmitted_frames newest;
         spelt = all_append Fits frames more asked.world.spelt spelt;
         for_spaces = all_append (λ frame. frame.to ≤ n) frames more asked.world.for_spaces for_spaces;
         typed = subst AreOfTypes newest (typed, asked.world.typed);

@@ -11,7 +11,7 @@ use Rattle.nob_model_types.specs.declared.event.Event.TheVariants.{Arrive}
 use Rattle.nob_model_types.specs.declared.entry.Entry.{Entry}
 use Rattle.nob_model_types.specs.declared.entry.WorldStep.{WorldStep}
 use Rattle.nob_model_types.specs.declared.entry.WorldStep.TheVariants.{Do, Deliver}
-use Rattle.nob_model_journal.specs.Journals.{at, given}
+use Rattle.nob_model_journal.specs.Journals.{at, transmitted_frames}
 use Rattle.nob_model_journal.specs.Fronts.{Fronts}
 use Rattle.nob_model_journal.specs.Safety.{SafeWithdraw}
 use Rattle.nob_model_journal.specs.Losses.{NoFalseLoss}
@@ -57,7 +57,7 @@ pub record IsWorld (world : World) : Type 0 where
   pub few : world.n ≤ 32
   pub spaces : SpacesStand world.n world.limits world.spaces (journal world)
   pub run : WorldRun world.n (λ _. world.limits) (journal world)
-  pub frames : world.frames ≡ given (journal world)
+  pub frames : world.frames ≡ transmitted_frames (journal world)
   pub spelt : AllByRecursion Fits world.frames
   pub for_spaces : AllByRecursion (λ frame. frame.to ≤ world.n) world.frames
   pub typed : AreOfTypes (journal world)

@@ -2,7 +2,7 @@
 
 ghost use Rattle.std.specs.Prelude.{◌≡◌, ◌≢◌, ◌≤◌, ◌<◌, ◌++◌, ◌∷◌, [], ℕ, List, Some, None, Ok, Err, reverse, slice_get, length, IfOk, IfErr, OnErr, OnOk, MatchOption};
 ghost use Rattle.nob_model_types.specs.declared.entry.WorldStep.{WorldStep as WorldStepOf};
-ghost use Rattle.nob_model_journal.specs.Journals.{given};
+ghost use Rattle.nob_model_journal.specs.Journals.{transmitted_frames};
 ghost use Rattle.nob_model_journal.specs.Runs.{ArrivesGiven, WorldRun, From};
 ghost use Rattle.nob_world.specs.Worlds as spec;
 ghost use Rattle.nob_world.specs.declared.error.WorldError.{WorldError as WorldErrorOf};
@@ -89,7 +89,7 @@ impl World {
     /// counted from 1.
     pub fn frames(&self) -> &[Frame]
         ensures frames { result.now ≡ self.now.frames }
-        ensures given { result.now ≡ given (spec.journal self.now) }
+        ensures transmitted_frames { result.now ≡ transmitted_frames (spec.journal self.now) }
     {
         self.frames.as_slice()
     }

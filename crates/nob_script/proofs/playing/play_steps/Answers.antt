@@ -3,7 +3,7 @@ use Rattle.nob_trace_text.specs.Lines.{lines_of}
 use Rattle.nob_script_text.specs.declared.ending.Ending.TheVariants.{OutOfMemory}
 use Rattle.nob_script_text.specs.Scripts.{FromLines, Grows, last_line}
 use Rattle.nob_script_text.proofs.Playing.{Completes, line_more, lines_done, run_stopped, grown}
-use Rattle.nob_script.specs.Plays.{EndsBadly, seen}
+use Rattle.nob_script.specs.Plays.{EndsBadly, script_world}
 use Rattle.nob_script.proofs.Ends.{line_ends}
 use Rattle.nob_script.proofs.playing.play_steps.Goals as goal
 
@@ -13,8 +13,8 @@ returns-in_default-play_line-clause-plays c =
     let left = lines_of c.in-Some.rest.now in
     let all = lines_of c.args.steps.now in
     let number = c.loop-line.number in
-    let first = seen c.args.world.now in
-    let world = seen c.loop-line.world in
+    let first = script_world c.args.world.now in
+    let world = script_world c.loop-line.world in
     let old = c.args.text.now.items in
     let now = c.loop-line.text.items in
     let so_far = subst (λ (ls : List (List ℕ)). Completes true number ls all first world old now) c.in-Some.ensures.lines c.loop-line.invariant.1 in
@@ -28,8 +28,8 @@ returns-then-not-is_step-clause-plays c =
     let left = lines_of c.in-Some.rest.now in
     let all = lines_of c.args.steps.now in
     let number = c.loop-line.number in
-    let first = seen c.args.world.now in
-    let world = seen c.loop-line.world in
+    let first = script_world c.args.world.now in
+    let world = script_world c.loop-line.world in
     let old = c.args.text.now.items in
     let now = c.loop-line.text.items in
     let so_far = subst (λ (ls : List (List ℕ)). Completes true number ls all first world old now) c.in-Some.ensures.lines c.loop-line.invariant.1 in
@@ -45,20 +45,20 @@ loop-line-preserved c =
     let left = lines_of c.in-Some.rest.now in
     let all = lines_of c.args.steps.now in
     let number = c.loop-line.number in
-    let first = seen c.args.world.now in
-    let world = seen c.loop-line.world in
+    let first = script_world c.args.world.now in
+    let world = script_world c.loop-line.world in
     let old = c.args.text.now.items in
     let now = c.loop-line.text.items in
     let so_far = subst (λ (ls : List (List ℕ)). Completes true number ls all first world old now) c.in-Some.ensures.lines c.loop-line.invariant.1 in
     let made = c.in-Ok.ensures.made c.if-not-is_step.false in
-    (omega (arith, c.loop-line.invariant.0, c.in-Some.ensures.shorter), line_more true number line left all first world (seen c.play_line.new.world) old now c.play_line.new.text.items made.0 so_far made.2 made.1)
+    (omega (arith, c.loop-line.invariant.0, c.in-Some.ensures.shorter), line_more true number line left all first world (script_world c.play_line.new.world) old now c.play_line.new.text.items made.0 so_far made.2 made.1)
 
 pub returns-clause-plays : goal.returns-clause-plays
 returns-clause-plays c =
     let all = lines_of c.args.steps.now in
     let number = c.loop-line.number in
-    let first = seen c.args.world.now in
-    let world = seen c.loop-line.world in
+    let first = script_world c.args.world.now in
+    let world = script_world c.loop-line.world in
     let old = c.args.text.now.items in
     let now = c.loop-line.text.items in
     let so_far = subst (λ (left : List ℕ). Completes true number (lines_of left) all first world old now) c.in_default.ensures.lines c.loop-line.invariant.1 in

@@ -3,7 +3,7 @@ use Rattle.nob_model_types.specs.declared.entry.Entry.{Entry}
 use Rattle.nob_model_journal.specs.Runs.{WorldRun}
 use Rattle.nob_trace_text.specs.Lines.{answered_text}
 use Rattle.nob_script_text.specs.Scripts.{StepMade}
-use Rattle.nob_script.specs.Plays.{seen, step_result_text}
+use Rattle.nob_script.specs.Plays.{script_world, step_result_text}
 use Rattle.nob_script.proofs.Steps.{step_made, line_written}
 use Rattle.nob_script.proofs.stepping.make_step.Goals as goal
 
@@ -21,4 +21,4 @@ returns-clause-made c =
     let before = sym c.frames-before.ensures.frames ∙ c.frames-before.ensures.given in
     let after = sym c.frames.ensures.frames ∙ c.frames.ensures.given in
     let made = step_made w v line (answered_text line answer) c.args.step.now r c.requires step.adds step.fault step.only step.err step.err_frames step.n step.limits run before after (ap (answered_text line) told) in
-    line_written c.push_line.result c.args.text.now.items c.push_line.new.text.items line answer (StepMade true (seen w) line (seen v)) c.push_line.ensures.ok made
+    line_written c.push_line.result c.args.text.now.items c.push_line.new.text.items line answer (StepMade true (script_world w) line (script_world v)) c.push_line.ensures.ok made

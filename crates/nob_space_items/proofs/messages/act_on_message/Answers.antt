@@ -3,7 +3,7 @@ use Rattle.nob_ids.specs.declared.wire_rep.WireRep.{WireRep}
 use Rattle.nob_item.specs.Kinds.{counted_in}
 use Rattle.nob_model_words.specs.declared.deed.Deed.{Deed}
 use Rattle.nob_model_words.specs.declared.message.RefCopy.{RefCopy}
-use Rattle.nob_model.specs.Acting.{answer_of_act}
+use Rattle.nob_model_acting.specs.Acting.{answer_of_act}
 use Rattle.nob_space_state.specs.Parts.{state_of}
 use Rattle.nob_space_items.specs.Growing.{AreAmong, HaveRoom}
 use Rattle.nob_space_items.specs.Messages.{wanted_refs, message_refusal}

@@ -1,10 +1,10 @@
 use Rattle.std.proofs.Common.{◌∷◌, false, Some, None, if◌then◌else◌, sym, ap, subst, ◌∙◌}
 use Rattle.std.proofs.lemmas.Option.{none-some}
-use Rattle.nob_table.specs.declared.fault.TableFault.TheVariants.{Absent}
+use Rattle.nob_table_rows.specs.declared.fault.TableFault.TheVariants.{Absent}
 use Rattle.nob_model_words.specs.declared.deed.Deed.TheVariants.{Act}
 use Rattle.nob_model_history.specs.Histories.{history_of}
 use Rattle.nob_model_history.specs.Holds.{hand, times, lent_in}
-use Rattle.nob_space_state.specs.Stands.{TableShows}
+use Rattle.nob_space_holds.specs.Shows.{TableShows}
 use Rattle.nob_space_state.specs.Parts.{state_of}
 use Rattle.nob_space_items.proofs.Owners.{pending_known, answered_shows, answer_stands, refused_loans}
 use Rattle.nob_space_items.proofs.Taken.{front_is, waits_there}

@@ -1,7 +1,7 @@
 use Rattle.std.proofs.Common.{ℕ, true, Some, None, if◌then◌else◌, sym, ap, subst, ◌∙◌}
 use lib.ListN.{replicate}
 use Rattle.std.proofs.lemmas.Option.{none-some}
-use Rattle.nob_table.specs.declared.fault.TableFault.TheVariants.{Absent}
+use Rattle.nob_table_rows.specs.declared.fault.TableFault.TheVariants.{Absent}
 use Rattle.nob_model.specs.Right.{own_ref}
 use Rattle.nob_space_items.specs.Lending.{CanLend}
 use Rattle.nob_space_items.proofs.Obtained.{due_low, can_lend, granted_stands}

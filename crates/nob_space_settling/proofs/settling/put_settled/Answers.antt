@@ -1,6 +1,6 @@
 use Rattle.std.proofs.Common.{ap, subst}
 use Rattle.nob_space_state.specs.Parts.{state_of, with_table, with_work}
-use Rattle.nob_space_state.specs.Returns.{GivesBack}
+use Rattle.nob_space_holds.specs.Returns.{GivesBack}
 use Rattle.nob_space_settling.proofs.Placed.{call_put, reply_put, other_put}
 use Rattle.nob_space_settling.proofs.settling.put_settled.Goals as goal
 

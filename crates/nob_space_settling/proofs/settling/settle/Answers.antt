@@ -10,7 +10,7 @@ use Rattle.nob_model_words.specs.declared.message.Message.{Message}
 use Rattle.nob_model_work.specs.Work.{after_settlement}
 use Rattle.nob_session.specs.Stands.{Roomy}
 use Rattle.nob_space_state.specs.Parts.{State, state_of}
-use Rattle.nob_space_state.specs.Returns.{HasLent, GivesBack}
+use Rattle.nob_space_holds.specs.Returns.{HasLent, GivesBack}
 use Rattle.nob_space_state.specs.Stands.{Stands}
 use Rattle.nob_space_state.proofs.Calling.{peer_range}
 use Rattle.nob_space_state.proofs.Ends.{end_there, stands_kept}

@@ -8,12 +8,12 @@ use Rattle.nob_session.specs.Stands.{End}
 use Rattle.nob_model_types.specs.declared.answer.Answer.TheVariants as answers
 use Rattle.nob_model_history.specs.Histories.{history_of}
 use Rattle.nob_model_history.specs.Ends.{calls_at}
-use Rattle.nob_model.specs.Sending.{unless}
+use Rattle.nob_model_acting.specs.Sending.{unless}
 use Rattle.nob_model_words.specs.declared.deed.Deed.TheVariants as did
 use Rattle.nob_model_work.specs.declared.work.OwnCall.{OwnCall}
 use Rattle.nob_model_work.specs.declared.work.Stage.TheVariants as stages
 use Rattle.nob_ids.specs.declared.wire_rep.WireRep.{WireRep}
-use Rattle.nob_space_state.specs.Sending.{AddsPins}
+use Rattle.nob_space_holds.specs.Pins.{AddsPins}
 use Rattle.nob_space_state.specs.Parts.{State, state_of}
 use Rattle.nob_space_state.specs.Stands.{Stands}
 use Rattle.nob_space_state.proofs.Calling.{call_judged, call_right, call_ok, call_wants, call_spelled, call_stands, few_calls, peer_range, next_free, stands_unsent}

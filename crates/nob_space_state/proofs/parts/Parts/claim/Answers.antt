@@ -1,7 +1,7 @@
 use Rattle.std.proofs.Common.{◌≡◌, ℕ, ◌+◌, ◌∷◌, Ok, IsOk, refl, sym, ap, subst, ◌∙◌}
 use Rattle.nob_model_types.specs.declared.answer.Answer.TheVariants as answers
 use Rattle.nob_model_types.specs.declared.answer.Job.{Job}
-use Rattle.nob_model.specs.Candidates.{is_free}
+use Rattle.nob_model_acting.specs.Candidates.{is_free}
 use Rattle.nob_model.specs.Right.{claim_of, job_of}
 use Rattle.nob_space_state.specs.Parts.{state_of}
 use Rattle.nob_space_state.proofs.Claiming.{claim_right, claim_done, claimed_is, wants_same}

@@ -1,9 +1,10 @@
 use Rattle.std.proofs.Common.{ℕ, refl, sym, subst}
 use Rattle.nob_pins.specs.Bundles.{TakesOutAll}
-use Rattle.nob_space_state.specs.Closing.{lent_from, ClosesDown}
+use Rattle.nob_space_holds.specs.Returns.{lent_from}
+use Rattle.nob_space_state.specs.Closing.{ClosesDown}
 use Rattle.nob_space_state.specs.Parts.{state_of}
 use Rattle.nob_space_state.proofs.Closings.{thrown_work}
-use Rattle.nob_space_state.proofs.Returned.{back_then}
+use Rattle.nob_space_holds.proofs.Returned.{back_then}
 use Rattle.nob_space_state.proofs.parts.Parts.close_down.Goals as goal
 
 pub returns : goal.returns

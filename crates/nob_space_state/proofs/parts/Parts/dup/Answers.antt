@@ -1,9 +1,9 @@
 use Rattle.std.proofs.Common.{sym, ap, ◌∙◌}
 use Rattle.std.proofs.lemmas.Option.{none-some}
 use Rattle.nob_model_types.specs.declared.answer.Answer.TheVariants as answers
-use Rattle.nob_model.specs.Sending.{unless}
+use Rattle.nob_model_acting.specs.Sending.{unless}
 use Rattle.nob_space_state.specs.Parts.{state_of}
-use Rattle.nob_space_state.proofs.Shows.{shows_hand_more}
+use Rattle.nob_space_holds.proofs.Shows.{shows_hand_more}
 use Rattle.nob_space_state.proofs.Hands.{dup_right, dup_finds_room, dup_stands}
 use Rattle.nob_space_state.proofs.Orderly.{dup_is}
 use Rattle.nob_space_state.proofs.parts.Parts.dup.Goals as goal

@@ -1,9 +1,9 @@
 use Rattle.std.proofs.Common.{sym, ap, ◌∙◌}
 use Rattle.std.proofs.lemmas.Option.{none-some}
 use Rattle.nob_model_types.specs.declared.answer.Answer.TheVariants as answers
-use Rattle.nob_model.specs.Sending.{unless}
+use Rattle.nob_model_acting.specs.Sending.{unless}
 use Rattle.nob_space_state.specs.Parts.{state_of}
-use Rattle.nob_space_state.proofs.Shows.{shows_hand_fewer}
+use Rattle.nob_space_holds.proofs.Shows.{shows_hand_fewer}
 use Rattle.nob_space_state.proofs.Hands.{release_right, release_finds_hold, release_stands}
 use Rattle.nob_space_state.proofs.Orderly.{release_is}
 use Rattle.nob_space_state.proofs.parts.Parts.release.Goals as goal

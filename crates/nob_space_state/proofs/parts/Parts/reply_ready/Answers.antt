@@ -3,7 +3,8 @@ use Rattle.nob_model_work.specs.Work.{is_call}
 use Rattle.nob_model.specs.Next.{is_not_ready}
 use Rattle.nob_model.specs.Right.{answer_of_stage}
 use Rattle.nob_space_state.specs.Parts.{state_of}
-use Rattle.nob_space_state.specs.Taking.{reps_of, is_reply}
+use Rattle.nob_space_holds.specs.TakingOver.{reps_of}
+use Rattle.nob_space_state.specs.Taking.{is_reply}
 use Rattle.nob_model.proofs.Accepted.{found_passes}
 use Rattle.nob_model_work.proofs.Firsts.{no_place, at_place, place_first}
 use Rattle.nob_space_state.proofs.Replies.{ready_there, ready_reply, take_no_call, take_no_reply, take_reply_there}

@@ -6,7 +6,8 @@ use Rattle.nob_model_words.specs.declared.message.Message.{Message}
 use Rattle.nob_model_work.specs.Work.{is_call}
 use Rattle.nob_model.proofs.Accepted.{found_passes}
 use Rattle.nob_space_state.specs.Parts.{state_of}
-use Rattle.nob_space_state.specs.Taking.{reps_of, is_overfull, is_reply, take_answer}
+use Rattle.nob_space_holds.specs.TakingOver.{reps_of}
+use Rattle.nob_space_state.specs.Taking.{is_overfull, is_reply, take_answer}
 use Rattle.nob_model_work.proofs.Firsts.{no_place, at_place, place_first}
 use Rattle.nob_space_state.proofs.Firsts.{some_same}
 use Rattle.nob_space_state.proofs.Replies.{take_no_call, take_no_reply, take_reply_there, reply_is, full_answer, reply_answer, overfull_there, reply_told, refused_brings_none, stage_brings_none, brings_same}

@@ -8,8 +8,9 @@ use Rattle.nob_model.specs.Right.{answer_of_stage}
 use Rattle.nob_model_history.specs.Histories.{history_of}
 use Rattle.nob_model_history.specs.Holds.{hand, times, lent_in}
 use Rattle.nob_space_state.specs.Parts.{state_of}
-use Rattle.nob_space_state.specs.Stands.{TableShows}
-use Rattle.nob_space_state.specs.Taking.{reps_of, is_overfull, is_reply, CanTake, with_more, with_fewer}
+use Rattle.nob_space_holds.specs.Shows.{TableShows}
+use Rattle.nob_space_holds.specs.TakingOver.{reps_of, CanTake, with_more, with_fewer}
+use Rattle.nob_space_state.specs.Taking.{is_overfull, is_reply}
 use Rattle.nob_model.proofs.Accepted.{found_passes}
 use Rattle.nob_model_work.proofs.Firsts.{no_place, at_place, place_first}
 use Rattle.nob_space_state.proofs.Firsts.{some_same}

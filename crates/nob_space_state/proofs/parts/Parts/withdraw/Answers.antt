@@ -1,9 +1,9 @@
 use Rattle.std.proofs.Common.{sym, ap, subst, ◌∙◌}
 use Rattle.std.proofs.lemmas.Option.{none-some}
 use Rattle.nob_table.specs.Table.{Becomes}
-use Rattle.nob_table.specs.Standings.{withdrawn}
+use Rattle.nob_table_rows.specs.Standings.{withdrawn}
 use Rattle.nob_model_types.specs.declared.answer.Answer.TheVariants as answers
-use Rattle.nob_model.specs.Sending.{unless}
+use Rattle.nob_model_acting.specs.Sending.{unless}
 use Rattle.nob_space_state.proofs.Exported.{withdraw_right, withdraw_free, withdraw_stands}
 use Rattle.nob_space_state.proofs.Orderly.{withdraw_is}
 use Rattle.nob_space_state.proofs.parts.Parts.withdraw.Goals as goal

@@ -1,6 +1,6 @@
 use Rattle.std.proofs.Common.{◌≡◌, true, sym, ap, ◌∙◌}
-use Rattle.nob_table.specs.declared.standing.Standing.{Standing}
-use Rattle.nob_table.specs.Standings.{is_pending}
+use Rattle.nob_table_rows.specs.declared.standing.Standing.{Standing}
+use Rattle.nob_table_rows.specs.Standings.{is_pending}
 use Rattle.nob_table.specs.Table.{standing}
 use Rattle.nob_table.proofs.Stands.{answered_one}
 use Rattle.nob_table.proofs.table.ObjectTable.answer.Goals as goal

@@ -1,6 +1,6 @@
 use Rattle.std.proofs.Common.{None}
 use Rattle.nob_ids.specs.Names.{is_same}
-use Rattle.nob_table.specs.Order.{place_in}
+use Rattle.nob_table_rows.specs.Order.{place_in}
 use Rattle.nob_table.proofs.Ordered.{order_filter}
 use Rattle.nob_table.proofs.Tables.{place_puts}
 use Rattle.nob_table.proofs.table.ObjectTable.remove.Goals as goal

@@ -1,0 +1,4 @@
+pub mod Counted
+pub mod Shows
+pub mod Returned
+pub mod Taking

@@ -1,0 +1,11 @@
+pub mod Changed
+pub mod First
+pub mod Flat
+pub mod Grown
+pub mod Idle
+pub mod Keys
+pub mod Owned
+pub mod Parted
+pub mod Rising
+pub mod Same
+pub mod Slots

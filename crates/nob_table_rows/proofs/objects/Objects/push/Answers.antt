@@ -1,0 +1,26 @@
+use Rattle.std.proofs.Common.{◌+◌, ap, ◌∙◌, refl, Some, arith, length, List}
+use Rattle.nob_ids.specs.declared.wire_rep.WireRep.{WireRep}
+use Rattle.nob_table_rows.specs.declared.counts.Counts.{Counts}
+use Rattle.nob_table_rows.specs.Objects.{live_rows}
+use Rattle.nob_table_rows.proofs.Slots.{no_slot, slots_pushed, puts_live, live_push, length_one}
+use Rattle.nob_table_rows.proofs.objects.Objects.push.Goals as goal
+
+pub push-requires-clause-new : goal.push-requires-clause-new
+push-requires-clause-new c = no_slot c.self.inside.slots.rows c.self.inside.exported (record { owner = c.args.me; index = c.self.inside.exported + 1 }) c.self.invariant.low (omega arith)
+
+pub overflow_add-self-2 : goal.overflow_add-self-2
+overflow_add-self-2 c = let few = rw (← c.self.view_is) at c.requires.few in omega (arith, few, c.self.invariant.count)
+
+pub invariant_of-self : goal.invariant_of-self
+invariant_of-self c =
+    slots_pushed c.self.inside.exported c.self.inside.live c.self.inside.slots.rows c.self.invariant c.push.new.self.rows (record { owner = c.args.me; index = c.self.inside.exported + 1 }) c.args.counts
+    refl c.push.ensures.rows c.push.ensures.once
+
+pub returns-clause-puts : goal.returns-clause-puts
+returns-clause-puts c =
+    rw (← c.self.view_is) (puts_live c.self.inside.slots.rows c.push.new.self.rows (record { owner = c.args.me; index = c.self.inside.exported + 1 }) (Some c.args.counts) c.self.invariant.once c.push.ensures.once c.push.ensures.puts)
+
+pub returns-clause-len : goal.returns-clause-len
+returns-clause-len c =
+    let rep : WireRep = record { owner = c.args.me; index = c.self.inside.exported + 1 } in
+    rw (← c.self.view_is) (ap (λ (rows : List (WireRep × Counts)). length rows) (ap live_rows c.push.ensures.rows ∙ live_push c.self.inside.slots.rows rep c.args.counts) ∙ length_one (live_rows c.self.inside.slots.rows) (rep, c.args.counts))

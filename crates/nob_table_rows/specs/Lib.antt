@@ -1,0 +1,7 @@
+pub use Rattle.nob_ids.specs.Names
+pub mod Counts
+pub mod Objects
+pub mod Order
+pub mod Peers
+pub mod Rows
+pub mod Standings
