@@ -18,7 +18,7 @@ returns-clause-made c =
     let count : length c.frames-before.result.now ≡ length w.frames = ap length c.frames-before.ensures.frames in
     let told : answer ≡ step_result_text (length w.frames) r = c.as_bytes.ensures.value ∙ c.in_ok-answer.ensures ∙ ap (λ (n : ℕ). step_result_text n r) count in
     let run = subst (λ (entries : List Entry). WorldRun v.n (λ _. v.limits) (reverse entries)) c.entries.ensures.entries c.entries.ensures.run in
-    let before = sym c.frames-before.ensures.frames ∙ c.frames-before.ensures.given in
-    let after = sym c.frames.ensures.frames ∙ c.frames.ensures.given in
+    let before = sym c.frames-before.ensures.frames ∙ c.frames-before.ensures.transmitted_frames in
+    let after = sym c.frames.ensures.frames ∙ c.frames.ensures.transmitted_frames in
     let made = step_made w v line (answered_text line answer) c.args.step.now r c.requires step.adds step.fault step.only step.err step.err_frames step.n step.limits run before after (ap (answered_text line) told) in
     line_written c.push_line.result c.args.text.now.items c.push_line.new.text.items line answer (StepMade true (script_world w) line (script_world v)) c.push_line.ensures.ok made
