@@ -1,4 +1,2 @@
 pub mod Known
-pub mod Faults
 pub mod Endings
-pub mod Subcommands

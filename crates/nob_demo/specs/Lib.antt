@@ -1,3 +1,3 @@
 pub use Rattle.nob_demo_pair.specs.Scripts
-pub mod Words
+pub use Rattle.nob_demo_words.specs.Words
 pub mod Program

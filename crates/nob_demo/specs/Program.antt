@@ -8,10 +8,10 @@ use Rattle.nob_model_journal.specs.declared.verdict.Verdict.TheVariants.{Yes, No
 use Rattle.nob_script_text.specs.declared.ending.Ending.{Ending}
 use Rattle.nob_script_text.specs.declared.ending.Ending.TheVariants as endings
 use Rattle.nob_script.specs.Plays as worlds
-use Rattle.nob_demo.specs.declared.words.Script.{Script}
-use Rattle.nob_demo.specs.declared.words.Script.TheVariants.{Pair, World}
-use Rattle.nob_demo.specs.declared.fault.Fault.{Fault}
-use Rattle.nob_demo.specs.declared.fault.Fault.TheVariants.{Words, Read, Write, Memory}
+use Rattle.nob_demo_words.specs.declared.words.Script.{Script}
+use Rattle.nob_demo_words.specs.declared.words.Script.TheVariants.{Pair, World}
+use Rattle.nob_demo_words.specs.declared.fault.Fault.{Fault}
+use Rattle.nob_demo_words.specs.declared.fault.Fault.TheVariants.{Words, Read, Write, Memory}
 
 -- so many reads at most
 abbrev pub most_reads : ℕ
@@ -51,13 +51,6 @@ pub data IsReadFault (r : Reading) : Type 0 where
   failed_read : r.failed ≡ true → IsReadFault r
   many_reads : r.reads ≡ most_reads → r.ended ≡ false → IsReadFault r
   many_bytes : most_bytes < r.bytes → IsCounted r → IsReadFault r
-
--- why the words aren't taken: clap refuses them, or memory ran out
-abbrev pub IsWordsFault : Fault → (taken : Bool) → Type 0
-IsWordsFault (Words text) taken = taken ≡ false
-IsWordsFault Read taken = ⊥
-IsWordsFault Memory taken = Unit {0}
-IsWordsFault Write taken = ⊥
 
 -- why the input isn't there: it can't be read whole, or memory ran out on the way
 abbrev pub IsReadingFault : Fault → Reading → Type 0

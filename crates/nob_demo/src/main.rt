@@ -1,13 +1,11 @@
 //! The program `nobj`.
 #![tactic(auto)]
 
-mod fault;
 mod reading;
 mod run;
 mod streams;
 #[cfg(test)]
 mod tests;
-mod words;
 
 use crate::streams::{Sink, Source};
 use std::alloc::Global;

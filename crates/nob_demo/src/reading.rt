@@ -4,8 +4,8 @@ ghost use Rattle.std.specs.Prelude.{◌≡◌, ◌≤◌, ◌<◌, ◌+◌, ℕ,
 ghost use Rattle.std.specs.Io.KnownBytes.{Consumes};
 ghost use Rattle.nob_demo.specs.Program.{IsWhole, IsReadingFault, most_bytes, most_reads};
 
-use crate::fault::Fault;
 use crate::streams::{MOST_READS, Source};
+use nob_demo_words::Fault;
 use std::alloc::Global;
 use std::io::Read;
 

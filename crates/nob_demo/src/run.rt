@@ -2,14 +2,13 @@
 
 ghost use Rattle.std.specs.Prelude.{◌≡◌, ◌++◌, [], ℕ, true, false, map, not, IsOk, IsErr};
 ghost use Rattle.std.specs.Io.KnownBytes.{Appends};
-ghost use Rattle.nob_demo.specs.Words.{script_of, word_faults, takes_words};
+ghost use Rattle.nob_demo_words.specs.Words.{script_of, word_faults, takes_words};
 ghost use Rattle.nob_demo.specs.Program.{Ended, PlaysScript, Goes, status_of, world_status_of};
 
-use crate::fault::Fault;
 use crate::reading::read_all;
 use crate::streams::{Sink, Source};
-use crate::words::{Script, judge};
 use nob_demo_pair::Outcome;
+use nob_demo_words::{Fault, Script, judge};
 use nob_model_journal::Verdict;
 use nob_script_text::Ending;
 use std::alloc::Global;

@@ -1,8 +1,8 @@
 use Rattle.std.proofs.Common.{◌++◌, List, ℕ, map, ap, subst, sym, ◌∙◌}
 use Rattle.std.specs.Io.KnownBytes.{Appends}
-use Rattle.nob_demo.specs.Words.{script_of}
+use Rattle.nob_demo_words.specs.Words.{script_of}
 use Rattle.nob_demo.specs.Program.{PlaysScript}
-use Rattle.nob_demo.specs.declared.words.Script.{Script}
+use Rattle.nob_demo_words.specs.declared.words.Script.{Script}
 use Rattle.nob_demo.proofs.Known.{appends_more}
 use Rattle.nob_demo.proofs.run.attempt.Goals as goal
 

@@ -1,11 +1,13 @@
 -- The words that the program takes.
-use Rattle.std.specs.Prelude.{ℕ, Bool, true, false, List, [], ◌∷◌, codes, Option, Some, None, option_map, if◌then◌else◌}
+use Rattle.std.specs.Prelude.{◌≡◌, ℕ, Bool, true, false, List, [], ◌∷◌, codes, Option, Some, None, option_map, if◌then◌else◌}
 use Rattle.std.specs.Str.{bytes_eq}
 use Rattle.clap.specs.Words.{App, with_subcommand, fault_of, subcommand_of}
 use Rattle.clap.specs.Simple.{new_shape}
 use Rattle.clap.specs.Kinds.{Kinds}
-use Rattle.nob_demo.specs.declared.words.Script.{Script}
-use Rattle.nob_demo.specs.declared.words.Script.TheVariants.{Pair, World}
+use Rattle.nob_demo_words.specs.declared.fault.Fault.{Fault}
+use Rattle.nob_demo_words.specs.declared.fault.Fault.TheVariants.{Words, Read, Write, Memory}
+use Rattle.nob_demo_words.specs.declared.words.Script.{Script}
+use Rattle.nob_demo_words.specs.declared.words.Script.TheVariants.{Pair, World}
 
 -- the command `nobj` with the subcommand `pair` alone, as clap sees it: it has a version
 abbrev pub nobj_with_pair : App
@@ -32,3 +34,10 @@ script_by (Some name) = if bytes_eq name (codes "script") then World else Pair
 -- what these words run, where clap takes them
 abbrev pub script_of : List (List ℕ) → Script
 script_of words = script_by (option_map (λ subcommand. subcommand.0) (subcommand_of nobj words))
+
+-- why the words aren't taken: clap refuses them, or memory ran out
+abbrev pub IsWordsFault : Fault → (taken : Bool) → Type 0
+IsWordsFault (Words text) taken = taken ≡ false
+IsWordsFault Read taken = ⊥
+IsWordsFault Memory taken = Unit {0}
+IsWordsFault Write taken = ⊥

@@ -3,8 +3,7 @@
 ghost use Rattle.std.specs.Prelude.{◌≡◌, ℕ, true, false, List, map, IfOk, IfErr, OnOk};
 ghost use Rattle.clap.specs.Words.{app_of, FailsBy};
 ghost use Rattle.clap.specs.Words.{subcommand_name_of};
-ghost use Rattle.nob_demo.specs.Words.{nobj, nobj_with_pair, script_by, script_of, word_faults, takes_words};
-ghost use Rattle.nob_demo.specs.Program.{IsWordsFault};
+ghost use Rattle.nob_demo_words.specs.Words.{nobj, nobj_with_pair, script_by, script_of, word_faults, takes_words, IsWordsFault};
 
 use crate::fault::Fault;
 use clap::error::ErrorKind;

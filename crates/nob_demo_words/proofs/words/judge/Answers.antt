@@ -1,6 +1,6 @@
 use Rattle.std.proofs.Common.{inl, inr, ◌∙◌}
-use Rattle.nob_demo.proofs.Faults.{not_taken}
-use Rattle.nob_demo.proofs.words.judge.Goals as goal
+use Rattle.nob_demo_words.proofs.Faults.{not_taken}
+use Rattle.nob_demo_words.proofs.words.judge.Goals as goal
 
 pub returns : goal.returns
 returns g c = record {

@@ -1,8 +1,8 @@
 use Rattle.std.proofs.Common.{◌≡◌, true, [], map, refl, sym, ap, subst, ◌∙◌, List, ℕ, Option, option_map}
 use Rattle.clap.specs.Words.{App, fault_of, is_simple, is_simple_and_free, subcommand_of, subcommand_name_of}
-use Rattle.nob_demo.specs.Words.{script_by}
-use Rattle.nob_demo.proofs.Subcommands.{name_of}
-use Rattle.nob_demo.proofs.words.matched.Goals as goal
+use Rattle.nob_demo_words.specs.Words.{script_by}
+use Rattle.nob_demo_words.proofs.Subcommands.{name_of}
+use Rattle.nob_demo_words.proofs.words.matched.Goals as goal
 
 pub returns : goal.returns
 returns g c =

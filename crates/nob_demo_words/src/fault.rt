@@ -1,7 +1,7 @@
 //! Why a run ends before its input does.
 
 ghost use Rattle.std.specs.Prelude.{◌≡◌};
-ghost use Rattle.nob_demo.specs.declared.fault.Fault.TheVariants.{Memory};
+ghost use Rattle.nob_demo_words.specs.declared.fault.Fault.TheVariants.{Memory};
 
 use std::alloc::{AllocError, AllocFailed};
 use thiserror::Error;
