@@ -4,3 +4,4 @@ pub use Rattle.nob_trace_merging.specs.Merged
 pub mod Traces
 pub mod Origins
 pub mod Faults
+pub mod Lowest

@@ -1,39 +1,33 @@
 //! Traces checked, by the definitions.
 
-ghost use Rattle.std.specs.Prelude.{◌≡◌, ◌<◌, IfOk, MatchOption};
+ghost use Rattle.std.specs.Prelude.{IfOk};
 ghost use Rattle.std.specs.List.{AllByRecursion};
 ghost use Rattle.nob_trace.specs.Stamps.{Rise};
 ghost use Rattle.nob_model_traces.specs.Traces.{IsRightTrace};
-ghost use Rattle.nob_model_traces.specs.Faults as words;
+ghost use Rattle.nob_model_traces.specs.Faults as faults;
+ghost use Rattle.nob_model_traces.specs.Lowest as words;
 
-use crate::fault::{CheckError, CheckFault};
+use crate::fault::{CheckError, CheckFault, WrongEntry};
+use crate::lowest::lower_of;
 use crate::origins::first_fault;
 use crate::running::first_wrong;
 use crate::set::are_one_each;
-use nob_ids::SpaceId;
 use nob_model_types::Entry;
 use nob_trace::Trace;
 use nob_trace_merging::merge;
 use std::alloc::{AllocError, Global};
 
-/// The trace of the lowest space that isn't right, and the place of its first wrong entry.
-fn first_no_run(alloc: Global, traces: &[Trace]) -> Result<Option<(SpaceId, usize)>, AllocError>
-    ensures { IfOk result (λ found. MatchOption found (AllByRecursion IsRightTrace traces.now)
-        (λ no_run. words.IsFirstNoRun traces.now no_run.0 no_run.1)) }
+// The wrong entry of the lowest space whose trace has one.
+#[tactic(auto, using(crate::proofs::Choosing::lowest_plain))]
+fn first_no_run(alloc: Global, traces: &[Trace]) -> Result<Option<WrongEntry>, AllocError>
+    ensures { IfOk result (λ found. words.IsLowest IsRightTrace traces.now found) }
 {
     match traces {
         [] => Ok(None),
         [trace, others @ ..] => {
-            let later = first_no_run(alloc, others)?;
-            if let Some((space, _)) = later {
-                if space.get() < trace.space.get() {
-                    return Ok(later);
-                }
-            }
-            match first_wrong(alloc, trace)? {
-                Some(place) => Ok(Some((trace.space, place))),
-                None => Ok(later),
-            }
+            let other = first_no_run(alloc, others)?;
+            let own = first_wrong(alloc, trace)?;
+            Ok(lower_of(trace.space, own, other))
         }
     }
 }
@@ -54,12 +48,13 @@ fn all_rise(traces: &[Trace])
 /// The entries of all traces in order of stamp, ties by space; or the first that is wrong with the
 /// traces. It reads all entries before it again for each entry.
 pub fn check_plainly(alloc: Global, traces: &[Trace]) -> Result<Vec<Entry>, CheckError>
-    ensures { words.IsChecked (λ merged. merged.items) traces.now result }
+    ensures { faults.IsChecked (λ merged. merged.items) traces.now result }
 {
     if !are_one_each(traces) {
         return Err(CheckError::Fault(CheckFault::Set));
     }
-    if let Some((space, place)) = first_no_run(alloc, traces)? {
+    if let Some(wrong) = first_no_run(alloc, traces)? {
+        let WrongEntry { space, place } = wrong;
         return Err(CheckError::Fault(CheckFault::NotARun(space, place)));
     }
     all_rise(traces);

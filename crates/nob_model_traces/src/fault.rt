@@ -24,6 +24,15 @@ pub enum CheckFault {
     Stamp(SpaceId, usize),
 }
 
+/// An entry of a space that isn't the right answer after those before it.
+#[derive(Clone, Copy, Debug, PartialEq, Eq)]
+pub struct WrongEntry {
+    /// The space.
+    pub space: SpaceId,
+    /// Its place, from 1.
+    pub place: usize,
+}
+
 /// Why traces aren't accepted.
 #[derive(Clone, Copy, Debug, PartialEq, Eq, Error)]
 pub enum CheckError {

@@ -5,10 +5,12 @@
 
 mod checking;
 mod fault;
+mod lowest;
 pub mod origins;
 mod running;
 mod set;
 
 pub use checking::check_plainly;
-pub use fault::{CheckError, CheckFault};
+pub use fault::{CheckError, CheckFault, WrongEntry};
+pub use lowest::lower_of;
 pub use set::are_one_each;

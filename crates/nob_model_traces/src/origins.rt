@@ -1,6 +1,6 @@
 //! Which frames arrive that no earlier entry transmitted.
 
-ghost use Rattle.std.specs.Prelude.{◌≡◌, ◌↔◌, ◌<◌, ◌+◌, ◌^◌, true, length, filter, ◌==◌, MatchOption};
+ghost use Rattle.std.specs.Prelude.{◌≡◌, ◌↔◌, ◌≤◌, ◌+◌, true, length, filter, ◌==◌, MatchOption};
 ghost use Rattle.std.specs.List.{Contains};
 ghost use Rattle.nob_model_types.specs.declared.event.Event.{Event as EventOf};
 ghost use Rattle.nob_model_types.specs.declared.event.Event.TheVariants as events;
@@ -39,16 +39,20 @@ pub fn frame_in(entry: &Entry) -> Option<&Frame>
     }
 }
 
-// Whether a frame is one of these.
+// Whether a frame is one of these. It recurses once for each, and a Transmit gives no more than a
+// window of them.
 fn is_among(frame: &Frame, frames: &[Frame]) -> bool
     ensures { (result ≡ true) ↔ Contains frames.now frame.now }
 {
-    for other in frames {
-        if same_frame(other, frame) {
-            return true;
+    match frames {
+        [] => false,
+        [other, others @ ..] => {
+            if same_frame(other, frame) {
+                return true;
+            }
+            is_among(frame, others)
         }
     }
-    false
 }
 
 /// Whether one of these entries, the first of which stands first, transmitted a frame. Linear in
@@ -66,19 +70,15 @@ pub fn is_transmitted(frame: &Frame, merged: &[Entry]) -> bool
 
 // How many of these entries are of a space.
 fn count_of(space: SpaceId, entries: &[Entry]) -> usize
-    ensures { result ≡ length (at space entries.now) }
+    ensures count { result ≡ length (at space entries.now) }
+    ensures bound { result ≤ length entries.now }
 {
     entries.iter().filter(|entry| entry.space == space).count()
 }
 
 /// What an arrival of a frame at a space is refused for, where none of the entries before it
 /// transmitted the frame. Linear in what the merged entries transmitted.
-pub fn origin_fault(
-    merged: &[Entry],
-    before: &[Entry],
-    space: SpaceId,
-    frame: &Frame,
-) -> CheckFault
+pub fn origin_fault(merged: &[Entry], before: &[Entry], space: SpaceId, frame: &Frame) -> CheckFault
     ensures { words.IsRefusedFor merged.now space (length (at space before.now) + 1) frame.now
         result }
 {

@@ -5,11 +5,11 @@ ghost use Rattle.nob_model.specs.Right.{IsRight};
 ghost use Rattle.nob_trace_merging.specs.Apart.{entry_at};
 ghost use Rattle.nob_model_traces.specs.Traces as words;
 
+use nob_ids::Limits;
 use nob_model::{Entry, Here, right};
 use nob_model_same::same_result;
 use nob_trace::{Stamped, Trace};
 use nob_trace_merging::copy_entry;
-use nob_ids::Limits;
 use std::alloc::{AllocError, Global};
 
 // Whether an entry's result is the right one after the entries before it, the newest of which

@@ -29,9 +29,7 @@ fn are_apart(traces: &[Trace]) -> bool
 fn is_one_of(count: usize, trace: &Trace) -> bool
     ensures { result ≡ words.is_one_of count trace.now }
 {
-    trace.n.get() as usize == count
-        && 1 <= trace.space.get()
-        && trace.space.get() as usize <= count
+    trace.n.get() as usize == count && 1 <= trace.space.get() && trace.space.get() as usize <= count
 }
 
 // Whether each of these traces is of one of so many spaces.

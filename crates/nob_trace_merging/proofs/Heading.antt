@@ -19,7 +19,7 @@ use Rattle.nob_trace_merging.proofs.Places.{EachWith, each_map, left_some, left_
 not_self : (m : Moment) → is_earlier m m ≡ false
 not_self m = grind (arith, nat_tests)
 
-not_back : (a b : Moment) → is_earlier a b ≡ true → is_earlier b a ≡ false
+pub not_back : (a b : Moment) → is_earlier a b ≡ true → is_earlier b a ≡ false
 not_back a b h = grind (arith, nat_tests, h)
 
 -- what isn't earlier than one that isn't earlier than another isn't earlier than that

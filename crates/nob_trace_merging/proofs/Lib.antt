@@ -1,3 +1,4 @@
 pub mod Places
 pub mod Heading
 pub mod Passing
+pub mod One

@@ -1,3 +1,4 @@
 pub mod Apart
 pub mod Merged
 pub mod Heads
+pub mod Laws

@@ -1,6 +1,7 @@
 //! The entries of several traces in one order: by stamp, ties by space.
 #![tactic(auto)]
 
+pub mod laws;
 mod merging;
 mod moment;
 

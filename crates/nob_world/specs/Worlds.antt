@@ -12,12 +12,8 @@ use Rattle.nob_model_types.specs.declared.entry.Entry.{Entry}
 use Rattle.nob_model_types.specs.declared.entry.WorldStep.{WorldStep}
 use Rattle.nob_model_types.specs.declared.entry.WorldStep.TheVariants.{Do, Deliver}
 use Rattle.nob_model_journal.specs.Journals.{at, transmitted_frames}
-use Rattle.nob_model_journal.specs.Fronts.{Fronts}
-use Rattle.nob_model_journal.specs.Safety.{SafeWithdraw}
-use Rattle.nob_model_journal.specs.Losses.{NoFalseLoss}
-use Rattle.nob_model_journal.specs.Findings.{Found}
-use Rattle.nob_model_losses.specs.Leaks.{NoLeak}
 use Rattle.nob_model_safety.specs.Typed.{AreOfTypes}
+pub use Rattle.nob_model_invariant.specs.Safe.{IsSafe}
 use Rattle.nob_model_journal.specs.Runs.{WorldRun, frame_of, IsMadeBy}
 use Rattle.nob_space.specs.Spaces.{Owner, StandsFor}
 use Rattle.nob_world.specs.declared.error.WorldError.{WorldError}
@@ -61,14 +57,6 @@ pub record IsWorld (world : World) : Type 0 where
   pub spelt : AllByRecursion Fits world.frames
   pub for_spaces : AllByRecursion (λ frame. frame.to ≤ world.n) world.frames
   pub typed : AreOfTypes (journal world)
-
--- what is proved of all that happens in a world of n spaces: what each space acted on from each peer is a gapless front of what that peer sent it, and nothing after that session's close; no owner withdraws an object while a space on an open session can use it or its reference is in open transit; no reference is lost without a cause; every reference is found: no session closes because of what came over it; and no object leaks: once all is quiet, an object that no space can use can be withdrawn
-pub record IsSafe (n : ℕ) (J : List Entry) : Type 0 where
-  pub fronts : Fronts n J
-  pub withdraws : SafeWithdraw n J
-  pub losses : NoFalseLoss n J
-  pub found : Found J
-  pub leaks : NoLeak n J
 
 -- whether an event is the arrival of a frame
 abbrev pub is_arrival : Event → Bool

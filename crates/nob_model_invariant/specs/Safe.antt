@@ -1,0 +1,23 @@
+-- What is proved of all that happens in a run of a world, in one record.
+use Rattle.std.specs.Prelude.{ℕ, List}
+use Rattle.nob_ids.specs.declared.limits.Limits.{Limits}
+use Rattle.nob_model_types.specs.declared.entry.Entry.{Entry}
+use Rattle.nob_model_journal.specs.Fronts.{Fronts}
+use Rattle.nob_model_journal.specs.Safety.{SafeWithdraw}
+use Rattle.nob_model_journal.specs.Losses.{NoFalseLoss}
+use Rattle.nob_model_journal.specs.Findings.{Found}
+use Rattle.nob_model_journal.specs.Runs.{WorldRun}
+use Rattle.nob_model_losses.specs.Leaks.{NoLeak}
+use Rattle.nob_model_safety.specs.Typed.{AreOfTypes}
+
+-- what is proved of all that happens in a world of n spaces: what each space acted on from each peer is a gapless front of what that peer sent it, and nothing after that session's close; no owner withdraws an object while a space on an open session can use it or its reference is in open transit; no reference is lost without a cause; every reference is found: no session closes because of what came over it; and no object leaks: once all is quiet, an object that no space can use can be withdrawn
+pub record IsSafe (n : ℕ) (J : List Entry) : Type 0 where
+  pub fronts : Fronts n J
+  pub withdraws : SafeWithdraw n J
+  pub losses : NoFalseLoss n J
+  pub found : Found J
+  pub leaks : NoLeak n J
+
+-- every run of a world is safe, each space with limits of its own
+abbrev pub SafeLaw : Type 0
+SafeLaw = (n : ℕ) (limits : ℕ → Limits) (J : List Entry) → WorldRun n limits J → AreOfTypes J → IsSafe n J

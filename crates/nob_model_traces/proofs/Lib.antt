@@ -1,0 +1,5 @@
+pub mod Entering
+pub mod Transmitting
+pub mod Telling
+pub mod Choosing
+pub mod Faulting
