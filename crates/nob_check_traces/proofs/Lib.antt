@@ -1,0 +1,4 @@
+pub mod Typed
+pub mod Answering
+pub mod Worlds
+pub mod Accepting
