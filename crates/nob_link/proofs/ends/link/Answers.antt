@@ -1,4 +1,4 @@
-use Rattle.std.proofs.Common.{ap, ◌∙◌, sym, rules}
+use Rattle.std.proofs.Common.{rules}
 use Rattle.nob_link.proofs.Steps.{begins, forks}
 use Rattle.nob_link.proofs.ends.link.Goals as goal
 

@@ -1,5 +1,4 @@
-use Rattle.std.proofs.Common.{rules}
-use Rattle.nob_link.proofs.Steps.{merges, knows_rest}
+use Rattle.nob_link.proofs.Steps.{merges}
 use Rattle.nob_link.proofs.finishing.finish.Goals as goal
 
 pub absorb-requires-clause-rule : goal.absorb-requires-clause-rule
