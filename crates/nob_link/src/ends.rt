@@ -1,7 +1,9 @@
 //! The two ends of a link.
 
-ghost use Rattle.std.specs.Prelude.{◌≡◌, ◌≢◌, ◌≤◌, [], length, IfOk, IfErr, OnErr, MatchResult, MatchOption};
-ghost use Rattle.nob_link.specs.Ends.{with_put, with_taken, parcel_back, IsFull, IsCapacity};
+ghost use Rattle.std.specs.Prelude.{◌≡◌, ◌≤◌, [], length, true, IfOk, IfErr, OnErr, MatchResult, MatchOption};
+ghost use Rattle.crossbeam_channel.specs.Claims.{IsSeatAt};
+ghost use Rattle.crossbeam_channel.specs.Ends.{sends_on, receives_on};
+ghost use Rattle.nob_link.specs.Ends.{link_of, known_by, with_put, with_taken, parcel_back, IsFull, IsCapacity};
 ghost use Rattle.nob_link.specs.declared.fault.LinkError.TheVariants as link_errors;
 
 use crate::MOST_PARCELS;
@@ -17,10 +19,15 @@ use std::sync::Wait;
 
 /// The end of a link that puts parcels. Contracts see its link, the link's capacity and the parcels
 /// that it has put.
-#[derive(Drop)]
 pub struct PutEnd {
     pub(crate) sender: RuledSender<Parcel, Known, InOrder>,
     pub(crate) pass: Pass<Parcel, Known>,
+}
+
+impl Drop for PutEnd {
+    fn drop(self) {
+        let PutEnd { sender: _, pass: _ } = self;
+    }
 }
 
 impl Model for PutEnd {
@@ -36,10 +43,18 @@ impl Model for PutEnd {
 }
 
 /// The end of a link that takes parcels. Contracts see its link and the parcels that it has taken.
-#[derive(Drop)]
 pub struct TakeEnd {
     pub(crate) receiver: RuledReceiver<Parcel, Known, InOrder>,
     pub(crate) pass: Pass<Parcel, Known>,
+}
+
+impl Drop for TakeEnd {
+    fn drop(self) {
+        let TakeEnd {
+            receiver: _,
+            pass: _,
+        } = self;
+    }
 }
 
 impl Model for TakeEnd {
@@ -79,6 +94,22 @@ pub fn link(alloc: Global, capacity: usize) -> Result<(PutEnd, TakeEnd), LinkErr
 }
 
 impl PutEnd {
+    // The channel's end and the pass.
+    pub(crate) fn into_parts(
+        self,
+    ) -> (
+        RuledSender<Parcel, Known, InOrder>,
+        Pass<Parcel, Known>,
+    )
+        ensures link { self.link ≡ link_of result.1 }
+        ensures put { self.put ≡ (known_by result.1).put }
+        ensures seat { IsSeatAt (sends_on result.0) result.1 }
+        ensures puts { (known_by result.1).puts ≡ true }
+    {
+        let PutEnd { sender, pass } = self;
+        (sender, pass)
+    }
+
     /// Puts a parcel, and waits while the link is full. L1 where the other end is gone: the parcel
     /// comes back. It takes no memory.
     pub fn put_as<R: Wait>(&mut self, rt: &R, parcel: Parcel) -> Result<(), Gone>
@@ -117,6 +148,22 @@ impl PutEnd {
 }
 
 impl TakeEnd {
+    // The channel's end and the pass.
+    pub(crate) fn into_parts(
+        self,
+    ) -> (
+        RuledReceiver<Parcel, Known, InOrder>,
+        Pass<Parcel, Known>,
+    )
+        ensures link { self.link ≡ link_of result.1 }
+        ensures taken { self.taken ≡ (known_by result.1).taken }
+        ensures seat { IsSeatAt (receives_on result.0) result.1 }
+        ensures takes { (known_by result.1).takes ≡ true }
+    {
+        let TakeEnd { receiver, pass } = self;
+        (receiver, pass)
+    }
+
     /// Takes the next parcel, and waits while there is none. `None` where there is none and the
     /// other end is gone.
     pub fn take_as<R: Wait>(&mut self, rt: &R) -> Option<Parcel>

@@ -27,11 +27,8 @@ pub fn finish<R: Wait>(
     let Ok(room) = Vec::with_capacity(alloc, MOST_PARCELS) else {
         return Err((put_end, take_end));
     };
-    let PutEnd { sender, mut pass } = put_end;
-    let TakeEnd {
-        receiver,
-        pass: taker,
-    } = take_end;
+    let (sender, mut pass) = put_end.into_parts();
+    let (receiver, taker) = take_end.into_parts();
     sender.absorb::<Roles>(&mut pass, taker);
     sender.learn_as::<Rest>(&mut pass);
     Ok(take_rest(rt, &receiver, pass, room))
