@@ -26,3 +26,7 @@ draw start (suc count) = next_draw (draw start count)
 unfoldable pub words_of : ℕ → ℕ → ℕ → List ℕ
 words_of loss start zero = []
 words_of loss start (suc count) = words_of loss start count ++ word_of loss (draw start (suc count)) ∷ []
+
+-- the 10,000 words of the link from one space to another, where so many of ten frames are lost
+abbrev pub words_between : ℕ → ℕ → ℕ → ℕ → List ℕ
+words_between seed from to loss = words_of loss (start_of seed from to) 10000

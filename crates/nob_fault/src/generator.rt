@@ -1,7 +1,7 @@
 //! The words that the links of the program's running spaces have.
 
 ghost use Rattle.std.specs.Prelude.{◌≡◌, IfOk};
-ghost use Rattle.nob_fault.specs.Words.{start_of, next_draw, word_of, words_of};
+ghost use Rattle.nob_fault.specs.Words.{start_of, next_draw, word_of, words_between};
 
 use nob_ids::SpaceId;
 use std::alloc::{AllocError, Global};
@@ -18,7 +18,7 @@ pub fn words_between(
     to: SpaceId,
     loss: u64,
 ) -> Result<Vec<u64>, AllocError>
-    ensures { IfOk result (λ words. words.items ≡ words_of loss (start_of seed from to) WORDS) }
+    ensures { IfOk result (λ words. words.items ≡ words_between seed from to loss) }
 {
     let mut drawn = start_between(seed, from, to);
     let mut words = Vec::with_capacity(alloc, WORDS)?;

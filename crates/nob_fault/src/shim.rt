@@ -25,7 +25,11 @@ impl Model for Shim {
 
     ghost Value = { Shimming };
 
-    ghost view = { λ shim. record { words = shim.words.items; place = shim.place; kept = shim.kept } };
+    ghost view = { λ shim. record {
+      words = shim.words.items;
+      place = shim.place;
+      kept = shim.kept;
+    } };
 }
 
 impl Shim {
@@ -44,10 +48,13 @@ impl Shim {
     /// counts as 1 once they are used up; the end uses none. The parcel comes back for want of
     /// memory, and nothing has changed then.
     pub fn pass(&mut self, parcel: Parcel) -> Result<Vec<Parcel>, Parcel>
-        ensures given { MatchResult result (λ given. given.items ≡ outcome self.old parcel) (λ back. back ≡ parcel) }
+        ensures given { MatchResult result (λ given. given.items ≡ outcome self.old parcel)
+            (λ back. back ≡ parcel) }
         ensures passed { OnOk result (self.new ≡ passed self.old parcel) }
-        ensures all { (words : List ℕ) (parcels : List ParcelOf) → self.old ≡ shim_after words parcels
-            → IfOk result (λ given. (output words (parcel ∷ parcels) ≡ output words parcels ++ given.items)
+        ensures all { (words : List ℕ) (parcels : List ParcelOf)
+            → self.old ≡ shim_after words parcels
+            → IfOk result (λ given. (output words (parcel ∷ parcels)
+            ≡ output words parcels ++ given.items)
             × (self.new ≡ shim_after words (parcel ∷ parcels))) }
         ensures err { OnErr result (self.new ≡ self.old) }
         ensures memory { OnErr result (outcome self.old parcel ≢ []) }
@@ -84,7 +91,8 @@ fn meet(
     kept: &mut Option<Parcel>,
     parcel: Parcel,
 ) -> Result<Vec<Parcel>, Parcel>
-    ensures given { MatchResult result (λ given. given.items ≡ given_by effect kept.old parcel) (λ back. back ≡ parcel) }
+    ensures given { MatchResult result (λ given. given.items ≡ given_by effect kept.old parcel)
+        (λ back. back ≡ parcel) }
     ensures kept { OnOk result (kept.new ≡ kept_by effect kept.old parcel) }
     ensures err { OnErr result (kept.new ≡ kept.old) }
     ensures memory { OnErr result (given_by effect kept.old parcel ≢ []) }
@@ -99,7 +107,8 @@ fn meet(
 
 // The frame goes on, then what is kept back.
 fn go(alloc: Global, kept: &mut Option<Parcel>, parcel: Parcel) -> Result<Vec<Parcel>, Parcel>
-    ensures given { MatchResult result (λ given. given.items ≡ parcel ∷ listed kept.old) (λ back. back ≡ parcel) }
+    ensures given { MatchResult result (λ given. given.items ≡ parcel ∷ listed kept.old)
+        (λ back. back ≡ parcel) }
     ensures kept { OnOk result (kept.new ≡ None) }
     ensures err { OnErr result (kept.new ≡ kept.old) }
 {
@@ -113,7 +122,8 @@ fn go(alloc: Global, kept: &mut Option<Parcel>, parcel: Parcel) -> Result<Vec<Pa
 
 // The frame goes on twice, then what is kept back.
 fn go_twice(alloc: Global, kept: &mut Option<Parcel>, parcel: Parcel) -> Result<Vec<Parcel>, Parcel>
-    ensures given { MatchResult result (λ given. given.items ≡ parcel ∷ parcel ∷ listed kept.old) (λ back. back ≡ parcel) }
+    ensures given { MatchResult result (λ given. given.items ≡ parcel ∷ parcel ∷ listed kept.old)
+        (λ back. back ≡ parcel) }
     ensures kept { OnOk result (kept.new ≡ None) }
     ensures err { OnErr result (kept.new ≡ kept.old) }
 {
@@ -131,7 +141,8 @@ fn go_twice(alloc: Global, kept: &mut Option<Parcel>, parcel: Parcel) -> Result<
 
 // The frame is kept back; what was kept back before goes on.
 fn keep(alloc: Global, kept: &mut Option<Parcel>, parcel: Parcel) -> Result<Vec<Parcel>, Parcel>
-    ensures given { MatchResult result (λ given. given.items ≡ listed kept.old) (λ back. back ≡ parcel) }
+    ensures given { MatchResult result (λ given. given.items ≡ listed kept.old)
+        (λ back. back ≡ parcel) }
     ensures kept { OnOk result (kept.new ≡ Some parcel) }
     ensures err { OnErr result (kept.new ≡ kept.old) }
     ensures memory { OnErr result (listed kept.old ≢ []) }
@@ -150,7 +161,8 @@ fn keep(alloc: Global, kept: &mut Option<Parcel>, parcel: Parcel) -> Result<Vec<
 
 // What is kept back, then the end. The end comes back for want of memory.
 fn end(alloc: Global, kept: &mut Option<Parcel>) -> Result<Vec<Parcel>, Parcel>
-    ensures given { MatchResult result (λ given. given.items ≡ listed kept.old ++ Parcel.End ∷ []) (λ back. back ≡ Parcel.End) }
+    ensures given { MatchResult result (λ given. given.items ≡ listed kept.old ++ Parcel.End ∷ [])
+        (λ back. back ≡ Parcel.End) }
     ensures kept { OnOk result (kept.new ≡ None) }
     ensures err { OnErr result (kept.new ≡ kept.old) }
 {

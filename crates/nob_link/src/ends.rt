@@ -95,12 +95,7 @@ pub fn link(alloc: Global, capacity: usize) -> Result<(PutEnd, TakeEnd), LinkErr
 
 impl PutEnd {
     // The channel's end and the pass.
-    pub(crate) fn into_parts(
-        self,
-    ) -> (
-        RuledSender<Parcel, Known, InOrder>,
-        Pass<Parcel, Known>,
-    )
+    pub(crate) fn into_parts(self) -> (RuledSender<Parcel, Known, InOrder>, Pass<Parcel, Known>)
         ensures link { self.link ≡ link_of result.1 }
         ensures put { self.put ≡ (known_by result.1).put }
         ensures seat { IsSeatAt (sends_on result.0) result.1 }
@@ -125,14 +120,14 @@ impl PutEnd {
         }
     }
 
-    /// Puts a parcel if the link isn't full. The parcel comes back where it is, or where the other
-    /// end is gone. It may answer that the link is full while the other end is just taking. It
-    /// takes no memory.
+    /// Puts a parcel if the link isn't full. The parcel comes back where the link was full at one
+    /// moment of the call, or where the other end is gone. It takes no memory.
     pub fn try_put_as<R: Wait>(&mut self, rt: &R, parcel: Parcel) -> Result<(), TryPutError>
         ensures answer { MatchResult result
             (λ _. self.new ≡ with_put self.old parcel) (λ error. parcel_back error ≡ parcel) }
         ensures err { OnErr result (self.new ≡ self.old) }
-        ensures full { IfErr result (λ error. IsFull error → self.old.capacity ≤ length self.old.put) }
+        ensures full { IfErr result (λ error. IsFull error
+            → self.old.capacity ≤ length self.old.put) }
     {
         match self
             .sender
@@ -149,12 +144,7 @@ impl PutEnd {
 
 impl TakeEnd {
     // The channel's end and the pass.
-    pub(crate) fn into_parts(
-        self,
-    ) -> (
-        RuledReceiver<Parcel, Known, InOrder>,
-        Pass<Parcel, Known>,
-    )
+    pub(crate) fn into_parts(self) -> (RuledReceiver<Parcel, Known, InOrder>, Pass<Parcel, Known>)
         ensures link { self.link ≡ link_of result.1 }
         ensures taken { self.taken ≡ (known_by result.1).taken }
         ensures seat { IsSeatAt (receives_on result.0) result.1 }
@@ -173,8 +163,8 @@ impl TakeEnd {
         self.receiver.recv_as::<Take, R>(rt, &mut self.pass).ok()
     }
 
-    /// Takes the next parcel if there is one now. It may answer that there is none while the other
-    /// end is just putting.
+    /// Takes the next parcel if there is one now: `Empty` where there was none at one moment of the
+    /// call, `Gone` where the other end is gone besides.
     pub fn try_take_as<R: Wait>(&mut self, rt: &R) -> Result<Parcel, TryTakeError>
         ensures { MatchResult result
             (λ parcel. self.new ≡ with_taken self.old parcel) (λ _. self.new ≡ self.old) }

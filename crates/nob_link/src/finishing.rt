@@ -22,7 +22,8 @@ pub fn finish<R: Wait>(
     take_end: TakeEnd,
 ) -> Result<Vec<Parcel>, (PutEnd, TakeEnd)>
     requires { put_end.link ≡ take_end.link }
-    ensures { MatchResult result (λ rest. put_end.put ≡ take_end.taken ++ rest.items) (λ ends. (ends.0 ≡ put_end) × (ends.1 ≡ take_end)) }
+    ensures { MatchResult result (λ rest. put_end.put ≡ take_end.taken ++ rest.items)
+        (λ ends. (ends.0 ≡ put_end) × (ends.1 ≡ take_end)) }
 {
     let Ok(room) = Vec::with_capacity(alloc, MOST_PARCELS) else {
         return Err((put_end, take_end));
@@ -43,7 +44,8 @@ fn take_rest<R: Wait>(
 ) -> Vec<Parcel>
     requires channel { IsSeatAt (receives_on receiver.now) pass }
     requires both { ((known_by pass).puts ≡ true) × ((known_by pass).takes ≡ true) }
-    requires room { (rest.items ≡ []) × (length (known_by pass).put ≤ length (known_by pass).taken + vec_capacity rest) }
+    requires room { (rest.items ≡ []) × (length (known_by pass).put
+        ≤ length (known_by pass).taken + vec_capacity rest) }
     ensures { (known_by pass).put ≡ (known_by pass).taken ++ result.items }
 {
     for _ in rt.forever() {

@@ -1,5 +1,5 @@
-//! What shims with the words of the program's running spaces give for 10,010 frames and the end: ten
-//! frames meet no word any more.
+//! What shims with the words of the program's running spaces give for 10,010 frames and the end:
+//! ten frames meet no word any more.
 
 use crate::parcels::{number_of, parcel, space};
 use nob_fault::{Shim, words_between};
