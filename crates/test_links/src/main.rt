@@ -2,6 +2,7 @@
 //! call succeeds, that threads get on, that an end which is gone is heard.
 #![tactic(auto)]
 
+mod carrying;
 mod digests;
 mod parcels;
 mod rows;

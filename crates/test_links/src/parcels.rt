@@ -24,6 +24,15 @@ pub fn parcel(alloc: Global, number: u64) -> Result<Parcel, AllocError> {
     })
 }
 
+/// The parcels of the numbers from 1 on, so many.
+pub fn first_parcels(alloc: Global, count: u64) -> Result<Vec<Parcel>, AllocError> {
+    let mut parcels = Vec::new(alloc);
+    for number in 1..=count {
+        parcels.push(parcel(alloc, number)?)?;
+    }
+    Ok(parcels)
+}
+
 /// The space of this number, 1 to 32: the first for any other.
 pub fn space(number: u16) -> SpaceId {
     match SpaceId::new(number) {

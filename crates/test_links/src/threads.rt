@@ -1,7 +1,8 @@
 //! Two threads with links between them.
 
-use crate::parcels::{is_parcel, number_of, parcel};
-use nob_link::{LinkError, PutEnd, TakeEnd, link};
+use crate::carrying::carry;
+use crate::parcels::{first_parcels, is_parcel, number_of, parcel};
+use nob_link::{LinkError, Parcel, PutEnd, TakeEnd, link};
 use std::alloc::Global;
 use std::sync::Wait;
 use std::thread::Threads;
@@ -36,7 +37,10 @@ pub fn print<R: Threads + Wait + Sync + Print>(rt: &R, alloc: Global) -> io::Res
             Err(error) => println!(rt; "link of {capacity}: {error}")?,
         }
     }
-    Ok(())
+    match carried(rt, alloc) {
+        Ok((taken, left)) => println!(rt; "carried: {taken} taken, {left} in all, in order"),
+        Err(error) => println!(rt; "carried: {error}"),
+    }
 }
 
 // Two threads with a link each way, each of which puts all parcels and takes the other's: how many
@@ -151,4 +155,22 @@ fn take_all<R: Wait>(rt: &R, mut take: TakeEnd) -> u64 {
         right = right.wrapping_add(1);
     }
     right
+}
+
+// Ten parcels, four of which are taken: how many these are in order, and how many with the rest.
+fn carried<R: Threads + Wait + Sync>(rt: &R, alloc: Global) -> Result<(u64, u64), LinkError> {
+    let (taken, left) = carry(rt, alloc, first_parcels(alloc, 10)?, 4)?;
+    let count = count_in_order(0, taken.as_slice());
+    Ok((count, count_in_order(count, left.as_slice())))
+}
+
+// How many parcels have come in order, with these after so many.
+fn count_in_order(came: u64, parcels: &[Parcel]) -> u64 {
+    let mut count = came;
+    for parcel in parcels {
+        if is_parcel(parcel, count.wrapping_add(1)) {
+            count = count.wrapping_add(1);
+        }
+    }
+    count
 }
