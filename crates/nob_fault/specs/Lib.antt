@@ -1,0 +1,4 @@
+pub mod Table
+pub mod Shims
+pub mod Words
+pub mod Laws
