@@ -2,6 +2,8 @@
 use Rattle.std.specs.Prelude.{◌≡◌, ◌≤◌, ℕ, ◌+◌, ◌^◌, nat_le, nat_lt, max, List, [], ◌∷◌, ◌++◌, length, map, reverse, Option, Some, None, if◌then◌else◌}
 use Rattle.nob_ids.specs.declared.limits.Limits.{Limits}
 use Rattle.nob_model_types.specs.declared.entry.Entry.{Entry}
+use Rattle.nob_model_history.specs.declared.history.History.{History}
+use Rattle.nob_model_history.specs.Histories.{history}
 use Rattle.nob_model.specs.Lists.{AreRight}
 use Rattle.nob_space.specs.Spaces.{Owner, StandsFor}
 use Rattle.nob_trace.specs.declared.stamped.Stamped.{Stamped}
@@ -64,3 +66,7 @@ next_stamp last seen = max last seen + 1
 -- what refuses an entry more, memory aside: the trace is full, or else the stamp that was seen is too great
 abbrev pub fault_of : Account → ℕ → Option KeeperError
 fault_of account seen = if nat_le most_entries (length account.entries) then Some errors.TraceFull else (if nat_lt last_seen seen then Some errors.Stamp else None)
+
+-- what the entries that are kept say of their space
+abbrev pub history_in : Account → History
+history_in account = history account.id account.n (list_of account.id account.entries)
