@@ -110,7 +110,7 @@ Traces, and what is written for them:
   1 export = exported 1.1                       verdict yes
   trace 2 of 2 window 8 retry 16 entries 0
 
-Example: nobj check < examples/spaces/check/three.traces";
+Example: nobj check < examples/spaces/check/three-traces-accepted.traces";
 
 /// What the words run.
 #[derive(Clone, Copy, Debug, PartialEq, Eq)]
