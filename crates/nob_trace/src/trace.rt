@@ -76,6 +76,13 @@ impl Entries {
         self.entries.as_slice()
     }
 
+    /// The stamps rise, whatever the entries are. It does nothing.
+    pub fn rise(&self)
+        ensures { spec.Rise 0 self.now }
+    {
+        let _ = &self.entries;
+    }
+
     /// The entries as a `Vec`. It takes no memory.
     pub fn into_vec(self) -> Vec<Stamped>
         ensures items { result.items ≡ self }
