@@ -8,8 +8,11 @@ use Rattle.nob_model_journal.specs.declared.verdict.Verdict.TheVariants.{Yes, No
 use Rattle.nob_script_text.specs.declared.ending.Ending.{Ending}
 use Rattle.nob_script_text.specs.declared.ending.Ending.TheVariants as endings
 use Rattle.nob_script.specs.Plays as worlds
-use Rattle.nob_demo_words.specs.declared.words.Script.{Script}
-use Rattle.nob_demo_words.specs.declared.words.Script.TheVariants.{Pair, World}
+use Rattle.nob_demo_check.specs.Checks as checks
+use Rattle.nob_demo_check.specs.declared.ending.Ending.{Ending as CheckEnding}
+use Rattle.nob_demo_check.specs.declared.ending.Ending.TheVariants as check_endings
+use Rattle.nob_demo_words.specs.declared.words.Subcommand.{Subcommand}
+use Rattle.nob_demo_words.specs.declared.words.Subcommand.TheVariants.{Pair, Script, Check}
 use Rattle.nob_demo_words.specs.declared.fault.Fault.{Fault}
 use Rattle.nob_demo_words.specs.declared.fault.Fault.TheVariants.{Words, Read, Write, Memory}
 
@@ -72,15 +75,22 @@ world_status_of (endings.Judged (No promise)) = 1
 world_status_of endings.BadStep = 1
 world_status_of endings.OutOfMemory = 1
 
--- what is written for a script of this kind, and the status that its run ends with; the verdict on a world is never no
-abbrev pub PlaysScript : Script → (script text : List ℕ) → (status : ℕ) → Type 0
-PlaysScript Pair script text status = (outcome : Outcome) × Plays script text outcome × (status ≡ status_of outcome)
-PlaysScript World script text status = (ending : Ending) × worlds.Plays script text ending × worlds.SaysYes ending × (status ≡ world_status_of ending)
+-- the status that a check of traces ends with: 0 where they are accepted
+abbrev pub check_status_of : CheckEnding → ℕ
+check_status_of check_endings.Accepted = 0
+check_status_of check_endings.Refused = 1
+check_status_of check_endings.OutOfMemory = 1
 
--- what a run was given, and how far it came: whether clap took the words, what they run, what was read, the bytes of `out` before and after, and whether a write to it failed
+-- what a subcommand writes for an input, and the status that its run ends with; the verdict on a world, or on traces, is never no
+abbrev pub Does : Subcommand → (input text : List ℕ) → (status : ℕ) → Type 0
+Does Pair input text status = (outcome : Outcome) × Plays input text outcome × (status ≡ status_of outcome)
+Does Script input text status = (ending : Ending) × worlds.Plays input text ending × worlds.SaysYes ending × (status ≡ world_status_of ending)
+Does Check input text status = (ending : CheckEnding) × checks.Checks input text ending × (status ≡ check_status_of ending)
+
+-- what a run was given, and how far it came: whether clap took the words, which subcommand they name, what was read, the bytes of `out` before and after, and whether a write to it failed
 pub record Attempt : Type 0 where
   pub taken : Bool
-  pub script : Script
+  pub subcommand : Subcommand
   pub reading : Reading
   pub out_before : Option (List ℕ)
   pub out_after : Option (List ℕ)
@@ -90,9 +100,9 @@ pub record Attempt : Type 0 where
 abbrev pub OutKept : Attempt → Type 0
 OutKept a = Keeps a.out_before a.out_after × (a.out_failed ≡ false)
 
--- what was written to `out` is what a script gives that has as many bytes as were read: the input, where the reader tells it
+-- what was written to `out` is what the subcommand gives for as many bytes as were read: the input, where the reader tells it
 abbrev pub IsPlayed : Attempt → (status : ℕ) → Type 0
-IsPlayed a status = (script text : List ℕ) × (length script ≡ a.reading.bytes) × IfSome a.reading.input (λ input. script ≡ input) × PlaysScript a.script script text status × Appends a.out_before a.out_after text
+IsPlayed a status = (bytes text : List ℕ) × (length bytes ≡ a.reading.bytes) × IfSome a.reading.input (λ input. bytes ≡ input) × Does a.subcommand bytes text status × Appends a.out_before a.out_after text
 
 -- clap refuses the words, and nothing was read
 abbrev pub IsRefused : Attempt → Type 0

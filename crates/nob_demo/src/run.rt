@@ -2,13 +2,13 @@
 
 ghost use Rattle.std.specs.Prelude.{◌≡◌, ◌++◌, [], ℕ, true, false, map, not, IsOk, IsErr};
 ghost use Rattle.std.specs.Io.KnownBytes.{Appends};
-ghost use Rattle.nob_demo_words.specs.Words.{script_of, word_faults, takes_words};
-ghost use Rattle.nob_demo.specs.Program.{Ended, PlaysScript, Goes, status_of, world_status_of};
+ghost use Rattle.nob_demo_words.specs.Words.{subcommand_in, word_faults, takes_words};
+ghost use Rattle.nob_demo.specs.Program.{Ended, Does, Goes, status_of, world_status_of, check_status_of};
 
 use crate::reading::read_all;
 use crate::streams::{Sink, Source};
 use nob_demo_pair::Outcome;
-use nob_demo_words::{Fault, Script, judge};
+use nob_demo_words::{Fault, Subcommand, judge};
 use nob_model_journal::Verdict;
 use nob_script_text::Ending;
 use std::alloc::Global;
@@ -33,7 +33,7 @@ pub fn run<S: AsStr, R: Read, W: Write, E: Write>(
     ensures goes { Goes (record {
       attempt = record {
         taken = takes_words (word_faults (map S.text words.now));
-        script = script_of (map S.text words.now);
+        subcommand = subcommand_in (map S.text words.now);
         reading = record {
           input = R.remaining reader.old.reader;
           rest = R.remaining reader.new.reader;
@@ -73,7 +73,7 @@ fn attempt<S: AsStr, R: Read, W: Write>(
     requires out { out.old.failed ≡ false }
     ensures ended { Ended result (record {
       taken = takes_words (word_faults (map S.text words.now));
-      script = script_of (map S.text words.now);
+      subcommand = subcommand_in (map S.text words.now);
       reading = record {
         input = R.remaining reader.old.reader;
         rest = R.remaining reader.new.reader;
@@ -87,10 +87,10 @@ fn attempt<S: AsStr, R: Read, W: Write>(
       out_failed = out.new.failed;
     }) }
 {
-    let script = judge(alloc, words)?;
+    let subcommand = judge(alloc, words)?;
     let input = read_all(alloc, reader)?;
     let mut text = Vec::new(alloc);
-    let (last_line, status) = play(alloc, script, &input, &mut text);
+    let (last_line, status) = play(alloc, subcommand, &input, &mut text);
     let Ok(()) = out.write_all(&text) else {
         return Err(Fault::Write);
     };
@@ -100,21 +100,41 @@ fn attempt<S: AsStr, R: Read, W: Write>(
     Ok(status)
 }
 
-// Writes what a script gives onto an empty text, save its last line where that says that memory ran
-// out: that line, and the status that the run ends with.
-fn play(alloc: Global, kind: Script, script: &[u8], text: &mut Vec<u8>) -> (&'static [u8], u8)
+// Writes what a subcommand gives for an input onto an empty text, save its last line: that line, and
+// the status that the run ends with.
+fn play(
+    alloc: Global,
+    subcommand: Subcommand,
+    input: &[u8],
+    text: &mut Vec<u8>,
+) -> (&'static [u8], u8)
     requires { text.old.items ≡ [] }
-    ensures { PlaysScript kind script.now (text.new.items ++ result.0.now) result.1 }
+    ensures { Does subcommand input.now (text.new.items ++ result.0.now) result.1 }
 {
-    match kind {
-        Script::Pair => {
-            let outcome = nob_demo_pair::play(alloc, script, text);
+    match subcommand {
+        Subcommand::Pair => {
+            let outcome = nob_demo_pair::play(alloc, input, text);
             (outcome.last_line(), status_of(outcome))
         }
-        Script::World => {
-            let ending = nob_script::play(alloc, script, text);
+        Subcommand::Script => {
+            let ending = nob_script::play(alloc, input, text);
             (ending.last_line(), world_status_of(ending))
         }
+        Subcommand::Check => {
+            let ending = nob_demo_check::play(alloc, input, text);
+            (ending.last_line(), check_status_of(ending))
+        }
+    }
+}
+
+// The status that a check of traces ends with.
+fn check_status_of(ending: nob_demo_check::Ending) -> u8
+    ensures { result ≡ check_status_of ending }
+{
+    match ending {
+        nob_demo_check::Ending::Accepted => 0,
+        nob_demo_check::Ending::Refused => 1,
+        nob_demo_check::Ending::OutOfMemory => 1,
     }
 }
 

@@ -6,16 +6,20 @@ use Rattle.clap.specs.Simple.{new_shape}
 use Rattle.clap.specs.Kinds.{Kinds}
 use Rattle.nob_demo_words.specs.declared.fault.Fault.{Fault}
 use Rattle.nob_demo_words.specs.declared.fault.Fault.TheVariants.{Words, Read, Write, Memory}
-use Rattle.nob_demo_words.specs.declared.words.Script.{Script}
-use Rattle.nob_demo_words.specs.declared.words.Script.TheVariants.{Pair, World}
+use Rattle.nob_demo_words.specs.declared.words.Subcommand.{Subcommand}
+use Rattle.nob_demo_words.specs.declared.words.Subcommand.TheVariants.{Pair, Script, Check}
 
 -- the command `nobj` with the subcommand `pair` alone, as clap sees it: it has a version
 abbrev pub nobj_with_pair : App
 nobj_with_pair = with_subcommand (record { top = record (new_shape (codes "nobj")) { has_version = true }; subs = [] }) (new_shape (codes "pair"))
 
--- the command `nobj`: it has the subcommand `script` too
+-- the same command with the subcommand `script` too
+abbrev pub nobj_with_script : App
+nobj_with_script = with_subcommand nobj_with_pair (new_shape (codes "script"))
+
+-- the command `nobj`: it has the subcommand `check` too
 abbrev pub nobj : App
-nobj = with_subcommand nobj_with_pair (new_shape (codes "script"))
+nobj = with_subcommand nobj_with_script (new_shape (codes "check"))
 
 -- the kinds of error that clap may answer to these words, of which the first is the program's name: none where it takes them
 abbrev pub word_faults : List (List ℕ) → Kinds
@@ -26,14 +30,14 @@ abbrev pub takes_words : Kinds → Bool
 takes_words [] = true
 takes_words (k ∷ ks) = false
 
--- what a subcommand, if there is one, runs: a script of a world by the name `script`, else one of a pair
-abbrev pub script_by : Option (List ℕ) → Script
-script_by None = Pair
-script_by (Some name) = if bytes_eq name (codes "script") then World else Pair
+-- the subcommand of this name: `script`, `check`, or `pair`, which no name means too
+abbrev pub subcommand_by : Option (List ℕ) → Subcommand
+subcommand_by None = Pair
+subcommand_by (Some name) = if bytes_eq name (codes "script") then Script else (if bytes_eq name (codes "check") then Check else Pair)
 
 -- what these words run, where clap takes them
-abbrev pub script_of : List (List ℕ) → Script
-script_of words = script_by (option_map (λ subcommand. subcommand.0) (subcommand_of nobj words))
+abbrev pub subcommand_in : List (List ℕ) → Subcommand
+subcommand_in words = subcommand_by (option_map (λ subcommand. subcommand.0) (subcommand_of nobj words))
 
 -- why the words aren't taken: clap refuses them, or memory ran out
 abbrev pub IsWordsFault : Fault → (taken : Bool) → Type 0

@@ -5,4 +5,4 @@ mod fault;
 mod words;
 
 pub use fault::Fault;
-pub use words::{Script, judge};
+pub use words::{Subcommand, judge};

@@ -3,7 +3,7 @@
 ghost use Rattle.std.specs.Prelude.{◌≡◌, ℕ, true, false, List, map, IfOk, IfErr, OnOk};
 ghost use Rattle.clap.specs.Words.{app_of, FailsBy};
 ghost use Rattle.clap.specs.Words.{subcommand_name_of};
-ghost use Rattle.nob_demo_words.specs.Words.{nobj, nobj_with_pair, script_by, script_of, word_faults, takes_words, IsWordsFault};
+ghost use Rattle.nob_demo_words.specs.Words.{nobj, nobj_with_pair, nobj_with_script, subcommand_by, subcommand_in, word_faults, takes_words, IsWordsFault};
 
 use crate::fault::Fault;
 use clap::error::ErrorKind;
@@ -80,25 +80,61 @@ A script, and what it prints:
 
 Example: nobj script < examples/spaces/world/whole-life.in";
 
+const CHECK_HELP: &str = "\
+What is read are traces, one after the other, one of each space. A trace says
+what its space was asked and what it answered. Its first line is
+
+  trace S of N window W retry R entries K
+
+(space S of N; W 1 to 64, R 1 to 255), and K lines `STAMP EVENT = RESULT` follow,
+whose stamps rise. Events and results are those of a script (nobj script --help)
+but for two: `arrive HEX` has the bytes of the frame that arrives, and `send P`
+is answered by `frames` and the bytes of each frame, or `frames none`.
+
+What is written: `merged K` and `verdict yes`, where together they are what N
+spaces did with the K entries in order of stamp: then all is true of them that is
+proved of such runs. Else the one fault:
+
+  R1           a trace isn't all there
+  R2           a line is no line of a trace
+  R3           a stamp doesn't rise
+  C4           they aren't one trace of each space
+  C1 S PLACE   the space's entry there isn't the one right answer
+  C2 S PLACE   the frame that arrives there was sent by no space
+  C3 S PLACE   it was sent by none before
+  memory       there was none
+
+Traces, and what is written for them:
+
+  trace 1 of 2 window 8 retry 16 entries 1      merged 1
+  1 export = exported 1.1                       verdict yes
+  trace 2 of 2 window 8 retry 16 entries 0
+
+Example: nobj check < examples/spaces/check/three-traces-accepted.traces";
+
 /// What the words run.
 #[derive(Clone, Copy, Debug, PartialEq, Eq)]
-pub enum Script {
-    /// A script of two session ends.
+pub enum Subcommand {
+    /// A script of two session ends is run.
     Pair,
-    /// A script of a world of spaces.
-    World,
+    /// A script of a world of spaces is run.
+    Script,
+    /// Traces of spaces are checked.
+    Check,
 }
 
 /// Judges the words, of which the first is the program's name: `script` runs a script of a world,
-/// `pair`, or no further word, one of a pair. Anything else is refused with clap's text.
-pub fn judge<S: AsStr>(alloc: Global, words: &[S]) -> Result<Script, Fault>
+/// `check` checks traces, `pair`, or no further word, runs a script of a pair. Anything else is
+/// refused with clap's text.
+pub fn judge<S: AsStr>(alloc: Global, words: &[S]) -> Result<Subcommand, Fault>
     ensures taken { OnOk result (takes_words (word_faults (map S.text words.now)) ≡ true) }
-    ensures script { IfOk result (λ script. script ≡ script_of (map S.text words.now)) }
+    ensures subcommand { IfOk result (λ subcommand.
+        subcommand ≡ subcommand_in (map S.text words.now)) }
     ensures fault { IfErr result (λ fault.
         IsWordsFault fault (takes_words (word_faults (map S.text words.now)))) }
 {
     match matched(alloc, words) {
-        Ok(script) => Ok(script),
+        Ok(subcommand) => Ok(subcommand),
         Err(error) => match error.kind() {
             ErrorKind::OutOfMemory => Err(Fault::Memory),
             _ => Err(Fault::Words(error.to_string(alloc)?)),
@@ -106,34 +142,48 @@ pub fn judge<S: AsStr>(alloc: Global, words: &[S]) -> Result<Script, Fault>
     }
 }
 
-fn matched<S: AsStr>(alloc: Global, words: &[S]) -> Result<Script, Error>
+fn matched<S: AsStr>(alloc: Global, words: &[S]) -> Result<Subcommand, Error>
     ensures kinds { FailsBy (word_faults (map S.text words.now)) result }
-    ensures script { IfOk result (λ script. script ≡ script_of (map S.text words.now)) }
+    ensures subcommand { IfOk result (λ subcommand.
+        subcommand ≡ subcommand_in (map S.text words.now)) }
 {
     let command = command(alloc)?;
     let matches = command.try_get_matches_from(words)?;
-    Ok(script_in(&matches))
+    Ok(met_in(&matches))
 }
 
 // What the subcommand runs that was met.
-fn script_in<'a>(matches: &ArgMatches<'a>) -> Script
-    ensures { result ≡ script_by (subcommand_name_of matches.now) }
+fn met_in<'a>(matches: &ArgMatches<'a>) -> Subcommand
+    ensures { result ≡ subcommand_by (subcommand_name_of matches.now) }
 {
     match matches.subcommand_name() {
-        None => Script::Pair,
+        None => Subcommand::Pair,
         Some(name) => {
             if name == "script" {
-                Script::World
+                Subcommand::Script
+            } else if name == "check" {
+                Subcommand::Check
             } else {
-                Script::Pair
+                Subcommand::Pair
             }
         }
     }
 }
 
-// The command with both subcommands.
+// The command with all subcommands.
 fn command<'a>(alloc: Global) -> Result<Command<'a>, AllocError>
     ensures { IfOk result (λ command. app_of command ≡ nobj) }
+{
+    let check = Command::new(alloc, "check")
+        .about("Checks traces of spaces, read from standard input")
+        .after_help(CHECK_HELP);
+    let command = command_with_script(alloc)?;
+    command.subcommand(check)
+}
+
+// The command with the subcommands `pair` and `script`.
+fn command_with_script<'a>(alloc: Global) -> Result<Command<'a>, AllocError>
+    ensures { IfOk result (λ command. app_of command ≡ nobj_with_script) }
 {
     let script = Command::new(alloc, "script")
         .about("Runs a script of a world of spaces, read from standard input")

@@ -1,8 +1,8 @@
 use Rattle.std.proofs.Common.{◌++◌, List, ℕ, map, ap, subst, sym, ◌∙◌}
 use Rattle.std.specs.Io.KnownBytes.{Appends}
-use Rattle.nob_demo_words.specs.Words.{script_of}
-use Rattle.nob_demo.specs.Program.{PlaysScript}
-use Rattle.nob_demo_words.specs.declared.words.Script.{Script}
+use Rattle.nob_demo_words.specs.Words.{subcommand_in}
+use Rattle.nob_demo.specs.Program.{Does}
+use Rattle.nob_demo_words.specs.declared.words.Subcommand.{Subcommand}
 use Rattle.nob_demo.proofs.Known.{appends_more}
 use Rattle.nob_demo.proofs.run.attempt.Goals as goal
 
@@ -11,12 +11,12 @@ returns g c =
     let text : List ℕ = c.play-status.new.text.items in
     let last : List ℕ = c.play-status.result.0.now in
     let status = c.play-status.result.1 in
-    let played : PlaysScript c.in_ok-script.script c.in_ok-input.input.items (text ++ last) status = subst (λ (script : List ℕ). PlaysScript c.in_ok-script.script script (text ++ last) status) c.deref.ensures.value c.play-status.ensures in
-    let played_it : PlaysScript (script_of (map g.S.AsStr.text c.args.words.now)) c.in_ok-input.input.items (text ++ last) status = subst (λ (kind : Script). PlaysScript kind c.in_ok-input.input.items (text ++ last) status) c.in_ok-script.ensures.script played in
+    let played : Does c.in_ok-subcommand.subcommand c.in_ok-input.input.items (text ++ last) status = subst (λ (bytes : List ℕ). Does c.in_ok-subcommand.subcommand bytes (text ++ last) status) c.deref.ensures.value c.play-status.ensures in
+    let played_it : Does (subcommand_in (map g.S.AsStr.text c.args.words.now)) c.in_ok-input.input.items (text ++ last) status = subst (λ (subcommand : Subcommand). Does subcommand c.in_ok-input.input.items (text ++ last) status) c.in_ok-subcommand.ensures.subcommand played in
     let first = subst (λ (bytes : List ℕ). Appends (g.W.Write.contents c.args.out.now.writer) (g.W.Write.contents c.write_all.new.self.writer) bytes) c.deref-2.ensures.value c.in-Ok.ensures.bytes in
     record {
       ended = (
-        c.in_ok-script.ensures.taken,
+        c.in_ok-subcommand.ensures.taken,
         c.in_ok-input.ensures.right,
         (c.in_ok-input.input.items, text ++ last, c.in_ok-input.ensures.count, c.in_ok-input.ensures.whole, played_it, appends_more _ _ _ text last first c.in-Ok-write_all.ensures.bytes),
         c.in-Ok-write_all.ensures.ok,

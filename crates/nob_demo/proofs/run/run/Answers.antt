@@ -1,5 +1,5 @@
 use Rattle.std.proofs.Common.{Err, map, subst}
-use Rattle.nob_demo_words.specs.Words.{script_of, takes_words, word_faults}
+use Rattle.nob_demo_words.specs.Words.{subcommand_in, takes_words, word_faults}
 use Rattle.nob_demo.specs.Program.{Attempt, Ended, Goes}
 use Rattle.nob_demo_words.specs.declared.fault.Fault.{Fault}
 use Rattle.nob_demo.proofs.Known.{keeps_same, kept_then_appends}
@@ -13,7 +13,7 @@ pub returns-in-Err-Words : goal.returns-in-Err-Words
 returns-in-Err-Words g c =
     let a : Attempt = record {
       taken = takes_words (word_faults (map g.S.AsStr.text c.args.words.now));
-      script = script_of (map g.S.AsStr.text c.args.words.now);
+      subcommand = subcommand_in (map g.S.AsStr.text c.args.words.now);
       reading = record {
         input = g.R.Read.remaining c.args.reader.now.reader;
         rest = g.R.Read.remaining c.attempt.new.reader.reader;
@@ -33,7 +33,7 @@ pub returns-in-Err-Read : goal.returns-in-Err-Read
 returns-in-Err-Read g c =
     let a : Attempt = record {
       taken = takes_words (word_faults (map g.S.AsStr.text c.args.words.now));
-      script = script_of (map g.S.AsStr.text c.args.words.now);
+      subcommand = subcommand_in (map g.S.AsStr.text c.args.words.now);
       reading = record {
         input = g.R.Read.remaining c.args.reader.now.reader;
         rest = g.R.Read.remaining c.attempt.new.reader.reader;
@@ -53,7 +53,7 @@ pub returns-in-Err-Memory : goal.returns-in-Err-Memory
 returns-in-Err-Memory g c =
     let a : Attempt = record {
       taken = takes_words (word_faults (map g.S.AsStr.text c.args.words.now));
-      script = script_of (map g.S.AsStr.text c.args.words.now);
+      subcommand = subcommand_in (map g.S.AsStr.text c.args.words.now);
       reading = record {
         input = g.R.Read.remaining c.args.reader.now.reader;
         rest = g.R.Read.remaining c.attempt.new.reader.reader;

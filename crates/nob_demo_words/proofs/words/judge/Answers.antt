@@ -5,6 +5,6 @@ use Rattle.nob_demo_words.proofs.words.judge.Goals as goal
 pub returns : goal.returns
 returns g c = record {
   taken = tt;
-  script = tt;
+  subcommand = tt;
   fault = elim c.in-Err.ensures.kinds [ inl memory ↦ absurd (c.in_default.not-OutOfMemory (c.kind.ensures ∙ memory)) | inr among ↦ not_taken _ _ among ];
 }
