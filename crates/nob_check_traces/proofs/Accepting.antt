@@ -1,9 +1,8 @@
 -- What holds of accepted traces, and that nothing else is answered for them.
-use Rattle.std.specs.Bool.{⊤}
-use Rattle.std.proofs.Common.{◌≡◌, ℕ, ◌+◌, ◌<◌, ◌≤◌, Bool, true, false, not, ◌&&◌, ◌==◌, nat_le, List, [], ◌∷◌, ◌++◌, length, map, reverse, if◌then◌else◌, refl, sym, ap, subst, true≢false, ◌∙◌, arith, append_assoc}
+use Rattle.std.proofs.Common.{◌≡◌, ℕ, Bool, true, false, not, ◌&&◌, ◌==◌, nat_le, List, [], ◌∷◌, ◌++◌, length, map, reverse, if◌then◌else◌, refl, sym, ap, subst, true≢false, ◌∙◌, arith, append_assoc}
 use Prim.Native.Nat.{zero, suc}
 use Rattle.std.specs.List.{AllByRecursion, Contains, list_all}
-use Rattle.std.specs.Prelude.{Result, Ok, Err}
+use Rattle.std.specs.Prelude.{Err}
 use Rattle.std.proofs.lemmas.Bool.{and_parts}
 use Rattle.std.proofs.lemmas.Bool.Decides.{nat_tests}
 use Rattle.std.proofs.lemmas.Cmp.{nat_eq_equiv}
@@ -11,7 +10,6 @@ use Rattle.std.proofs.lemmas.List.{reverse-append, map-append}
 use Rattle.nob_ids.specs.declared.limits.Limits.{Limits}
 use Rattle.nob_model_types.specs.declared.entry.Entry.{Entry}
 use Rattle.nob_model_types.specs.declared.event.Event.{Event}
-use Rattle.nob_model_types.specs.declared.event.Event.TheVariants as events
 use Rattle.nob_model.specs.Right.{IsRight}
 use Rattle.nob_model_journal.specs.Journals.{Each}
 use Rattle.nob_model_journal.specs.Runs.{ArrivesGiven}
@@ -20,15 +18,14 @@ use Rattle.nob_model_invariant.proofs.Safe.{safe_law}
 use Rattle.nob_trace.specs.declared.stamped.Stamped.{Stamped}
 use Rattle.nob_trace.specs.declared.trace.Trace.{Trace}
 use Rattle.nob_trace_merging.specs.Apart.{entry_at, is_free, are_apart}
-use Rattle.nob_trace_merging.specs.Merged.{IsMerged}
 use Rattle.nob_trace_merging.proofs.One.{one_merged}
 use Rattle.nob_model_traces.specs.declared.fault.CheckFault.{CheckFault}
 use Rattle.nob_model_traces.specs.declared.fault.CheckFault.TheVariants as faults
 use Rattle.nob_model_traces.specs.declared.fault.CheckError.{CheckError}
 use Rattle.nob_model_traces.specs.declared.fault.CheckError.TheVariants.{Fault, OutOfMemory}
 use Rattle.nob_model_traces.specs.Traces.{journal_at, is_one_of, are_one_each, IsRightTrace, IsFirstWrong}
-use Rattle.nob_model_traces.specs.Origins.{HaveOrigins, IsTransmitted, IsOriginFault}
-use Rattle.nob_model_traces.specs.Faults.{AreAccepted, IsChecked, IsFault, IsFirstNoRun, IsLost}
+use Rattle.nob_model_traces.specs.Origins.{HaveOrigins, IsOriginFault}
+use Rattle.nob_model_traces.specs.Faults.{AreAccepted, IsChecked, IsFault, IsLost}
 use Rattle.nob_check_traces.specs.Running.{IsRightAndTyped, HaveLimits}
 use Rattle.nob_check_traces.specs.Accepting.{Answers}
 use Rattle.nob_check_traces.proofs.Worlds.{world_run}

@@ -1,6 +1,5 @@
 -- The merged entries of right traces whose arrivals have origins are a run of a world.
-use Rattle.std.specs.Bool.{⊤}
-use Rattle.std.proofs.Common.{◌≡◌, ℕ, ◌≤◌, Bool, true, false, cond, not, ◌&&◌, ◌||◌, ◌==◌, nat_le, List, [], ◌∷◌, ◌++◌, length, map, filter, reverse, refl, sym, ap, subst, true≢false, ◌∙◌, arith}
+use Rattle.std.proofs.Common.{◌≡◌, ℕ, ◌≤◌, Bool, true, false, cond, ◌&&◌, ◌||◌, ◌==◌, nat_le, List, [], ◌∷◌, ◌++◌, length, map, filter, reverse, refl, sym, ap, subst, true≢false, ◌∙◌, arith}
 use Rattle.std.specs.List.{AllByRecursion, list_any, list_all}
 use Rattle.std.proofs.lemmas.Bool.{and_parts, eqb-true}
 use Rattle.std.proofs.lemmas.Bool.Decides.{nat_tests}
@@ -15,7 +14,7 @@ use Rattle.nob_model_safety.specs.Typed.{IsOfTypes, AreOfTypes}
 use Rattle.nob_trace.specs.declared.stamped.Stamped.{Stamped}
 use Rattle.nob_trace.specs.declared.trace.Trace.{Trace}
 use Rattle.nob_trace_merging.specs.Apart.{entry_at, are_apart}
-use Rattle.nob_trace_merging.specs.Merged.{Dated, dated_at, dated_of, is_traced, AreOfTraces, IsMerged}
+use Rattle.nob_trace_merging.specs.Merged.{Dated, dated_at, dated_of, is_traced, IsMerged}
 use Rattle.nob_model_traces.specs.Traces.{journal_at, is_one_of, are_one_each}
 use Rattle.nob_model_traces.specs.Origins.{HaveOrigins}
 use Rattle.nob_check_traces.specs.Running.{IsRightAndTyped, HaveLimits}

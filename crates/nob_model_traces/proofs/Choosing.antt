@@ -1,9 +1,9 @@
 -- The lowest space whose trace isn't right.
-use Rattle.std.proofs.Common.{◌≡◌, ℕ, ◌<◌, ◌≤◌, Bool, true, false, List, [], ◌∷◌, Option, Some, None, MatchOption, nat_lt, if◌then◌else◌, refl, sym, ap, subst, ◌∙◌, arith}
+use Rattle.std.proofs.Common.{◌≡◌, ℕ, ◌<◌, Bool, true, false, List, [], ◌∷◌, Option, Some, None, MatchOption, nat_lt, if◌then◌else◌, refl, arith}
 use Rattle.std.proofs.lemmas.Bool.Decides.{nat_tests}
 use Rattle.nob_model_traces.specs.declared.fault.WrongEntry.{WrongEntry}
 use Rattle.nob_model_traces.specs.Lowest.{lower_of, IsLowest}
-use Rattle.std.specs.List.{AllByRecursion, Contains}
+use Rattle.std.specs.List.{AllByRecursion}
 use Rattle.nob_trace.specs.declared.trace.Trace.{Trace}
 use Rattle.nob_model_traces.specs.Traces.{IsRightTrace, IsFirstWrong}
 use Rattle.nob_model_traces.specs.Faults.{IsFirstNoRun}

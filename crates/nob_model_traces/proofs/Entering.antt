@@ -1,5 +1,5 @@
 -- The entries of a list up to a place.
-use Rattle.std.proofs.Common.{◌≡◌, ℕ, ◌+◌, ◌-◌, ◌<◌, length-drop, List, [], ◌∷◌, ◌++◌, length, take, drop, get_or, map, reverse, slice_get, Some, refl, sym, ap, subst, ◌∙◌, arith}
+use Rattle.std.proofs.Common.{◌≡◌, ℕ, ◌+◌, ◌-◌, ◌<◌, length-drop, List, [], ◌∷◌, ◌++◌, length, take, drop, get_or, map, reverse, slice_get, Some, refl, sym, ap, ◌∙◌, arith}
 use Prim.Native.Nat.{suc}
 use Rattle.std.proofs.lemmas.List.{reverse-append, take-append-drop, take_all, map-append}
 use Rattle.std.proofs.lemmas.Option.{slice_get_read}

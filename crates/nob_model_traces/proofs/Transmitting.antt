@@ -1,6 +1,5 @@
 -- Which frames were transmitted by entries, and which of them arrive without an origin.
-use Rattle.std.specs.Bool.{⊤}
-use Rattle.std.proofs.Common.{◌≡◌, ℕ, ◌+◌, ◌<◌, List, [], ◌∷◌, ◌++◌, length, take, drop, get_or, reverse, slice_get, Some, refl, sym, ap, subst, ◌∙◌, arith, append_assoc}
+use Rattle.std.proofs.Common.{◌≡◌, ℕ, ◌+◌, ◌<◌, List, [], ◌∷◌, ◌++◌, length, take, drop, reverse, slice_get, Some, refl, sym, ap, subst, ◌∙◌, arith, append_assoc}
 use Prim.Native.Nat.{zero, suc}
 use Rattle.std.proofs.Common.{inl, inr}
 use Rattle.std.specs.List.{Contains}
@@ -14,7 +13,7 @@ use Rattle.nob_model_words.specs.Deeds.{deed_in}
 use Rattle.nob_model_journal.specs.Journals.{at, frames_of, transmitted_frames, Each}
 use Rattle.nob_model_journal.specs.Runs.{ArrivesGiven}
 use Rattle.nob_model_traces.specs.declared.fault.CheckFault.{CheckFault}
-use Rattle.nob_model_traces.specs.Origins.{IsTransmitted, HaveOrigins, IsFirstAlone, IsRefusedFor, IsOriginFault}
+use Rattle.nob_model_traces.specs.Origins.{IsTransmitted, HaveOrigins, IsRefusedFor, IsOriginFault}
 use Rattle.nob_model_traces.proofs.Entering.{newest, parted}
 
 -- ---- lists of frames

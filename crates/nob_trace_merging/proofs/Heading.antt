@@ -1,7 +1,5 @@
 -- The entry that comes next is the earliest of all that are left.
-use Rattle.std.specs.Bool.{⊤}
-use Rattle.std.proofs.Common.{◌≡◌, ℕ, ◌+◌, ◌≤◌, ◌<◌, Bool, true, false, not, ◌&&◌, ◌||◌, ◌==◌, List, [], ◌∷◌, ◌++◌, length, drop, slice_get, Option, Some, None, if◌then◌else◌, refl, sym, ap, subst, true≢false, ◌∙◌, arith}
-use Rattle.std.specs.Prelude.{nat_lt}
+use Rattle.std.proofs.Common.{◌≡◌, ℕ, ◌+◌, ◌<◌, Bool, true, false, not, ◌==◌, List, [], ◌∷◌, drop, slice_get, Option, Some, None, if◌then◌else◌, refl, sym, subst, ◌∙◌, arith}
 use Prim.Native.Nat.{zero, suc}
 use Rattle.std.specs.List.{AllByRecursion}
 use Rattle.std.proofs.lemmas.Bool.Decides.{nat_tests}
@@ -11,7 +9,7 @@ use Rattle.nob_trace_merging.specs.declared.moment.Moment.{Moment}
 use Rattle.nob_trace_merging.specs.declared.merging.Head.{Head}
 use Rattle.nob_trace.specs.Stamps.{Rise}
 use Rattle.nob_trace_merging.specs.Merged.{is_earlier}
-use Rattle.nob_trace_merging.specs.Heads.{moment_at, head_at, head_of, earlier_of, next_of}
+use Rattle.nob_trace_merging.specs.Heads.{moment_at, head_at, earlier_of, next_of}
 use Rattle.nob_trace_merging.proofs.Places.{EachWith, each_map, left_some, left_none, rise_after}
 
 -- ---- moments

@@ -1,12 +1,11 @@
 -- Traces have one list of merged entries at most.
-use Rattle.std.proofs.Common.{◌≡◌, ℕ, Bool, true, false, cond, ◌||◌, ◌==◌, List, [], ◌∷◌, filter, map, refl, sym, ap, subst, true≢false, ◌∙◌, arith}
+use Rattle.std.proofs.Common.{◌≡◌, ℕ, Bool, true, false, cond, ◌||◌, ◌==◌, List, [], ◌∷◌, map, refl, sym, ap, subst, true≢false, ◌∙◌, arith}
 use Rattle.std.specs.List.{AllByRecursion, list_any}
 use Rattle.std.proofs.lemmas.Cmp.{nat_eq_equiv}
 use Rattle.std.proofs.lemmas.Bool.{eqb-true}
 use Rattle.std.proofs.lemmas.Bool.Decides.{nat_tests}
-use Rattle.nob_model_types.specs.declared.entry.Entry.{Entry}
 use Rattle.nob_trace.specs.declared.trace.Trace.{Trace}
-use Rattle.nob_trace_merging.specs.Merged.{Dated, is_earlier, moment_of, dated_at, dated_of, InOrder, is_traced, AreOfTraces, IsMerged}
+use Rattle.nob_trace_merging.specs.Merged.{Dated, is_earlier, moment_of, dated_at, dated_of, InOrder, is_traced}
 use Rattle.nob_trace_merging.specs.Laws.{OneMerged}
 use Rattle.nob_trace_merging.proofs.Heading.{not_back}
 

@@ -1,7 +1,6 @@
 -- What was merged so far, and what one entry more leaves of it.
-use Rattle.std.specs.Bool.{⊤}
-use Rattle.std.proofs.Common.{◌≡◌, ℕ, ◌+◌, ◌≤◌, ◌<◌, Bool, true, false, cond, not, ◌&&◌, ◌||◌, ◌==◌, List, [], ◌∷◌, ◌++◌, length, drop, take, map, filter, slice_get, Option, Some, None, if◌then◌else◌, refl, sym, ap, subst, true≢false, ◌∙◌, arith}
-use Rattle.std.specs.Prelude.{nat_lt, replicate}
+use Rattle.std.proofs.Common.{◌≡◌, ℕ, ◌+◌, ◌<◌, Bool, true, false, cond, ◌||◌, ◌==◌, List, [], ◌∷◌, ◌++◌, length, drop, take, map, filter, slice_get, Some, None, refl, sym, ap, subst, ◌∙◌, arith}
+use Rattle.std.specs.Prelude.{replicate}
 use Prim.Native.Nat.{zero, suc}
 use lib.ListN.{set}
 use Rattle.std.specs.List.{AllByRecursion, list_any}
@@ -15,10 +14,10 @@ use Rattle.nob_trace_merging.specs.declared.moment.Moment.{Moment}
 use Rattle.nob_trace_merging.specs.declared.merging.Head.{Head}
 use Rattle.nob_trace.specs.Stamps.{Rise}
 use Rattle.nob_trace_merging.specs.Apart.{are_apart, entry_at}
-use Rattle.nob_trace_merging.specs.Merged.{Dated, is_earlier, moment_of, dated_at, dated_of, InOrder, is_traced, AreOfTraces, IsMerged}
+use Rattle.nob_trace_merging.specs.Merged.{Dated, is_earlier, moment_of, dated_at, dated_of, InOrder, is_traced, IsMerged}
 use Rattle.nob_trace_merging.specs.Heads.{moment_at, next_of}
 use Rattle.nob_trace_merging.proofs.Places.{EachWith, each_at, each_both, each_set, left_some, take_some, all_left, rise_after}
-use Rattle.nob_trace_merging.proofs.Heading.{NoneLeft, NoneBefore, ComesNext, none_left, next_is, by_stamp, one_first}
+use Rattle.nob_trace_merging.proofs.Heading.{NoneLeft, NoneBefore, none_left, next_is, by_stamp, one_first}
 
 -- an entry is later than all of these
 abbrev pub IsLater : List Dated → ℕ → Stamped → Type 0

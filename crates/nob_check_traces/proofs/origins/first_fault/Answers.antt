@@ -1,4 +1,4 @@
-use Rattle.std.proofs.Common.{◌≡◌, ◌+◌, ◌++◌, List, Option, Some, None, MatchOption, Bor, slice_get, take, length, reverse, sym, ap, subst, ◌∙◌, arith}
+use Rattle.std.proofs.Common.{◌≡◌, ◌+◌, ◌++◌, List, Option, Some, None, MatchOption, Bor, slice_get, take, length, reverse, sym, subst}
 use Rattle.std.specs.List.{Contains}
 use Rattle.nob_frame.specs.declared.frame.Frame.{Frame}
 use Rattle.nob_frame_set.specs.Marks.{AreOf}

@@ -1,4 +1,4 @@
-use Rattle.std.proofs.Common.{◌≡◌, true, Some, slice_get, refl, sym, subst, List, take, arith}
+use Rattle.std.proofs.Common.{◌≡◌, true, Some, slice_get, refl, sym, subst, List, arith}
 use Rattle.std.specs.List.{Contains}
 use Rattle.nob_frame.specs.declared.frame.Frame.{Frame}
 use Rattle.nob_model_types.specs.declared.entry.Entry.{Entry}

@@ -1,4 +1,4 @@
-use Rattle.std.proofs.Common.{rules, ◌≡◌, ◌+◌, ℕ, ◌<◌, List, ◌∷◌, ◌++◌, [], length, slice_get, Some, None, sym, ap, subst, ◌∙◌, arith}
+use Rattle.std.proofs.Common.{rules, ◌≡◌, ℕ, ◌<◌, List, ◌∷◌, ◌++◌, [], length, slice_get, Some, None, sym, ap, subst, ◌∙◌}
 use Prim.Native.Nat.{suc}
 use lib.ListN.{set}
 use Rattle.std.proofs.lemmas.Option.{slice_get_within}

@@ -1,6 +1,5 @@
 use Rattle.std.proofs.Common.{◌∙◌, subst, sym}
-use Rattle.std.specs.Prelude.{List}
-use Rattle.nob_frame_set.specs.Marks.{Sign, AreOf}
+use Rattle.nob_frame_set.specs.Marks.{AreOf}
 use Rattle.nob_frame_set.proofs.Signs.{has_is}
 use Rattle.nob_frame_set.proofs.set.FrameSet.has.Goals as goal
 

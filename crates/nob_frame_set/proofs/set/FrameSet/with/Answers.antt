@@ -1,7 +1,7 @@
-use Rattle.std.proofs.Common.{subst, sym, ap}
+use Rattle.std.proofs.Common.{subst, sym}
 use Rattle.std.specs.Prelude.{List, map, ◌++◌, ◌∷◌, []}
 use Rattle.nob_frame_set.specs.declared.mark.Mark.{Mark}
-use Rattle.nob_frame_set.specs.Marks.{Sign, sign_in, AreOf}
+use Rattle.nob_frame_set.specs.Marks.{sign_in, AreOf}
 use Rattle.nob_frame_set.proofs.Signs.{more_are}
 use Rattle.nob_frame_set.proofs.set.FrameSet.with.Goals as goal
 
