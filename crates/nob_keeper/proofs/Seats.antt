@@ -1,0 +1,29 @@
+-- A seat with one receipt more.
+use Rattle.std.proofs.Common.{◌≡◌, ℕ, ◌+◌, ◌-◌, ◌<◌, ◌≤◌, max, List, [], ◌∷◌, ◌++◌, length, reverse, refl, sym, ap, subst, ◌∙◌, arith}
+use Rattle.std.proofs.lemmas.List.{reverse-append}
+use Rattle.std.proofs.lemmas.Option.{slice_get_within}
+use Rattle.std.proofs.Math.Nat.{le-max_right}
+use Rattle.nob_trace.specs.declared.stamped.Stamped.{Stamped}
+use Rattle.nob_keeper.specs.declared.receipt.Receipt.{Receipt}
+use Rattle.nob_keeper.specs.Receipts.{entry_of}
+use Rattle.nob_keeper.specs.Seats.{Above, PlacesRise, Has}
+
+-- the receipt behind others is the newest
+pub receipts_next : (before now : List Receipt) (receipt : Receipt) → now ≡ before ++ receipt ∷ [] → reverse now ≡ receipt ∷ reverse before
+receipts_next before now receipt is = ap reverse is ∙ reverse-append before (receipt ∷ [])
+
+-- a greater place is above the same receipts
+above_more : (low high : ℕ) (receipts : List Receipt) → Above low receipts → low ≤ high → Above high receipts
+above_more low high [] above more = tt
+above_more low high (receipt ∷ receipts) above more = (omega (arith, above.0, more), above_more low high receipts above.1 more)
+
+-- the next place of a trace is above all receipts of a seat of whose newest it has the entry
+pub above_next : (entries : List Stamped) (receipts : List Receipt) (place : ℕ) → Has entries receipts → PlacesRise receipts → place ≡ length entries + 1 → Above place receipts
+above_next entries [] place has rise is = tt
+above_next entries (receipt ∷ earlier) place has rise is =
+    let within : receipt.place - 1 < length entries = slice_get_within entries (receipt.place - 1) (entry_of receipt) has.1 in
+    (omega (arith, within, is, has.0), above_more receipt.place place earlier rise.0 (omega (arith, within, is, has.0)))
+
+-- the next stamp is above what was seen
+pub stamp_above : (last seen stamp : ℕ) → stamp ≡ max last seen + 1 → seen < stamp
+stamp_above last seen stamp is = let top : seen ≤ max last seen = le-max_right last seen in omega (arith, top, is)

@@ -1,0 +1,32 @@
+use Rattle.std.proofs.Common.{◌≡◌, ◌∷◌, [], ◌++◌, List, reverse, sym, ap, subst, ◌∙◌}
+use Rattle.nob_keeper.specs.declared.receipt.Receipt.{Receipt}
+use Rattle.nob_keeper.specs.Seats as seats
+use Rattle.nob_keeper.proofs.Seats.{receipts_next, above_next, stamp_above}
+use Rattle.nob_keeper.proofs.seat.Seat.ask.Goals as goal
+
+-- the receipts are those before, behind the new one
+added : (c : goal.After-push_reserved) → reverse c.push_reserved.new.self.items ≡ c.in_ok-receipt.receipt ∷ c.args.self.now
+added c =
+    receipts_next c.self.inside.receipts.items c.push_reserved.new.self.items c.in_ok-receipt.receipt
+    (c.push_reserved.ensures.items ∙ ap (λ (receipts : List Receipt). receipts ++ c.in_ok-receipt.receipt ∷ []) c.reserve.ensures.items)
+    ∙ ap (λ (receipts : List Receipt). c.in_ok-receipt.receipt ∷ receipts) c.self.view_is
+
+-- the places before rise
+rising : (c : goal.After-push_reserved) → seats.PlacesRise c.args.self.now
+rising c = subst seats.PlacesRise c.self.view_is c.self.invariant
+
+-- the new receipt's place is above those before
+above : (c : goal.After-push_reserved) → seats.Above c.in_ok-receipt.receipt.place c.args.self.now
+above c = above_next c.args.kept.now.entries c.args.self.now c.in_ok-receipt.receipt.place ((c.in_ok-check.ensures {u = tt}).ok) (rising c) ((c.in_ok-receipt.ensures {u = tt}).next.place)
+
+pub invariant_of-self-2 : goal.invariant_of-self-2
+invariant_of-self-2 c = subst seats.PlacesRise (sym (added c)) (above c, rising c)
+
+pub returns-clause-adds : goal.returns-clause-adds
+returns-clause-adds c =
+    let next = (c.in_ok-receipt.ensures {u = tt}).next in
+    (c.in_ok-receipt.receipt, added c, next.event_is, stamp_above _ c.args.seen c.in_ok-receipt.receipt.stamp next.stamp, above c)
+
+pub returns-clause-next : goal.returns-clause-next
+returns-clause-next c =
+    (c.in_ok-receipt.receipt, c.args.kept.now, added c, (c.in_ok-check.ensures {u = tt}).account, (c.in_ok-check.ensures {u = tt}).ok, (c.in_ok-receipt.ensures {u = tt}).next)

@@ -1,0 +1,72 @@
+-- What is kept of a space: its number, how many there are, the limits of its sessions, and the entries of its trace.
+use Rattle.std.specs.Prelude.{◌≡◌, ◌≤◌, ℕ, ◌+◌, ◌^◌, nat_le, nat_lt, max, List, [], ◌∷◌, ◌++◌, length, map, reverse, Option, Some, None, if◌then◌else◌}
+use Rattle.nob_ids.specs.declared.limits.Limits.{Limits}
+use Rattle.nob_model_types.specs.declared.entry.Entry.{Entry}
+use Rattle.nob_model_history.specs.declared.history.History.{History}
+use Rattle.nob_model_history.specs.Histories.{history}
+use Rattle.nob_model.specs.Lists.{AreRight}
+use Rattle.nob_space.specs.Spaces.{Owner, StandsFor}
+use Rattle.nob_trace.specs.declared.stamped.Stamped.{Stamped}
+use Rattle.nob_trace.specs.declared.trace.Trace.{Trace}
+use Rattle.nob_trace.specs.Stamps.{Rise, last_stamp}
+use Rattle.nob_keeper.specs.declared.error.KeeperError.{KeeperError}
+use Rattle.nob_keeper.specs.declared.error.KeeperError.TheVariants as errors
+
+-- what is kept of a space, its entries oldest first
+pub record Account : Type 0 where
+  pub id : ℕ
+  pub n : ℕ
+  pub limits : Limits
+  pub entries : List Stamped
+
+-- so many entries has a trace that is full
+abbrev pub most_entries : ℕ
+most_entries = 2 ^ 20
+
+-- the greatest stamp that a caller may have seen
+abbrev pub last_seen : ℕ
+last_seen = 2 ^ 60
+
+-- an entry of a trace as an entry of its space
+abbrev pub entry_at : ℕ → Stamped → Entry
+entry_at s entry = record { space = s; event = entry.event; result = entry.result }
+
+-- the entries of a trace as a space's list, the newest of which stands FIRST
+abbrev pub list_of : ℕ → List Stamped → List Entry
+list_of s entries = reverse (map (entry_at s) entries)
+
+-- what is kept of a space with these entries
+abbrev pub account_of : Owner → List Stamped → Account
+account_of space entries = record { id = space.id; n = space.n; limits = space.limits; entries = entries }
+
+-- what a trace keeps of its space
+abbrev pub account_in : Trace → Account
+account_in trace = record { id = trace.space; n = trace.n; limits = trace.limits; entries = trace.entries }
+
+-- each result is the right one after the entries before, the stamps rise, there are no more entries than fill a trace, and the last stamp is no greater than what was seen and the entries allow
+pub record IsAccount (account : Account) : Type 0 where
+  pub right : AreRight account.id account.n account.limits (list_of account.id account.entries)
+  pub rise : Rise 0 account.entries
+  pub few : length account.entries ≤ most_entries
+  pub low : last_stamp 0 account.entries ≤ last_seen + length account.entries
+
+-- a space stands for the entries that are kept of it, which are right
+pub record IsKept (space : Owner) (account : Account) : Type 0 where
+  pub stands : StandsFor space (list_of account.id account.entries)
+  pub is_account : IsAccount account
+
+-- what is kept, with one entry more
+abbrev pub with_next : Account → Stamped → Account
+with_next account entry = record { id = account.id; n = account.n; limits = account.limits; entries = account.entries ++ entry ∷ [] }
+
+-- the stamp of the next entry: one more than the greater of the last stamp and the one that its caller had seen
+abbrev pub next_stamp : (last seen : ℕ) → ℕ
+next_stamp last seen = max last seen + 1
+
+-- what refuses an entry more, memory aside: the trace is full, or else the stamp that was seen is too great
+abbrev pub fault_of : Account → ℕ → Option KeeperError
+fault_of account seen = if nat_le most_entries (length account.entries) then Some errors.TraceFull else (if nat_lt last_seen seen then Some errors.Stamp else None)
+
+-- what the entries that are kept say of their space
+abbrev pub history_in : Account → History
+history_in account = history account.id account.n (list_of account.id account.entries)

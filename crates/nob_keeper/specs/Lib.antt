@@ -1,0 +1,5 @@
+pub mod Accounts
+pub mod Receipts
+pub mod Seats
+pub mod Closing
+pub mod Waking

@@ -1,0 +1,65 @@
+-- What an answered event may have made possible at its space.
+use Rattle.std.specs.Prelude.{ℕ, Bool, true, false, ◌||◌, not, ◌==◌}
+use Rattle.nob_frame.specs.Kinds.{is_data}
+use Rattle.nob_model_types.specs.declared.event.Event.{Event}
+use Rattle.nob_model_types.specs.declared.event.Event.TheVariants as events
+use Rattle.nob_model_types.specs.declared.answer.Answer.{Answer}
+use Rattle.nob_model_types.specs.declared.answer.Answer.TheVariants as answers
+use Rattle.nob_keeper.specs.declared.waking.Wakes.{Wakes}
+
+-- whether an answer says that a session closed
+abbrev pub is_closing : Answer → Bool
+is_closing (answers.Closed reason) = true
+is_closing (_) = false
+
+-- whether an answer says that an item or more was accepted
+abbrev pub is_acceptance : Answer → Bool
+is_acceptance (answers.Took count) = not (count == 0)
+is_acceptance (_) = false
+
+-- whether there may be more to transmit: an event handed an item on, took a Data frame, which is to be acknowledged, or closed a session
+abbrev pub may_send : Event → Answer → Bool
+may_send (events.Call target method value) answer = true
+may_send (events.Finish job outcome) answer = true
+may_send (events.Act peer) answer = true
+may_send events.Settle answer = true
+may_send events.Clean answer = true
+may_send (events.Arrive frame) answer = is_data frame.kind || is_closing answer
+may_send (events.Tick peer) answer = is_closing answer
+may_send (events.Close peer) answer = true
+may_send (_) answer = false
+
+-- whether there may be more to act on, to settle, to clean or to withdraw: an event gave back a hold, accepted an item, acted on one, settled a message, or closed a session
+abbrev pub may_care : Event → Answer → Bool
+may_care (events.Release rep) answer = true
+may_care (events.TakeReply call) answer = true
+may_care (events.Finish job outcome) answer = true
+may_care (events.Act peer) answer = true
+may_care events.Settle answer = true
+may_care (events.Arrive frame) answer = is_acceptance answer || is_closing answer
+may_care (events.Tick peer) answer = is_closing answer
+may_care (events.Close peer) answer = true
+may_care (_) answer = false
+
+-- whether there may be a job more to claim: a job ended, an item was acted on, a message was settled, or a session closed
+abbrev pub may_claim : Event → Answer → Bool
+may_claim (events.Finish job outcome) answer = true
+may_claim (events.Act peer) answer = true
+may_claim events.Settle answer = true
+may_claim (events.Arrive frame) answer = is_closing answer
+may_claim (events.Tick peer) answer = is_closing answer
+may_claim (events.Close peer) answer = true
+may_claim (_) answer = false
+
+-- whether a reply may be ready that wasn't
+abbrev pub may_reply : Event → Bool
+may_reply (events.Act peer) = true
+may_reply events.Settle = true
+may_reply (events.Arrive frame) = true
+may_reply (events.Tick peer) = true
+may_reply (events.Close peer) = true
+may_reply (_) = false
+
+-- what an answered event may have made possible
+abbrev pub wakes_of : Event → Answer → Wakes
+wakes_of event answer = record { send = may_send event answer; care = may_care event answer; claim = may_claim event answer; reply = may_reply event }

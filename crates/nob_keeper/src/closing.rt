@@ -1,0 +1,158 @@
+//! Whether seats have the receipts of a trace.
+
+ghost use Rattle.std.specs.Prelude.{◌≡◌, ◌↔◌, ◌⊎◌, ◌++◌, ◌<◌, ◌+◌, ◌≤◌, ℕ, List, true, false, length, replicate, get_or, IfOk, IfErr, OnOk, OnErr, vec_len};
+ghost use Rattle.std.specs.List.{AllByRecursion};
+ghost use Rattle.nob_trace.specs.Stamps.{Rise};
+ghost use Rattle.nob_keeper.specs.Closing as closing;
+ghost use Rattle.nob_keeper.specs.Receipts.{Told, entry_of};
+ghost use Rattle.nob_keeper.specs.declared.receipt.Receipt.{Receipt as ReceiptOf};
+
+use crate::error::KeeperError;
+use crate::receipt::Receipt;
+use crate::seat::Seat;
+use nob_model_same::{same_event, same_result};
+use nob_trace::{Entries, Stamped};
+use std::alloc::{AllocError, Global};
+
+// Whether a receipt is told of a trace's entries. It costs what the receipt owns.
+pub(crate) fn is_told(receipt: &Receipt, entries: &[Stamped]) -> bool
+    ensures { (result ≡ true) ↔ Told receipt.now entries.now }
+{
+    if receipt.place == 0 {
+        return false;
+    }
+    match entries.get((receipt.place - 1) as usize) {
+        Some(entry) => is_entry_of(receipt, entry),
+        None => false,
+    }
+}
+
+// Whether an entry is the one that a receipt tells of.
+fn is_entry_of(receipt: &Receipt, entry: &Stamped) -> bool
+    ensures { (result ≡ true) ↔ (entry.now ≡ entry_of receipt.now) }
+{
+    entry.stamp == receipt.stamp
+        && same_event(&entry.event, &receipt.event)
+        && same_result(&entry.result, &receipt.result)
+}
+
+// Marks the places of receipts. False where one isn't told of the entries, or is at a place that is
+// marked already.
+fn mark(marks: &mut Vec<bool>, entries: &[Stamped], receipts: &[Receipt]) -> bool
+    requires { length marks.old.items ≡ length entries.now }
+    ensures len { length marks.new.items ≡ length marks.old.items }
+    ensures marks { (before : List ReceiptOf) → result ≡ true
+        → closing.AreMarks marks.old.items entries.now before
+        → closing.AreMarks marks.new.items entries.now (before ++ receipts.now) }
+    ensures fault { (before later : List ReceiptOf) → result ≡ false
+        → closing.AreMarks marks.old.items entries.now before
+        → closing.AreOf entries.now (before ++ (receipts.now ++ later)) → ⊥ }
+{
+    for receipt in receipts {
+        if !is_told(receipt, entries) {
+            return false;
+        }
+        let place = (receipt.place - 1) as usize;
+        if marks[place] {
+            return false;
+        }
+        marks[place] = true;
+    }
+    true
+}
+
+// Marks the places of the receipts of all seats.
+fn mark_all(marks: &mut Vec<bool>, entries: &[Stamped], seats: &[Seat]) -> bool
+    requires { length marks.old.items ≡ length entries.now }
+    ensures len { length marks.new.items ≡ length marks.old.items }
+    ensures marks { (before : List ReceiptOf) → result ≡ true
+        → closing.AreMarks marks.old.items entries.now before
+        → closing.AreMarks marks.new.items entries.now (before ++ closing.receipts_of seats.now) }
+    ensures fault { (before later : List ReceiptOf) → result ≡ false
+        → closing.AreMarks marks.old.items entries.now before
+        → closing.AreOf entries.now (before ++ (closing.receipts_of seats.now ++ later)) → ⊥ }
+{
+    for seat in seats {
+        if !mark(marks, entries, seat.receipts()) {
+            return false;
+        }
+    }
+    true
+}
+
+// So many marks, none of them set. Only memory fails it.
+fn unmarked(alloc: Global, count: usize) -> Result<Vec<bool>, AllocError>
+    ensures { IfOk result (λ marks. marks.items ≡ replicate count false) }
+{
+    vec![in alloc; false; count]
+}
+
+// Whether all marks are set.
+fn are_all_set(marks: &[bool]) -> bool
+    ensures set { result ≡ true → (place : ℕ) → place < length marks.now
+        → get_or marks.now place false ≡ true }
+    ensures unset { result ≡ false → (place : ℕ) × (place < length marks.now)
+        × (get_or marks.now place false ≡ false) }
+{
+    for mark in marks {
+        if !*mark {
+            return false;
+        }
+    }
+    true
+}
+
+// Whether the receipts of seats are those of a trace's entries, each once.
+pub(crate) fn judge(
+    alloc: Global,
+    entries: &[Stamped],
+    seats: &[Seat],
+) -> Result<(), KeeperError>
+    ensures ok { OnOk result (closing.AreOf entries.now (closing.receipts_of seats.now)) }
+    ensures seats { IfErr result (λ error. error ≡ KeeperError.Seats
+        → closing.AreOf entries.now (closing.receipts_of seats.now) → ⊥) }
+    ensures only { IfErr result (λ error. (error ≡ KeeperError.Seats)
+        ⊎ (error ≡ KeeperError.OutOfMemory)) }
+{
+    let Ok(mut marks) = unmarked(alloc, entries.len()) else {
+        return Err(KeeperError::OutOfMemory);
+    };
+    if !mark_all(&mut marks, entries, seats) {
+        return Err(KeeperError::Seats);
+    }
+    if !are_all_set(marks.as_slice()) {
+        return Err(KeeperError::Seats);
+    }
+    Ok(())
+}
+
+// Copies of entries whose stamps rise. Only memory fails it.
+pub(crate) fn copied(alloc: Global, entries: &[Stamped]) -> Result<Entries, AllocError>
+    requires { Rise 0 entries.now }
+    ensures { IfOk result (λ copies. copies ≡ entries.now) }
+{
+    let mut copies = Entries::new(alloc);
+    for entry in entries {
+        copies.push(copy_of(entry)?)?;
+    }
+    Ok(copies)
+}
+
+// A copy of an entry. Only memory fails it.
+fn copy_of(entry: &Stamped) -> Result<Stamped, AllocError>
+    ensures { IfOk result (λ copy. copy ≡ entry.now) }
+{
+    let event = entry.event.copy()?;
+    match &entry.result {
+        Ok(answer) => Ok(Stamped {
+            stamp: entry.stamp,
+            event,
+            result: Ok(answer.copy()?),
+        }),
+        Err(refusal) => Ok(Stamped {
+            stamp: entry.stamp,
+            event,
+            result: Err(*refusal),
+        }),
+    }
+}

@@ -1,0 +1,27 @@
+//! Why a keeper makes no entry.
+
+use std::alloc::AllocError;
+use thiserror::Error;
+
+/// Why a keeper makes no entry. The space, its trace and the seat are then as they were.
+#[derive(Clone, Copy, Debug, PartialEq, Eq, Drop, Error)]
+pub enum KeeperError {
+    /// K1: the trace is full.
+    #[error("K1: the trace is full")]
+    TraceFull,
+    /// K2: there is no memory.
+    #[error("K2: out of memory")]
+    OutOfMemory,
+    /// K3: the stamp that was seen is too great.
+    #[error("K3: the stamp that was seen is too great")]
+    Stamp,
+    /// K4: the seats and the trace don't belong together.
+    #[error("K4: the seats and the trace don't belong together")]
+    Seats,
+}
+
+impl From<AllocError> for KeeperError {
+    fn from(_: AllocError) -> KeeperError {
+        KeeperError::OutOfMemory
+    }
+}

@@ -1,0 +1,161 @@
+//! What stands under a keeper's lock.
+
+ghost use Rattle.std.specs.Prelude.{◌≡◌, OnOk, OnErr};
+ghost use Rattle.nob_keeper.specs.Seats as seats;
+
+use crate::desk::{Desk, REPLY_PLACES, reply_place};
+use crate::error::KeeperError;
+use crate::kept::Kept;
+use crate::receipt::Receipt;
+use crate::seat::Seat;
+use crate::waking::{Wakes, WorkKind, wakes_of};
+use nob_ids::CallNo;
+use nob_model_types::Event;
+use nob_space::Work;
+
+/// What stands under a keeper's lock: the space with its trace, and who waits.
+pub(crate) struct Held {
+    pub(crate) kept: Kept,
+    pub(crate) desk: Desk,
+}
+
+/// Whom to wake once the lock is let go.
+#[derive(Clone, Copy, Debug)]
+pub(crate) struct Notice {
+    pub(crate) send: bool,
+    pub(crate) care: bool,
+    pub(crate) claim: bool,
+    // At each place at which one waits for replies.
+    pub(crate) replies: [bool; REPLY_PLACES],
+}
+
+impl Notice {
+    // All, or nobody.
+    fn of_all(all: bool) -> Notice {
+        Notice {
+            send: all,
+            care: all,
+            claim: all,
+            replies: [all; REPLY_PLACES],
+        }
+    }
+}
+
+/// What a space could do next, read under the lock.
+#[derive(Clone, Copy, Debug, PartialEq, Eq)]
+pub struct Look {
+    /// How many entries the trace had.
+    pub place: u64,
+    /// What the space could do.
+    pub work: Work,
+}
+
+/// Why a wait for work ended.
+#[derive(Clone, Copy, Debug, PartialEq, Eq)]
+pub enum Wake {
+    /// There may be work.
+    Work,
+    /// The trace is full.
+    TraceFull,
+    /// Those who wait for this kind of work are told to stop.
+    Stopped,
+}
+
+impl Held {
+    // One call of a seat, and whom to wake after it.
+    pub(crate) fn call(
+        &mut self,
+        seat: &mut Seat,
+        event: &Event,
+        seen: u64,
+    ) -> Result<Notice, KeeperError>
+        ensures adds { OnOk result (seats.Adds seat.old seat.new event.now seen) }
+        ensures next { OnOk result (seats.AddsNext seat.old seat.new event.now seen) }
+        ensures err { OnErr result (seat.new ≡ seat.old) }
+    {
+        seat.ask(&mut self.kept, event, seen)?;
+        Ok(self.notice(seat))
+    }
+
+    // Whom to wake after the newest receipt of a seat.
+    fn notice(&mut self, seat: &Seat) -> Notice {
+        if self.kept.is_full() {
+            return Notice::of_all(true);
+        }
+        match seat.newest() {
+            Some(receipt) => self.notice_of(receipt),
+            None => Notice::of_all(false),
+        }
+    }
+
+    // Whom to wake after the entry of a receipt.
+    fn notice_of(&mut self, receipt: &Receipt) -> Notice {
+        let Ok(answer) = &receipt.result else {
+            return Notice::of_all(false);
+        };
+        let wakes = wakes_of(&receipt.event, answer);
+        self.desk.note(wakes, receipt.place);
+        let mut notice = Notice::of_all(false);
+        notice.send = wakes.send;
+        self.look_for_work(wakes, &mut notice);
+        if wakes.reply {
+            self.look_for_replies(&mut notice);
+        }
+        notice
+    }
+
+    // Who waits for a job or to take care of something is woken only where there is such work.
+    fn look_for_work(&self, wakes: Wakes, notice: &mut Notice) {
+        let cares = wakes.care && self.desk.is_parked(WorkKind::Care);
+        let claims = wakes.claim && self.desk.is_parked(WorkKind::Claim);
+        if !cares && !claims {
+            return;
+        }
+        let work = self.kept.work();
+        notice.care = cares && is_care(&work);
+        notice.claim = claims && work.claim;
+    }
+
+    // Who waits for a reply is woken where it is ready.
+    fn look_for_replies(&self, notice: &mut Notice) {
+        for call in self.desk.waiting() {
+            if self.kept.reply_ready(*call) {
+                notice.replies[reply_place(*call)] = true;
+            }
+        }
+    }
+
+    // Whether the reply to a call isn't ready and may still come.
+    pub(crate) fn awaits(&self, call: CallNo) -> bool {
+        !self.kept.is_full() && !self.kept.reply_ready(call)
+    }
+
+    // Whether there is nothing new of a kind of work since the trace had so many entries.
+    pub(crate) fn idles(&self, kind: WorkKind, place: u64) -> bool {
+        self.desk.is_idle(kind, place) && !self.kept.is_full() && !self.desk.is_stopped(kind)
+    }
+
+    // Why a wait for work of a kind ended.
+    pub(crate) fn wake_of(&self, kind: WorkKind) -> Wake {
+        if self.desk.is_stopped(kind) {
+            return Wake::Stopped;
+        }
+        if self.kept.is_full() {
+            return Wake::TraceFull;
+        }
+        Wake::Work
+    }
+
+    // What the space could do next.
+    pub(crate) fn look(&self) -> Look {
+        Look {
+            place: self.kept.len() as u64,
+            work: self.kept.work(),
+        }
+    }
+}
+
+// Whether there is something to act on, to settle, to clean or to withdraw.
+fn is_care(work: &Work) -> bool {
+    work.settle || work.clean || work.withdraw.is_some() || work.act.iter().any(|act| *act)
+}

@@ -1,0 +1,243 @@
+//! A keeper: a space and its trace under one lock.
+
+ghost use Rattle.std.specs.Prelude.{◌≡◌, ◌⊎◌, ◌≤◌, [], OnOk, OnErr, IfOk, IfErr, IfSome, vec_len};
+ghost use Rattle.nob_model_types.specs.declared.event.Event.TheVariants as events;
+ghost use Rattle.nob_space.specs.Spaces.{StandsFor};
+ghost use Rattle.nob_keeper.specs.Accounts as accounts;
+ghost use Rattle.nob_keeper.specs.Closing as closing;
+ghost use Rattle.nob_keeper.specs.Seats as seats;
+
+use crate::desk::{Desk, REPLY_PLACES, reply_place};
+use crate::error::KeeperError;
+use crate::held::{Held, Look, Notice, Wake};
+use crate::kept::Kept;
+use crate::seat::Seat;
+use crate::waking::WorkKind;
+use nob_ids::CallNo;
+use nob_model_types::Event;
+use nob_space::{Space, Work};
+use nob_trace::Trace;
+use std::alloc::Global;
+use std::sync::{Condvar, Mutex, Wait};
+
+/// A space and its trace under one lock, for many threads. Each has a seat of its own. It holds
+/// pins, so it can't be let go: `close_with` or `shut` ends it.
+pub struct Keeper {
+    alloc: Global,
+    held: Mutex<Held>,
+    // Who waits for work of a kind waits here.
+    to_send: Condvar,
+    to_care: Condvar,
+    to_claim: Condvar,
+    // Who waits for the reply to a call waits at the place of its number.
+    replies: Vec<Condvar>,
+    ghost places: { vec_len replies ≡ 32 },
+}
+
+impl Keeper {
+    /// A keeper of a new space. Only memory fails it, and then the space is handed back. The
+    /// caller's conditions: the space has done nothing, and it is one of the spaces that there are.
+    pub fn new(alloc: Global, space: Space) -> Result<Keeper, Space>
+        requires new { StandsFor space [] }
+        requires some { 1 ≤ space.n }
+        ensures back { IfErr result (λ back. back ≡ space) }
+    {
+        let Some(replies) = reply_places(alloc) else {
+            return Err(space);
+        };
+        let kept = Kept::new(alloc, space)?;
+        Ok(Keeper {
+            alloc,
+            held: Mutex::new(Held {
+                kept,
+                desk: Desk::new(alloc),
+            }),
+            to_send: Condvar::new(),
+            to_care: Condvar::new(),
+            to_claim: Condvar::new(),
+            replies,
+        })
+    }
+
+    /// A seat for one more caller. It takes no memory.
+    pub fn seat(&self) -> Seat
+        ensures { result ≡ [] }
+    {
+        Seat::new(self.alloc)
+    }
+
+    /// One call: an event of the space, whose receipt is added to the seat, `newest` of it. The
+    /// stamp is one more than the greater of the trace's last stamp and `seen`. A refusal of the
+    /// space is a result too. K4 where the trace hasn't the seat's last receipt, else K1 where it
+    /// is full, else K3 where `seen` is above 2^60, else K2; then nothing has changed. It waits for
+    /// the lock alone, and under it costs what the event costs at its space, two copies of the
+    /// event, one of what the answer owns, and a look at the seat's last receipt. Who may have work
+    /// by it is woken once the lock is let go.
+    pub fn call<R: Wait>(
+        &self,
+        rt: &R,
+        seat: &mut Seat,
+        event: &Event,
+        seen: u64,
+    ) -> Result<(), KeeperError>
+        ensures adds { OnOk result (seats.Adds seat.old seat.new event.now seen) }
+        ensures next { OnOk result (seats.AddsNext seat.old seat.new event.now seen) }
+        ensures err { OnErr result (seat.new ≡ seat.old) }
+    {
+        // Room is made before the lock is taken, if it can be: it is asked for again under it.
+        let _room = seat.make_room();
+        let mut held = self.held.lock(rt);
+        let notice = held.call(seat, event, seen)?;
+        drop(held);
+        self.wake(&notice);
+        Ok(())
+    }
+
+    /// Waits until TakeReply of a call would say anything but that the reply isn't ready, or the
+    /// trace is full, and then makes the call of that TakeReply, with `seen` 0. It doesn't wait
+    /// where the reply is ready. Whoever makes an entry after which it is ready wakes it, and who
+    /// fills the trace.
+    pub fn wait_reply<R: Wait>(
+        &self,
+        rt: &R,
+        seat: &mut Seat,
+        call: CallNo,
+    ) -> Result<(), KeeperError>
+        ensures adds { OnOk result (seats.Adds seat.old seat.new (events.TakeReply call) 0) }
+        ensures next { OnOk result (seats.AddsNext seat.old seat.new (events.TakeReply call) 0) }
+        ensures err { OnErr result (seat.new ≡ seat.old) }
+    {
+        let mut held = self.held.lock(rt);
+        if held.awaits(call) {
+            held.kept.check(seat)?;
+            held.desk.wait_for(call)?;
+            held = self.replies[reply_place(call)].wait_while(rt, held, |held| held.awaits(call));
+            held.desk.leave(call);
+        }
+        let notice = held.call(seat, &Event::TakeReply(call), 0)?;
+        drop(held);
+        self.wake(&notice);
+        Ok(())
+    }
+
+    /// What the space could do next. It costs what `Space::work` costs, under the lock.
+    pub fn work<R: Wait>(&self, rt: &R) -> Work {
+        self.held.lock(rt).kept.work()
+    }
+
+    /// What the space could do next, with the number of entries after which this was so: what
+    /// `wait_past` is given by a thread that found nothing to do.
+    pub fn look<R: Wait>(&self, rt: &R) -> Look {
+        self.held.lock(rt).look()
+    }
+
+    /// Waits until an entry behind this place may have made work of a kind possible, the trace is
+    /// full, or those who wait for such work are told to stop. It doesn't wait where one of these
+    /// is so already.
+    pub fn wait_past<R: Wait>(&self, rt: &R, kind: WorkKind, place: u64) -> Wake {
+        let mut held = self.held.lock(rt);
+        held.desk.park(kind);
+        let mut held = self.place_of(kind).wait_while(rt, held, |held| held.idles(kind, place));
+        held.desk.unpark(kind);
+        held.wake_of(kind)
+    }
+
+    /// Tells all who wait for work of a kind to stop, now and later.
+    pub fn stop<R: Wait>(&self, rt: &R, kind: WorkKind) {
+        let mut held = self.held.lock(rt);
+        held.desk.stop(kind);
+        drop(held);
+        self.place_of(kind).notify_all();
+    }
+
+    /// Ends the keeper and gives the trace, where the seats' receipts are those of its entries,
+    /// each once: else K4, or K2 where memory is wanted, and all is handed back. Linear in the
+    /// entries and what they own.
+    pub fn close_with(self, seats: Vec<Seat>) -> Result<Trace, (KeeperError, Keeper, Vec<Seat>)>
+        ensures receipts { IfOk result (λ trace.
+            closing.AreOf trace.entries (closing.receipts_of seats.items)) }
+        ensures account { IfOk result (λ trace. accounts.IsAccount (accounts.account_in trace)) }
+        ensures back { IfErr result (λ back. back.2.items ≡ seats.items) }
+        ensures only { IfErr result (λ back. (back.0 ≡ KeeperError.Seats)
+            ⊎ (back.0 ≡ KeeperError.OutOfMemory)) }
+    {
+        let Keeper {
+            alloc,
+            held,
+            to_send,
+            to_care,
+            to_claim,
+            replies,
+        } = self;
+        let Held { kept, desk } = held.into_inner();
+        match kept.close_with(seats) {
+            Ok(trace) => Ok(trace),
+            Err((error, kept, seats)) => Err((
+                error,
+                Keeper {
+                    alloc,
+                    held: Mutex::new(Held { kept, desk }),
+                    to_send,
+                    to_care,
+                    to_claim,
+                    replies,
+                },
+                seats,
+            )),
+        }
+    }
+
+    /// Ends the space: it closes all its sessions and tells nobody. The trace is gone.
+    pub fn shut(self) {
+        let Keeper {
+            alloc: _,
+            held,
+            to_send: _,
+            to_care: _,
+            to_claim: _,
+            replies: _,
+        } = self;
+        let Held { kept, desk: _desk } = held.into_inner();
+        kept.shut();
+    }
+
+    // Where one waits for work of a kind.
+    fn place_of(&self, kind: WorkKind) -> &Condvar {
+        match kind {
+            WorkKind::Send => &self.to_send,
+            WorkKind::Care => &self.to_care,
+            WorkKind::Claim => &self.to_claim,
+        }
+    }
+
+    // Wakes those who may have something to do.
+    fn wake(&self, notice: &Notice) {
+        if notice.send {
+            self.to_send.notify_all();
+        }
+        if notice.care {
+            self.to_care.notify_all();
+        }
+        if notice.claim {
+            self.to_claim.notify_all();
+        }
+        for (place, ready) in notice.replies.iter().enumerate() {
+            if *ready && let Some(waiters) = self.replies.get(place) {
+                waiters.notify_all();
+            }
+        }
+    }
+}
+
+// The places at which one waits for replies.
+fn reply_places(alloc: Global) -> Option<Vec<Condvar>>
+    ensures { IfSome result (λ places. vec_len places ≡ 32) }
+{
+    let mut places = Vec::new(alloc);
+    for _ in 0..REPLY_PLACES {
+        let Ok(()) = places.push(Condvar::new()) else {
+            return None;
+        };
+    }
+    Some(places)
+}

@@ -1,0 +1,20 @@
+//! A space and its trace under one lock, with receipts for those who ask.
+#![tactic(auto)]
+
+mod closing;
+mod desk;
+mod error;
+mod held;
+mod keeper;
+mod kept;
+mod receipt;
+mod seat;
+mod waking;
+
+pub use error::KeeperError;
+pub use held::{Look, Wake};
+pub use keeper::Keeper;
+pub use kept::Kept;
+pub use receipt::Receipt;
+pub use seat::Seat;
+pub use waking::{Wakes, WorkKind, wakes_of};

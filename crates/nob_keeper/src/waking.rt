@@ -1,0 +1,125 @@
+//! What an event may have made possible.
+
+ghost use Rattle.std.specs.Prelude.{◌≡◌};
+ghost use Rattle.nob_keeper.specs.Waking as waking;
+
+use nob_model_types::{Answer, Event};
+
+/// A kind of work for which a thread may wait.
+#[derive(Clone, Copy, Debug, PartialEq, Eq)]
+pub enum WorkKind {
+    /// To transmit.
+    Send,
+    /// To act on an item, to settle, to clean and to withdraw.
+    Care,
+    /// To claim a job.
+    Claim,
+}
+
+/// What an answered event may have made possible that wasn't.
+#[derive(Clone, Copy, Debug, PartialEq, Eq)]
+pub struct Wakes {
+    /// There may be more to transmit.
+    pub send: bool,
+    /// There may be more to act on, to settle, to clean or to withdraw.
+    pub care: bool,
+    /// There may be a job more to claim.
+    pub claim: bool,
+    /// A reply may be ready.
+    pub reply: bool,
+}
+
+/// What an answered event may have made possible. A refused one changed nothing.
+pub fn wakes_of(event: &Event, answer: &Answer) -> Wakes
+    ensures { result ≡ waking.wakes_of event.now answer.now }
+{
+    Wakes {
+        send: may_send(event, answer),
+        care: may_care(event, answer),
+        claim: may_claim(event, answer),
+        reply: may_reply(event),
+    }
+}
+
+// Whether an answer says that a session closed.
+fn is_closing(answer: &Answer) -> bool
+    ensures { result ≡ waking.is_closing answer.now }
+{
+    match answer {
+        Answer::Closed(_) => true,
+        _ => false,
+    }
+}
+
+// Whether an answer says that an item or more was accepted.
+fn is_acceptance(answer: &Answer) -> bool
+    ensures { result ≡ waking.is_acceptance answer.now }
+{
+    match answer {
+        Answer::Took(count) => *count != 0,
+        _ => false,
+    }
+}
+
+// Whether there may be more to transmit.
+fn may_send(event: &Event, answer: &Answer) -> bool
+    ensures { result ≡ waking.may_send event.now answer.now }
+{
+    match event {
+        Event::Call { .. } => true,
+        Event::Finish(..) => true,
+        Event::Act(_) => true,
+        Event::Settle => true,
+        Event::Clean => true,
+        Event::Arrive(frame) => frame.kind.is_data() || is_closing(answer),
+        Event::Tick(_) => is_closing(answer),
+        Event::Close(_) => true,
+        _ => false,
+    }
+}
+
+// Whether there may be more to act on, to settle, to clean or to withdraw.
+fn may_care(event: &Event, answer: &Answer) -> bool
+    ensures { result ≡ waking.may_care event.now answer.now }
+{
+    match event {
+        Event::Release(_) => true,
+        Event::TakeReply(_) => true,
+        Event::Finish(..) => true,
+        Event::Act(_) => true,
+        Event::Settle => true,
+        Event::Arrive(_) => is_acceptance(answer) || is_closing(answer),
+        Event::Tick(_) => is_closing(answer),
+        Event::Close(_) => true,
+        _ => false,
+    }
+}
+
+// Whether there may be a job more to claim.
+fn may_claim(event: &Event, answer: &Answer) -> bool
+    ensures { result ≡ waking.may_claim event.now answer.now }
+{
+    match event {
+        Event::Finish(..) => true,
+        Event::Act(_) => true,
+        Event::Settle => true,
+        Event::Arrive(_) => is_closing(answer),
+        Event::Tick(_) => is_closing(answer),
+        Event::Close(_) => true,
+        _ => false,
+    }
+}
+
+// Whether a reply may be ready that wasn't.
+fn may_reply(event: &Event) -> bool
+    ensures { result ≡ waking.may_reply event.now }
+{
+    match event {
+        Event::Act(_) => true,
+        Event::Settle => true,
+        Event::Arrive(_) => true,
+        Event::Tick(_) => true,
+        Event::Close(_) => true,
+        _ => false,
+    }
+}
