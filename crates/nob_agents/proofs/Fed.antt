@@ -8,10 +8,9 @@ use Rattle.std.proofs.lemmas.List.Quantifiers.{position-Some}
 use Rattle.std.proofs.lemmas.List.{take_all, reverse-append}
 use Rattle.nob_model_types.specs.declared.event.Event.{Event}
 use Rattle.nob_model_types.specs.declared.event.Event.TheVariants as events
-use Rattle.std.specs.Prelude.{Ok, position, MatchOption}
+use Rattle.std.specs.Prelude.{position, MatchOption}
 use Rattle.nob_keeper.specs.Seats.{newest}
 use Rattle.nob_frame.specs.declared.frame.Frame.{Frame}
-use Rattle.nob_model_types.specs.declared.answer.Answer.TheVariants as answers
 use Rattle.nob_link.specs.declared.parcel.Parcel.{Parcel}
 use Rattle.nob_link.specs.declared.parcel.Parcel.TheVariants as parcels
 use Rattle.nob_keeper.specs.declared.receipt.Receipt.{Receipt}
@@ -52,14 +51,16 @@ fed_one f peer parcel [] at old new there to same apart all tied = absurd (none_
 fed_one f peer parcel (w ∷ ws) zero old new there to same apart all tied =
     let is : w ≡ old = some_is w old there in
     let mine : new.peer ≡ peer = same ∙ to in
-    let here : w.peer ≡ peer = ap (λ (x : Way). x.peer) is ∙ to in
-    (subst (λ (b : Bool). IsTied (if b then parcel ∷ f new.peer else f new.peer) new) (sym (same_is new.peer peer mine)) tied,
-     others_keep f peer parcel ws (subst (λ (p : ℕ). AllByRecursion (λ other. other.peer ≢ p) ws) here apart.0) all.1)
+    let here : w.peer ≡ peer = ap (λ (x : Way). x.peer) is ∙ to in (
+      subst (λ (b : Bool). IsTied (if b then parcel ∷ f new.peer else f new.peer) new) (sym (same_is new.peer peer mine)) tied,
+      others_keep f peer parcel ws (subst (λ (p : ℕ). AllByRecursion (λ other. other.peer ≢ p) ws) here apart.0) all.1,
+    )
 fed_one f peer parcel (w ∷ ws) (suc at) old new there to same apart all tied =
     let other : old.peer ≢ w.peer = one_of (λ (x : Way). x.peer ≢ w.peer) ws at old there apart.0 in
-    let far : w.peer ≢ peer = λ is. other (to ∙ sym is) in
-    (subst (λ (b : Bool). IsTied (if b then parcel ∷ f w.peer else f w.peer) w) (sym (apart_is w.peer peer far)) all.0,
-     fed_one f peer parcel ws at old new there to same apart.1 all.1 tied)
+    let far : w.peer ≢ peer = λ is. other (to ∙ sym is) in (
+      subst (λ (b : Bool). IsTied (if b then parcel ∷ f w.peer else f w.peer) w) (sym (apart_is w.peer peer far)) all.0,
+      fed_one f peer parcel ws at old new there to same apart.1 all.1 tied,
+    )
 
 -- one way changes, and was fed the same
 pub same_one : (f : ℕ → List Parcel) (ways : List Way) (at : ℕ) (new : Way) → AllFed f ways → IsTied (f new.peer) new → AllFed f (slice_set ways at new)

@@ -1,5 +1,5 @@
 -- What an agent that sends has done: the ways to its peers, and what it asked of its space. In lists of receipts, and of what a way was fed, the newest stands FIRST.
-use Rattle.std.specs.Prelude.{◌≡◌, ◌≢◌, ◌≤◌, ℕ, ◌+◌, ◌==◌, if◌then◌else◌, List, [], ◌∷◌, ◌++◌, length, map, take, reverse, Result, Ok, Err}
+use Rattle.std.specs.Prelude.{◌≢◌, ◌≤◌, ℕ, ◌==◌, if◌then◌else◌, List, [], ◌∷◌, ◌++◌, length, map, take, reverse, Result, Ok}
 use Rattle.std.specs.List.{AllByRecursion}
 use Rattle.nob_frame.specs.declared.frame.Frame.{Frame}
 use Rattle.nob_model_types.specs.declared.event.Event.{Event}

@@ -1,5 +1,5 @@
 -- What an agent that takes has done: the parcels that it took, and what it asked of its space.
-use Rattle.std.specs.Prelude.{◌≡◌, ◌<◌, ℕ, List, [], ◌∷◌, ◌++◌, reverse, Option, Some, None}
+use Rattle.std.specs.Prelude.{◌≡◌, ◌<◌, ℕ, List, [], ◌∷◌, reverse, Option, Some, None}
 use Rattle.std.specs.List.{AllZip}
 use Rattle.nob_frame.specs.declared.frame.Frame.{Frame}
 use Rattle.nob_model_types.specs.declared.event.Event.{Event}

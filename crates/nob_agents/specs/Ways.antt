@@ -1,5 +1,5 @@
 -- The way from an agent that sends to one peer: through a shim and into a link. In lists of what was fed the newest stands FIRST.
-use Rattle.std.specs.Prelude.{◌≡◌, ℕ, Bool, false, List, [], ◌∷◌, ◌++◌}
+use Rattle.std.specs.Prelude.{◌≡◌, ℕ, Bool, false, List, ◌++◌}
 use Rattle.nob_link.specs.declared.parcel.Parcel.{Parcel}
 use Rattle.nob_fault.specs.Shims.{Shimming, shim_after, output}
 

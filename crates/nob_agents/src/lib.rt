@@ -2,7 +2,9 @@
 #![tactic(auto)]
 
 mod calls;
+mod carer;
 mod due;
+mod pace;
 mod parcels;
 mod passing;
 mod sender;
@@ -11,6 +13,7 @@ mod turn;
 mod way;
 
 pub use calls::Calls;
+pub use carer::Carer;
 pub use due::Due;
 pub use parcels::{PutParcel, TakeParcel};
 pub use sender::Sender;

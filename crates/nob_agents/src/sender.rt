@@ -1,18 +1,24 @@
 //! The agent that transmits and puts what that gives.
 
-ghost use Rattle.std.specs.Prelude.{◌≡◌, ◌≤◌, [], length, true, OnOk, OnErr, IfOk};
+ghost use Rattle.std.specs.Prelude.{◌≡◌, []};
 ghost use Rattle.std.specs.List.{AllByRecursion};
 ghost use Rattle.nob_agents.specs.Ways.{IsTied};
-ghost use Rattle.nob_agents.specs.Sending.{AllGoneOn, AreApart, AreTied};
+ghost use Rattle.nob_agents.specs.Sending.{AreApart, AreTied};
 
 use crate::calls::Calls;
+use crate::pace::Pace;
 use crate::parcels::PutParcel;
 use crate::passing::{has_gone_on, kept_behind, next_of, pass_on};
+use crate::turn::Turn;
 use crate::way::{Step, Way};
+use nob_ids::SpaceId;
 use nob_keeper::{KeeperError, Seat};
 use nob_model_types::Event;
 use std::marker::Model;
 use std::sync::Wait;
+
+/// So many parcels are put, or shims passed, in a turn at most.
+const MOST_STEPS: u32 = 256;
 
 /// The agent that transmits to the peers of a space, and puts what that gives at their links.
 /// Contracts see its ways, its receipts, and how many frames of the newest receipt have gone on;
@@ -22,6 +28,11 @@ pub struct Sender<P: PutParcel + Drop> {
     seat: Seat,
     ways: Vec<Way<P>>,
     handled: usize,
+    pace: Pace,
+    // The peer whose link's other end was found to be gone, and whose session isn't closed yet.
+    gone: Option<SpaceId>,
+    // At which peers that was found.
+    told: [bool; 32],
 }
 
 impl<P: PutParcel + Drop> Model for Sender<P> {
@@ -50,9 +61,10 @@ impl<P: PutParcel + Drop> Model for Sender<P> {
 }
 
 impl<P: PutParcel + Drop> Sender<P> {
-    /// The agent for these ways. The caller's condition: the seat and the ways are unused, and no
-    /// two ways lead to one peer.
-    pub fn new(seat: Seat, ways: Vec<Way<P>>) -> Sender<P>
+    /// The agent for these ways. What is out is transmitted again after `pause` turns, and a tick is
+    /// made after every `tick_every` of these repeats, none where that is 0. The caller's
+    /// condition: the seat and the ways are unused, and no two ways lead to one peer.
+    pub fn new(seat: Seat, ways: Vec<Way<P>>, pause: u32, tick_every: u32) -> Sender<P>
         requires seat { seat ≡ [] }
         requires ways { AllByRecursion (IsTied []) ways.items }
         requires apart { AreApart ways.items }
@@ -62,6 +74,9 @@ impl<P: PutParcel + Drop> Sender<P> {
             seat,
             ways,
             handled: 0,
+            pace: Pace::new(pause, tick_every),
+            gone: None,
+            told: [false; 32],
         }
     }
 
@@ -72,6 +87,17 @@ impl<P: PutParcel + Drop> Sender<P> {
         };
         let way = &mut self.ways[at];
         way.put_next(rt)
+    }
+
+    // Notes whose link's other end was just found to be gone.
+    fn note_gone(&mut self) {
+        for way in &self.ways {
+            let place = way.peer().get() as usize - 1;
+            if way.has_gone() && !self.told[place] {
+                self.told[place] = true;
+                self.gone = Some(way.peer());
+            }
+        }
     }
 
     // Has the next frame of the newest receipt pass the shim of its way, behind which nothing is
@@ -104,5 +130,72 @@ impl<P: PutParcel + Drop> Sender<P> {
         keeper.call(rt, &mut self.seat, event, 0)?;
         self.handled = 0;
         Ok(true)
+    }
+
+    // Puts what is on its way, as far as the links have room: how many parcels, or `None` beside
+    // them where a link is full.
+    fn put_all<R: Wait>(&mut self, rt: &R) -> Result<(u64, bool), KeeperError> {
+        let mut count: u64 = 0;
+        for _ in 0..MOST_STEPS {
+            match self.put_next(rt) {
+                Step::Put => count = count.saturating_add(1),
+                Step::Full => return Ok((count, false)),
+                Step::Gone => self.note_gone(),
+                Step::Nothing => {
+                    if !self.pass_next()? {
+                        return Ok((count, true));
+                    }
+                }
+            }
+        }
+        Ok((count, false))
+    }
+
+    // What is to be asked next, if something is.
+    fn next<R: Wait, C: Calls>(&mut self, rt: &R, keeper: &C) -> Option<Event> {
+        if let Some(peer) = self.gone.take() {
+            return Some(Event::Close(peer));
+        }
+        let look = keeper.look(rt);
+        let mut peers = [None; 32];
+        for way in &self.ways {
+            let peer = way.peer();
+            let place = peer.get() as usize - 1;
+            if !way.has_gone() && look.work.send[place] {
+                peers[place] = Some(peer);
+            }
+        }
+        self.pace.next(&look, &peers)
+    }
+
+    /// One turn: what is on its way is put, as far as the links have room; then something is
+    /// transmitted, what is new at once and what is out again after some turns, and put too. Where
+    /// a link's other end is gone the session with its peer is closed, once, and nothing more is put
+    /// there. It makes no entry that gives nothing. After K2, or another error of the keeper, the
+    /// next turn goes on where this one stood: nothing is lost.
+    pub fn turn<R: Wait, C: Calls>(&mut self, rt: &R, keeper: &C) -> Result<Turn, KeeperError> {
+        let (count, is_clear) = self.put_all(rt)?;
+        if count > 0 {
+            return Ok(Turn::Did(count));
+        }
+        if !is_clear {
+            return Ok(Turn::Idle);
+        }
+        let Some(event) = self.next(rt, keeper) else {
+            return Ok(Turn::Idle);
+        };
+        self.ask(rt, keeper, &event)?;
+        let (count, _) = self.put_all(rt)?;
+        Ok(Turn::Did(count))
+    }
+
+    /// Its parts, which are tied: what each way put, and then what it keeps behind its shim, is the
+    /// shim's output on the frames of the Transmits to its peer, save the last ones of the newest.
+    pub fn end(self) -> (Seat, Vec<Way<P>>)
+        ensures parts { (self.ways ≡ result.1.items) × (self.receipts ≡ result.0) }
+        ensures tied { AreTied self }
+    {
+        let Sender { seat, ways, .. } = self;
+        (seat, ways)
     }
 }

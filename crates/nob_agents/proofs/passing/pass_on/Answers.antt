@@ -1,6 +1,5 @@
 use Rattle.std.proofs.Common.{◌≡◌, ◌==◌, ◌∷◌, ℕ, List, Some, ap, sym, subst, ◌∙◌}
 use Rattle.std.specs.Prelude.{position, slice_get}
-use Rattle.nob_link.specs.declared.parcel.Parcel.{Parcel}
 use Rattle.nob_agents.specs.Ways.{Way, IsTied}
 use Rattle.nob_agents.proofs.Fed.{fed_one, apart_one, one_leads, one_of}
 use Rattle.nob_agents.proofs.passing.pass_on.Goals as goal
