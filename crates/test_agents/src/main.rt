@@ -31,8 +31,14 @@ fn print<R: Print>(rt: &R, name: &str, outcome: Option<Outcome>) -> io::Result<(
         return println!(rt; "{name}: failed");
     };
     println!(rt; "{name}: withdrawn {}", said(outcome.is_withdrawn))?;
-    println!(rt; "{name}: a Carer idles only where it has no work {}", said(outcome.carers_idle_rightly))?;
-    println!(rt; "{name}: a Sender idles 3 turns at most where there is something to send {}", said(outcome.senders_idle_rightly))
+    println!(rt;
+        "{name}: a Carer idles only where it has no work {}",
+        said(outcome.carers_idle_rightly)
+    )?;
+    println!(rt;
+        "{name}: a Sender idles 3 turns at most where there is something to send {}",
+        said(outcome.senders_idle_rightly)
+    )
 }
 
 // Yes or no.

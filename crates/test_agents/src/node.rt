@@ -68,12 +68,7 @@ pub(crate) fn agents_of(
 }
 
 // The one way to the peer.
-fn ways_of(
-    alloc: Global,
-    peer: SpaceId,
-    put: PutEnd,
-    words: Vec<u64>,
-) -> Option<Vec<Way<PutEnd>>>
+fn ways_of(alloc: Global, peer: SpaceId, put: PutEnd, words: Vec<u64>) -> Option<Vec<Way<PutEnd>>>
     requires { put.put ≡ [] }
     ensures tied { IfSome result (λ ways. AllByRecursion (IsTied []) ways.items) }
     ensures apart { IfSome result (λ ways. AreApart ways.items) }
