@@ -46,6 +46,8 @@ impl Notice {
 pub struct Look {
     /// How many entries the trace had.
     pub place: u64,
+    /// The place of the last entry that may have handed something on: 0 where there is none.
+    pub handed: u64,
     /// What the space could do.
     pub work: Work,
 }
@@ -150,6 +152,7 @@ impl Held {
     pub(crate) fn look(&self) -> Look {
         Look {
             place: self.kept.len() as u64,
+            handed: self.desk.last(WorkKind::Send),
             work: self.kept.work(),
         }
     }

@@ -1,0 +1,22 @@
+//! The agents of a node: they carry frames between the links and the keeper of a space.
+#![tactic(auto)]
+
+mod calls;
+mod carer;
+mod due;
+mod pace;
+mod parcels;
+mod passing;
+mod sender;
+mod taker;
+mod turn;
+mod way;
+
+pub use calls::Calls;
+pub use carer::Carer;
+pub use due::Due;
+pub use parcels::{PutParcel, TakeParcel};
+pub use sender::Sender;
+pub use taker::Taker;
+pub use turn::Turn;
+pub use way::{Step, Way};

@@ -1,0 +1,49 @@
+//! What an agent asks of the ends of a link.
+
+ghost use Rattle.std.specs.Prelude.{◌≡◌, ◌++◌, ◌∷◌, [], List, MatchResult};
+ghost use Rattle.nob_link.specs.declared.parcel.Parcel.{Parcel as ParcelOf};
+ghost use Rattle.nob_link.specs.Ends.{parcel_back};
+
+use nob_link::{Parcel, PutEnd, TakeEnd, TryPutError, TryTakeError};
+use std::sync::Wait;
+
+/// The end of a link that takes, as an agent sees it.
+pub trait TakeParcel {
+    /// What it has taken, the first first.
+    ghost taken: { Self → List ParcelOf };
+
+    /// Takes the next parcel if there is one now.
+    fn try_take<R: Wait>(&mut self, rt: &R) -> Result<Parcel, TryTakeError>
+        ensures { MatchResult result
+            (λ parcel. taken self.new ≡ taken self.old ++ parcel ∷ [])
+            (λ _. taken self.new ≡ taken self.old) };
+}
+
+impl TakeParcel for TakeEnd {
+    ghost taken = { λ end. end.taken };
+
+    fn try_take<R: Wait>(&mut self, rt: &R) -> Result<Parcel, TryTakeError> {
+        self.try_take_as(rt)
+    }
+}
+
+/// The end of a link that puts, as an agent sees it.
+pub trait PutParcel {
+    /// What it has put, the first first.
+    ghost put: { Self → List ParcelOf };
+
+    /// Puts a parcel if the link isn't full and its other end isn't gone; else the parcel comes
+    /// back.
+    fn try_put<R: Wait>(&mut self, rt: &R, parcel: Parcel) -> Result<(), TryPutError>
+        ensures { MatchResult result
+            (λ _. put self.new ≡ put self.old ++ parcel ∷ [])
+            (λ error. (parcel_back error ≡ parcel) × (put self.new ≡ put self.old)) };
+}
+
+impl PutParcel for PutEnd {
+    ghost put = { λ end. end.put };
+
+    fn try_put<R: Wait>(&mut self, rt: &R, parcel: Parcel) -> Result<(), TryPutError> {
+        self.try_put_as(rt, parcel)
+    }
+}

@@ -1,0 +1,201 @@
+//! The agent that transmits and puts what that gives.
+
+ghost use Rattle.std.specs.Prelude.{◌≡◌, []};
+ghost use Rattle.std.specs.List.{AllByRecursion};
+ghost use Rattle.nob_agents.specs.Ways.{IsTied};
+ghost use Rattle.nob_agents.specs.Sending.{AreApart, AreTied};
+
+use crate::calls::Calls;
+use crate::pace::Pace;
+use crate::parcels::PutParcel;
+use crate::passing::{has_gone_on, kept_behind, next_of, pass_on};
+use crate::turn::Turn;
+use crate::way::{Step, Way};
+use nob_ids::SpaceId;
+use nob_keeper::{KeeperError, Seat};
+use nob_model_types::Event;
+use std::marker::Model;
+use std::sync::Wait;
+
+/// So many parcels are put, or shims passed, in a turn at most.
+const MOST_STEPS: u32 = 256;
+
+/// The agent that transmits to the peers of a space, and puts what that gives at their links.
+/// Contracts see its ways, its receipts, and how many frames of the newest receipt have gone on;
+/// these are tied.
+#[derive(Drop)]
+pub struct Sender<P: PutParcel + Drop> {
+    seat: Seat,
+    ways: Vec<Way<P>>,
+    handled: usize,
+    pace: Pace,
+    // The peer whose link's other end was found to be gone, and whose session isn't closed yet.
+    gone: Option<SpaceId>,
+    // At which peers that was found.
+    told: [bool; 32],
+}
+
+impl<P: PutParcel + Drop> Model for Sender<P> {
+    ghost use Rattle.nob_agents.specs.Sending.{Sending};
+
+    ghost Value = { Sending };
+
+    ghost use Rattle.std.specs.Coded.{codes};
+    ghost use Rattle.nob_pickle.specs.Marks.{trees_code};
+
+    ghost coded = { Prim.hlevel (codes, trees_code) };
+
+    ghost use Rattle.nob_agents.specs.Sending.{AreTied};
+
+    ghost view = { λ sender. record {
+      ways = sender.ways.items;
+      receipts = sender.seat;
+      handled = sender.handled;
+    } };
+
+    ghost invariant = { λ sender. AreTied (record {
+      ways = sender.ways.items;
+      receipts = sender.seat;
+      handled = sender.handled;
+    }) };
+}
+
+impl<P: PutParcel + Drop> Sender<P> {
+    /// The agent for these ways. What is out is transmitted again after `pause` turns, and a tick is
+    /// made after every `tick_every` of these repeats, none where that is 0. The caller's
+    /// condition: the seat and the ways are unused, and no two ways lead to one peer.
+    pub fn new(seat: Seat, ways: Vec<Way<P>>, pause: u32, tick_every: u32) -> Sender<P>
+        requires seat { seat ≡ [] }
+        requires ways { AllByRecursion (IsTied []) ways.items }
+        requires apart { AreApart ways.items }
+        ensures { result ≡ record { ways = ways.items; receipts = []; handled = 0 } }
+    {
+        Sender {
+            seat,
+            ways,
+            handled: 0,
+            pace: Pace::new(pause, tick_every),
+            gone: None,
+            told: [false; 32],
+        }
+    }
+
+    // Puts the next parcel that is kept behind a shim, if there is one.
+    fn put_next<R: Wait>(&mut self, rt: &R) -> Step {
+        let Some(at) = kept_behind(self.ways.as_slice()) else {
+            return Step::Nothing;
+        };
+        let way = &mut self.ways[at];
+        way.put_next(rt)
+    }
+
+    // Notes whose link's other end was just found to be gone.
+    fn note_gone(&mut self) {
+        for way in &self.ways {
+            let place = way.peer().get() as usize - 1;
+            if way.has_gone() && !self.told[place] {
+                self.told[place] = true;
+                self.gone = Some(way.peer());
+            }
+        }
+    }
+
+    // Has the next frame of the newest receipt pass the shim of its way, behind which nothing is
+    // kept: whether there was one. Only memory fails it.
+    fn pass_next(&mut self) -> Result<bool, KeeperError> {
+        let Some(receipt) = self.seat.newest() else {
+            return Ok(false);
+        };
+        let next = next_of(receipt, self.handled)?;
+        let Some(due) = next else {
+            return Ok(false);
+        };
+        if !pass_on(&mut self.ways, due.0, due.1)? {
+            return Ok(false);
+        }
+        self.handled += 1;
+        Ok(true)
+    }
+
+    // Asks the keeper, once all that the newest receipt has is on its way: whether it is.
+    fn ask<R: Wait, C: Calls>(
+        &mut self,
+        rt: &R,
+        keeper: &C,
+        event: &Event,
+    ) -> Result<bool, KeeperError> {
+        if !has_gone_on(&self.seat, self.handled) {
+            return Ok(false);
+        }
+        keeper.call(rt, &mut self.seat, event, 0)?;
+        self.handled = 0;
+        Ok(true)
+    }
+
+    // Puts what is on its way, as far as the links have room: how many parcels, or `None` beside
+    // them where a link is full.
+    fn put_all<R: Wait>(&mut self, rt: &R) -> Result<(u64, bool), KeeperError> {
+        let mut count: u64 = 0;
+        for _ in 0..MOST_STEPS {
+            match self.put_next(rt) {
+                Step::Put => count = count.saturating_add(1),
+                Step::Full => return Ok((count, false)),
+                Step::Gone => self.note_gone(),
+                Step::Nothing => {
+                    if !self.pass_next()? {
+                        return Ok((count, true));
+                    }
+                }
+            }
+        }
+        Ok((count, false))
+    }
+
+    // What is to be asked next, if something is.
+    fn next<R: Wait, C: Calls>(&mut self, rt: &R, keeper: &C) -> Option<Event> {
+        if let Some(peer) = self.gone.take() {
+            return Some(Event::Close(peer));
+        }
+        let look = keeper.look(rt);
+        let mut peers = [None; 32];
+        for way in &self.ways {
+            let peer = way.peer();
+            let place = peer.get() as usize - 1;
+            if !way.has_gone() && look.work.send[place] {
+                peers[place] = Some(peer);
+            }
+        }
+        self.pace.next(&look, &peers)
+    }
+
+    /// One turn: what is on its way is put, as far as the links have room; then something is
+    /// transmitted, what is new at once and what is out again after some turns, and put too. Where
+    /// a link's other end is gone the session with its peer is closed, once, and nothing more is put
+    /// there. It makes no entry that gives nothing. After K2, or another error of the keeper, the
+    /// next turn goes on where this one stood: nothing is lost.
+    pub fn turn<R: Wait, C: Calls>(&mut self, rt: &R, keeper: &C) -> Result<Turn, KeeperError> {
+        let (count, is_clear) = self.put_all(rt)?;
+        if count > 0 {
+            return Ok(Turn::Did(count));
+        }
+        if !is_clear {
+            return Ok(Turn::Idle);
+        }
+        let Some(event) = self.next(rt, keeper) else {
+            return Ok(Turn::Idle);
+        };
+        self.ask(rt, keeper, &event)?;
+        let (count, _) = self.put_all(rt)?;
+        Ok(Turn::Did(count))
+    }
+
+    /// Its parts, which are tied: what each way put, and then what it keeps behind its shim, is the
+    /// shim's output on the frames of the Transmits to its peer, save the last ones of the newest.
+    pub fn end(self) -> (Seat, Vec<Way<P>>)
+        ensures parts { (self.ways ≡ result.1.items) × (self.receipts ≡ result.0) }
+        ensures tied { AreTied self }
+    {
+        let Sender { seat, ways, .. } = self;
+        (seat, ways)
+    }
+}

@@ -1,0 +1,143 @@
+//! One of two spaces, with its keeper and its agents.
+
+ghost use Rattle.std.specs.Prelude.{◌≡◌, [], IfSome};
+ghost use Rattle.std.specs.List.{AllByRecursion};
+ghost use Rattle.nob_agents.specs.Ways.{IsTied};
+ghost use Rattle.nob_agents.specs.Sending.{AreApart};
+
+use nob_agents::{Carer, Sender, Taker, Turn, Way};
+use nob_fault::Shim;
+use nob_ids::{Limits, SpaceId};
+use nob_keeper::{Keeper, Seat};
+use nob_link::{PutEnd, TakeEnd};
+use nob_model_types::{Answer, Event, Outcome};
+use nob_pickle::Value;
+use nob_space::Space;
+use std::alloc::Global;
+use std::sync::Wait;
+
+/// The agents of one space, and a seat for whoever else asks.
+#[derive(Drop)]
+pub(crate) struct Agents {
+    taker: Taker<TakeEnd>,
+    sender: Sender<PutEnd>,
+    carer: Carer,
+    pub(crate) seat: Seat,
+    // How many turns running its Sender was idle where there was something to send.
+    idle_turns: u32,
+    pub(crate) carer_idled_rightly: bool,
+    pub(crate) sender_idled_rightly: bool,
+}
+
+/// A keeper of a new space, one of two.
+pub(crate) fn keeper_of(alloc: Global, space: SpaceId) -> Option<Keeper> {
+    let Ok(space) = Space::new(alloc, space, 2, Limits::default()) else {
+        return None;
+    };
+    match Keeper::new(alloc, space) {
+        Ok(keeper) => Some(keeper),
+        Err(space) => {
+            space.shut();
+            None
+        }
+    }
+}
+
+/// The agents of a keeper, between the ends of its links to and from its peer.
+pub(crate) fn agents_of(
+    alloc: Global,
+    keeper: &Keeper,
+    peer: SpaceId,
+    put: PutEnd,
+    take: TakeEnd,
+    words: Vec<u64>,
+) -> Option<Agents>
+    requires put { put.put ≡ [] }
+    requires take { take.taken ≡ [] }
+{
+    let ways = ways_of(alloc, peer, put, words)?;
+    Some(Agents {
+        taker: Taker::new(keeper.seat(), peer, take),
+        sender: Sender::new(keeper.seat(), ways, 3, 0),
+        carer: Carer::new(keeper.seat()),
+        seat: keeper.seat(),
+        idle_turns: 0,
+        carer_idled_rightly: true,
+        sender_idled_rightly: true,
+    })
+}
+
+// The one way to the peer.
+fn ways_of(alloc: Global, peer: SpaceId, put: PutEnd, words: Vec<u64>) -> Option<Vec<Way<PutEnd>>>
+    requires { put.put ≡ [] }
+    ensures tied { IfSome result (λ ways. AllByRecursion (IsTied []) ways.items) }
+    ensures apart { IfSome result (λ ways. AreApart ways.items) }
+{
+    let mut ways = Vec::new(alloc);
+    let Ok(()) = ways.push(Way::new(peer, Shim::new(words), put, Vec::new(alloc))) else {
+        return None;
+    };
+    Some(ways)
+}
+
+impl Agents {
+    /// A round: a turn of the Carer and of the Sender, and turns of the Taker until it has nothing
+    /// to do. `None` where an agent's call failed.
+    pub(crate) fn round<R: Wait>(&mut self, rt: &R, keeper: &Keeper) -> Option<()> {
+        let work = keeper.look(rt).work;
+        let may_care = work.settle
+            || work.clean
+            || work.withdraw.is_some()
+            || work.act.iter().any(|act| *act);
+        let turn = self.carer.turn(rt, keeper).ok()?;
+        if turn == Turn::Idle && may_care {
+            self.carer_idled_rightly = false;
+        }
+        self.send(rt, keeper)?;
+        for _ in 0..256 {
+            if self.taker.turn(rt, keeper).ok()? == Turn::Idle {
+                return Some(());
+            }
+        }
+        Some(())
+    }
+
+    // A turn of the Sender.
+    fn send<R: Wait>(&mut self, rt: &R, keeper: &Keeper) -> Option<()> {
+        let may_send = keeper.look(rt).work.send.iter().any(|send| *send);
+        let turn = self.sender.turn(rt, keeper).ok()?;
+        if turn == Turn::Idle && may_send {
+            self.idle_turns = self.idle_turns.saturating_add(1);
+        } else {
+            self.idle_turns = 0;
+        }
+        if self.idle_turns > 3 {
+            self.sender_idled_rightly = false;
+        }
+        Some(())
+    }
+
+    /// Claims a job, if there is one, and ends it with unit.
+    pub(crate) fn work<R: Wait>(&mut self, rt: &R, keeper: &Keeper) -> Option<()> {
+        if !keeper.look(rt).work.claim {
+            return Some(());
+        }
+        keeper.call(rt, &mut self.seat, &Event::Claim, 0).ok()?;
+        let job = match &self.seat.newest()?.result {
+            Ok(Answer::Job(job)) => job.job,
+            _ => return None,
+        };
+        let event = Event::Finish(job, Outcome::Answer(Value::Unit));
+        keeper.call(rt, &mut self.seat, &event, 0).ok()
+    }
+
+    /// Whether its Carer has withdrawn an object.
+    pub(crate) fn has_withdrawn(&self) -> bool {
+        self.carer.seat().receipts().iter().any(|receipt| {
+            match &receipt.result {
+                Ok(Answer::Withdrawn) => true,
+                _ => false,
+            }
+        })
+    }
+}

@@ -1,0 +1,111 @@
+//! Rounds of two spaces.
+
+use crate::node::{Agents, agents_of, keeper_of};
+use nob_fault::words_between;
+use nob_ids::{SpaceId, WireRep};
+use nob_keeper::Keeper;
+use nob_link::link;
+use nob_model_types::Event;
+use nob_pickle::Value;
+use std::alloc::Global;
+use std::sync::Wait;
+
+/// So many rounds are made at most where nothing is lost.
+const MOST_ROUNDS: u32 = 200;
+
+/// What came of a run.
+#[derive(Clone, Copy, Debug, PartialEq, Eq)]
+pub(crate) struct Outcome {
+    pub(crate) is_withdrawn: bool,
+    pub(crate) carers_idle_rightly: bool,
+    pub(crate) senders_idle_rightly: bool,
+}
+
+/// Two spaces take turns until the first has withdrawn its object, or for so many rounds. Of ten
+/// frames so many are lost, and others repeated or kept back.
+pub(crate) fn run<R: Wait>(rt: &R, alloc: Global, loss: u64) -> Option<Outcome> {
+    let first = SpaceId::new(1)?;
+    let second = SpaceId::new(2)?;
+    let one = keeper_of(alloc, first)?;
+    let Some(other) = keeper_of(alloc, second) else {
+        one.shut();
+        return None;
+    };
+    let outcome = between(rt, alloc, &one, &other, loss);
+    one.shut();
+    other.shut();
+    outcome
+}
+
+// The words of the shim from one space to another: none where nothing is to be lost.
+fn words_of(alloc: Global, from: SpaceId, to: SpaceId, loss: u64) -> Option<Vec<u64>> {
+    if loss == 0 {
+        return Some(Vec::new(alloc));
+    }
+    words_between(alloc, 7, from, to, loss).ok()
+}
+
+// The run of two keepers.
+fn between<R: Wait>(
+    rt: &R,
+    alloc: Global,
+    one: &Keeper,
+    other: &Keeper,
+    loss: u64,
+) -> Option<Outcome> {
+    let first = SpaceId::new(1)?;
+    let second = SpaceId::new(2)?;
+    let there = words_of(alloc, first, second, loss)?;
+    let back = words_of(alloc, second, first, loss)?;
+    let (put_there, take_there) = link(alloc, 64).ok()?;
+    let (put_back, take_back) = link(alloc, 64).ok()?;
+    let mut ours = agents_of(alloc, one, second, put_there, take_back, there)?;
+    let mut theirs = agents_of(alloc, other, first, put_back, take_there, back)?;
+    begin(rt, one, &mut ours, &first, &second)?;
+    let most = if loss == 0 {
+        MOST_ROUNDS
+    } else {
+        50 * MOST_ROUNDS
+    };
+    for _ in 0..most {
+        ours.round(rt, one)?;
+        theirs.round(rt, other)?;
+        theirs.work(rt, other)?;
+        if ours.has_withdrawn() {
+            break;
+        }
+    }
+    Some(Outcome {
+        is_withdrawn: ours.has_withdrawn(),
+        carers_idle_rightly: ours.carer_idled_rightly && theirs.carer_idled_rightly,
+        senders_idle_rightly: ours.sender_idled_rightly && theirs.sender_idled_rightly,
+    })
+}
+
+// An object is exported, sent in a call of the other space's agent, and released.
+fn begin<R: Wait>(
+    rt: &R,
+    keeper: &Keeper,
+    agents: &mut Agents,
+    space: &SpaceId,
+    peer: &SpaceId,
+) -> Option<()> {
+    keeper.call(rt, &mut agents.seat, &Event::Export, 0).ok()?;
+    let call = Event::Call {
+        target: WireRep {
+            owner: *peer,
+            index: 0,
+        },
+        method: 1,
+        value: Value::Ref(WireRep {
+            owner: *space,
+            index: 1,
+        }),
+    };
+    keeper.call(rt, &mut agents.seat, &call, 0).ok()?;
+    let release = Event::Release(WireRep {
+        owner: *space,
+        index: 1,
+    });
+    keeper.call(rt, &mut agents.seat, &release, 0).ok()
+}
