@@ -5,7 +5,7 @@ use lib.ListN.{get_elem?}
 use Rattle.crossbeam_channel.specs.Fifo.{Pushes, Pops, Forks, Merges, Learns}
 use Rattle.atomic_table.proofs.Lists.{at_set, at_snoc}
 use Rattle.nob_dispatch_lanes.specs.declared.rule.Tally.{Tally}
-use Rattle.nob_dispatch_lanes.specs.Balance.{tally, all_parts, weigh, total, IdleIsEmpty, IsBalanced}
+use Rattle.nob_dispatch_lanes.specs.Balance.{tally, all_parts, weigh, count, total, IdleIsEmpty, IsBalanced}
 
 pub weigh_append : (h : ℕ → ℕ) (xs ys : List ℕ) → weigh h (xs ++ ys) ≡ weigh h xs + weigh h ys
 weigh_append h [] ys = omega arith
@@ -129,11 +129,18 @@ module _ {T : Type 0} (number : T → ℕ) where
   -- the view with every part knows what is left
   pub learns : (end : ℕ) (v : Tally) → v.parts ≡ all_parts → Learns Balanced end v (λ queued. ((h : ℕ → ℕ) → weigh h v.given ≡ weigh h v.got + weigh h (map number queued)) × (length queued ≤ 1024))
   learns end v every queued views b at =
-      let whole : total (λ u. u.parts) views ≡ v.parts = b.whole ∙ sym every in
-      ((λ h.
-          let s = one_has (λ u. weigh h u.given) views end v at whole (λ j u e none. ap (weigh h) (b.idle j u e none).0) in
-          let t = one_has (λ u. weigh h u.got) views end v at whole (λ j u e none. ap (weigh h) (b.idle j u e none).1) in omega (arith, s, t, b.weighs h)),
-       omega (arith, b.few, map_length queued))
+      let whole : total (λ u. u.parts) views ≡ v.parts = b.whole ∙ sym every in (
+        (λ h.
+            let s = one_has (λ u. weigh h u.given) views end v at whole (λ j u e none. ap (weigh h) (b.idle j u e none).0) in
+            let t = one_has (λ u. weigh h u.got) views end v at whole (λ j u e none. ap (weigh h) (b.idle j u e none).1) in omega (arith, s, t, b.weighs h)),
+        omega (arith, b.few, map_length queued),
+      )
+
+  -- a getting by the view with every part: fewer were got than given
+  pub gets_rest : (end : ℕ) (v : Tally) → v.parts ≡ all_parts → Pops Balanced end v (λ x w. (w ≡ tally v.parts v.given (v.got ++ number x ∷ [])) × (count v.got < count v.given))
+  gets_rest end v every x queued views b at =
+      let step = gets end v (omega (arith, every)) x queued views b at in
+      let left = (learns end v every (x ∷ queued) views b at).0 (λ n. 1) in (step.0, step.1, (step.2, omega (arith, left)))
 
 -- a new lane is balanced
 pub begins : IsBalanced [] (tally all_parts [] [] ∷ [])
@@ -147,3 +154,13 @@ begins = record {
     idle_one : IdleIsEmpty (tally all_parts [] [] ∷ [])
     idle_one zero u e none = absurd (let every : all_parts ≡ u.parts = ap (λ (y : Tally). y.parts) (some-injective (tally all_parts [] []) u e) in omega arith)
     idle_one (suc end) u e none = absurd (some-ne-none u (sym e))
+
+-- numbers are as many as the list has
+pub count_is_length : (numbers : List ℕ) → count numbers ≡ length numbers
+count_is_length [] = refl
+count_is_length (x ∷ xs) = omega (arith, count_is_length xs)
+
+-- no numbers weigh nothing
+pub weigh_none : {T : Type 0} (h : ℕ → ℕ) (number : T → ℕ) (xs : List T) → length xs ≡ 0 → weigh h (map number xs) ≡ 0
+weigh_none h number [] none = refl
+weigh_none h number (x ∷ xs) none = absurd (omega (arith, none))

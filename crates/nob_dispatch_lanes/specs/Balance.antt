@@ -1,5 +1,5 @@
 -- The rule of a lane: each number that was given was got or is queued, as often as it was given. Many give, and many get.
-use Rattle.std.specs.Prelude.{◌≡◌, ℕ, ◌+◌, ◌*◌, ◌^◌, ◌≤◌, List, [], ◌∷◌, ◌++◌, length, nat_eq, if◌then◌else◌}
+use Rattle.std.specs.Prelude.{◌≡◌, ℕ, ◌+◌, ◌^◌, ◌≤◌, List, [], ◌∷◌, length, nat_eq, if◌then◌else◌}
 use mathlib.Core.Option.{some}
 use lib.ListN.{get_elem?}
 use Rattle.nob_dispatch_lanes.specs.declared.rule.Tally.{Tally}
@@ -20,6 +20,10 @@ weigh weight (number ∷ numbers) = weight number + weigh weight numbers
 -- how often a number stands in a list
 abbrev pub times : ℕ → List ℕ → ℕ
 times number numbers = weigh (λ other. if nat_eq other number then 1 else 0) numbers
+
+-- how many numbers there are
+abbrev pub count : List ℕ → ℕ
+count numbers = weigh (λ number. 1) numbers
 
 -- what each end has of something, added up
 abbrev pub total : (Tally → ℕ) → List Tally → ℕ

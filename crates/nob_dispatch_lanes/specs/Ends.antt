@@ -1,7 +1,6 @@
 -- The ends of a lane: what each knows.
-use Rattle.std.specs.Prelude.{◌≡◌, ℕ, ◌<◌, ◌≤◌, List, []}
-use Rattle.crossbeam_channel.specs.Claims.{Pass, view, IsSeatAt}
-use Rattle.crossbeam_channel.specs.declared.flavors.array.Rows.{Rows}
+use Rattle.std.specs.Prelude.{◌≡◌, ℕ, ◌<◌, List, []}
+use Rattle.crossbeam_channel.specs.Claims.{Pass, view}
 use Rattle.nob_dispatch_lanes.specs.declared.rule.Tally.{Tally}
 
 -- how many parts a pass has of the right to know the whole

@@ -4,7 +4,7 @@ ghost use Rattle.std.specs.Prelude.{◌≡◌, ◌≤◌, ◌<◌, ◌+◌, ◌+
 ghost use Rattle.std.specs.List.{AllByRecursion};
 ghost use Rattle.crossbeam_channel.specs.Claims.{IsSeatAt};
 ghost use Rattle.crossbeam_channel.specs.Ends.{sends_on, receives_on};
-ghost use Rattle.nob_dispatch_lanes.specs.Balance.{all_parts, weigh, times};
+ghost use Rattle.nob_dispatch_lanes.specs.Balance.{all_parts, weigh, times, count};
 ghost use Rattle.nob_dispatch_lanes.specs.Ends.{parts_of, given_by, got_by};
 ghost use Rattle.nob_dispatch_lanes.specs.Lanes.{AreAllEnds, IsOneLane, all_given, all_got, getting_parts, giving_parts};
 
@@ -43,7 +43,8 @@ pub fn gather<T: Numbered + Drop, R: Wait>(
         pass: first,
     } = takes.remove(0);
     let pass = join(&sender, pass, first);
-    let pass = join_getters(&sender, pass, takes);
+    let mut pass = join_getters(&sender, pass, takes);
+    sender.learn_as::<Rest>(&mut pass);
     Ok(take_rest(rt, &receiver, pass, room))
 }
 
@@ -124,7 +125,8 @@ fn take_rest<T: Numbered + Drop, R: Wait>(
 ) -> Vec<T>
     requires lane { IsSeatAt (receives_on receiver.now) pass }
     requires whole { parts_of pass ≡ all_parts }
-    requires room { (rest.items ≡ []) × (1024 ≤ vec_capacity rest) }
+    requires room { (rest.items ≡ [])
+        × (count (given_by pass) ≤ count (got_by pass) + vec_capacity rest) }
     ensures { (weight : ℕ → ℕ) → weigh weight (given_by pass)
         ≡ weigh weight (got_by pass) + weigh weight (map T.number result.items) }
 {

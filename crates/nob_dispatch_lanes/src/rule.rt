@@ -89,10 +89,11 @@ impl<T: Numbered> Lesson<T, Tally> for Get {
 pub struct Rest;
 
 impl<T: Numbered> Outcome<T, Tally> for Rest {
-    ghost use Rattle.std.specs.Prelude.{◌≡◌, ◌++◌, ◌∷◌, []};
-    ghost use Rattle.nob_dispatch_lanes.specs.Balance.{tally};
+    ghost use Rattle.std.specs.Prelude.{◌≡◌, ◌<◌, ◌++◌, ◌∷◌, []};
+    ghost use Rattle.nob_dispatch_lanes.specs.Balance.{tally, count};
 
-    ghost then = { λ v errand w. w ≡ tally v.parts v.given (v.got ++ T.number errand ∷ []) };
+    ghost then = { λ v errand w. (w ≡ tally v.parts v.given (v.got ++ T.number errand ∷ []))
+        × (count v.got < count v.given) };
 }
 
 impl<T: Numbered> Lesson<T, Tally> for Rest {

@@ -1,7 +1,6 @@
-use Rattle.std.proofs.Common.{rules, arith, ◌≡◌, ◌≤◌, ◌<◌, ◌+◌, [], length, List, ◌∷◌, ◌++◌, refl, sym, ap, ◌∙◌, length-append}
+use Rattle.std.proofs.Common.{arith, ◌≡◌, [], ◌∷◌, sym, ◌∙◌, length-append}
 use Rattle.crossbeam_channel.specs.Ends.{sends_on, receives_on}
-use Rattle.nob_dispatch_lanes.specs.Ends.{parts_of, given_by, got_by}
-use Rattle.nob_dispatch_lanes.proofs.Together.{getting_parts_push, giving_parts_push, none_got_push, none_given_push, all_push}
+use Rattle.nob_dispatch_lanes.proofs.Together.{getting_parts_push, none_got_push, all_push}
 use Rattle.nob_dispatch_lanes.proofs.making.getters.Goals as goal
 
 pub loop-first-preserved : goal.loop-first-preserved
@@ -18,4 +17,3 @@ loop-first-preserved g c =
       none_got_push ends end inv.5 c.in_ok-another.ensures.new,
       all_push (λ end. sends_on c.args.first.now.sender ≡ receives_on end.receiver) ends end inv.6 (sym inv.0 ∙ c.in_ok-another.ensures.lane),
     )
-

@@ -1,7 +1,6 @@
-use Rattle.std.proofs.Common.{rules, arith, ◌≡◌, ◌≤◌, ◌<◌, ◌+◌, [], length, List, ◌∷◌, ◌++◌, refl, sym, ap, ◌∙◌, length-append}
-use Rattle.crossbeam_channel.specs.Ends.{sends_on, receives_on}
-use Rattle.nob_dispatch_lanes.specs.Ends.{parts_of, given_by, got_by}
-use Rattle.nob_dispatch_lanes.proofs.Together.{getting_parts_push, giving_parts_push, none_got_push, none_given_push, all_push}
+use Rattle.std.proofs.Common.{arith, ◌≡◌, [], ◌∷◌, ◌∙◌, length-append}
+use Rattle.crossbeam_channel.specs.Ends.{sends_on}
+use Rattle.nob_dispatch_lanes.proofs.Together.{giving_parts_push, none_given_push, all_push}
 use Rattle.nob_dispatch_lanes.proofs.making.givers.Goals as goal
 
 pub loop-first-preserved : goal.loop-first-preserved
