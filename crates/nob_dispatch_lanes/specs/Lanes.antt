@@ -1,0 +1,41 @@
+-- All ends of a lane.
+use Rattle.std.specs.Prelude.{◌≡◌, ℕ, ◌+◌, ◌≤◌, List, [], ◌∷◌, ◌++◌}
+use Rattle.std.specs.List.{AllByRecursion}
+use Rattle.crossbeam_channel.specs.Ends.{sends_on, receives_on}
+use Rattle.nob_dispatch_lanes.specs.declared.ends.LanePut.{LanePut}
+use Rattle.nob_dispatch_lanes.specs.declared.ends.LaneTake.{LaneTake}
+use Rattle.nob_dispatch_lanes.specs.Balance.{all_parts}
+use Rattle.nob_dispatch_lanes.specs.Ends.{parts_of, given_by, got_by}
+
+-- the numbers that these ends gave
+abbrev pub all_given : {X : Type 0} → List (LanePut X) → List ℕ
+all_given [] = []
+all_given (end ∷ ends) = given_by end.pass ++ all_given ends
+
+-- the numbers that these ends got
+abbrev pub all_got : {X : Type 0} → List (LaneTake X) → List ℕ
+all_got [] = []
+all_got (end ∷ ends) = got_by end.pass ++ all_got ends
+
+-- how many parts of the right to know the whole these giving ends have
+abbrev pub giving_parts : {X : Type 0} → List (LanePut X) → ℕ
+giving_parts [] = 0
+giving_parts (end ∷ ends) = parts_of end.pass + giving_parts ends
+
+-- how many parts of the right to know the whole these getting ends have
+abbrev pub getting_parts : {X : Type 0} → List (LaneTake X) → ℕ
+getting_parts [] = 0
+getting_parts (end ∷ ends) = parts_of end.pass + getting_parts ends
+
+-- two ends are of one lane
+abbrev pub IsOneLane : {X : Type 0} → LanePut X → LaneTake X → Type 0
+IsOneLane giving getting = sends_on giving.sender ≡ receives_on getting.receiver
+
+-- these are all ends of one lane
+pub record AreAllEnds {X : Type 0} (giving : List (LanePut X)) (getting : List (LaneTake X)) : Type 0 where
+  pub one : AllByRecursion (λ give. AllByRecursion (λ get. IsOneLane give get) getting) giving
+  pub all : giving_parts giving + getting_parts getting ≡ all_parts
+
+-- a capacity that a lane may have
+abbrev pub IsCapacity : ℕ → Type 0
+IsCapacity capacity = (1 ≤ capacity) × (capacity ≤ 1024)

@@ -1,0 +1,3 @@
+pub mod Balance
+pub mod Ends
+pub mod Lanes

@@ -1,0 +1,74 @@
+//! The ends of a lane.
+
+ghost use Rattle.std.specs.Prelude.{◌≡◌, ◌≤◌, ◌++◌, ◌∷◌, [], OnErr, MatchResult, MatchOption};
+ghost use Rattle.crossbeam_channel.specs.Claims.{IsSeatAt};
+ghost use Rattle.crossbeam_channel.specs.Ends.{sends_on, receives_on, ruled_capacity};
+ghost use Rattle.nob_dispatch_lanes.specs.Ends.{parts_of, given_by, got_by, IsGiver, IsGetter};
+
+use crate::fault::Gone;
+use crate::rule::{Fair, Get, Give, Numbered, Tally};
+use crossbeam_channel::{Pass, RuledReceiver, RuledSender};
+use std::sync::Wait;
+
+/// An end of a lane that gives errands.
+#[derive(Drop)]
+pub struct LanePut<T: Numbered + Drop> {
+    pub(crate) sender: RuledSender<T, Tally, Fair>,
+    pub(crate) pass: Pass<T, Tally>,
+    pub ghost seated: { IsSeatAt (sends_on sender) pass },
+    pub ghost gives: { IsGiver pass },
+    pub ghost few: { ruled_capacity (sends_on sender) ≤ 1024 },
+}
+
+/// An end of a lane that gets errands.
+#[derive(Drop)]
+pub struct LaneTake<T: Numbered + Drop> {
+    pub(crate) receiver: RuledReceiver<T, Tally, Fair>,
+    pub(crate) pass: Pass<T, Tally>,
+    pub ghost seated: { IsSeatAt (receives_on receiver) pass },
+    pub ghost gets: { IsGetter pass },
+}
+
+impl<T: Numbered + Drop> LanePut<T> {
+    /// Gives an errand, and waits while the lane is full. H1 where nobody gets from it any more: the
+    /// errand comes back. It takes no memory.
+    pub fn give_as<R: Wait>(&mut self, rt: &R, errand: T) -> Result<(), Gone<T>>
+        ensures answer { MatchResult result
+            (λ _. given_by self.new.pass ≡ given_by self.old.pass ++ T.number errand ∷ [])
+            (λ gone. gone.errand ≡ errand) }
+        ensures err { OnErr result (given_by self.new.pass ≡ given_by self.old.pass) }
+        ensures lane { sends_on self.new.sender ≡ sends_on self.old.sender }
+        ensures parts { parts_of self.new.pass ≡ parts_of self.old.pass }
+    {
+        match self.sender.send_as::<Give, R>(rt, &mut self.pass, errand) {
+            Ok(()) => Ok(()),
+            Err(error) => Err(Gone {
+                errand: error.into_inner(),
+            }),
+        }
+    }
+}
+
+impl<T: Numbered + Drop> LaneTake<T> {
+    /// Gets the next errand, and waits while there is none. `None` where there is none and nobody
+    /// gives any more.
+    pub fn get_as<R: Wait>(&mut self, rt: &R) -> Option<T>
+        ensures answer { MatchOption result (got_by self.new.pass ≡ got_by self.old.pass)
+            (λ errand. got_by self.new.pass ≡ got_by self.old.pass ++ T.number errand ∷ []) }
+        ensures lane { receives_on self.new.receiver ≡ receives_on self.old.receiver }
+        ensures parts { parts_of self.new.pass ≡ parts_of self.old.pass }
+    {
+        self.receiver.recv_as::<Get, R>(rt, &mut self.pass).ok()
+    }
+
+    /// Gets the next errand if there is one now. It may answer that there is none while another
+    /// thread is just giving or getting one.
+    pub fn try_get_as<R: Wait>(&mut self, rt: &R) -> Option<T>
+        ensures answer { MatchOption result (got_by self.new.pass ≡ got_by self.old.pass)
+            (λ errand. got_by self.new.pass ≡ got_by self.old.pass ++ T.number errand ∷ []) }
+        ensures lane { receives_on self.new.receiver ≡ receives_on self.old.receiver }
+        ensures parts { parts_of self.new.pass ≡ parts_of self.old.pass }
+    {
+        self.receiver.try_recv_as::<Get, R>(rt, &mut self.pass).ok()
+    }
+}

@@ -1,0 +1,18 @@
+//! Lanes: the way of errands from the threads that give them to those that carry them out. Each is
+//! got by one.
+#![tactic(auto)]
+
+mod ends;
+mod fault;
+mod gathering;
+mod making;
+mod rule;
+
+pub use ends::{LanePut, LaneTake};
+pub use fault::{Gone, LaneError};
+pub use gathering::gather;
+pub use making::lane;
+pub use rule::{Fair, Numbered, Tally};
+
+/// So many errands a lane holds at most.
+pub const MOST_ERRANDS: usize = 1024;

@@ -1,0 +1,30 @@
+//! The objects of a node, by their indexes.
+
+use crate::agent::Agent;
+use crate::object::{Done, Object, Outcome};
+use nob_pickle::Value;
+
+/// An object of a node: one that an application made, or the node's agent.
+#[derive(Drop)]
+pub enum Held {
+    /// An application's.
+    Boxed(Box<dyn Object + Send>),
+    /// The agent.
+    Agent(Agent),
+}
+
+impl Object for Held {
+    fn invoke(&mut self, method: u16, args: &Value) -> Outcome {
+        match self {
+            Held::Boxed(object) => object.invoke(method, args),
+            Held::Agent(agent) => agent.invoke(method, args),
+        }
+    }
+
+    fn resume(&mut self, done: &Done) -> Outcome {
+        match self {
+            Held::Boxed(object) => object.resume(done),
+            Held::Agent(agent) => agent.resume(done),
+        }
+    }
+}
