@@ -35,7 +35,10 @@ fn line_of(alloc: Global, input: &[u8]) -> Result<(Vec<u8>, Ending), AllocError>
     match decode_all(alloc, input) {
         Ok(traces) => line_of_traces(alloc, traces.as_slice()),
         Err(TraceError::OutOfMemory) => Err(AllocError),
-        Err(error) => Ok((refusal_line(error).to_vec(alloc)?, Ending::Refused)),
+        Err(TraceError::Fault(fault)) => Ok((
+            refusal_line(TraceError::Fault(fault)).to_vec(alloc)?,
+            Ending::Refused,
+        )),
     }
 }
 
