@@ -44,12 +44,20 @@ fn said_of(alloc: Global, traces: &[Trace]) -> Result<String, AllocError> {
             let count = merged.len();
             let mut text = format!(in alloc; "merged {count}\n")?;
             merged.reverse();
-            let verdict = verdict_of(alloc, traces.len() as u16, merged.as_slice())?;
+            let verdict = verdict_of(alloc, spaces_of(traces), merged.as_slice())?;
             push_line(&mut text, verdict_line(verdict))?;
             Ok(text)
         }
         Err(CheckError::Fault(fault)) => fault_line(alloc, fault),
         Err(CheckError::OutOfMemory) => Err(AllocError),
+    }
+}
+
+// How many spaces there are, by the first trace: as many as each of accepted ones says.
+fn spaces_of(traces: &[Trace]) -> u16 {
+    match traces.first() {
+        Some(trace) => trace.n.get(),
+        None => 0,
     }
 }
 
