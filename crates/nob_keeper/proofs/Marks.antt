@@ -111,7 +111,7 @@ marked_twice marks entries before later receipt marked told long within set are 
     let here : (receipt.place == place + 1) ≡ true = (Decides-eqb receipt.place (place + 1)).1 (omega (arith, told.0)) in
     let second : length (filter (is_at (place + 1)) (receipt ∷ later)) ≡ length (filter (is_at (place + 1)) later) + 1 = rw here (omega arith) in
     let both : length (filter (is_at (place + 1)) (before ++ receipt ∷ later)) ≡ length (filter (is_at (place + 1)) before) + length (filter (is_at (place + 1)) (receipt ∷ later)) =
-        ap length (filter-append (is_at (place + 1)) before (receipt ∷ later)) ∙ length-append (filter (is_at (place + 1)) before) (filter (is_at (place + 1)) (receipt ∷ later)) in
+    ap length (filter-append (is_at (place + 1)) before (receipt ∷ later)) ∙ length-append (filter (is_at (place + 1)) before) (filter (is_at (place + 1)) (receipt ∷ later)) in
     omega (arith, one, first, second, both)
 
 -- where an entry isn't marked no receipt is of it

@@ -103,11 +103,7 @@ fn are_all_set(marks: &[bool]) -> bool
 }
 
 // Whether the receipts of seats are those of a trace's entries, each once.
-pub(crate) fn judge(
-    alloc: Global,
-    entries: &[Stamped],
-    seats: &[Seat],
-) -> Result<(), KeeperError>
+pub(crate) fn judge(alloc: Global, entries: &[Stamped], seats: &[Seat]) -> Result<(), KeeperError>
     ensures ok { OnOk result (closing.AreOf entries.now (closing.receipts_of seats.now)) }
     ensures seats { IfErr result (λ error. error ≡ KeeperError.Seats
         → closing.AreOf entries.now (closing.receipts_of seats.now) → ⊥) }

@@ -137,7 +137,9 @@ impl Keeper {
     pub fn wait_past<R: Wait>(&self, rt: &R, kind: WorkKind, place: u64) -> Wake {
         let mut held = self.held.lock(rt);
         held.desk.park(kind);
-        let mut held = self.place_of(kind).wait_while(rt, held, |held| held.idles(kind, place));
+        let mut held = self
+            .place_of(kind)
+            .wait_while(rt, held, |held| held.idles(kind, place));
         held.desk.unpark(kind);
         held.wake_of(kind)
     }

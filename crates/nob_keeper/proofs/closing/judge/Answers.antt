@@ -19,7 +19,7 @@ returns-clause-ok c =
     let are : closing.AreMarks marks entries (closing.receipts_of c.args.seats.now) = marked.marks [] refl (begun entries c.in-Ok.marks.items none) in
     let long : length marks ≡ length entries = marked.len ∙ ap length none ∙ length-replicate (length entries) false in
     let set : (place : ℕ) → place < length marks → get_or marks place false ≡ true =
-        subst (λ (marks : List Bool). (place : ℕ) → place < length marks → get_or marks place false ≡ true) c.as_slice.ensures.value ((c.if-not-are_all_set.ensures {u = tt}).set refl) in
+    subst (λ (marks : List Bool). (place : ℕ) → place < length marks → get_or marks place false ≡ true) c.as_slice.ensures.value ((c.if-not-are_all_set.ensures {u = tt}).set refl) in
     all_marks marks entries (closing.receipts_of c.args.seats.now) are long set
 
 pub returns-then-not-mark_all-clause-seats : goal.returns-then-not-mark_all-clause-seats
@@ -35,5 +35,5 @@ returns-then-not-are_all_set-clause-seats c is are =
     let none : c.in-Ok.marks.items ≡ replicate (length entries) false = c.in-Ok.ensures {u = tt} in
     let long : length marks ≡ length entries = marked.len ∙ ap length none ∙ length-replicate (length entries) false in
     let unset : (place : ℕ) × (place < length marks) × (get_or marks place false ≡ false) =
-        subst (λ (marks : List Bool). (place : ℕ) × (place < length marks) × (get_or marks place false ≡ false)) c.as_slice.ensures.value ((c.if-not-are_all_set.ensures {u = tt}).unset refl) in
+    subst (λ (marks : List Bool). (place : ℕ) × (place < length marks) × (get_or marks place false ≡ false)) c.as_slice.ensures.value ((c.if-not-are_all_set.ensures {u = tt}).unset refl) in
     unmarked_there marks entries (closing.receipts_of c.args.seats.now) unset.0 (marked.marks [] refl (begun entries c.in-Ok.marks.items none)) long unset.1 unset.2 are

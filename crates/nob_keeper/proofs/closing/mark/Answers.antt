@@ -17,10 +17,11 @@ loop-receipt-preserved c =
     let more : take (i + 1) receipts ≡ take i receipts ++ receipt ∷ [] = take_more receipts i receipt c.loop-receipt-test.true ∙ ap (λ (x : ReceiptOf). take i receipts ++ x ∷ []) (sym c.receipt-item.is) in
     let told : Told receipt c.args.entries.now = (c.if-not-is_told.ensures {u = tt}).0 refl in
     let unset : get_or marks (receipt.place - 1) false ≡ false = sym (subst (λ (b : Bool). b ≡ get_or marks (receipt.place - 1) b) c.if-index.false c.index.ensures) in
-    let within : receipt.place - 1 < length marks = subst (λ (k : ℕ). receipt.place - 1 < k) (sym c.loop-receipt.invariant.0) (slice_get_within c.args.entries.now (receipt.place - 1) (entry_of receipt) told.1) in
-    (length-set marks (receipt.place - 1) _ ∙ c.loop-receipt.invariant.0,
-    λ before are. subst (closing.AreMarks _ c.args.entries.now) (append_assoc before (take i receipts) (receipt ∷ []) ∙ ap (λ (rs : List ReceiptOf). before ++ rs) (sym more))
-    (marks_next marks c.args.entries.now (before ++ take i receipts) receipt (c.loop-receipt.invariant.1 before are) told within unset))
+    let within : receipt.place - 1 < length marks = subst (λ (k : ℕ). receipt.place - 1 < k) (sym c.loop-receipt.invariant.0) (slice_get_within c.args.entries.now (receipt.place - 1) (entry_of receipt) told.1) in (
+      length-set marks (receipt.place - 1) _ ∙ c.loop-receipt.invariant.0,
+      λ before are. subst (closing.AreMarks _ c.args.entries.now) (append_assoc before (take i receipts) (receipt ∷ []) ∙ ap (λ (rs : List ReceiptOf). before ++ rs) (sym more))
+          (marks_next marks c.args.entries.now (before ++ take i receipts) receipt (c.loop-receipt.invariant.1 before are) told within unset),
+    )
 
 pub returns-clause-marks : goal.returns-clause-marks
 returns-clause-marks c before done are =

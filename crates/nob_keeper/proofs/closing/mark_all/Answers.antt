@@ -12,11 +12,12 @@ loop-seat-preserved c =
     let seat = c.seat-item.result in
     let marked = c.if-not-mark.ensures {u = tt} in
     let more : closing.receipts_of (take (i + 1) seats) ≡ closing.receipts_of (take i seats) ++ reverse seat =
-        ap closing.receipts_of (take_more seats i seat c.loop-seat-test.true ∙ ap (λ (x : List ReceiptOf). take i seats ++ x ∷ []) (sym c.seat-item.is)) ∙ receipts_more (take i seats) seat in
-    (marked.len ∙ c.loop-seat.invariant.0,
-    λ before are. subst (closing.AreMarks c.mark.new.marks.items c.args.entries.now)
-    (append_assoc before (closing.receipts_of (take i seats)) c.receipts.result.now ∙ ap (λ (rs : List ReceiptOf). before ++ rs) (ap (λ (rs : List ReceiptOf). closing.receipts_of (take i seats) ++ rs) c.receipts.ensures ∙ sym more))
-    (marked.marks (before ++ closing.receipts_of (take i seats)) refl (c.loop-seat.invariant.1 before are)))
+    ap closing.receipts_of (take_more seats i seat c.loop-seat-test.true ∙ ap (λ (x : List ReceiptOf). take i seats ++ x ∷ []) (sym c.seat-item.is)) ∙ receipts_more (take i seats) seat in (
+      marked.len ∙ c.loop-seat.invariant.0,
+      λ before are. subst (closing.AreMarks c.mark.new.marks.items c.args.entries.now)
+          (append_assoc before (closing.receipts_of (take i seats)) c.receipts.result.now ∙ ap (λ (rs : List ReceiptOf). before ++ rs) (ap (λ (rs : List ReceiptOf). closing.receipts_of (take i seats) ++ rs) c.receipts.ensures ∙ sym more))
+          (marked.marks (before ++ closing.receipts_of (take i seats)) refl (c.loop-seat.invariant.1 before are)),
+    )
 
 pub returns-clause-marks : goal.returns-clause-marks
 returns-clause-marks c before done are =
