@@ -3,6 +3,7 @@
 use crate::codecs::CodecCase;
 use crate::ends::EndCase;
 use crate::sets::SetCase;
+use crate::shims::{Asked, ShimCase};
 use crate::tables::TableCase;
 use crate::transit::PinCase;
 use nob_case_texts::{Unanswered, deep_value, items, value, words};
@@ -25,6 +26,8 @@ pub enum Case {
     Table(TableCase),
     /// A call on dirty sets.
     Set(SetCase),
+    /// A question about the shim of a link.
+    Shim(ShimCase),
     /// The calls on a pin table from its beginning to its end.
     Pins(Vec<PinCase>),
 }
@@ -69,6 +72,7 @@ fn lone_case(alloc: Global, words: &[&str]) -> Result<Case, Unanswered> {
         ["plain", words @ ..] => Ok(Case::Plain(end_case(alloc, words)?)),
         ["table", words @ ..] => Ok(Case::Table(table_case(alloc, words)?)),
         ["dirty", words @ ..] => Ok(Case::Set(set_case(alloc, words)?)),
+        ["shim", words @ ..] => Ok(Case::Shim(shim_case(alloc, words)?)),
         ["encode", words @ ..] => Ok(Case::Codec(writing_case(alloc, words)?)),
         _ => Ok(Case::Codec(codec_case(alloc, words)?)),
     }
@@ -253,6 +257,28 @@ fn listing_case(call: &str, index: u64, client: SpaceId) -> Result<SetCase, Unan
         "dirty" => Ok(SetCase::Dirty(index, client)),
         "clean" => Ok(SetCase::Clean(index, client)),
         "lists" => Ok(SetCase::Lists(index, client)),
+        _ => Err(Unanswered::NoCase),
+    }
+}
+
+fn shim_case(alloc: Global, words: &[&str]) -> Result<ShimCase, Unanswered> {
+    let [asked, "seed", seed, "from", from, "to", to, "loss", loss] = words else {
+        return Err(Unanswered::NoCase);
+    };
+    Ok(ShimCase {
+        asked: asked_of(asked)?,
+        seed: words::number(alloc, seed)?,
+        from: words::space(alloc, from)?,
+        to: words::space(alloc, to)?,
+        loss: words::number(alloc, loss)?,
+    })
+}
+
+fn asked_of(asked: &str) -> Result<Asked, Unanswered> {
+    match asked {
+        "words" => Ok(Asked::Words),
+        "parcels" => Ok(Asked::Parcels),
+        "output" => Ok(Asked::Output),
         _ => Err(Unanswered::NoCase),
     }
 }

@@ -10,6 +10,7 @@ mod codecs;
 mod ends;
 mod plain;
 mod sets;
+mod shims;
 mod stage;
 mod tables;
 mod transit;

@@ -3,7 +3,7 @@
 use crate::case::{Case, RepeatedCase, case_of};
 use crate::plain::Plain;
 use crate::tables::CountedTable;
-use crate::{codecs, ends, plain, sets, tables, transit};
+use crate::{codecs, ends, plain, sets, shims, tables, transit};
 use nob_case_texts::{Answer, Unanswered, text_of};
 use nob_dirty::DirtySets;
 use nob_session::Session;
@@ -80,6 +80,7 @@ impl Stage {
             Case::Plain(case) => plain::make(self.alloc, &mut self.plain, case),
             Case::Table(case) => tables::make(self.alloc, &mut self.table, case),
             Case::Pins(cases) => transit::answer(self.alloc, cases),
+            Case::Shim(case) => shims::answer(self.alloc, case),
             Case::Set(case) => sets::make(self.alloc, &mut self.sets, case),
         }
     }
