@@ -1,3 +1,4 @@
 pub mod Accounts
 pub mod Seats
 pub mod Marks
+pub mod Crossing

@@ -8,7 +8,7 @@ ghost use Rattle.nob_agents.specs.Sending.{AreApart};
 use nob_agents::{Carer, Sender, Taker, Turn, Way};
 use nob_fault::Shim;
 use nob_ids::{Limits, SpaceId};
-use nob_keeper::{Keeper, Seat};
+use nob_keeper::{Keeper, KeeperError, Seat};
 use nob_link::{PutEnd, TakeEnd};
 use nob_model_types::{Answer, Event, Outcome};
 use nob_pickle::Value;
@@ -80,6 +80,16 @@ fn ways_of(alloc: Global, peer: SpaceId, put: PutEnd, words: Vec<u64>) -> Option
     Some(ways)
 }
 
+// What a turn came to. For want of memory it did nothing, and the next one goes on. `None` where an
+// agent's call failed.
+fn unless_failed(turn: Result<Turn, KeeperError>) -> Option<Turn> {
+    match turn {
+        Ok(turn) => Some(turn),
+        Err(KeeperError::OutOfMemory) => Some(Turn::Did(0)),
+        Err(_) => None,
+    }
+}
+
 impl Agents {
     /// A round: a turn of the Carer and of the Sender, and turns of the Taker until it has nothing
     /// to do. `None` where an agent's call failed.
@@ -89,14 +99,15 @@ impl Agents {
             || work.clean
             || work.withdraw.is_some()
             || work.act.iter().any(|act| *act);
-        let turn = self.carer.turn(rt, keeper).ok()?;
+        let turn = unless_failed(self.carer.turn(rt, keeper))?;
         if turn == Turn::Idle && may_care {
             self.carer_idled_rightly = false;
         }
         self.send(rt, keeper)?;
         for _ in 0..256 {
-            if self.taker.turn(rt, keeper).ok()? == Turn::Idle {
-                return Some(());
+            match unless_failed(self.taker.turn(rt, keeper))? {
+                Turn::Did(_) => {}
+                Turn::Idle | Turn::End => return Some(()),
             }
         }
         Some(())
@@ -105,7 +116,7 @@ impl Agents {
     // A turn of the Sender.
     fn send<R: Wait>(&mut self, rt: &R, keeper: &Keeper) -> Option<()> {
         let may_send = keeper.look(rt).work.send.iter().any(|send| *send);
-        let turn = self.sender.turn(rt, keeper).ok()?;
+        let turn = unless_failed(self.sender.turn(rt, keeper))?;
         if turn == Turn::Idle && may_send {
             self.idle_turns = self.idle_turns.saturating_add(1);
         } else {
@@ -122,13 +133,44 @@ impl Agents {
         if !keeper.look(rt).work.claim {
             return Some(());
         }
-        keeper.call(rt, &mut self.seat, &Event::Claim, 0).ok()?;
+        self.ask(rt, keeper, &Event::Claim)?;
         let job = match &self.seat.newest()?.result {
             Ok(Answer::Job(job)) => job.job,
             _ => return None,
         };
-        let event = Event::Finish(job, Outcome::Answer(Value::Unit));
-        keeper.call(rt, &mut self.seat, &event, 0).ok()
+        self.ask(
+            rt,
+            keeper,
+            &Event::Finish(job, Outcome::Answer(Value::Unit)),
+        )
+    }
+
+    /// A call of the seat that no agent has; once more where memory was wanted.
+    pub(crate) fn ask<R: Wait>(&mut self, rt: &R, keeper: &Keeper, event: &Event) -> Option<()> {
+        match keeper.call(rt, &mut self.seat, event, 0) {
+            Err(KeeperError::OutOfMemory) => keeper.call(rt, &mut self.seat, event, 0).ok(),
+            result => result.ok(),
+        }
+    }
+
+    /// The seats, once the agents have ended.
+    pub(crate) fn into_seats(self, alloc: Global) -> Option<Vec<Seat>> {
+        let Agents {
+            taker,
+            sender,
+            carer,
+            seat,
+            idle_turns: _,
+            carer_idled_rightly: _,
+            sender_idled_rightly: _,
+        } = self;
+        let (taking, _end, _due) = taker.end();
+        let (sending, _ways) = sender.end();
+        let mut seats = Vec::new(alloc);
+        for seat in [taking, sending, carer.end(), seat] {
+            seats.push(seat).ok()?;
+        }
+        Some(seats)
     }
 
     /// Whether its Carer has withdrawn an object.

@@ -37,6 +37,43 @@ pub(crate) fn run<R: Wait>(rt: &R, alloc: Global, loss: u64) -> Option<Outcome> 
     outcome
 }
 
+/// The first space's object is on its way to the second, when the second's agents go away: whether
+/// the first closes the session and withdraws the object.
+pub(crate) fn run_alone<R: Wait>(rt: &R, alloc: Global) -> Option<bool> {
+    let first = SpaceId::new(1)?;
+    let second = SpaceId::new(2)?;
+    let one = keeper_of(alloc, first)?;
+    let Some(other) = keeper_of(alloc, second) else {
+        one.shut();
+        return None;
+    };
+    let is_withdrawn = left_alone(rt, alloc, &one, &other);
+    one.shut();
+    other.shut();
+    is_withdrawn
+}
+
+// The same of two keepers.
+fn left_alone<R: Wait>(rt: &R, alloc: Global, one: &Keeper, other: &Keeper) -> Option<bool> {
+    let (mut ours, mut theirs) = agents_of_both(alloc, one, other, 0)?;
+    begin(rt, one, &mut ours)?;
+    for _ in 0..3 {
+        ours.round(rt, one)?;
+        theirs.round(rt, other)?;
+    }
+    if ours.has_withdrawn() {
+        return Some(false);
+    }
+    drop(theirs);
+    for _ in 0..MOST_ROUNDS {
+        ours.round(rt, one)?;
+        if ours.has_withdrawn() {
+            return Some(true);
+        }
+    }
+    Some(false)
+}
+
 // The words of the shim from one space to another: none where nothing is to be lost.
 fn words_of(alloc: Global, from: SpaceId, to: SpaceId, loss: u64) -> Option<Vec<u64>> {
     if loss == 0 {
@@ -53,15 +90,8 @@ fn between<R: Wait>(
     other: &Keeper,
     loss: u64,
 ) -> Option<Outcome> {
-    let first = SpaceId::new(1)?;
-    let second = SpaceId::new(2)?;
-    let there = words_of(alloc, first, second, loss)?;
-    let back = words_of(alloc, second, first, loss)?;
-    let (put_there, take_there) = link(alloc, 64).ok()?;
-    let (put_back, take_back) = link(alloc, 64).ok()?;
-    let mut ours = agents_of(alloc, one, second, put_there, take_back, there)?;
-    let mut theirs = agents_of(alloc, other, first, put_back, take_there, back)?;
-    begin(rt, one, &mut ours, &first, &second)?;
+    let (mut ours, mut theirs) = agents_of_both(alloc, one, other, loss)?;
+    begin(rt, one, &mut ours)?;
     let most = if loss == 0 {
         MOST_ROUNDS
     } else {
@@ -82,30 +112,40 @@ fn between<R: Wait>(
     })
 }
 
-// An object is exported, sent in a call of the other space's agent, and released.
-fn begin<R: Wait>(
-    rt: &R,
-    keeper: &Keeper,
-    agents: &mut Agents,
-    space: &SpaceId,
-    peer: &SpaceId,
-) -> Option<()> {
-    keeper.call(rt, &mut agents.seat, &Event::Export, 0).ok()?;
+/// The agents of the first space and of the second, with a link each way. Of ten frames so many are
+/// lost, and others repeated or kept back.
+pub(crate) fn agents_of_both(
+    alloc: Global,
+    one: &Keeper,
+    other: &Keeper,
+    loss: u64,
+) -> Option<(Agents, Agents)> {
+    let first = SpaceId::new(1)?;
+    let second = SpaceId::new(2)?;
+    let there = words_of(alloc, first, second, loss)?;
+    let back = words_of(alloc, second, first, loss)?;
+    let (put_there, take_there) = link(alloc, 64).ok()?;
+    let (put_back, take_back) = link(alloc, 64).ok()?;
+    let ours = agents_of(alloc, one, second, put_there, take_back, there)?;
+    let theirs = agents_of(alloc, other, first, put_back, take_there, back)?;
+    Some((ours, theirs))
+}
+
+/// The first space exports an object, sends it in a call of the second's agent, and releases it.
+pub(crate) fn begin<R: Wait>(rt: &R, keeper: &Keeper, agents: &mut Agents) -> Option<()> {
+    agents.ask(rt, keeper, &Event::Export)?;
+    let object = WireRep {
+        owner: SpaceId::new(1)?,
+        index: 1,
+    };
     let call = Event::Call {
         target: WireRep {
-            owner: *peer,
+            owner: SpaceId::new(2)?,
             index: 0,
         },
         method: 1,
-        value: Value::Ref(WireRep {
-            owner: *space,
-            index: 1,
-        }),
+        value: Value::Ref(object),
     };
-    keeper.call(rt, &mut agents.seat, &call, 0).ok()?;
-    let release = Event::Release(WireRep {
-        owner: *space,
-        index: 1,
-    });
-    keeper.call(rt, &mut agents.seat, &release, 0).ok()
+    agents.ask(rt, keeper, &call)?;
+    agents.ask(rt, keeper, &Event::Release(object))
 }

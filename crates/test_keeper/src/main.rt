@@ -4,11 +4,13 @@
 
 mod short;
 mod spaces;
+mod threads;
 
 use std::alloc::Global;
 use std::io;
 use std::process::ExitCode;
 use std::sync::Wait;
+use std::thread::Threads;
 
 fn main(rt: HostRuntime) -> ExitCode {
     match run(&rt, rt.alloc()) {
@@ -18,7 +20,7 @@ fn main(rt: HostRuntime) -> ExitCode {
 }
 
 // Makes the runs that standard input names.
-fn run<R: Wait + Input + Print>(rt: &R, alloc: Global) -> io::Result<()> {
+fn run<R: Threads + Wait + Sync + Input + Print>(rt: &R, alloc: Global) -> io::Result<()> {
     for line in rt.lines(alloc) {
         let line = line?;
         match number_of(rt, alloc, line.as_str()) {
@@ -30,9 +32,11 @@ fn run<R: Wait + Input + Print>(rt: &R, alloc: Global) -> io::Result<()> {
 }
 
 // What comes of the run of this name: `None` where it failed.
-fn number_of<R: Wait>(rt: &R, alloc: Global, name: &str) -> Option<usize> {
+fn number_of<R: Threads + Wait + Sync>(rt: &R, alloc: Global, name: &str) -> Option<usize> {
     match name {
+        "pairs" => threads::pairs(rt, alloc),
         "short" => short::run(rt, alloc),
+        "woken" => threads::woken(rt, alloc),
         _ => None,
     }
 }

@@ -31,8 +31,8 @@ pub(crate) fn run<R: Wait>(rt: &R, alloc: Global) -> Option<usize> {
     if done { count } else { None }
 }
 
-// Ends a keeper, once more where memory was wanted: the number of entries.
-fn ends(keeper: Keeper, seats: Vec<Seat>) -> Option<usize> {
+/// Ends a keeper, once more where memory was wanted: the number of entries.
+pub(crate) fn ends(keeper: Keeper, seats: Vec<Seat>) -> Option<usize> {
     match keeper.close_with(seats) {
         Ok(trace) => Some(trace.entries.len()),
         Err((KeeperError::OutOfMemory, keeper, seats)) => ends_at_last(keeper, seats),
@@ -56,19 +56,20 @@ fn ends_at_last(keeper: Keeper, seats: Vec<Seat>) -> Option<usize> {
 
 // Whether all calls are answered as they must be.
 fn calls<R: Wait>(rt: &R, keeper: &Keeper, seat: &mut Seat) -> bool {
-    if !asks(rt, keeper, seat, &Event::Export) {
-        return false;
-    }
-    let exported = match seat.newest() {
-        Some(receipt) => match &receipt.result {
-            Ok(Answer::Exported(rep)) => Some(*rep),
-            _ => None,
-        },
-        None => None,
-    };
-    match exported {
+    match exported(rt, keeper, seat) {
         Some(rep) => calls_with(rt, keeper, seat, &rep),
         None => false,
+    }
+}
+
+/// A new object. Where memory is wanted, it is asked for once more.
+pub(crate) fn exported<R: Wait>(rt: &R, keeper: &Keeper, seat: &mut Seat) -> Option<WireRep> {
+    if !asks(rt, keeper, seat, &Event::Export) {
+        return None;
+    }
+    match &seat.newest()?.result {
+        Ok(Answer::Exported(rep)) => Some(*rep),
+        _ => None,
     }
 }
 

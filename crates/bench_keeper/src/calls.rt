@@ -1,0 +1,98 @@
+//! Calls of one keeper by several threads.
+
+use nob_ids::{Limits, SpaceId, WireRep};
+use nob_keeper::{Keeper, Seat};
+use nob_model_types::{Answer, Event};
+use nob_space::Space;
+use std::alloc::Global;
+use std::sync::Wait;
+use std::thread::{self, Threads};
+
+/// So many threads, 1, 2 or 4, each hold one object so many times once more and give that back:
+/// how many of these calls were answered. `None` where there is no memory.
+pub(crate) fn run_on<R: Threads + Wait + Sync>(
+    rt: &R,
+    alloc: Global,
+    threads: u32,
+    pairs: u32,
+) -> Option<u64> {
+    let Ok(space) = Space::new(alloc, SpaceId::new(1)?, 2, Limits::default()) else {
+        return None;
+    };
+    let keeper = match Keeper::new(alloc, space) {
+        Ok(keeper) => keeper,
+        Err(space) => {
+            space.shut();
+            return None;
+        }
+    };
+    let count = by_threads(rt, &keeper, threads, pairs);
+    keeper.shut();
+    count
+}
+
+// The calls of all threads.
+fn by_threads<R: Threads + Wait + Sync>(
+    rt: &R,
+    keeper: &Keeper,
+    threads: u32,
+    pairs: u32,
+) -> Option<u64> {
+    let rep = exported(rt, keeper)?;
+    match threads {
+        1 => Some(by_one(rt, keeper, rep, pairs)),
+        2 => Some(by_two(rt, keeper, rep, pairs)),
+        4 => {
+            let (one, other) = thread::join(
+                rt,
+                move || by_two(rt, keeper, rep, pairs),
+                move || by_two(rt, keeper, rep, pairs),
+            );
+            one.checked_add(other)
+        }
+        _ => None,
+    }
+}
+
+// The calls of two threads.
+fn by_two<R: Threads + Wait + Sync>(rt: &R, keeper: &Keeper, rep: WireRep, pairs: u32) -> u64 {
+    let (one, other) = thread::join(
+        rt,
+        move || by_one(rt, keeper, rep, pairs),
+        move || by_one(rt, keeper, rep, pairs),
+    );
+    one.saturating_add(other)
+}
+
+// The calls of one thread, with a seat of its own.
+fn by_one<R: Wait>(rt: &R, keeper: &Keeper, rep: WireRep, pairs: u32) -> u64 {
+    let mut seat = keeper.seat();
+    let mut count: u64 = 0;
+    for _ in 0..pairs {
+        for event in [Event::Dup(rep), Event::Release(rep)] {
+            if is_answered(rt, keeper, &mut seat, &event) {
+                count = count.saturating_add(1);
+            }
+        }
+    }
+    count
+}
+
+// Whether the space does this.
+fn is_answered<R: Wait>(rt: &R, keeper: &Keeper, seat: &mut Seat, event: &Event) -> bool {
+    keeper.call(rt, seat, event, 0).is_ok()
+        && match seat.newest() {
+            Some(receipt) => receipt.result.is_ok(),
+            None => false,
+        }
+}
+
+// A new object.
+fn exported<R: Wait>(rt: &R, keeper: &Keeper) -> Option<WireRep> {
+    let mut seat = keeper.seat();
+    keeper.call(rt, &mut seat, &Event::Export, 0).ok()?;
+    match &seat.newest()?.result {
+        Ok(Answer::Exported(rep)) => Some(*rep),
+        _ => None,
+    }
+}

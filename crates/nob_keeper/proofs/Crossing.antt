@@ -1,0 +1,122 @@
+-- A space, and so what a keeper has under its lock, may go to another thread, and so may a seat; a keeper may be shared among threads.
+use mathlib.Core.List.{[], ◌∷◌}
+use denote.Param.Send.{IsSend, IsSync, AllSend, sendable, recorded_send, recorded_sync, struct_send, struct_sync, view_send}
+use denote.Struct.Declared.{shape}
+use denote.Struct.Field.{u64-field}
+use denote.Struct.Struct.{Struct}
+use Rattle.std.proofs.Crossing.{crosses, Vec-send, Vec-sync}
+use Rattle.std.specs.contracts.result.Result as Result
+use Rattle.std.specs.contracts.sync.Condvar as Condvar
+use Rattle.nob_dirty.proofs.sets.DirtySets.TheSendSync as dirty
+use Rattle.nob_keeper.specs.contracts.held.Held as Held
+use Rattle.nob_keeper.specs.contracts.keeper.Keeper as Keeper
+use Rattle.nob_keeper.specs.contracts.kept.Kept as Kept
+use Rattle.nob_keeper.specs.contracts.kept.Kept.TheInside as KeptInside
+use Rattle.nob_keeper.specs.contracts.receipt.Receipt as Receipt
+use Rattle.nob_keeper.specs.contracts.seat.Seat as Seat
+use Rattle.nob_keeper.specs.contracts.seat.Seat.TheInside as SeatInside
+use Rattle.nob_model.specs.contracts.Message as Message
+use Rattle.nob_model.specs.contracts.OwnCall as OwnCall
+use Rattle.nob_model.specs.contracts.Run as Run
+use Rattle.nob_model.proofs.OwnCall.TheSendSync as own_call
+use Rattle.nob_model_end.proofs.entry.Frames.TheSendSync as frames
+use Rattle.nob_model_types.specs.contracts.answer.Answer as Answer
+use Rattle.nob_model_types.specs.contracts.event.Event as Event
+use Rattle.nob_model_types.specs.contracts.refusal.Refusal as Refusal
+use Rattle.nob_model_words.proofs.message.RefCopies.TheSendSync as copies
+use Rattle.nob_pickle.proofs.value.Values.TheLaws.TheKnot as values
+use Rattle.nob_pins.proofs.table.PinTable.TheSendSync as pins
+use Rattle.nob_session.proofs.session.Session.TheSendSync as session
+use Rattle.nob_session.specs.contracts.session.Session as Session
+use Rattle.nob_space.specs.contracts.space.Space as Space
+use Rattle.nob_space.specs.contracts.space.Space.TheInside as SpaceInside
+use Rattle.nob_space_messages.proofs.list.SlabList.TheSendSync as lists
+use Rattle.nob_space_messages.specs.contracts.list.SlabList as SlabList
+use Rattle.nob_space_state.specs.contracts.parts.Parts as Parts
+use Rattle.nob_table.proofs.table.ObjectTable.TheSendSync as table
+use Rattle.nob_trace.specs.contracts.stamped.Stamped as Stamped
+
+messages_send : IsSend (SlabList.the_row Message.the_row)
+messages_send =
+    let message : IsSend Message.the_row = search (copies.the_send, crosses, values.crosses, sendable) depth 60 fits 20000 in
+    lists.the_send Message.the_row message
+
+runs_send : IsSend (SlabList.the_row Run.the_row)
+runs_send =
+    let run : IsSend Run.the_row = search (copies.the_send, crosses, values.crosses, sendable) depth 60 fits 20000 in
+    lists.the_send Run.the_row run
+
+parts_send : IsSend (Struct (shape Parts.the_type))
+parts_send =
+    let sessions = Vec-send Session.the_row session.the_send in
+    let calls = Vec-send OwnCall.the_row own_call.the_send in
+    let numbers : AllSend (u64-field.row ∷ u64-field.row ∷ []) = search sendable in
+    struct_send (shape Parts.the_type)
+    (sessions, (table.the_send, (dirty.the_send, (pins.the_send, (messages_send, (messages_send, (runs_send, (messages_send, (calls, numbers)))))))))
+
+space_inside_send : IsSend SpaceInside.the_row
+space_inside_send =
+    let T = SpaceInside.the_type in
+    recorded_send (Struct (shape T)) T.D T.to T.to_one (struct_send (shape T)
+    (search sendable depth 30, (search sendable depth 30, (search sendable depth 30, (parts_send, tt)))))
+
+pub space_send : IsSend Space.the_row
+space_send = view_send SpaceInside.the_row _ _ _ _ space_inside_send
+
+event_send : IsSend (Event.the_field).row
+event_send = search (crosses, values.crosses, sendable) depth 60 fits 20000
+
+answer_send : IsSend Answer.the_row
+answer_send = search (frames.the_send, crosses, values.crosses, sendable) depth 60 fits 20000
+
+result_send : IsSend (Result.the_field Answer.the_row Refusal.the_row).row
+result_send = search (answer_send, sendable) depth 60 fits 20000
+
+stamped_send : IsSend Stamped.the_row
+stamped_send =
+    let T = Stamped.the_type in
+    recorded_send (Struct (shape T)) T.D T.to T.to_one (struct_send (shape T) (search sendable, (event_send, (result_send, tt))))
+
+kept_inside_send : IsSend KeptInside.the_row
+kept_inside_send =
+    let T = KeptInside.the_type in
+    recorded_send (Struct (shape T)) T.D T.to T.to_one (struct_send (shape T)
+    (space_send, (search sendable depth 30, (Vec-send Stamped.the_row stamped_send, tt))))
+
+pub kept_send : IsSend Kept.the_row
+kept_send = view_send KeptInside.the_row _ _ _ _ kept_inside_send
+
+held_send : IsSend Held.the_row
+held_send =
+    let T = Held.the_type in
+    recorded_send (Struct (shape T)) T.D T.to T.to_one (struct_send (shape T)
+    (kept_send, (search (crosses, sendable) depth 60, tt)))
+
+condvar_sync : IsSync Condvar.the_row
+condvar_sync = search (crosses, sendable) depth 60 fits 20000
+
+condvar_field_sync : IsSync (Condvar.the_field).row
+condvar_field_sync = search (crosses, sendable) depth 60 fits 20000
+
+pub keeper_sync : IsSync Keeper.the_row
+keeper_sync =
+    let T = Keeper.the_type in
+    let one = condvar_field_sync in
+    recorded_sync (Struct (shape T)) T.D T.to T.to_one (struct_sync (shape T) (
+      search (crosses, sendable) depth 60,
+      (search (held_send, crosses, sendable) depth 60, (one, (one, (one, (Vec-sync Condvar.the_row condvar_sync, tt))))),
+    ))
+
+receipt_send : IsSend Receipt.the_row
+receipt_send =
+    let T = Receipt.the_type in
+    recorded_send (Struct (shape T)) T.D T.to T.to_one (struct_send (shape T)
+    (search sendable, (search sendable, (event_send, (result_send, tt)))))
+
+seat_inside_send : IsSend SeatInside.the_row
+seat_inside_send =
+    let T = SeatInside.the_type in
+    recorded_send (Struct (shape T)) T.D T.to T.to_one (struct_send (shape T) (Vec-send Receipt.the_row receipt_send, tt))
+
+pub seat_send : IsSend Seat.the_row
+seat_send = view_send SeatInside.the_row _ _ _ _ seat_inside_send
