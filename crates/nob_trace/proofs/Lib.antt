@@ -14,3 +14,4 @@ pub mod OneEvent
 pub mod OneResult
 pub mod OneTrace
 pub mod OneFault
+pub mod Digits

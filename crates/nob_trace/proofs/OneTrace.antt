@@ -80,12 +80,12 @@ same_window w v r p o q same = subst (λ (x : ℕ). (o : IsWindow x) → limits_
 same_retry : (w r s : ℕ) (p : IsWindow w) (q : IsRetry r) (o : IsRetry s) → r ≡ s → limits_of w r p q ≡ limits_of w s p o
 same_retry w r s p q o same = subst (λ (x : ℕ). (o : IsRetry x) → limits_of w r p q ≡ limits_of w x p o) same (λ (o : IsRetry r). ap (λ (y : IsRetry r). limits_of w r p y) (any_retry r q o)) o
 
-same_limits : (l m : Limits) → l.window ≡ m.window → l.retry ≡ m.retry → l ≡ m
+pub same_limits : (l m : Limits) → l.window ≡ m.window → l.retry ≡ m.retry → l ≡ m
 unfolding limits_of
 same_limits l m window retry =
     same_window l.window m.window l.retry l.window_in_range m.window_in_range l.retry_in_range window ∙ same_retry m.window l.retry m.retry m.window_in_range l.retry_in_range m.retry_in_range retry
 
-same_head : (h k : Head) → h.space ≡ k.space → h.n ≡ k.n → h.limits ≡ k.limits → h.count ≡ k.count → h ≡ k
+pub same_head : (h k : Head) → h.space ≡ k.space → h.n ≡ k.n → h.limits ≡ k.limits → h.count ≡ k.count → h ≡ k
 same_head h k space n limits count =
     let made : ℕ → ℕ → Limits → ℕ → Head = λ s m l c. record { space = s; n = m; limits = l; count = c } in
     ap (λ (x : ℕ). made x h.n h.limits h.count) space ∙ ap (λ (x : ℕ). made k.space x h.limits h.count) n ∙ ap (λ (x : Limits). made k.space k.n x h.count) limits ∙ ap (λ (x : ℕ). made k.space k.n k.limits x) count
