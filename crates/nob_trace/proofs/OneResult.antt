@@ -23,6 +23,7 @@ use Rattle.nob_model_text.proofs.Parting.{hex_no_mark}
 use Rattle.nob_model_reading.specs.Told.{IsJob}
 use Rattle.nob_trace.specs.Frames.{frame_text, frames_text, spaced_text, IsFramed}
 use Rattle.nob_trace.specs.Entries.{IsTracedResult, result_text}
+use Rattle.nob_trace.specs.Laws.{OneResult}
 use Rattle.nob_trace.proofs.Spaced.{not_none, stops}
 use Rattle.nob_trace.proofs.OneValue.{one_front, one_number, one_space, number_is, rep_is, value_is}
 use Rattle.nob_trace.proofs.OneEvent.{behind, frame_is, key, tail_is}
@@ -229,3 +230,6 @@ result_is (Ok a) (Ok b) is was same = ap Ok (answer_is a b is was same)
 result_is (Ok a) (Err s) is was same = absurd (apart a s (sym (answer_keyed a) ∙ ap key same ∙ refusal_keyed s))
 result_is (Err r) (Ok b) is was same = absurd (apart b r (sym (answer_keyed b) ∙ ap key (sym same) ∙ refusal_keyed r))
 result_is (Err r) (Err s) is was same = ap Err (refusal_is r s same)
+
+pub one_result : OneResult
+one_result text a b is was spelt again = result_is a b is was (sym spelt ∙ again)

@@ -1,16 +1,22 @@
 -- What is true of all traces.
-use Rattle.std.specs.Prelude.{◌≡◌, ℕ, List, ◌++◌}
+use Rattle.std.specs.Prelude.{◌≡◌, ℕ, List, ◌++◌, Result}
 use Rattle.std.specs.List.{AllByRecursion, flat_map}
+use Rattle.nob_model_types.specs.declared.answer.Answer.{Answer}
+use Rattle.nob_model_types.specs.declared.refusal.Refusal.{Refusal}
 use Rattle.nob_trace.specs.declared.stamped.Stamped.{Stamped}
 use Rattle.nob_trace.specs.declared.trace.Trace.{Trace}
 use Rattle.nob_trace.specs.declared.fault.TraceFault.{TraceFault}
-use Rattle.nob_trace.specs.Entries.{entry_text, IsTraced}
+use Rattle.nob_trace.specs.Entries.{entry_text, result_text, IsTraced, IsTracedResult}
 use Rattle.nob_trace.specs.Traces.{trace_text, IsTrace, IsWritable}
 use Rattle.nob_trace.specs.Reading.{TraceProblem, TracesProblem}
 
 -- each frame has a spelling in a trace that a text can spell
 abbrev pub AreWritable : Type 0
 AreWritable = (trace : Trace) → IsTrace trace → IsWritable trace
+
+-- a text spells one result
+abbrev pub OneResult : Type 0
+OneResult = (text : List ℕ) (result twin : Result Answer Refusal) → IsTracedResult result → IsTracedResult twin → text ≡ result_text result → text ≡ result_text twin → result ≡ twin
 
 -- a line spells one entry
 abbrev pub OneEntry : Type 0

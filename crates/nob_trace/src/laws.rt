@@ -1,10 +1,15 @@
 //! What is true of all traces.
 
-ghost use Rattle.nob_trace.specs.Laws.{AreWritable, OneEntry, OneFault, OneFaultOfAll, OneFront, OneList, OneTrace};
+ghost use Rattle.nob_trace.specs.Laws.{AreWritable, OneEntry, OneFault, OneFaultOfAll, OneFront, OneList, OneResult, OneTrace};
 
 /// Whatever trace is read can be written: each frame in it has a spelling.
 pub fn traces_are_writable()
     ensures { AreWritable }
+{}
+
+/// A text spells one result, so results of one text are the same.
+pub fn one_result()
+    ensures { OneResult }
 {}
 
 /// A line spells one entry.
