@@ -21,7 +21,8 @@ use std::alloc::Global;
 
 /// The traces that a text is, one after the other, or what the first line that isn't as it should
 /// be is refused for: R1, R2 or R3. An empty text is no traces. It costs time and memory in
-/// proportion to the text.
+/// proportion to the text. Memory runs out only at a whole line where an entry should stand, or
+/// behind a whole trace.
 pub fn decode_all(alloc: Global, text: &[u8]) -> Result<Vec<Trace>, TraceError>
     ensures found { spec.Answers (λ all. AllByRecursion traces.IsTrace all.items
         × (text.now ≡ flat_map traces.trace_text all.items))
@@ -43,7 +44,7 @@ pub fn decode_all(alloc: Global, text: &[u8]) -> Result<Vec<Trace>, TraceError>
 
 /// The one trace that a text is, or what the first line that isn't as it should be is refused for:
 /// R1 to R4. It costs time and memory in proportion to the text, and recurses once for each level
-/// of a value.
+/// of a value. Memory runs out only at a whole line where an entry should stand.
 pub fn decode(alloc: Global, text: &[u8]) -> Result<Trace, TraceError>
     ensures found { spec.Answers (λ trace. traces.IsTrace trace
         × (text.now ≡ traces.trace_text trace)) (λ fault. spec.TraceProblem text.now fault) result }
@@ -60,6 +61,7 @@ pub fn decode(alloc: Global, text: &[u8]) -> Result<Trace, TraceError>
 
 /// The trace with which a text begins and what is left, or what the first line that isn't as it
 /// should be is refused for: R1, R2 or R3. It costs time and memory in proportion to the trace.
+/// Memory runs out only at a whole line where an entry should stand.
 pub fn trace_at(alloc: Global, text: &[u8]) -> Result<(Trace, &[u8]), TraceError>
     ensures found { spec.Answers (λ parts. traces.IsTrace parts.0
         × (text.now ≡ traces.trace_text parts.0 ++ parts.1.now))
