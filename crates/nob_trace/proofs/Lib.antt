@@ -9,3 +9,9 @@ pub mod Written
 pub mod ReadLines
 pub mod ReadTraces
 pub mod Writable
+pub mod OneValue
+pub mod OneEvent
+pub mod OneResult
+pub mod OneTrace
+pub mod OneFault
+pub mod Digits

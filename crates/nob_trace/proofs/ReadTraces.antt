@@ -7,11 +7,10 @@ use Rattle.std.proofs.lemmas.List.{append-nil}
 use Rattle.nob_trace.specs.declared.head.Head.{Head}
 use Rattle.nob_trace.specs.declared.trace.Trace.{Trace}
 use Rattle.nob_trace.specs.declared.fault.TraceFault.{TraceFault}
-use Rattle.nob_trace.specs.declared.fault.TraceFault.TheVariants as faults
 use Rattle.nob_trace.specs.declared.fault.TraceError.{TraceError}
 use Rattle.nob_trace.specs.declared.fault.TraceError.TheVariants.{Fault, OutOfMemory}
 use Rattle.nob_trace.specs.Traces.{head_of, head_text, entries_text, trace_text, IsHead, IsTrace}
-use Rattle.nob_trace.specs.Reading.{Answers, BeginsWithLine, EntriesFault, Explains, IsNoHead, Lacks, TextFault}
+use Rattle.nob_trace.specs.Reading.{Answers, AtEntry, AtLine, AtTrace, BeginsWithLine, EntriesFault, Explains, IsThere, Lacks, RunsOut, TextFault}
 use Rattle.nob_trace.proofs.Parting.{has_one, one_parting}
 use Rattle.nob_trace.proofs.Signs as signs
 
@@ -42,12 +41,6 @@ whole text line lines rest trace begins head entries =
 
 -- ---- faults
 
-pub head_fault : {X : Type 0} (P : X → Type 0) (text line lines : List ℕ) (r : Result X TraceError) (e : TraceError) → BeginsWithLine text line lines → IsErrAnd r (λ f. f ≡ e)
-    → Explains (λ fault. (fault ≡ faults.Entry) × IsNoHead line) e → Answers P (TextFault text) r
-head_fault P text line lines (Ok x) e begins is wrong = absurd is
-head_fault P text line lines (Err f) (Fault fault) begins is wrong = subst (λ (g : TraceError). Answers P (TextFault text) (Err g)) (sym is) (TextFault.bad line lines begins wrong.1 wrong.0)
-head_fault P text line lines (Err f) OutOfMemory begins is wrong = subst (λ (g : TraceError). Answers P (TextFault text) (Err g)) (sym is) tt
-
 pub lines_fault : {X : Type 0} (P : X → Type 0) (text line lines : List ℕ) (head : Head) (r : Result X TraceError) (e : TraceError) → BeginsWithLine text line lines → IsHead head × (line ≡ head_text head) → IsErrAnd r (λ f. f ≡ e)
     → Explains (EntriesFault lines head.count) e → Answers P (TextFault text) r
 lines_fault P text line lines head (Ok x) e begins spelt is wrong = absurd is
@@ -60,6 +53,20 @@ pub map_fault : {X : Type 0} (P : X → Type 0) (F G : TraceFault → Type 0) (r
 map_fault P F G (Ok x) e is wrong map = absurd is
 map_fault P F G (Err f) (Fault fault) is wrong map = subst (λ (g : TraceError). Answers P G (Err g)) (sym is) (map fault wrong)
 map_fault P F G (Err f) OutOfMemory is wrong map = subst (λ (g : TraceError). Answers P G (Err g)) (sym is) tt
+
+-- where memory runs out, as another statement of it
+pub map_there : {X : Type 0} (P Q : Type 0) (r : Result X TraceError) (e : TraceError) → IsErrAnd r (λ f. f ≡ e) → IsThere P e → (P → Q) → RunsOut Q r
+map_there P Q (Ok x) e is there map = absurd is
+map_there P Q (Err f) (Fault fault) is there map = subst (IsThere Q) (sym is) tt
+map_there P Q (Err f) OutOfMemory is there map = subst (IsThere Q) (sym is) (map there)
+
+pub always_there : {X : Type 0} (Q : Type 0) (r : Result X TraceError) → Q → RunsOut Q r
+always_there Q (Ok x) there = tt
+always_there Q (Err (Fault fault)) there = tt
+always_there Q (Err OutOfMemory) there = there
+
+pub at_entry : (text line lines : List ℕ) (head : Head) → BeginsWithLine text line lines → IsHead head × (line ≡ head_text head) → AtLine lines head.count → AtEntry text
+at_entry text line lines head begins spelt at = (head, lines, spelt.0, begins.1 ∙ ap (λ (bs : List ℕ). bs ++ 10 ∷ lines) spelt.1, at)
 
 -- ---- traces one after the other
 
@@ -123,3 +130,10 @@ pub shorter : (text rest : List ℕ) (t : Trace) → text ≡ trace_text t ++ re
 shorter text rest t is =
     let l : length text ≡ length (trace_text t ++ rest) = ap length is in
     omega (arith, l, length-append (trace_text t) rest, length-append (head_text (head_of t)) (10 ∷ entries_text t.entries))
+
+-- ---- where memory runs out
+
+pub behind_whole : (text left after : List ℕ) (done : List Trace) (t : Trace) → IsTrace t × (left ≡ trace_text t ++ after) → FoundAll text done left → AtTrace text
+behind_whole text left after done t one so_far =
+    let next = found_next text left after done t one so_far in
+    AtTrace.whole (done ++ t ∷ []) after next.are next.text_is (omega (arith, length-append done (t ∷ [])))

@@ -22,10 +22,10 @@ last_same (a ∷ xs) (b ∷ ys) x y is =
     let inner = last_same xs ys x y (tail_is _ _ _ _ is) in
     (ap (λ (c : ℕ). c ∷ xs) (head_is _ _ _ _ is) ∙ ap (λ (cs : List ℕ). b ∷ cs) inner.0, inner.1)
 
-at_sign : (left right : List ℕ) → left ++ (codes " = " ++ right) ≡ (left ++ 32 ∷ []) ++ 61 ∷ 32 ∷ right
+pub at_sign : (left right : List ℕ) → left ++ (codes " = " ++ right) ≡ (left ++ 32 ∷ []) ++ 61 ∷ 32 ∷ right
 at_sign left right = sym (append_assoc left (32 ∷ []) (61 ∷ 32 ∷ right))
 
-left_lacks : (left : List ℕ) → Lacks 61 left → Lacks 61 (left ++ 32 ∷ [])
+pub left_lacks : (left : List ℕ) → Lacks 61 left → Lacks 61 (left ++ 32 ∷ [])
 left_lacks left lacks = lacks_both 61 left (32 ∷ []) lacks (refl, tt)
 
 pub sides : (text front back left right : List ℕ) → Lacks 61 front → text ≡ front ++ 61 ∷ back → Lacks 61 left → text ≡ left ++ (codes " = " ++ right) → (front ≡ left ++ 32 ∷ []) × (back ≡ 32 ∷ right)

@@ -42,6 +42,14 @@ EntriesFault lines count faults.Entry = (entries : List Stamped) × (left line r
 EntriesFault lines count faults.Stamp = (entries : List Stamped) × (left rest : List ℕ) × (entry : Stamped) × Breaks lines count entries left × IsTraced entry × (left ≡ entry_text entry ++ 10 ∷ rest) × (entry.stamp ≤ last_stamp 0 entries)
 EntriesFault lines count faults.Trailing = ⊥
 
+-- lines go on with a whole line where they should have another entry: all before it are as they should be
+abbrev pub AtLine : List ℕ → ℕ → Type 0
+AtLine lines count = (entries : List Stamped) × (left line rest : List ℕ) × Breaks lines count entries left × BeginsWithLine left line rest
+
+-- a text begins with a first line, and goes on so behind it
+abbrev pub AtEntry : List ℕ → Type 0
+AtEntry text = (head : Head) × (rest : List ℕ) × IsHead head × (text ≡ head_text head ++ 10 ∷ rest) × AtLine rest head.count
+
 -- why a text doesn't begin with a trace
 pub data TextFault (text : List ℕ) (fault : TraceFault) : Type 0 where
   -- there is no whole first line
@@ -65,6 +73,13 @@ pub record TracesProblem (text : List ℕ) (fault : TraceFault) (traces : List T
   pub some : left ≢ []
   pub fault_is : TextFault left fault
 
+-- behind these traces a text goes on with a part of one, or with a whole one
+pub data AtTrace (text : List ℕ) : Type 0 where
+  -- it goes on with a first line and a whole line where an entry should stand
+  part : (traces : List Trace) (left : List ℕ) → AllByRecursion IsTrace traces → text ≡ flat_map trace_text traces ++ left → AtEntry left → AtTrace text
+  -- it goes on with a trace
+  whole : (traces : List Trace) (left : List ℕ) → AllByRecursion IsTrace traces → text ≡ flat_map trace_text traces ++ left → 0 < length traces → AtTrace text
+
 -- the fault is right, or memory ran out
 abbrev pub Explains : (TraceFault → Type 0) → TraceError → Type 0
 Explains IsFault (Fault fault) = IsFault fault
@@ -78,3 +93,13 @@ Answers IsRight IsFault (Err e) = Explains IsFault e
 -- this is given, unless memory ran out
 abbrev pub Finds : {X : Type 0} → (X → Type 0) → Result X TraceError → Type 0
 Finds IsRight result = Answers IsRight (λ fault. ⊥) result
+
+-- an error for want of memory comes only there
+abbrev pub IsThere : Type 0 → TraceError → Type 0
+IsThere There (Fault fault) = Unit {0}
+IsThere There OutOfMemory = There
+
+-- memory runs out only there
+abbrev pub RunsOut : {X : Type 0} → Type 0 → Result X TraceError → Type 0
+RunsOut There (Ok x) = Unit {0}
+RunsOut There (Err e) = IsThere There e

@@ -1,51 +1,96 @@
-//! First lines of traces to what they say.
+//! First lines of traces to what they say, without memory.
 
-ghost use Rattle.std.specs.Prelude.{◌≡◌, ◌++◌, ◌<◌, ◌^◌, ℕ, List, IfOk, codes};
+ghost use Rattle.std.specs.Prelude.{◌≡◌, ◌++◌, ◌∷◌, ◌<◌, ◌^◌, ℕ, List, Some, IfSome, IsSomeAnd, codes};
 ghost use Rattle.std.specs.Fmt.{decimal};
-ghost use Rattle.nob_model_text.specs.Fronts.{Stops};
-ghost use Rattle.nob_model_text.specs.Reading.{Reads};
 ghost use Rattle.nob_trace.specs.declared.head.Head.{Head as HeadOf};
 ghost use Rattle.nob_trace.specs.Traces as spec;
 
 use crate::head::Head;
-use nob_model_reading::{after, limits_at, whole_number};
-use nob_model_text::{Unread, number_at, space_of};
-use std::alloc::Global;
+use crate::numbers::{number_behind, number_of};
+use nob_ids::Limits;
+use nob_model_text::space_of;
 
-// What a first line says.
-pub fn head_of(alloc: Global, line: &[u8]) -> Result<Head, Unread>
-    ensures found { IfOk result (λ head. spec.IsHead head × (line.now ≡ spec.head_text head)) }
+// What a first line says: `None` where it spells none. It takes no memory.
+pub fn head_of(line: &[u8]) -> Option<Head>
+    ensures found { IfSome result (λ head. spec.IsHead head × (line.now ≡ spec.head_text head)) }
     ensures only { (head : HeadOf) → spec.IsHead head → line.now ≡ spec.head_text head
-        → Reads (λ h. h ≡ head) result }
+        → result ≡ Some head }
 {
-    let (space, n, behind) = numbers_at(alloc, line)?;
+    let Some((space, n, behind)) = spaces_at(line) else {
+        return None;
+    };
+    let Some((window, retry, left)) = limits_at(behind) else {
+        return None;
+    };
+    let Some(digits) = left.strip_prefix(b"entries ".as_slice()) else {
+        return None;
+    };
+    let Some(count) = number_of(digits) else {
+        return None;
+    };
+    head_from(space, n, window, retry, count)
+}
+
+// The first line of these numbers: `None` where one is outside its range.
+fn head_from(space: u64, n: u64, window: u64, retry: u64, count: u64) -> Option<Head>
+    ensures found { IfSome result (λ head. spec.IsHead head × (head.space ≡ space)
+        × (head.n ≡ n) × (head.limits.window ≡ window) × (head.limits.retry ≡ retry)
+        × (head.count ≡ count)) }
+    ensures only { (head : HeadOf) → spec.IsHead head → head.space ≡ space → head.n ≡ n
+        → head.limits.window ≡ window → head.limits.retry ≡ retry → head.count ≡ count
+        → result ≡ Some head }
+{
     let Some(space) = space_of(space) else {
-        return Err(Unread::NoText);
+        return None;
     };
     let Some(n) = space_of(n) else {
-        return Err(Unread::NoText);
+        return None;
     };
-    let (limits, left) = limits_at(alloc, behind)?;
-    let count = whole_number(alloc, after(left, b" entries ")?)?;
-    Ok(Head {
-        space,
-        n,
-        limits,
-        count,
-    })
+    match Limits::new(window, retry) {
+        Some(limits) => Some(Head {
+            space,
+            n,
+            limits,
+            count,
+        }),
+        None => None,
+    }
 }
 
 // The numbers of the space and of how many there are at the front of a first line, and what is
-// left.
-fn numbers_at(alloc: Global, text: &[u8]) -> Result<(u64, u64, &[u8]), Unread>
-    ensures found { IfOk result (λ parts. text.now
-        ≡ codes "trace " ++ (decimal parts.0 ++
-        (codes " of " ++ (decimal parts.1 ++ parts.2.now)))) }
-    ensures only { (space n : ℕ) (rest : List ℕ) → space < 2 ^ 64 → n < 2 ^ 64 → Stops rest
-        → text.now ≡ codes "trace " ++ (decimal space ++ (codes " of " ++ (decimal n ++ rest)))
-        → Reads (λ parts. (parts.0 ≡ space) × (parts.1 ≡ n) × (parts.2.now ≡ rest)) result }
+// left behind the space that follows.
+fn spaces_at(text: &[u8]) -> Option<(u64, u64, &[u8])>
+    ensures found { IfSome result (λ parts. text.now ≡ codes "trace " ++ (decimal parts.0 ++
+        (codes " of " ++ (decimal parts.1 ++ 32 ∷ parts.2.now)))) }
+    ensures only { (space n : ℕ) (rest : List ℕ) → space < 2 ^ 64 → n < 2 ^ 64
+        → text.now
+        ≡ codes "trace " ++ (decimal space ++ (codes " of " ++ (decimal n ++ 32 ∷ rest)))
+        → IsSomeAnd result (λ parts. (parts.0 ≡ space) × (parts.1 ≡ n) × (parts.2.now ≡ rest)) }
 {
-    let (space, behind) = number_at(alloc, after(text, b"trace ")?)?;
-    let (n, rest) = number_at(alloc, after(behind, b" of ")?)?;
-    Ok((space, n, rest))
+    let Some((space, behind)) = number_behind(text, b"trace ".as_slice()) else {
+        return None;
+    };
+    match number_behind(behind, b"of ".as_slice()) {
+        Some((n, rest)) => Some((space, n, rest)),
+        None => None,
+    }
+}
+
+// The numbers of the limits at the front of a text, and what is left behind the space that follows.
+fn limits_at(text: &[u8]) -> Option<(u64, u64, &[u8])>
+    ensures found { IfSome result (λ parts. text.now ≡ codes "window " ++ (decimal parts.0 ++
+        (codes " retry " ++ (decimal parts.1 ++ 32 ∷ parts.2.now)))) }
+    ensures only { (window retry : ℕ) (rest : List ℕ) → window < 2 ^ 64 → retry < 2 ^ 64
+        → text.now
+        ≡ codes "window " ++ (decimal window ++ (codes " retry " ++ (decimal retry ++ 32 ∷ rest)))
+        → IsSomeAnd result (λ parts. (parts.0 ≡ window) × (parts.1 ≡ retry)
+        × (parts.2.now ≡ rest)) }
+{
+    let Some((window, behind)) = number_behind(text, b"window ".as_slice()) else {
+        return None;
+    };
+    match number_behind(behind, b"retry ".as_slice()) {
+        Some((retry, rest)) => Some((window, retry, rest)),
+        None => None,
+    }
 }

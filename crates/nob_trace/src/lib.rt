@@ -8,6 +8,7 @@ mod head;
 mod head_reading;
 pub mod laws;
 mod lines;
+mod numbers;
 mod reading;
 mod stamped;
 mod trace;

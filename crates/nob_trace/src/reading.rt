@@ -3,7 +3,6 @@
 ghost use Rattle.std.specs.Prelude.{◌≡◌, ◌≢◌, ◌++◌, ◌∷◌, ◌<◌, ◌≤◌, [], ℕ, List, length};
 ghost use Rattle.std.specs.List.{AllByRecursion, flat_map};
 ghost use Rattle.nob_trace.specs.declared.stamped.Stamped.{Stamped as StampedOf};
-ghost use Rattle.nob_trace.specs.declared.head.Head.{Head as HeadOf};
 ghost use Rattle.nob_trace.specs.declared.trace.Trace.{Trace as TraceOf};
 ghost use Rattle.nob_trace.specs.declared.fault.TraceFault.TheVariants as faults;
 ghost use Rattle.nob_trace.specs.Stamps.{Rise};
@@ -13,7 +12,6 @@ ghost use Rattle.nob_trace.specs.Reading as spec;
 
 use crate::entry_reading::entry_of;
 use crate::fault::{TraceError, TraceFault};
-use crate::head::Head;
 use crate::head_reading::head_of;
 use crate::lines::whole_line;
 use crate::stamped::Stamped;
@@ -23,7 +21,8 @@ use std::alloc::Global;
 
 /// The traces that a text is, one after the other, or what the first line that isn't as it should
 /// be is refused for: R1, R2 or R3. An empty text is no traces. It costs time and memory in
-/// proportion to the text.
+/// proportion to the text. Memory runs out only at a whole line where an entry should stand, or
+/// behind a whole trace.
 pub fn decode_all(alloc: Global, text: &[u8]) -> Result<Vec<Trace>, TraceError>
     ensures found { spec.Answers (λ all. AllByRecursion traces.IsTrace all.items
         × (text.now ≡ flat_map traces.trace_text all.items))
@@ -31,6 +30,7 @@ pub fn decode_all(alloc: Global, text: &[u8]) -> Result<Vec<Trace>, TraceError>
         × spec.TracesProblem text.now fault all left) result }
     ensures only { (all : List TraceOf) → AllByRecursion traces.IsTrace all
         → text.now ≡ flat_map traces.trace_text all → spec.Finds (λ r. r.items ≡ all) result }
+    ensures memory { spec.RunsOut (spec.AtTrace text.now) result }
 {
     let mut all = Vec::new(alloc);
     let mut left = text;
@@ -44,12 +44,13 @@ pub fn decode_all(alloc: Global, text: &[u8]) -> Result<Vec<Trace>, TraceError>
 
 /// The one trace that a text is, or what the first line that isn't as it should be is refused for:
 /// R1 to R4. It costs time and memory in proportion to the text, and recurses once for each level
-/// of a value.
+/// of a value. Memory runs out only at a whole line where an entry should stand.
 pub fn decode(alloc: Global, text: &[u8]) -> Result<Trace, TraceError>
     ensures found { spec.Answers (λ trace. traces.IsTrace trace
         × (text.now ≡ traces.trace_text trace)) (λ fault. spec.TraceProblem text.now fault) result }
     ensures only { (trace : TraceOf) → traces.IsTrace trace → text.now ≡ traces.trace_text trace
         → spec.Finds (λ t. t ≡ trace) result }
+    ensures memory { spec.RunsOut (spec.AtEntry text.now) result }
 {
     let (trace, rest) = trace_at(alloc, text)?;
     if !rest.is_empty() {
@@ -60,6 +61,7 @@ pub fn decode(alloc: Global, text: &[u8]) -> Result<Trace, TraceError>
 
 /// The trace with which a text begins and what is left, or what the first line that isn't as it
 /// should be is refused for: R1, R2 or R3. It costs time and memory in proportion to the trace.
+/// Memory runs out only at a whole line where an entry should stand.
 pub fn trace_at(alloc: Global, text: &[u8]) -> Result<(Trace, &[u8]), TraceError>
     ensures found { spec.Answers (λ parts. traces.IsTrace parts.0
         × (text.now ≡ traces.trace_text parts.0 ++ parts.1.now))
@@ -67,11 +69,14 @@ pub fn trace_at(alloc: Global, text: &[u8]) -> Result<(Trace, &[u8]), TraceError
     ensures only { (trace : TraceOf) (rest : List ℕ) → traces.IsTrace trace
         → text.now ≡ traces.trace_text trace ++ rest
         → spec.Finds (λ parts. (parts.0 ≡ trace) × (parts.1.now ≡ rest)) result }
+    ensures memory { spec.RunsOut (spec.AtEntry text.now) result }
 {
     let Some((line, lines)) = whole_line(text) else {
         return Err(TraceError::Fault(TraceFault::Short));
     };
-    let head = spelt_head(alloc, line)?;
+    let Some(head) = head_of(line) else {
+        return Err(TraceError::Fault(TraceFault::Entry));
+    };
     let (entries, rest) = entries_at(alloc, lines, head.count)?;
     Ok((
         Trace {
@@ -82,20 +87,6 @@ pub fn trace_at(alloc: Global, text: &[u8]) -> Result<(Trace, &[u8]), TraceError
         },
         rest,
     ))
-}
-
-// The first line that a line spells, or R2.
-fn spelt_head(alloc: Global, line: &[u8]) -> Result<Head, TraceError>
-    ensures found { spec.Answers (λ head. traces.IsHead head × (line.now ≡ traces.head_text head))
-        (λ fault. (fault ≡ faults.Entry) × spec.IsNoHead line.now) result }
-    ensures only { (head : HeadOf) → traces.IsHead head → line.now ≡ traces.head_text head
-        → spec.Finds (λ h. h ≡ head) result }
-{
-    match head_of(alloc, line) {
-        Ok(head) => Ok(head),
-        Err(Unread::NoText) => Err(TraceError::Fault(TraceFault::Entry)),
-        Err(Unread::OutOfMemory) => Err(TraceError::OutOfMemory),
-    }
 }
 
 // The entry that a line spells, or R2.
@@ -122,6 +113,7 @@ fn entries_at(alloc: Global, text: &[u8], count: u64) -> Result<(Entries, &[u8])
     ensures only { (all : List StampedOf) (rest : List ℕ) → length all ≡ count → Rise 0 all
         → AllByRecursion entries.IsTraced all → text.now ≡ traces.entries_text all ++ rest
         → spec.Finds (λ parts. (parts.0 ≡ all) × (parts.1.now ≡ rest)) result }
+    ensures memory { spec.RunsOut (spec.AtLine text.now count) result }
 {
     let mut all = Entries::new(alloc);
     let mut left = text;
