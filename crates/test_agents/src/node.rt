@@ -6,10 +6,10 @@ ghost use Rattle.nob_agents.specs.Ways.{IsTied};
 ghost use Rattle.nob_agents.specs.Sending.{AreApart};
 
 use nob_agents::{Carer, Sender, Taker, Turn, Way};
-use nob_fault::Shim;
+use nob_fault::{Shim, words_between};
 use nob_ids::{Limits, SpaceId};
 use nob_keeper::{Keeper, KeeperError, Seat};
-use nob_link::{PutEnd, TakeEnd};
+use nob_link::{PutEnd, TakeEnd, link};
 use nob_model_types::{Answer, Event, Outcome};
 use nob_pickle::Value;
 use nob_space::Space;
@@ -43,18 +43,54 @@ pub(crate) fn keeper_of(alloc: Global, space: SpaceId) -> Option<Keeper> {
     }
 }
 
+/// The new ends of the links to a peer and from it, and the words of the shim before the first.
+#[derive(Drop)]
+pub(crate) struct Ends {
+    put: PutEnd,
+    take: TakeEnd,
+    words: Vec<u64>,
+    ghost new_put: { put.put ≡ [] },
+    ghost new_take: { take.taken ≡ [] },
+}
+
+/// The ends of the first space and of the second, of a link each way. Of ten frames so many are to
+/// be lost, and others repeated or kept back.
+pub(crate) fn ends_of_both(alloc: Global, loss: u64) -> Option<(Ends, Ends)> {
+    let first = SpaceId::new(1)?;
+    let second = SpaceId::new(2)?;
+    let there = words_of(alloc, first, second, loss)?;
+    let back = words_of(alloc, second, first, loss)?;
+    let (put_there, take_there) = link(alloc, 64).ok()?;
+    let (put_back, take_back) = link(alloc, 64).ok()?;
+    let ours = Ends {
+        put: put_there,
+        take: take_back,
+        words: there,
+    };
+    let theirs = Ends {
+        put: put_back,
+        take: take_there,
+        words: back,
+    };
+    Some((ours, theirs))
+}
+
+// The words of the shim from one space to another: none where nothing is to be lost.
+fn words_of(alloc: Global, from: SpaceId, to: SpaceId, loss: u64) -> Option<Vec<u64>> {
+    if loss == 0 {
+        return Some(Vec::new(alloc));
+    }
+    words_between(alloc, 7, from, to, loss).ok()
+}
+
 /// The agents of a keeper, between the ends of its links to and from its peer.
 pub(crate) fn agents_of(
     alloc: Global,
     keeper: &Keeper,
     peer: SpaceId,
-    put: PutEnd,
-    take: TakeEnd,
-    words: Vec<u64>,
-) -> Option<Agents>
-    requires put { put.put ≡ [] }
-    requires take { take.taken ≡ [] }
-{
+    ends: Ends,
+) -> Option<Agents> {
+    let Ends { put, take, words } = ends;
     let ways = ways_of(alloc, peer, put, words)?;
     Some(Agents {
         taker: Taker::new(keeper.seat(), peer, take),

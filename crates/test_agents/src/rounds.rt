@@ -1,10 +1,8 @@
 //! Rounds of two spaces.
 
-use crate::node::{Agents, agents_of, keeper_of};
-use nob_fault::words_between;
+use crate::node::{Agents, agents_of, ends_of_both, keeper_of};
 use nob_ids::{SpaceId, WireRep};
 use nob_keeper::Keeper;
-use nob_link::link;
 use nob_model_types::Event;
 use nob_pickle::Value;
 use std::alloc::Global;
@@ -74,14 +72,6 @@ fn left_alone<R: Wait>(rt: &R, alloc: Global, one: &Keeper, other: &Keeper) -> O
     Some(false)
 }
 
-// The words of the shim from one space to another: none where nothing is to be lost.
-fn words_of(alloc: Global, from: SpaceId, to: SpaceId, loss: u64) -> Option<Vec<u64>> {
-    if loss == 0 {
-        return Some(Vec::new(alloc));
-    }
-    words_between(alloc, 7, from, to, loss).ok()
-}
-
 // The run of two keepers.
 fn between<R: Wait>(
     rt: &R,
@@ -112,22 +102,16 @@ fn between<R: Wait>(
     })
 }
 
-/// The agents of the first space and of the second, with a link each way. Of ten frames so many are
-/// lost, and others repeated or kept back.
-pub(crate) fn agents_of_both(
+// The agents of the first space and of the second, with a link each way.
+fn agents_of_both(
     alloc: Global,
     one: &Keeper,
     other: &Keeper,
     loss: u64,
 ) -> Option<(Agents, Agents)> {
-    let first = SpaceId::new(1)?;
-    let second = SpaceId::new(2)?;
-    let there = words_of(alloc, first, second, loss)?;
-    let back = words_of(alloc, second, first, loss)?;
-    let (put_there, take_there) = link(alloc, 64).ok()?;
-    let (put_back, take_back) = link(alloc, 64).ok()?;
-    let ours = agents_of(alloc, one, second, put_there, take_back, there)?;
-    let theirs = agents_of(alloc, other, first, put_back, take_there, back)?;
+    let (ends, other_ends) = ends_of_both(alloc, loss)?;
+    let ours = agents_of(alloc, one, SpaceId::new(2)?, ends)?;
+    let theirs = agents_of(alloc, other, SpaceId::new(1)?, other_ends)?;
     Some((ours, theirs))
 }
 

@@ -1,10 +1,10 @@
 //! Two spaces, each with its agents in a thread of its own.
 
-use crate::node::{Agents, keeper_of};
-use crate::rounds::{agents_of_both, begin};
+use crate::node::{Agents, Ends, agents_of, ends_of_both, keeper_of};
+use crate::rounds::begin;
 use nob_check_traces::check;
 use nob_ids::SpaceId;
-use nob_keeper::Keeper;
+use nob_keeper::{Keeper, Seat};
 use nob_trace::Trace;
 use std::alloc::Global;
 use std::sync::Wait;
@@ -21,6 +21,15 @@ pub(crate) struct Ended {
     pub(crate) is_accepted: bool,
 }
 
+// What one thread leaves.
+#[derive(Drop)]
+struct Left {
+    // The seats of the space, once its agents have ended.
+    seats: Vec<Seat>,
+    // Whether an object was withdrawn.
+    has_withdrawn: bool,
+}
+
 /// Two spaces, a thread each, go on until the first has withdrawn its object; then the traces are
 /// checked. Of ten frames so many are lost, and others repeated or kept back.
 pub(crate) fn run<R: Threads + Wait + Sync>(rt: &R, alloc: Global, loss: u64) -> Option<Ended> {
@@ -31,14 +40,13 @@ pub(crate) fn run<R: Threads + Wait + Sync>(rt: &R, alloc: Global, loss: u64) ->
         one.shut();
         return None;
     };
-    let Some((ours, theirs)) = in_threads(rt, alloc, &one, &other, loss) else {
-        one.shut();
-        other.shut();
-        return None;
+    let (ours, theirs) = in_threads(rt, alloc, &one, &other, loss);
+    let is_withdrawn = match &ours {
+        Some(left) => left.has_withdrawn,
+        None => false,
     };
-    let is_withdrawn = ours.has_withdrawn();
-    let trace = trace_of(alloc, one, ours);
-    let other_trace = trace_of(alloc, other, theirs);
+    let trace = trace_of(one, ours);
+    let other_trace = trace_of(other, theirs);
     let is_accepted = are_accepted(alloc, trace?, other_trace?)?;
     Some(Ended {
         is_withdrawn,
@@ -46,63 +54,83 @@ pub(crate) fn run<R: Threads + Wait + Sync>(rt: &R, alloc: Global, loss: u64) ->
     })
 }
 
-// Runs both threads, and gives the agents back.
+// Runs both threads.
 fn in_threads<R: Threads + Wait + Sync>(
     rt: &R,
     alloc: Global,
     one: &Keeper,
     other: &Keeper,
     loss: u64,
-) -> Option<(Agents, Agents)> {
-    let (mut ours, mut theirs) = agents_of_both(alloc, one, other, loss)?;
-    begin(rt, one, &mut ours)?;
+) -> (Option<Left>, Option<Left>) {
+    let Some((ends, other_ends)) = ends_of_both(alloc, loss) else {
+        return (None, None);
+    };
     let done = AtomicBool::new(false);
     let done = &done;
-    let (ours, theirs) = thread::join(
+    thread::join(
         rt,
-        move || until_withdrawn(rt, one, ours, done),
-        move || until_done(rt, other, theirs, done),
-    );
-    Some((ours, theirs))
+        move || {
+            let left = until_withdrawn(rt, alloc, one, ends);
+            done.store(true, Ordering::SeqCst);
+            left
+        },
+        move || until_done(rt, alloc, other, other_ends, done),
+    )
 }
 
 // The first space's rounds.
-fn until_withdrawn<R: Wait>(
-    rt: &R,
-    keeper: &Keeper,
-    mut agents: Agents,
-    done: &AtomicBool,
-) -> Agents {
+fn until_withdrawn<R: Wait>(rt: &R, alloc: Global, keeper: &Keeper, ends: Ends) -> Option<Left> {
+    let mut agents = agents_of(alloc, keeper, SpaceId::new(2)?, ends)?;
+    begin(rt, keeper, &mut agents)?;
     for _ in 0..MOST_ROUNDS {
-        if agents.round(rt, keeper).is_none() || agents.has_withdrawn() {
+        agents.round(rt, keeper)?;
+        if agents.has_withdrawn() {
             break;
         }
         thread::yield_now();
     }
-    done.store(true, Ordering::SeqCst);
-    agents
+    left_of(alloc, agents)
 }
 
 // The second space's rounds.
-fn until_done<R: Wait>(rt: &R, keeper: &Keeper, mut agents: Agents, done: &AtomicBool) -> Agents {
+fn until_done<R: Wait>(
+    rt: &R,
+    alloc: Global,
+    keeper: &Keeper,
+    ends: Ends,
+    done: &AtomicBool,
+) -> Option<Left> {
+    let mut agents = agents_of(alloc, keeper, SpaceId::new(1)?, ends)?;
     for _ in rt.forever() {
-        if done.load(Ordering::SeqCst)
-            || agents.round(rt, keeper).is_none()
-            || agents.work(rt, keeper).is_none()
-        {
+        if done.load(Ordering::SeqCst) {
             break;
         }
+        agents.round(rt, keeper)?;
+        agents.work(rt, keeper)?;
         thread::yield_now();
     }
-    agents
+    left_of(alloc, agents)
+}
+
+// What agents leave.
+fn left_of(alloc: Global, agents: Agents) -> Option<Left> {
+    let has_withdrawn = agents.has_withdrawn();
+    Some(Left {
+        seats: agents.into_seats(alloc)?,
+        has_withdrawn,
+    })
 }
 
 // Ends a keeper whose agents have ended.
-fn trace_of(alloc: Global, keeper: Keeper, agents: Agents) -> Option<Trace> {
-    let Some(seats) = agents.into_seats(alloc) else {
+fn trace_of(keeper: Keeper, left: Option<Left>) -> Option<Trace> {
+    let Some(left) = left else {
         keeper.shut();
         return None;
     };
+    let Left {
+        seats,
+        has_withdrawn: _,
+    } = left;
     match keeper.close_with(seats) {
         Ok(trace) => Some(trace),
         Err((_, keeper, _)) => {
