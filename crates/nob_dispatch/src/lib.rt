@@ -3,6 +3,17 @@
 //! may run.
 #![tactic(auto)]
 
+mod calls;
+mod dispatcher;
+mod errand;
+mod gate;
 mod shelf;
+mod stage;
+mod worker;
 
+pub use calls::JobCalls;
+pub use dispatcher::{Dispatcher, Handing};
+pub use errand::{Errand, Return};
+pub use gate::{Gate, OpenGate};
 pub use shelf::{AddError, Place, Shelf};
+pub use worker::{Progress, Worker};
