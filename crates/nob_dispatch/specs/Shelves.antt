@@ -1,5 +1,5 @@
 -- The objects of a space, each index with its place, in the order of the indexes.
-use Rattle.std.specs.Prelude.{ℕ, Bool, List, Option, Some, None}
+use Rattle.std.specs.Prelude.{ℕ, Bool, true, false, List, Option, Some, None}
 use Rattle.std.specs.Ordering.{nat_cmp, is_eq}
 use Rattle.std.specs.Map.{lookup, remove_entry}
 use Rattle.std.specs.BTreeMap.{insert_entry}
@@ -28,3 +28,9 @@ module _ {O : Type 0} where
   object_in (Some (Here object)) = Some object
   object_in (Some Away) = None
   object_in None = None
+
+  -- whether an object is away
+  abbrev pub is_away : Option (Place O) → Bool
+  is_away (Some Away) = true
+  is_away (Some (Here object)) = false
+  is_away None = false

@@ -1,6 +1,7 @@
 //! Who claims jobs.
 
-ghost use Rattle.std.specs.Prelude.{◌≡◌, ◌≢◌, ◌<◌, ◌+◌, ◌∷◌, [], ℕ, List, None, Some, length, OnOk, OnErr, IfOk, IfErr, IfSome, MatchOption};
+ghost use Rattle.std.specs.Prelude.{◌≡◌, ◌≢◌, ◌<◌, ◌+◌, ◌∷◌, [], ⊤, ℕ, List, false, None, Some, length, slice_index_or, OnOk, OnErr, IfOk, IfErr, IfSome, MatchOption};
+ghost use Rattle.nob_model_types.specs.declared.answer.Job.{Job as JobOf};
 ghost use Rattle.nob_dispatch_lanes.specs.Balance.{times};
 ghost use Rattle.nob_dispatch.specs.Dispatching as dispatching;
 ghost use Rattle.nob_dispatch.specs.Shelves as shelves;
@@ -236,7 +237,9 @@ impl<O: Object> Dispatcher<O> {
 }
 
 // Whether the object of an index is away.
-fn is_away<O: Object>(shelf: &Shelf<O>, index: u64) -> bool {
+fn is_away<O: Object>(shelf: &Shelf<O>, index: u64) -> bool
+    ensures { result ≡ shelves.is_away (shelves.place_of index shelf.now) }
+{
     match shelf.place(index) {
         Some(Place::Away) => true,
         _ => false,
@@ -245,10 +248,12 @@ fn is_away<O: Object>(shelf: &Shelf<O>, index: u64) -> bool {
 
 // The place of the first job whose object isn't away.
 fn first_served<O: Object>(shelf: &Shelf<O>, waiting: &[Job]) -> Option<usize>
-    ensures { IfSome result (λ place. place < length waiting.now) }
+    ensures place { IfSome result (λ place. place < length waiting.now) }
+    ensures served { IfSome result (λ place. (job : JobOf) → shelves.is_away
+        (shelves.place_of (slice_index_or waiting.now place job).target shelf.now) ≡ false) }
 {
-    for (place, job) in waiting.iter().enumerate() {
-        if !is_away(shelf, job.target) {
+    for place in 0..waiting.len() {
+        if !is_away(shelf, waiting[place].target) {
             return Some(place);
         }
     }
@@ -258,7 +263,8 @@ fn first_served<O: Object>(shelf: &Shelf<O>, waiting: &[Job]) -> Option<usize>
 // Takes out the job at a place.
 fn take_at(waiting: &mut Vec<Job>, place: usize) -> Job
     requires { place < length waiting.old.items }
-    ensures { (number : ℕ) → times number (dispatching.numbers waiting.old.items)
+    ensures job { result ≡ slice_index_or waiting.old.items place result }
+    ensures once { (number : ℕ) → times number (dispatching.numbers waiting.old.items)
         ≡ times number (result.job ∷ dispatching.numbers waiting.new.items) }
 {
     waiting.remove(place)
@@ -266,10 +272,12 @@ fn take_at(waiting: &mut Vec<Job>, place: usize) -> Job
 
 // Takes out the first job whose object isn't away.
 fn take_waiting<O: Object>(shelf: &Shelf<O>, waiting: &mut Vec<Job>) -> Option<Job>
-    ensures { MatchOption result
+    ensures once { MatchOption result
         (dispatching.numbers waiting.new.items ≡ dispatching.numbers waiting.old.items)
         (λ job. (number : ℕ) → times number (dispatching.numbers waiting.old.items)
         ≡ times number (job.job ∷ dispatching.numbers waiting.new.items)) }
+    ensures served { IfSome result (λ job.
+        shelves.is_away (shelves.place_of job.target shelf.now) ≡ false) }
 {
     let Some(place) = first_served(shelf, waiting.as_slice()) else {
         return None;
@@ -284,6 +292,9 @@ fn serve<O: Object>(
     ending: &mut Option<Finish>,
     job: Job,
 ) -> Option<Errand<O>>
+    requires { shelves.is_away (shelves.place_of job.target shelf.old) ≡ false }
+    ensures absent { MatchOption result (shelves.place_of job.target shelf.old ≡ None)
+        (λ _. ⊤) }
     ensures served { MatchOption result (shelf.new ≡ shelf.old)
         (λ errand. dispatching.IsHanded errand job.job shelf.old shelf.new) }
     ensures ending { MatchOption result (dispatching.job_in ending.new ≡ Some job.job)
