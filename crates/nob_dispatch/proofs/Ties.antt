@@ -8,10 +8,6 @@ use Rattle.nob_dispatch_lanes.specs.Balance.{times}
 use Rattle.nob_dispatch.specs.Ends.{with_job}
 use Rattle.nob_dispatch.specs.Dispatching.{numbers}
 
-pub times_with_job : (n : ℕ) (job : Option ℕ) (xs : List ℕ) → times n (with_job job xs) ≡ times n (with_job job []) + times n xs
-times_with_job n None xs = omega arith
-times_with_job n (Some job) xs = omega arith
-
 times_remove : (n i : ℕ) (jobs : List Job) (d : Job) → i < length jobs → times n (numbers jobs) ≡ times n ((slice_index_or jobs i d).job ∷ numbers (remove jobs i))
 times_remove n i [] d low = omega (arith, low)
 times_remove n zero (job ∷ jobs) d low = refl

@@ -1,10 +1,6 @@
 -- What a dispatcher has done, and what it keeps. In lists of receipts the newest stands FIRST.
-use Rattle.std.specs.Prelude.{◌≡◌, ℕ, ◌+◌, Bool, true, false, List, [], ◌∷◌, map, Option, Some, None, Result, Ok}
-use Rattle.nob_model_types.specs.declared.event.Event.{Event}
-use Rattle.nob_model_types.specs.declared.answer.Answer.{Answer}
-use Rattle.nob_model_types.specs.declared.answer.Answer.TheVariants as answers
+use Rattle.std.specs.Prelude.{◌≡◌, ℕ, ◌+◌, List, [], ◌∷◌, map, Option, Some, None, Result, Ok}
 use Rattle.nob_model_types.specs.declared.answer.Job.{Job}
-use Rattle.nob_model_types.specs.declared.refusal.Refusal.{Refusal}
 use Rattle.nob_keeper.specs.declared.receipt.Receipt.{Receipt}
 use Rattle.nob_keeper.specs.declared.error.KeeperError.{KeeperError}
 use Rattle.nob_dispatch_lanes.specs.Balance.{times}

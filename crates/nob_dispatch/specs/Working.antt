@@ -1,5 +1,5 @@
 -- What a worker has done, and what it keeps. In lists of receipts and of jobs the newest stands FIRST.
-use Rattle.std.specs.Prelude.{◌≡◌, ℕ, Bool, true, false, List, [], ◌∷◌, Option, Some, None, Result, Ok}
+use Rattle.std.specs.Prelude.{◌≡◌, ℕ, Bool, true, false, List, Option, Some, None, Result, Ok}
 use Rattle.nob_keeper.specs.declared.receipt.Receipt.{Receipt}
 use Rattle.nob_keeper.specs.declared.error.KeeperError.{KeeperError}
 use Rattle.nob_dispatch.specs.declared.errand.Errand.{Errand}
