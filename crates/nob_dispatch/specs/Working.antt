@@ -1,0 +1,54 @@
+-- What a worker has done, and what it keeps. In lists of receipts and of jobs the newest stands FIRST.
+use Rattle.std.specs.Prelude.{◌≡◌, ℕ, Bool, true, false, List, Option, Some, None, Result, Ok}
+use Rattle.nob_keeper.specs.declared.receipt.Receipt.{Receipt}
+use Rattle.nob_keeper.specs.declared.error.KeeperError.{KeeperError}
+use Rattle.nob_dispatch.specs.declared.errand.Errand.{Errand}
+use Rattle.nob_dispatch.specs.declared.stage.Keeping.{Keeping}
+use Rattle.nob_dispatch.specs.declared.stage.Keeping.TheVariants as keeps
+use Rattle.nob_dispatch.specs.declared.worker.Progress.{Progress}
+use Rattle.nob_dispatch.specs.declared.worker.Progress.TheVariants as progresses
+use Rattle.nob_dispatch.specs.Ends.{ended, with_job}
+
+-- a worker, as contracts see it: its receipts, the job that it keeps, and the index of the object that it has
+pub record Working : Type 0 where
+  pub receipts : List Receipt
+  pub job : Option ℕ
+  pub object : Option ℕ
+
+-- the jobs that a worker got: those that its receipts ended, and the one that it keeps
+abbrev pub got : Working → List ℕ
+got worker = with_job worker.job (ended worker.receipts)
+
+module _ {O : Type 0} where
+  -- the job that is kept
+  abbrev pub job_in : Keeping O → Option ℕ
+  job_in keeps.Nothing = None
+  job_in (keeps.Running errand stage) = Some errand.job.job
+  job_in (keeps.Ending finish) = Some finish.job
+
+  -- the index of the object that is kept
+  abbrev pub object_in : Keeping O → Option ℕ
+  object_in keeps.Nothing = None
+  object_in (keeps.Running errand stage) = Some errand.job.target
+  object_in (keeps.Ending finish) = None
+
+  -- a worker that keeps an errand more
+  abbrev pub with_errand : Errand O → Working → Working
+  with_errand errand worker = record { receipts = worker.receipts; job = Some errand.job.job; object = Some errand.job.target }
+
+  -- a turn gives back the object that the worker had, with its job's number and its own index, or the worker has what it had
+  abbrev pub GivesBack : Result (Progress O) KeeperError → Working → Working → Type 0
+  GivesBack (Ok (progresses.Back back)) old new = (old.job ≡ Some back.job) × (old.object ≡ Some back.index) × (new.object ≡ None)
+  GivesBack _ old new = new.object ≡ old.object
+
+-- whether a worker keeps no job
+abbrev pub is_free : Working → Bool
+is_free worker = is_none worker.job
+  where
+    is_none : Option ℕ → Bool
+    is_none None = true
+    is_none (Some job) = false
+
+-- a worker whose object has come back
+abbrev pub without_object : Working → Working
+without_object worker = record { receipts = worker.receipts; job = worker.job; object = None }

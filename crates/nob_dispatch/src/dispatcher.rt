@@ -1,0 +1,340 @@
+//! Who claims jobs.
+
+ghost use Rattle.std.specs.Prelude.{◌≡◌, ◌≢◌, ◌<◌, ◌+◌, ◌∷◌, [], ⊤, ℕ, List, false, None, Some, length, slice_index_or, OnOk, OnErr, IfOk, IfErr, IfSome, MatchOption};
+ghost use Rattle.nob_model_types.specs.declared.answer.Job.{Job as JobOf};
+ghost use Rattle.nob_dispatch_lanes.specs.Balance.{times};
+ghost use Rattle.nob_dispatch.specs.Dispatching as dispatching;
+ghost use Rattle.nob_dispatch.specs.Shelves as shelves;
+ghost use Rattle.nob_dispatch.specs.declared.shelf.Place.TheVariants.{Here, Away};
+
+use crate::calls::JobCalls;
+use crate::errand::{Errand, Return};
+use crate::shelf::{AddError, Place, Shelf};
+use crate::stage::{AfterFinish, Finish};
+use nob_dispatch_objects::Object;
+use nob_ids::JobNo;
+use nob_keeper::{KeeperError, Seat};
+use nob_model_types::{Answer, Event, Job, Outcome as Ending};
+use std::alloc::Global;
+use std::marker::Model;
+use std::sync::Wait;
+
+/// What a dispatcher did in a turn.
+#[derive(Drop)]
+pub enum Handing<O: Object> {
+    /// An errand is handed on.
+    Errand(Errand<O>),
+    /// Something else.
+    Did,
+    /// Nothing now: there is no room for the Finish of a job whose object isn't there. It is tried
+    /// again.
+    Later,
+    /// Nothing: there is no job to claim.
+    Idle,
+}
+
+/// Who claims the jobs of a space, over a seat of its own, and hands each on with its object.
+#[derive(Drop)]
+pub struct Dispatcher<O: Object> {
+    seat: Seat,
+    shelf: Shelf<O>,
+    // The job of the newest receipt, where it isn't handed on yet.
+    due: Option<JobNo>,
+    // The jobs whose objects are away, the first claimed first.
+    waiting: Vec<Job>,
+    // What ends a job whose object isn't there.
+    ending: Option<Finish>,
+}
+
+impl<O: Object> Model for Dispatcher<O> {
+    ghost use Rattle.nob_dispatch.specs.Dispatching.{Dispatching, numbers, job_in};
+
+    ghost Value = { Dispatching O };
+
+    ghost use Rattle.std.specs.Coded.{codes};
+    ghost use Rattle.nob_pickle.specs.Marks.{trees_code};
+
+    ghost coded = { Prim.hlevel (codes, trees_code) };
+
+    ghost view = { λ dispatcher. record {
+      receipts = dispatcher.seat;
+      shelf = dispatcher.shelf;
+      due = dispatcher.due;
+      waiting = numbers dispatcher.waiting.items;
+      ending = job_in dispatcher.ending;
+    } };
+}
+
+impl<O: Object> Dispatcher<O> {
+    /// A dispatcher over a seat, with no objects. The caller's condition: the seat is unused. It
+    /// takes no memory.
+    pub fn new(alloc: Global, seat: Seat) -> Dispatcher<O>
+        requires { seat ≡ [] }
+        ensures new { result ≡ record {
+          receipts = [];
+          shelf = [];
+          due = None;
+          waiting = [];
+          ending = None;
+        } }
+        ensures tied { dispatching.IsTied [] result }
+    {
+        Dispatcher {
+            seat,
+            shelf: Shelf::new(alloc),
+            due: None,
+            waiting: Vec::new(alloc),
+            ending: None,
+        }
+    }
+
+    /// The objects.
+    pub fn shelf(&self) -> &Shelf<O>
+        ensures { result.now ≡ self.now.shelf }
+    {
+        &self.shelf
+    }
+
+    /// An object more, at an index that has no place yet.
+    pub fn add(&mut self, index: u64, object: O) -> Result<(), AddError<O>>
+        ensures added { OnOk result (self.new ≡ dispatching.with_shelf
+            (shelves.with_place index (Here object) self.old.shelf) self.old) }
+        ensures err { OnErr result (self.new ≡ self.old) }
+    {
+        self.shelf.add(index, object)
+    }
+
+    /// An object comes back from its job. Where it isn't away, or was taken out, it comes back to
+    /// the caller.
+    pub fn give_back(&mut self, back: Return<O>) -> Result<(), O>
+        ensures here { OnOk result (self.new ≡ dispatching.with_shelf
+            (shelves.with_place back.index (Here back.object) self.old.shelf) self.old) }
+        ensures back { IfErr result (λ object. (object ≡ back.object)
+            × (shelves.place_of back.index self.old.shelf ≢ Some Away)) }
+        ensures err { OnErr result (self.new ≡ self.old) }
+    {
+        let Return { index, object, .. } = back;
+        self.shelf.give_back(index, object)
+    }
+
+    /// Takes an object out, once it is withdrawn: its place.
+    pub fn remove(&mut self, index: u64) -> Option<Place<O>>
+        ensures place { result ≡ shelves.place_of index self.old.shelf }
+        ensures removed { self.new ≡ dispatching.with_shelf
+            (shelves.without_place index self.old.shelf) self.old }
+    {
+        self.shelf.remove(index)
+    }
+
+    /// One turn: the next job whose object is here is handed on with it. A job whose object isn't
+    /// there ends with 'no such method'. It doesn't wait for a job. After K2, or another error of
+    /// the keeper, the next turn goes on where this one stood: nothing is lost.
+    pub fn turn<R: Wait, C: JobCalls>(
+        &mut self,
+        rt: &R,
+        keeper: &C,
+    ) -> Result<Handing<O>, KeeperError>
+        ensures tied { (handed : List ℕ) → dispatching.IsTied handed self.old
+            → dispatching.IsTied (dispatching.with_handed result handed) self.new }
+        ensures object { dispatching.HandsOver result self.old.shelf self.new.shelf }
+    {
+        if self.ending.is_some() {
+            return self.finish(rt, keeper);
+        }
+        if let Some(job) = take_waiting(&self.shelf, &mut self.waiting) {
+            return match serve(&mut self.shelf, &mut self.ending, job) {
+                Some(errand) => Ok(Handing::Errand(errand)),
+                None => Ok(Handing::Did),
+            };
+        }
+        if self.due.is_some() {
+            return self.hand_on();
+        }
+        self.claim(rt, keeper)
+    }
+
+    // The Finish of a job whose object isn't there.
+    fn finish<R: Wait, C: JobCalls>(
+        &mut self,
+        rt: &R,
+        keeper: &C,
+    ) -> Result<Handing<O>, KeeperError>
+        ensures tied { (handed : List ℕ) → dispatching.IsTied handed self.old
+            → dispatching.IsTied (dispatching.with_handed result handed) self.new }
+        ensures object { dispatching.HandsOver result self.old.shelf self.new.shelf }
+    {
+        let Some(finish) = &self.ending else {
+            return Ok(Handing::Idle);
+        };
+        match finish.ask(rt, keeper, &mut self.seat)? {
+            AfterFinish::Ended => {
+                self.ending = None;
+                Ok(Handing::Did)
+            }
+            _ => Ok(Handing::Later),
+        }
+    }
+
+    // Claims a job, if there is one.
+    fn claim<R: Wait, C: JobCalls>(&mut self, rt: &R, keeper: &C) -> Result<Handing<O>, KeeperError>
+        requires { self.old.due ≡ None }
+        ensures tied { (handed : List ℕ) → dispatching.IsTied handed self.old
+            → dispatching.IsTied (dispatching.with_handed result handed) self.new }
+        ensures object { dispatching.HandsOver result self.old.shelf self.new.shelf }
+    {
+        if !keeper.has_job(rt) {
+            return Ok(Handing::Idle);
+        }
+        keeper.call(rt, &mut self.seat, &Event::Claim)?;
+        self.due = claimed_by(&self.seat);
+        if self.due.is_none() {
+            return Ok(Handing::Idle);
+        }
+        Ok(Handing::Did)
+    }
+
+    // Hands the claimed job on, or keeps it where its object is away.
+    fn hand_on(&mut self) -> Result<Handing<O>, KeeperError>
+        requires { self.old.ending ≡ None }
+        ensures tied { (handed : List ℕ) → dispatching.IsTied handed self.old
+            → dispatching.IsTied (dispatching.with_handed result handed) self.new }
+        ensures object { dispatching.HandsOver result self.old.shelf self.new.shelf }
+    {
+        let Some(due) = self.due else {
+            return Ok(Handing::Idle);
+        };
+        let Some(job) = due_job(&self.seat, due)? else {
+            return Ok(Handing::Later);
+        };
+        if is_away(&self.shelf, job.target) {
+            let Ok(()) = self.waiting.push(job) else {
+                return Err(KeeperError::OutOfMemory);
+            };
+            self.due = None;
+            return Ok(Handing::Did);
+        }
+        self.due = None;
+        match serve(&mut self.shelf, &mut self.ending, job) {
+            Some(errand) => Ok(Handing::Errand(errand)),
+            None => Ok(Handing::Did),
+        }
+    }
+
+    /// Its parts: its seat, the objects, and the jobs whose objects are away.
+    pub fn end(self) -> (Seat, Shelf<O>, Vec<Job>)
+        ensures seat { result.0 ≡ self.receipts }
+        ensures shelf { result.1 ≡ self.shelf }
+        ensures waiting { dispatching.numbers result.2.items ≡ self.waiting }
+    {
+        let Dispatcher {
+            seat,
+            shelf,
+            waiting,
+            ..
+        } = self;
+        (seat, shelf, waiting)
+    }
+}
+
+// Whether the object of an index is away.
+fn is_away<O: Object>(shelf: &Shelf<O>, index: u64) -> bool
+    ensures { result ≡ shelves.is_away (shelves.place_of index shelf.now) }
+{
+    match shelf.place(index) {
+        Some(Place::Away) => true,
+        _ => false,
+    }
+}
+
+// The place of the first job whose object isn't away.
+fn first_served<O: Object>(shelf: &Shelf<O>, waiting: &[Job]) -> Option<usize>
+    ensures place { IfSome result (λ place. place < length waiting.now) }
+    ensures served { IfSome result (λ place. (job : JobOf) → shelves.is_away
+        (shelves.place_of (slice_index_or waiting.now place job).target shelf.now) ≡ false) }
+{
+    for place in 0..waiting.len() {
+        if !is_away(shelf, waiting[place].target) {
+            return Some(place);
+        }
+    }
+    None
+}
+
+// Takes out the job at a place.
+fn take_at(waiting: &mut Vec<Job>, place: usize) -> Job
+    requires { place < length waiting.old.items }
+    ensures job { result ≡ slice_index_or waiting.old.items place result }
+    ensures once { (number : ℕ) → times number (dispatching.numbers waiting.old.items)
+        ≡ times number (result.job ∷ dispatching.numbers waiting.new.items) }
+{
+    waiting.remove(place)
+}
+
+// Takes out the first job whose object isn't away.
+fn take_waiting<O: Object>(shelf: &Shelf<O>, waiting: &mut Vec<Job>) -> Option<Job>
+    ensures once { MatchOption result
+        (dispatching.numbers waiting.new.items ≡ dispatching.numbers waiting.old.items)
+        (λ job. (number : ℕ) → times number (dispatching.numbers waiting.old.items)
+        ≡ times number (job.job ∷ dispatching.numbers waiting.new.items)) }
+    ensures served { IfSome result (λ job.
+        shelves.is_away (shelves.place_of job.target shelf.now) ≡ false) }
+{
+    let Some(place) = first_served(shelf, waiting.as_slice()) else {
+        return None;
+    };
+    let job = take_at(waiting, place);
+    Some(job)
+}
+
+// Gives a job its object, or keeps what ends it where its object isn't there.
+fn serve<O: Object>(
+    shelf: &mut Shelf<O>,
+    ending: &mut Option<Finish>,
+    job: Job,
+) -> Option<Errand<O>>
+    requires { shelves.is_away (shelves.place_of job.target shelf.old) ≡ false }
+    ensures absent { MatchOption result (shelves.place_of job.target shelf.old ≡ None)
+        (λ _. ⊤) }
+    ensures served { MatchOption result (shelf.new ≡ shelf.old)
+        (λ errand. dispatching.IsHanded errand job.job shelf.old shelf.new) }
+    ensures ending { MatchOption result (dispatching.job_in ending.new ≡ Some job.job)
+        (λ _. ending.new ≡ ending.old) }
+{
+    let Some(object) = shelf.take(job.target) else {
+        *ending = Some(Finish::new(job.job, Ending::NoMethod));
+        return None;
+    };
+    Some(Errand { job, object })
+}
+
+// The number of the job that the newest receipt gives.
+fn claimed_by(seat: &Seat) -> Option<JobNo>
+    ensures { result ≡ dispatching.newest_job seat.now }
+{
+    match seat.newest() {
+        Some(receipt) => match &receipt.result {
+            Ok(Answer::Job(job)) => Some(job.job),
+            _ => None,
+        },
+        None => None,
+    }
+}
+
+// A copy of the job that the newest receipt gives, if it has this number.
+fn due_job(seat: &Seat, due: JobNo) -> Result<Option<Job>, KeeperError>
+    ensures { IfOk result (λ job. IfSome job (λ job. job.job ≡ due)) }
+{
+    let Some(receipt) = seat.newest() else {
+        return Ok(None);
+    };
+    let Ok(Answer::Job(job)) = &receipt.result else {
+        return Ok(None);
+    };
+    if job.job != due {
+        return Ok(None);
+    }
+    match job.copy() {
+        Ok(job) => Ok(Some(job)),
+        Err(_) => Err(KeeperError::OutOfMemory),
+    }
+}

@@ -1,0 +1,38 @@
+//! The program `test_dispatch`: the dispatchers and workers of two spaces, in one thread. No clause
+//! says that jobs are carried out: this run shows it.
+#![tactic(auto)]
+
+mod node;
+mod objects;
+mod rows;
+
+use std::alloc::Global;
+use std::io;
+use std::process::ExitCode;
+use std::sync::Wait;
+
+fn main(rt: HostRuntime) -> ExitCode {
+    match run(&rt, rt.alloc()) {
+        Ok(()) => ExitCode::from(0),
+        Err(_) => ExitCode::from(1),
+    }
+}
+
+// Runs the rows, and prints what was told.
+fn run<R: Wait + Print>(rt: &R, alloc: Global) -> io::Result<()> {
+    let Some((told, is_whole)) = rows::run(rt, alloc) else {
+        return println!(rt; "failed");
+    };
+    for told in told.iter() {
+        match told.number {
+            Some(number) => println!(rt; "{}: status {}, {number}", told.row, told.status)?,
+            None => println!(rt; "{}: status {}", told.row, told.status)?,
+        }
+    }
+    println!(rt; "each entry has its receipt: {}", said(is_whole))
+}
+
+// Yes or no.
+fn said(is_so: bool) -> &'static str {
+    if is_so { "yes" } else { "no" }
+}
