@@ -1,0 +1,3 @@
+pub mod Bells
+pub mod Lists
+pub mod Offers
