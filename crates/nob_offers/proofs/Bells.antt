@@ -1,7 +1,7 @@
 -- Whenever something lies untaken while the sleeper sleeps, some thread is not at rest.
 use Rattle.std.proofs.Common.{◌≡◌, ◌≢◌, ℕ, zero, suc, ◌+◌, ◌-◌, ◌<◌, ◌≤◌, List, [], ◌∷◌, Some, set, replicate, refl, sym, ap, subst, ◌∙◌, arith}
 use Rattle.std.specs.List.{slice_get}
-use Rattle.nob_offers.specs.Bells.{Place, Rests, Put, Rang, Calls, Came, Read, Took, Left, Sleeper, Up, HasRead, HasTaken, Sleeps, State, opening, StandsAt, woken, Step, puts, rings, finds_driven, finds_nobody, wakes, comes, reads, misses, takes, looks_again, leaves_bare, leaves, finds_same, finds_more, sleeper_reads, sleeper_takes, falls_asleep, stays_up, stirs, IsRun, AllRest}
+use Rattle.nob_offers.specs.Bells.{Place, Rests, Put, Rang, Calls, Came, Read, Took, Left, Sleeper, Up, HasRead, HasTaken, Sleeps, State, opening, StandsAt, woken, Step, puts, puts_more, rings, finds_driven, finds_nobody, wakes, comes, reads, misses, takes, finds_none, looks_again, leaves_bare, leaves, finds_same, finds_more, sleeper_reads, sleeper_takes, sleeper_finds_none, falls_asleep, stays_up, stirs, IsRun, AllRest}
 use Rattle.nob_offers.proofs.Lists.{none_some, get_replicate, Found, Each, now_found, still_found, each_set}
 
 -- the thread is not at rest
@@ -160,8 +160,8 @@ asleep_up : (sleeper : Sleeper) → woken sleeper ≡ Sleeps → ⊥
 asleep_up sleeper is = woken_up sleeper (subst IsAsleep (sym is) tt)
 
 -- one step of the sleeper, after which it doesn't sleep
-sleeper_moves : (s : State) (sleeper : Sleeper) → Kept s → sleeper_read sleeper ≤ s.rings → (SleeperGoesBy sleeper → Covers s.rings s.lying s.threads (sleeper_read sleeper)) → (sleeper ≡ Sleeps → 0 < s.lying → Found Goes s.threads) → Kept (record s { sleeper = sleeper })
-sleeper_moves s sleeper kept low covered asleep = record {
+sleeper_moves : (s : State) (stand : Sleeper) → Kept s → sleeper_read stand ≤ s.rings → (SleeperGoesBy stand → Covers s.rings s.lying s.threads (sleeper_read stand)) → (stand ≡ Sleeps → 0 < s.lying → Found Goes s.threads) → Kept (record s { sleeper = stand })
+sleeper_moves s stand kept low covered asleep = record {
   counted = kept.counted;
   low = kept.low;
   covered = kept.covered;
@@ -170,8 +170,8 @@ sleeper_moves s sleeper kept low covered asleep = record {
   asleep = asleep;
 }
 
-not_asleep : (sleeper : Sleeper) → (IsAsleep sleeper → ⊥) → (lying : ℕ) (threads : List Place) → sleeper ≡ Sleeps → 0 < lying → Found Goes threads
-not_asleep sleeper isnt lying threads is some = absurd (isnt (subst IsAsleep (sym is) tt))
+not_asleep : (stand : Sleeper) → (IsAsleep stand → ⊥) → (lying : ℕ) (threads : List Place) → stand ≡ Sleeps → 0 < lying → Found Goes threads
+not_asleep stand isnt lying threads is some = absurd (isnt (subst IsAsleep (sym is) tt))
 
 after_put : (s : State) (t : ℕ) → StandsAt s t Rests → Kept s → Kept (record s { lying = s.lying + 1; threads = set s.threads t Put })
 after_put s t at kept = record {
@@ -198,24 +198,24 @@ after_wake s t at kept = let up : Kept (record s { sleeper = woken s.sleeper }) 
     (λ is same some. let was = woken_by s.sleeper is in kept.sleeper_covered was.0 (same ∙ was.1) some) (λ is some. absurd (asleep_up s.sleeper is)) in
     moves (record s { sleeper = woken s.sleeper }) t s.driven Calls Rests up at (λ put. put) refl (omega arith) (λ by_read. absurd by_read) (λ is some. absurd (asleep_up s.sleeper is))
 
-after_take : (s : State) (t n : ℕ) → StandsAt s t (Read n) → Kept s → Kept (record s { lying = 0; threads = set s.threads t (Took n) })
-after_take s t n at kept = record {
-  counted = omega (arith, kept.counted, lookers_set s.threads t (Read n) (Took n) at);
-  low = each_set (λ place. read_of place ≤ s.rings) s.threads t (Took n) (kept.low t (Read n) at) kept.low;
-  covered = λ u place there is same some. absurd (omega arith);
-  sleeper_low = kept.sleeper_low;
-  sleeper_covered = λ is same some. absurd (omega arith);
-  asleep = λ is some. absurd (omega arith);
-}
-
-after_sleeper_take : (s : State) (n : ℕ) → s.sleeper ≡ HasRead n → Kept s → Kept (record s { lying = 0; sleeper = HasTaken n })
-after_sleeper_take s n at kept = record {
+after_more : (s : State) (t : ℕ) → StandsAt s t Put → Kept s → Kept (record s { lying = s.lying + 1 })
+after_more s t at kept = record {
   counted = kept.counted;
   low = kept.low;
-  covered = λ u place there is same some. absurd (omega arith);
-  sleeper_low = subst (λ (sleeper : Sleeper). sleeper_read sleeper ≤ s.rings) at kept.sleeper_low;
-  sleeper_covered = λ is same some. absurd (omega arith);
-  asleep = λ is some. absurd (omega arith);
+  covered = λ u place there is same some. (t, Put, at, tt);
+  sleeper_low = kept.sleeper_low;
+  sleeper_covered = λ is same some. (t, Put, at, tt);
+  asleep = λ is some. (t, Put, at, tt);
+}
+
+after_take : (s : State) → Kept s → Kept (record s { lying = s.lying - 1 })
+after_take s kept = record {
+  counted = kept.counted;
+  low = kept.low;
+  covered = λ u place there is same some. kept.covered u place there is same (omega arith);
+  sleeper_low = kept.sleeper_low;
+  sleeper_covered = λ is same some. kept.sleeper_covered is same (omega arith);
+  asleep = λ is some. kept.asleep is (omega arith);
 }
 
 -- a thread that goes by what it read rests where there are no more rings
@@ -237,6 +237,7 @@ sleeper_has s n at kept same some = subst (λ (sleeper : Sleeper). SleeperGoesBy
 -- each step keeps it
 keeps : (before after : State) → Step before after → Kept before → Kept after
 keeps s after (puts t at is) kept = subst Kept (sym is) (after_put s t at kept)
+keeps s after (puts_more t at is) kept = subst Kept (sym is) (after_more s t at kept)
 keeps s after (rings t at is) kept = subst Kept (sym is) (after_ring s t at kept)
 keeps s after (finds_driven t at some is) kept = subst Kept (sym is) (after_driven s t at some kept)
 keeps s after (finds_nobody t at none is) kept = subst Kept (sym is) (goes_on s t s.driven Rang Calls kept at (λ put. put) refl (omega arith) (λ by_read. absurd by_read) tt)
@@ -244,14 +245,16 @@ keeps s after (wakes t at is) kept = subst Kept (sym is) (after_wake s t at kept
 keeps s after (comes t at is) kept = subst Kept (sym is) (goes_on s t (s.driven + 1) Rests Came kept at (λ put. put) (omega arith) (omega arith) (λ by_read. absurd by_read) tt)
 keeps s after (reads t at is) kept = subst Kept (sym is) (goes_on s t s.driven Came (Read s.rings) kept at (λ put. put) refl (omega arith) (λ by_read. absurd by_read) tt)
 keeps s after (misses t n at is) kept = subst Kept (sym is) (goes_on s t s.driven (Read n) Came kept at (λ put. put) refl (omega arith) (λ by_read. absurd by_read) tt)
-keeps s after (takes t n at is) kept = subst Kept (sym is) (after_take s t n at kept)
+keeps s after (takes t n at is) kept = subst Kept (sym is) (after_take s kept)
+keeps s after (finds_none t n at none is) kept = subst Kept (sym is) (goes_on s t s.driven (Read n) (Took n) kept at (λ put. put) refl (kept.low t (Read n) at) (λ by_read same some. absurd (omega (arith, none))) tt)
 keeps s after (looks_again t n at is) kept = subst Kept (sym is) (goes_on s t s.driven (Took n) Came kept at (λ put. put) refl (omega arith) (λ by_read. absurd by_read) tt)
 keeps s after (leaves_bare t at is) kept = subst Kept (sym is) (goes_on s t (s.driven - 1) Came Calls kept at (λ put. put) (less_one s t Came kept at refl) (omega arith) (λ by_read. absurd by_read) tt)
 keeps s after (leaves t n at is) kept = subst Kept (sym is) (goes_on s t (s.driven - 1) (Took n) (Left n) kept at (λ put. put) (less_one s t (Took n) kept at refl) (kept.low t (Took n) at) (λ by_read. kept.covered t (Took n) at tt) tt)
 keeps s after (finds_same t n at same is) kept = subst Kept (sym is) (after_same s t n at same kept)
 keeps s after (finds_more t n at apart is) kept = subst Kept (sym is) (goes_on s t s.driven (Left n) Calls kept at (λ put. put) refl (omega arith) (λ by_read. absurd by_read) tt)
 keeps s after (sleeper_reads at is) kept = subst Kept (sym is) (sleeper_moves s (HasRead s.rings) kept (omega arith) (λ by_read. absurd by_read) (not_asleep (HasRead s.rings) (λ asleep. asleep) s.lying s.threads))
-keeps s after (sleeper_takes n at is) kept = subst Kept (sym is) (after_sleeper_take s n at kept)
+keeps s after (sleeper_takes n at is) kept = subst Kept (sym is) (after_take s kept)
+keeps s after (sleeper_finds_none n at none is) kept = subst Kept (sym is) (sleeper_moves s (HasTaken n) kept (subst (λ (stand : Sleeper). sleeper_read stand ≤ s.rings) at kept.sleeper_low) (λ by_read same some. absurd (omega (arith, none))) (not_asleep (HasTaken n) (λ asleep. asleep) s.lying s.threads))
 keeps s after (falls_asleep n at same is) kept = subst Kept (sym is) (sleeper_moves s Sleeps kept (omega arith) (λ by_read. absurd by_read)
     (λ sleeps some. weaker HasPut Goes puts_goes s.threads (sleeper_has s n at kept same some)))
 keeps s after (stays_up n at apart is) kept = subst Kept (sym is) (sleeper_moves s Up kept (omega arith) (λ by_read. absurd by_read) (not_asleep Up (λ asleep. asleep) s.lying s.threads))

@@ -1,5 +1,5 @@
 -- What a list has at each place after one place was set.
-use Rattle.std.proofs.Common.{◌≡◌, ◌≢◌, ℕ, zero, suc, ◌⊎◌, inl, inr, List, [], ◌∷◌, Some, None, set, replicate, refl, sym, ap, subst, ◌∙◌}
+use Rattle.std.proofs.Common.{◌≡◌, ◌≢◌, ℕ, zero, suc, ◌⊎◌, inl, inr, List, [], ◌∷◌, Some, None, set, replicate, refl, sym, ap, subst, ◌∙◌, arith}
 use Rattle.std.specs.List.{slice_get}
 
 module _ {A : Type 0} where
@@ -21,16 +21,16 @@ module _ {A : Type 0} where
   get_else (x ∷ xs) (suc i) (suc j) new apart = get_else xs i j new (λ e. apart (ap suc e))
 
   -- what is found is what was set, or stood there
-  pub get_set : (xs : List A) (i j : ℕ) (new found : A) → slice_get (set xs i new) j ≡ Some found → ((j ≡ i) × (new ≡ found)) ⊎ (slice_get xs j ≡ Some found)
-  get_set [] i j new found e = inr e
+  pub get_set : (xs : List A) (i j : ℕ) (new found : A) → slice_get (set xs i new) j ≡ Some found → ((j ≡ i) × (new ≡ found)) ⊎ ((j ≢ i) × (slice_get xs j ≡ Some found))
+  get_set [] i j new found e = absurd (none_some found e)
   get_set (x ∷ xs) zero zero new found e = inl (refl, cc)
-  get_set (x ∷ xs) zero (suc j) new found e = inr e
-  get_set (x ∷ xs) (suc i) zero new found e = inr e
+  get_set (x ∷ xs) zero (suc j) new found e = inr ((λ same. omega (arith, same)), e)
+  get_set (x ∷ xs) (suc i) zero new found e = inr ((λ same. omega (arith, same)), e)
   get_set (x ∷ xs) (suc i) (suc j) new found e = by (get_set xs i j new found e)
     where
-      by : ((j ≡ i) × (new ≡ found)) ⊎ (slice_get xs j ≡ Some found) → ((suc j ≡ suc i) × (new ≡ found)) ⊎ (slice_get xs j ≡ Some found)
+      by : ((j ≡ i) × (new ≡ found)) ⊎ ((j ≢ i) × (slice_get xs j ≡ Some found)) → ((suc j ≡ suc i) × (new ≡ found)) ⊎ ((suc j ≢ suc i) × (slice_get xs j ≡ Some found))
       by (inl (at, is)) = inl (ap suc at, is)
-      by (inr there) = inr there
+      by (inr (apart, there)) = inr ((λ same. apart (omega (arith, same))), there)
 
   -- in a list of one thing nothing else is found
   pub get_replicate : (n i : ℕ) (x found : A) → slice_get (replicate n x) i ≡ Some found → found ≡ x
@@ -66,6 +66,6 @@ module _ {A : Type 0} where
   pub each_set : (P : A → Type 0) (xs : List A) (i : ℕ) (new : A) → P new → Each P xs → Each P (set xs i new)
   each_set P xs i new is each j x at = by (get_set xs i j new x at)
     where
-      by : ((j ≡ i) × (new ≡ x)) ⊎ (slice_get xs j ≡ Some x) → P x
+      by : ((j ≡ i) × (new ≡ x)) ⊎ ((j ≢ i) × (slice_get xs j ≡ Some x)) → P x
       by (inl (here, same)) = subst P same is
-      by (inr there) = each j x there
+      by (inr (apart, there)) = each j x there

@@ -11,13 +11,13 @@ pub data Place : Type 0 where
   Rang : Place
   -- it has yet to wake the sleeper
   Calls : Place
-  -- it is counted among those that look, and no take of its own counts
+  -- it is counted among those that look, and no look of its own counts
   Came : Place
   -- it is counted, and read the rings when there were so many
   Read : ℕ → Place
-  -- it is counted, and took all that lay there after it read so many rings
+  -- it is counted, and found nothing more there after it read so many rings
   Took : ℕ → Place
-  -- it is no longer counted, and has yet to look whether there are more rings than these, which it read before it took
+  -- it is no longer counted, and has yet to look whether there are more rings than these, which it read before its look
   Left : ℕ → Place
 
 -- where the thread stands that sleeps while there is nothing
@@ -26,7 +26,7 @@ pub data Sleeper : Type 0 where
   Up : Sleeper
   -- it read the rings when there were so many
   HasRead : ℕ → Sleeper
-  -- it took all that lay there after it read so many rings
+  -- it found nothing more there after it read so many rings
   HasTaken : ℕ → Sleeper
   -- asleep
   Sleeps : Sleeper
@@ -56,6 +56,8 @@ woken sleeper = sleeper
 pub data Step (before after : State) : Type 0 where
   -- it puts something
   puts : (t : ℕ) → StandsAt before t Rests → after ≡ record before { lying = before.lying + 1; threads = set before.threads t Put } → Step before after
+  -- it puts more before it rings
+  puts_more : (t : ℕ) → StandsAt before t Put → after ≡ record before { lying = before.lying + 1 } → Step before after
   -- it rings
   rings : (t : ℕ) → StandsAt before t Put → after ≡ record before { rings = before.rings + 1; threads = set before.threads t Rang } → Step before after
   -- it finds that somebody looks, and rests
@@ -70,23 +72,27 @@ pub data Step (before after : State) : Type 0 where
   reads : (t : ℕ) → StandsAt before t Came → after ≡ record before { threads = set before.threads t (Read before.rings) } → Step before after
   -- what it looks at is another's at the moment, so what it read doesn't count
   misses : (t n : ℕ) → StandsAt before t (Read n) → after ≡ record before { threads = set before.threads t Came } → Step before after
-  -- it takes all that lies there
-  takes : (t n : ℕ) → StandsAt before t (Read n) → after ≡ record before { lying = 0; threads = set before.threads t (Took n) } → Step before after
+  -- it takes one thing
+  takes : (t n : ℕ) → StandsAt before t (Read n) → after ≡ record before { lying = before.lying - 1 } → Step before after
+  -- it finds nothing more there
+  finds_none : (t n : ℕ) → StandsAt before t (Read n) → before.lying ≡ 0 → after ≡ record before { threads = set before.threads t (Took n) } → Step before after
   -- it looks once more
   looks_again : (t n : ℕ) → StandsAt before t (Took n) → after ≡ record before { threads = set before.threads t Came } → Step before after
-  -- it leaves with no take that counts, and is no longer counted
+  -- it leaves with no look that counts, and is no longer counted
   leaves_bare : (t : ℕ) → StandsAt before t Came → after ≡ record before { driven = before.driven - 1; threads = set before.threads t Calls } → Step before after
   -- it leaves, and is no longer counted
   leaves : (t n : ℕ) → StandsAt before t (Took n) → after ≡ record before { driven = before.driven - 1; threads = set before.threads t (Left n) } → Step before after
-  -- it finds as many rings as it read before it took, and rests
+  -- it finds as many rings as it read before its look, and rests
   finds_same : (t n : ℕ) → StandsAt before t (Left n) → before.rings ≡ n → after ≡ record before { threads = set before.threads t Rests } → Step before after
   -- it finds more rings
   finds_more : (t n : ℕ) → StandsAt before t (Left n) → before.rings ≢ n → after ≡ record before { threads = set before.threads t Calls } → Step before after
   -- the sleeper reads the rings
   sleeper_reads : before.sleeper ≡ Up → after ≡ record before { sleeper = HasRead before.rings } → Step before after
-  -- the sleeper takes all that lies there
-  sleeper_takes : (n : ℕ) → before.sleeper ≡ HasRead n → after ≡ record before { lying = 0; sleeper = HasTaken n } → Step before after
-  -- the sleeper finds as many rings as it read before it took, and falls asleep
+  -- the sleeper takes one thing
+  sleeper_takes : (n : ℕ) → before.sleeper ≡ HasRead n → after ≡ record before { lying = before.lying - 1 } → Step before after
+  -- the sleeper finds nothing more there
+  sleeper_finds_none : (n : ℕ) → before.sleeper ≡ HasRead n → before.lying ≡ 0 → after ≡ record before { sleeper = HasTaken n } → Step before after
+  -- the sleeper finds as many rings as it read before its look, and falls asleep
   falls_asleep : (n : ℕ) → before.sleeper ≡ HasTaken n → before.rings ≡ n → after ≡ record before { sleeper = Sleeps } → Step before after
   -- the sleeper finds more rings, and stays up
   stays_up : (n : ℕ) → before.sleeper ≡ HasTaken n → before.rings ≢ n → after ≡ record before { sleeper = Up } → Step before after

@@ -2,7 +2,9 @@
 //! turn is another's, that one looks again before it rests.
 #![tactic(auto)]
 
+mod bell;
 pub mod laws;
 mod offered;
 
+pub use bell::Bell;
 pub use offered::Offered;

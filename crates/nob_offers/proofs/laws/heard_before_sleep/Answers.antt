@@ -1,6 +1,5 @@
 use Rattle.nob_offers.proofs.Bells.{heard}
 use Rattle.nob_offers.proofs.laws.heard_before_sleep.Goals as goal
 
--- src/laws.rt:7:1
 pub returns : goal.returns
 returns c = heard
