@@ -4,6 +4,7 @@ use std::sync::atomic::{AtomicU64, Ordering};
 use std::sync::{Mutex, Wait};
 
 /// A value with the count of what was handed to it.
+#[derive(Drop)]
 pub struct Offered<T> {
     handed: AtomicU64,
     value: Mutex<T>,
