@@ -1,7 +1,10 @@
 //! A value whose turns any thread may run.
 
+mod steps;
+
 use std::sync::atomic::{AtomicU64, Ordering};
 use std::sync::{Mutex, Wait};
+use steps::Owes;
 
 /// A value with the count of what was handed to it.
 #[derive(Drop)]
@@ -24,22 +27,24 @@ impl<T> Offered<T> {
         self.handed.fetch_add(1, Ordering::SeqCst);
     }
 
-    /// Runs turns until one has begun after the last that was handed, or leaves them to the thread
-    /// that has the value.
+    /// Runs turns until the counter stands where it stood when the last of them began, or leaves
+    /// what was handed to the thread that has the turn.
     pub fn offer<R: Wait, F: FnMut(&mut T)>(&self, rt: &R, mut turn: F)
         requires { F.IsAlwaysCallable turn }
     {
+        let mut owes = Owes::come(self);
         for _ in rt.forever() {
-            let Some(mut value) = self.value.try_lock() else {
+            let Some(took) = owes.take() else {
                 return;
             };
-            let began = self.handed.load(Ordering::SeqCst);
-            turn(&mut value);
-            drop(value);
-            if self.handed.load(Ordering::SeqCst) == began {
+            let mut held = took.begin();
+            turn(held.value());
+            let Some(more) = held.give_back().look() else {
                 return;
-            }
+            };
+            owes = more;
         }
+        unreachable!()
     }
 
     /// The value, once all threads are done with it.
