@@ -1,0 +1,4 @@
+pub mod Bells
+pub mod Lists
+pub mod Offers
+pub mod Turns

@@ -1,0 +1,2 @@
+pub mod Bells
+pub mod Offers

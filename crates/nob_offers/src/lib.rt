@@ -1,0 +1,10 @@
+//! Turns that threads share. Who hands something on offers a turn and waits for nobody: where the
+//! turn is another's, that one looks again before it rests.
+#![tactic(auto)]
+
+mod bell;
+pub mod laws;
+mod offered;
+
+pub use bell::Bell;
+pub use offered::Offered;
