@@ -38,41 +38,51 @@ fn by_threads<R: Threads + Wait + Sync>(
     threads: u32,
     pairs: u32,
 ) -> Option<u64> {
-    let rep = exported(rt, keeper)?;
+    let index = exported(rt, keeper)?;
     match threads {
-        1 => Some(by_one(rt, keeper, rep, pairs)),
-        2 => Some(by_two(rt, keeper, rep, pairs)),
-        4 => {
-            let (one, other) = thread::join(
-                rt,
-                move || by_two(rt, keeper, rep, pairs),
-                move || by_two(rt, keeper, rep, pairs),
-            );
-            one.checked_add(other)
-        }
+        1 => Some(by_one(rt, keeper, index, pairs)),
+        2 => Some(by_two(rt, keeper, index, pairs)),
+        4 => Some(by_four(rt, keeper, index, pairs)),
         _ => None,
     }
 }
 
-// The calls of two threads.
-fn by_two<R: Threads + Wait + Sync>(rt: &R, keeper: &Keeper, rep: WireRep, pairs: u32) -> u64 {
-    let (one, other) = thread::join(
+// The calls of four threads.
+fn by_four<R: Threads + Wait + Sync>(rt: &R, keeper: &Keeper, index: u64, pairs: u32) -> u64 {
+    let counts = thread::join(
         rt,
-        move || by_one(rt, keeper, rep, pairs),
-        move || by_one(rt, keeper, rep, pairs),
+        move || by_two(rt, keeper, index, pairs),
+        move || by_two(rt, keeper, index, pairs),
     );
-    one.saturating_add(other)
+    counts.0.saturating_add(counts.1)
+}
+
+// The calls of two threads.
+fn by_two<R: Threads + Wait + Sync>(rt: &R, keeper: &Keeper, index: u64, pairs: u32) -> u64 {
+    let counts = thread::join(
+        rt,
+        move || by_one(rt, keeper, index, pairs),
+        move || by_one(rt, keeper, index, pairs),
+    );
+    counts.0.saturating_add(counts.1)
 }
 
 // The calls of one thread, with a seat of its own.
-fn by_one<R: Wait>(rt: &R, keeper: &Keeper, rep: WireRep, pairs: u32) -> u64 {
+fn by_one<R: Wait>(rt: &R, keeper: &Keeper, index: u64, pairs: u32) -> u64 {
+    let Some(owner) = SpaceId::new(1) else {
+        return 0;
+    };
+    let rep = WireRep { owner, index };
+    let dup = Event::Dup(rep);
+    let release = Event::Release(rep);
     let mut seat = keeper.seat();
     let mut count: u64 = 0;
     for _ in 0..pairs {
-        for event in [Event::Dup(rep), Event::Release(rep)] {
-            if is_answered(rt, keeper, &mut seat, &event) {
-                count = count.saturating_add(1);
-            }
+        if is_answered(rt, keeper, &mut seat, &dup) {
+            count = count.saturating_add(1);
+        }
+        if is_answered(rt, keeper, &mut seat, &release) {
+            count = count.saturating_add(1);
         }
     }
     count
@@ -87,12 +97,12 @@ fn is_answered<R: Wait>(rt: &R, keeper: &Keeper, seat: &mut Seat, event: &Event)
         }
 }
 
-// A new object.
-fn exported<R: Wait>(rt: &R, keeper: &Keeper) -> Option<WireRep> {
+// The index of a new object.
+fn exported<R: Wait>(rt: &R, keeper: &Keeper) -> Option<u64> {
     let mut seat = keeper.seat();
     keeper.call(rt, &mut seat, &Event::Export, 0).ok()?;
     match &seat.newest()?.result {
-        Ok(Answer::Exported(rep)) => Some(*rep),
+        Ok(Answer::Exported(rep)) => Some(rep.index),
         _ => None,
     }
 }

@@ -46,6 +46,7 @@ pub(crate) fn keeper_of(alloc: Global, space: SpaceId) -> Option<Keeper> {
 /// The new ends of the links to a peer and from it, and the words of the shim before the first.
 #[derive(Drop)]
 pub(crate) struct Ends {
+    pub(crate) alloc: Global,
     put: PutEnd,
     take: TakeEnd,
     words: Vec<u64>,
@@ -63,11 +64,13 @@ pub(crate) fn ends_of_both(alloc: Global, loss: u64) -> Option<(Ends, Ends)> {
     let (put_there, take_there) = link(alloc, 64).ok()?;
     let (put_back, take_back) = link(alloc, 64).ok()?;
     let ours = Ends {
+        alloc,
         put: put_there,
         take: take_back,
         words: there,
     };
     let theirs = Ends {
+        alloc,
         put: put_back,
         take: take_there,
         words: back,
@@ -84,13 +87,13 @@ fn words_of(alloc: Global, from: SpaceId, to: SpaceId, loss: u64) -> Option<Vec<
 }
 
 /// The agents of a keeper, between the ends of its links to and from its peer.
-pub(crate) fn agents_of(
-    alloc: Global,
-    keeper: &Keeper,
-    peer: SpaceId,
-    ends: Ends,
-) -> Option<Agents> {
-    let Ends { put, take, words } = ends;
+pub(crate) fn agents_of(keeper: &Keeper, peer: SpaceId, ends: Ends) -> Option<Agents> {
+    let Ends {
+        alloc,
+        put,
+        take,
+        words,
+    } = ends;
     let ways = ways_of(alloc, peer, put, words)?;
     Some(Agents {
         taker: Taker::new(keeper.seat(), peer, take),

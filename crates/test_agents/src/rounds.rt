@@ -110,8 +110,8 @@ fn agents_of_both(
     loss: u64,
 ) -> Option<(Agents, Agents)> {
     let (ends, other_ends) = ends_of_both(alloc, loss)?;
-    let ours = agents_of(alloc, one, SpaceId::new(2)?, ends)?;
-    let theirs = agents_of(alloc, other, SpaceId::new(1)?, other_ends)?;
+    let ours = agents_of(one, SpaceId::new(2)?, ends)?;
+    let theirs = agents_of(other, SpaceId::new(1)?, other_ends)?;
     Some((ours, theirs))
 }
 

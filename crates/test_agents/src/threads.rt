@@ -70,17 +70,18 @@ fn in_threads<R: Threads + Wait + Sync>(
     thread::join(
         rt,
         move || {
-            let left = until_withdrawn(rt, alloc, one, ends);
+            let left = until_withdrawn(rt, one, ends);
             done.store(true, Ordering::SeqCst);
             left
         },
-        move || until_done(rt, alloc, other, other_ends, done),
+        move || until_done(rt, other, other_ends, done),
     )
 }
 
 // The first space's rounds.
-fn until_withdrawn<R: Wait>(rt: &R, alloc: Global, keeper: &Keeper, ends: Ends) -> Option<Left> {
-    let mut agents = agents_of(alloc, keeper, SpaceId::new(2)?, ends)?;
+fn until_withdrawn<R: Wait>(rt: &R, keeper: &Keeper, ends: Ends) -> Option<Left> {
+    let alloc = ends.alloc;
+    let mut agents = agents_of(keeper, SpaceId::new(2)?, ends)?;
     begin(rt, keeper, &mut agents)?;
     for _ in 0..MOST_ROUNDS {
         agents.round(rt, keeper)?;
@@ -93,14 +94,9 @@ fn until_withdrawn<R: Wait>(rt: &R, alloc: Global, keeper: &Keeper, ends: Ends) 
 }
 
 // The second space's rounds.
-fn until_done<R: Wait>(
-    rt: &R,
-    alloc: Global,
-    keeper: &Keeper,
-    ends: Ends,
-    done: &AtomicBool,
-) -> Option<Left> {
-    let mut agents = agents_of(alloc, keeper, SpaceId::new(1)?, ends)?;
+fn until_done<R: Wait>(rt: &R, keeper: &Keeper, ends: Ends, done: &AtomicBool) -> Option<Left> {
+    let alloc = ends.alloc;
+    let mut agents = agents_of(keeper, SpaceId::new(1)?, ends)?;
     for _ in rt.forever() {
         if done.load(Ordering::SeqCst) {
             break;

@@ -16,68 +16,82 @@ const TIMES: usize = 1000;
 // So many looks at the space are made before a session is closed for which another thread waits.
 const LOOKS: usize = 1000;
 
+// What one thread leaves: its seat, and whether all its calls were answered as they must be.
+#[derive(Drop)]
+struct Left {
+    seat: Seat,
+    is_right: bool,
+}
+
 /// Two threads hold one exported object once more and give that back, again and again: the number
-/// of entries, each of which a receipt of one of them tells.
+/// of entries, each of which one receipt tells.
 pub(crate) fn pairs<R: Threads + Wait + Sync>(rt: &R, alloc: Global) -> Option<usize> {
     let keeper = new_keeper(alloc, first())?;
-    let mut one = keeper.seat();
-    let mut other = keeper.seat();
-    let done = by_two(rt, &keeper, &mut one, &mut other);
-    end_both(alloc, keeper, one, other, done)
+    let mut seat = keeper.seat();
+    let index = match exported(rt, &keeper, &mut seat) {
+        Some(rep) => rep.index,
+        None => 0,
+    };
+    let (one, other) = by_two(rt, &keeper, index);
+    end_all(alloc, keeper, seat, one, other)
 }
 
 /// A thread waits for the reply to a call until another closes the session: the number of entries.
 pub(crate) fn woken<R: Threads + Wait + Sync>(rt: &R, alloc: Global) -> Option<usize> {
     let keeper = new_keeper(alloc, first())?;
-    let mut one = keeper.seat();
-    let mut other = keeper.seat();
-    let done = waits_for_close(rt, &keeper, &mut one, &mut other);
-    end_both(alloc, keeper, one, other, done)
+    let mut seat = keeper.seat();
+    let called = calls(rt, &keeper, &mut seat);
+    let (one, other) = wait_and_close(rt, &keeper);
+    let count = end_all(alloc, keeper, seat, one, other);
+    if called { count } else { None }
 }
 
-// Ends a keeper with the seats of two threads: the number of entries, if all went well before.
-fn end_both(alloc: Global, keeper: Keeper, one: Seat, other: Seat, done: bool) -> Option<usize> {
-    let mut seats = Vec::new(alloc);
-    let Ok(()) = seats.push(one) else {
-        keeper.shut();
-        return None;
-    };
-    let Ok(()) = seats.push(other) else {
+// Ends a keeper with all seats: the number of entries, if all went well before.
+fn end_all(alloc: Global, keeper: Keeper, seat: Seat, one: Left, other: Left) -> Option<usize> {
+    let is_right = one.is_right && other.is_right;
+    let Some(seats) = seats_of(alloc, seat, one, other) else {
         keeper.shut();
         return None;
     };
     let count = ends(keeper, seats);
-    if done { count } else { None }
+    if is_right { count } else { None }
 }
 
-// Whether the two threads are answered as they must be.
-fn by_two<R: Threads + Wait + Sync>(
-    rt: &R,
-    keeper: &Keeper,
-    one: &mut Seat,
-    other: &mut Seat,
-) -> bool {
-    let Some(rep) = exported(rt, keeper, one) else {
-        return false;
-    };
-    let (first, second) = thread::join(
+// All seats.
+fn seats_of(alloc: Global, seat: Seat, one: Left, other: Left) -> Option<Vec<Seat>> {
+    let mut seats = Vec::new(alloc);
+    seats.push(seat).ok()?;
+    let Left { seat, is_right: _ } = one;
+    seats.push(seat).ok()?;
+    let Left { seat, is_right: _ } = other;
+    seats.push(seat).ok()?;
+    Some(seats)
+}
+
+// What the two threads leave that hold the object of an index once more.
+fn by_two<R: Threads + Wait + Sync>(rt: &R, keeper: &Keeper, index: u64) -> (Left, Left) {
+    thread::join(
         rt,
-        move || holds_and_releases(rt, keeper, one, rep),
-        move || holds_and_releases(rt, keeper, other, rep),
-    );
-    first && second
+        move || hold_and_release(rt, keeper, index),
+        move || hold_and_release(rt, keeper, index),
+    )
 }
 
-// Whether each hold more is given, and taken back.
-fn holds_and_releases<R: Wait>(rt: &R, keeper: &Keeper, seat: &mut Seat, rep: WireRep) -> bool {
+// Holds the object of an index once more and gives that back, again and again.
+fn hold_and_release<R: Wait>(rt: &R, keeper: &Keeper, index: u64) -> Left {
+    let mut seat = keeper.seat();
+    let mut is_right = true;
+    let rep = WireRep {
+        owner: first(),
+        index,
+    };
+    let dup = Event::Dup(rep);
+    let release = Event::Release(rep);
     for _ in 0..TIMES {
-        if !is_answered(rt, keeper, seat, &Event::Dup(rep))
-            || !is_answered(rt, keeper, seat, &Event::Release(rep))
-        {
-            return false;
-        }
+        is_right = is_right && is_answered(rt, keeper, &mut seat, &dup);
+        is_right = is_right && is_answered(rt, keeper, &mut seat, &release);
     }
-    true
+    Left { seat, is_right }
 }
 
 // Whether the space does this.
@@ -89,13 +103,8 @@ fn is_answered<R: Wait>(rt: &R, keeper: &Keeper, seat: &mut Seat, event: &Event)
         }
 }
 
-// Whether who waits for the reply to a call is told that the call has ended.
-fn waits_for_close<R: Threads + Wait + Sync>(
-    rt: &R,
-    keeper: &Keeper,
-    one: &mut Seat,
-    other: &mut Seat,
-) -> bool {
+// Whether the second space's agent is called.
+fn calls<R: Wait>(rt: &R, keeper: &Keeper, seat: &mut Seat) -> bool {
     let call = Event::Call {
         target: WireRep {
             owner: second(),
@@ -104,30 +113,35 @@ fn waits_for_close<R: Threads + Wait + Sync>(
         method: 1,
         value: Value::Unit,
     };
-    if !is_answered(rt, keeper, one, &call) {
-        return false;
-    }
-    let (told, closed) = thread::join(
-        rt,
-        move || is_told_of_end(rt, keeper, one),
-        move || closes(rt, keeper, other),
-    );
-    told && closed
+    is_answered(rt, keeper, seat, &call)
 }
 
-// Whether the first call is told to have ended.
-fn is_told_of_end<R: Wait>(rt: &R, keeper: &Keeper, seat: &mut Seat) -> bool {
-    keeper.wait_reply(rt, seat, CallNo::new(1)).is_ok()
+// What two threads leave, of which one waits for the reply and the other closes the session.
+fn wait_and_close<R: Threads + Wait + Sync>(rt: &R, keeper: &Keeper) -> (Left, Left) {
+    thread::join(
+        rt,
+        move || wait_for_end(rt, keeper),
+        move || close(rt, keeper),
+    )
+}
+
+// Waits for the reply to the first call, which must be told to have ended.
+fn wait_for_end<R: Wait>(rt: &R, keeper: &Keeper) -> Left {
+    let mut seat = keeper.seat();
+    let is_right = keeper.wait_reply(rt, &mut seat, CallNo::new(1)).is_ok()
         && match seat.newest() {
             Some(receipt) => matches!(&receipt.result, Ok(Answer::Ended)),
             None => false,
-        }
+        };
+    Left { seat, is_right }
 }
 
-// Whether the session with the second space is closed, after some looks.
-fn closes<R: Wait>(rt: &R, keeper: &Keeper, seat: &mut Seat) -> bool {
+// Closes the session with the second space, after some looks.
+fn close<R: Wait>(rt: &R, keeper: &Keeper) -> Left {
+    let mut seat = keeper.seat();
     for _ in 0..LOOKS {
         let _work = keeper.work(rt);
     }
-    is_answered(rt, keeper, seat, &Event::Close(second()))
+    let is_right = is_answered(rt, keeper, &mut seat, &Event::Close(second()));
+    Left { seat, is_right }
 }

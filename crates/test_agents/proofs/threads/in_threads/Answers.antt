@@ -1,11 +1,12 @@
 use denote.Param.Send.{sendable}
 use Rattle.std.proofs.Crossing.{crosses}
 use Rattle.nob_keeper.proofs.Crossing.{keeper_sync, seat_send}
+use Rattle.test_agents.proofs.node.Ends.TheSendSync as ends
 use Rattle.test_agents.proofs.threads.in_threads.Goals as goal
 
--- the new thread shares the keeper
+-- the new thread shares the keeper, and has the ends of the links
 pub join-requires-send-F : goal.join-requires-send-F
-join-requires-send-F g c κs within = search (keeper_sync, c.type_bounds.sync-R, sendable, crosses) depth 60 fits 20000
+join-requires-send-F g c κs within = search (keeper_sync, ends.the_send, sendable, crosses) depth 60 fits 20000
 
 -- it gives the seats back
 pub join-requires-send-A : goal.join-requires-send-A
