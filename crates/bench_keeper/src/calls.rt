@@ -72,9 +72,8 @@ fn by_one<R: Wait>(rt: &R, keeper: &Keeper, index: u64, pairs: u32) -> u64 {
     let Some(owner) = SpaceId::new(1) else {
         return 0;
     };
-    let rep = WireRep { owner, index };
-    let dup = Event::Dup(rep);
-    let release = Event::Release(rep);
+    let dup = Event::Dup(WireRep { owner, index });
+    let release = Event::Release(WireRep { owner, index });
     let mut seat = keeper.seat();
     let mut count: u64 = 0;
     for _ in 0..pairs {

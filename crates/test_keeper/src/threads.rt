@@ -81,17 +81,21 @@ fn by_two<R: Threads + Wait + Sync>(rt: &R, keeper: &Keeper, index: u64) -> (Lef
 fn hold_and_release<R: Wait>(rt: &R, keeper: &Keeper, index: u64) -> Left {
     let mut seat = keeper.seat();
     let mut is_right = true;
-    let rep = WireRep {
-        owner: first(),
-        index,
-    };
-    let dup = Event::Dup(rep);
-    let release = Event::Release(rep);
+    let dup = Event::Dup(object(index));
+    let release = Event::Release(object(index));
     for _ in 0..TIMES {
         is_right = is_right && is_answered(rt, keeper, &mut seat, &dup);
         is_right = is_right && is_answered(rt, keeper, &mut seat, &release);
     }
     Left { seat, is_right }
+}
+
+// The first space's object of an index.
+fn object(index: u64) -> WireRep {
+    WireRep {
+        owner: first(),
+        index,
+    }
 }
 
 // Whether the space does this.
