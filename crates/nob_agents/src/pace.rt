@@ -55,6 +55,21 @@ impl Pace {
         self.step(peers)
     }
 
+    // What is new and to be asked next, where a Transmit to these peers would give a frame. No turn
+    // is counted.
+    pub(crate) fn next_new(&mut self, look: &Look, peers: &[Option<SpaceId>]) -> Option<Event> {
+        if let Stage::Rest { .. } = self.stage {
+            if look.handed <= self.handed {
+                return None;
+            }
+            self.stage = Stage::Fresh {
+                handed: look.handed,
+                next: 0,
+            };
+        }
+        self.step(peers)
+    }
+
     // What follows a rest of so many turns, if it is over.
     fn after_rest(&mut self, look: &Look, turns: u32, is_out: bool) -> Option<Stage> {
         if look.handed > self.handed {

@@ -1,6 +1,6 @@
 //! What an agent asks of the ends of a link.
 
-ghost use Rattle.std.specs.Prelude.{◌≡◌, ◌++◌, ◌∷◌, [], List, MatchResult};
+ghost use Rattle.std.specs.Prelude.{◌≡◌, ◌++◌, ◌∷◌, [], List, MatchOption, MatchResult};
 ghost use Rattle.nob_link.specs.declared.parcel.Parcel.{Parcel as ParcelOf};
 ghost use Rattle.nob_link.specs.Ends.{parcel_back};
 
@@ -12,6 +12,12 @@ pub trait TakeParcel {
     /// What it has taken, the first first.
     ghost taken: { Self → List ParcelOf };
 
+    /// Takes the next parcel, and waits while there is none. `None` where there is none and the
+    /// other end is gone.
+    fn take<R: Wait>(&mut self, rt: &R) -> Option<Parcel>
+        ensures { MatchOption result (taken self.new ≡ taken self.old)
+            (λ parcel. taken self.new ≡ taken self.old ++ parcel ∷ []) };
+
     /// Takes the next parcel if there is one now.
     fn try_take<R: Wait>(&mut self, rt: &R) -> Result<Parcel, TryTakeError>
         ensures { MatchResult result
@@ -21,6 +27,10 @@ pub trait TakeParcel {
 
 impl TakeParcel for TakeEnd {
     ghost taken = { λ end. end.taken };
+
+    fn take<R: Wait>(&mut self, rt: &R) -> Option<Parcel> {
+        self.take_as(rt)
+    }
 
     fn try_take<R: Wait>(&mut self, rt: &R) -> Result<Parcel, TryTakeError> {
         self.try_take_as(rt)

@@ -12,7 +12,7 @@ use crate::passing::{has_gone_on, kept_behind, next_of, pass_on};
 use crate::turn::Turn;
 use crate::way::{Step, Way};
 use nob_ids::SpaceId;
-use nob_keeper::{KeeperError, Seat};
+use nob_keeper::{KeeperError, Look, Seat};
 use nob_model_types::Event;
 use std::marker::Model;
 use std::sync::Wait;
@@ -151,12 +151,8 @@ impl<P: PutParcel + Drop> Sender<P> {
         Ok((count, false))
     }
 
-    // What is to be asked next, if something is.
-    fn next<R: Wait, C: Calls>(&mut self, rt: &R, keeper: &C) -> Option<Event> {
-        if let Some(peer) = self.gone.take() {
-            return Some(Event::Close(peer));
-        }
-        let look = keeper.look(rt);
+    // The peers to which a Transmit would give a frame, each at its place.
+    fn peers(&self, look: &Look) -> [Option<SpaceId>; 32] {
         let mut peers = [None; 32];
         for way in &self.ways {
             let peer = way.peer();
@@ -165,7 +161,27 @@ impl<P: PutParcel + Drop> Sender<P> {
                 peers[place] = Some(peer);
             }
         }
+        peers
+    }
+
+    // What is to be asked next, if something is.
+    fn next<R: Wait, C: Calls>(&mut self, rt: &R, keeper: &C) -> Option<Event> {
+        if let Some(peer) = self.gone.take() {
+            return Some(Event::Close(peer));
+        }
+        let look = keeper.look(rt);
+        let peers = self.peers(&look);
         self.pace.next(&look, &peers)
+    }
+
+    // What is new and to be asked next, if something is. What is out isn't.
+    fn next_new<R: Wait, C: Calls>(&mut self, rt: &R, keeper: &C) -> Option<Event> {
+        if let Some(peer) = self.gone.take() {
+            return Some(Event::Close(peer));
+        }
+        let look = keeper.look(rt);
+        let peers = self.peers(&look);
+        self.pace.next_new(&look, &peers)
     }
 
     /// One turn: what is on its way is put, as far as the links have room; then something is
@@ -187,6 +203,35 @@ impl<P: PutParcel + Drop> Sender<P> {
         self.ask(rt, keeper, &event)?;
         let (count, _) = self.put_all(rt)?;
         Ok(Turn::Did(count))
+    }
+
+    /// Puts what is on its way and transmits what is new, as far as the links have room: how many
+    /// parcels. What is out isn't transmitted again, and the turns until it is aren't counted: so
+    /// whoever has handed something on may ask for this as often as he likes. After K2, or another
+    /// error of the keeper, the next turn goes on where this one stood.
+    pub fn flush<R: Wait, C: Calls>(&mut self, rt: &R, keeper: &C) -> Result<u64, KeeperError> {
+        let (mut count, mut is_clear) = self.put_all(rt)?;
+        for _ in 0..MOST_STEPS {
+            if !is_clear {
+                break;
+            }
+            let Some(event) = self.next_new(rt, keeper) else {
+                break;
+            };
+            self.ask(rt, keeper, &event)?;
+            let (more, is_clear_now) = self.put_all(rt)?;
+            count = count.saturating_add(more);
+            is_clear = is_clear_now;
+        }
+        Ok(count)
+    }
+
+    /// Whether nothing is left for it to do, by what the keeper says: all that it transmitted is put,
+    /// and a Transmit would give a frame to no peer whose link's other end is there.
+    pub fn is_done(&self, look: &Look) -> bool {
+        let is_clear = has_gone_on(&self.seat, self.handled)
+            && kept_behind(self.ways.as_slice()).is_none();
+        is_clear && self.gone.is_none() && self.peers(look).iter().all(|peer| peer.is_none())
     }
 
     /// Its parts, which are tied: what each way put, and then what it keeps behind its shim, is the

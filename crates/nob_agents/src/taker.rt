@@ -1,6 +1,6 @@
 //! The agent that takes what comes over one link.
 
-ghost use Rattle.std.specs.Prelude.{◌≡◌, [], None, OnOk};
+ghost use Rattle.std.specs.Prelude.{◌≡◌, ◌≢◌, [], None, OnOk};
 ghost use Rattle.nob_agents.specs.Taking.{IsTied};
 
 use crate::calls::Calls;
@@ -87,6 +87,34 @@ impl<T: TakeParcel + Drop> Taker<T> {
             Ok(Parcel::End) => self.has_ended = true,
             Err(TryTakeError::Empty) => {}
             Err(TryTakeError::Gone) => {
+                self.has_ended = true;
+                self.due = Some(Due {
+                    seen: 0,
+                    event: Event::Close(self.peer),
+                });
+            }
+        }
+    }
+
+    /// Waits for the next parcel, which the next turn asks the keeper of; it doesn't wait where
+    /// something is due, or nothing comes any more. Whoever puts a parcel at the link's other end
+    /// wakes it, and so does the one who lets that end go.
+    pub fn wait<R: Wait>(&mut self, rt: &R)
+        ensures due { self.old.due ≢ None → self.new ≡ self.old }
+        ensures receipts { self.new.receipts ≡ self.old.receipts }
+    {
+        if self.due.is_some() || self.has_ended {
+            return;
+        }
+        match self.end.take(rt) {
+            Some(Parcel::Frame { stamp, frame }) => {
+                self.due = Some(Due {
+                    seen: stamp,
+                    event: Event::Arrive(frame),
+                });
+            }
+            Some(Parcel::End) => self.has_ended = true,
+            None => {
                 self.has_ended = true;
                 self.due = Some(Due {
                     seen: 0,

@@ -1,1 +1,4 @@
 pub mod Ties
+pub mod Follows
+pub mod Givings
+pub mod Crossing

@@ -61,3 +61,7 @@ module _ {O : Type 0} where
   -- a dispatcher with other objects
   abbrev pub with_shelf : List (ℕ × Place O) → Dispatching O → Dispatching O
   with_shelf shelf d = record { receipts = d.receipts; shelf = shelf; due = d.due; waiting = d.waiting; ending = d.ending }
+
+  -- all but the objects is as it was
+  abbrev pub IsSameBesideShelf : (old new : Dispatching O) → Type 0
+  IsSameBesideShelf old new = (new.receipts ≡ old.receipts) × (kept new ≡ kept old)

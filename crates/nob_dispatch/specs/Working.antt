@@ -19,6 +19,14 @@ pub record Working : Type 0 where
 abbrev pub got : Working → List ℕ
 got worker = with_job worker.job (ended worker.receipts)
 
+-- the job whose object a worker has, if it has one
+abbrev pub held : Working → Option ℕ
+held worker = if_some worker.object worker.job
+  where
+    if_some : Option ℕ → Option ℕ → Option ℕ
+    if_some None job = None
+    if_some (Some object) job = job
+
 module _ {O : Type 0} where
   -- the job that is kept
   abbrev pub job_in : Keeping O → Option ℕ
@@ -36,10 +44,15 @@ module _ {O : Type 0} where
   abbrev pub with_errand : Errand O → Working → Working
   with_errand errand worker = record { receipts = worker.receipts; job = Some errand.job.job; object = Some errand.job.target }
 
-  -- a turn gives back the object that the worker had, with its job's number and its own index, or the worker has what it had
+  -- a turn gives back the object that the worker had, with its job's number and its own index, or the worker has what it had, of the job that it had it of
   abbrev pub GivesBack : Result (Progress O) KeeperError → Working → Working → Type 0
   GivesBack (Ok (progresses.Back back)) old new = (old.job ≡ Some back.job) × (old.object ≡ Some back.index) × (new.object ≡ None)
-  GivesBack _ old new = new.object ≡ old.object
+  GivesBack _ old new = (new.object ≡ old.object) × (held new ≡ held old)
+
+  -- a worker whose job has ended keeps none
+  abbrev pub IsFreeAfter : Result (Progress O) KeeperError → Working → Type 0
+  IsFreeAfter (Ok (progresses.Ended job)) worker = worker.job ≡ None
+  IsFreeAfter _ worker = Unit {0}
 
 -- whether a worker keeps no job
 abbrev pub is_free : Working → Bool
@@ -52,3 +65,7 @@ is_free worker = is_none worker.job
 -- a worker whose object has come back
 abbrev pub without_object : Working → Working
 without_object worker = record { receipts = worker.receipts; job = worker.job; object = None }
+
+-- a worker that keeps no job any more
+abbrev pub freed : Working → Working
+freed worker = record { receipts = worker.receipts; job = None; object = None }

@@ -1,9 +1,10 @@
 //! Who claims jobs.
 
-ghost use Rattle.std.specs.Prelude.{◌≡◌, ◌≢◌, ◌<◌, ◌+◌, ◌∷◌, [], ⊤, ℕ, List, false, None, Some, length, slice_index_or, OnOk, OnErr, IfOk, IfErr, IfSome, MatchOption};
+ghost use Rattle.std.specs.Prelude.{◌≡◌, ◌≢◌, ◌<◌, ◌+◌, ◌∷◌, [], ⊤, ℕ, List, true, false, None, Some, length, slice_index_or, OnOk, OnErr, IfOk, IfSome, MatchOption, MatchResult};
 ghost use Rattle.nob_model_types.specs.declared.answer.Job.{Job as JobOf};
 ghost use Rattle.nob_dispatch_lanes.specs.Balance.{times};
 ghost use Rattle.nob_dispatch.specs.Dispatching as dispatching;
+ghost use Rattle.nob_dispatch.specs.Ends.{claimed};
 ghost use Rattle.nob_dispatch.specs.Shelves as shelves;
 ghost use Rattle.nob_dispatch.specs.declared.shelf.Place.TheVariants.{Here, Away};
 
@@ -109,7 +110,9 @@ impl<O: Object> Dispatcher<O> {
     pub fn give_back(&mut self, back: Return<O>) -> Result<(), O>
         ensures here { OnOk result (self.new ≡ dispatching.with_shelf
             (shelves.with_place back.index (Here back.object) self.old.shelf) self.old) }
-        ensures back { IfErr result (λ object. (object ≡ back.object)
+        ensures back { MatchResult result
+            (λ _. shelves.place_of back.index self.old.shelf ≡ Some Away)
+            (λ object. (object ≡ back.object)
             × (shelves.place_of back.index self.old.shelf ≢ Some Away)) }
         ensures err { OnErr result (self.new ≡ self.old) }
     {
@@ -126,6 +129,39 @@ impl<O: Object> Dispatcher<O> {
         self.shelf.remove(index)
     }
 
+    /// Lends the object of an index, which is away from then on: `None` where it is away already,
+    /// or there is none. It takes no memory.
+    pub fn lend(&mut self, index: u64) -> Option<O>
+        ensures object { result ≡ shelves.object_in (shelves.place_of index self.old.shelf) }
+        ensures away { MatchOption result (self.new ≡ self.old)
+            (λ _. self.new ≡ dispatching.with_shelf
+            (shelves.with_place index Away self.old.shelf) self.old) }
+    {
+        self.shelf.take(index)
+    }
+
+    /// Puts a lent object back where it is away: else it comes back to the caller. It takes no
+    /// memory.
+    pub fn give_back_lent(&mut self, index: u64, object: O) -> Result<(), O>
+        ensures here { OnOk result (self.new ≡ dispatching.with_shelf
+            (shelves.with_place index (Here object) self.old.shelf) self.old) }
+        ensures back { MatchResult result
+            (λ _. shelves.place_of index self.old.shelf ≡ Some Away)
+            (λ back. (back ≡ object) × (shelves.place_of index self.old.shelf ≢ Some Away)) }
+        ensures err { OnErr result (self.new ≡ self.old) }
+    {
+        self.shelf.give_back(index, object)
+    }
+
+    /// Whether it keeps no job: none is to be handed on, none waits for its object, and none is to
+    /// be ended.
+    pub fn is_at_rest(&self) -> bool
+        ensures rest { result ≡ true → dispatching.kept self.now ≡ [] }
+        ensures busy { result ≡ false → dispatching.kept self.now ≢ [] }
+    {
+        self.due.is_none() && self.ending.is_none() && self.waiting.is_empty()
+    }
+
     /// One turn: the next job whose object is here is handed on with it. A job whose object isn't
     /// there ends with 'no such method'. It doesn't wait for a job. After K2, or another error of
     /// the keeper, the next turn goes on where this one stood: nothing is lost.
@@ -137,6 +173,37 @@ impl<O: Object> Dispatcher<O> {
         ensures tied { (handed : List ℕ) → dispatching.IsTied handed self.old
             → dispatching.IsTied (dispatching.with_handed result handed) self.new }
         ensures object { dispatching.HandsOver result self.old.shelf self.new.shelf }
+    {
+        self.step(rt, keeper, true)
+    }
+
+    /// One turn without a claim: it goes on with the jobs that it keeps. `Idle` where none of them
+    /// can be handed on now.
+    pub fn go_on<R: Wait, C: JobCalls>(
+        &mut self,
+        rt: &R,
+        keeper: &C,
+    ) -> Result<Handing<O>, KeeperError>
+        ensures tied { (handed : List ℕ) → dispatching.IsTied handed self.old
+            → dispatching.IsTied (dispatching.with_handed result handed) self.new }
+        ensures object { dispatching.HandsOver result self.old.shelf self.new.shelf }
+        ensures claims { claimed self.new.receipts ≡ claimed self.old.receipts }
+    {
+        self.step(rt, keeper, false)
+    }
+
+    // One turn, with a claim where nothing else is to be done, or without.
+    pub(crate) fn step<R: Wait, C: JobCalls>(
+        &mut self,
+        rt: &R,
+        keeper: &C,
+        claims: bool,
+    ) -> Result<Handing<O>, KeeperError>
+        ensures tied { (handed : List ℕ) → dispatching.IsTied handed self.old
+            → dispatching.IsTied (dispatching.with_handed result handed) self.new }
+        ensures object { dispatching.HandsOver result self.old.shelf self.new.shelf }
+        ensures claims { claims ≡ false
+            → claimed self.new.receipts ≡ claimed self.old.receipts }
     {
         if self.ending.is_some() {
             return self.finish(rt, keeper);
@@ -150,6 +217,9 @@ impl<O: Object> Dispatcher<O> {
         if self.due.is_some() {
             return self.hand_on();
         }
+        if !claims {
+            return Ok(Handing::Idle);
+        }
         self.claim(rt, keeper)
     }
 
@@ -162,6 +232,7 @@ impl<O: Object> Dispatcher<O> {
         ensures tied { (handed : List ℕ) → dispatching.IsTied handed self.old
             → dispatching.IsTied (dispatching.with_handed result handed) self.new }
         ensures object { dispatching.HandsOver result self.old.shelf self.new.shelf }
+        ensures claims { claimed self.new.receipts ≡ claimed self.old.receipts }
     {
         let Some(finish) = &self.ending else {
             return Ok(Handing::Idle);
@@ -199,6 +270,7 @@ impl<O: Object> Dispatcher<O> {
         ensures tied { (handed : List ℕ) → dispatching.IsTied handed self.old
             → dispatching.IsTied (dispatching.with_handed result handed) self.new }
         ensures object { dispatching.HandsOver result self.old.shelf self.new.shelf }
+        ensures claims { claimed self.new.receipts ≡ claimed self.old.receipts }
     {
         let Some(due) = self.due else {
             return Ok(Handing::Idle);

@@ -4,16 +4,22 @@
 #![tactic(auto)]
 
 mod calls;
+mod desk;
 mod dispatcher;
 mod errand;
 mod gate;
+mod hand;
+mod pool;
 mod shelf;
 mod stage;
 mod worker;
 
 pub use calls::JobCalls;
+pub use desk::{Assigned, Desk, MOST_AWAY};
 pub use dispatcher::{Dispatcher, Handing};
 pub use errand::{Errand, Return};
 pub use gate::{Gate, OpenGate};
+pub use hand::{Deed, Hand};
+pub use pool::serve;
 pub use shelf::{AddError, Place, Shelf};
 pub use worker::{Progress, Worker};

@@ -1,6 +1,6 @@
 //! The objects of a space, by their indexes.
 
-ghost use Rattle.std.specs.Prelude.{◌≡◌, ◌≢◌, ◌⊎◌, [], Some, None, Err, IsSome, IfErr, OnOk, OnErr, MatchOption, MatchResult};
+ghost use Rattle.std.specs.Prelude.{◌≡◌, ◌≢◌, ◌⊎◌, ◌∷◌, [], Some, None, Err, IsSome, IfErr, OnOk, OnErr, MatchOption, MatchResult};
 ghost use Rattle.nob_dispatch.specs.Shelves as shelves;
 ghost use Rattle.nob_dispatch.specs.declared.shelf.AddError.TheVariants as add_errors;
 ghost use Rattle.nob_dispatch.specs.declared.shelf.Place.TheVariants.{Here, Away};
@@ -128,5 +128,14 @@ impl<O: Object> Shelf<O> {
         ensures removed { self.new ≡ shelves.without_place index self.old }
     {
         self.places.remove(&index)
+    }
+
+    /// Takes the lowest index out, with the place that it had: `None` where there is none. So a
+    /// shelf is emptied by rising index, without memory. Logarithmic in the objects.
+    pub fn pop_first(&mut self) -> Option<(u64, Place<O>)>
+        ensures { MatchOption result ((self.old ≡ []) × (self.new ≡ []))
+            (λ first. self.old ≡ first ∷ self.new) }
+    {
+        self.places.pop_first()
     }
 }

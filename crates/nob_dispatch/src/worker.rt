@@ -104,6 +104,7 @@ impl<O: Object> Worker<O> {
     ) -> Result<Progress<O>, KeeperError>
         ensures got { working.got self.new ≡ working.got self.old }
         ensures objects { working.GivesBack result self.old self.new }
+        ensures free { working.IsFreeAfter result self.new }
     {
         if let Some(back) = self.hand_back() {
             return Ok(Progress::Back(back));
@@ -154,6 +155,7 @@ impl<O: Object> Worker<O> {
     ) -> Result<Progress<O>, KeeperError>
         ensures got { working.got self.new ≡ working.got self.old }
         ensures objects { working.GivesBack result self.old self.new }
+        ensures free { working.IsFreeAfter result self.new }
     {
         let Keeping::Running(errand, stage) = &mut self.keeping else {
             return self.finish(rt, keeper, gate);
@@ -173,6 +175,7 @@ impl<O: Object> Worker<O> {
     ) -> Result<Progress<O>, KeeperError>
         ensures got { working.got self.new ≡ working.got self.old }
         ensures objects { working.GivesBack result self.old self.new }
+        ensures free { working.IsFreeAfter result self.new }
     {
         let Keeping::Ending(finish) = &self.keeping else {
             return Ok(Progress::Idle);
@@ -189,6 +192,27 @@ impl<O: Object> Worker<O> {
                 Ok(Progress::Did)
             }
             AfterFinish::Later => Ok(Progress::Later),
+        }
+    }
+
+    /// Gives up the job that it keeps, if it keeps one: it isn't ended by this worker. Its object
+    /// comes back, where it hasn't yet.
+    pub fn give_up(&mut self) -> Option<Return<O>>
+        ensures freed { self.new ≡ working.freed self.old }
+        ensures back { MatchOption result (working.held self.old ≡ None)
+            (λ back. (self.old.job ≡ Some back.job) × (self.old.object ≡ Some back.index)) }
+    {
+        let keeping = std::mem::replace(&mut self.keeping, Keeping::Nothing);
+        match keeping {
+            Keeping::Running(errand, _) => {
+                let Errand { job, object } = errand;
+                Some(Return {
+                    job: job.job,
+                    index: job.target,
+                    object,
+                })
+            }
+            _ => None,
         }
     }
 

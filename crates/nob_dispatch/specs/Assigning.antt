@@ -1,0 +1,54 @@
+-- A dispatcher with the ends of its two lanes. In lists of the numbers of jobs that ends gave and got the first stands first.
+use Rattle.std.specs.Prelude.{◌≡◌, ◌≤◌, ◌+◌, ℕ, Bool, true, List, [], ◌∷◌, ◌++◌, length, reverse, Option, Some, None, Result, Ok}
+use Rattle.nob_model_types.specs.declared.answer.Job.{Job}
+use Rattle.nob_keeper.specs.declared.error.KeeperError.{KeeperError}
+use Rattle.nob_dispatch.specs.declared.desk.Assigned.{Assigned}
+use Rattle.nob_dispatch.specs.declared.desk.Assigned.TheVariants as answers
+use Rattle.nob_dispatch.specs.declared.shelf.Place.{Place}
+use Rattle.nob_dispatch.specs.Ends.{with_job}
+use Rattle.nob_dispatch.specs.Dispatching.{Dispatching}
+use Rattle.nob_dispatch.specs.Dispatching as dispatching
+
+-- a desk, as contracts see it: the numbers of the jobs that it gave and of those whose objects came back, the first first; the job that it handed on and could not give, since nobody gets any more; how many objects it takes to be away; whether it claims no more; and its dispatcher
+pub record Assigning (O : Type 0) : Type 0 where
+  pub given : List ℕ
+  pub back : List ℕ
+  pub unsent : Option ℕ
+  pub away : ℕ
+  pub has_stopped : Bool
+  pub dispatcher : Dispatching O
+
+-- the number of a job, if there is one
+abbrev pub number_in : Option Job → Option ℕ
+number_in None = None
+number_in (Some job) = Some job.job
+
+module _ {O : Type 0} where
+  -- the jobs that a desk handed on, the newest FIRST
+  abbrev pub handed_on : Assigning O → List ℕ
+  handed_on a = with_job a.unsent (reverse a.given)
+
+  -- each job that was claimed was handed on, is kept, or was ended by the dispatcher, as often as it was claimed; what was given and hasn't come back is counted as away, 512 objects at most
+  abbrev pub IsTied : Assigning O → Type 0
+  IsTied a = dispatching.IsTied (handed_on a) a.dispatcher × (length a.given ≤ a.away + length a.back) × (a.away ≤ 512)
+
+  -- an object came back
+  abbrev pub ComesBack : (old new : Assigning O) → Type 0
+  ComesBack old new = (number : ℕ) × (new.back ≡ old.back ++ number ∷ [])
+
+  -- all but the objects, and what came back, is as it was
+  abbrev pub IsSameBesideBack : (old new : Assigning O) → Type 0
+  IsSameBesideBack old new = (new.given ≡ old.given) × (new.unsent ≡ old.unsent) × (new.has_stopped ≡ old.has_stopped) × (new.dispatcher.receipts ≡ old.dispatcher.receipts) × (dispatching.kept new.dispatcher ≡ dispatching.kept old.dispatcher)
+
+  -- a turn gives one errand, or none
+  abbrev pub GivesOne : Result Assigned KeeperError → (old new : Assigning O) → Type 0
+  GivesOne (Ok answers.Handed) old new = (number : ℕ) × (new.given ≡ old.given ++ number ∷ [])
+  GivesOne _ old new = new.given ≡ old.given
+
+  -- a desk with other objects
+  abbrev pub with_shelf : List (ℕ × Place O) → Assigning O → Assigning O
+  with_shelf shelf a = record { given = a.given; back = a.back; unsent = a.unsent; away = a.away; has_stopped = a.has_stopped; dispatcher = dispatching.with_shelf shelf a.dispatcher }
+
+  -- a desk that claims no more
+  abbrev pub stopped : Assigning O → Assigning O
+  stopped a = record { given = a.given; back = a.back; unsent = a.unsent; away = a.away; has_stopped = true; dispatcher = a.dispatcher }

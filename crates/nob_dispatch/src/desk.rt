@@ -1,0 +1,347 @@
+//! A dispatcher with the ends of its lanes.
+
+ghost use Rattle.std.specs.Prelude.{◌≡◌, ◌≢◌, ◌<◌, [], ℕ, List, Some, None, true, false, OnOk, OnErr, MatchOption, MatchResult};
+ghost use Rattle.nob_dispatch.specs.Assigning as assigning;
+ghost use Rattle.nob_dispatch.specs.Dispatching as dispatching;
+ghost use Rattle.nob_dispatch.specs.Ends.{claimed};
+ghost use Rattle.nob_dispatch.specs.Serving as serving;
+ghost use Rattle.nob_dispatch.specs.Shelves as shelves;
+ghost use Rattle.nob_dispatch.specs.declared.shelf.Place.TheVariants.{Here, Away};
+
+use crate::calls::JobCalls;
+use crate::dispatcher::{Dispatcher, Handing};
+use crate::errand::{Errand, Return};
+use crate::shelf::{AddError, Place, Shelf};
+use nob_dispatch_lanes::{LanePut, LaneTake, MOST_ERRANDS};
+use nob_dispatch_objects::Object;
+use nob_keeper::{KeeperError, Seat};
+use nob_model_types::Job;
+use std::alloc::Global;
+use std::marker::Model;
+use std::sync::Wait;
+
+/// So many objects are away at a time at most: a lane that holds 1,024 is never full.
+pub const MOST_AWAY: u64 = 512;
+
+/// What a desk did in a turn.
+#[derive(Clone, Copy, Debug, PartialEq, Eq)]
+pub enum Assigned {
+    /// An errand was given.
+    Handed,
+    /// Something else.
+    Did,
+    /// Nothing now: it is tried again. There is no room for a Finish, or as many objects are away as
+    /// may be, or a job waits for its object.
+    Later,
+    /// Nothing: there is no job to claim, or no more is claimed.
+    Idle,
+}
+
+/// A dispatcher with the end of the lane that its errands go by, and the end of the lane that their
+/// objects come back by. Contracts see the numbers that the ends gave and got, and the dispatcher;
+/// these are tied.
+#[derive(Drop)]
+pub struct Desk<O: Object> {
+    dispatcher: Dispatcher<O>,
+    errands: LanePut<Errand<O>>,
+    returns: LaneTake<Return<O>>,
+    // So many objects were given and haven't come back.
+    away: u64,
+    // The job of the errand that couldn't be given, since nobody gets any more.
+    unsent: Option<Job>,
+    // Whether no more is claimed.
+    has_stopped: bool,
+}
+
+impl<O: Object> Model for Desk<O> {
+    ghost use Rattle.nob_dispatch.specs.Assigning.{Assigning, IsTied, number_in};
+    ghost use Rattle.nob_dispatch.specs.Serving.{given, taken};
+
+    ghost Value = { Assigning O };
+
+    ghost use Rattle.std.specs.Coded.{codes};
+    ghost use Rattle.nob_pickle.specs.Marks.{trees_code};
+
+    ghost coded = { Prim.hlevel (codes, trees_code) };
+
+    ghost view = { λ desk. record {
+      given = given desk.errands;
+      back = taken desk.returns;
+      unsent = number_in desk.unsent;
+      away = desk.away;
+      has_stopped = desk.has_stopped;
+      dispatcher = desk.dispatcher;
+    } };
+
+    ghost invariant = { λ desk. IsTied (record {
+      given = given desk.errands;
+      back = taken desk.returns;
+      unsent = number_in desk.unsent;
+      away = desk.away;
+      has_stopped = desk.has_stopped;
+      dispatcher = desk.dispatcher;
+    }) };
+}
+
+impl<O: Object> Desk<O> {
+    /// A dispatcher over a seat, with no objects, and its ends. The caller's condition: the seat and
+    /// the ends are unused. It takes no memory.
+    pub fn new(
+        alloc: Global,
+        seat: Seat,
+        errands: LanePut<Errand<O>>,
+        returns: LaneTake<Return<O>>,
+    ) -> Desk<O>
+        requires seat { seat ≡ [] }
+        requires errands { serving.given errands ≡ [] }
+        requires returns { serving.taken returns ≡ [] }
+        ensures { result ≡ record {
+          given = [];
+          back = [];
+          unsent = None;
+          away = 0;
+          has_stopped = false;
+          dispatcher = record {
+            receipts = [];
+            shelf = [];
+            due = None;
+            waiting = [];
+            ending = None;
+          };
+        } }
+    {
+        Desk {
+            dispatcher: Dispatcher::new(alloc, seat),
+            errands,
+            returns,
+            away: 0,
+            unsent: None,
+            has_stopped: false,
+        }
+    }
+
+    /// The objects.
+    pub fn shelf(&self) -> &Shelf<O>
+        ensures { result.now ≡ self.now.dispatcher.shelf }
+    {
+        self.dispatcher.shelf()
+    }
+
+    /// An object more, at an index that has no place yet.
+    pub fn add(&mut self, index: u64, object: O) -> Result<(), AddError<O>>
+        ensures added { OnOk result (self.new ≡ assigning.with_shelf
+            (shelves.with_place index (Here object) self.old.dispatcher.shelf) self.old) }
+        ensures err { OnErr result (self.new ≡ self.old) }
+    {
+        self.dispatcher.add(index, object)
+    }
+
+    /// Takes an object out, once it is withdrawn: its place.
+    pub fn remove(&mut self, index: u64) -> Option<Place<O>>
+        ensures place { result ≡ shelves.place_of index self.old.dispatcher.shelf }
+        ensures removed { self.new ≡ assigning.with_shelf
+            (shelves.without_place index self.old.dispatcher.shelf) self.old }
+    {
+        self.dispatcher.remove(index)
+    }
+
+    /// Lends the object of an index, which is away from then on: `None` where it is away already,
+    /// or there is none. A job that calls it waits until it is put back.
+    pub fn lend(&mut self, index: u64) -> Option<O>
+        ensures object { result
+            ≡ shelves.object_in (shelves.place_of index self.old.dispatcher.shelf) }
+        ensures away { MatchOption result (self.new ≡ self.old)
+            (λ _. self.new ≡ assigning.with_shelf
+            (shelves.with_place index Away self.old.dispatcher.shelf) self.old) }
+    {
+        self.dispatcher.lend(index)
+    }
+
+    /// Puts a lent object back where it is away: else it comes back to the caller.
+    pub fn give_back_lent(&mut self, index: u64, object: O) -> Result<(), O>
+        ensures here { OnOk result (self.new ≡ assigning.with_shelf
+            (shelves.with_place index (Here object) self.old.dispatcher.shelf) self.old) }
+        ensures back { MatchResult result
+            (λ _. shelves.place_of index self.old.dispatcher.shelf ≡ Some Away)
+            (λ back. (back ≡ object)
+            × (shelves.place_of index self.old.dispatcher.shelf ≢ Some Away)) }
+        ensures err { OnErr result (self.new ≡ self.old) }
+    {
+        self.dispatcher.give_back_lent(index, object)
+    }
+
+    /// From now on no job is claimed. Those that the dispatcher keeps are still handed on.
+    pub fn stop_claiming(&mut self)
+        ensures { self.new ≡ assigning.stopped self.old }
+    {
+        self.has_stopped = true;
+    }
+
+    /// Whether nothing is away, and the dispatcher keeps no job.
+    pub fn is_at_rest(&self) -> bool
+        ensures rest { result ≡ true
+            → (self.now.away ≡ 0) × (dispatching.kept self.now.dispatcher ≡ []) }
+        ensures busy { self.now.away ≡ 0 → dispatching.kept self.now.dispatcher ≡ []
+            → result ≡ true }
+    {
+        self.away == 0 && self.dispatcher.is_at_rest()
+    }
+
+    /// One turn: all objects that are on their way back now come back, and then the dispatcher has
+    /// its turn, whose errand is given to the lane. It claims nothing while as many objects are away
+    /// as may be. It waits neither for a job nor for an object. After K2, or another error of the
+    /// keeper, the next turn goes on where this one stood: nothing is lost.
+    pub fn turn<R: Wait, C: JobCalls>(
+        &mut self,
+        rt: &R,
+        keeper: &C,
+    ) -> Result<Assigned, KeeperError>
+        ensures given { assigning.GivesOne result self.old self.new }
+        ensures claims { self.old.has_stopped ≡ true
+            → claimed self.new.dispatcher.receipts ≡ claimed self.old.dispatcher.receipts }
+        ensures stopped { self.new.has_stopped ≡ self.old.has_stopped }
+    {
+        self.take_back(rt);
+        if self.unsent.is_some() {
+            return Ok(Assigned::Idle);
+        }
+        if self.away >= MOST_AWAY {
+            return Ok(Assigned::Later);
+        }
+        self.hand_on(rt, keeper)
+    }
+
+    // All objects that are on their way back now come back.
+    fn take_back<R: Wait>(&mut self, rt: &R)
+        ensures { assigning.IsSameBesideBack self.old self.new }
+    {
+        for _ in 0..MOST_ERRANDS {
+            if !self.take_one_back(rt) {
+                return;
+            }
+        }
+    }
+
+    // An object comes back, if one is on its way now: whether one was.
+    fn take_one_back<R: Wait>(&mut self, rt: &R) -> bool
+        ensures same { assigning.IsSameBesideBack self.old self.new }
+    {
+        match self.returns.try_get_as(rt) {
+            Some(back) => {
+                self.away = self.away.saturating_sub(1);
+                put_down(&mut self.dispatcher, back);
+                true
+            }
+            None => false,
+        }
+    }
+
+    // The dispatcher's turn, whose errand is given.
+    fn hand_on<R: Wait, C: JobCalls>(&mut self, rt: &R, keeper: &C) -> Result<Assigned, KeeperError>
+        requires unsent { self.old.unsent ≡ None }
+        requires room { self.old.away < 512 }
+        ensures given { assigning.GivesOne result self.old self.new }
+        ensures claims { self.old.has_stopped ≡ true
+            → claimed self.new.dispatcher.receipts ≡ claimed self.old.dispatcher.receipts }
+        ensures stopped { self.new.has_stopped ≡ self.old.has_stopped }
+    {
+        let claims = !self.has_stopped;
+        match self.dispatcher.step(rt, keeper, claims)? {
+            Handing::Errand(errand) => {
+                let Err(gone) = self.errands.give_as(rt, errand) else {
+                    self.away += 1;
+                    return Ok(Assigned::Handed);
+                };
+                keep_unsent(&mut self.dispatcher, &mut self.unsent, gone.errand);
+                Ok(Assigned::Did)
+            }
+            Handing::Did => Ok(Assigned::Did),
+            Handing::Later => Ok(Assigned::Later),
+            Handing::Idle if self.dispatcher.is_at_rest() => Ok(Assigned::Idle),
+            Handing::Idle => Ok(Assigned::Later),
+        }
+    }
+
+    /// Waits for one object to come back, if one is away. False where none is, or none comes any
+    /// more.
+    pub fn wait_back<R: Wait>(&mut self, rt: &R) -> bool
+        ensures back { result ≡ true → assigning.ComesBack self.old self.new }
+        ensures none { result ≡ false → self.new ≡ self.old }
+        ensures same { assigning.IsSameBesideBack self.old self.new }
+    {
+        if self.away == 0 {
+            return false;
+        }
+        match self.returns.get_as(rt) {
+            Some(back) => {
+                self.away = self.away.saturating_sub(1);
+                put_down(&mut self.dispatcher, back);
+                true
+            }
+            None => false,
+        }
+    }
+
+    /// Its parts, which are tied: its seat, the objects, the jobs whose objects are away, and its
+    /// ends.
+    pub fn end(
+        self,
+    ) -> (
+        Seat,
+        Shelf<O>,
+        Vec<Job>,
+        LanePut<Errand<O>>,
+        LaneTake<Return<O>>,
+    )
+        ensures seat { result.0 ≡ self.dispatcher.receipts }
+        ensures shelf { result.1 ≡ self.dispatcher.shelf }
+        ensures waiting { dispatching.numbers result.2.items ≡ self.dispatcher.waiting }
+        ensures errands { serving.given result.3 ≡ self.given }
+        ensures returns { serving.taken result.4 ≡ self.back }
+        ensures tied { assigning.IsTied self }
+    {
+        let Desk {
+            dispatcher,
+            errands,
+            returns,
+            ..
+        } = self;
+        let (seat, shelf, waiting) = dispatcher.end();
+        (seat, shelf, waiting, errands, returns)
+    }
+}
+
+// An object comes back to its place. Where its place was taken out it is let go.
+fn put_down<O: Object>(dispatcher: &mut Dispatcher<O>, back: Return<O>)
+    ensures away { shelves.place_of back.index dispatcher.old.shelf ≡ Some Away
+        → dispatcher.new ≡ dispatching.with_shelf
+        (shelves.with_place back.index (Here back.object) dispatcher.old.shelf) dispatcher.old }
+    ensures out { shelves.place_of back.index dispatcher.old.shelf ≢ Some Away
+        → dispatcher.new ≡ dispatcher.old }
+    ensures tied { (handed : List ℕ) → dispatching.IsTied handed dispatcher.old
+        → dispatching.IsTied handed dispatcher.new }
+    ensures same { dispatching.IsSameBesideShelf dispatcher.old dispatcher.new }
+{
+    let _ = dispatcher.give_back(back);
+}
+
+// Keeps the job of an errand that couldn't be given, and puts its object down.
+fn keep_unsent<O: Object>(
+    dispatcher: &mut Dispatcher<O>,
+    unsent: &mut Option<Job>,
+    errand: Errand<O>,
+)
+    ensures unsent { assigning.number_in unsent.new ≡ Some errand.job.job }
+    ensures same { dispatching.IsSameBesideShelf dispatcher.old dispatcher.new }
+    ensures tied { (handed : List ℕ) → dispatching.IsTied handed dispatcher.old
+        → dispatching.IsTied handed dispatcher.new }
+{
+    let Errand { job, object } = errand;
+    let back = Return {
+        job: job.job,
+        index: job.target,
+        object,
+    };
+    put_down(dispatcher, back);
+    *unsent = Some(job);
+}
