@@ -1,4 +1,2 @@
 pub mod Faults
-pub mod Readings
-pub mod Taken
-pub mod Within
+pub mod Subcommands

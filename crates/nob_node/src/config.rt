@@ -1,0 +1,91 @@
+//! What a node is made of.
+
+ghost use Rattle.std.specs.Prelude.{◌≡◌, ◌≤◌, [], IfSome};
+ghost use Rattle.nob_fault.specs.Shims.{opening};
+
+use nob_fault::Shim;
+use nob_ids::{Limits, SpaceId};
+use nob_link::{PutEnd, TakeEnd};
+
+/// So many spaces there are at most.
+const MOST_SPACES: u16 = 32;
+
+/// So many workers a node has at most.
+const MOST_WORKERS: usize = 16;
+
+/// How a node runs.
+#[derive(Clone, Copy, Debug)]
+pub struct Config {
+    pub(crate) space: SpaceId,
+    pub(crate) n: u16,
+    pub(crate) limits: Limits,
+    pub(crate) workers: usize,
+    pub(crate) pause: u32,
+    pub(crate) tick_every: u32,
+    pub ghost some: { 1 ≤ n },
+    pub ghost few: { n ≤ 32 },
+    pub ghost hands: { 1 ≤ workers },
+}
+
+impl Config {
+    /// A space of so many, with these limits and 1 to 16 workers. What is out is transmitted again
+    /// after `pause` turns of yielding, and the sessions' time ticks after every `tick_every` of
+    /// these repeats, never where that is 0. `None` where a number is out of its range, or there is
+    /// no such space.
+    pub fn new(
+        space: SpaceId,
+        n: u16,
+        limits: Limits,
+        workers: usize,
+        pause: u32,
+        tick_every: u32,
+    ) -> Option<Config>
+        ensures { IfSome result (λ config. (config.space ≡ space) × (config.n ≡ n)
+            × (config.workers ≡ workers)) }
+    {
+        if n == 0 || n > MOST_SPACES || space.get() > n {
+            return None;
+        }
+        if workers == 0 || workers > MOST_WORKERS {
+            return None;
+        }
+        Some(Config {
+            space,
+            n,
+            limits,
+            workers,
+            pause,
+            tick_every,
+        })
+    }
+}
+
+/// The ends of the links to one peer and from it, and the shim that parcels pass before they are put.
+#[derive(Drop)]
+pub struct Ends {
+    pub(crate) peer: SpaceId,
+    pub(crate) put: PutEnd,
+    pub(crate) take: TakeEnd,
+    pub(crate) shim: Shim,
+    pub ghost new_put: { put.put ≡ [] },
+    pub ghost new_take: { take.taken ≡ [] },
+    pub ghost new_shim: { shim ≡ opening shim.words },
+}
+
+impl Ends {
+    /// The ends of the links to a peer and from it. The caller's condition: they are unused, and so
+    /// is the shim.
+    pub fn new(peer: SpaceId, put: PutEnd, take: TakeEnd, shim: Shim) -> Ends
+        requires put { put.put ≡ [] }
+        requires take { take.taken ≡ [] }
+        requires shim { shim ≡ opening shim.words }
+        ensures { result.peer ≡ peer }
+    {
+        Ends {
+            peer,
+            put,
+            take,
+            shim,
+        }
+    }
+}

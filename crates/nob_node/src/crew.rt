@@ -1,0 +1,201 @@
+//! What the threads of a node work with.
+
+ghost use Rattle.std.specs.Prelude.{◌≡◌, ◌≢◌, ◌≤◌, ◌<◌, [], false, length, IfSome, OnSome};
+ghost use Rattle.std.specs.List.{AllByRecursion};
+ghost use Rattle.nob_agents.specs.Ways.{IsTied};
+ghost use Rattle.nob_agents.specs.Sending.{AreApart};
+ghost use Rattle.nob_dispatch_lanes.specs.Ends.{given_by, got_by};
+ghost use Rattle.nob_dispatch_lanes.specs.Lanes.{all_given, all_got};
+
+use crate::config::{Config, Ends};
+use crate::object::Kept;
+use crate::outbox::Outbox;
+use nob_agents::{Carer, Sender, Taker, Way};
+use nob_dispatch::{Desk, Errand, Hand, Return};
+use nob_dispatch_lanes::{LanePut, LaneTake, Numbered, lane};
+use nob_dispatch_objects::{Agent, Object};
+use nob_ids::SpaceId;
+use nob_keeper::{Keeper, Seat};
+use nob_link::{PutEnd, TakeEnd};
+use std::alloc::Global;
+
+/// So many errands, and so many objects on their way back, a node's lanes hold.
+const LANE: usize = 1024;
+
+/// What the threads of a node work with, each with its own.
+#[derive(Drop)]
+pub(crate) struct Crew<B: Object> {
+    pub(crate) takers: Vec<Taker<TakeEnd>>,
+    pub(crate) hands: Vec<Hand<Kept<B>>>,
+    pub(crate) carer: Carer,
+    // Room for the seats of all.
+    pub(crate) seats: Vec<Seat>,
+}
+
+/// What all threads of a node share, but for the keeper, and what each has of its own. Only memory
+/// fails it.
+pub(crate) fn crew_of<B: Object>(
+    alloc: Global,
+    keeper: &Keeper,
+    config: &Config,
+    ends: Vec<Ends>,
+) -> Option<(Outbox, Desk<Kept<B>>, Crew<B>)> {
+    let seats = Vec::with_capacity(alloc, ends.len().saturating_add(OTHER_SEATS)).ok()?;
+    let mut takers = Vec::new(alloc);
+    let ways = ways_of(alloc, keeper, ends, &mut takers)?;
+    let sender = Sender::new(keeper.seat(), ways, config.pause, config.tick_every);
+    let (desk, hands) = pool_of(alloc, keeper, config.workers)?;
+    let crew = Crew {
+        takers,
+        hands,
+        carer: Carer::new(keeper.seat()),
+        seats,
+    };
+    Some((Outbox::new(alloc, sender), desk, crew))
+}
+
+// The seats of the Sender, the Carer, the desk and the application, and of 16 workers.
+const OTHER_SEATS: usize = 20;
+
+// A desk with the node's agent, and so many hands.
+fn pool_of<B: Object>(
+    alloc: Global,
+    keeper: &Keeper,
+    workers: usize,
+) -> Option<(Desk<Kept<B>>, Vec<Hand<Kept<B>>>)>
+    requires { 1 ≤ workers }
+{
+    let Ok((mut givers, getters)) = lane::<Errand<Kept<B>>>(alloc, LANE, 1, workers) else {
+        return None;
+    };
+    let Ok((returners, mut takers)) = lane::<Return<Kept<B>>>(alloc, LANE, workers, 1) else {
+        return None;
+    };
+    let mut desk = Desk::new(alloc, keeper.seat(), givers.remove(0), takers.remove(0));
+    if desk.add(0, Kept::Agent(Agent::new(alloc))).is_err() {
+        return None;
+    }
+    let mut hands = Vec::new(alloc);
+    add_hands(keeper, getters, returners, &mut hands)?;
+    Some((desk, hands))
+}
+
+// A hand more for each pair of unused ends.
+fn add_hands<B: Object>(
+    keeper: &Keeper,
+    mut getters: Vec<LaneTake<Errand<Kept<B>>>>,
+    mut returners: Vec<LanePut<Return<Kept<B>>>>,
+    hands: &mut Vec<Hand<Kept<B>>>,
+) -> Option<()>
+    requires getters { all_got getters.items ≡ [] }
+    requires returners { all_given returners.items ≡ [] }
+{
+    if getters.is_empty() || returners.is_empty() {
+        return Some(());
+    }
+    let getter = first_getter(&mut getters);
+    let returner = first_giver(&mut returners);
+    hands.push(Hand::new(keeper.seat(), getter, returner)).ok()?;
+    add_hands(keeper, getters, returners, hands)
+}
+
+// Takes the first of unused ends that get.
+fn first_getter<T: Numbered + Drop>(ends: &mut Vec<LaneTake<T>>) -> LaneTake<T>
+    requires some { 0 < length ends.old.items }
+    requires unused { all_got ends.old.items ≡ [] }
+    ensures first { got_by result.pass ≡ [] }
+    ensures fewer { length ends.new.items < length ends.old.items }
+    ensures rest { all_got ends.new.items ≡ [] }
+{
+    ends.remove(0)
+}
+
+// Takes the first of unused ends that give.
+fn first_giver<T: Numbered + Drop>(ends: &mut Vec<LanePut<T>>) -> LanePut<T>
+    requires some { 0 < length ends.old.items }
+    requires unused { all_given ends.old.items ≡ [] }
+    ensures first { given_by result.pass ≡ [] }
+    ensures rest { all_given ends.new.items ≡ [] }
+{
+    ends.remove(0)
+}
+
+// The ways to all peers, and a Taker more for each.
+fn ways_of(
+    alloc: Global,
+    keeper: &Keeper,
+    ends: Vec<Ends>,
+    takers: &mut Vec<Taker<TakeEnd>>,
+) -> Option<Vec<Way<PutEnd>>>
+    ensures { IfSome result (λ ways. AllByRecursion (IsTied []) ways.items × AreApart ways.items) }
+{
+    let mut ways = Vec::new(alloc);
+    add_ways(alloc, keeper, ends, &mut ways, takers)?;
+    Some(ways)
+}
+
+// A way and a Taker more for each of these ends.
+fn add_ways(
+    alloc: Global,
+    keeper: &Keeper,
+    mut ends: Vec<Ends>,
+    ways: &mut Vec<Way<PutEnd>>,
+    takers: &mut Vec<Taker<TakeEnd>>,
+) -> Option<()>
+    requires { AllByRecursion (IsTied []) ways.old.items × AreApart ways.old.items }
+    ensures { OnSome result (AllByRecursion (IsTied []) ways.new.items × AreApart ways.new.items) }
+{
+    if ends.is_empty() {
+        return Some(());
+    }
+    let first = ends.remove(0);
+    add_way(alloc, keeper, first, ways, takers)?;
+    add_ways(alloc, keeper, ends, ways, takers)
+}
+
+// A way and a Taker more, where no way leads to that peer yet: else the ends are let go.
+fn add_way(
+    alloc: Global,
+    keeper: &Keeper,
+    ends: Ends,
+    ways: &mut Vec<Way<PutEnd>>,
+    takers: &mut Vec<Taker<TakeEnd>>,
+) -> Option<()>
+    requires { AllByRecursion (IsTied []) ways.old.items × AreApart ways.old.items }
+    ensures { OnSome result (AllByRecursion (IsTied []) ways.new.items × AreApart ways.new.items) }
+{
+    let Ends {
+        peer,
+        put,
+        take,
+        shim,
+    } = ends;
+    if leads_to(ways.as_slice(), peer) {
+        return Some(());
+    }
+    takers.push(Taker::new(keeper.seat(), peer, take)).ok()?;
+    put_first(ways, Way::new(peer, shim, put, Vec::new(alloc)))
+}
+
+// Puts an unused way in front of others, none of which leads to its peer. Only memory fails it.
+fn put_first(ways: &mut Vec<Way<PutEnd>>, way: Way<PutEnd>) -> Option<()>
+    requires tied { IsTied [] way }
+    requires others { AllByRecursion (λ other. other.peer ≢ way.peer) ways.old.items }
+    requires ways { AllByRecursion (IsTied []) ways.old.items × AreApart ways.old.items }
+    ensures { OnSome result (AllByRecursion (IsTied []) ways.new.items × AreApart ways.new.items) }
+{
+    match ways.insert(0, way) {
+        Ok(()) => Some(()),
+        Err(_) => None,
+    }
+}
+
+// Whether a way leads to a peer.
+fn leads_to(ways: &[Way<PutEnd>], peer: SpaceId) -> bool
+    ensures { result ≡ false → AllByRecursion (λ way. way.peer ≢ peer) ways.now }
+{
+    match ways.split_first() {
+        Some((first, rest)) => first.peer() == peer || leads_to(rest, peer),
+        None => false,
+    }
+}

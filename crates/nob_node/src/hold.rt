@@ -1,0 +1,91 @@
+//! Holds on references, and what a call returns.
+
+ghost use Rattle.std.specs.Prelude.{◌≡◌};
+
+use nob_ids::WireRep;
+use nob_pickle::Value;
+
+/// One hold of a node on a reference. It must be given back: by `Node::release`, or by `forget` once
+/// the node has ended.
+pub struct Hold {
+    pub(crate) rep: WireRep,
+}
+
+impl Hold {
+    /// The reference.
+    pub fn rep(&self) -> WireRep
+        ensures { result ≡ self.now.rep }
+    {
+        self.rep
+    }
+
+    /// Lets go of a hold whose node has ended, and with it all that it held.
+    pub fn forget(self) {
+        let Hold { rep: _ } = self;
+    }
+}
+
+/// What a call returns.
+pub enum Returned {
+    /// The reply.
+    Replied {
+        /// 0 answered, 1 a fault, 2 no such method, 3 a reference was lost.
+        status: u8,
+        /// The value.
+        value: Value,
+        /// A hold on each counted reference in the value, in reading order.
+        holds: Vec<Hold>,
+    },
+    /// The session closed before the reply came.
+    Ended,
+}
+
+impl Returned {
+    /// The hold of an answer that is one reference: else what was returned comes back.
+    pub fn into_hold(self) -> Result<Hold, Returned> {
+        match self {
+            Returned::Replied {
+                status,
+                value,
+                holds,
+            } => one_hold(status, value, holds),
+            Returned::Ended => Err(Returned::Ended),
+        }
+    }
+
+    /// Lets go of its holds, whose node has ended.
+    pub fn forget(self) {
+        match self {
+            Returned::Replied {
+                status: _,
+                value: _,
+                holds,
+            } => forget_all(holds),
+            Returned::Ended => {}
+        }
+    }
+}
+
+// The hold of an answer that is one reference.
+fn one_hold(status: u8, value: Value, mut holds: Vec<Hold>) -> Result<Hold, Returned> {
+    if status == 0
+        && holds.len() == 1
+        && let Some(hold) = holds.pop()
+    {
+        forget_all(holds);
+        return Ok(hold);
+    }
+    Err(Returned::Replied {
+        status,
+        value,
+        holds,
+    })
+}
+
+// Lets go of holds.
+pub(crate) fn forget_all(mut holds: Vec<Hold>) {
+    while let Some(hold) = holds.pop() {
+        hold.forget();
+    }
+    holds.destroy_empty();
+}

@@ -1,0 +1,358 @@
+//! A node, as its application sees it.
+
+ghost use Rattle.std.specs.Prelude.{◌≡◌, [], Some, None, Ok, Err, reverse, IfOk, IfErr, IfSome, OnOk, OnErr};
+ghost use Rattle.nob_model_types.specs.declared.event.Event.TheVariants as events;
+ghost use Rattle.nob_model_types.specs.declared.answer.Answer.TheVariants as answers;
+ghost use Rattle.nob_pickle.specs.declared.value.Value.TheVariants as values;
+ghost use Rattle.nob_node.specs.Calls as calls;
+
+use crate::answers::{call_in, exported_in, is_done_in, refusal_in, returned_in};
+use crate::error::NodeError;
+use crate::hold::{Hold, Returned};
+use crate::object::Kept;
+use crate::site::Site;
+use nob_agents::Calls;
+use nob_bytes::Bytes;
+use nob_dispatch::JobCalls;
+use nob_dispatch_objects::{Name, Object};
+use nob_ids::{CallNo, SpaceId, WireRep};
+use nob_keeper::{KeeperError, Receipt, Seat};
+use nob_model_types::{Event, Refusal};
+use nob_pickle::Value;
+use std::alloc::Global;
+use std::marker::Model;
+use std::sync::Wait;
+use std::thread;
+
+/// A node, as its application sees it. Contracts see the receipts of its calls, the newest first.
+#[derive(Drop)]
+pub struct Node<'x, B: Object> {
+    alloc: Global,
+    site: &'x Site<B>,
+    seat: Seat,
+}
+
+impl<'x, B: Object> Model for Node<'x, B> {
+    ghost use Rattle.std.specs.Prelude.{List};
+    ghost use Rattle.nob_keeper.specs.declared.receipt.Receipt.{Receipt};
+
+    ghost Value = { List Receipt };
+
+    ghost use Rattle.std.specs.Coded.{codes};
+    ghost use Rattle.nob_pickle.specs.Marks.{trees_code};
+
+    ghost coded = { Prim.hlevel (codes, trees_code) };
+
+    ghost view = { λ node. node.seat };
+}
+
+// What fails a call that should have had another answer. It doesn't come: each answer is the right
+// one.
+const STRANGE: NodeError = NodeError::Keeper(KeeperError::Seats);
+
+impl<'x, B: Object> Node<'x, B> {
+    // The node of a site.
+    pub(crate) fn new(alloc: Global, site: &'x Site<B>, seat: Seat) -> Node<'x, B>
+        requires { seat ≡ [] }
+        ensures { result ≡ [] }
+    {
+        Node { alloc, site, seat }
+    }
+
+    // Its seat.
+    pub(crate) fn into_seat(self) -> Seat {
+        let Node {
+            alloc: _,
+            site: _,
+            seat,
+        } = self;
+        seat
+    }
+
+    // One event of the space. J2 where the space refuses it.
+    fn ask<R: Wait>(&mut self, rt: &R, event: &Event) -> Result<(), NodeError>
+        ensures asked { OnOk result (calls.IsAsked self.old self.new event.now) }
+        ensures refused { IfErr result (λ error. calls.IsRefusal self.old self.new event.now error) }
+    {
+        if let Err(error) = Calls::call(self.site, rt, &mut self.seat, event, 0) {
+            return Err(NodeError::Keeper(error));
+        }
+        match refusal_in(&self.seat) {
+            Some(refusal) => Err(NodeError::Refused(refusal)),
+            None => Ok(()),
+        }
+    }
+
+    // One event of the space that is answered by nothing but that it was done.
+    fn ask_done<R: Wait>(&mut self, rt: &R, event: &Event) -> Result<(), NodeError>
+        ensures done { OnOk result (calls.Answered self.old self.new event.now (Ok answers.Done)) }
+        ensures refused { IfErr result (λ error. calls.IsRefusal self.old self.new event.now error) }
+    {
+        self.ask(rt, event)?;
+        match is_done_in(&self.seat) {
+            Some(()) => Ok(()),
+            None => Err(STRANGE),
+        }
+    }
+
+    /// Makes an object known: a hold on a reference to it. The object comes back where that fails:
+    /// J2 where the space refuses it (S13), J1 where the keeper does, or memory is wanted.
+    pub fn export<R: Wait>(&mut self, rt: &R, object: B) -> Result<Hold, (NodeError, B)>
+        ensures made { IfOk result (λ hold. calls.Answered self.old self.new events.Export
+            (Ok (answers.Exported hold.rep))) }
+        ensures refused { IfErr result (λ back.
+            calls.IsRefusal self.old self.new events.Export back.0) }
+    {
+        if let Err(error) = self.ask(rt, &Event::Export) {
+            return Err((error, object));
+        }
+        let Some(rep) = exported_in(&self.seat) else {
+            return Err((STRANGE, object));
+        };
+        let index = rep.index;
+        match self.site.add(rt, self.alloc, index, object) {
+            Ok(()) => Ok(Hold { rep }),
+            Err(object) => {
+                self.take_back(rt, index, rep);
+                Err((NodeError::Keeper(KeeperError::OutOfMemory), object))
+            }
+        }
+    }
+
+    // Gives up an object that there was no room for.
+    fn take_back<R: Wait>(&mut self, rt: &R, index: u64, rep: WireRep) {
+        let _ = self.ask(rt, &Event::Release(rep));
+        let _ = self.ask(rt, &Event::Withdraw(index));
+    }
+
+    /// One hold more on the same reference. J1, J2 (S2, S3, S4, S13).
+    pub fn dup<R: Wait>(&mut self, rt: &R, hold: &Hold) -> Result<Hold, NodeError>
+        ensures made { IfOk result (λ made. (made.rep ≡ hold.now.rep)
+            × calls.Answered self.old self.new (events.Dup hold.now.rep) (Ok answers.Done)) }
+        ensures refused { IfErr result (λ error.
+            calls.IsRefusal self.old self.new (events.Dup hold.now.rep) error) }
+    {
+        self.ask_done(rt, &Event::Dup(hold.rep))?;
+        Ok(Hold { rep: hold.rep })
+    }
+
+    /// Gives a hold back. It comes back where that fails.
+    pub fn release<R: Wait>(&mut self, rt: &R, hold: Hold) -> Result<(), (NodeError, Hold)>
+        ensures made { OnOk result
+            (calls.Answered self.old self.new (events.Release hold.rep) (Ok answers.Done)) }
+        ensures refused { IfErr result (λ back.
+            calls.IsRefusal self.old self.new (events.Release hold.rep) back.0) }
+        ensures back { IfErr result (λ back. back.1 ≡ hold) }
+    {
+        match self.ask_done(rt, &Event::Release(hold.rep)) {
+            Ok(()) => {
+                hold.forget();
+                Ok(())
+            }
+            Err(error) => Err((error, hold)),
+        }
+    }
+
+    /// Closes the session with a peer. J1, J2 (S1, S2).
+    pub fn close<R: Wait>(&mut self, rt: &R, peer: SpaceId) -> Result<(), NodeError>
+        ensures asked { OnOk result (calls.IsAsked self.old self.new (events.Close peer)) }
+        ensures refused { IfErr result (λ error.
+            calls.IsRefusal self.old self.new (events.Close peer) error) }
+    {
+        self.ask(rt, &Event::Close(peer))
+    }
+
+    /// Calls a method of the object that a hold is on, and waits for what it returns. The value comes
+    /// back where that fails. Whoever makes an entry after which the reply is ready wakes it, and who
+    /// fills the trace.
+    pub fn call<R: Wait>(
+        &mut self,
+        rt: &R,
+        hold: &Hold,
+        method: u16,
+        value: Value,
+    ) -> Result<Returned, (NodeError, Value)>
+        ensures returned { IfOk result (λ returned.
+            calls.IsCall self.old self.new hold.now.rep method value returned) }
+        ensures back { IfErr result (λ back. back.1 ≡ value) }
+    {
+        self.call_at(rt, hold.rep, method, value)
+    }
+
+    /// Asks the agent of a space for the reference that a name stands for: a call of its method 1.
+    pub fn lookup<R: Wait>(
+        &mut self,
+        rt: &R,
+        space: SpaceId,
+        name: &[u8],
+    ) -> Result<Returned, NodeError>
+        ensures returned { IfOk result (λ returned. calls.IsCall self.old self.new
+            (calls.agent_of space) 1 (values.Bytes name.now) returned) }
+    {
+        let Ok(name) = Bytes::from_slice(self.alloc, name) else {
+            return Err(NodeError::Keeper(KeeperError::OutOfMemory));
+        };
+        let agent = WireRep {
+            owner: space,
+            index: 0,
+        };
+        match self.call_at(rt, agent, 1, Value::Bytes(name)) {
+            Ok(returned) => Ok(returned),
+            Err((error, _value)) => Err(error),
+        }
+    }
+
+    // Calls a method of the object of a reference.
+    fn call_at<R: Wait>(
+        &mut self,
+        rt: &R,
+        target: WireRep,
+        method: u16,
+        value: Value,
+    ) -> Result<Returned, (NodeError, Value)>
+        ensures returned { IfOk result (λ returned.
+            calls.IsCall self.old self.new target method value returned) }
+        ensures back { IfErr result (λ back. back.1 ≡ value) }
+    {
+        let event = Event::Call {
+            target,
+            method,
+            value,
+        };
+        match self.call_by(rt, &event) {
+            Ok(returned) => Ok(returned),
+            Err(error) => Err((error, value_in(event))),
+        }
+    }
+
+    // Makes the call that an event asks for, and takes its reply.
+    fn call_by<R: Wait>(&mut self, rt: &R, event: &Event) -> Result<Returned, NodeError>
+        ensures { IfOk result (λ returned.
+            calls.IsCallBy self.old self.new event.now returned) }
+    {
+        self.ask(rt, event)?;
+        let Some(call) = call_in(&self.seat) else {
+            return Err(STRANGE);
+        };
+        self.take_reply(rt, call)
+    }
+
+    // Takes the reply to a call once it is ready, or can't come any more.
+    fn take_reply<R: Wait>(&mut self, rt: &R, call: CallNo) -> Result<Returned, NodeError>
+        ensures { IfOk result (λ returned. calls.TakesReply self.old self.new call returned) }
+    {
+        self.await_reply(rt, call)?;
+        for _ in rt.forever() {
+            match returned_in(self.alloc, &self.seat) {
+                Ok(Some(returned)) => return Ok(returned),
+                Ok(None) => return Err(refused_by(&self.seat)),
+                Err(_) => thread::yield_now(),
+            }
+        }
+        unreachable!()
+    }
+
+    // The event that takes the reply to a call, once it is ready. Want of memory is waited out: the
+    // call is made.
+    fn await_reply<R: Wait>(&mut self, rt: &R, call: CallNo) -> Result<(), NodeError>
+        ensures { OnOk result (calls.IsAsked self.old self.new (events.TakeReply call)) }
+    {
+        for _ in rt.forever() {
+            match JobCalls::wait_reply(self.site, rt, &mut self.seat, call) {
+                Ok(()) => return Ok(()),
+                Err(KeeperError::OutOfMemory) => thread::yield_now(),
+                Err(error) => return Err(NodeError::Keeper(error)),
+            }
+        }
+        unreachable!()
+    }
+
+    /// Has a name stand for the reference of a hold at this node's own agent, which keeps a hold of
+    /// its own on it. The reference that the name stood for is given back. It waits while the agent
+    /// runs. J2: S7 where these bytes are no name (1 to 255 bytes), S13 where there are 1,024 names
+    /// and it is none of them, and as `dup`.
+    pub fn bind<R: Wait>(&mut self, rt: &R, name: &[u8], hold: &Hold) -> Result<(), NodeError> {
+        let name = match Name::new(self.alloc, name) {
+            Ok(Some(name)) => name,
+            Ok(None) => return Err(NodeError::Refused(Refusal::TooBig)),
+            Err(_) => return Err(NodeError::Keeper(KeeperError::OutOfMemory)),
+        };
+        let Some(mut agent) = self.site.borrow_agent(rt) else {
+            return Err(STRANGE);
+        };
+        let bound = self.bind_at(rt, &mut agent, name, hold);
+        self.site.give_agent_back(rt, agent);
+        match bound? {
+            Some(before) => self.ask_done(rt, &Event::Release(before)),
+            None => Ok(()),
+        }
+    }
+
+    /// Removes a name at this node's own agent, and gives back the reference that it stood for, if
+    /// there is such a name. It waits while the agent runs. J1.
+    pub fn unbind<R: Wait>(&mut self, rt: &R, name: &[u8]) -> Result<(), NodeError> {
+        let Some(mut agent) = self.site.borrow_agent(rt) else {
+            return Err(STRANGE);
+        };
+        let before = agent.remove(name);
+        self.site.give_agent_back(rt, agent);
+        match before {
+            Some(before) => self.ask_done(rt, &Event::Release(before)),
+            None => Ok(()),
+        }
+    }
+
+    /// Waits until the object of an index is withdrawn, and let go: until nobody refers to it any
+    /// more. It may never return. Whoever withdraws it wakes it, and who finds that the trace is
+    /// full.
+    pub fn wait_withdrawn<R: Wait>(&self, rt: &R, index: u64) {
+        self.site.wait_withdrawn(rt, index);
+    }
+
+    // Has a name stand for the reference of a hold at the agent: the reference that it stood for
+    // before.
+    fn bind_at<R: Wait>(
+        &mut self,
+        rt: &R,
+        agent: &mut Kept<B>,
+        name: Name,
+        hold: &Hold,
+    ) -> Result<Option<WireRep>, NodeError> {
+        if agent.is_full_for(&name) {
+            return Err(NodeError::Refused(Refusal::Limit));
+        }
+        self.ask_done(rt, &Event::Dup(hold.rep))?;
+        match agent.put(name, hold.rep) {
+            Some(before) => Ok(before),
+            None => {
+                let _ = self.ask(rt, &Event::Release(hold.rep));
+                Err(NodeError::Keeper(KeeperError::OutOfMemory))
+            }
+        }
+    }
+
+    /// The receipts of its calls, the first first.
+    pub fn receipts(&self) -> &[Receipt]
+        ensures { result.now ≡ reverse self.now }
+    {
+        self.seat.receipts()
+    }
+}
+
+// The value of a call.
+fn value_in(event: Event) -> Value
+    ensures { result ≡ calls.value_of event }
+{
+    match event {
+        Event::Call { value, .. } => value,
+        _ => Value::Unit,
+    }
+}
+
+// Why a reply isn't handed on.
+fn refused_by(seat: &Seat) -> NodeError {
+    match refusal_in(seat) {
+        Some(refusal) => NodeError::Refused(refusal),
+        None => STRANGE,
+    }
+}

@@ -1,0 +1,76 @@
+//! The objects of a node.
+
+ghost use Rattle.std.specs.Prelude.{◌≡◌};
+
+use nob_dispatch_objects::{Agent, Done, Name, Object, Outcome};
+use nob_ids::WireRep;
+use nob_pickle::Value;
+
+/// What a node keeps at an index: an application's object, or the node's agent.
+#[derive(Drop)]
+pub enum Kept<B: Object> {
+    /// An application's object.
+    Own(B),
+    /// The agent.
+    Agent(Agent),
+}
+
+impl<B: Object> Object for Kept<B> {
+    fn invoke(&mut self, method: u16, args: &Value) -> Outcome {
+        match self {
+            Kept::Own(object) => object.invoke(method, args),
+            Kept::Agent(agent) => agent.invoke(method, args),
+        }
+    }
+
+    fn resume(&mut self, done: &Done) -> Outcome {
+        match self {
+            Kept::Own(object) => object.resume(done),
+            Kept::Agent(agent) => agent.resume(done),
+        }
+    }
+}
+
+impl<B: Object> Kept<B> {
+    // The application's object: `None` for the agent.
+    pub(crate) fn into_own(self) -> Option<B> {
+        match self {
+            Kept::Own(object) => Some(object),
+            Kept::Agent(_) => None,
+        }
+    }
+
+    // Whether it has no room for a name.
+    pub(crate) fn is_full_for(&self, name: &Name) -> bool {
+        match self {
+            Kept::Own(_) => true,
+            Kept::Agent(agent) => agent.names().is_full_for(name.as_bytes()),
+        }
+    }
+
+    // Takes a name out: the reference that it stood for.
+    pub(crate) fn remove(&mut self, name: &[u8]) -> Option<WireRep> {
+        match self {
+            Kept::Own(_) => None,
+            Kept::Agent(agent) => agent.names_mut().remove(name),
+        }
+    }
+
+    // Has a name stand for a reference: the reference that it stood for before. `None` where there is
+    // no room.
+    pub(crate) fn put(&mut self, name: Name, rep: WireRep) -> Option<Option<WireRep>> {
+        match self {
+            Kept::Own(_) => None,
+            Kept::Agent(agent) => agent.names_mut().put(name, rep).ok(),
+        }
+    }
+}
+
+/// An object that was not withdrawn when its node ended.
+#[derive(Drop)]
+pub struct Left<B: Object> {
+    /// Its index.
+    pub index: u64,
+    /// The object.
+    pub object: B,
+}

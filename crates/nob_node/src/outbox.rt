@@ -1,0 +1,121 @@
+//! What transmits for a node, and ends its links.
+
+ghost use Rattle.std.specs.Prelude.{◌≡◌, ◌<◌, length, vec_len};
+
+use nob_agents::{Sender, Step, Turn, Way};
+use nob_keeper::{Keeper, KeeperError, Look, Seat};
+use nob_link::{Parcel, PutEnd};
+use std::alloc::Global;
+use std::sync::Wait;
+
+/// What transmits for a node: its Sender, and once no more is transmitted the ways that are left to
+/// be ended.
+#[derive(Drop)]
+pub(crate) struct Outbox {
+    sender: Option<Sender<PutEnd>>,
+    seat: Option<Seat>,
+    ways: Vec<Way<PutEnd>>,
+    // Whether the end has passed the shim of the last of the ways.
+    has_passed: bool,
+}
+
+impl Outbox {
+    // What transmits by a Sender.
+    pub(crate) fn new(alloc: Global, sender: Sender<PutEnd>) -> Outbox {
+        Outbox {
+            sender: Some(sender),
+            seat: None,
+            ways: Vec::new(alloc),
+            has_passed: false,
+        }
+    }
+
+    // Transmits what is new. What fails is done by a later turn.
+    pub(crate) fn flush<R: Wait>(&mut self, rt: &R, keeper: &Keeper) {
+        if let Some(sender) = &mut self.sender {
+            let _ = sender.flush(rt, keeper);
+        }
+    }
+
+    // A turn of the Sender: whether nothing was left for it to do, by what the keeper said before.
+    pub(crate) fn turn<R: Wait>(&mut self, rt: &R, keeper: &Keeper, look: &Look) -> bool {
+        let Some(sender) = &mut self.sender else {
+            return true;
+        };
+        match sender.turn(rt, keeper) {
+            Ok(Turn::Idle) => sender.is_done(look),
+            Ok(_) => false,
+            Err(error) => error != KeeperError::OutOfMemory,
+        }
+    }
+
+    // Transmits no more: the Sender ends, and the ways are left.
+    pub(crate) fn seal(&mut self) {
+        if let Some(sender) = self.sender.take() {
+            let (seat, ways) = sender.end();
+            self.seat = Some(seat);
+            self.ways = ways;
+        }
+    }
+
+    // Lets all ways go, with the ends of their links.
+    pub(crate) fn give_up(&mut self) {
+        self.seal();
+        self.ways.clear();
+    }
+
+    // Ends the ways, as far as the links have room: whether none is left.
+    pub(crate) fn put_ends<R: Wait>(&mut self, rt: &R) -> bool {
+        self.seal();
+        for _ in rt.forever() {
+            let Some(mut way) = self.ways.pop() else {
+                return true;
+            };
+            if !end_way(rt, &mut way, &mut self.has_passed) {
+                self.keep(way);
+                return false;
+            }
+            self.has_passed = false;
+        }
+        unreachable!()
+    }
+
+    // Puts a way back that was just taken out. There is room for it.
+    fn keep(&mut self, way: Way<PutEnd>) {
+        let _ = self.ways.push(way);
+    }
+
+    // Its seat, once no more is transmitted.
+    pub(crate) fn into_seat(self) -> Option<Seat> {
+        let Outbox { sender, seat, .. } = self;
+        match sender {
+            Some(sender) => {
+                let (seat, _ways) = sender.end();
+                Some(seat)
+            }
+            None => seat,
+        }
+    }
+}
+
+// Puts what is behind a way's shim, and then the end: whether all is put, or the link's other end is
+// gone.
+fn end_way<R: Wait>(rt: &R, way: &mut Way<PutEnd>, has_passed: &mut bool) -> bool {
+    for _ in rt.forever() {
+        match way.put_next(rt) {
+            Step::Put => {}
+            Step::Full => return false,
+            Step::Gone => return true,
+            Step::Nothing => {
+                if *has_passed || way.has_gone() {
+                    return true;
+                }
+                if !way.is_clear() || way.pass(Parcel::End).is_err() {
+                    return false;
+                }
+                *has_passed = true;
+            }
+        }
+    }
+    unreachable!()
+}

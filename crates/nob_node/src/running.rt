@@ -1,0 +1,371 @@
+//! How a node runs.
+
+ghost use denote.Param.Send.{IsSend, IsSync};
+
+use crate::app::App;
+use crate::config::{Config, Ends};
+use crate::crew::{Crew, crew_of};
+use crate::error::NodeError;
+use crate::node::Node;
+use crate::object::{Kept, Left};
+use crate::outbox::Outbox;
+use crate::site::Site;
+use crate::threads::{care, send, take};
+use nob_agents::Taker;
+use nob_dispatch::{Desk, Errand, Gate, Hand, Place, Return, Shelf, serve};
+use nob_dispatch_lanes::LaneTake;
+use nob_dispatch_objects::Object;
+use nob_keeper::{Keeper, KeeperError, Seat, WorkKind};
+use nob_link::TakeEnd;
+use nob_space::Space;
+use nob_trace::Trace;
+use std::alloc::Global;
+use std::sync::Wait;
+use std::thread::{self, Threads};
+
+/// What a node leaves when it has ended.
+#[derive(Drop)]
+pub struct Report<B: Object> {
+    /// The trace of its space.
+    pub trace: Trace,
+    /// The application's objects that weren't withdrawn, by rising index.
+    pub objects: Vec<Left<B>>,
+}
+
+// What is left of a desk whose jobs have ended.
+#[derive(Drop)]
+struct Rest<B: Object> {
+    seat: Seat,
+    shelf: Shelf<Kept<B>>,
+    returns: LaneTake<Return<Kept<B>>>,
+}
+
+// What is left when all threads have ended.
+#[derive(Drop)]
+struct Remains<B: Object> {
+    seat: Seat,
+    rest: Option<Rest<B>>,
+    // Whether all threads could be made.
+    is_whole: bool,
+}
+
+/// Runs a node: a space with the threads that carry its frames and run its objects, while an
+/// application runs. When that returns, no new job is claimed, methods that run go on to their ends,
+/// the end is put on each link, and what comes is taken until the peers' ends come. So a node ends
+/// after its peers' applications: each node wants a thread of its own. The application's objects
+/// come back in any case. J1 with K1 where the trace is full, with K2 where memory is wanted or a
+/// thread can't be made: then the application may not have run.
+pub fn run<B: Object + Send, R: Threads + Wait + Sync, G: Gate + Sync, A: App<B>>(
+    rt: &R,
+    alloc: Global,
+    config: Config,
+    ends: Vec<Ends>,
+    gate: &G,
+    app: &mut A,
+) -> Result<Report<B>, (NodeError, Vec<Left<B>>)> {
+    let Some(keeper) = keeper_of(alloc, &config) else {
+        return without_memory(alloc);
+    };
+    let Some((outbox, desk, crew)) = crew_of::<B>(alloc, &keeper, &config, ends) else {
+        keeper.shut();
+        return without_memory(alloc);
+    };
+    let site = Site::new(keeper, outbox, desk);
+    let (crew, remains) = run_threads(rt, alloc, &site, gate, crew, app);
+    finish(rt, alloc, site, crew, remains)
+}
+
+// What a node answers that has no memory for its parts.
+fn without_memory<B: Object>(alloc: Global) -> Result<Report<B>, (NodeError, Vec<Left<B>>)> {
+    Err((NodeError::Keeper(KeeperError::OutOfMemory), Vec::new(alloc)))
+}
+
+// A keeper of a new space.
+fn keeper_of(alloc: Global, config: &Config) -> Option<Keeper> {
+    let Ok(space) = Space::new(alloc, config.space, config.n, config.limits) else {
+        return None;
+    };
+    match Keeper::new(alloc, space) {
+        Ok(keeper) => Some(keeper),
+        Err(space) => {
+            space.shut();
+            None
+        }
+    }
+}
+
+// Runs the crew in threads, and the application in this one, until all have ended. The crew is gone
+// where no thread could be made for it.
+fn run_threads<B: Object + Send, R: Threads + Wait + Sync, G: Gate + Sync, A: App<B>>(
+    rt: &R,
+    alloc: Global,
+    site: &Site<B>,
+    gate: &G,
+    crew: Crew<B>,
+    app: &mut A,
+) -> (Option<Crew<B>>, Remains<B>) {
+    let handle = rt;
+    thread::scope(
+        thread::scope_env(),
+        handle,
+        |scope|
+            requires { IsSend B.row × IsSync R.row × IsSync G.row }
+        {
+            let Ok(child) = scope.spawn(move || run_crew(rt, site, gate, crew)) else {
+                site.start(rt, false);
+                return (None, run_app(rt, alloc, site, app));
+            };
+            let remains = run_app(rt, alloc, site, app);
+            (Some(child.join(rt)), remains)
+        },
+    )
+}
+
+// Runs the threads of a crew until all have ended, and says once they are made.
+fn run_crew<'x, B: Object + Send, R: Threads + Wait + Sync, G: Gate + Sync>(
+    rt: &'x R,
+    site: &'x Site<B>,
+    gate: &'x G,
+    crew: Crew<B>,
+) -> Crew<B> {
+    let Crew {
+        mut takers,
+        mut hands,
+        mut carer,
+        seats,
+    } = crew;
+    let taking = takers.as_mut_slice();
+    let serving = hands.as_mut_slice();
+    let caring = &mut carer;
+    let handle = rt;
+    thread::scope(
+        thread::scope_env(),
+        handle,
+        |scope|
+            requires { IsSend B.row × IsSync R.row × IsSync G.row }
+        {
+            let mut is_whole = true;
+            for taker in taking {
+                if scope.spawn(move || take(rt, site, taker)).is_err() {
+                    is_whole = false;
+                }
+            }
+            for hand in serving {
+                if scope.spawn(move || serve(rt, site, gate, hand)).is_err() {
+                    is_whole = false;
+                }
+            }
+            if scope.spawn(move || care(rt, site, caring)).is_err() {
+                is_whole = false;
+            }
+            if scope.spawn(move || send(rt, site, is_whole)).is_err() {
+                site.start(rt, false);
+            }
+        },
+    );
+    Crew {
+        takers,
+        hands,
+        carer,
+        seats,
+    }
+}
+
+// Runs the application, once all threads are made, and then tells the threads to end.
+fn run_app<B: Object, R: Wait, A: App<B>>(
+    rt: &R,
+    alloc: Global,
+    site: &Site<B>,
+    app: &mut A,
+) -> Remains<B> {
+    let mut node = Node::new(alloc, site, site.keeper.seat());
+    let is_whole = site.wait_start(rt);
+    if is_whole {
+        app.run(rt, &mut node);
+    } else {
+        site.fail(rt);
+        app.skip(rt);
+    }
+    let rest = match site.end_jobs(rt) {
+        Some(desk) => Some(rest_of(desk)),
+        None => None,
+    };
+    site.keeper.stop(rt, WorkKind::Care);
+    site.keeper.stop(rt, WorkKind::Send);
+    site.end_links(rt);
+    Remains {
+        seat: node.into_seat(),
+        rest,
+        is_whole,
+    }
+}
+
+// What is left of a desk. Nothing more is given to the workers.
+fn rest_of<B: Object>(desk: Desk<Kept<B>>) -> Rest<B> {
+    let (seat, shelf, _jobs, _errands, returns) = desk.end();
+    Rest {
+        seat,
+        shelf,
+        returns,
+    }
+}
+
+// Ends a node whose threads have ended.
+fn finish<B: Object, R: Wait>(
+    rt: &R,
+    alloc: Global,
+    site: Site<B>,
+    crew: Option<Crew<B>>,
+    remains: Remains<B>,
+) -> Result<Report<B>, (NodeError, Vec<Left<B>>)> {
+    let has_failed = site.has_failed();
+    let (keeper, outbox, _desk) = site.into_parts();
+    let Remains {
+        seat,
+        rest,
+        is_whole,
+    } = remains;
+    let Some(crew) = crew else {
+        keeper.shut();
+        return without_memory(alloc);
+    };
+    let Crew {
+        takers,
+        hands,
+        carer,
+        mut seats,
+    } = crew;
+    keep(&mut seats, seat);
+    keep(&mut seats, carer.end());
+    keep_all(&mut seats, outbox, takers);
+    let objects = end_pool(rt, alloc, hands, rest, &mut seats);
+    if is_whole && !has_failed {
+        return close(keeper, seats, objects);
+    }
+    keeper.shut();
+    let error = if is_whole {
+        KeeperError::TraceFull
+    } else {
+        KeeperError::OutOfMemory
+    };
+    Err((NodeError::Keeper(error), objects))
+}
+
+// The seats of what transmitted and of those that took.
+fn keep_all(seats: &mut Vec<Seat>, outbox: Outbox, takers: Vec<Taker<TakeEnd>>) {
+    if let Some(seat) = outbox.into_seat() {
+        keep(seats, seat);
+    }
+    for taker in takers {
+        let (seat, _end, _due) = taker.end();
+        keep(seats, seat);
+    }
+}
+
+// The report of a node.
+fn close<B: Object>(
+    keeper: Keeper,
+    seats: Vec<Seat>,
+    objects: Vec<Left<B>>,
+) -> Result<Report<B>, (NodeError, Vec<Left<B>>)> {
+    match keeper.close_with(seats) {
+        Ok(trace) => Ok(Report { trace, objects }),
+        Err((error, keeper, _seats)) => {
+            keeper.shut();
+            Err((NodeError::Keeper(error), objects))
+        }
+    }
+}
+
+// A seat more, for which there is room.
+fn keep(seats: &mut Vec<Seat>, seat: Seat) {
+    let _ = seats.push(seat);
+}
+
+// Ends the hands and what is left of the desk: the application's objects.
+fn end_pool<B: Object, R: Wait>(
+    rt: &R,
+    alloc: Global,
+    hands: Vec<Hand<Kept<B>>>,
+    rest: Option<Rest<B>>,
+    seats: &mut Vec<Seat>,
+) -> Vec<Left<B>> {
+    let Some(rest) = rest else {
+        return Vec::new(alloc);
+    };
+    let Rest {
+        seat,
+        mut shelf,
+        mut returns,
+    } = rest;
+    keep(seats, seat);
+    for hand in hands {
+        let (seat, mut errands, _returns) = hand.end();
+        keep(seats, seat);
+        take_unserved(rt, &mut errands, &mut shelf);
+    }
+    take_returned(rt, &mut returns, &mut shelf);
+    objects_of(rt, alloc, shelf)
+}
+
+// The objects of errands that nobody got come back.
+fn take_unserved<B: Object, R: Wait>(
+    rt: &R,
+    errands: &mut LaneTake<Errand<Kept<B>>>,
+    shelf: &mut Shelf<Kept<B>>,
+) {
+    for _ in rt.forever() {
+        let Some(errand) = errands.try_get_as(rt) else {
+            return;
+        };
+        let Errand { job, object } = errand;
+        let _ = shelf.give_back(job.target, object);
+    }
+}
+
+// The objects that were given back come back.
+fn take_returned<B: Object, R: Wait>(
+    rt: &R,
+    returns: &mut LaneTake<Return<Kept<B>>>,
+    shelf: &mut Shelf<Kept<B>>,
+) {
+    for _ in rt.forever() {
+        let Some(back) = returns.try_get_as(rt) else {
+            return;
+        };
+        let Return { index, object, .. } = back;
+        let _ = shelf.give_back(index, object);
+    }
+}
+
+// The application's objects, by rising index. Where there is no memory for them it waits for some:
+// none is lost.
+fn objects_of<B: Object, R: Wait>(
+    rt: &R,
+    alloc: Global,
+    mut shelf: Shelf<Kept<B>>,
+) -> Vec<Left<B>> {
+    let mut objects = Vec::new(alloc);
+    for _ in rt.forever() {
+        let Some((index, place)) = shelf.pop_first() else {
+            return objects;
+        };
+        if let Place::Here(object) = place
+            && let Some(object) = object.into_own()
+        {
+            push_waiting(rt, &mut objects, Left { index, object });
+        }
+    }
+    unreachable!()
+}
+
+// An object more, once there is memory for it.
+fn push_waiting<B: Object, R: Wait>(rt: &R, objects: &mut Vec<Left<B>>, left: Left<B>) {
+    for _ in rt.forever() {
+        if objects.reserve(1).is_ok() {
+            let _ = objects.push(left);
+            return;
+        }
+        thread::yield_now();
+    }
+}
