@@ -10,5 +10,6 @@ pub mod Items
 pub mod Wire
 pub mod Stands
 pub mod Calls
+pub mod Dues
 pub mod Answers
 pub mod Sound

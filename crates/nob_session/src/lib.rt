@@ -4,11 +4,13 @@
 
 mod closed;
 pub mod comparing;
+mod due;
 mod error;
 mod session;
 pub mod wire;
 
 pub use closed::{Arrival, Closed};
+pub use due::Due;
 pub use error::SessionError;
 pub use nob_model_end::{EndRefusal, Kind, laws};
 pub use session::Session;

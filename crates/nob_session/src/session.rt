@@ -2,6 +2,7 @@
 
 ghost use Rattle.std.specs.Prelude.{◌≡◌, ◌≢◌, ◌+◌, ◌-◌, ◌<◌, ◌≤◌, ◌^◌, List, ℕ, Ok, Err, Some, None, Bool, true, false, ◌&&◌, ◌==◌, is_ok, nat_le, nat_lt, max, IfOk, IfErr, IfSome, OnOk, OnErr, IsOk, IsOkUnless, length, take, vec_len, [], ◌∷◌};
 ghost use Rattle.nob_ids.specs.declared.limits.Limits.{Limits as LimitsOf};
+ghost use Rattle.nob_ids.specs.declared.reason.Reason.{Reason as ReasonOf};
 ghost use Rattle.nob_model_end.specs.declared.entry.EndEntry.{EndEntry};
 ghost use Rattle.nob_model_end.specs.declared.entry.EndEntry.TheVariants.{Send, Transmit, Arrive, Front, Take, IsOpen, Tick, Close};
 ghost use Rattle.nob_model_end.specs.Texts.{front_text};
@@ -16,8 +17,10 @@ ghost use Rattle.nob_session.specs.Items.{IsItem, IsPair};
 ghost use Rattle.nob_session.specs.Stands.{KeepsRoom, Stands, closed_end, heard, is_open_end};
 ghost use Rattle.nob_session.specs.Calls.{EndsBy, SameHanded, after_transmit, evidence_of, frames_of, next_of, with_item, without_front};
 ghost use Rattle.nob_session.specs.Answers.{Answered, arrived_of};
+ghost use Rattle.nob_session.specs.Dues.{due_of, due_up_to};
 
 use crate::closed::{Arrival, Closed};
+use crate::due::Due;
 use crate::error::SessionError;
 use nob_bytes::Bytes;
 use nob_frame::{Frame, FrameKind};
@@ -178,6 +181,16 @@ impl Session {
         !self.given().is_empty() || self.data_arrived
     }
 
+    /// What a transmit would give. It takes no memory, and constant time.
+    pub fn due(&self) -> Due
+        ensures { result ≡ due_of self.now.end.transmitted (frames_of self.now.end) }
+    {
+        match self.ending {
+            Some(_) => due_of_closed(self.owes_close),
+            None => self.due_open(),
+        }
+    }
+
     /// The frames that a transmit would give now. Only memory fails it.
     pub fn frames(&self) -> Result<Vec<Frame>, AllocError>
         ensures frames { IfOk result (λ frames. frames.items ≡ frames_of self.now.end) }
@@ -247,6 +260,18 @@ impl Session {
         }
         let last = self.lowest - 1 + self.given().len() as u64;
         self.transmitted.max(last)
+    }
+
+    // What a transmit of the open end would give.
+    fn due_open(&self) -> Due
+        requires { self.now.end.ending ≡ None }
+        ensures { result ≡ due_of self.now.end.transmitted
+            (right.open_frames self.now.end.me self.now.end.peer
+            (self.now.end.accepted + 1) self.now.end.lowest self.now.end.data_arrived
+            (take self.now.end.limits.window self.now.end.unacknowledged)) }
+    {
+        let given = self.given();
+        due_of_given(self.transmitted, self.lowest, self.data_arrived, given)
     }
 
     // What a transmit of the open end gives.
@@ -513,4 +538,36 @@ fn lone_frame(
         payload: Bytes::from_vec(Vec::from_slice(alloc, payload)?),
     })?;
     Ok(frames)
+}
+
+// What a closed end has to give.
+fn due_of_closed(owes_close: bool) -> Due
+    ensures { (me peer ack transmitted : ℕ) (reason : ReasonOf) → result
+        ≡ due_of transmitted (right.closed_frames me peer ack owes_close (Some reason)) }
+{
+    if owes_close { Due::Close } else { Due::Nothing }
+}
+
+// What an open end has to give, of whose items these are to be given, from the lowest on.
+fn due_of_given(transmitted: u64, lowest: u64, data_arrived: bool, given: &[Bytes]) -> Due
+    requires { lowest + length given.now < 2 ^ 63 }
+    ensures { (me peer ack : ℕ) → result
+        ≡ due_of transmitted (right.open_frames me peer ack lowest data_arrived given.now) }
+{
+    match given.split_first() {
+        Some((_, others)) => due_of_items(transmitted, lowest + others.len() as u64),
+        None if data_arrived => Due::Ack,
+        None => Due::Nothing,
+    }
+}
+
+// What an end has to give whose items up to the last one are to be given.
+fn due_of_items(transmitted: u64, last: u64) -> Due
+    ensures { result ≡ due_up_to transmitted last }
+{
+    if transmitted < last {
+        Due::New
+    } else {
+        Due::Again
+    }
 }

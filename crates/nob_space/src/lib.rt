@@ -6,6 +6,7 @@ mod steps;
 mod twice;
 mod work;
 
+pub use nob_session::Due;
 pub use nob_space_state::SpaceError;
 pub use space::Space;
 pub use work::Work;

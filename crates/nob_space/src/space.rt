@@ -12,6 +12,7 @@ ghost use Rattle.nob_model_history.specs.Histories.{history};
 ghost use Rattle.nob_model_history.specs.Listing.{is_listed};
 ghost use Rattle.nob_model.specs.Next as next;
 ghost use Rattle.nob_model.specs.Right.{right};
+ghost use Rattle.nob_space_state.specs.Dues as dues;
 ghost use Rattle.nob_space_state.specs.Stands.{AnswersOrWants};
 ghost use Rattle.nob_space.specs.Spaces.{StandsFor, SameSpace, with_entry, wants_memory};
 ghost use Rattle.nob_space.specs.Steps.{AnswersRight, HandsOnFitting};
@@ -23,6 +24,7 @@ use crate::work::{Work, acts, sends};
 use nob_frame::Frame;
 use nob_ids::{CallNo, Limits, SpaceId};
 use nob_model::{Answer, Event, Here};
+use nob_session::Due;
 use nob_space_settling::{can_clean, can_settle};
 use nob_space_state::{Parts, SpaceError};
 use std::alloc::{AllocError, Global};
@@ -156,6 +158,16 @@ impl Space {
             claim,
             withdraw,
         }
+    }
+
+    /// What a Transmit to a peer would give: nothing, an Ack alone, items that were given before,
+    /// new ones, or the Close that is owed. It takes no memory, and constant time.
+    pub fn due(&self, peer: SpaceId) -> Due
+        ensures { (L : List Entry) → StandsFor self.now L
+            → result ≡ dues.due self.now.id self.now.n peer self.now.limits.window
+            (history self.now.id self.now.n L) }
+    {
+        self.parts.due(&self.here, peer)
     }
 
     /// The frames that a Transmit to a peer would give now, each of which has a spelling. It is

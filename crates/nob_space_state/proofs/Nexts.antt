@@ -11,10 +11,14 @@ use Rattle.nob_table.specs.Table.{standing, own, NeverUnheld, IsFirstUnheld}
 use Rattle.nob_model_types.specs.declared.answer.Answer.TheVariants as answers
 use Rattle.nob_model_types.specs.declared.refusal.Refusal.{Refusal}
 use Rattle.nob_ids.specs.declared.limits.Limits.{Limits}
-use Rattle.nob_model_end.specs.Right.{right_front}
+use Rattle.nob_model_end.specs.End.{transmitted}
+use Rattle.nob_model_end.specs.Right.{right_front, right_transmit}
+use Rattle.nob_session.specs.declared.due.Due.TheVariants.{Nothing}
+use Rattle.nob_session.specs.Dues.{due_of}
 use Rattle.nob_model_words.specs.declared.deed.Deed.{Deed}
 use Rattle.nob_model_words.specs.Sessions.{is_peer}
 use Rattle.nob_model_work.specs.declared.work.InHand.{InHand}
+use Rattle.nob_model_history.specs.declared.history.History.{History}
 use Rattle.nob_model_history.specs.Ends.{calls_at}
 use Rattle.nob_model_history.specs.Histories.{history_of}
 use Rattle.nob_model_acting.specs.Candidates.{is_free}
@@ -24,6 +28,7 @@ use Rattle.nob_model_acting.specs.Sending.{unless}
 use Rattle.nob_model.proofs.Possible.{least_law}
 use Rattle.nob_space_state.specs.Judging.{withdraw_refusal}
 use Rattle.nob_space_state.specs.Looks.{has_closed, has_clients, has_holds}
+use Rattle.nob_space_state.specs.Dues.{due}
 use Rattle.nob_space_state.specs.Parts.{State}
 use Rattle.nob_space_state.specs.Stands.{Stands}
 use Rattle.nob_model_work.proofs.Firsts.{no_place, place_first}
@@ -39,6 +44,14 @@ mapped_some f None = refl
 -- there is an item to act on where the inbox of an open session has a front
 pub act_there : {s n : ℕ} {limits : Limits} {st : State} {D : List Deed} → Stands s n limits st D → (p : ℕ) → is_peer s n p ≡ true → has_closed st.sessions p ≡ false → can_act s n p (history_of s n D) ≡ is_some (right_front (calls_at p (history_of s n D)))
 act_there {s} {n} {limits} {st} {D} stands p peer still = rw (peer, sym (closed_there stands p), still) refl
+
+-- what a Transmit to a peer would give is told by the calls on the end with it
+pub due_there : (s n p window : ℕ) (h : History) → is_peer s n p ≡ true → due s n p window h ≡ due_of (transmitted (calls_at p h)) (right_transmit s p window (calls_at p h))
+due_there s n p window h peer = rw peer refl
+
+-- a Transmit to who is no peer would give nothing
+pub due_no_peer : (s n p window : ℕ) (h : History) → is_peer s n p ≡ false → due s n p window h ≡ Nothing
+due_no_peer s n p window h stranger = rw stranger refl
 
 -- a place was found where an element was
 pub place_found : {A : Type 0} (test : A → Bool) (xs : List A) → is_some (position test xs) ≡ is_some (find test xs)

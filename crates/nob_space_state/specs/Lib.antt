@@ -8,3 +8,4 @@ pub mod Parts
 pub mod Taking
 pub mod Stands
 pub mod Closing
+pub mod Dues

@@ -5,12 +5,14 @@ ghost use Rattle.nob_ids.specs.declared.limits.Limits.{Limits as LimitsOf};
 ghost use Rattle.nob_model_words.specs.declared.deed.Deed.{Deed};
 ghost use Rattle.nob_model_history.specs.Histories.{history_of};
 ghost use Rattle.nob_model.specs.Next as next;
+ghost use Rattle.nob_space_state.specs.Dues as dues;
 ghost use Rattle.nob_space_state.specs.Parts.{state_of};
 ghost use Rattle.nob_space_state.specs.Stands.{Stands};
 
 use crate::parts::Parts;
 use nob_ids::SpaceId;
 use nob_model::Here;
+use nob_session::Due;
 
 impl Parts {
     /// Whether there is an item from a peer to act on, also one whose fault closes the session.
@@ -46,6 +48,22 @@ impl Parts {
         match self.sessions.get(peer.get() as usize - 1) {
             Some(session) => session.has_frames(),
             None => false,
+        }
+    }
+
+    /// What a Transmit to a peer would give. Constant time.
+    pub fn due(&self, here: &Here, peer: SpaceId) -> Due
+        ensures { (limits : LimitsOf) (D : List Deed)
+            → Stands here.now.space here.now.n limits (state_of self.now) D
+            → result ≡ dues.due here.now.space here.now.n peer limits.window
+            (history_of here.now.space here.now.n D) }
+    {
+        if !here.is_peer(peer) {
+            return Due::Nothing;
+        }
+        match self.sessions.get(peer.get() as usize - 1) {
+            Some(session) => session.due(),
+            None => Due::Nothing,
         }
     }
 
