@@ -13,7 +13,7 @@ use Rattle.nob_pickle.proofs.value.Values.TheLaws.TheKnot as values
 use Rattle.nob_agents.specs.declared.parcels.PutParcel as PutParcel
 use Rattle.nob_agents.specs.declared.parcels.TakeParcel as TakeParcel
 use Rattle.nob_agents.specs.contracts.carer.Carer as Carer
-use Rattle.nob_agents.specs.contracts.due.Due as Due
+use Rattle.nob_agents.specs.contracts.asking.Asking as Asking
 use Rattle.nob_agents.specs.contracts.pace.Pace as Pace
 use Rattle.nob_agents.specs.contracts.sender.Sender as Sender
 use Rattle.nob_agents.specs.contracts.sender.Sender.TheInside as SenderInside
@@ -25,11 +25,11 @@ use Rattle.nob_agents.specs.contracts.way.Way.TheInside as WayInside
 event_send : IsSend (Event.the_field).row
 event_send = search (crosses, values.crosses, sendable) depth 60 fits 20000
 
-due_field_send : IsSend (Due.the_field).row
-due_field_send = struct_send (shape Due.the_type) (search sendable, (event_send, tt))
+asking_field_send : IsSend (Asking.the_field).row
+asking_field_send = struct_send (shape Asking.the_type) (search sendable, (event_send, tt))
 
-due_send : IsSend Due.the_row
-due_send = let T = Due.the_type in recorded_send (Struct (shape T)) T.D T.to T.to_one due_field_send
+asking_send : IsSend Asking.the_row
+asking_send = let T = Asking.the_type in recorded_send (Struct (shape T)) T.D T.to T.to_one asking_field_send
 
 parcel_send : IsSend Parcel.the_row
 parcel_send = search (crosses, sendable) depth 60 fits 20000
@@ -48,7 +48,7 @@ module _ (E : RattleType) (g : TakeParcel.Ghosts E.Denot) (crossing : IsSend E) 
   taker_send =
       let T = TakerInside.the_type E g in
       view_send (TakerInside.the_row E g) _ _ _ _ (recorded_send (Struct (shape T)) T.D T.to T.to_one (struct_send (shape T)
-      (seat_send, (search sendable, (search (crossing, sendable), (search (due_send, crosses, sendable) depth 60 fits 20000, (search sendable, (search sendable, tt))))))))
+      (seat_send, (search sendable, (search (crossing, sendable), (search (asking_send, crosses, sendable) depth 60 fits 20000, (search sendable, (search sendable, tt))))))))
 
 -- what transmits, where the ends of the links may cross
 module _ (E : RattleType) (g : PutParcel.Ghosts E.Denot) (crossing : IsSend E) where

@@ -7,13 +7,13 @@ use Rattle.nob_model_types.specs.declared.event.Event.TheVariants as events
 use Rattle.nob_link.specs.declared.parcel.Parcel.{Parcel}
 use Rattle.nob_link.specs.declared.parcel.Parcel.TheVariants as parcels
 use Rattle.nob_keeper.specs.declared.receipt.Receipt.{Receipt}
-use Rattle.nob_agents.specs.declared.due.Due.{Due}
+use Rattle.nob_agents.specs.declared.asking.Asking.{Asking}
 
 -- an agent that takes, as contracts see it: the parcels that it took, the first first; its receipts, the newest FIRST; and what it is to ask
 pub record Taking : Type 0 where
   pub taken : List Parcel
   pub receipts : List Receipt
-  pub due : Option Due
+  pub due : Option Asking
 
 -- a frame and a stamp
 pub record Dated : Type 0 where
@@ -41,7 +41,7 @@ arrivals [] = []
 arrivals (receipt ∷ others) = with_arrival receipt.event receipt.stamp (arrivals others)
 
 -- the frame that is to arrive, with the stamp of its parcel, if one is
-abbrev pub kept_of : Option Due → Option Dated
+abbrev pub kept_of : Option Asking → Option Dated
 kept_of None = None
 kept_of (Some due) = kept_in due.event due.seen
   where

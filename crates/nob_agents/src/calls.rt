@@ -3,7 +3,7 @@
 ghost use Rattle.std.specs.Prelude.{◌≡◌, OnOk, OnErr};
 ghost use Rattle.nob_keeper.specs.Seats.{Adds};
 
-use nob_keeper::{Keeper, KeeperError, Look, Seat};
+use nob_keeper::{Dues, Keeper, KeeperError, Look, Seat};
 use nob_model_types::Event;
 use std::sync::Wait;
 
@@ -22,6 +22,9 @@ pub trait Calls {
 
     /// What the space could do next.
     fn look<R: Wait>(&self, rt: &R) -> Look;
+
+    /// What the space would transmit to each peer.
+    fn dues<R: Wait>(&self, rt: &R) -> Dues;
 }
 
 impl Calls for Keeper {
@@ -37,5 +40,9 @@ impl Calls for Keeper {
 
     fn look<R: Wait>(&self, rt: &R) -> Look {
         Keeper::look(self, rt)
+    }
+
+    fn dues<R: Wait>(&self, rt: &R) -> Dues {
+        Keeper::dues(self, rt)
     }
 }

@@ -1,9 +1,9 @@
 //! The agents of a node: they carry frames between the links and the keeper of a space.
 #![tactic(auto)]
 
+mod asking;
 mod calls;
 mod carer;
-mod due;
 mod pace;
 mod parcels;
 mod passing;
@@ -12,9 +12,9 @@ mod taker;
 mod turn;
 mod way;
 
+pub use asking::Asking;
 pub use calls::Calls;
 pub use carer::Carer;
-pub use due::Due;
 pub use parcels::{PutParcel, TakeParcel};
 pub use sender::Sender;
 pub use taker::Taker;

@@ -1,29 +1,21 @@
-//! When an agent that sends transmits to whom.
+//! When an agent transmits.
 
 use nob_ids::SpaceId;
-use nob_keeper::Look;
 use nob_model_types::Event;
+use nob_space::Due;
 
-/// What an agent that sends is about.
-#[derive(Clone, Copy, Debug, PartialEq, Eq)]
-enum Stage {
-    // It transmits what was handed on up to an entry, to the peers from one place on.
-    Fresh { handed: u64, next: usize },
-    // It transmits again what is out, to the peers from one place on.
-    Again { next: usize },
-    // It waits before it transmits again what is out: so many turns so far.
-    Rest { turns: u32 },
-}
+/// So many turns an Ack waits for items that it could go with.
+const ACK_PAUSE: u32 = 2;
 
-/// When an agent that sends transmits to whom: what is new at once, and what is out again after some
-/// turns, with a tick after some of these.
+/// When an agent that sends transmits to whom: what is new at once; an Ack alone after some turns,
+/// in which it may still go with an item; and what is out again after more turns, with a tick after
+/// some of these repeats.
 #[derive(Clone, Copy, Debug)]
 pub(crate) struct Pace {
     pause: u32,
     tick_every: u32,
-    // What was handed on up to this entry has been transmitted.
-    handed: u64,
-    stage: Stage,
+    // At place p - 1: so many turns had nothing new for space p since the last Transmit to it.
+    turns: [u32; 32],
     // How often something was transmitted again since the last tick.
     repeats: u32,
     tick: Option<SpaceId>,
@@ -36,115 +28,87 @@ impl Pace {
         Pace {
             pause,
             tick_every,
-            handed: 0,
-            stage: Stage::Rest { turns: 0 },
+            turns: [0; 32],
             repeats: 0,
             tick: None,
         }
     }
 
-    // What is to be asked next, where a Transmit to these peers, each at its place, would give a
-    // frame.
-    pub(crate) fn next(&mut self, look: &Look, peers: &[Option<SpaceId>]) -> Option<Event> {
+    // What is to be asked in a turn, if something is, where a Transmit to each space would give
+    // this.
+    pub(crate) fn next(&mut self, dues: &[Due; 32]) -> Option<Event> {
         if let Some(peer) = self.tick.take() {
             return Some(Event::Tick(peer));
         }
-        if let Stage::Rest { turns } = self.stage {
-            self.stage = self.after_rest(look, turns, after(peers, 0).is_some())?;
+        if let Some(event) = self.next_new(dues) {
+            return Some(event);
         }
-        self.step(peers)
-    }
-
-    // What is new and to be asked next, where a Transmit to these peers would give a frame. No turn
-    // is counted.
-    pub(crate) fn next_new(&mut self, look: &Look, peers: &[Option<SpaceId>]) -> Option<Event> {
-        if let Stage::Rest { .. } = self.stage {
-            if look.handed <= self.handed {
-                return None;
+        for (place, due) in dues.iter().enumerate() {
+            if self.is_time(place, *due)
+                && let Some(peer) = SpaceId::new(place as u16 + 1)
+            {
+                return Some(self.transmit_again(peer, *due));
             }
-            self.stage = Stage::Fresh {
-                handed: look.handed,
-                next: 0,
-            };
         }
-        self.step(peers)
-    }
-
-    // What follows a rest of so many turns, if it is over.
-    fn after_rest(&mut self, look: &Look, turns: u32, is_out: bool) -> Option<Stage> {
-        if look.handed > self.handed {
-            return Some(Stage::Fresh {
-                handed: look.handed,
-                next: 0,
-            });
-        }
-        if is_out && turns >= self.pause {
-            return Some(Stage::Again { next: 0 });
-        }
-        self.stage = Stage::Rest {
-            turns: if is_out { turns.saturating_add(1) } else { 0 },
-        };
+        self.count_turn(dues);
         None
     }
 
-    // The next Transmit of a round, if there is one left; else this turn is the first of a rest.
-    fn step(&mut self, peers: &[Option<SpaceId>]) -> Option<Event> {
-        match self.stage {
-            Stage::Fresh { handed, next } => match after(peers, next) {
-                Some(peer) => {
-                    self.stage = Stage::Fresh {
-                        handed,
-                        next: place_behind(peer),
-                    };
-                    Some(Event::Transmit(peer))
-                }
-                None => {
-                    self.handed = handed;
-                    self.stage = Stage::Rest { turns: 1 };
-                    None
-                }
-            },
-            Stage::Again { next } => match after(peers, next) {
-                Some(peer) => {
-                    self.stage = Stage::Again {
-                        next: place_behind(peer),
-                    };
-                    self.count_repeat(peer);
-                    Some(Event::Transmit(peer))
-                }
-                None => {
-                    self.stage = Stage::Rest { turns: 1 };
-                    None
-                }
-            },
-            Stage::Rest { .. } => None,
+    // What is new and to be asked, if something is. No turn is counted.
+    pub(crate) fn next_new(&mut self, dues: &[Due; 32]) -> Option<Event> {
+        for (place, due) in dues.iter().enumerate() {
+            if is_new(*due)
+                && let Some(peer) = SpaceId::new(place as u16 + 1)
+            {
+                self.turns[place] = 0;
+                return Some(Event::Transmit(peer));
+            }
+        }
+        None
+    }
+
+    // Whether what isn't new has waited as long as it is to.
+    fn is_time(&self, place: usize, due: Due) -> bool {
+        let Some(turns) = self.turns.get(place) else {
+            return false;
+        };
+        match due {
+            Due::Ack => *turns >= self.pause.min(ACK_PAUSE),
+            Due::Again => *turns >= self.pause,
+            _ => false,
         }
     }
 
-    // A tick follows after every so many repeats.
-    fn count_repeat(&mut self, peer: SpaceId) {
-        if self.tick_every == 0 {
-            return;
+    // Transmits to a peer what isn't new. A tick follows after every so many repeats.
+    fn transmit_again(&mut self, peer: SpaceId, due: Due) -> Event {
+        self.turns[peer.get() as usize - 1] = 0;
+        if due == Due::Again && self.tick_every != 0 {
+            self.repeats = self.repeats.saturating_add(1);
+            if self.repeats >= self.tick_every {
+                self.repeats = 0;
+                self.tick = Some(peer);
+            }
         }
-        self.repeats = self.repeats.saturating_add(1);
-        if self.repeats >= self.tick_every {
-            self.repeats = 0;
-            self.tick = Some(peer);
+        Event::Transmit(peer)
+    }
+
+    // A turn that had nothing to ask.
+    fn count_turn(&mut self, dues: &[Due; 32]) {
+        for (turns, due) in self.turns.iter_mut().zip(dues.iter()) {
+            *turns = if *due == Due::Nothing {
+                0
+            } else {
+                turns.saturating_add(1)
+            };
         }
     }
 }
 
-// The first of the peers from this place on.
-fn after(peers: &[Option<SpaceId>], place: usize) -> Option<SpaceId> {
-    for (at, peer) in peers.iter().enumerate() {
-        if at >= place && peer.is_some() {
-            return *peer;
-        }
+// Whether it is to be transmitted at once.
+fn is_new(due: Due) -> bool {
+    match due {
+        Due::New => true,
+        Due::Close => true,
+        _ => false,
     }
-    None
-}
-
-// The place behind that of a peer.
-fn place_behind(peer: SpaceId) -> usize {
-    peer.get() as usize
 }

@@ -12,8 +12,9 @@ use crate::passing::{has_gone_on, kept_behind, next_of, pass_on};
 use crate::turn::Turn;
 use crate::way::{Step, Way};
 use nob_ids::SpaceId;
-use nob_keeper::{KeeperError, Look, Seat};
+use nob_keeper::{Dues, KeeperError, Seat};
 use nob_model_types::Event;
+use nob_space::Due;
 use std::marker::Model;
 use std::sync::Wait;
 
@@ -151,17 +152,16 @@ impl<P: PutParcel + Drop> Sender<P> {
         Ok((count, false))
     }
 
-    // The peers to which a Transmit would give a frame, each at its place.
-    fn peers(&self, look: &Look) -> [Option<SpaceId>; 32] {
-        let mut peers = [None; 32];
+    // What a Transmit would give to each peer whose link's other end is there.
+    fn known(&self, all: &Dues) -> [Due; 32] {
+        let mut dues = [Due::Nothing; 32];
         for way in &self.ways {
-            let peer = way.peer();
-            let place = peer.get() as usize - 1;
-            if !way.has_gone() && look.work.send[place] {
-                peers[place] = Some(peer);
+            if !way.has_gone() {
+                let place = way.peer().get() as usize - 1;
+                dues[place] = all.due[place];
             }
         }
-        peers
+        dues
     }
 
     // What is to be asked next, if something is.
@@ -169,9 +169,8 @@ impl<P: PutParcel + Drop> Sender<P> {
         if let Some(peer) = self.gone.take() {
             return Some(Event::Close(peer));
         }
-        let look = keeper.look(rt);
-        let peers = self.peers(&look);
-        self.pace.next(&look, &peers)
+        let dues = self.known(&keeper.dues(rt));
+        self.pace.next(&dues)
     }
 
     // What is new and to be asked next, if something is. What is out isn't.
@@ -179,13 +178,13 @@ impl<P: PutParcel + Drop> Sender<P> {
         if let Some(peer) = self.gone.take() {
             return Some(Event::Close(peer));
         }
-        let look = keeper.look(rt);
-        let peers = self.peers(&look);
-        self.pace.next_new(&look, &peers)
+        let dues = self.known(&keeper.dues(rt));
+        self.pace.next_new(&dues)
     }
 
     /// One turn: what is on its way is put, as far as the links have room; then something is
-    /// transmitted, what is new at once and what is out again after some turns, and put too. Where
+    /// transmitted, what is new at once, an Ack alone after a few turns, and what is out again after
+    /// more, and put too. Where
     /// a link's other end is gone the session with its peer is closed, once, and nothing more is put
     /// there. It makes no entry that gives nothing. After K2, or another error of the keeper, the
     /// next turn goes on where this one stood: nothing is lost.
@@ -228,10 +227,10 @@ impl<P: PutParcel + Drop> Sender<P> {
 
     /// Whether nothing is left for it to do, by what the keeper says: all that it transmitted is put,
     /// and a Transmit would give a frame to no peer whose link's other end is there.
-    pub fn is_done(&self, look: &Look) -> bool {
+    pub fn is_done(&self, dues: &Dues) -> bool {
         let is_clear = has_gone_on(&self.seat, self.handled)
             && kept_behind(self.ways.as_slice()).is_none();
-        is_clear && self.gone.is_none() && self.peers(look).iter().all(|peer| peer.is_none())
+        is_clear && self.gone.is_none() && self.known(dues).iter().all(|due| *due == Due::Nothing)
     }
 
     /// Its parts, which are tied: what each way put, and then what it keeps behind its shim, is the

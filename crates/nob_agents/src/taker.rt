@@ -3,8 +3,8 @@
 ghost use Rattle.std.specs.Prelude.{◌≡◌, ◌≢◌, [], None, OnOk};
 ghost use Rattle.nob_agents.specs.Taking.{IsTied};
 
+use crate::asking::Asking;
 use crate::calls::Calls;
-use crate::due::Due;
 use crate::parcels::TakeParcel;
 use crate::turn::Turn;
 use nob_ids::SpaceId;
@@ -25,7 +25,7 @@ pub struct Taker<T: TakeParcel + Drop> {
     seat: Seat,
     peer: SpaceId,
     end: T,
-    due: Option<Due>,
+    due: Option<Asking>,
     // How many accepted items it hasn't tried to act on.
     accepted: u64,
     has_ended: bool,
@@ -79,7 +79,7 @@ impl<T: TakeParcel + Drop> Taker<T> {
     {
         match self.end.try_take(rt) {
             Ok(Parcel::Frame { stamp, frame }) => {
-                self.due = Some(Due {
+                self.due = Some(Asking {
                     seen: stamp,
                     event: Event::Arrive(frame),
                 });
@@ -88,7 +88,7 @@ impl<T: TakeParcel + Drop> Taker<T> {
             Err(TryTakeError::Empty) => {}
             Err(TryTakeError::Gone) => {
                 self.has_ended = true;
-                self.due = Some(Due {
+                self.due = Some(Asking {
                     seen: 0,
                     event: Event::Close(self.peer),
                 });
@@ -108,7 +108,7 @@ impl<T: TakeParcel + Drop> Taker<T> {
         }
         match self.end.take(rt) {
             Some(Parcel::Frame { stamp, frame }) => {
-                self.due = Some(Due {
+                self.due = Some(Asking {
                     seen: stamp,
                     event: Event::Arrive(frame),
                 });
@@ -116,7 +116,7 @@ impl<T: TakeParcel + Drop> Taker<T> {
             Some(Parcel::End) => self.has_ended = true,
             None => {
                 self.has_ended = true;
-                self.due = Some(Due {
+                self.due = Some(Asking {
                     seen: 0,
                     event: Event::Close(self.peer),
                 });
@@ -177,7 +177,7 @@ impl<T: TakeParcel + Drop> Taker<T> {
 
     /// Its parts, which are tied: what its end took is what arrived by its receipts, but for at most
     /// one frame.
-    pub fn end(self) -> (Seat, T, Option<Due>)
+    pub fn end(self) -> (Seat, T, Option<Asking>)
         ensures parts { self ≡ record {
           taken = T.taken result.1;
           receipts = result.0;

@@ -1,6 +1,5 @@
 -- What an answered event may have made possible at its space.
 use Rattle.std.specs.Prelude.{ℕ, Bool, true, false, ◌||◌, not, ◌==◌}
-use Rattle.nob_frame.specs.Kinds.{is_data}
 use Rattle.nob_model_types.specs.declared.event.Event.{Event}
 use Rattle.nob_model_types.specs.declared.event.Event.TheVariants as events
 use Rattle.nob_model_types.specs.declared.answer.Answer.{Answer}
@@ -17,14 +16,14 @@ abbrev pub is_acceptance : Answer → Bool
 is_acceptance (answers.Took count) = not (count == 0)
 is_acceptance (_) = false
 
--- whether there may be more to transmit: an event handed an item on, took a Data frame, which is to be acknowledged, or closed a session
+-- whether there may be more to transmit: an event handed an item on or closed a session, or a frame came, which may want an Ack, or make room in the window
 abbrev pub may_send : Event → Answer → Bool
 may_send (events.Call target method value) answer = true
 may_send (events.Finish job outcome) answer = true
 may_send (events.Act peer) answer = true
 may_send events.Settle answer = true
 may_send events.Clean answer = true
-may_send (events.Arrive frame) answer = is_data frame.kind || is_closing answer
+may_send (events.Arrive frame) answer = true
 may_send (events.Tick peer) answer = is_closing answer
 may_send (events.Close peer) answer = true
 may_send (_) answer = false

@@ -82,11 +82,6 @@ impl Desk {
         }
     }
 
-    // The place of the last entry that may have made work of a kind possible.
-    pub(crate) fn last(&self, kind: WorkKind) -> u64 {
-        self.watch(kind).last
-    }
-
     // Whether no entry behind a place may have made work of a kind possible.
     pub(crate) fn is_idle(&self, kind: WorkKind, place: u64) -> bool {
         self.watch(kind).last <= place

@@ -9,9 +9,9 @@ use crate::kept::Kept;
 use crate::receipt::Receipt;
 use crate::seat::Seat;
 use crate::waking::{Wakes, WorkKind, wakes_of};
-use nob_ids::CallNo;
+use nob_ids::{CallNo, SpaceId};
 use nob_model_types::Event;
-use nob_space::Work;
+use nob_space::{Due, Work};
 
 /// What stands under a keeper's lock: the space with its trace, and who waits.
 pub(crate) struct Held {
@@ -46,10 +46,20 @@ impl Notice {
 pub struct Look {
     /// How many entries the trace had.
     pub place: u64,
-    /// The place of the last entry that may have handed something on: 0 where there is none.
-    pub handed: u64,
     /// What the space could do.
     pub work: Work,
+}
+
+/// So many spaces there are at most.
+const MOST_SPACES: usize = 32;
+
+/// What a space would transmit to each peer, read under the lock.
+#[derive(Clone, Copy, Debug, PartialEq, Eq)]
+pub struct Dues {
+    /// How many entries the trace had.
+    pub place: u64,
+    /// At place p - 1: what a Transmit to space p would give.
+    pub due: [Due; MOST_SPACES],
 }
 
 /// Why a wait for work ended.
@@ -98,7 +108,7 @@ impl Held {
         let wakes = wakes_of(&receipt.event, answer);
         self.desk.note(wakes, receipt.place);
         let mut notice = Notice::of_all(false);
-        notice.send = wakes.send;
+        notice.send = wakes.send && self.desk.is_parked(WorkKind::Send);
         self.look_for_work(wakes, &mut notice);
         if wakes.reply {
             self.look_for_replies(&mut notice);
@@ -152,8 +162,21 @@ impl Held {
     pub(crate) fn look(&self) -> Look {
         Look {
             place: self.kept.len() as u64,
-            handed: self.desk.last(WorkKind::Send),
             work: self.kept.work(),
+        }
+    }
+
+    // What the space would transmit to each peer.
+    pub(crate) fn dues(&self) -> Dues {
+        let mut due = [Due::Nothing; MOST_SPACES];
+        for (place, due) in due.iter_mut().enumerate() {
+            if let Some(peer) = SpaceId::new(place as u16 + 1) {
+                *due = self.kept.due(peer);
+            }
+        }
+        Dues {
+            place: self.kept.len() as u64,
+            due,
         }
     }
 }

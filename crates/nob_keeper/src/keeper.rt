@@ -9,7 +9,7 @@ ghost use Rattle.nob_keeper.specs.Seats as seats;
 
 use crate::desk::{Desk, REPLY_PLACES, reply_place};
 use crate::error::KeeperError;
-use crate::held::{Held, Look, Notice, Wake};
+use crate::held::{Dues, Held, Look, Notice, Wake};
 use crate::kept::Kept;
 use crate::seat::Seat;
 use crate::waking::WorkKind;
@@ -129,6 +129,12 @@ impl Keeper {
     /// `wait_past` is given by a thread that found nothing to do.
     pub fn look<R: Wait>(&self, rt: &R) -> Look {
         self.held.lock(rt).look()
+    }
+
+    /// What the space would transmit to each peer, with the number of entries after which this was
+    /// so. It costs little, and the same whatever the space has, under the lock.
+    pub fn dues<R: Wait>(&self, rt: &R) -> Dues {
+        self.held.lock(rt).dues()
     }
 
     /// Waits until an entry behind this place may have made work of a kind possible, the trace is

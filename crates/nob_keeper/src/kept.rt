@@ -6,6 +6,7 @@ ghost use Rattle.nob_model.specs.Next as next;
 ghost use Rattle.nob_model.specs.Right.{right};
 ghost use Rattle.nob_model.specs.Lists.{AreRight};
 ghost use Rattle.nob_space.specs.Spaces.{StandsFor, SameSpace};
+ghost use Rattle.nob_space_state.specs.Dues as dues;
 ghost use Rattle.nob_trace.specs.Stamps as stamps;
 ghost use Rattle.nob_keeper.specs.Accounts as accounts;
 ghost use Rattle.nob_keeper.specs.Closing as closing;
@@ -19,7 +20,7 @@ use crate::receipt::Receipt;
 use crate::seat::Seat;
 use nob_ids::{CallNo, SpaceId};
 use nob_model_types::{Answer, Event, Refusal};
-use nob_space::{Space, SpaceError, Work};
+use nob_space::{Due, Space, SpaceError, Work};
 use nob_trace::{Stamped, Trace};
 use std::alloc::{AllocError, Global};
 use std::marker::Model;
@@ -175,6 +176,14 @@ impl Kept {
             ≡ next.to_withdraw self.now.id (accounts.history_in self.now) }
     {
         self.space.work()
+    }
+
+    /// What a Transmit to a peer would give. Constant time.
+    pub fn due(&self, peer: SpaceId) -> Due
+        ensures { result ≡ dues.due self.now.id self.now.n peer self.now.limits.window
+            (accounts.history_in self.now) }
+    {
+        self.space.due(peer)
     }
 
     /// The trace, where the seats' receipts are those of its entries, each once: else K4, or K2

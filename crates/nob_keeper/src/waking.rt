@@ -71,7 +71,7 @@ fn may_send(event: &Event, answer: &Answer) -> bool
         Event::Act(_) => true,
         Event::Settle => true,
         Event::Clean => true,
-        Event::Arrive(frame) => frame.kind.is_data() || is_closing(answer),
+        Event::Arrive(_) => true,
         Event::Tick(_) => is_closing(answer),
         Event::Close(_) => true,
         _ => false,
