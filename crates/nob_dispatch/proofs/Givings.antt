@@ -3,11 +3,11 @@ use Rattle.std.proofs.Common.{◌≡◌, ℕ, ◌+◌, ◌≤◌, ◌<◌, List,
 use Rattle.std.specs.Prelude.{Ok}
 use Rattle.std.proofs.lemmas.List.{reverse-append}
 use Rattle.nob_dispatch_lanes.specs.Balance.{times}
-use Rattle.nob_dispatch.specs.declared.dispatcher.Handing.{Handing}
-use Rattle.nob_dispatch.specs.declared.dispatcher.Handing.TheVariants as handings
-use Rattle.nob_dispatch.specs.declared.errand.Errand.{Errand}
-use Rattle.nob_dispatch.specs.Ends.{with_job}
-use Rattle.nob_dispatch.specs.Dispatching.{Dispatching, IsTied, with_handed}
+use Rattle.nob_dispatch_jobs.specs.declared.dispatcher.Handing.{Handing}
+use Rattle.nob_dispatch_jobs.specs.declared.dispatcher.Handing.TheVariants as handings
+use Rattle.nob_dispatch_jobs.specs.declared.errand.Errand.{Errand}
+use Rattle.nob_dispatch_jobs.specs.Ends.{with_job}
+use Rattle.nob_dispatch_jobs.specs.Dispatching.{Dispatching, IsTied, with_handed}
 
 reverse_push : (numbers : List ℕ) (number : ℕ) → reverse (numbers ++ number ∷ []) ≡ number ∷ reverse numbers
 reverse_push numbers number = reverse-append numbers (number ∷ [])

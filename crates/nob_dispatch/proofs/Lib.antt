@@ -1,4 +1,3 @@
-pub mod Ties
 pub mod Follows
 pub mod Givings
 pub mod Crossing

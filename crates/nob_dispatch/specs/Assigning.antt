@@ -4,10 +4,10 @@ use Rattle.nob_model_types.specs.declared.answer.Job.{Job}
 use Rattle.nob_keeper.specs.declared.error.KeeperError.{KeeperError}
 use Rattle.nob_dispatch.specs.declared.desk.Assigned.{Assigned}
 use Rattle.nob_dispatch.specs.declared.desk.Assigned.TheVariants as answers
-use Rattle.nob_dispatch.specs.declared.shelf.Place.{Place}
-use Rattle.nob_dispatch.specs.Ends.{with_job}
-use Rattle.nob_dispatch.specs.Dispatching.{Dispatching}
-use Rattle.nob_dispatch.specs.Dispatching as dispatching
+use Rattle.nob_dispatch_jobs.specs.declared.shelf.Place.{Place}
+use Rattle.nob_dispatch_jobs.specs.Ends.{with_job}
+use Rattle.nob_dispatch_jobs.specs.Dispatching.{Dispatching}
+use Rattle.nob_dispatch_jobs.specs.Dispatching as dispatching
 
 -- a desk, as contracts see it: the numbers of the jobs that it gave and of those whose objects came back, the first first; the job that it handed on and could not give, since nobody gets any more; how many objects it takes to be away; whether it claims no more; and its dispatcher
 pub record Assigning (O : Type 0) : Type 0 where

@@ -1,10 +1,10 @@
 -- A worker with the ends of its two lanes. In lists of the numbers of jobs that stand oldest first the first stands first; in lists of receipts the newest stands FIRST.
-use Rattle.std.specs.Prelude.{◌≡◌, ℕ, Bool, true, false, List, ◌++◌, ◌∷◌, [], reverse, Option, Some, None}
+use Rattle.std.specs.Prelude.{◌≡◌, ℕ, Bool, true, false, List, ◌++◌, ◌∷◌, [], reverse, Option, Some}
 use Rattle.nob_dispatch_lanes.specs.declared.ends.LanePut.{LanePut}
 use Rattle.nob_dispatch_lanes.specs.declared.ends.LaneTake.{LaneTake}
 use Rattle.nob_dispatch_lanes.specs.Ends.{given_by, got_by}
-use Rattle.nob_dispatch.specs.Ends.{ended, with_job}
-use Rattle.nob_dispatch.specs.Working.{Working, held}
+use Rattle.nob_dispatch_jobs.specs.Ends.{ended, with_job}
+use Rattle.nob_dispatch_jobs.specs.Working.{Working, held}
 
 -- the numbers that an end of a lane gave, the first first
 abbrev pub given : {X : Type 0} → LanePut X → List ℕ

@@ -2,16 +2,13 @@
 
 ghost use Rattle.std.specs.Prelude.{◌≡◌, ◌≢◌, ◌<◌, [], ℕ, List, Some, None, true, false, OnOk, OnErr, MatchOption, MatchResult};
 ghost use Rattle.nob_dispatch.specs.Assigning as assigning;
-ghost use Rattle.nob_dispatch.specs.Dispatching as dispatching;
-ghost use Rattle.nob_dispatch.specs.Ends.{claimed};
+ghost use Rattle.nob_dispatch_jobs.specs.Dispatching as dispatching;
+ghost use Rattle.nob_dispatch_jobs.specs.Ends.{claimed};
 ghost use Rattle.nob_dispatch.specs.Serving as serving;
-ghost use Rattle.nob_dispatch.specs.Shelves as shelves;
-ghost use Rattle.nob_dispatch.specs.declared.shelf.Place.TheVariants.{Here, Away};
+ghost use Rattle.nob_dispatch_jobs.specs.Shelves as shelves;
+ghost use Rattle.nob_dispatch_jobs.specs.declared.shelf.Place.TheVariants.{Here, Away};
 
-use crate::calls::JobCalls;
-use crate::dispatcher::{Dispatcher, Handing};
-use crate::errand::{Errand, Return};
-use crate::shelf::{AddError, Place, Shelf};
+use nob_dispatch_jobs::{AddError, Dispatcher, Errand, Handing, JobCalls, Place, Return, Shelf};
 use nob_dispatch_lanes::{LanePut, LaneTake, MOST_ERRANDS};
 use nob_dispatch_objects::Object;
 use nob_keeper::{KeeperError, Seat};
@@ -54,8 +51,7 @@ pub struct Desk<O: Object> {
 }
 
 impl<O: Object> Model for Desk<O> {
-    ghost use Rattle.nob_dispatch.specs.Assigning.{Assigning, IsTied, number_in};
-    ghost use Rattle.nob_dispatch.specs.Serving.{given, taken};
+    ghost use Rattle.nob_dispatch.specs.Assigning.{Assigning};
 
     ghost Value = { Assigning O };
 
@@ -64,23 +60,11 @@ impl<O: Object> Model for Desk<O> {
 
     ghost coded = { Prim.hlevel (codes, trees_code) };
 
-    ghost view = { λ desk. record {
-      given = given desk.errands;
-      back = taken desk.returns;
-      unsent = number_in desk.unsent;
-      away = desk.away;
-      has_stopped = desk.has_stopped;
-      dispatcher = desk.dispatcher;
-    } };
+    ghost use Rattle.nob_dispatch.specs.Sides.{assigning_of, IsDesk};
 
-    ghost invariant = { λ desk. IsTied (record {
-      given = given desk.errands;
-      back = taken desk.returns;
-      unsent = number_in desk.unsent;
-      away = desk.away;
-      has_stopped = desk.has_stopped;
-      dispatcher = desk.dispatcher;
-    }) };
+    ghost view = { assigning_of };
+
+    ghost invariant = { IsDesk };
 }
 
 impl<O: Object> Desk<O> {
@@ -246,7 +230,7 @@ impl<O: Object> Desk<O> {
         ensures stopped { self.new.has_stopped ≡ self.old.has_stopped }
     {
         let claims = !self.has_stopped;
-        match self.dispatcher.step(rt, keeper, claims)? {
+        match step(rt, keeper, &mut self.dispatcher, claims)? {
             Handing::Errand(errand) => {
                 let Err(gone) = self.errands.give_as(rt, errand) else {
                     self.away += 1;
@@ -309,6 +293,24 @@ impl<O: Object> Desk<O> {
         let (seat, shelf, waiting) = dispatcher.end();
         (seat, shelf, waiting, errands, returns)
     }
+}
+
+// A turn of a dispatcher, with a claim or without.
+fn step<O: Object, R: Wait, C: JobCalls>(
+    rt: &R,
+    keeper: &C,
+    dispatcher: &mut Dispatcher<O>,
+    claims: bool,
+) -> Result<Handing<O>, KeeperError>
+    ensures tied { (handed : List ℕ) → dispatching.IsTied handed dispatcher.old
+        → dispatching.IsTied (dispatching.with_handed result handed) dispatcher.new }
+    ensures claims { claims ≡ false → claimed dispatcher.new.receipts
+        ≡ claimed dispatcher.old.receipts }
+{
+    if claims {
+        return dispatcher.turn(rt, keeper);
+    }
+    dispatcher.go_on(rt, keeper)
 }
 
 // An object comes back to its place. Where its place was taken out it is let go.

@@ -2,13 +2,10 @@
 
 ghost use Rattle.std.specs.Prelude.{◌≡◌, ◌≢◌, [], ℕ, List, Some, None, Ok, true, false, reverse};
 ghost use Rattle.nob_dispatch.specs.Serving as serving;
-ghost use Rattle.nob_dispatch.specs.Working as working;
+ghost use Rattle.nob_dispatch_jobs.specs.Working as working;
 ghost use Rattle.nob_dispatch.specs.declared.hand.Deed.TheVariants as deeds;
 
-use crate::calls::JobCalls;
-use crate::errand::{Errand, Return};
-use crate::gate::Gate;
-use crate::worker::{Progress, Worker};
+use nob_dispatch_jobs::{Errand, Gate, JobCalls, Progress, Return, Worker};
 use nob_dispatch_lanes::{LanePut, LaneTake};
 use nob_dispatch_objects::Object;
 use nob_keeper::{KeeperError, Seat};
@@ -43,7 +40,7 @@ pub struct Hand<O: Object> {
 }
 
 impl<O: Object> Model for Hand<O> {
-    ghost use Rattle.nob_dispatch.specs.Serving.{Serving, IsTied, given, taken};
+    ghost use Rattle.nob_dispatch.specs.Serving.{Serving};
 
     ghost Value = { Serving };
 
@@ -52,21 +49,11 @@ impl<O: Object> Model for Hand<O> {
 
     ghost coded = { Prim.hlevel (codes, trees_code) };
 
-    ghost view = { λ hand. record {
-      taken = taken hand.errands;
-      given = given hand.returns;
-      worker = hand.worker;
-      gives_up = hand.gives_up;
-      is_alone = hand.is_alone;
-    } };
+    ghost use Rattle.nob_dispatch.specs.Sides.{serving_of, IsHand};
 
-    ghost invariant = { λ hand. IsTied (record {
-      taken = taken hand.errands;
-      given = given hand.returns;
-      worker = hand.worker;
-      gives_up = hand.gives_up;
-      is_alone = hand.is_alone;
-    }) };
+    ghost view = { serving_of };
+
+    ghost invariant = { IsHand };
 }
 
 impl<O: Object> Hand<O> {

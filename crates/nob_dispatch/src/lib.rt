@@ -1,25 +1,15 @@
-//! The parts of a pool that runs objects: the objects of a space, what a job is to its object, and
-//! the turns of those who claim jobs and carry them out. Each part is a value whose turn any thread
-//! may run.
+//! The parts of a pool that runs objects in threads: who claims jobs and who carries them out, each
+//! with its ends of the two lanes between them, and the loop of a worker's thread.
 #![tactic(auto)]
 
-mod calls;
 mod desk;
-mod dispatcher;
-mod errand;
-mod gate;
 mod hand;
 mod pool;
-mod shelf;
-mod stage;
-mod worker;
 
-pub use calls::JobCalls;
 pub use desk::{Assigned, Desk, MOST_AWAY};
-pub use dispatcher::{Dispatcher, Handing};
-pub use errand::{Errand, Return};
-pub use gate::{Gate, OpenGate};
 pub use hand::{Deed, Hand};
+pub use nob_dispatch_jobs::{
+    AddError, Dispatcher, Errand, Gate, Handing, JobCalls, OpenGate, Place, Progress, Return,
+    Shelf, Worker,
+};
 pub use pool::serve;
-pub use shelf::{AddError, Place, Shelf};
-pub use worker::{Progress, Worker};

@@ -2,9 +2,8 @@
 
 ghost use Rattle.std.specs.Prelude.{◌≡◌, None};
 
-use crate::calls::JobCalls;
-use crate::gate::Gate;
 use crate::hand::{Deed, Hand};
+use nob_dispatch_jobs::{Gate, JobCalls};
 use nob_dispatch_objects::Object;
 use nob_keeper::KeeperError;
 use std::sync::Wait;

@@ -2,12 +2,12 @@
 use Rattle.std.specs.Prelude.{◌≡◌, ℕ, Bool, true, false, List, Option, Some, None, Result, Ok}
 use Rattle.nob_keeper.specs.declared.receipt.Receipt.{Receipt}
 use Rattle.nob_keeper.specs.declared.error.KeeperError.{KeeperError}
-use Rattle.nob_dispatch.specs.declared.errand.Errand.{Errand}
-use Rattle.nob_dispatch.specs.declared.stage.Keeping.{Keeping}
-use Rattle.nob_dispatch.specs.declared.stage.Keeping.TheVariants as keeps
-use Rattle.nob_dispatch.specs.declared.worker.Progress.{Progress}
-use Rattle.nob_dispatch.specs.declared.worker.Progress.TheVariants as progresses
-use Rattle.nob_dispatch.specs.Ends.{ended, with_job}
+use Rattle.nob_dispatch_jobs.specs.declared.errand.Errand.{Errand}
+use Rattle.nob_dispatch_jobs.specs.declared.stage.Keeping.{Keeping}
+use Rattle.nob_dispatch_jobs.specs.declared.stage.Keeping.TheVariants as keeps
+use Rattle.nob_dispatch_jobs.specs.declared.worker.Progress.{Progress}
+use Rattle.nob_dispatch_jobs.specs.declared.worker.Progress.TheVariants as progresses
+use Rattle.nob_dispatch_jobs.specs.Ends.{ended, with_job}
 
 -- a worker, as contracts see it: its receipts, the job that it keeps, and the index of the object that it has
 pub record Working : Type 0 where

@@ -3,10 +3,10 @@
 ghost use Rattle.std.specs.Prelude.{◌≡◌, ◌≢◌, ◌<◌, ◌+◌, ◌∷◌, [], ⊤, ℕ, List, true, false, None, Some, length, slice_index_or, OnOk, OnErr, IfOk, IfSome, MatchOption, MatchResult};
 ghost use Rattle.nob_model_types.specs.declared.answer.Job.{Job as JobOf};
 ghost use Rattle.nob_dispatch_lanes.specs.Balance.{times};
-ghost use Rattle.nob_dispatch.specs.Dispatching as dispatching;
-ghost use Rattle.nob_dispatch.specs.Ends.{claimed};
-ghost use Rattle.nob_dispatch.specs.Shelves as shelves;
-ghost use Rattle.nob_dispatch.specs.declared.shelf.Place.TheVariants.{Here, Away};
+ghost use Rattle.nob_dispatch_jobs.specs.Dispatching as dispatching;
+ghost use Rattle.nob_dispatch_jobs.specs.Ends.{claimed};
+ghost use Rattle.nob_dispatch_jobs.specs.Shelves as shelves;
+ghost use Rattle.nob_dispatch_jobs.specs.declared.shelf.Place.TheVariants.{Here, Away};
 
 use crate::calls::JobCalls;
 use crate::errand::{Errand, Return};
@@ -48,7 +48,7 @@ pub struct Dispatcher<O: Object> {
 }
 
 impl<O: Object> Model for Dispatcher<O> {
-    ghost use Rattle.nob_dispatch.specs.Dispatching.{Dispatching, numbers, job_in};
+    ghost use Rattle.nob_dispatch_jobs.specs.Dispatching.{Dispatching, numbers, job_in};
 
     ghost Value = { Dispatching O };
 
@@ -193,7 +193,7 @@ impl<O: Object> Dispatcher<O> {
     }
 
     // One turn, with a claim where nothing else is to be done, or without.
-    pub(crate) fn step<R: Wait, C: JobCalls>(
+    fn step<R: Wait, C: JobCalls>(
         &mut self,
         rt: &R,
         keeper: &C,

@@ -5,8 +5,8 @@ use Rattle.std.specs.List.{remove}
 use Prim.Native.Nat.{zero, suc}
 use Rattle.nob_model_types.specs.declared.answer.Job.{Job}
 use Rattle.nob_dispatch_lanes.specs.Balance.{times}
-use Rattle.nob_dispatch.specs.Ends.{with_job}
-use Rattle.nob_dispatch.specs.Dispatching.{numbers}
+use Rattle.nob_dispatch_jobs.specs.Ends.{with_job}
+use Rattle.nob_dispatch_jobs.specs.Dispatching.{numbers}
 
 times_remove : (n i : ℕ) (jobs : List Job) (d : Job) → i < length jobs → times n (numbers jobs) ≡ times n ((slice_index_or jobs i d).job ∷ numbers (remove jobs i))
 times_remove n i [] d low = omega (arith, low)

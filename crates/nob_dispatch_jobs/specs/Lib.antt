@@ -1,0 +1,4 @@
+pub mod Shelves
+pub mod Ends
+pub mod Working
+pub mod Dispatching

@@ -1,0 +1,109 @@
+//! What the threads share.
+
+use crate::gate::Turnstile;
+use crate::names::{first, second};
+use nob_ids::SpaceId;
+use nob_keeper::Keeper;
+use std::sync::Wait;
+use std::sync::atomic::{AtomicBool, AtomicU64, Ordering};
+use std::thread;
+
+/// One of the two spaces.
+#[derive(Clone, Copy, Debug, PartialEq, Eq)]
+pub(crate) enum Side {
+    First,
+    Second,
+}
+
+impl Side {
+    /// The other space's number.
+    pub(crate) fn peer(self) -> SpaceId {
+        match self {
+            Side::First => second(),
+            Side::Second => first(),
+        }
+    }
+}
+
+/// What the threads share.
+pub(crate) struct Site {
+    pub(crate) first: Keeper,
+    pub(crate) second: Keeper,
+    pub(crate) gate: Turnstile,
+    // Whether the second space's desk claims no more.
+    has_stopped: AtomicBool,
+    // How many desks have come to rest.
+    rested: AtomicU64,
+}
+
+impl Site {
+    pub(crate) fn new(first: Keeper, second: Keeper) -> Site {
+        Site {
+            first,
+            second,
+            gate: Turnstile::new(),
+            has_stopped: AtomicBool::new(false),
+            rested: AtomicU64::new(0),
+        }
+    }
+
+    /// The keeper of a space.
+    pub(crate) fn keeper(&self, side: Side) -> &Keeper {
+        match side {
+            Side::First => &self.first,
+            Side::Second => &self.second,
+        }
+    }
+
+    /// The keeper of the other space.
+    pub(crate) fn keeper_of_peer(&self, side: Side) -> &Keeper {
+        match side {
+            Side::First => &self.second,
+            Side::Second => &self.first,
+        }
+    }
+
+    /// A desk claims no more.
+    pub(crate) fn note_stopped(&self, side: Side) {
+        if side == Side::Second {
+            self.has_stopped.store(true, Ordering::SeqCst);
+        }
+    }
+
+    /// Waits until the second space's desk claims no more.
+    pub(crate) fn wait_stopped<R: Wait>(&self, rt: &R) {
+        for _ in rt.forever() {
+            if self.has_stopped.load(Ordering::SeqCst) {
+                return;
+            }
+            thread::yield_now();
+        }
+    }
+
+    /// A desk has come to rest.
+    pub(crate) fn note_rested(&self) {
+        self.rested.fetch_add(1, Ordering::SeqCst);
+    }
+
+    /// Waits until both desks have come to rest.
+    pub(crate) fn wait_rested<R: Wait>(&self, rt: &R) {
+        for _ in rt.forever() {
+            if self.rested.load(Ordering::SeqCst) == 2 {
+                return;
+            }
+            thread::yield_now();
+        }
+    }
+
+    /// Both keepers, once all threads are done with them.
+    pub(crate) fn into_keepers(self) -> (Keeper, Keeper) {
+        let Site {
+            first,
+            second,
+            gate: _,
+            has_stopped: _,
+            rested: _,
+        } = self;
+        (first, second)
+    }
+}

@@ -1,0 +1,200 @@
+//! What each thread does.
+
+use crate::objects::Thing;
+use crate::site::{Side, Site};
+use nob_dispatch::{Assigned, Desk, Hand, Shelf, serve};
+use nob_ids::SpaceId;
+use nob_keeper::{Keeper, KeeperError, Seat, Wake, WorkKind};
+use nob_model_types::{Answer, Event};
+use nob_space::Work;
+use std::sync::Wait;
+use std::thread;
+
+/// Who carries the frames of one space to the other.
+#[derive(Debug, Drop)]
+pub(crate) struct Way {
+    // Its seat at the space that transmits.
+    pub(crate) seat: Seat,
+    // Its seat at the space where the frames arrive.
+    pub(crate) far: Seat,
+    // The place of the entry up to which all is transmitted.
+    pub(crate) done: u64,
+}
+
+/// What a thread has of its own, and what is left of it.
+#[derive(Drop)]
+pub(crate) enum Task {
+    /// Claims jobs.
+    Assign(Desk<Thing>),
+    /// Carries frames.
+    Carry(Way),
+    /// Acts, settles and cleans.
+    Care(Seat),
+    /// Carries jobs out.
+    Serve(Hand<Thing>),
+    /// What is left of a desk.
+    Left(Seat, Shelf<Thing>),
+    /// Nothing.
+    Nothing,
+}
+
+/// A task at one of the spaces.
+#[derive(Drop)]
+pub(crate) struct Post {
+    pub(crate) side: Side,
+    pub(crate) task: Task,
+}
+
+impl Post {
+    /// What its thread does, until it is told to stop.
+    pub(crate) fn run<R: Wait>(&mut self, rt: &R, site: &Site) {
+        let task = std::mem::replace(&mut self.task, Task::Nothing);
+        self.task = after(rt, site, self.side, task);
+    }
+}
+
+// What is left of a task.
+fn after<R: Wait>(rt: &R, site: &Site, side: Side, task: Task) -> Task {
+    let keeper = site.keeper(side);
+    match task {
+        Task::Assign(desk) => left_of(rt, site, side, desk),
+        Task::Carry(mut way) => {
+            carry(rt, keeper, site.keeper_of_peer(side), side.peer(), &mut way);
+            Task::Carry(way)
+        }
+        Task::Care(mut seat) => {
+            care(rt, keeper, side.peer(), &mut seat);
+            Task::Care(seat)
+        }
+        Task::Serve(mut hand) => {
+            serve(rt, keeper, &site.gate, &mut hand);
+            Task::Serve(hand)
+        }
+        other => other,
+    }
+}
+
+// Waits for work of a kind behind a place: whether there may be some.
+fn is_woken<R: Wait>(rt: &R, keeper: &Keeper, kind: WorkKind, place: u64) -> bool {
+    match keeper.wait_past(rt, kind, place) {
+        Wake::Work => true,
+        Wake::TraceFull => false,
+        Wake::Stopped => false,
+    }
+}
+
+// Runs a desk, and ends it: so the hands get no more.
+fn left_of<R: Wait>(rt: &R, site: &Site, side: Side, mut desk: Desk<Thing>) -> Task {
+    let keeper = site.keeper(side);
+    assign(rt, keeper, &mut desk);
+    desk.stop_claiming();
+    site.note_stopped(side);
+    come_to_rest(rt, keeper, &mut desk);
+    let (seat, shelf, _jobs, _errands, _returns) = desk.end();
+    site.note_rested();
+    Task::Left(seat, shelf)
+}
+
+// Claims jobs, until it is told to stop. It sleeps at the keeper where there is none.
+fn assign<R: Wait>(rt: &R, keeper: &Keeper, desk: &mut Desk<Thing>) {
+    for _ in rt.forever() {
+        let look = keeper.look(rt);
+        match desk.turn(rt, keeper) {
+            Ok(Assigned::Handed) => {}
+            Ok(Assigned::Did) => {}
+            Ok(Assigned::Later) => thread::yield_now(),
+            Ok(Assigned::Idle) => {
+                if !is_woken(rt, keeper, WorkKind::Claim, look.place) {
+                    return;
+                }
+            }
+            Err(KeeperError::OutOfMemory) => thread::yield_now(),
+            Err(_) => return,
+        }
+    }
+}
+
+// Waits until all objects have come back.
+fn come_to_rest<R: Wait>(rt: &R, keeper: &Keeper, desk: &mut Desk<Thing>) {
+    for _ in rt.forever() {
+        let turn = desk.turn(rt, keeper);
+        if desk.is_at_rest() {
+            return;
+        }
+        match turn {
+            Ok(Assigned::Handed) => {}
+            Ok(Assigned::Did) => {}
+            Ok(_) => {
+                if !desk.wait_back(rt) {
+                    thread::yield_now();
+                }
+            }
+            Err(KeeperError::OutOfMemory) => thread::yield_now(),
+            Err(_) => return,
+        }
+    }
+}
+
+// Carries frames, until it is told to stop. It sleeps at the keeper where there are none.
+fn carry<R: Wait>(rt: &R, from: &Keeper, to: &Keeper, peer: SpaceId, way: &mut Way) {
+    for _ in rt.forever() {
+        let look = from.look(rt);
+        if look.handed > way.done {
+            match pass(rt, from, to, peer, way) {
+                Some(()) => way.done = look.place,
+                None => thread::yield_now(),
+            }
+        } else if !is_woken(rt, from, WorkKind::Send, look.place) {
+            return;
+        }
+    }
+}
+
+// Carries what the one space transmits to the other.
+fn pass<R: Wait>(rt: &R, from: &Keeper, to: &Keeper, peer: SpaceId, way: &mut Way) -> Option<()> {
+    from.call(rt, &mut way.seat, &Event::Transmit(peer), 0)
+        .ok()?;
+    let receipt = way.seat.newest()?;
+    let Ok(Answer::Frames(frames)) = &receipt.result else {
+        return Some(());
+    };
+    for frame in frames.as_slice() {
+        let event = Event::Arrive(frame.copy().ok()?);
+        to.call(rt, &mut way.far, &event, receipt.stamp).ok()?;
+    }
+    Some(())
+}
+
+// Acts, settles and cleans, until it is told to stop. It sleeps at the keeper where there is nothing
+// to do.
+fn care<R: Wait>(rt: &R, keeper: &Keeper, peer: SpaceId, seat: &mut Seat) {
+    for _ in rt.forever() {
+        let look = keeper.look(rt);
+        match care_of(&look.work, peer) {
+            Some(event) => {
+                if keeper.call(rt, seat, &event, 0).is_err() {
+                    thread::yield_now();
+                }
+            }
+            None => {
+                if !is_woken(rt, keeper, WorkKind::Care, look.place) {
+                    return;
+                }
+            }
+        }
+    }
+}
+
+// What is done of a space's work.
+fn care_of(work: &Work, peer: SpaceId) -> Option<Event> {
+    if work.act.iter().any(|act| *act) {
+        return Some(Event::Act(peer));
+    }
+    if work.settle {
+        return Some(Event::Settle);
+    }
+    if work.clean {
+        return Some(Event::Clean);
+    }
+    None
+}
