@@ -9,8 +9,6 @@ ghost use Rattle.nob_node.specs.Calls as calls;
 use crate::answers::{call_in, exported_in, is_done_in, refusal_in, returned_in};
 use crate::error::NodeError;
 use crate::hold::{Hold, Returned};
-use crate::object::Kept;
-use crate::site::Site;
 use nob_agents::Calls;
 use nob_bytes::Bytes;
 use nob_dispatch::JobCalls;
@@ -18,6 +16,7 @@ use nob_dispatch_objects::{Name, Object};
 use nob_ids::{CallNo, SpaceId, WireRep};
 use nob_keeper::{KeeperError, Receipt, Seat};
 use nob_model_types::{Event, Refusal};
+use nob_node_site::{Kept, Site};
 use nob_pickle::Value;
 use std::alloc::Global;
 use std::marker::Model;
@@ -102,6 +101,7 @@ impl<'x, B: Object> Node<'x, B> {
             (Ok (answers.Exported hold.rep))) }
         ensures refused { IfErr result (λ back.
             calls.IsRefusal self.old self.new events.Export back.0) }
+        ensures back { IfErr result (λ back. back.1 ≡ object) }
     {
         if let Err(error) = self.ask(rt, &Event::Export) {
             return Err((error, object));

@@ -3,21 +3,15 @@
 ghost use denote.Param.Send.{IsSend, IsSync};
 
 use crate::app::App;
-use crate::config::{Config, Ends};
-use crate::crew::{Crew, crew_of};
 use crate::error::NodeError;
 use crate::node::Node;
-use crate::object::{Kept, Left};
-use crate::outbox::Outbox;
-use crate::site::Site;
-use crate::threads::{care, send, take};
 use nob_agents::Taker;
-use nob_dispatch::{Desk, Errand, Gate, Hand, Place, Return, Shelf, serve};
+use nob_dispatch::{Desk, Errand, Gate, Hand, Place, Return, Shelf};
 use nob_dispatch_lanes::LaneTake;
 use nob_dispatch_objects::Object;
-use nob_keeper::{Keeper, KeeperError, Seat, WorkKind};
+use nob_keeper::{Keeper, KeeperError, Seat};
 use nob_link::TakeEnd;
-use nob_space::Space;
+use nob_node_site::{Config, Crew, Ends, Kept, Left, Outbox, Site, run_crew, site_of};
 use nob_trace::Trace;
 use std::alloc::Global;
 use std::sync::Wait;
@@ -63,14 +57,9 @@ pub fn run<B: Object + Send, R: Threads + Wait + Sync, G: Gate + Sync, A: App<B>
     gate: &G,
     app: &mut A,
 ) -> Result<Report<B>, (NodeError, Vec<Left<B>>)> {
-    let Some(keeper) = keeper_of(alloc, &config) else {
+    let Some((site, crew)) = site_of::<B>(alloc, &config, ends) else {
         return without_memory(alloc);
     };
-    let Some((outbox, desk, crew)) = crew_of::<B>(alloc, &keeper, &config, ends) else {
-        keeper.shut();
-        return without_memory(alloc);
-    };
-    let site = Site::new(keeper, outbox, desk);
     let (crew, remains) = run_threads(rt, alloc, &site, gate, crew, app);
     finish(rt, alloc, site, crew, remains)
 }
@@ -78,20 +67,6 @@ pub fn run<B: Object + Send, R: Threads + Wait + Sync, G: Gate + Sync, A: App<B>
 // What a node answers that has no memory for its parts.
 fn without_memory<B: Object>(alloc: Global) -> Result<Report<B>, (NodeError, Vec<Left<B>>)> {
     Err((NodeError::Keeper(KeeperError::OutOfMemory), Vec::new(alloc)))
-}
-
-// A keeper of a new space.
-fn keeper_of(alloc: Global, config: &Config) -> Option<Keeper> {
-    let Ok(space) = Space::new(alloc, config.space, config.n, config.limits) else {
-        return None;
-    };
-    match Keeper::new(alloc, space) {
-        Ok(keeper) => Some(keeper),
-        Err(space) => {
-            space.shut();
-            None
-        }
-    }
 }
 
 // Runs the crew in threads, and the application in this one, until all have ended. The crew is gone
@@ -121,56 +96,6 @@ fn run_threads<B: Object + Send, R: Threads + Wait + Sync, G: Gate + Sync, A: Ap
     )
 }
 
-// Runs the threads of a crew until all have ended, and says once they are made.
-fn run_crew<'x, B: Object + Send, R: Threads + Wait + Sync, G: Gate + Sync>(
-    rt: &'x R,
-    site: &'x Site<B>,
-    gate: &'x G,
-    crew: Crew<B>,
-) -> Crew<B> {
-    let Crew {
-        mut takers,
-        mut hands,
-        mut carer,
-        seats,
-    } = crew;
-    let taking = takers.as_mut_slice();
-    let serving = hands.as_mut_slice();
-    let caring = &mut carer;
-    let handle = rt;
-    thread::scope(
-        thread::scope_env(),
-        handle,
-        |scope|
-            requires { IsSend B.row × IsSync R.row × IsSync G.row }
-        {
-            let mut is_whole = true;
-            for taker in taking {
-                if scope.spawn(move || take(rt, site, taker)).is_err() {
-                    is_whole = false;
-                }
-            }
-            for hand in serving {
-                if scope.spawn(move || serve(rt, site, gate, hand)).is_err() {
-                    is_whole = false;
-                }
-            }
-            if scope.spawn(move || care(rt, site, caring)).is_err() {
-                is_whole = false;
-            }
-            if scope.spawn(move || send(rt, site, is_whole)).is_err() {
-                site.start(rt, false);
-            }
-        },
-    );
-    Crew {
-        takers,
-        hands,
-        carer,
-        seats,
-    }
-}
-
 // Runs the application, once all threads are made, and then tells the threads to end.
 fn run_app<B: Object, R: Wait, A: App<B>>(
     rt: &R,
@@ -178,7 +103,7 @@ fn run_app<B: Object, R: Wait, A: App<B>>(
     site: &Site<B>,
     app: &mut A,
 ) -> Remains<B> {
-    let mut node = Node::new(alloc, site, site.keeper.seat());
+    let mut node = Node::new(alloc, site, site.seat());
     let is_whole = site.wait_start(rt);
     if is_whole {
         app.run(rt, &mut node);
@@ -190,8 +115,7 @@ fn run_app<B: Object, R: Wait, A: App<B>>(
         Some(desk) => Some(rest_of(desk)),
         None => None,
     };
-    site.keeper.stop(rt, WorkKind::Care);
-    site.keeper.stop(rt, WorkKind::Send);
+    site.wait_left(rt);
     site.end_links(rt);
     Remains {
         seat: node.into_seat(),
@@ -252,11 +176,11 @@ fn finish<B: Object, R: Wait>(
 }
 
 // The seats of what transmitted and of those that took.
-fn keep_all(seats: &mut Vec<Seat>, outbox: Outbox, takers: Vec<Taker<TakeEnd>>) {
+fn keep_all(seats: &mut Vec<Seat>, outbox: Outbox, takers: Vec<Option<Taker<TakeEnd>>>) {
     if let Some(seat) = outbox.into_seat() {
         keep(seats, seat);
     }
-    for taker in takers {
+    for taker in takers.into_iter().flatten() {
         let (seat, _end, _due) = taker.end();
         keep(seats, seat);
     }

@@ -1,6 +1,6 @@
 use denote.Param.Send.{sendable}
 use Rattle.std.proofs.Crossing.{crosses}
-use Rattle.nob_node.proofs.Crossing.{site_sync, crew_send}
+use Rattle.nob_node_site.proofs.Crossing.{site_sync, crew_send}
 use Rattle.nob_node.proofs.running.fn.run_threads.scope.Goals as goal
 
 -- the thread of the crew shares the site and the gate, and has the crew

@@ -1,8 +1,8 @@
 use denote.Param.Send.{sendable}
 use Rattle.std.proofs.Crossing.{crosses}
 use Rattle.nob_agents.proofs.Crossing.{carer_send}
-use Rattle.nob_node.proofs.Crossing.{site_sync, hand_of_node_send, taker_of_node_send}
-use Rattle.nob_node.proofs.running.fn.run_crew.scope.Goals as goal
+use Rattle.nob_node_site.proofs.Crossing.{site_sync, hand_of_node_send, taker_of_node_send}
+use Rattle.nob_node_site.proofs.crew.fn.run_crew.scope.Goals as goal
 
 -- a thread that takes shares the site, and has its Taker
 pub spawn-requires-send-F : goal.spawn-requires-send-F

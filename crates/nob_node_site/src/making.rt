@@ -1,4 +1,4 @@
-//! What the threads of a node work with.
+//! How the parts of a node are made.
 
 ghost use Rattle.std.specs.Prelude.{◌≡◌, ◌≢◌, ◌≤◌, ◌<◌, [], false, length, IfSome, OnSome};
 ghost use Rattle.std.specs.List.{AllByRecursion};
@@ -8,33 +8,54 @@ ghost use Rattle.nob_dispatch_lanes.specs.Ends.{given_by, got_by};
 ghost use Rattle.nob_dispatch_lanes.specs.Lanes.{all_given, all_got};
 
 use crate::config::{Config, Ends};
+use crate::crew::Crew;
 use crate::object::Kept;
 use crate::outbox::Outbox;
+use crate::site::Site;
 use nob_agents::{Carer, Sender, Taker, Way};
 use nob_dispatch::{Desk, Errand, Hand, Return};
 use nob_dispatch_lanes::{LanePut, LaneTake, Numbered, lane};
 use nob_dispatch_objects::{Agent, Object};
 use nob_ids::SpaceId;
-use nob_keeper::{Keeper, Seat};
+use nob_keeper::Keeper;
 use nob_link::{PutEnd, TakeEnd};
+use nob_space::Space;
 use std::alloc::Global;
 
 /// So many errands, and so many objects on their way back, a node's lanes hold.
 const LANE: usize = 1024;
 
-/// What the threads of a node work with, each with its own.
-#[derive(Drop)]
-pub(crate) struct Crew<B: Object> {
-    pub(crate) takers: Vec<Taker<TakeEnd>>,
-    pub(crate) hands: Vec<Hand<Kept<B>>>,
-    pub(crate) carer: Carer,
-    // Room for the seats of all.
-    pub(crate) seats: Vec<Seat>,
+/// What the threads of a node share, and what each has of its own. Two ends to one peer: the second
+/// pair is let go. Only memory fails it.
+pub fn site_of<B: Object>(
+    alloc: Global,
+    config: &Config,
+    ends: Vec<Ends>,
+) -> Option<(Site<B>, Crew<B>)> {
+    let keeper = keeper_of(alloc, config)?;
+    let Some((outbox, desk, crew)) = crew_of::<B>(alloc, &keeper, config, ends) else {
+        keeper.shut();
+        return None;
+    };
+    Some((Site::new(keeper, outbox, desk), crew))
 }
 
-/// What all threads of a node share, but for the keeper, and what each has of its own. Only memory
-/// fails it.
-pub(crate) fn crew_of<B: Object>(
+// A keeper of a new space.
+fn keeper_of(alloc: Global, config: &Config) -> Option<Keeper> {
+    let Ok(space) = Space::new(alloc, config.space, config.n, config.limits) else {
+        return None;
+    };
+    match Keeper::new(alloc, space) {
+        Ok(keeper) => Some(keeper),
+        Err(space) => {
+            space.shut();
+            None
+        }
+    }
+}
+
+// What all threads share, but for the keeper, and what each has of its own. Only memory fails it.
+fn crew_of<B: Object>(
     alloc: Global,
     keeper: &Keeper,
     config: &Config,
@@ -125,7 +146,7 @@ fn ways_of(
     alloc: Global,
     keeper: &Keeper,
     ends: Vec<Ends>,
-    takers: &mut Vec<Taker<TakeEnd>>,
+    takers: &mut Vec<Option<Taker<TakeEnd>>>,
 ) -> Option<Vec<Way<PutEnd>>>
     ensures { IfSome result (λ ways. AllByRecursion (IsTied []) ways.items × AreApart ways.items) }
 {
@@ -140,7 +161,7 @@ fn add_ways(
     keeper: &Keeper,
     mut ends: Vec<Ends>,
     ways: &mut Vec<Way<PutEnd>>,
-    takers: &mut Vec<Taker<TakeEnd>>,
+    takers: &mut Vec<Option<Taker<TakeEnd>>>,
 ) -> Option<()>
     requires { AllByRecursion (IsTied []) ways.old.items × AreApart ways.old.items }
     ensures { OnSome result (AllByRecursion (IsTied []) ways.new.items × AreApart ways.new.items) }
@@ -159,7 +180,7 @@ fn add_way(
     keeper: &Keeper,
     ends: Ends,
     ways: &mut Vec<Way<PutEnd>>,
-    takers: &mut Vec<Taker<TakeEnd>>,
+    takers: &mut Vec<Option<Taker<TakeEnd>>>,
 ) -> Option<()>
     requires { AllByRecursion (IsTied []) ways.old.items × AreApart ways.old.items }
     ensures { OnSome result (AllByRecursion (IsTied []) ways.new.items × AreApart ways.new.items) }
@@ -173,7 +194,8 @@ fn add_way(
     if leads_to(ways.as_slice(), peer) {
         return Some(());
     }
-    takers.push(Taker::new(keeper.seat(), peer, take)).ok()?;
+    let taker = Taker::new(keeper.seat(), peer, take);
+    takers.push(Some(taker)).ok()?;
     put_first(ways, Way::new(peer, shim, put, Vec::new(alloc)))
 }
 

@@ -3,7 +3,7 @@
 ghost use Rattle.std.specs.Prelude.{◌≡◌, ◌<◌, length, vec_len};
 
 use nob_agents::{Sender, Step, Turn, Way};
-use nob_keeper::{Keeper, KeeperError, Look, Seat};
+use nob_keeper::{Dues, Keeper, KeeperError, Seat};
 use nob_link::{Parcel, PutEnd};
 use std::alloc::Global;
 use std::sync::Wait;
@@ -11,7 +11,7 @@ use std::sync::Wait;
 /// What transmits for a node: its Sender, and once no more is transmitted the ways that are left to
 /// be ended.
 #[derive(Drop)]
-pub(crate) struct Outbox {
+pub struct Outbox {
     sender: Option<Sender<PutEnd>>,
     seat: Option<Seat>,
     ways: Vec<Way<PutEnd>>,
@@ -20,8 +20,8 @@ pub(crate) struct Outbox {
 }
 
 impl Outbox {
-    // What transmits by a Sender.
-    pub(crate) fn new(alloc: Global, sender: Sender<PutEnd>) -> Outbox {
+    /// What transmits by a Sender.
+    pub fn new(alloc: Global, sender: Sender<PutEnd>) -> Outbox {
         Outbox {
             sender: Some(sender),
             seat: None,
@@ -30,27 +30,27 @@ impl Outbox {
         }
     }
 
-    // Transmits what is new. What fails is done by a later turn.
-    pub(crate) fn flush<R: Wait>(&mut self, rt: &R, keeper: &Keeper) {
+    /// Transmits what is new. What fails is done by a later turn.
+    pub fn flush<R: Wait>(&mut self, rt: &R, keeper: &Keeper) {
         if let Some(sender) = &mut self.sender {
             let _ = sender.flush(rt, keeper);
         }
     }
 
-    // A turn of the Sender: whether nothing was left for it to do, by what the keeper said before.
-    pub(crate) fn turn<R: Wait>(&mut self, rt: &R, keeper: &Keeper, look: &Look) -> bool {
+    /// A turn of the Sender: whether nothing was left for it to do, by what the keeper said before.
+    pub fn turn<R: Wait>(&mut self, rt: &R, keeper: &Keeper, dues: &Dues) -> bool {
         let Some(sender) = &mut self.sender else {
             return true;
         };
         match sender.turn(rt, keeper) {
-            Ok(Turn::Idle) => sender.is_done(look),
+            Ok(Turn::Idle) => sender.is_done(dues),
             Ok(_) => false,
             Err(error) => error != KeeperError::OutOfMemory,
         }
     }
 
-    // Transmits no more: the Sender ends, and the ways are left.
-    pub(crate) fn seal(&mut self) {
+    /// Transmits no more: the Sender ends, and the ways are left.
+    pub fn seal(&mut self) {
         if let Some(sender) = self.sender.take() {
             let (seat, ways) = sender.end();
             self.seat = Some(seat);
@@ -58,14 +58,14 @@ impl Outbox {
         }
     }
 
-    // Lets all ways go, with the ends of their links.
-    pub(crate) fn give_up(&mut self) {
+    /// Lets all ways go, with the ends of their links.
+    pub fn give_up(&mut self) {
         self.seal();
         self.ways.clear();
     }
 
-    // Ends the ways, as far as the links have room: whether none is left.
-    pub(crate) fn put_ends<R: Wait>(&mut self, rt: &R) -> bool {
+    /// Ends the ways, as far as the links have room: whether none is left.
+    pub fn put_ends<R: Wait>(&mut self, rt: &R) -> bool {
         self.seal();
         for _ in rt.forever() {
             let Some(mut way) = self.ways.pop() else {
@@ -85,8 +85,8 @@ impl Outbox {
         let _ = self.ways.push(way);
     }
 
-    // Its seat, once no more is transmitted.
-    pub(crate) fn into_seat(self) -> Option<Seat> {
+    /// Its seat, once no more is transmitted.
+    pub fn into_seat(self) -> Option<Seat> {
         let Outbox { sender, seat, .. } = self;
         match sender {
             Some(sender) => {

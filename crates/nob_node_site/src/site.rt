@@ -1,6 +1,6 @@
 //! What the threads of a node share.
 
-ghost use Rattle.std.specs.Prelude.{◌≡◌};
+ghost use Rattle.std.specs.Prelude.{◌≡◌, [], IfErr};
 
 use crate::object::Kept;
 use crate::outbox::Outbox;
@@ -8,17 +8,21 @@ use nob_agents::Calls;
 use nob_dispatch::{Assigned, Desk, JobCalls, Place};
 use nob_dispatch_objects::{Agent, Object};
 use nob_ids::CallNo;
-use nob_keeper::{Keeper, KeeperError, Look, Seat, wakes_of};
+use nob_keeper::{Dues, Keeper, KeeperError, Look, Seat, WorkKind, wakes_of};
 use nob_model_types::Event;
 use nob_offers::Offered;
 use std::alloc::Global;
-use std::sync::atomic::{AtomicBool, Ordering};
+use std::sync::atomic::{AtomicBool, AtomicU64, Ordering};
 use std::sync::{Condvar, Mutex, Wait};
 use std::thread;
+use std::time::Duration;
+
+/// So many microseconds the thread rests at a time that transmits again what is out.
+const REST: u64 = 100;
 
 /// What the threads of a node share. Locks are taken in one order: the desk's or the outbox's, and
 /// then the keeper's.
-pub(crate) struct Site<B: Object> {
+pub struct Site<B: Object> {
     pub(crate) keeper: Keeper,
     // Who hands something on offers a turn.
     outbox: Offered<Outbox>,
@@ -29,6 +33,10 @@ pub(crate) struct Site<B: Object> {
     // Whether all threads are made, once that is known.
     started: Mutex<Option<bool>>,
     starts: Condvar,
+    // How many threads carry out jobs.
+    serving: AtomicU64,
+    // The thread that transmits again what is out rests here between its turns.
+    pulse: AtomicU64,
     // Whether no more is transmitted: the links are ended.
     is_sealed: AtomicBool,
     // Whether the trace is full, or a thread couldn't be made: the ends of the links are given up.
@@ -38,7 +46,7 @@ pub(crate) struct Site<B: Object> {
 }
 
 impl<B: Object> Site<B> {
-    pub(crate) fn new(keeper: Keeper, outbox: Outbox, desk: Desk<Kept<B>>) -> Site<B> {
+    pub fn new(keeper: Keeper, outbox: Outbox, desk: Desk<Kept<B>>) -> Site<B> {
         Site {
             keeper,
             outbox: Offered::new(outbox),
@@ -46,14 +54,23 @@ impl<B: Object> Site<B> {
             returned: Condvar::new(),
             started: Mutex::new(None),
             starts: Condvar::new(),
+            serving: AtomicU64::new(0),
+            pulse: AtomicU64::new(0),
             is_sealed: AtomicBool::new(false),
             has_failed: AtomicBool::new(false),
             has_ended: AtomicBool::new(false),
         }
     }
 
-    // Its parts, once all threads are done with it.
-    pub(crate) fn into_parts(self) -> (Keeper, Outbox, Option<Desk<Kept<B>>>) {
+    /// A seat for one more caller. It takes no memory.
+    pub fn seat(&self) -> Seat
+        ensures { result ≡ [] }
+    {
+        self.keeper.seat()
+    }
+
+    /// Its parts, once all threads are done with it.
+    pub fn into_parts(self) -> (Keeper, Outbox, Option<Desk<Kept<B>>>) {
         let Site {
             keeper,
             outbox,
@@ -61,6 +78,8 @@ impl<B: Object> Site<B> {
             returned: _,
             started: _,
             starts: _,
+            serving: _,
+            pulse: _,
             is_sealed: _,
             has_failed: _,
             has_ended: _,
@@ -68,16 +87,16 @@ impl<B: Object> Site<B> {
         (keeper, outbox.into_inner(), desk.into_inner())
     }
 
-    // Says whether all threads are made.
-    pub(crate) fn start<R: Wait>(&self, rt: &R, is_whole: bool) {
+    /// Says whether all threads are made.
+    pub fn start<R: Wait>(&self, rt: &R, is_whole: bool) {
         let mut started = self.started.lock(rt);
         *started = Some(is_whole);
         drop(started);
         self.starts.notify_all();
     }
 
-    // Waits until it is known whether all threads are made. Who makes them wakes it.
-    pub(crate) fn wait_start<R: Wait>(&self, rt: &R) -> bool {
+    /// Waits until it is known whether all threads are made. Who makes them wakes it.
+    pub fn wait_start<R: Wait>(&self, rt: &R) -> bool {
         let started = self
             .starts
             .wait_while(rt, self.started.lock(rt), |started| started.is_none());
@@ -87,23 +106,25 @@ impl<B: Object> Site<B> {
         }
     }
 
-    pub(crate) fn has_failed(&self) -> bool {
+    pub fn has_failed(&self) -> bool {
         self.has_failed.load(Ordering::SeqCst)
     }
 
-    pub(crate) fn is_sealed(&self) -> bool {
+    pub fn is_sealed(&self) -> bool {
         self.is_sealed.load(Ordering::SeqCst)
     }
 
-    // Whoever waits for objects to come back waits no more.
-    pub(crate) fn fail<R: Wait>(&self, rt: &R) {
+    /// Whoever waits for objects to come back waits no more, and the ends that put are given up, so
+    /// that no peer waits for this node.
+    pub fn fail<R: Wait>(&self, rt: &R) {
         self.has_failed.store(true, Ordering::SeqCst);
         drop(self.desk.lock(rt));
         self.returned.notify_all();
+        self.transmit(rt);
     }
 
-    // Runs a turn of what transmits, or leaves it to the one who has the turn.
-    pub(crate) fn transmit<R: Wait>(&self, rt: &R) {
+    /// Runs a turn of what transmits, or leaves it to the one who has the turn.
+    pub fn transmit<R: Wait>(&self, rt: &R) {
         self.outbox.hand();
         self.outbox
             .offer(rt, |outbox: &mut Outbox| self.send(rt, outbox));
@@ -111,42 +132,50 @@ impl<B: Object> Site<B> {
 
     // What is transmitted in a turn.
     fn send<R: Wait>(&self, rt: &R, outbox: &mut Outbox) {
-        if !self.is_sealed() {
-            return outbox.flush(rt, &self.keeper);
-        }
         if self.has_failed() {
             outbox.give_up();
+        }
+        if !self.is_sealed() {
+            return outbox.flush(rt, &self.keeper);
         }
         if outbox.put_ends(rt) {
             self.has_ended.store(true, Ordering::SeqCst);
         }
     }
 
-    // A turn of what transmits that also repeats what is out: whether nothing was left to do, by
-    // what the keeper said before.
-    pub(crate) fn repeat<R: Wait>(&self, rt: &R, look: &Look) -> bool {
+    /// A turn of what transmits that also repeats what is out: whether nothing was left to do, by
+    /// what the keeper said before.
+    pub fn repeat<R: Wait>(&self, rt: &R, dues: &Dues) -> bool {
         let is_done = AtomicBool::new(false);
         let done = &is_done;
         self.outbox.offer(rt, |outbox: &mut Outbox| {
-            done.store(outbox.turn(rt, &self.keeper, look), Ordering::SeqCst)
+            done.store(outbox.turn(rt, &self.keeper, dues), Ordering::SeqCst)
         });
         is_done.load(Ordering::SeqCst)
     }
 
-    // Ends all links: the end is put on each. Where the node has failed they are given up.
-    pub(crate) fn end_links<R: Wait>(&self, rt: &R) {
+    /// Leaves the processor to others for a while. Nobody has to wake it.
+    pub fn rest<R: Wait>(&self, rt: &R) {
+        self.pulse.park_timeout(rt, 0, Duration::from_micros(REST));
+    }
+
+    /// Ends all links: the end is put on each. Where the node has failed they are given up. The
+    /// threads that care and transmit end.
+    pub fn end_links<R: Wait>(&self, rt: &R) {
+        self.keeper.stop(rt, WorkKind::Care);
+        self.keeper.stop(rt, WorkKind::Send);
         self.is_sealed.store(true, Ordering::SeqCst);
         for _ in rt.forever() {
             self.transmit(rt);
             if self.has_ended.load(Ordering::SeqCst) {
                 return;
             }
-            thread::yield_now();
+            self.rest(rt);
         }
     }
 
-    // Claims what jobs there are, and hands each on with its object.
-    pub(crate) fn assign<R: Wait>(&self, rt: &R) {
+    /// Claims what jobs there are, and hands each on with its object.
+    pub fn assign<R: Wait>(&self, rt: &R) {
         let mut held = self.desk.lock(rt);
         if let Some(desk) = &mut *held {
             assign_all(rt, &self.keeper, desk);
@@ -155,9 +184,9 @@ impl<B: Object> Site<B> {
         self.returned.notify_all();
     }
 
-    // Claims no more, and waits until all objects have come back, or the node has failed; then
-    // nothing more is given to the workers.
-    pub(crate) fn end_jobs<R: Wait>(&self, rt: &R) -> Option<Desk<Kept<B>>> {
+    /// Claims no more, and waits until all objects have come back, or the node has failed; then
+    /// nothing more is given to the workers.
+    pub fn end_jobs<R: Wait>(&self, rt: &R) -> Option<Desk<Kept<B>>> {
         self.stop_claiming(rt);
         self.assign(rt);
         let mut held = self
@@ -166,14 +195,31 @@ impl<B: Object> Site<B> {
         held.take()
     }
 
-    // An object more: it comes back where there is no memory for its place.
-    pub(crate) fn add<R: Wait>(
-        &self,
-        rt: &R,
-        alloc: Global,
-        index: u64,
-        object: B,
-    ) -> Result<(), B> {
+    /// One more thread carries out jobs.
+    pub fn come(&self) {
+        self.serving.fetch_add(1, Ordering::SeqCst);
+    }
+
+    /// One thread fewer carries out jobs.
+    pub fn leave<R: Wait>(&self, rt: &R) {
+        self.serving.fetch_sub(1, Ordering::SeqCst);
+        drop(self.desk.lock(rt));
+        self.returned.notify_all();
+    }
+
+    /// Waits until no thread carries out jobs any more: each ends once it is given none. The last
+    /// that leaves wakes it.
+    pub fn wait_left<R: Wait>(&self, rt: &R) {
+        let held = self.returned.wait_while(rt, self.desk.lock(rt), |_| {
+            self.serving.load(Ordering::SeqCst) > 0
+        });
+        drop(held);
+    }
+
+    /// An object more: it comes back where there is no memory for its place.
+    pub fn add<R: Wait>(&self, rt: &R, alloc: Global, index: u64, object: B) -> Result<(), B>
+        ensures { IfErr result (λ back. back ≡ object) }
+    {
         let mut held = self.desk.lock(rt);
         let Some(desk) = &mut *held else {
             return Err(object);
@@ -187,8 +233,8 @@ impl<B: Object> Site<B> {
         Ok(())
     }
 
-    // The node's agent, once it doesn't run.
-    pub(crate) fn borrow_agent<R: Wait>(&self, rt: &R) -> Option<Kept<B>> {
+    /// The node's agent, once it doesn't run.
+    pub fn borrow_agent<R: Wait>(&self, rt: &R) -> Option<Kept<B>> {
         let mut held = self
             .returned
             .wait_while(rt, self.desk.lock(rt), |held| is_agent_away(held));
@@ -198,8 +244,8 @@ impl<B: Object> Site<B> {
         }
     }
 
-    // The agent comes back. What waited for it goes on.
-    pub(crate) fn give_agent_back<R: Wait>(&self, rt: &R, agent: Kept<B>) {
+    /// The agent comes back. What waited for it goes on.
+    pub fn give_agent_back<R: Wait>(&self, rt: &R, agent: Kept<B>) {
         let mut held = self.desk.lock(rt);
         if let Some(desk) = &mut *held {
             let _ = desk.give_back_lent(0, agent);
@@ -208,8 +254,8 @@ impl<B: Object> Site<B> {
         self.assign(rt);
     }
 
-    // Lets go of an object that was withdrawn.
-    pub(crate) fn remove<R: Wait>(&self, rt: &R, index: u64) {
+    /// Lets go of an object that was withdrawn.
+    pub fn remove<R: Wait>(&self, rt: &R, index: u64) {
         let mut held = self.desk.lock(rt);
         if let Some(desk) = &mut *held {
             let _ = desk.remove(index);
@@ -218,8 +264,8 @@ impl<B: Object> Site<B> {
         self.returned.notify_all();
     }
 
-    // Waits until there is no object at an index, or the node has failed.
-    pub(crate) fn wait_withdrawn<R: Wait>(&self, rt: &R, index: u64) {
+    /// Waits until there is no object at an index, or the node has failed.
+    pub fn wait_withdrawn<R: Wait>(&self, rt: &R, index: u64) {
         let held = self.returned.wait_while(rt, self.desk.lock(rt), |held| {
             has_place(held, index) && !self.has_failed()
         });
@@ -320,6 +366,10 @@ impl<B: Object> Calls for Site<B> {
 
     fn look<R: Wait>(&self, rt: &R) -> Look {
         self.keeper.look(rt)
+    }
+
+    fn dues<R: Wait>(&self, rt: &R) -> Dues {
+        self.keeper.dues(rt)
     }
 }
 

@@ -22,11 +22,11 @@ use Rattle.nob_keeper.specs.contracts.held.Held as Held
 use Rattle.nob_keeper.specs.contracts.keeper.Keeper as Keeper
 use Rattle.nob_link.proofs.ends.PutEnd.TheSendSync as put_end
 use Rattle.nob_link.specs.contracts.ends.PutEnd as PutEnd
-use Rattle.nob_node.proofs.object.Kept.TheSendSync as kept
-use Rattle.nob_node.specs.contracts.object.Kept as Kept
-use Rattle.nob_node.specs.contracts.outbox.Outbox as Outbox
-use Rattle.nob_node.specs.contracts.crew.Crew as Crew
-use Rattle.nob_node.specs.contracts.site.Site as Site
+use Rattle.nob_node_site.proofs.object.Kept.TheSendSync as kept
+use Rattle.nob_node_site.specs.contracts.object.Kept as Kept
+use Rattle.nob_node_site.specs.contracts.outbox.Outbox as Outbox
+use Rattle.nob_node_site.specs.contracts.crew.Crew as Crew
+use Rattle.nob_node_site.specs.contracts.site.Site as Site
 use Rattle.nob_agents.specs.contracts.carer.Carer as Carer
 use Rattle.nob_keeper.specs.contracts.seat.Seat as Seat
 
@@ -78,7 +78,7 @@ module _ (B : RattleType) (g : Object.Ghosts B.Denot) (crossing : IsSend B) wher
   site_sync =
       let T = Site.the_type B g in
       recorded_sync (Struct (shape T)) T.D T.to T.to_one (struct_sync (shape T)
-      (keeper_field_sync, (search (outbox_field_send, crosses, sendable) depth 60 fits 20000, (search (desk_of_node_send, crosses, sendable) depth 60 fits 20000, (condvar_sync, (search (crosses, sendable) depth 60 fits 20000, (condvar_sync, (search (crosses, sendable) depth 60 fits 20000, (search (crosses, sendable) depth 60 fits 20000, (search (crosses, sendable) depth 60 fits 20000, tt))))))))))
+      (keeper_field_sync, (search (outbox_field_send, crosses, sendable) depth 60 fits 20000, (search (desk_of_node_send, crosses, sendable) depth 60 fits 20000, (condvar_sync, (search (crosses, sendable) depth 60 fits 20000, (condvar_sync, (search (crosses, sendable) depth 60 fits 20000, (search (crosses, sendable) depth 60 fits 20000, (search (crosses, sendable) depth 60 fits 20000, (search (crosses, sendable) depth 60 fits 20000, (search (crosses, sendable) depth 60 fits 20000, tt))))))))))))
 
   pub crew_send : IsSend (Crew.the_row B g)
   crew_send =

@@ -32,33 +32,33 @@ impl<B: Object> Object for Kept<B> {
 }
 
 impl<B: Object> Kept<B> {
-    // The application's object: `None` for the agent.
-    pub(crate) fn into_own(self) -> Option<B> {
+    /// The application's object: `None` for the agent.
+    pub fn into_own(self) -> Option<B> {
         match self {
             Kept::Own(object) => Some(object),
             Kept::Agent(_) => None,
         }
     }
 
-    // Whether it has no room for a name.
-    pub(crate) fn is_full_for(&self, name: &Name) -> bool {
+    /// Whether it has no room for a name.
+    pub fn is_full_for(&self, name: &Name) -> bool {
         match self {
             Kept::Own(_) => true,
             Kept::Agent(agent) => agent.names().is_full_for(name.as_bytes()),
         }
     }
 
-    // Takes a name out: the reference that it stood for.
-    pub(crate) fn remove(&mut self, name: &[u8]) -> Option<WireRep> {
+    /// Takes a name out: the reference that it stood for.
+    pub fn remove(&mut self, name: &[u8]) -> Option<WireRep> {
         match self {
             Kept::Own(_) => None,
             Kept::Agent(agent) => agent.names_mut().remove(name),
         }
     }
 
-    // Has a name stand for a reference: the reference that it stood for before. `None` where there is
-    // no room.
-    pub(crate) fn put(&mut self, name: Name, rep: WireRep) -> Option<Option<WireRep>> {
+    /// Has a name stand for a reference: the reference that it stood for before. `None` where there is
+    /// no room.
+    pub fn put(&mut self, name: Name, rep: WireRep) -> Option<Option<WireRep>> {
         match self {
             Kept::Own(_) => None,
             Kept::Agent(agent) => agent.names_mut().put(name, rep).ok(),

@@ -1,0 +1,46 @@
+//! The program `bench_calls`: nodes in threads of one process, some of which call an object of the
+//! first. `bench/calls` measures it.
+#![tactic(auto)]
+
+mod caller;
+mod floor;
+mod meeting;
+mod owner;
+mod player;
+mod running;
+mod task;
+mod thing;
+
+use crate::floor::run_floor;
+use crate::running::run_all;
+use crate::task::{Kind, Task, read_task};
+use std::alloc::Global;
+use std::io;
+use std::process::ExitCode;
+use std::sync::Wait;
+use std::thread::Threads;
+
+fn main(rt: HostRuntime) -> ExitCode {
+    let done = match read_task(&rt) {
+        Ok(Some(task)) => run(&rt, rt.alloc(), task),
+        Ok(None) => rt.println("bench_calls floor|null|fresh|life|handoff CALLERS CALLS LOSS"),
+        Err(error) => Err(error),
+    };
+    match done {
+        Ok(()) => ExitCode::from(0),
+        Err(_) => ExitCode::from(1),
+    }
+}
+
+// Runs a task, and says how many calls were answered.
+fn run<R: Threads + Wait + Sync + Print>(rt: &R, alloc: Global, task: Task) -> io::Result<()> {
+    let answered = if task.kind == Kind::Floor {
+        run_floor(rt, alloc, task.callers, task.calls)
+    } else {
+        run_all(rt, alloc, task)
+    };
+    match answered {
+        Some(answered) => println!(rt; "{answered} calls answered"),
+        None => println!(rt; "it failed"),
+    }
+}

@@ -1,0 +1,161 @@
+//! The nodes, a thread each.
+
+use crate::meeting::Meeting;
+use crate::player::{Part, Player};
+use crate::task::{Kind, Task};
+use crate::thing::Thing;
+use nob_dispatch::OpenGate;
+use nob_fault::{Shim, words_between};
+use nob_ids::{Limits, SpaceId};
+use nob_link::link;
+use nob_node::{Config, Ends, run};
+use std::alloc::Global;
+use std::sync::Wait;
+use std::thread::{self, Threads};
+
+/// So many parcels a link holds.
+const LINK: usize = 1024;
+
+/// So many workers a node has.
+const WORKERS: usize = 4;
+
+/// What is out is transmitted again after so many turns.
+const PAUSE: u32 = 4;
+
+/// A node to run, what its application is there for, and then how many of its calls were answered.
+#[derive(Drop)]
+struct Place {
+    alloc: Global,
+    config: Config,
+    ends: Option<Vec<Ends>>,
+    players: u64,
+    part: Part,
+    task: Task,
+    server: SpaceId,
+    relay: SpaceId,
+    answered: Option<u64>,
+}
+
+impl Place {
+    // Runs the node until its application has ended.
+    fn play<R: Threads + Wait + Sync>(&mut self, rt: &R, meeting: &Meeting) {
+        let Some(ends) = self.ends.take() else {
+            return;
+        };
+        let mut player = Player::new(
+            self.alloc,
+            meeting,
+            self.players,
+            self.part,
+            self.task,
+            self.server,
+            self.relay,
+        );
+        let done = run(rt, self.alloc, self.config, ends, &OpenGate, &mut player);
+        player.leave(rt);
+        if done.is_ok() {
+            self.answered = Some(player.answered);
+        }
+    }
+
+    // The ends to one peer more. Only memory fails it.
+    fn add(&mut self, ends: Ends) -> Option<()> {
+        match &mut self.ends {
+            Some(all) => all.push(ends).ok(),
+            None => None,
+        }
+    }
+}
+
+// Runs a task: how many calls were answered. `None` where memory is wanted, or a thread can't be
+// made.
+pub(crate) fn run_all<R: Threads + Wait + Sync>(rt: &R, alloc: Global, task: Task) -> Option<u64> {
+    let mut places = places_of(alloc, task)?;
+    let meeting = Meeting::new();
+    play_all(rt, &meeting, places.as_mut_slice());
+    let mut answered: u64 = 0;
+    for place in places {
+        answered = answered.saturating_add(place.answered?);
+    }
+    Some(answered)
+}
+
+// Runs all nodes, a thread each.
+fn play_all<R: Threads + Wait + Sync>(rt: &R, meeting: &Meeting, places: &mut [Place]) {
+    thread::scope(thread::scope_env(), rt, |scope| {
+        for place in places {
+            if scope.spawn(move || place.play(rt, meeting)).is_err() {
+                meeting.come(rt, 2);
+            }
+        }
+    });
+}
+
+// What the application of a space is there for.
+fn part_of(task: Task, number: u16) -> Part {
+    if number == 1 {
+        return Part::Offers(Thing::Answers);
+    }
+    if task.kind == Kind::Handoff && number == 2 {
+        return Part::Offers(Thing::PassesOn);
+    }
+    Part::Calls
+}
+
+// The places of all spaces, with a link each way between each two of them. Only memory fails it.
+fn places_of(alloc: Global, task: Task) -> Option<Vec<Place>> {
+    let offers = if task.kind == Kind::Handoff { 2 } else { 1 };
+    let count = task.callers.saturating_add(offers);
+    let server = SpaceId::new(1)?;
+    let relay = SpaceId::new(offers)?;
+    let mut places = Vec::new(alloc);
+    for number in 1..=count {
+        let space = SpaceId::new(number)?;
+        let place = Place {
+            alloc,
+            config: Config::new(space, count, Limits::default(), WORKERS, PAUSE, 0)?,
+            ends: Some(Vec::new(alloc)),
+            players: count as u64,
+            part: part_of(task, number),
+            task,
+            server,
+            relay,
+            answered: None,
+        };
+        places.push(place).ok()?;
+    }
+    for first in 0..places.len() {
+        for second in 0..first {
+            join(alloc, task, &mut places, first, second)?;
+        }
+    }
+    Some(places)
+}
+
+// Joins two places by a link each way. Only memory fails it.
+fn join(
+    alloc: Global,
+    task: Task,
+    places: &mut Vec<Place>,
+    first: usize,
+    second: usize,
+) -> Option<()> {
+    let one = SpaceId::new(first as u16 + 1)?;
+    let other = SpaceId::new(second as u16 + 1)?;
+    let there = shim_between(alloc, task, one, other)?;
+    let back = shim_between(alloc, task, other, one)?;
+    let (put_there, take_there) = link(alloc, LINK).ok()?;
+    let (put_back, take_back) = link(alloc, LINK).ok()?;
+    let ours = Ends::new(other, put_there, take_back, there);
+    let theirs = Ends::new(one, put_back, take_there, back);
+    places.get_mut(first)?.add(ours)?;
+    places.get_mut(second)?.add(theirs)
+}
+
+// The shim of the link from one space to another. Only memory fails it.
+fn shim_between(alloc: Global, task: Task, from: SpaceId, to: SpaceId) -> Option<Shim> {
+    if task.loss == 0 {
+        return Some(Shim::new(Vec::new(alloc)));
+    }
+    Some(Shim::new(words_between(alloc, 1, from, to, task.loss).ok()?))
+}

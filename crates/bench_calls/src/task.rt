@@ -1,0 +1,63 @@
+//! What is measured.
+
+use std::{env, io};
+
+/// What each call is for.
+#[derive(Clone, Copy, Debug, PartialEq, Eq)]
+pub(crate) enum Kind {
+    /// No space is called: a frame goes to and fro.
+    Floor,
+    /// Nothing is passed.
+    Null,
+    /// A reference to a new object is passed, and given back by the one who called.
+    Fresh,
+    /// As `Fresh`, and the object is waited for until it is withdrawn.
+    Life,
+    /// A reference to a new object is passed on to a third space.
+    Handoff,
+}
+
+/// What is measured: so many callers, each of which makes so many calls, over links that lose about
+/// so many frames of ten.
+#[derive(Clone, Copy, Debug)]
+pub(crate) struct Task {
+    pub(crate) kind: Kind,
+    pub(crate) callers: u16,
+    pub(crate) calls: u64,
+    pub(crate) loss: u64,
+}
+
+/// The task of the command line: `None` where it has too few words.
+pub(crate) fn read_task(rt: &HostRuntime) -> io::Result<Option<Task>> {
+    let mut words = env::args(rt)?;
+    let _program = words.next();
+    let Some(kind) = words.next() else {
+        return Ok(None);
+    };
+    let Some(callers) = words.next() else {
+        return Ok(None);
+    };
+    let Some(calls) = words.next() else {
+        return Ok(None);
+    };
+    let Some(loss) = words.next() else {
+        return Ok(None);
+    };
+    Ok(Some(Task {
+        kind: kind_of(kind.as_str()),
+        callers: callers.as_str().parse::<u16>().unwrap_or(1).clamp(1, 8),
+        calls: calls.as_str().parse::<u64>().unwrap_or(1),
+        loss: loss.as_str().parse::<u64>().unwrap_or(0),
+    }))
+}
+
+// The kind of a word.
+fn kind_of(word: &str) -> Kind {
+    match word {
+        "floor" => Kind::Floor,
+        "fresh" => Kind::Fresh,
+        "life" => Kind::Life,
+        "handoff" => Kind::Handoff,
+        _ => Kind::Null,
+    }
+}
