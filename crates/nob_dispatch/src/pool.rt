@@ -7,7 +7,15 @@ use nob_dispatch_jobs::{Gate, JobCalls};
 use nob_dispatch_objects::Object;
 use nob_keeper::KeeperError;
 use std::sync::Wait;
+use std::sync::atomic::AtomicU64;
 use std::thread;
+use std::time::Duration;
+
+/// So many microseconds a worker's thread rests at first where its job can't be ended yet. Each
+/// further rest is twice as long, up to the longest.
+const FIRST_REST: u64 = 20;
+
+const LONGEST_REST: u64 = 1000;
 
 /// Gets errands and carries them out, until none comes any more. K2 is tried again; after any other
 /// error of the keeper each errand that the hand has or still gets is given up: its object goes
@@ -28,21 +36,31 @@ pub fn serve<O: Object, R: Wait, C: JobCalls, G: Gate>(
     }
 }
 
-// Carries out the job that a hand keeps, to its end.
+// Carries out the job that a hand keeps, to its end. What can't be done yet is tried again after a
+// rest.
 fn carry_out<O: Object, R: Wait, C: JobCalls, G: Gate>(
     rt: &R,
     keeper: &C,
     gate: &G,
     hand: &mut Hand<O>,
 ) {
+    let mut rest = FIRST_REST;
     for _ in rt.forever() {
         match hand.turn(rt, keeper, gate) {
-            Ok(Deed::Did) => {}
-            Ok(Deed::Later) => thread::yield_now(),
+            Ok(Deed::Did) => rest = FIRST_REST,
+            Ok(Deed::Later) => rest = after_rest(rt, rest),
             Ok(Deed::Ended) => return,
             Ok(Deed::Idle) => return,
             Err(KeeperError::OutOfMemory) => thread::yield_now(),
             Err(_) => return hand.give_up(rt),
         }
     }
+}
+
+// Leaves the processor to others for so many microseconds: how many the next rest has. Nobody has to
+// wake it.
+fn after_rest<R: Wait>(rt: &R, rest: u64) -> u64 {
+    let nothing = AtomicU64::new(0);
+    nothing.park_timeout(rt, 0, Duration::from_micros(rest));
+    rest.saturating_mul(2).min(LONGEST_REST)
 }

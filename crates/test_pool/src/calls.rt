@@ -22,10 +22,6 @@ pub(crate) enum Said {
     Object(u8, u64),
     /// A status with another value.
     Other(u8),
-    /// An agent asks for a hold more on an object of the second space.
-    Dup(u64),
-    /// An agent gives back a hold on an object of the second space.
-    Release(u64),
 }
 
 /// A row of what is printed.

@@ -66,7 +66,6 @@ fn way_of(from: &Keeper, to: &Keeper) -> Way {
     Way {
         seat: from.seat(),
         far: to.seat(),
-        done: 0,
     }
 }
 

@@ -4,9 +4,9 @@ use crate::objects::Thing;
 use crate::site::{Side, Site};
 use nob_dispatch::{Assigned, Desk, Hand, Shelf, serve};
 use nob_ids::SpaceId;
-use nob_keeper::{Keeper, KeeperError, Seat, Wake, WorkKind};
+use nob_keeper::{Dues, Keeper, KeeperError, Seat, Wake, WorkKind};
 use nob_model_types::{Answer, Event};
-use nob_space::Work;
+use nob_space::{Due, Work};
 use std::sync::Wait;
 use std::thread;
 
@@ -17,8 +17,6 @@ pub(crate) struct Way {
     pub(crate) seat: Seat,
     // Its seat at the space where the frames arrive.
     pub(crate) far: Seat,
-    // The place of the entry up to which all is transmitted.
-    pub(crate) done: u64,
 }
 
 /// What a thread has of its own, and what is left of it.
@@ -138,15 +136,23 @@ fn come_to_rest<R: Wait>(rt: &R, keeper: &Keeper, desk: &mut Desk<Thing>) {
 // Carries frames, until it is told to stop. It sleeps at the keeper where there are none.
 fn carry<R: Wait>(rt: &R, from: &Keeper, to: &Keeper, peer: SpaceId, way: &mut Way) {
     for _ in rt.forever() {
-        let look = from.look(rt);
-        if look.handed > way.done {
-            match pass(rt, from, to, peer, way) {
-                Some(()) => way.done = look.place,
-                None => thread::yield_now(),
+        let dues = from.dues(rt);
+        if is_due(&dues, peer) {
+            if pass(rt, from, to, peer, way).is_none() {
+                thread::yield_now();
             }
-        } else if !is_woken(rt, from, WorkKind::Send, look.place) {
+        } else if !is_woken(rt, from, WorkKind::Send, dues.place) {
             return;
         }
+    }
+}
+
+// Whether a Transmit would give something that didn't arrive yet.
+fn is_due(dues: &Dues, peer: SpaceId) -> bool {
+    match dues.due[peer.get() as usize - 1] {
+        Due::Nothing => false,
+        Due::Again => false,
+        _ => true,
     }
 }
 

@@ -1,5 +1,5 @@
 use Rattle.std.proofs.Common.{length}
-use Rattle.nob_node_site.proofs.crew.+add_hands.Given as goal
+use Rattle.nob_node_site.proofs.making.+add_hands.Given as goal
 
 abbrev pub decreases-add_hands : goal.decreases-add_hands
 decreases-add_hands g l = length l.getters.items

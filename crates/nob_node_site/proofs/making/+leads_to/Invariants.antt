@@ -1,5 +1,5 @@
 use Rattle.std.proofs.Common.{length}
-use Rattle.nob_node_site.proofs.crew.+leads_to.Given as goal
+use Rattle.nob_node_site.proofs.making.+leads_to.Given as goal
 
 abbrev pub decreases-leads_to : goal.decreases-leads_to
 decreases-leads_to l = length l.ways.now
