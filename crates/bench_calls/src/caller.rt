@@ -8,6 +8,8 @@ use nob_node::{Hold, Node, Returned};
 use nob_pickle::{Value, Values};
 use std::alloc::Global;
 use std::sync::Wait;
+use std::sync::atomic::AtomicU64;
+use std::time::Duration;
 
 /// Who is called, and through whom.
 pub(crate) struct Called {
@@ -34,7 +36,7 @@ impl Called {
         }
     }
 
-    // Makes so many calls: how many were answered.
+    // Makes so many calls: how many were answered. Or it does nothing for so many milliseconds.
     pub(crate) fn call_all<R: Wait>(
         &self,
         rt: &R,
@@ -43,6 +45,11 @@ impl Called {
         kind: Kind,
         calls: u64,
     ) -> u64 {
+        if kind == Kind::Idle {
+            let nothing = AtomicU64::new(0);
+            nothing.park_timeout(rt, 0, Duration::from_millis(calls));
+            return 0;
+        }
         let mut answered: u64 = 0;
         for _ in 0..calls {
             if self.call(rt, alloc, node, kind).is_some() {

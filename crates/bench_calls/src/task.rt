@@ -7,6 +7,8 @@ use std::{env, io};
 pub(crate) enum Kind {
     /// No space is called: a frame goes to and fro.
     Floor,
+    /// Nobody is called: each caller holds a reference, for so many milliseconds.
+    Idle,
     /// Nothing is passed.
     Null,
     /// A reference to a new object is passed, and given back by the one who called.
@@ -55,6 +57,7 @@ pub(crate) fn read_task(rt: &HostRuntime) -> io::Result<Option<Task>> {
 fn kind_of(word: &str) -> Kind {
     match word {
         "floor" => Kind::Floor,
+        "idle" => Kind::Idle,
         "fresh" => Kind::Fresh,
         "life" => Kind::Life,
         "handoff" => Kind::Handoff,

@@ -1,6 +1,7 @@
 //! What the two applications do.
 
 use crate::counter::Counter;
+use crate::partner::Partner;
 use nob_ids::SpaceId;
 use nob_node::{App, Hold, Node, Returned};
 use nob_pickle::Value;
@@ -9,12 +10,14 @@ use std::sync::{Barrier, Wait};
 /// The application that has the counter.
 #[derive(Drop)]
 pub(crate) struct Owner<'b> {
-    barrier: &'b Barrier,
+    pub(crate) partner: Partner<'b>,
 }
 
 impl<'b> Owner<'b> {
     pub(crate) fn new(barrier: &'b Barrier) -> Owner<'b> {
-        Owner { barrier }
+        Owner {
+            partner: Partner::new(barrier),
+        }
     }
 }
 
@@ -22,24 +25,26 @@ impl<'b> App<Counter> for Owner<'b> {
     fn run<R: Wait>(&mut self, rt: &R, node: &mut Node<Counter>) {
         if let Ok(hold) = node.export(rt, Counter { total: 0 }) {
             let _ = node.bind(rt, b"counter", &hold);
-            self.barrier.wait(rt);
+            self.partner.meet(rt);
             // The other node looks the counter up and calls it.
-            self.barrier.wait(rt);
+            self.partner.meet(rt);
             let _ = node.unbind(rt, b"counter");
             let index = hold.rep().index;
             give_back(rt, node, hold);
             node.wait_withdrawn(rt, index);
         }
-        self.barrier.wait(rt);
+        self.partner.meet(rt);
     }
 
-    fn skip<R: Wait>(&mut self, _rt: &R) {}
+    fn skip<R: Wait>(&mut self, rt: &R) {
+        self.partner.leave(rt);
+    }
 }
 
 /// The application that calls it.
 #[derive(Drop)]
 pub(crate) struct Caller<'b> {
-    barrier: &'b Barrier,
+    pub(crate) partner: Partner<'b>,
     // What the counter said last.
     pub(crate) total: Option<i64>,
 }
@@ -47,7 +52,7 @@ pub(crate) struct Caller<'b> {
 impl<'b> Caller<'b> {
     pub(crate) fn new(barrier: &'b Barrier) -> Caller<'b> {
         Caller {
-            barrier,
+            partner: Partner::new(barrier),
             total: None,
         }
     }
@@ -74,15 +79,17 @@ impl<'b> Caller<'b> {
 
 impl<'b> App<Counter> for Caller<'b> {
     fn run<R: Wait>(&mut self, rt: &R, node: &mut Node<Counter>) {
-        self.barrier.wait(rt);
+        self.partner.meet(rt);
         if let Some(owner) = SpaceId::new(1) {
             self.call_three_times(rt, node, owner);
         }
-        self.barrier.wait(rt);
-        self.barrier.wait(rt);
+        self.partner.meet(rt);
+        self.partner.meet(rt);
     }
 
-    fn skip<R: Wait>(&mut self, _rt: &R) {}
+    fn skip<R: Wait>(&mut self, rt: &R) {
+        self.partner.leave(rt);
+    }
 }
 
 // The number that a call returned.

@@ -5,6 +5,7 @@
 
 mod applications;
 mod counter;
+mod partner;
 mod sides;
 
 use crate::applications::{Caller, Owner};
@@ -48,13 +49,16 @@ fn play<R: Threads + Wait + Sync>(rt: &R, alloc: Global) -> Option<(i64, bool)> 
 // The node that has the counter.
 fn own<R: Threads + Wait + Sync>(rt: &R, side: Side, barrier: &Barrier) -> Option<bool> {
     let mut owner = Owner::new(barrier);
-    let report = run_side(rt, side, &mut owner)?;
-    Some(report.objects.is_empty())
+    let report = run_side(rt, side, &mut owner);
+    owner.partner.leave(rt);
+    Some(report?.objects.is_empty())
 }
 
 // The node that calls it.
 fn call<R: Threads + Wait + Sync>(rt: &R, side: Side, barrier: &Barrier) -> Option<i64> {
     let mut caller = Caller::new(barrier);
-    run_side(rt, side, &mut caller)?;
+    let report = run_side(rt, side, &mut caller);
+    caller.partner.leave(rt);
+    report?;
     caller.total
 }
