@@ -1,5 +1,5 @@
 -- What an answered event may have made possible at its space.
-use Rattle.std.specs.Prelude.{ℕ, Bool, true, false, ◌||◌, not, ◌==◌}
+use Rattle.std.specs.Prelude.{Bool, true, false}
 use Rattle.nob_model_types.specs.declared.event.Event.{Event}
 use Rattle.nob_model_types.specs.declared.event.Event.TheVariants as events
 use Rattle.nob_model_types.specs.declared.answer.Answer.{Answer}
@@ -10,11 +10,6 @@ use Rattle.nob_keeper.specs.declared.waking.Wakes.{Wakes}
 abbrev pub is_closing : Answer → Bool
 is_closing (answers.Closed reason) = true
 is_closing (_) = false
-
--- whether an answer says that an item or more was accepted
-abbrev pub is_acceptance : Answer → Bool
-is_acceptance (answers.Took count) = not (count == 0)
-is_acceptance (_) = false
 
 -- whether there may be more to transmit: an event handed an item on or closed a session, or a frame came, which may want an Ack, or make room in the window
 abbrev pub may_send : Event → Answer → Bool
@@ -28,14 +23,14 @@ may_send (events.Tick peer) answer = is_closing answer
 may_send (events.Close peer) answer = true
 may_send (_) answer = false
 
--- whether there may be more to act on, to settle, to clean or to withdraw: an event gave back a hold, accepted an item, acted on one, settled a message, or closed a session
+-- whether there may be more to settle, to clean or to withdraw: an event gave back a hold, acted on an item, settled a message, or closed a session
 abbrev pub may_care : Event → Answer → Bool
 may_care (events.Release rep) answer = true
 may_care (events.TakeReply call) answer = true
 may_care (events.Finish job outcome) answer = true
 may_care (events.Act peer) answer = true
 may_care events.Settle answer = true
-may_care (events.Arrive frame) answer = is_acceptance answer || is_closing answer
+may_care (events.Arrive frame) answer = is_closing answer
 may_care (events.Tick peer) answer = is_closing answer
 may_care (events.Close peer) answer = true
 may_care (_) answer = false

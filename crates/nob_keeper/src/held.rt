@@ -181,7 +181,7 @@ impl Held {
     }
 }
 
-// Whether there is something to act on, to settle, to clean or to withdraw.
+// Whether there is something to settle, to clean or to withdraw.
 fn is_care(work: &Work) -> bool {
-    work.settle || work.clean || work.withdraw.is_some() || work.act.iter().any(|act| *act)
+    work.settle || work.clean || work.withdraw.is_some()
 }

@@ -10,7 +10,7 @@ use nob_model_types::{Answer, Event};
 pub enum WorkKind {
     /// To transmit.
     Send,
-    /// To act on an item, to settle, to clean and to withdraw.
+    /// To settle, to clean and to withdraw. Whoever had a frame arrive acts on what it brought.
     Care,
     /// To claim a job.
     Claim,
@@ -21,7 +21,7 @@ pub enum WorkKind {
 pub struct Wakes {
     /// There may be more to transmit.
     pub send: bool,
-    /// There may be more to act on, to settle, to clean or to withdraw.
+    /// There may be more to settle, to clean or to withdraw.
     pub care: bool,
     /// There may be a job more to claim.
     pub claim: bool,
@@ -51,16 +51,6 @@ fn is_closing(answer: &Answer) -> bool
     }
 }
 
-// Whether an answer says that an item or more was accepted.
-fn is_acceptance(answer: &Answer) -> bool
-    ensures { result ≡ waking.is_acceptance answer.now }
-{
-    match answer {
-        Answer::Took(count) => *count != 0,
-        _ => false,
-    }
-}
-
 // Whether there may be more to transmit.
 fn may_send(event: &Event, answer: &Answer) -> bool
     ensures { result ≡ waking.may_send event.now answer.now }
@@ -78,7 +68,7 @@ fn may_send(event: &Event, answer: &Answer) -> bool
     }
 }
 
-// Whether there may be more to act on, to settle, to clean or to withdraw.
+// Whether there may be more to settle, to clean or to withdraw.
 fn may_care(event: &Event, answer: &Answer) -> bool
     ensures { result ≡ waking.may_care event.now answer.now }
 {
@@ -88,7 +78,7 @@ fn may_care(event: &Event, answer: &Answer) -> bool
         Event::Finish(..) => true,
         Event::Act(_) => true,
         Event::Settle => true,
-        Event::Arrive(_) => is_acceptance(answer) || is_closing(answer),
+        Event::Arrive(_) => is_closing(answer),
         Event::Tick(_) => is_closing(answer),
         Event::Close(_) => true,
         _ => false,

@@ -296,11 +296,11 @@ impl<B: Object> Site<B> {
             return;
         };
         let wakes = wakes_of(&receipt.event, answer);
-        if wakes.claim {
-            self.assign(rt);
-        }
         if wakes.send {
             self.transmit(rt);
+        }
+        if wakes.claim {
+            self.assign(rt);
         }
     }
 

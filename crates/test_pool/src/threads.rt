@@ -61,7 +61,7 @@ fn after<R: Wait>(rt: &R, site: &Site, side: Side, task: Task) -> Task {
             Task::Carry(way)
         }
         Task::Care(mut seat) => {
-            care(rt, keeper, side.peer(), &mut seat);
+            care(rt, keeper, &mut seat);
             Task::Care(seat)
         }
         Task::Serve(mut hand) => {
@@ -156,7 +156,7 @@ fn is_due(dues: &Dues, peer: SpaceId) -> bool {
     }
 }
 
-// Carries what the one space transmits to the other.
+// Carries what the one space transmits to the other, and acts on it there.
 fn pass<R: Wait>(rt: &R, from: &Keeper, to: &Keeper, peer: SpaceId, way: &mut Way) -> Option<()> {
     from.call(rt, &mut way.seat, &Event::Transmit(peer), 0)
         .ok()?;
@@ -165,18 +165,31 @@ fn pass<R: Wait>(rt: &R, from: &Keeper, to: &Keeper, peer: SpaceId, way: &mut Wa
         return Some(());
     };
     for frame in frames.as_slice() {
+        let sender = frame.from;
         let event = Event::Arrive(frame.copy().ok()?);
         to.call(rt, &mut way.far, &event, receipt.stamp).ok()?;
+        act_on_all(rt, to, sender, &mut way.far)?;
     }
     Some(())
 }
 
-// Acts, settles and cleans, until it is told to stop. It sleeps at the keeper where there is nothing
+// Acts on each item that the newest arrival accepted.
+fn act_on_all<R: Wait>(rt: &R, keeper: &Keeper, peer: SpaceId, seat: &mut Seat) -> Option<()> {
+    let Ok(Answer::Took(count)) = &seat.newest()?.result else {
+        return Some(());
+    };
+    for _ in 0..*count {
+        keeper.call(rt, seat, &Event::Act(peer), 0).ok()?;
+    }
+    Some(())
+}
+
+// Settles and cleans, until it is told to stop. It sleeps at the keeper where there is nothing
 // to do.
-fn care<R: Wait>(rt: &R, keeper: &Keeper, peer: SpaceId, seat: &mut Seat) {
+fn care<R: Wait>(rt: &R, keeper: &Keeper, seat: &mut Seat) {
     for _ in rt.forever() {
         let look = keeper.look(rt);
-        match care_of(&look.work, peer) {
+        match care_of(&look.work) {
             Some(event) => {
                 if keeper.call(rt, seat, &event, 0).is_err() {
                     thread::yield_now();
@@ -192,10 +205,7 @@ fn care<R: Wait>(rt: &R, keeper: &Keeper, peer: SpaceId, seat: &mut Seat) {
 }
 
 // What is done of a space's work.
-fn care_of(work: &Work, peer: SpaceId) -> Option<Event> {
-    if work.act.iter().any(|act| *act) {
-        return Some(Event::Act(peer));
-    }
+fn care_of(work: &Work) -> Option<Event> {
     if work.settle {
         return Some(Event::Settle);
     }
