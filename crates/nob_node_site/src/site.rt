@@ -17,6 +17,9 @@ use std::sync::{Condvar, Mutex, Wait};
 use std::thread;
 use std::time::Duration;
 
+/// So often a thread looks again for what it waits for before it sleeps: for some 100 microseconds.
+pub(crate) const PATIENCE: u32 = 400;
+
 /// So many microseconds the thread rests at a time that transmits again what is out.
 const REST: u64 = 100;
 
@@ -35,6 +38,8 @@ pub struct Site<B: Object> {
     starts: Condvar,
     // How many threads carry out jobs.
     serving: AtomicU64,
+    // How many items were acted on.
+    acts: AtomicU64,
     // The thread that transmits again what is out rests here between its turns.
     pulse: AtomicU64,
     // Whether no more is transmitted: the links are ended.
@@ -55,6 +60,7 @@ impl<B: Object> Site<B> {
             started: Mutex::new(None),
             starts: Condvar::new(),
             serving: AtomicU64::new(0),
+            acts: AtomicU64::new(0),
             pulse: AtomicU64::new(0),
             is_sealed: AtomicBool::new(false),
             has_failed: AtomicBool::new(false),
@@ -79,6 +85,7 @@ impl<B: Object> Site<B> {
             started: _,
             starts: _,
             serving: _,
+            acts: _,
             pulse: _,
             is_sealed: _,
             has_failed: _,
@@ -157,6 +164,21 @@ impl<B: Object> Site<B> {
     /// Leaves the processor to others for a while. Nobody has to wake it.
     pub fn rest<R: Wait>(&self, rt: &R) {
         self.pulse.park_timeout(rt, 0, Duration::from_micros(REST));
+    }
+
+    /// How many items were acted on.
+    pub fn acts(&self) -> u64 {
+        self.acts.load(Ordering::SeqCst)
+    }
+
+    /// Looks for a moment for an item more to be acted on than so many, which may bring a reply.
+    pub fn look_for_act(&self, acts: u64) {
+        for _ in 0..PATIENCE {
+            if self.acts() != acts {
+                return;
+            }
+            thread::yield_now();
+        }
     }
 
     /// Ends all links: the end is put on each. Where the node has failed they are given up. The
@@ -295,6 +317,9 @@ impl<B: Object> Site<B> {
         let Ok(answer) = &receipt.result else {
             return;
         };
+        if is_act(&receipt.event) {
+            self.acts.fetch_add(1, Ordering::SeqCst);
+        }
         let wakes = wakes_of(&receipt.event, answer);
         if wakes.send {
             self.transmit(rt);
@@ -309,6 +334,14 @@ impl<B: Object> Site<B> {
         if error == KeeperError::TraceFull {
             self.fail(rt);
         }
+    }
+}
+
+// Whether an item is acted on.
+fn is_act(event: &Event) -> bool {
+    match event {
+        Event::Act(_) => true,
+        _ => false,
     }
 }
 

@@ -1,6 +1,6 @@
 //! What each thread of a node does.
 
-use crate::site::Site;
+use crate::site::{PATIENCE, Site};
 use nob_agents::{Carer, Taker, Turn};
 use nob_dispatch_objects::Object;
 use nob_keeper::{KeeperError, Receipt, Wake, WorkKind};
@@ -9,7 +9,8 @@ use nob_model_types::{Answer, Event};
 use std::sync::Wait;
 use std::thread;
 
-/// Takes what comes over one link, until nothing comes any more. It sleeps in the link. Where the
+/// Takes what comes over one link, until nothing comes any more. It sleeps in the link, once it has
+/// looked for the next parcel for a moment. Where the
 /// trace is full the Taker is let go, with its end of the link.
 pub fn take<B: Object, R: Wait>(rt: &R, site: &Site<B>, place: &mut Option<Taker<TakeEnd>>) {
     if let Some(taker) = place
@@ -23,9 +24,14 @@ pub fn take<B: Object, R: Wait>(rt: &R, site: &Site<B>, place: &mut Option<Taker
 // Takes what comes over one link: whether that ended since nothing comes any more, and not since no
 // entry can be made.
 fn take_all<B: Object, R: Wait>(rt: &R, site: &Site<B>, taker: &mut Taker<TakeEnd>) -> bool {
+    let mut patience: u32 = 0;
     for _ in rt.forever() {
         match taker.turn(rt, site) {
-            Ok(Turn::Did(_)) => {}
+            Ok(Turn::Did(_)) => patience = PATIENCE,
+            Ok(Turn::Idle) if patience > 0 => {
+                patience -= 1;
+                thread::yield_now();
+            }
             Ok(Turn::Idle) => taker.wait(rt),
             Ok(Turn::End) => return true,
             Err(KeeperError::OutOfMemory) => thread::yield_now(),
