@@ -5,13 +5,11 @@ ghost use denote.Param.Send.{IsSend, IsSync};
 use crate::app::App;
 use crate::error::NodeError;
 use crate::node::Node;
-use nob_agents::Taker;
 use nob_dispatch::{Desk, Errand, Gate, Hand, Place, Return, Shelf};
 use nob_dispatch_lanes::LaneTake;
 use nob_dispatch_objects::Object;
 use nob_keeper::{Keeper, KeeperError, Seat};
-use nob_link::TakeEnd;
-use nob_node_site::{Config, Crew, Ends, Kept, Left, Outbox, Site, run_crew, site_of};
+use nob_node_site::{Config, Crew, Ends, Inbox, Kept, Left, Outbox, Site, run_crew, site_of};
 use nob_trace::Trace;
 use std::alloc::Global;
 use std::sync::Wait;
@@ -154,14 +152,14 @@ fn finish<B: Object, R: Wait>(
         return without_memory(alloc);
     };
     let Crew {
-        takers,
+        inboxes,
         hands,
         carer,
         mut seats,
     } = crew;
     keep(&mut seats, seat);
     keep(&mut seats, carer.end());
-    keep_all(&mut seats, outbox, takers);
+    keep_all(&mut seats, outbox, inboxes);
     let objects = end_pool(rt, alloc, hands, rest, &mut seats);
     if is_whole && !has_failed {
         return close(keeper, seats, objects);
@@ -176,13 +174,15 @@ fn finish<B: Object, R: Wait>(
 }
 
 // The seats of what transmitted and of those that took.
-fn keep_all(seats: &mut Vec<Seat>, outbox: Outbox, takers: Vec<Option<Taker<TakeEnd>>>) {
+fn keep_all(seats: &mut Vec<Seat>, outbox: Outbox, inboxes: Vec<Inbox>) {
     if let Some(seat) = outbox.into_seat() {
         keep(seats, seat);
     }
-    for taker in takers.into_iter().flatten() {
-        let (seat, _end, _due) = taker.end();
-        keep(seats, seat);
+    for inbox in inboxes {
+        if let Some(taker) = inbox.taker {
+            let (seat, _end, _due) = taker.end();
+            keep(seats, seat);
+        }
     }
 }
 

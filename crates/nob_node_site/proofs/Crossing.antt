@@ -26,6 +26,7 @@ use Rattle.nob_node_site.proofs.object.Kept.TheSendSync as kept
 use Rattle.nob_node_site.specs.contracts.object.Kept as Kept
 use Rattle.nob_node_site.specs.contracts.outbox.Outbox as Outbox
 use Rattle.nob_node_site.specs.contracts.crew.Crew as Crew
+use Rattle.nob_node_site.specs.contracts.crew.Inbox as Inbox
 use Rattle.nob_node_site.specs.contracts.site.Site as Site
 use Rattle.nob_agents.specs.contracts.carer.Carer as Carer
 use Rattle.nob_keeper.specs.contracts.seat.Seat as Seat
@@ -45,8 +46,14 @@ condvar_row_sync = search (crosses, sendable) depth 60 fits 20000
 condvar_sync : IsSync (Condvar.the_field).row
 condvar_sync = search (crosses, sendable) depth 60 fits 20000
 
-pub taker_of_node_send : (k : TakeParcel.Ghosts (TakeEnd.the_row).Denot) → IsSend (Taker.the_row TakeEnd.the_row k)
+taker_of_node_send : (k : TakeParcel.Ghosts (TakeEnd.the_row).Denot) → IsSend (Taker.the_row TakeEnd.the_row k)
 taker_of_node_send k = taker_send TakeEnd.the_row k take_end.the_send
+
+pub inbox_send : IsSend Inbox.the_row
+inbox_send =
+    let T = Inbox.the_type in
+    recorded_send (Struct (shape T)) T.D T.to T.to_one (struct_send (shape T)
+    (search (taker_of_node_send, crosses, sendable) depth 60 fits 20000, tt))
 
 carer_field_send : IsSend (Carer.the_field).row
 carer_field_send = struct_send (shape Carer.the_type) (seat_send, tt)
@@ -84,4 +91,4 @@ module _ (B : RattleType) (g : Object.Ghosts B.Denot) (crossing : IsSend B) wher
   crew_send =
       let T = Crew.the_type B g in
       recorded_send (Struct (shape T)) T.D T.to T.to_one (struct_send (shape T)
-      (search (taker_of_node_send, crosses, sendable) depth 60 fits 20000, (search (hand_of_node_send, crosses, sendable) depth 60 fits 20000, (search (carer_field_send, crosses, sendable) depth 60 fits 20000, (Vec-send Seat.the_row seat_send, tt)))))
+      (Vec-send Inbox.the_row inbox_send, (search (hand_of_node_send, crosses, sendable) depth 60 fits 20000, (search (carer_field_send, crosses, sendable) depth 60 fits 20000, (Vec-send Seat.the_row seat_send, tt)))))

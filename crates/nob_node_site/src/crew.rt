@@ -13,11 +13,16 @@ use nob_link::TakeEnd;
 use std::sync::Wait;
 use std::thread::{self, Threads};
 
+/// What takes what comes over one link: nothing any more, where the trace was full.
+#[derive(Drop)]
+pub struct Inbox {
+    pub taker: Option<Taker<TakeEnd>>,
+}
+
 /// What the threads of a node work with, each with its own.
 #[derive(Drop)]
 pub struct Crew<B: Object> {
-    // `None` where the trace was full.
-    pub takers: Vec<Option<Taker<TakeEnd>>>,
+    pub inboxes: Vec<Inbox>,
     pub hands: Vec<Hand<Kept<B>>>,
     pub carer: Carer,
     // Room for the seats of all.
@@ -33,12 +38,12 @@ pub fn run_crew<'x, B: Object + Send, R: Threads + Wait + Sync, G: Gate + Sync>(
     crew: Crew<B>,
 ) -> Crew<B> {
     let Crew {
-        mut takers,
+        mut inboxes,
         mut hands,
         mut carer,
         seats,
     } = crew;
-    let taking = takers.as_mut_slice();
+    let taking = inboxes.as_mut_slice();
     let serving = hands.as_mut_slice();
     let caring = &mut carer;
     let handle = rt;
@@ -49,8 +54,8 @@ pub fn run_crew<'x, B: Object + Send, R: Threads + Wait + Sync, G: Gate + Sync>(
             requires { IsSend B.row × IsSync R.row × IsSync G.row }
         {
             let mut is_whole = true;
-            for taker in taking {
-                if scope.spawn(move || take(rt, site, taker)).is_err() {
+            for inbox in taking {
+                if scope.spawn(move || take(rt, site, inbox)).is_err() {
                     is_whole = false;
                 }
             }
@@ -73,7 +78,7 @@ pub fn run_crew<'x, B: Object + Send, R: Threads + Wait + Sync, G: Gate + Sync>(
         },
     );
     Crew {
-        takers,
+        inboxes,
         hands,
         carer,
         seats,

@@ -10,7 +10,7 @@ mod site;
 mod threads;
 
 pub use config::{Config, Ends};
-pub use crew::{Crew, run_crew};
+pub use crew::{Crew, Inbox, run_crew};
 pub use making::site_of;
 pub use object::{Kept, Left};
 pub use outbox::Outbox;

@@ -8,7 +8,7 @@ ghost use Rattle.nob_dispatch_lanes.specs.Ends.{given_by, got_by};
 ghost use Rattle.nob_dispatch_lanes.specs.Lanes.{all_given, all_got};
 
 use crate::config::{Config, Ends};
-use crate::crew::Crew;
+use crate::crew::{Crew, Inbox};
 use crate::object::Kept;
 use crate::outbox::Outbox;
 use crate::site::Site;
@@ -62,12 +62,12 @@ fn crew_of<B: Object>(
     ends: Vec<Ends>,
 ) -> Option<(Outbox, Desk<Kept<B>>, Crew<B>)> {
     let seats = Vec::with_capacity(alloc, ends.len().saturating_add(OTHER_SEATS)).ok()?;
-    let mut takers = Vec::new(alloc);
-    let ways = ways_of(alloc, keeper, ends, &mut takers)?;
+    let mut inboxes = Vec::new(alloc);
+    let ways = ways_of(alloc, keeper, ends, &mut inboxes)?;
     let sender = Sender::new(keeper.seat(), ways, config.pause, config.tick_every);
     let (desk, hands) = pool_of(alloc, keeper, config.workers)?;
     let crew = Crew {
-        takers,
+        inboxes,
         hands,
         carer: Carer::new(keeper.seat()),
         seats,
@@ -146,12 +146,12 @@ fn ways_of(
     alloc: Global,
     keeper: &Keeper,
     ends: Vec<Ends>,
-    takers: &mut Vec<Option<Taker<TakeEnd>>>,
+    inboxes: &mut Vec<Inbox>,
 ) -> Option<Vec<Way<PutEnd>>>
     ensures { IfSome result (λ ways. AllByRecursion (IsTied []) ways.items × AreApart ways.items) }
 {
     let mut ways = Vec::new(alloc);
-    add_ways(alloc, keeper, ends, &mut ways, takers)?;
+    add_ways(alloc, keeper, ends, &mut ways, inboxes)?;
     Some(ways)
 }
 
@@ -161,7 +161,7 @@ fn add_ways(
     keeper: &Keeper,
     mut ends: Vec<Ends>,
     ways: &mut Vec<Way<PutEnd>>,
-    takers: &mut Vec<Option<Taker<TakeEnd>>>,
+    inboxes: &mut Vec<Inbox>,
 ) -> Option<()>
     requires { AllByRecursion (IsTied []) ways.old.items × AreApart ways.old.items }
     ensures { OnSome result (AllByRecursion (IsTied []) ways.new.items × AreApart ways.new.items) }
@@ -170,8 +170,8 @@ fn add_ways(
         return Some(());
     }
     let first = ends.remove(0);
-    add_way(alloc, keeper, first, ways, takers)?;
-    add_ways(alloc, keeper, ends, ways, takers)
+    add_way(alloc, keeper, first, ways, inboxes)?;
+    add_ways(alloc, keeper, ends, ways, inboxes)
 }
 
 // A way and a Taker more, where no way leads to that peer yet: else the ends are let go.
@@ -180,7 +180,7 @@ fn add_way(
     keeper: &Keeper,
     ends: Ends,
     ways: &mut Vec<Way<PutEnd>>,
-    takers: &mut Vec<Option<Taker<TakeEnd>>>,
+    inboxes: &mut Vec<Inbox>,
 ) -> Option<()>
     requires { AllByRecursion (IsTied []) ways.old.items × AreApart ways.old.items }
     ensures { OnSome result (AllByRecursion (IsTied []) ways.new.items × AreApart ways.new.items) }
@@ -195,7 +195,7 @@ fn add_way(
         return Some(());
     }
     let taker = Taker::new(keeper.seat(), peer, take);
-    takers.push(Some(taker)).ok()?;
+    inboxes.push(Inbox { taker: Some(taker) }).ok()?;
     put_first(ways, Way::new(peer, shim, put, Vec::new(alloc)))
 }
 

@@ -1,5 +1,6 @@
 //! What each thread of a node does.
 
+use crate::crew::Inbox;
 use crate::site::{PATIENCE, Site};
 use nob_agents::{Carer, Taker, Turn};
 use nob_dispatch_objects::Object;
@@ -12,13 +13,13 @@ use std::thread;
 /// Takes what comes over one link, until nothing comes any more. It sleeps in the link, once it has
 /// looked for the next parcel for a moment. Where the
 /// trace is full the Taker is let go, with its end of the link.
-pub fn take<B: Object, R: Wait>(rt: &R, site: &Site<B>, place: &mut Option<Taker<TakeEnd>>) {
-    if let Some(taker) = place
+pub fn take<B: Object, R: Wait>(rt: &R, site: &Site<B>, inbox: &mut Inbox) {
+    if let Some(taker) = &mut inbox.taker
         && take_all(rt, site, taker)
     {
         return;
     }
-    *place = None;
+    inbox.taker = None;
 }
 
 // Takes what comes over one link: whether that ended since nothing comes any more, and not since no

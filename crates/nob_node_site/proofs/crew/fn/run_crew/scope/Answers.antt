@@ -1,12 +1,12 @@
 use denote.Param.Send.{sendable}
 use Rattle.std.proofs.Crossing.{crosses}
 use Rattle.nob_agents.proofs.Crossing.{carer_send}
-use Rattle.nob_node_site.proofs.Crossing.{site_sync, hand_of_node_send, taker_of_node_send}
+use Rattle.nob_node_site.proofs.Crossing.{site_sync, hand_of_node_send, inbox_send}
 use Rattle.nob_node_site.proofs.crew.fn.run_crew.scope.Goals as goal
 
 -- a thread that takes shares the site, and has its Taker
 pub spawn-requires-send-F : goal.spawn-requires-send-F
-spawn-requires-send-F g c κs within = search (site_sync, taker_of_node_send, sendable, crosses) depth 60 fits 20000
+spawn-requires-send-F g c κs within = search (site_sync, inbox_send, sendable, crosses) depth 60 fits 20000
 
 -- a worker's thread shares the site and the gate, and has its hand
 pub spawn-requires-in-loop-hand-send-F : goal.spawn-requires-in-loop-hand-send-F
