@@ -1,5 +1,8 @@
 //! The nodes, a thread each.
 
+ghost use Rattle.std.specs.Prelude.{◌≡◌, IfSome};
+ghost use Rattle.nob_fault.specs.Shims.{opening};
+
 use crate::meeting::Meeting;
 use crate::player::{Part, Player};
 use crate::task::{Kind, Task};
@@ -140,8 +143,8 @@ fn join(
     first: usize,
     second: usize,
 ) -> Option<()> {
-    let one = SpaceId::new(first as u16 + 1)?;
-    let other = SpaceId::new(second as u16 + 1)?;
+    let one = space_at(first)?;
+    let other = space_at(second)?;
     let there = shim_between(alloc, task, one, other)?;
     let back = shim_between(alloc, task, other, one)?;
     let (put_there, take_there) = link(alloc, LINK).ok()?;
@@ -152,8 +155,16 @@ fn join(
     places.get_mut(second)?.add(theirs)
 }
 
-// The shim of the link from one space to another. Only memory fails it.
-fn shim_between(alloc: Global, task: Task, from: SpaceId, to: SpaceId) -> Option<Shim> {
+// The space of a place in the list.
+fn space_at(place: usize) -> Option<SpaceId> {
+    let number = u16::try_from(place).ok()?;
+    SpaceId::new(number.checked_add(1)?)
+}
+
+// The shim of the link from one space to another, unused. Only memory fails it.
+fn shim_between(alloc: Global, task: Task, from: SpaceId, to: SpaceId) -> Option<Shim>
+    ensures unused { IfSome result (λ shim. shim ≡ opening shim.words) }
+{
     if task.loss == 0 {
         return Some(Shim::new(Vec::new(alloc)));
     }

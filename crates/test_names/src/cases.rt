@@ -163,7 +163,7 @@ fn full(alloc: Global, agent: &mut Agent, rows: &mut Vec<Row>) -> Option<()> {
             Value::Ref(object(second(), 5)),
         )?;
         if begun(agent, 0, &value) == Said::Dup(5) && made(agent) == Said::Unit(0) {
-            count += 1;
+            count = count.saturating_add(1);
         }
     }
     say(rows, "names that are put", Said::Count(count))?;

@@ -74,10 +74,9 @@ fn names<R: Wait>(
     seat: &mut Seat,
     rows: &mut Vec<Row>,
 ) -> Option<()> {
-    let agent = object(first(), 0);
     for (row, index) in [("put", 1), ("put again", 2)] {
         let value = named(alloc, 100, object(second(), index))?;
-        let said = told(rt, keeper, seat, agent, 0, value)?;
+        let said = told(rt, keeper, seat, object(first(), 0), 0, value)?;
         say(rows, row, said)?;
     }
     for (row, method) in [
@@ -87,7 +86,7 @@ fn names<R: Wait>(
         ("another method", 3),
     ] {
         let value = name(alloc, 100, 1)?;
-        let said = told(rt, keeper, seat, agent, method, value)?;
+        let said = told(rt, keeper, seat, object(first(), 0), method, value)?;
         say(rows, row, said)?;
     }
     Some(())
@@ -135,23 +134,32 @@ fn odd_ends<R: Wait>(rt: &R, keeper: &Keeper, seat: &mut Seat, rows: &mut Vec<Ro
 
 // An object keeps a reference, calls what it keeps, and gives it back.
 fn holder<R: Wait>(rt: &R, keeper: &Keeper, seat: &mut Seat, rows: &mut Vec<Row>) -> Option<()> {
-    let target = object(second(), HOLDER);
-    let own = object(first(), 2);
-    let said = told(rt, keeper, seat, target, 3, Value::Ref(own))?;
+    let said = told_holder(rt, keeper, seat, 3, Value::Ref(object(first(), 2)))?;
     say(rows, "gives back what it doesn't keep", said)?;
-    let said = told(rt, keeper, seat, target, 0, Value::Ref(own))?;
+    let said = told_holder(rt, keeper, seat, 0, Value::Ref(object(first(), 2)))?;
     say(rows, "keeps a reference", said)?;
-    make(rt, keeper, seat, &Event::Release(own))?;
+    make(rt, keeper, seat, &Event::Release(object(first(), 2)))?;
     let is_withdrawn = make(rt, keeper, seat, &Event::Withdraw(2)).is_some();
     say(
         rows,
         "what is kept can be withdrawn",
         Said::Is(is_withdrawn),
     )?;
-    let said = told(rt, keeper, seat, target, 1, Value::Unit)?;
+    let said = told_holder(rt, keeper, seat, 1, Value::Unit)?;
     say(rows, "calls what it keeps", said)?;
-    let said = told(rt, keeper, seat, target, 2, Value::Unit)?;
+    let said = told_holder(rt, keeper, seat, 2, Value::Unit)?;
     say(rows, "gives it back", said)
+}
+
+// Calls the object that keeps a reference: what it says.
+fn told_holder<R: Wait>(
+    rt: &R,
+    keeper: &Keeper,
+    seat: &mut Seat,
+    method: u16,
+    value: Value,
+) -> Option<Said> {
+    told(rt, keeper, seat, object(second(), HOLDER), method, value)
 }
 
 // What nobody keeps any more is withdrawn, once the other space has given it up.

@@ -132,7 +132,7 @@ pub(crate) fn say_back(mut shelf: Shelf<Thing>, rows: &mut Vec<Row>) -> Option<(
 // How many calls a counter counted.
 fn calls_of(thing: &Thing) -> u64 {
     match thing {
-        Thing::Counter(calls) => *calls as u64,
+        Thing::Counter(calls) => u64::try_from(*calls).unwrap_or(0),
         _ => 0,
     }
 }
