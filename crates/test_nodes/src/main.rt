@@ -1,0 +1,57 @@
+//! The program `test_nodes`: scenes of two or three nodes in threads. No clause says that a call
+//! returns or that a node ends: these runs show it.
+#![tactic(auto)]
+
+mod player;
+mod running;
+mod shared;
+mod thing;
+
+use crate::player::{Part, Said};
+use crate::running::{play, play_alone};
+use std::alloc::Global;
+use std::io;
+use std::process::ExitCode;
+use std::sync::Wait;
+use std::thread::Threads;
+
+fn main(rt: HostRuntime) -> ExitCode {
+    match run(&rt, rt.alloc()) {
+        Ok(()) => ExitCode::from(0),
+        Err(_) => ExitCode::from(1),
+    }
+}
+
+// Plays all scenes, and prints what the calls came to.
+fn run<R: Threads + Wait + Sync + Print>(rt: &R, alloc: Global) -> io::Result<()> {
+    let gate = play(rt, alloc, &[Part::Owns, Part::CallsHeld, Part::CallsOther]);
+    print(rt, "another object, while a method is held up", &gate, 2)?;
+    print(rt, "the method that was held up", &gate, 1)?;
+    let stop = play(
+        rt,
+        alloc,
+        &[Part::OwnsAndLeaves, Part::CallsHeld, Part::LetsGoOn],
+    );
+    print(rt, "the method of a node whose application left", &stop, 1)?;
+    let nested = play(rt, alloc, &[Part::Owns, Part::CallsBack]);
+    print(rt, "an object that calls its caller's, twice", &nested, 1)?;
+    let alone = play_alone(rt, alloc);
+    print(
+        rt,
+        "a call over a link whose other end is let go",
+        &alone,
+        0,
+    )
+}
+
+// Prints what the calls of one application came to.
+fn print<R: Print>(rt: &R, name: &str, all: &Option<Vec<Said>>, place: usize) -> io::Result<()> {
+    let Some(all) = all else {
+        return println!(rt; "{name}: the scene failed");
+    };
+    match all.get(place) {
+        Some(Said::Number(number)) => println!(rt; "{name}: {number}"),
+        Some(Said::Ended) => println!(rt; "{name}: ended"),
+        _ => println!(rt; "{name}: something else"),
+    }
+}

@@ -1,0 +1,47 @@
+//! The objects.
+
+use nob_dispatch_objects::{Done, Object, Outcome};
+use nob_pickle::Value;
+
+/// An object.
+#[derive(Clone, Copy, Debug, Drop)]
+pub(crate) enum Thing {
+    /// Counts its calls, and answers how many there were.
+    Counter(i64),
+    /// Calls the object that its argument refers to, and answers what that answered.
+    Caller,
+}
+
+impl Object for Thing {
+    fn invoke(&mut self, _method: u16, args: &Value) -> Outcome {
+        match self {
+            Thing::Counter(calls) => {
+                *calls = calls.saturating_add(1);
+                Outcome::Answer(Value::Int(*calls))
+            }
+            Thing::Caller => call_of(args),
+        }
+    }
+
+    fn resume(&mut self, done: &Done) -> Outcome {
+        match done {
+            Done::Replied { value, .. } => match value {
+                Value::Int(number) => Outcome::Answer(Value::Int(*number)),
+                _ => Outcome::NoMethod,
+            },
+            _ => Outcome::NoMethod,
+        }
+    }
+}
+
+// A call of the object that an argument refers to.
+fn call_of(args: &Value) -> Outcome {
+    match args {
+        Value::Ref(target) => Outcome::Call {
+            target: *target,
+            method: 0,
+            value: Value::Unit,
+        },
+        _ => Outcome::NoMethod,
+    }
+}
