@@ -1,0 +1,36 @@
+//! The object that is called.
+
+use nob_dispatch_objects::{Done, Object, Outcome};
+use nob_pickle::Value;
+
+/// A counter. Its method 0 adds a whole number to the total, and answers the total.
+#[derive(Debug, Drop)]
+pub struct Counter {
+    total: i64,
+}
+
+impl Counter {
+    /// A counter at 0.
+    pub fn new() -> Counter {
+        Counter { total: 0 }
+    }
+}
+
+impl Object for Counter {
+    fn invoke(&mut self, method: u16, args: &Value) -> Outcome {
+        if method != 0 {
+            return Outcome::NoMethod;
+        }
+        match args {
+            Value::Int(number) => {
+                self.total = self.total.wrapping_add(*number);
+                Outcome::Answer(Value::Int(self.total))
+            }
+            _ => Outcome::Fault(Value::Unit),
+        }
+    }
+
+    fn resume(&mut self, _done: &Done) -> Outcome {
+        Outcome::NoMethod
+    }
+}

@@ -1,0 +1,154 @@
+//! What an application of the scene does.
+
+use crate::counter::Counter;
+use crate::meeting::Meeting;
+use nob_ids::SpaceId;
+use nob_keeper::KeeperError;
+use nob_node::{App, Hold, Node, NodeError, Returned};
+use nob_pickle::Value;
+use std::sync::Wait;
+
+/// The name of the counter.
+const NAME: &[u8] = b"counter";
+
+/// An application of the scene: the one that has the counter, or one that calls it.
+#[derive(Drop)]
+pub(crate) struct Player<'m> {
+    meeting: &'m Meeting,
+    // How many applications there are.
+    players: u64,
+    // How often this one has come to the meeting.
+    came: u64,
+    counter: Option<Counter>,
+    owner: SpaceId,
+    calls: u64,
+    pub(crate) answered: u64,
+    pub(crate) greatest: u64,
+    pub(crate) failure: Option<KeeperError>,
+}
+
+impl<'m> Player<'m> {
+    // An application that has the counter, or else makes so many calls to it.
+    pub(crate) fn new(
+        meeting: &'m Meeting,
+        players: u64,
+        counter: Option<Counter>,
+        owner: SpaceId,
+        calls: u64,
+    ) -> Player<'m> {
+        Player {
+            meeting,
+            players,
+            came: 0,
+            counter,
+            owner,
+            calls,
+            answered: 0,
+            greatest: 0,
+            failure: None,
+        }
+    }
+
+    // Comes to the meeting, for the first time or the second, and waits for the others.
+    fn meet<R: Wait>(&mut self, rt: &R) {
+        self.came = self.came.saturating_add(1);
+        self.meeting.come(rt);
+        self.meeting
+            .wait(rt, self.players.saturating_mul(self.came));
+    }
+
+    // Comes as often as it hasn't come yet: it waits for nobody.
+    pub(crate) fn leave<R: Wait>(&mut self, rt: &R) {
+        for _ in 0..2 {
+            if self.came < 2 {
+                self.came += 1;
+                self.meeting.come(rt);
+            }
+        }
+    }
+
+    // Why it goes no further.
+    fn fail(&mut self, error: NodeError) {
+        if let NodeError::Keeper(error) = error {
+            self.failure = Some(error);
+        }
+    }
+
+    // Exports the counter, has its name stand for it, and gives it back once all have called it.
+    fn own<R: Wait>(
+        &mut self,
+        rt: &R,
+        node: &mut Node<Counter>,
+        counter: Counter,
+    ) {
+        let hold = match node.export(rt, counter) {
+            Ok(hold) => hold,
+            Err((error, _counter)) => return self.fail(error),
+        };
+        if let Err(error) = node.bind(rt, NAME, &hold) {
+            self.fail(error);
+        }
+        self.meet(rt);
+        self.meet(rt);
+        self.give_back(rt, node, hold);
+    }
+
+    // Looks the counter up, calls it so often, and gives it back.
+    fn call_all<R: Wait>(&mut self, rt: &R, node: &mut Node<Counter>) {
+        self.meet(rt);
+        match node.lookup(rt, self.owner, NAME) {
+            Ok(returned) => match returned.into_hold() {
+                Ok(hold) => {
+                    self.call_each(rt, node, &hold);
+                    self.give_back(rt, node, hold);
+                }
+                Err(returned) => returned.forget(),
+            },
+            Err(error) => self.fail(error),
+        }
+        self.meet(rt);
+    }
+
+    // Makes its calls.
+    fn call_each<R: Wait>(&mut self, rt: &R, node: &mut Node<Counter>, hold: &Hold) {
+        for _ in 0..self.calls {
+            match node.call(rt, hold, 0, Value::Int(1)) {
+                Ok(returned) => self.count(returned),
+                Err((error, _value)) => return self.fail(error),
+            }
+        }
+    }
+
+    // Counts what a call returned.
+    fn count(&mut self, returned: Returned) {
+        if let Returned::Replied { status, value, .. } = &returned
+            && *status == 0
+            && let Value::Int(total) = value
+        {
+            self.answered = self.answered.saturating_add(1);
+            self.greatest = self.greatest.max(total.unsigned_abs());
+        }
+        returned.forget();
+    }
+
+    // Gives a hold back.
+    fn give_back<R: Wait>(&mut self, rt: &R, node: &mut Node<Counter>, hold: Hold) {
+        if let Err((error, hold)) = node.release(rt, hold) {
+            hold.forget();
+            self.fail(error);
+        }
+    }
+}
+
+impl<'m> App<Counter> for Player<'m> {
+    fn run<R: Wait>(&mut self, rt: &R, node: &mut Node<Counter>) {
+        match self.counter.take() {
+            Some(counter) => self.own(rt, node, counter),
+            None => self.call_all(rt, node),
+        }
+    }
+
+    fn skip<R: Wait>(&mut self, rt: &R) {
+        self.leave(rt);
+    }
+}
