@@ -12,8 +12,9 @@ use Rattle.nob_demo_check.specs.Checks as checks
 use Rattle.nob_demo_check.specs.declared.ending.Ending.{Ending as CheckEnding}
 use Rattle.nob_demo_check.specs.declared.ending.Ending.TheVariants as check_endings
 use Rattle.nob_demo_words.specs.declared.words.Subcommand.{Subcommand}
-use Rattle.nob_demo_spaces.specs.declared.playing.Ending.{Ending as SceneEnding}
-use Rattle.nob_demo_spaces.specs.declared.playing.Ending.TheVariants as scene_endings
+use Rattle.nob_demo_scenes.specs.declared.ending.Ending.{Ending as SceneEnding}
+use Rattle.nob_demo_scenes.specs.declared.ending.Ending.TheVariants as scene_endings
+use Rattle.nob_demo_scenes.specs.Endings as scenes
 use Rattle.nob_demo_words.specs.declared.words.Subcommand.TheVariants.{Pair, Script, Check, Spaces}
 use Rattle.nob_demo_words.specs.declared.fault.Fault.{Fault}
 use Rattle.nob_demo_words.specs.declared.fault.Fault.TheVariants.{Words, Read, Write, Memory}
@@ -83,10 +84,11 @@ check_status_of check_endings.Accepted = 0
 check_status_of check_endings.Refused = 1
 check_status_of check_endings.OutOfMemory = 1
 
--- the status that the play of a scene ends with: 0 where it is accepted
+-- the status that the play of a scene ends with: 0 where its traces are accepted, or printed
 abbrev pub scene_status_of : SceneEnding → ℕ
 scene_status_of scene_endings.Accepted = 0
 scene_status_of scene_endings.Refused = 1
+scene_status_of scene_endings.Printed = 0
 scene_status_of scene_endings.Full = 1
 scene_status_of scene_endings.OutOfMemory = 1
 
@@ -102,12 +104,12 @@ abbrev pub IsInput : (reads : Bool) → Reading → (bytes : List ℕ) → Type 
 IsInput true r bytes = IsWhole r × (length bytes ≡ r.bytes) × IfSome r.input (λ input. bytes ≡ input)
 IsInput false r bytes = (r.reads ≡ 0) × (bytes ≡ [])
 
--- what a subcommand writes for an input, and the status that its run ends with; the verdict on a world, or on traces, is never no. Of a scene, which threads play, no more is said than that it has an ending
+-- what a subcommand writes for an input, and the status that its run ends with; the verdict on a world, or on traces, is never no. Of a scene, which threads play, it is said what may be written of some traces and some tally, and not which those are
 abbrev pub Does : Subcommand → (input text : List ℕ) → (status : ℕ) → Type 0
 Does Pair input text status = (outcome : Outcome) × Plays input text outcome × (status ≡ status_of outcome)
 Does Script input text status = (ending : Ending) × worlds.Plays input text ending × worlds.SaysYes ending × (status ≡ world_status_of ending)
 Does Check input text status = (ending : CheckEnding) × checks.Checks input text ending × (status ≡ check_status_of ending)
-Does (Spaces setting) input text status = (ending : SceneEnding) × (status ≡ scene_status_of ending)
+Does (Spaces setting) input text status = (ending : SceneEnding) × scenes.Plays setting text ending × (status ≡ scene_status_of ending)
 
 -- what a run was given, and how far it came: whether clap took the words, which subcommand they name, what was read, the bytes of `out` before and after, and whether a write to it failed
 pub record Attempt : Type 0 where

@@ -2,12 +2,9 @@
 //! that the others call; and then their traces are checked.
 #![tactic(auto)]
 
-mod counter;
 mod meeting;
-mod place;
+mod places;
 mod player;
 mod playing;
-mod texts;
 
-pub use counter::Counter;
-pub use playing::{Ending, play};
+pub use playing::play;

@@ -5,6 +5,7 @@ use std::sync::{Condvar, Mutex, Wait};
 /// Where applications wait for one another.
 #[derive(Drop)]
 pub(crate) struct Meeting {
+    // How often one has come.
     come: Mutex<u64>,
     changed: Condvar,
 }
@@ -18,7 +19,7 @@ impl Meeting {
         }
     }
 
-    // One has come so far.
+    // One comes, and wakes those that wait.
     pub(crate) fn come<R: Wait>(&self, rt: &R) {
         let mut come = self.come.lock(rt);
         *come = come.saturating_add(1);
@@ -26,7 +27,7 @@ impl Meeting {
         self.changed.notify_all();
     }
 
-    // Waits until so many have come. Each that comes wakes it.
+    // Waits until so many have come.
     pub(crate) fn wait<R: Wait>(&self, rt: &R, all: u64) {
         let come = self
             .changed

@@ -1,7 +1,7 @@
 //! What an application of the scene does.
 
-use crate::counter::Counter;
 use crate::meeting::Meeting;
+use nob_demo_scenes::{Counter, Stop, Tally};
 use nob_ids::SpaceId;
 use nob_keeper::KeeperError;
 use nob_node::{App, Hold, Node, NodeError, Returned};
@@ -10,6 +10,10 @@ use std::sync::Wait;
 
 /// The name of the counter.
 const NAME: &[u8] = b"counter";
+
+/// So often each application comes to the meeting: once the counter has its name, and once it has
+/// made its calls.
+const MEETINGS: u64 = 2;
 
 /// An application of the scene: the one that has the counter, or one that calls it.
 #[derive(Drop)]
@@ -22,9 +26,10 @@ pub(crate) struct Player<'m> {
     counter: Option<Counter>,
     owner: SpaceId,
     calls: u64,
-    pub(crate) answered: u64,
-    pub(crate) greatest: u64,
-    pub(crate) failure: Option<KeeperError>,
+    // What its calls came to.
+    pub(crate) tally: Tally,
+    // Why it went no further.
+    pub(crate) stop: Option<Stop>,
 }
 
 impl<'m> Player<'m> {
@@ -43,9 +48,8 @@ impl<'m> Player<'m> {
             counter,
             owner,
             calls,
-            answered: 0,
-            greatest: 0,
-            failure: None,
+            tally: Tally::new(),
+            stop: None,
         }
     }
 
@@ -57,10 +61,10 @@ impl<'m> Player<'m> {
             .wait(rt, self.players.saturating_mul(self.came));
     }
 
-    // Comes as often as it hasn't come yet: it waits for nobody.
+    // Comes as often as it hasn't come yet: it waits for nobody, and nobody waits for it any more.
     pub(crate) fn leave<R: Wait>(&mut self, rt: &R) {
-        for _ in 0..2 {
-            if self.came < 2 {
+        for _ in 0..MEETINGS {
+            if self.came < MEETINGS {
                 self.came += 1;
                 self.meeting.come(rt);
             }
@@ -70,26 +74,23 @@ impl<'m> Player<'m> {
     // Why it goes no further.
     fn fail(&mut self, error: NodeError) {
         if let NodeError::Keeper(error) = error {
-            self.failure = Some(error);
+            self.stop = Some(stop_of(error));
         }
     }
 
     // Exports the counter, has its name stand for it, and gives it back once all have called it.
-    fn own<R: Wait>(
-        &mut self,
-        rt: &R,
-        node: &mut Node<Counter>,
-        counter: Counter,
-    ) {
+    fn own<R: Wait>(&mut self, rt: &R, node: &mut Node<Counter>, counter: Counter) {
         let hold = match node.export(rt, counter) {
             Ok(hold) => hold,
             Err((error, _counter)) => return self.fail(error),
         };
-        if let Err(error) = node.bind(rt, NAME, &hold) {
-            self.fail(error);
+        match node.bind(rt, NAME, &hold) {
+            Ok(()) => {
+                self.meet(rt);
+                self.meet(rt);
+            }
+            Err(error) => self.fail(error),
         }
-        self.meet(rt);
-        self.meet(rt);
         self.give_back(rt, node, hold);
     }
 
@@ -121,12 +122,8 @@ impl<'m> Player<'m> {
 
     // Counts what a call returned.
     fn count(&mut self, returned: Returned) {
-        if let Returned::Replied { status, value, .. } = &returned
-            && *status == 0
-            && let Value::Int(total) = value
-        {
-            self.answered = self.answered.saturating_add(1);
-            self.greatest = self.greatest.max(total.unsigned_abs());
+        if let Returned::Replied { status, value, .. } = &returned {
+            self.tally = self.tally.with_reply(*status, value);
         }
         returned.forget();
     }
@@ -146,9 +143,19 @@ impl<'m> App<Counter> for Player<'m> {
             Some(counter) => self.own(rt, node, counter),
             None => self.call_all(rt, node),
         }
+        self.leave(rt);
     }
 
     fn skip<R: Wait>(&mut self, rt: &R) {
         self.leave(rt);
+    }
+}
+
+// Why a scene stops whose keeper makes no entry. That it should be another error than these two
+// doesn't come.
+pub(crate) fn stop_of(error: KeeperError) -> Stop {
+    match error {
+        KeeperError::TraceFull => Stop::Full,
+        _ => Stop::OutOfMemory,
     }
 }

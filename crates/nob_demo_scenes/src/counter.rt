@@ -1,5 +1,8 @@
 //! The object that is called.
 
+ghost use Rattle.std.specs.Prelude.{◌≡◌};
+ghost use Rattle.nob_demo_scenes.specs.Counters as spec;
+
 use nob_dispatch_objects::{Done, Object, Outcome};
 use nob_pickle::Value;
 
@@ -11,13 +14,18 @@ pub struct Counter {
 
 impl Counter {
     /// A counter at 0.
-    pub fn new() -> Counter {
+    pub fn new() -> Counter
+        ensures { result.total ≡ 0 }
+    {
         Counter { total: 0 }
     }
 }
 
 impl Object for Counter {
-    fn invoke(&mut self, method: u16, args: &Value) -> Outcome {
+    fn invoke(&mut self, method: u16, args: &Value) -> Outcome
+        ensures total { self.new.total ≡ spec.total_after method args.now self.old.total }
+        ensures outcome { result ≡ spec.outcome_of method args.now self.old.total }
+    {
         if method != 0 {
             return Outcome::NoMethod;
         }
@@ -30,7 +38,9 @@ impl Object for Counter {
         }
     }
 
-    fn resume(&mut self, _done: &Done) -> Outcome {
+    fn resume(&mut self, _done: &Done) -> Outcome
+        ensures total { self.new.total ≡ self.old.total }
+    {
         Outcome::NoMethod
     }
 }
