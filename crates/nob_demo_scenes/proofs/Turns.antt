@@ -1,8 +1,8 @@
 -- How many calls a space makes.
-use Rattle.std.proofs.Common.{◌≡◌, ◌≢◌, ℕ, zero, suc, ◌+◌, ◌-◌, ◌*◌, ◌/◌, ◌%◌, ◌==◌, ◌<◌, ◌≤◌, ◌⊎◌, Bool, true, false, refl, arith, sym, ◌∙◌, ap, if◌then◌else◌}
+use Rattle.std.proofs.Common.{◌≡◌, ℕ, zero, suc, ◌+◌, ◌-◌, ◌*◌, ◌/◌, ◌%◌, ◌==◌, ◌<◌, ◌≤◌, refl, arith, sym, ◌∙◌, ap, if◌then◌else◌}
 use Rattle.std.proofs.lemmas.Bool.Decides.{nat_tests}
 use Rattle.std.proofs.lemmas.Nat.{div-mul-add, div-add-mod'}
-use Rattle.nob_demo_scenes.specs.Shares.{caller_of, calls_of}
+use Rattle.nob_demo_scenes.specs.Shares.{calls_of}
 
 -- a number's quotient, where the rest is below the divisor
 quotient_is : (n w q r : ℕ) → r < w → n ≡ q * w + r → n / w ≡ q

@@ -1,5 +1,5 @@
 -- What a counter answers.
-use Rattle.std.specs.Prelude.{ℕ, zero, suc}
+use Rattle.std.specs.Prelude.{ℕ, zero, suc, ℤ}
 use Rattle.std.specs.Int.{w64, int_wrapping_add}
 use Rattle.nob_pickle.specs.declared.value.Value.{Value}
 use Rattle.nob_pickle.specs.declared.value.Value.TheVariants as values

@@ -1,6 +1,6 @@
 -- What is written of a scene, and how it ends.
-use Rattle.std.specs.Prelude.{◌≡◌, ℕ, Bool, true, false, List, length, reverse, codes}
-use Rattle.std.specs.List.{AllByRecursion, flat_map}
+use Rattle.std.specs.Prelude.{◌≡◌, ℕ, Bool, true, false, List, length, reverse, All, codes}
+use Rattle.std.specs.List.{flat_map}
 use Rattle.nob_model_types.specs.declared.entry.Entry.{Entry}
 use Rattle.nob_model_invariant.specs.Safe.{IsSafe}
 use Rattle.nob_trace.specs.declared.trace.Trace.{Trace}
@@ -15,8 +15,8 @@ use Rattle.nob_demo_scenes.specs.declared.ending.Ending.TheVariants.{Accepted, R
 
 -- what is printed where traces are to be printed: they, one after the other, or R2 where a frame in one has no spelling
 pub data Prints (traces : List Trace) (text : List ℕ) (ending : Ending) : Type 0 where
-  printed : AllByRecursion IsWritable traces → text ≡ flat_map trace_text traces → ending ≡ Printed → Prints traces text ending
-  unwritten : (AllByRecursion IsWritable traces → ⊥) → text ≡ codes "R2\n" → ending ≡ Refused → Prints traces text ending
+  printed : All IsWritable traces → text ≡ flat_map trace_text traces → ending ≡ Printed → Prints traces text ending
+  unwritten : (All IsWritable traces → ⊥) → text ≡ codes "R2\n" → ending ≡ Refused → Prints traces text ending
 
 -- what is said where traces are checked, with a tally: yes where they are together a run of a world, of which all is proved that is proved of such runs, and no where something is wrong with them
 pub data Judges (tally : Tally) (traces : List Trace) (text : List ℕ) (ending : Ending) : Type 0 where

@@ -1,5 +1,5 @@
 -- The lines that are written of a scene.
-use Rattle.std.specs.Prelude.{ℕ, List, ◌++◌, Bool, true, false, codes, Option, Some, None}
+use Rattle.std.specs.Prelude.{ℕ, ℤ, List, ◌++◌, Bool, true, false, codes, Option, Some, None}
 use Rattle.std.specs.Fmt.{decimal, signed_decimal}
 use Rattle.nob_demo_scenes.specs.declared.tally.Tally.{Tally}
 use Rattle.nob_demo_scenes.specs.declared.ending.Ending.{Ending}

@@ -1,5 +1,5 @@
 -- What callers count.
-use Rattle.std.specs.Prelude.{ℕ, ◌+◌, ◌==◌, min, if◌then◌else◌}
+use Rattle.std.specs.Prelude.{ℕ, ℤ, pos, ◌+◌, ◌==◌, min, if◌then◌else◌}
 use Rattle.std.specs.Int.{int_max}
 use Rattle.nob_pickle.specs.declared.value.Value.{Value}
 use Rattle.nob_pickle.specs.declared.value.Value.TheVariants as values
@@ -7,7 +7,7 @@ use Rattle.nob_demo_scenes.specs.declared.tally.Tally.{Tally}
 
 -- nothing was answered
 abbrev pub empty : Tally
-empty = record { answered = 0; greatest = 0 }
+empty = record { answered = 0; greatest = pos 0 }
 
 -- a sum, but at most the greatest number of 64 bits
 abbrev pub sum_of : ℕ → ℕ → ℕ

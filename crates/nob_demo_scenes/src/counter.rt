@@ -1,6 +1,6 @@
 //! The object that is called.
 
-ghost use Rattle.std.specs.Prelude.{◌≡◌};
+ghost use Rattle.std.specs.Prelude.{◌≡◌, pos};
 ghost use Rattle.nob_demo_scenes.specs.Counters as spec;
 
 use nob_dispatch_objects::{Done, Object, Outcome};
@@ -15,7 +15,7 @@ pub struct Counter {
 impl Counter {
     /// A counter at 0.
     pub fn new() -> Counter
-        ensures { result.total ≡ 0 }
+        ensures { result.total ≡ pos 0 }
     {
         Counter { total: 0 }
     }

@@ -6,14 +6,7 @@ ghost use Rattle.nob_demo_scenes.specs.Shares as spec;
 use nob_demo_words::Scene;
 
 /// How many calls a space makes: all spaces but the first take turns.
-#[tactic(
-    auto,
-    using(
-        crate::proofs::Turns::shared,
-        crate::proofs::Turns::none_below,
-        crate::proofs::Turns::none_above
-    )
-)]
+#[tactic(auto, using(crate::proofs::Turns::shared, crate::proofs::Turns::none_below, crate::proofs::Turns::none_above))]
 pub fn calls_of(scene: Scene, space: u16) -> u64
     ensures { result ≡ spec.calls_of scene.spaces space scene.calls }
 {

@@ -13,9 +13,9 @@ use nob_verdicts::refusal_line;
 use std::alloc::{AllocError, Global};
 
 /// What is written of a scene whose callers counted so much and whose spaces left these traces, and
-/// how it ends: the traces one after the other, where the scene wants them, else how many calls were
-/// answered, the greatest total, and whether the traces are together a run of a world. Only memory
-/// fails it. It costs what the check of the traces costs, or their text.
+/// how it ends: the traces one after the other, where the scene wants them, else how many calls
+/// were answered, the greatest total, and whether the traces are together a run of a world. Only
+/// memory fails it. It costs what the check of the traces costs, or their text.
 pub fn tell(
     alloc: Global,
     scene: Scene,

@@ -14,9 +14,9 @@ use std::alloc::Global;
 use std::sync::Wait;
 use std::thread::{self, Threads};
 
-/// Plays a scene, and writes onto an empty text what came of it: the three lines, or the traces; and
-/// how it ended, whose last line is still to follow. It makes a thread for each space, and each of
-/// these makes those of its node.
+/// Plays a scene, and writes onto an empty text what came of it: the three lines, or the traces;
+/// and how it ended, whose last line is still to follow. It makes a thread for each space, and each
+/// of these makes those of its node.
 pub fn play<R: Threads + Wait + Sync>(
     rt: &R,
     alloc: Global,
@@ -39,8 +39,8 @@ pub fn play<R: Threads + Wait + Sync>(
     }
 }
 
-// Runs all nodes, a thread each. Where a thread can't be made, its part goes with what it would have
-// run: so the peers' links to it end, and they don't wait for it.
+// Runs all nodes, a thread each. Where a thread can't be made, its part goes with what it would
+// have run: so the peers' links to it end, and they don't wait for it.
 fn run_all<R: Threads + Wait + Sync>(rt: &R, places: &mut [Place]) {
     let meeting = Meeting::new();
     let shared = &meeting;
