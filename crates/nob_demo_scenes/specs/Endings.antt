@@ -1,5 +1,5 @@
 -- What is written of a scene, and how it ends.
-use Rattle.std.specs.Prelude.{◌≡◌, ℕ, Bool, true, false, List, length, reverse, All, codes}
+use Rattle.std.specs.Prelude.{◌≡◌, ℕ, Bool, true, false, List, length, reverse, All, codes, Option, Some, None}
 use Rattle.std.specs.List.{flat_map}
 use Rattle.nob_model_types.specs.declared.entry.Entry.{Entry}
 use Rattle.nob_model_invariant.specs.Safe.{IsSafe}
@@ -8,10 +8,11 @@ use Rattle.nob_trace.specs.Traces.{trace_text, IsWritable}
 use Rattle.nob_model_traces.specs.declared.fault.CheckFault.{CheckFault}
 use Rattle.nob_model_traces.specs.Faults.{IsFault, AreAccepted}
 use Rattle.nob_demo_words.specs.Scenes.{Setting}
-use Rattle.nob_demo_scenes.specs.Lines.{lines}
+use Rattle.nob_demo_scenes.specs.Lines.{lines, last_line, stopped}
 use Rattle.nob_demo_scenes.specs.declared.tally.Tally.{Tally}
 use Rattle.nob_demo_scenes.specs.declared.ending.Ending.{Ending}
-use Rattle.nob_demo_scenes.specs.declared.ending.Ending.TheVariants.{Accepted, Refused, Printed, Full, OutOfMemory}
+use Rattle.nob_demo_scenes.specs.declared.ending.Stop.{Stop}
+use Rattle.nob_demo_scenes.specs.declared.ending.Ending.TheVariants.{Accepted, Refused, Printed, OutOfMemory}
 
 -- what is printed where traces are to be printed: they, one after the other, or R2 where a frame in one has no spelling
 pub data Prints (traces : List Trace) (text : List ℕ) (ending : Ending) : Type 0 where
@@ -32,8 +33,16 @@ TellsBy false tally traces text ending = Judges tally traces text ending
 abbrev pub Tells : Setting → Tally → List Trace → (text : List ℕ) → Ending → Type 0
 Tells setting tally traces text ending = TellsBy setting.traces tally traces text ending
 
--- what is written of a scene, and how it ends: some tally and traces are told of, a trace was full, or memory ran out
-pub data Plays (setting : Setting) (text : List ℕ) (ending : Ending) : Type 0 where
-  told : (tally : Tally) (traces : List Trace) → Tells setting tally traces text ending → Plays setting text ending
-  full : text ≡ codes "full\n" → ending ≡ Full → Plays setting text ending
-  stopped : text ≡ codes "memory\n" → ending ≡ OutOfMemory → Plays setting text ending
+-- what is written of a scene whose nodes have ended, and how it ends: what is told, or that memory ran out
+pub data Ends (setting : Setting) (tally : Tally) (traces : List Trace) (text : List ℕ) (ending : Ending) : Type 0 where
+  told : Tells setting tally traces text ending → Ends setting tally traces text ending
+  no_memory : text ≡ codes "memory\n" → ending ≡ OutOfMemory → Ends setting tally traces text ending
+
+-- what is written of a scene, and how it ends: where a space stopped, just that; else what is told of the tally of its callers and the traces of its spaces
+abbrev pub Says : Setting → Option Stop → Tally → List Trace → (text : List ℕ) → Ending → Type 0
+Says setting (Some stop) tally traces text ending = (text ≡ last_line (stopped stop)) × (ending ≡ stopped stop)
+Says setting None tally traces text ending = Ends setting tally traces text ending
+
+-- what is written of a scene, and how it ends, whatever its threads do: what is said of some stop, some tally and some traces
+abbrev pub Plays : Setting → (text : List ℕ) → Ending → Type 0
+Plays setting text ending = (stop : Option Stop) × (tally : Tally) × (traces : List Trace) × Says setting stop tally traces text ending

@@ -13,4 +13,4 @@ pub use counter::Counter;
 pub use ending::{Ending, Stop, graver};
 pub use shares::calls_of;
 pub use tally::Tally;
-pub use telling::tell;
+pub use telling::say;

@@ -53,7 +53,12 @@ pub(crate) struct Place {
 
 impl Place {
     // The place of a space, which isn't linked to any other yet. Only memory fails it.
-    pub(crate) fn new(alloc: Global, scene: Scene, space: SpaceId, owner: SpaceId) -> Option<Place> {
+    pub(crate) fn new(
+        alloc: Global,
+        scene: Scene,
+        space: SpaceId,
+        owner: SpaceId,
+    ) -> Option<Place> {
         let config = Config::new(
             space,
             scene.spaces() as u16,

@@ -1,15 +1,14 @@
 //! The scene.
 
-ghost use Rattle.std.specs.Prelude.{◌≡◌, ◌++◌, [], IfOk, List};
-ghost use Rattle.nob_trace.specs.declared.trace.Trace.{Trace as TraceOf};
-ghost use Rattle.nob_demo_scenes.specs.declared.tally.Tally.{Tally as TallyOf};
+ghost use Rattle.std.specs.Prelude.{◌≡◌, ◌++◌, []};
 ghost use Rattle.nob_demo_scenes.specs.Lines.{last_line};
-ghost use Rattle.nob_demo_scenes.specs.Endings.{Plays, Tells};
+ghost use Rattle.nob_demo_scenes.specs.Endings.{Plays};
 
 use crate::meeting::Meeting;
 use crate::places::{Place, places_of};
-use nob_demo_scenes::{Ending, Stop, Tally, graver, tell};
+use nob_demo_scenes::{Ending, Stop, Tally, graver, say};
 use nob_demo_words::Scene;
+use nob_trace::Trace;
 use std::alloc::Global;
 use std::sync::Wait;
 use std::thread::{self, Threads};
@@ -30,13 +29,7 @@ pub fn play<R: Threads + Wait + Sync>(
         return Ending::OutOfMemory;
     };
     run_all(rt, places.as_mut_slice());
-    match told(alloc, scene, places) {
-        Ok((told, ending)) => match text.extend_from_slice(told.as_slice()) {
-            Ok(()) => ending,
-            Err(_) => Ending::OutOfMemory,
-        },
-        Err(stop) => stop.ending(),
-    }
+    say_of(alloc, scene, places, text)
 }
 
 // Runs all nodes, a thread each. Where a thread can't be made, its part goes with what it would
@@ -57,30 +50,31 @@ fn run_all<R: Threads + Wait + Sync>(rt: &R, places: &mut [Place]) {
     });
 }
 
-// What is written of places whose nodes have ended, or why nothing else is.
-fn told(alloc: Global, scene: Scene, places: Vec<Place>) -> Result<(Vec<u8>, Ending), Stop>
-    ensures { IfOk result (λ told. (tally : TallyOf) × (traces : List TraceOf)
-        × Tells scene tally traces told.0.items told.1) }
+// Writes what is said of places whose nodes have ended.
+fn say_of(alloc: Global, scene: Scene, places: Vec<Place>, text: &mut Vec<u8>) -> Ending
+    requires { text.old.items ≡ [] }
+    ensures { Plays scene (text.new.items ++ last_line result) result }
 {
-    let mut tally = Tally::new();
-    let mut stop = None;
     let mut traces = Vec::new(alloc);
+    let (stop, tally) = summed(places, &mut traces);
+    say(alloc, scene, stop, tally, traces.as_slice(), text)
+}
+
+// Why the scene stops, if a space stopped or there is no memory for the traces, and what callers
+// counted.
+fn summed(places: Vec<Place>, traces: &mut Vec<Trace>) -> (Option<Stop>, Tally) {
+    let mut stop = None;
+    let mut tally = Tally::new();
     for place in places {
         match place.left {
             Ok(played) => {
                 tally = tally.with_tally(played.tally);
-                let Ok(()) = traces.push(played.trace) else {
-                    return Err(Stop::OutOfMemory);
-                };
+                if traces.push(played.trace).is_err() {
+                    stop = Some(graver(Stop::OutOfMemory, stop));
+                }
             }
             Err(reason) => stop = Some(graver(reason, stop)),
         }
     }
-    if let Some(stop) = stop {
-        return Err(stop);
-    }
-    match tell(alloc, scene, tally, traces.as_slice()) {
-        Ok(told) => Ok(told),
-        Err(_) => Err(Stop::OutOfMemory),
-    }
+    (stop, tally)
 }
