@@ -1,6 +1,6 @@
 //! What an application of the scene does.
 
-use crate::meeting::Meeting;
+use crate::meeting::{MEETINGS, Meeting};
 use nob_demo_scenes::{Counter, Stop, Tally};
 use nob_ids::SpaceId;
 use nob_keeper::KeeperError;
@@ -10,10 +10,6 @@ use std::sync::Wait;
 
 /// The name of the counter.
 const NAME: &[u8] = b"counter";
-
-/// So often each application comes to the meeting: once the counter has its name, and once it has
-/// made its calls.
-const MEETINGS: u64 = 2;
 
 /// An application of the scene: the one that has the counter, or one that calls it.
 #[derive(Drop)]
@@ -53,21 +49,20 @@ impl<'m> Player<'m> {
         }
     }
 
-    // Comes to the meeting, for the first time or the second, and waits for the others.
-    fn meet<R: Wait>(&mut self, rt: &R) {
+    // Comes to the meeting, for the first time or the second, and waits for the others: whether
+    // nobody has left.
+    fn meet<R: Wait>(&mut self, rt: &R) -> bool {
         self.came = self.came.saturating_add(1);
         self.meeting.come(rt);
         self.meeting
-            .wait(rt, self.players.saturating_mul(self.came));
+            .wait(rt, self.players.saturating_mul(self.came))
     }
 
-    // Comes as often as it hasn't come yet: it waits for nobody, and nobody waits for it any more.
+    // Comes no more, if it hasn't come as often as it should: then nobody waits for it.
     pub(crate) fn leave<R: Wait>(&mut self, rt: &R) {
-        for _ in 0..MEETINGS {
-            if self.came < MEETINGS {
-                self.came += 1;
-                self.meeting.come(rt);
-            }
+        if self.came < MEETINGS {
+            self.meeting.leave(rt, self.came);
+            self.came = MEETINGS;
         }
     }
 
@@ -86,17 +81,25 @@ impl<'m> Player<'m> {
         };
         match node.bind(rt, NAME, &hold) {
             Ok(()) => {
-                self.meet(rt);
-                self.meet(rt);
+                let _ = self.meet(rt);
+                let _ = self.meet(rt);
             }
             Err(error) => self.fail(error),
         }
         self.give_back(rt, node, hold);
     }
 
-    // Looks the counter up, calls it so often, and gives it back.
+    // Looks the counter up, calls it so often, and gives it back: where all have come, else the
+    // counter may not be there, and its node would never answer.
     fn call_all<R: Wait>(&mut self, rt: &R, node: &mut Node<Counter>) {
-        self.meet(rt);
+        if self.meet(rt) {
+            self.call_named(rt, node);
+        }
+        let _ = self.meet(rt);
+    }
+
+    // Looks the counter up, calls it so often, and gives it back.
+    fn call_named<R: Wait>(&mut self, rt: &R, node: &mut Node<Counter>) {
         match node.lookup(rt, self.owner, NAME) {
             Ok(returned) => match returned.into_hold() {
                 Ok(hold) => {
@@ -107,7 +110,6 @@ impl<'m> Player<'m> {
             },
             Err(error) => self.fail(error),
         }
-        self.meet(rt);
     }
 
     // Makes its calls.

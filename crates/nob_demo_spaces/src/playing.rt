@@ -43,8 +43,7 @@ fn run_all<R: Threads + Wait + Sync>(rt: &R, places: &mut [Place]) {
                 continue;
             };
             if scope.spawn(move || place.play(rt, shared, part)).is_err() {
-                shared.come(rt);
-                shared.come(rt);
+                shared.leave(rt, 0);
             }
         }
     });
