@@ -8,10 +8,10 @@ use nob_dispatch::OpenGate;
 use nob_fault::{Shim, words_between};
 use nob_ids::{Limits, SpaceId};
 use nob_link::link;
-use nob_node::{Config, Ends, NodeError, run};
+use nob_node::{Config, Ends, Left, NodeError, Report, run};
 use nob_trace::Trace;
 use std::alloc::Global;
-use std::sync::Wait;
+use std::sync::{Mutex, Wait};
 use std::thread::Threads;
 
 /// So many parcels a link holds.
@@ -47,8 +47,8 @@ pub(crate) struct Played {
 #[derive(Drop)]
 pub(crate) struct Place {
     space: SpaceId,
-    part: Option<Part>,
-    pub(crate) left: Result<Played, Stop>,
+    part: Mutex<Option<Part>>,
+    left: Mutex<Result<Played, Stop>>,
 }
 
 impl Place {
@@ -74,7 +74,7 @@ impl Place {
         };
         Some(Place {
             space,
-            part: Some(Part {
+            part: Mutex::new(Some(Part {
                 alloc,
                 config,
                 ends: Vec::new(alloc),
@@ -82,47 +82,99 @@ impl Place {
                 players: scene.spaces() as u64,
                 counter,
                 calls: calls_of(scene, space.get()),
-            }),
-            left: Err(Stop::OutOfMemory),
+            })),
+            left: Mutex::new(Err(Stop::OutOfMemory)),
         })
-    }
-
-    // What its thread is given.
-    pub(crate) fn take_part(&mut self) -> Option<Part> {
-        self.part.take()
     }
 
     // The ends to one peer more. Only memory fails it.
     fn add(&mut self, ends: Ends) -> Option<()> {
-        match &mut self.part {
+        match self.part.get_mut() {
             Some(part) => part.ends.push(ends).ok(),
             None => None,
         }
     }
 
-    // Runs the node of a part until its application and its peers' have ended.
-    pub(crate) fn play<R: Threads + Wait + Sync>(&mut self, rt: &R, meeting: &Meeting, part: Part) {
-        let Part {
-            alloc,
-            config,
-            ends,
-            owner,
-            players,
-            counter,
-            calls,
-        } = part;
-        let mut player = Player::new(meeting, players, counter, owner, calls);
-        let done = run(rt, alloc, config, ends, &OpenGate, &mut player);
-        player.leave(rt);
-        self.left = match (player.stop, done) {
-            (Some(stop), _) => Err(stop),
-            (None, Ok(report)) => Ok(Played {
-                tally: player.tally,
-                trace: report.trace,
-            }),
-            (None, Err((NodeError::Keeper(error), _objects))) => Err(stop_of(error)),
-            (None, Err((NodeError::Refused(_), _objects))) => Err(Stop::OutOfMemory),
-        };
+    // What its thread has left.
+    pub(crate) fn into_left(self) -> Result<Played, Stop> {
+        let Place {
+            space: _,
+            part: _,
+            left,
+        } = self;
+        left.into_inner()
+    }
+
+    // Runs the node of its part until the application and the peers' have ended.
+    pub(crate) fn play<R: Threads + Wait + Sync>(&self, rt: &R, meeting: &Meeting) {
+        match self.take_part(rt) {
+            Some(part) => self.put_left(rt, run_part(rt, meeting, part)),
+            None => meeting.leave(rt, 0),
+        }
+    }
+
+    // Takes no part: the ends of its links go, so the peers don't wait for it, nor at the meeting.
+    pub(crate) fn stay_away<R: Wait>(&self, rt: &R, meeting: &Meeting) {
+        let _ = self.take_part(rt);
+        meeting.leave(rt, 0);
+    }
+
+    // Its part, once.
+    fn take_part<R: Wait>(&self, rt: &R) -> Option<Part> {
+        let mut part = self.part.lock(rt);
+        part.take()
+    }
+
+    // What its thread leaves.
+    fn put_left<R: Wait>(&self, rt: &R, left: Result<Played, Stop>) {
+        let mut kept = self.left.lock(rt);
+        *kept = left;
+    }
+}
+
+// Runs the node of a part: what it leaves.
+fn run_part<R: Threads + Wait + Sync>(
+    rt: &R,
+    meeting: &Meeting,
+    part: Part,
+) -> Result<Played, Stop> {
+    let Part {
+        alloc,
+        config,
+        ends,
+        owner,
+        players,
+        counter,
+        calls,
+    } = part;
+    let mut player = Player::new(meeting, players, counter, owner, calls);
+    let done = run(rt, alloc, config, ends, &OpenGate, &mut player);
+    player.leave(rt);
+    if let Some(stop) = player.stop {
+        return Err(stop);
+    }
+    left_by(player.tally, done)
+}
+
+// What a node leaves that has run like this.
+fn left_by(
+    tally: Tally,
+    done: Result<Report<Counter>, (NodeError, Vec<Left<Counter>>)>,
+) -> Result<Played, Stop> {
+    match done {
+        Ok(report) => {
+            let Report { trace, objects: _ } = report;
+            Ok(Played { tally, trace })
+        }
+        Err((error, _objects)) => Err(stop_by(error)),
+    }
+}
+
+// Why a scene stops whose node can't go on.
+fn stop_by(error: NodeError) -> Stop {
+    match error {
+        NodeError::Keeper(error) => stop_of(error),
+        NodeError::Refused(_) => Stop::OutOfMemory,
     }
 }
 

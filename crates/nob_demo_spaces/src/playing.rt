@@ -5,7 +5,7 @@ ghost use Rattle.nob_demo_scenes.specs.Lines.{last_line};
 ghost use Rattle.nob_demo_scenes.specs.Endings.{Plays};
 
 use crate::meeting::Meeting;
-use crate::places::{Place, places_of};
+use crate::places::{Place, Played, places_of};
 use nob_demo_scenes::{Ending, Stop, Tally, graver, say};
 use nob_demo_words::Scene;
 use nob_trace::Trace;
@@ -25,25 +25,21 @@ pub fn play<R: Threads + Wait + Sync>(
     requires { text.old.items ≡ [] }
     ensures { Plays scene (text.new.items ++ last_line result) result }
 {
-    let Some(mut places) = places_of(alloc, scene) else {
+    let Some(places) = places_of(alloc, scene) else {
         return Ending::OutOfMemory;
     };
-    run_all(rt, places.as_mut_slice());
+    run_all(rt, places.as_slice());
     say_of(alloc, scene, places, text)
 }
 
-// Runs all nodes, a thread each. Where a thread can't be made, its part goes with what it would
-// have run: so the peers' links to it end, and they don't wait for it.
-fn run_all<R: Threads + Wait + Sync>(rt: &R, places: &mut [Place]) {
+// Runs all nodes, a thread each.
+fn run_all<R: Threads + Wait + Sync>(rt: &R, places: &[Place]) {
     let meeting = Meeting::new();
     let shared = &meeting;
     thread::scope(thread::scope_env(), rt, |scope| {
         for place in places {
-            let Some(part) = place.take_part() else {
-                continue;
-            };
-            if scope.spawn(move || place.play(rt, shared, part)).is_err() {
-                shared.leave(rt, 0);
+            if scope.spawn(move || place.play(rt, shared)).is_err() {
+                place.stay_away(rt, shared);
             }
         }
     });
@@ -65,15 +61,19 @@ fn summed(places: Vec<Place>, traces: &mut Vec<Trace>) -> (Option<Stop>, Tally) 
     let mut stop = None;
     let mut tally = Tally::new();
     for place in places {
-        match place.left {
-            Ok(played) => {
-                tally = tally.with_tally(played.tally);
-                if traces.push(played.trace).is_err() {
-                    stop = Some(graver(Stop::OutOfMemory, stop));
-                }
-            }
+        match kept(place.into_left(), traces) {
+            Ok(counted) => tally = tally.with_tally(counted),
             Err(reason) => stop = Some(graver(reason, stop)),
         }
     }
     (stop, tally)
+}
+
+// What the callers of a space counted, whose trace is kept.
+fn kept(left: Result<Played, Stop>, traces: &mut Vec<Trace>) -> Result<Tally, Stop> {
+    let Played { tally, trace } = left?;
+    match traces.push(trace) {
+        Ok(()) => Ok(tally),
+        Err(_) => Err(Stop::OutOfMemory),
+    }
 }
