@@ -12,7 +12,7 @@ static long calls;
 
 static int refuses(const char *kind) {
   const char *wanted = getenv("REFUSE"), *at = getenv("REFUSE_AT"), *mark = getenv("REFUSE_MARK");
-  if (!wanted || !at || !mark || strcmp(wanted, kind) != 0 || ++calls != atol(at)) return 0;
+  if (!wanted || !at || !mark || strcmp(wanted, kind) != 0 || __atomic_add_fetch(&calls, 1, __ATOMIC_SEQ_CST) != atol(at)) return 0;
   int file = open(mark, O_CREAT | O_WRONLY, 0600);
   if (file >= 0) close(file);
   return 1;

@@ -1,5 +1,5 @@
 -- What a run of the program does, where its reader and its writers tell their bytes.
-use Rattle.std.specs.Prelude.{◌≡◌, ℕ, ◌^◌, ◌<◌, ◌≤◌, ◌+◌, Bool, true, false, List, length, Option, IfSome, Result, Ok, Err, codes}
+use Rattle.std.specs.Prelude.{◌≡◌, ℕ, ◌^◌, ◌<◌, ◌≤◌, ◌+◌, Bool, true, false, List, [], length, Option, IfSome, Result, Ok, Err, codes}
 use Rattle.std.specs.Io.KnownBytes.{Appends, Keeps}
 use Rattle.nob_demo_pair.specs.declared.script.Outcome.{Outcome}
 use Rattle.nob_demo_pair.specs.declared.script.Outcome.TheVariants.{Fronts, BadStep, OutOfMemory}
@@ -12,7 +12,10 @@ use Rattle.nob_demo_check.specs.Checks as checks
 use Rattle.nob_demo_check.specs.declared.ending.Ending.{Ending as CheckEnding}
 use Rattle.nob_demo_check.specs.declared.ending.Ending.TheVariants as check_endings
 use Rattle.nob_demo_words.specs.declared.words.Subcommand.{Subcommand}
-use Rattle.nob_demo_words.specs.declared.words.Subcommand.TheVariants.{Pair, Script, Check}
+use Rattle.nob_demo_scenes.specs.declared.ending.Ending.{Ending as SceneEnding}
+use Rattle.nob_demo_scenes.specs.declared.ending.Ending.TheVariants as scene_endings
+use Rattle.nob_demo_scenes.specs.Endings as scenes
+use Rattle.nob_demo_words.specs.declared.words.Subcommand.TheVariants.{Pair, Script, Check, Spaces}
 use Rattle.nob_demo_words.specs.declared.fault.Fault.{Fault}
 use Rattle.nob_demo_words.specs.declared.fault.Fault.TheVariants.{Words, Read, Write, Memory}
 
@@ -81,11 +84,32 @@ check_status_of check_endings.Accepted = 0
 check_status_of check_endings.Refused = 1
 check_status_of check_endings.OutOfMemory = 1
 
--- what a subcommand writes for an input, and the status that its run ends with; the verdict on a world, or on traces, is never no
+-- the status that the play of a scene ends with: 0 where its traces are accepted, or printed
+abbrev pub scene_status_of : SceneEnding → ℕ
+scene_status_of scene_endings.Accepted = 0
+scene_status_of scene_endings.Refused = 1
+scene_status_of scene_endings.Printed = 0
+scene_status_of scene_endings.Full = 1
+scene_status_of scene_endings.OutOfMemory = 1
+
+-- whether a subcommand reads an input: `spaces` reads none
+abbrev pub reads_input : Subcommand → Bool
+reads_input Pair = true
+reads_input Script = true
+reads_input Check = true
+reads_input (Spaces setting) = false
+
+-- the input that a subcommand was given: the whole, of as many bytes as were read, which are the reader's where it tells them; or, for one that reads none, nothing
+abbrev pub IsInput : (reads : Bool) → Reading → (bytes : List ℕ) → Type 0
+IsInput true r bytes = IsWhole r × (length bytes ≡ r.bytes) × IfSome r.input (λ input. bytes ≡ input)
+IsInput false r bytes = (r.reads ≡ 0) × (bytes ≡ [])
+
+-- what a subcommand writes for an input, and the status that its run ends with; the verdict on a world, or on traces, is never no. Of a scene, which threads play, it is said what may be written of some traces and some tally, and not which those are
 abbrev pub Does : Subcommand → (input text : List ℕ) → (status : ℕ) → Type 0
 Does Pair input text status = (outcome : Outcome) × Plays input text outcome × (status ≡ status_of outcome)
 Does Script input text status = (ending : Ending) × worlds.Plays input text ending × worlds.SaysYes ending × (status ≡ world_status_of ending)
 Does Check input text status = (ending : CheckEnding) × checks.Checks input text ending × (status ≡ check_status_of ending)
+Does (Spaces setting) input text status = (ending : SceneEnding) × scenes.Plays setting text ending × (status ≡ scene_status_of ending)
 
 -- what a run was given, and how far it came: whether clap took the words, which subcommand they name, what was read, the bytes of `out` before and after, and whether a write to it failed
 pub record Attempt : Type 0 where
@@ -100,29 +124,37 @@ pub record Attempt : Type 0 where
 abbrev pub OutKept : Attempt → Type 0
 OutKept a = Keeps a.out_before a.out_after × (a.out_failed ≡ false)
 
--- what was written to `out` is what the subcommand gives for as many bytes as were read: the input, where the reader tells it
+-- clap takes the words, and the subcommand was given its input
+abbrev pub IsGiven : Attempt → (bytes : List ℕ) → Type 0
+IsGiven a bytes = (a.taken ≡ true) × IsInput (reads_input a.subcommand) a.reading bytes
+
+-- what was written to `out` is what the subcommand gives for its input
 abbrev pub IsPlayed : Attempt → (status : ℕ) → Type 0
-IsPlayed a status = (bytes text : List ℕ) × (length bytes ≡ a.reading.bytes) × IfSome a.reading.input (λ input. bytes ≡ input) × Does a.subcommand bytes text status × Appends a.out_before a.out_after text
+IsPlayed a status = (bytes text : List ℕ) × IsGiven a bytes × Does a.subcommand bytes text status × Appends a.out_before a.out_after text × (a.out_failed ≡ false)
+
+-- the subcommand was given its input, and a write to `out` failed
+abbrev pub IsUnsaid : Attempt → Type 0
+IsUnsaid a = (bytes : List ℕ) × IsGiven a bytes × (a.out_failed ≡ true)
 
 -- clap refuses the words, and nothing was read
 abbrev pub IsRefused : Attempt → Type 0
 IsRefused a = (a.taken ≡ false) × (a.reading.reads ≡ 0)
 
--- clap takes the words, and the input can't be read whole
+-- clap takes the words, the subcommand reads an input, and that can't be read whole
 abbrev pub IsUnread : Attempt → Type 0
-IsUnread a = (a.taken ≡ true) × IsReadFault a.reading
+IsUnread a = (a.taken ≡ true) × (reads_input a.subcommand ≡ true) × IsReadFault a.reading
 
--- memory may run out here: the input isn't read whole yet and can still be, and nothing was read where clap refuses the words
+-- memory may run out here: the input isn't read whole yet and can still be, and nothing was read where clap refuses the words, or the subcommand reads no input
 abbrev pub MayStop : Attempt → Type 0
-MayStop a = IsPart a.reading × (a.taken ≡ false → a.reading.reads ≡ 0)
+MayStop a = IsPart a.reading × (a.taken ≡ false → a.reading.reads ≡ 0) × (reads_input a.subcommand ≡ false → a.reading.reads ≡ 0)
 
 -- how an attempt ends, fault by fault
 abbrev pub Ended : Result ℕ Fault → Attempt → Type 0
-Ended (Ok status) a = (a.taken ≡ true) × IsWhole a.reading × IsPlayed a status × (a.out_failed ≡ false)
+Ended (Ok status) a = IsPlayed a status
 Ended (Err (Words text)) a = IsRefused a × OutKept a
 Ended (Err Read) a = IsUnread a × OutKept a
 Ended (Err Memory) a = MayStop a × OutKept a
-Ended (Err Write) a = (a.taken ≡ true) × IsWhole a.reading × (a.out_failed ≡ true)
+Ended (Err Write) a = IsUnsaid a
 
 -- a whole run of the program: an attempt, the bytes of `err` before and after, whether a write to it failed, and the exit status
 pub record Run : Type 0 where
@@ -138,17 +170,17 @@ ErrKept r = Keeps r.err_before r.err_after × (r.err_failed ≡ false)
 
 -- how a run goes
 pub data Goes (r : Run) : Type 0 where
-  -- clap takes the words, the input is read whole, and what is written is what the script gives
-  played : r.attempt.taken ≡ true → IsWhole r.attempt.reading → IsPlayed r.attempt r.status → r.attempt.out_failed ≡ false → ErrKept r → Goes r
+  -- clap takes the words, the subcommand is given its input, and what is written is what it gives for that
+  played : IsPlayed r.attempt r.status → ErrKept r → Goes r
   -- clap refuses the words, nothing is read, and its text stands on `err`
   refused : (text : List ℕ) → IsRefused r.attempt → OutKept r.attempt → Appends r.err_before r.err_after text → r.err_failed ≡ false → r.status ≡ 2 → Goes r
   -- the input can't be read whole
   unread : IsUnread r.attempt → OutKept r.attempt → Appends r.err_before r.err_after (codes "read fault\n") → r.err_failed ≡ false → r.status ≡ 1 → Goes r
-  -- memory runs out before the script's run
+  -- memory runs out before the subcommand's run
   stopped : MayStop r.attempt → Appends r.attempt.out_before r.attempt.out_after (codes "memory\n") → r.attempt.out_failed ≡ false → ErrKept r → r.status ≡ 1 → Goes r
-  -- clap takes the words, the input is read whole, a write to `out` fails, and nothing is written to `err`
-  played_unsaid : r.attempt.taken ≡ true → IsWhole r.attempt.reading → r.attempt.out_failed ≡ true → ErrKept r → r.status ≡ 1 → Goes r
-  -- memory runs out before the script's run, the write of that to `out` fails, and nothing is written to `err`
+  -- clap takes the words, the subcommand is given its input, a write to `out` fails, and nothing is written to `err`
+  played_unsaid : IsUnsaid r.attempt → ErrKept r → r.status ≡ 1 → Goes r
+  -- memory runs out before the subcommand's run, the write of that to `out` fails, and nothing is written to `err`
   stopped_unsaid : MayStop r.attempt → r.attempt.out_failed ≡ true → ErrKept r → r.status ≡ 1 → Goes r
   -- clap refuses the words, nothing is read, the write of its text to `err` fails, and nothing is written to `out`
   refused_unsaid : IsRefused r.attempt → r.err_failed ≡ true → OutKept r.attempt → r.status ≡ 1 → Goes r

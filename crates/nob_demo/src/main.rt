@@ -27,6 +27,7 @@ fn main(rt: HostRuntime) -> ExitCode {
         Err(_) => return ExitCode::from(run::said(&mut out, b"memory\n", 1)),
     };
     let status = run::run(
+        &rt,
         alloc,
         words.as_slice(),
         &mut Source::new(rt.stdin()),

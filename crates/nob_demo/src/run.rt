@@ -1,9 +1,9 @@
 //! What the program does.
 
-ghost use Rattle.std.specs.Prelude.{◌≡◌, ◌++◌, [], ℕ, true, false, map, not, IsOk, IsErr};
+ghost use Rattle.std.specs.Prelude.{◌≡◌, ◌++◌, [], ℕ, true, false, map, not, IsOk, IsErr, IfOk, IfErr};
 ghost use Rattle.std.specs.Io.KnownBytes.{Appends};
 ghost use Rattle.nob_demo_words.specs.Words.{subcommand_in, word_faults, takes_words};
-ghost use Rattle.nob_demo.specs.Program.{Ended, Does, Goes, status_of, world_status_of, check_status_of};
+ghost use Rattle.nob_demo.specs.Program.{Ended, Does, Goes, IsInput, IsReadingFault, reads_input, status_of, world_status_of, check_status_of, scene_status_of};
 
 use crate::reading::read_all;
 use crate::streams::{Sink, Source};
@@ -14,12 +14,16 @@ use nob_script_text::Ending;
 use std::alloc::Global;
 use std::convert::AsStr;
 use std::io::{Read, Write};
+use std::sync::Wait;
+use std::thread::Threads;
 
 /// Runs the program on the words of its command line, the first of which is its name: the exit
 /// status. All is written to `out` but clap's text and the line `read fault`, which go to `err`.
-/// Status 0: the last line says yes; 1: it doesn't, or a read, a write or memory failed; 2: the
-/// words are refused.
-pub fn run<S: AsStr, R: Read, W: Write, E: Write>(
+/// Status 0: the last line says yes, or a scene's traces are printed; 1: neither, or a read, a
+/// write or memory failed; 2: the words are refused. A scene reads nothing, and its spaces run in
+/// threads.
+pub fn run<H: Threads + Wait + Sync, S: AsStr, R: Read, W: Write, E: Write>(
+    rt: &H,
     alloc: Global,
     words: &[S],
     reader: &mut Source<R>,
@@ -52,7 +56,7 @@ pub fn run<S: AsStr, R: Read, W: Write, E: Write>(
       status = result;
     }) }
 {
-    match attempt(alloc, words, reader, out) {
+    match attempt(rt, alloc, words, reader, out) {
         Ok(status) => status,
         Err(Fault::Words(text)) => said(err, text.as_bytes(), 2),
         Err(Fault::Read) => said(err, b"read fault\n", 1),
@@ -62,7 +66,8 @@ pub fn run<S: AsStr, R: Read, W: Write, E: Write>(
 }
 
 // Runs as far as no fault comes.
-fn attempt<S: AsStr, R: Read, W: Write>(
+fn attempt<H: Threads + Wait + Sync, S: AsStr, R: Read, W: Write>(
+    rt: &H,
     alloc: Global,
     words: &[S],
     reader: &mut Source<R>,
@@ -88,9 +93,9 @@ fn attempt<S: AsStr, R: Read, W: Write>(
     }) }
 {
     let subcommand = judge(alloc, words)?;
-    let input = read_all(alloc, reader)?;
+    let input = input_of(alloc, &subcommand, reader)?;
     let mut text = Vec::new(alloc);
-    let (last_line, status) = play(alloc, subcommand, &input, &mut text);
+    let (last_line, status) = play(rt, alloc, subcommand, &input, &mut text);
     let Ok(()) = out.write_all(&text) else {
         return Err(Fault::Write);
     };
@@ -100,9 +105,44 @@ fn attempt<S: AsStr, R: Read, W: Write>(
     Ok(status)
 }
 
-// Writes what a subcommand gives for an input onto an empty text, save its last line: that line, and
-// the status that the run ends with.
-fn play(
+// The input of a subcommand: the whole of it, or nothing where the subcommand reads none.
+fn input_of<R: Read>(
+    alloc: Global,
+    subcommand: &Subcommand,
+    source: &mut Source<R>,
+) -> Result<Vec<u8>, Fault>
+    requires { (source.old.reads ≡ 0) × (source.old.bytes ≡ 0) × (source.old.failed ≡ false)
+        × (source.old.ended ≡ false) }
+    ensures input { IfOk result (λ input. IsInput (reads_input subcommand.now) (record {
+      input = R.remaining source.old.reader;
+      rest = R.remaining source.new.reader;
+      reads = source.new.reads;
+      bytes = source.new.bytes;
+      failed = source.new.failed;
+      ended = source.new.ended;
+    }) input.items) }
+    ensures fault { IfErr result (λ fault. (reads_input subcommand.now ≡ true)
+        × IsReadingFault fault (record {
+          input = R.remaining source.old.reader;
+          rest = R.remaining source.new.reader;
+          reads = source.new.reads;
+          bytes = source.new.bytes;
+          failed = source.new.failed;
+          ended = source.new.ended;
+        })) }
+{
+    match subcommand {
+        Subcommand::Pair => read_all(alloc, source),
+        Subcommand::Script => read_all(alloc, source),
+        Subcommand::Check => read_all(alloc, source),
+        Subcommand::Spaces(_) => Ok(Vec::new(alloc)),
+    }
+}
+
+// Writes what a subcommand gives for an input onto an empty text, save its last line: that line,
+// and the status that the run ends with.
+fn play<H: Threads + Wait + Sync>(
+    rt: &H,
     alloc: Global,
     subcommand: Subcommand,
     input: &[u8],
@@ -124,6 +164,23 @@ fn play(
             let ending = nob_demo_check::play(alloc, input, text);
             (ending.last_line(), check_status_of(ending))
         }
+        Subcommand::Spaces(scene) => {
+            let ending = nob_demo_spaces::play(rt, alloc, scene, text);
+            (ending.last_line(), scene_status_of(ending))
+        }
+    }
+}
+
+// The status that the play of a scene ends with.
+fn scene_status_of(ending: nob_demo_scenes::Ending) -> u8
+    ensures { result ≡ scene_status_of ending }
+{
+    match ending {
+        nob_demo_scenes::Ending::Accepted => 0,
+        nob_demo_scenes::Ending::Refused => 1,
+        nob_demo_scenes::Ending::Printed => 0,
+        nob_demo_scenes::Ending::Full => 1,
+        nob_demo_scenes::Ending::OutOfMemory => 1,
     }
 }
 

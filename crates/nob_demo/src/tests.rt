@@ -5,13 +5,16 @@ use crate::streams::{Sink, Source};
 use std::alloc::Global;
 use std::io;
 use std::io::{Read, Write};
+use std::sync::Wait;
 use std::test::Fail;
+use std::thread::Threads;
 
 // Runs a pair script: the status and what is written.
-fn pair(alloc: Global, script: &[u8]) -> (u8, Vec<u8>, Vec<u8>) {
+fn pair<H: Threads + Wait + Sync>(rt: &H, alloc: Global, script: &[u8]) -> (u8, Vec<u8>, Vec<u8>) {
     let mut out = Vec::new(alloc);
     let mut err = Vec::new(alloc);
     let status = run(
+        rt,
         alloc,
         &["nobj", "pair"],
         &mut Source::new(script),
@@ -57,6 +60,7 @@ fn each_read_fails(rt: HostRuntime) -> Result<(), Fail> {
             before,
         };
         let status = run(
+            &rt,
             rt.alloc(),
             &["nobj"],
             &mut Source::new(frail),
@@ -82,6 +86,7 @@ fn a_write_fails(rt: HostRuntime) -> Result<(), Fail> {
         let mut room = [0u8; 300];
         let mut err = Vec::new(rt.alloc());
         let status = run(
+            &rt,
             rt.alloc(),
             &["nobj", "pair"],
             &mut Source::new(FIRST_FRAME_LOST),
@@ -121,7 +126,7 @@ impl<'a> Write for FrailOut<'a> {
 
 #[test]
 fn one_write_fails(rt: HostRuntime) -> Result<(), Fail> {
-    let (_status, whole, _err) = pair(rt.alloc(), FIRST_FRAME_LOST);
+    let (_status, whole, _err) = pair(&rt, rt.alloc(), FIRST_FRAME_LOST);
     for before in 0..120u32 {
         let mut out = Vec::new(rt.alloc());
         let mut err = Vec::new(rt.alloc());
@@ -130,6 +135,7 @@ fn one_write_fails(rt: HostRuntime) -> Result<(), Fail> {
             before,
         };
         let status = run(
+            &rt,
             rt.alloc(),
             &["nobj"],
             &mut Source::new(FIRST_FRAME_LOST),

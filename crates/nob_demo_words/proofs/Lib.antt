@@ -1,2 +1,4 @@
 pub mod Faults
-pub mod Subcommands
+pub mod Readings
+pub mod Taken
+pub mod Within

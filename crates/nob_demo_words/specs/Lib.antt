@@ -1,1 +1,3 @@
+pub mod Options
+pub mod Scenes
 pub mod Words

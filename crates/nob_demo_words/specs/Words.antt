@@ -1,13 +1,14 @@
 -- The words that the program takes.
-use Rattle.std.specs.Prelude.{◌≡◌, ℕ, Bool, true, false, List, [], ◌∷◌, codes, Option, Some, None, option_map, if◌then◌else◌}
+use Rattle.std.specs.Prelude.{◌≡◌, ℕ, Bool, true, false, List, [], ◌∷◌, codes, Option, Some, None, if◌then◌else◌}
 use Rattle.std.specs.Str.{bytes_eq}
-use Rattle.clap.specs.Words.{App, with_subcommand, fault_of, subcommand_of}
+use Rattle.clap.specs.Words.{App, Row, Text, with_subcommand, fault_of, subcommand_of}
 use Rattle.clap.specs.Simple.{new_shape}
 use Rattle.clap.specs.Kinds.{Kinds}
+use Rattle.nob_demo_words.specs.Options.{spaces_shape, setting_in, AreWithin}
 use Rattle.nob_demo_words.specs.declared.fault.Fault.{Fault}
 use Rattle.nob_demo_words.specs.declared.fault.Fault.TheVariants.{Words, Read, Write, Memory}
 use Rattle.nob_demo_words.specs.declared.words.Subcommand.{Subcommand}
-use Rattle.nob_demo_words.specs.declared.words.Subcommand.TheVariants.{Pair, Script, Check}
+use Rattle.nob_demo_words.specs.declared.words.Subcommand.TheVariants.{Pair, Script, Check, Spaces}
 
 -- the command `nobj` with the subcommand `pair` alone, as clap sees it: it has a version
 abbrev pub nobj_with_pair : App
@@ -17,9 +18,13 @@ nobj_with_pair = with_subcommand (record { top = record (new_shape (codes "nobj"
 abbrev pub nobj_with_script : App
 nobj_with_script = with_subcommand nobj_with_pair (new_shape (codes "script"))
 
--- the command `nobj`: it has the subcommand `check` too
+-- the same command with the subcommand `check` too
+abbrev pub nobj_with_check : App
+nobj_with_check = with_subcommand nobj_with_script (new_shape (codes "check"))
+
+-- the command `nobj`: it has the subcommand `spaces` too, with its options
 abbrev pub nobj : App
-nobj = with_subcommand nobj_with_script (new_shape (codes "check"))
+nobj = with_subcommand nobj_with_check spaces_shape
 
 -- the kinds of error that clap may answer to these words, of which the first is the program's name: none where it takes them
 abbrev pub word_faults : List (List ℕ) → Kinds
@@ -30,14 +35,18 @@ abbrev pub takes_words : Kinds → Bool
 takes_words [] = true
 takes_words (k ∷ ks) = false
 
--- the subcommand of this name: `script`, `check`, or `pair`, which no name means too
-abbrev pub subcommand_by : Option (List ℕ) → Subcommand
+-- the subcommand of this name: `script`, `check`, `spaces`, of whose options clap found these rows, or `pair`
+abbrev pub subcommand_named : (name : Text) → List Row → Subcommand
+subcommand_named name rows = if bytes_eq name (codes "script") then Script else (if bytes_eq name (codes "check") then Check else (if bytes_eq name (codes "spaces") then Spaces (setting_in rows) else Pair))
+
+-- the subcommand that clap met, with the rows of its options: `pair` where it met none
+abbrev pub subcommand_by : Option (Text × List Row) → Subcommand
 subcommand_by None = Pair
-subcommand_by (Some name) = if bytes_eq name (codes "script") then Script else (if bytes_eq name (codes "check") then Check else Pair)
+subcommand_by (Some met) = subcommand_named met.0 met.1
 
 -- what these words run, where clap takes them
 abbrev pub subcommand_in : List (List ℕ) → Subcommand
-subcommand_in words = subcommand_by (option_map (λ subcommand. subcommand.0) (subcommand_of nobj words))
+subcommand_in words = subcommand_by (subcommand_of nobj words)
 
 -- why the words aren't taken: clap refuses them, or memory ran out
 abbrev pub IsWordsFault : Fault → (taken : Bool) → Type 0
@@ -45,3 +54,7 @@ IsWordsFault (Words text) taken = taken ≡ false
 IsWordsFault Read taken = ⊥
 IsWordsFault Memory taken = Unit {0}
 IsWordsFault Write taken = ⊥
+
+-- where clap takes words that name `spaces`, the numbers of its options are in range
+abbrev pub TakenAreWithin : Type 0
+TakenAreWithin = (words : List (List ℕ)) (rows : List Row) → takes_words (word_faults words) ≡ true → subcommand_of nobj words ≡ Some (codes "spaces", rows) → AreWithin rows

@@ -2,7 +2,11 @@
 #![tactic(auto)]
 
 mod fault;
+pub mod laws;
+mod options;
+mod scene;
 mod words;
 
 pub use fault::Fault;
+pub use scene::Scene;
 pub use words::{Subcommand, judge};

@@ -1,11 +1,13 @@
 //! The words of the command line.
 
-ghost use Rattle.std.specs.Prelude.{◌≡◌, ℕ, true, false, List, map, IfOk, IfErr, OnOk};
-ghost use Rattle.clap.specs.Words.{app_of, FailsBy};
-ghost use Rattle.clap.specs.Words.{subcommand_name_of};
-ghost use Rattle.nob_demo_words.specs.Words.{nobj, nobj_with_pair, nobj_with_script, subcommand_by, subcommand_in, word_faults, takes_words, IsWordsFault};
+ghost use Rattle.std.specs.Prelude.{◌≡◌, ℕ, true, false, codes, List, map, IfOk, IfErr, OnOk, Option, Some};
+ghost use Rattle.clap.specs.Words.{app_of, found_of, rows_of, subcommand_rows_of, FailsBy, Row};
+ghost use Rattle.nob_demo_words.specs.Options.{AreWithin};
+ghost use Rattle.nob_demo_words.specs.Words.{nobj, nobj_with_check, nobj_with_pair, nobj_with_script, subcommand_by, subcommand_in, subcommand_named, word_faults, takes_words, IsWordsFault};
 
 use crate::fault::Fault;
+use crate::options::{scene_in, with_options};
+use crate::scene::Scene;
 use clap::error::ErrorKind;
 use clap::{ArgMatches, Command, Error};
 use std::alloc::{AllocError, Global};
@@ -112,6 +114,24 @@ Traces, and what is written for them:
 
 Example: nobj check < examples/spaces/check/three-traces-accepted.traces";
 
+const SPACES_HELP: &str = "\
+N spaces run in threads of this process, each with W workers. Space 1 exports a
+counter under the name `counter`. Every other space looks it up at space 1 and
+calls it in turn, K calls in all, over links that lose L frames of ten; X is
+where their chances start.
+
+What is written:
+
+  calls K      so many calls were answered
+  total T      the greatest total that the counter answered
+  check yes    the traces of all spaces are together a run of a world
+
+or one line: `full`, where a trace was full, or `memory`, where there was none.
+With --traces the traces are written in place of these lines, for nobj check:
+it says `merged ..` and `verdict yes`.
+
+Example: nobj spaces --spaces 4 --loss 3 --traces | nobj check";
+
 /// What the words run.
 #[derive(Clone, Copy, Debug, PartialEq, Eq)]
 pub enum Subcommand {
@@ -121,11 +141,14 @@ pub enum Subcommand {
     Script,
     /// Traces of spaces are checked.
     Check,
+    /// A scene of spaces is played.
+    Spaces(Scene),
 }
 
 /// Judges the words, of which the first is the program's name: `script` runs a script of a world,
-/// `check` checks traces, `pair`, or no further word, runs a script of a pair. Anything else is
-/// refused with clap's text.
+/// `check` checks traces, `spaces` plays the scene that its options say, `pair`, or no further
+/// word, runs a script of a pair. Anything else is refused with clap's text, and so is a number of
+/// a scene that is none, or out of its range.
 pub fn judge<S: AsStr>(alloc: Global, words: &[S]) -> Result<Subcommand, Fault>
     ensures taken { OnOk result (takes_words (word_faults (map S.text words.now)) ≡ true) }
     ensures subcommand { IfOk result (λ subcommand.
@@ -154,25 +177,47 @@ fn matched<S: AsStr>(alloc: Global, words: &[S]) -> Result<Subcommand, Error>
 
 // What the subcommand runs that was met.
 fn met_in<'a>(matches: &ArgMatches<'a>) -> Subcommand
-    ensures { result ≡ subcommand_by (subcommand_name_of matches.now) }
+    requires { (rows : List Row) → subcommand_rows_of matches.now ≡ Some (codes "spaces", rows)
+        → AreWithin rows }
+    ensures { result ≡ subcommand_by (subcommand_rows_of matches.now) }
 {
-    match matches.subcommand_name() {
+    match matches.subcommand() {
         None => Subcommand::Pair,
-        Some(name) => {
-            if name == "script" {
-                Subcommand::Script
-            } else if name == "check" {
-                Subcommand::Check
-            } else {
-                Subcommand::Pair
-            }
-        }
+        Some((name, options)) => named(name, options),
+    }
+}
+
+// What the subcommand of this name runs, with its options.
+fn named<'a>(name: &str, options: &ArgMatches<'a>) -> Subcommand
+    requires { name.now ≡ codes "spaces" → AreWithin (rows_of (found_of options.now)) }
+    ensures { result ≡ subcommand_named name.now (rows_of (found_of options.now)) }
+{
+    if name == "script" {
+        Subcommand::Script
+    } else if name == "check" {
+        Subcommand::Check
+    } else if name == "spaces" {
+        Subcommand::Spaces(scene_in(options))
+    } else {
+        Subcommand::Pair
     }
 }
 
 // The command with all subcommands.
 fn command<'a>(alloc: Global) -> Result<Command<'a>, AllocError>
     ensures { IfOk result (λ command. app_of command ≡ nobj) }
+{
+    let spaces = Command::new(alloc, "spaces")
+        .about("Plays a scene of spaces in threads, and checks what they did")
+        .after_help(SPACES_HELP);
+    let spaces = with_options(alloc, spaces)?;
+    let command = command_with_check(alloc)?;
+    command.subcommand(spaces)
+}
+
+// The command with the subcommands `pair`, `script` and `check`.
+fn command_with_check<'a>(alloc: Global) -> Result<Command<'a>, AllocError>
+    ensures { IfOk result (λ command. app_of command ≡ nobj_with_check) }
 {
     let check = Command::new(alloc, "check")
         .about("Checks traces of spaces, read from standard input")

@@ -1,12 +1,11 @@
 use Rattle.std.proofs.Common.{ℕ, List, ◌++◌, subst, sym}
 use Rattle.nob_demo_words.specs.declared.words.Subcommand.{Subcommand}
-use Rattle.nob_demo_words.specs.declared.words.Subcommand.TheVariants.{Check}
 use Rattle.nob_demo_check.specs.Checks as checks
 use Rattle.nob_demo.specs.Program.{Does}
 use Rattle.nob_demo.proofs.run.play.Goals as goal
 
 pub returns-in-Check : goal.returns-in-Check
-returns-in-Check c =
+returns-in-Check g c =
     let ending = c.play-ending-in-Check.result in
     let before = c.play-ending-in-Check.new.text.items in
     let said = subst (λ (last : List ℕ). checks.Checks c.args.input.now (before ++ last) ending) (sym c.last_line-in-Check.ensures) c.play-ending-in-Check.ensures in

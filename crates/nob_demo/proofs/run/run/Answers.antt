@@ -7,7 +7,7 @@ use Rattle.nob_demo.proofs.Endings.{refused_goes, unread_goes, stopped_goes}
 use Rattle.nob_demo.proofs.run.run.Goals as goal
 
 pub returns-in-Ok : goal.returns-in-Ok
-returns-in-Ok g c = let e = c.in-Ok.ensures.ended in record { goes = Goes.played e.0 e.1 e.2 e.3 (keeps_same _, c.requires.err) }
+returns-in-Ok g c = let e = c.in-Ok.ensures.ended in record { goes = Goes.played e (keeps_same _, c.requires.err) }
 
 pub returns-in-Err-Words : goal.returns-in-Err-Words
 returns-in-Err-Words g c =

@@ -1,0 +1,79 @@
+//! The scene.
+
+ghost use Rattle.std.specs.Prelude.{◌≡◌, ◌++◌, []};
+ghost use Rattle.nob_demo_scenes.specs.Lines.{last_line};
+ghost use Rattle.nob_demo_scenes.specs.Endings.{Plays};
+
+use crate::meeting::Meeting;
+use crate::places::{Place, Played, places_of};
+use nob_demo_scenes::{Ending, Stop, Tally, graver, say};
+use nob_demo_words::Scene;
+use nob_trace::Trace;
+use std::alloc::Global;
+use std::sync::Wait;
+use std::thread::{self, Threads};
+
+/// Plays a scene, and writes onto an empty text what came of it: the three lines, or the traces;
+/// and how it ended, whose last line is still to follow. It makes a thread for each space, and each
+/// of these makes those of its node.
+pub fn play<R: Threads + Wait + Sync>(
+    rt: &R,
+    alloc: Global,
+    scene: Scene,
+    text: &mut Vec<u8>,
+) -> Ending
+    requires { text.old.items ≡ [] }
+    ensures { Plays scene (text.new.items ++ last_line result) result }
+{
+    let Some(places) = places_of(alloc, scene) else {
+        return Ending::OutOfMemory;
+    };
+    run_all(rt, places.as_slice());
+    say_of(alloc, scene, places, text)
+}
+
+// Runs all nodes, a thread each.
+fn run_all<R: Threads + Wait + Sync>(rt: &R, places: &[Place]) {
+    let meeting = Meeting::new();
+    let shared = &meeting;
+    thread::scope(thread::scope_env(), rt, |scope| {
+        for place in places {
+            if scope.spawn(move || place.play(rt, shared)).is_err() {
+                place.stay_away(rt, shared);
+            }
+        }
+    });
+}
+
+// Writes what is said of places whose nodes have ended.
+fn say_of(alloc: Global, scene: Scene, places: Vec<Place>, text: &mut Vec<u8>) -> Ending
+    requires { text.old.items ≡ [] }
+    ensures { Plays scene (text.new.items ++ last_line result) result }
+{
+    let mut traces = Vec::new(alloc);
+    let (stop, tally) = summed(places, &mut traces);
+    say(alloc, scene, stop, tally, traces.as_slice(), text)
+}
+
+// Why the scene stops, if a space stopped or there is no memory for the traces, and what callers
+// counted.
+fn summed(places: Vec<Place>, traces: &mut Vec<Trace>) -> (Option<Stop>, Tally) {
+    let mut stop = None;
+    let mut tally = Tally::new();
+    for place in places {
+        match kept(place.into_left(), traces) {
+            Ok(counted) => tally = tally.with_tally(counted),
+            Err(reason) => stop = Some(graver(reason, stop)),
+        }
+    }
+    (stop, tally)
+}
+
+// What the callers of a space counted, whose trace is kept.
+fn kept(left: Result<Played, Stop>, traces: &mut Vec<Trace>) -> Result<Tally, Stop> {
+    let Played { tally, trace } = left?;
+    match traces.push(trace) {
+        Ok(()) => Ok(tally),
+        Err(_) => Err(Stop::OutOfMemory),
+    }
+}
