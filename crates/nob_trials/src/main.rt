@@ -6,15 +6,14 @@
 mod ending;
 mod facts;
 mod steps;
-mod words;
 
 use crate::ending::end;
 use crate::facts::Facts;
 use crate::steps::random_step;
-use crate::words::Words;
 use nob_check::judge;
 use nob_ids::Limits;
 use nob_model_journal::{Promise, Verdict};
+use nob_random::Words;
 use nob_world::World;
 use std::alloc::{AllocError, Global};
 use std::io;

@@ -1,10 +1,10 @@
 //! Random steps.
 
 use crate::facts::Facts;
-use crate::words::Words;
 use nob_ids::{CallNo, JobNo, SpaceId, WireRep};
 use nob_model::{Event, Outcome, WorldStep};
 use nob_pickle::{Value, Values};
+use nob_random::Words;
 use std::alloc::{AllocError, Global};
 
 // So many of the last frames are delivered with preference.

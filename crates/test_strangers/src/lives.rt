@@ -1,0 +1,241 @@
+//! Short lives of one space among strangers: each answer must be the right one by the definitions.
+
+use crate::frames::{
+    change_one, random_payload, random_rep, random_space, random_value, reason_bytes, spelling_of,
+};
+use crate::seen::Happenings;
+use nob_frame::{Bytes, Frame, FrameError, FrameKind, decode};
+use nob_ids::{CallNo, JobNo, Limits, SpaceId, WireRep};
+use nob_model::{Answer, Entry, Event, Here, Outcome, Refusal, right};
+use nob_model_same::same_result;
+use nob_random::Words;
+use nob_space::{Space, SpaceError};
+use std::alloc::{AllocError, Global};
+
+// So many spaces there are; the first one isn't a stranger.
+const SPACES: u16 = 4;
+
+/// A space, what it was asked and answered, and what strangers know of it.
+pub struct Life {
+    alloc: Global,
+    here: Here,
+    limits: Limits,
+    space: Space,
+    // What it did, the newest first.
+    entries: Vec<Entry>,
+}
+
+impl Life {
+    /// The first space of some, which did nothing. Only memory fails it.
+    pub fn new(alloc: Global, id: SpaceId, limits: Limits) -> Result<Life, AllocError> {
+        let space = Space::new(alloc, id, SPACES, limits)?;
+        Ok(Life {
+            alloc,
+            here: Here {
+                space: id,
+                n: SPACES,
+            },
+            limits,
+            space,
+            entries: Vec::new(alloc),
+        })
+    }
+
+    /// Ends it.
+    pub fn end(self) {
+        let Life {
+            alloc: _,
+            here: _,
+            limits: _,
+            space,
+            entries: _entries,
+        } = self;
+        space.shut();
+    }
+
+    // Asks the space something: its answer, where it is the right one.
+    fn ask(&mut self, event: Event, seen: &mut Happenings) -> Result<bool, AllocError> {
+        let alloc = self.alloc;
+        let wanted = right::right(
+            alloc,
+            &self.here,
+            &self.limits,
+            self.entries.as_slice(),
+            &event,
+        )?;
+        let found = result_of(&mut self.space, &event)?;
+        if let Ok(answer) = &found {
+            seen.note_answer(answer)?;
+        }
+        let is_right = same_result(&found, &wanted);
+        let entry = Entry {
+            space: self.here.space,
+            event,
+            result: found,
+        };
+        self.entries.insert(0, entry)?;
+        Ok(is_right)
+    }
+
+    // How many items were accepted from a peer.
+    fn accepted(&self, peer: SpaceId) -> u64 {
+        let mut count: u64 = 0;
+        for entry in self.entries.iter() {
+            count = count.saturating_add(accepted_in(entry, peer));
+        }
+        count
+    }
+
+    /// A random frame comes, which may be altered: whether the space answers what is right. One
+    /// that `decode` refuses doesn't come. Only memory fails it.
+    pub fn frame_comes(
+        &mut self,
+        words: &mut Words,
+        seen: &mut Happenings,
+    ) -> Result<bool, AllocError> {
+        let alloc = self.alloc;
+        let Some(frame) = self.random_frame(words)? else {
+            return Ok(true);
+        };
+        let Some(mut bytes) = spelling_of(alloc, &frame)? else {
+            return Ok(true);
+        };
+        if words.below(3) == 0 {
+            change_one(&mut bytes, words);
+        }
+        match decode(alloc, bytes.as_slice()) {
+            Ok(frame) => self.ask(Event::Arrive(frame), seen),
+            Err(FrameError::Fault(fault)) => {
+                seen.note_fault(fault)?;
+                Ok(true)
+            }
+            Err(FrameError::OutOfMemory) => Err(AllocError),
+        }
+    }
+
+    // A frame from a stranger: the next item of its session mostly.
+    fn random_frame(&self, words: &mut Words) -> Result<Option<Frame>, AllocError> {
+        let Some(from) = random_space(words, SPACES) else {
+            return Ok(None);
+        };
+        let ack = if words.below(4) == 0 {
+            words.below(4).saturating_add(1)
+        } else {
+            1
+        };
+        let (kind, seq, payload) = match words.below(24) {
+            0 => (FrameKind::Ack, 0, Bytes::from_vec(Vec::new(self.alloc))),
+            1 => (FrameKind::Close, 0, reason_bytes(self.alloc, words)?),
+            _ => {
+                let seq = self.random_seq(words, from);
+                let payload = random_payload(self.alloc, words, SPACES)?;
+                (FrameKind::Data, seq, payload)
+            }
+        };
+        Ok(Some(Frame {
+            kind,
+            from,
+            to: self.here.space,
+            seq,
+            ack,
+            payload,
+        }))
+    }
+
+    // The number of the next item of a stranger mostly.
+    fn random_seq(&self, words: &mut Words, from: SpaceId) -> u64 {
+        if words.below(8) == 0 {
+            words.below(6).saturating_add(1)
+        } else {
+            self.accepted(from).saturating_add(1)
+        }
+    }
+
+    /// The space acts on an item of a stranger, or does something else: whether it answers what is
+    /// right. Only memory fails it.
+    pub fn does(&mut self, words: &mut Words, seen: &mut Happenings) -> Result<bool, AllocError> {
+        let Some(peer) = random_space(words, SPACES) else {
+            return Ok(true);
+        };
+        let Some(rep) = random_rep(words, SPACES) else {
+            return Ok(true);
+        };
+        let event = random_event(self.alloc, words, peer, rep)?;
+        self.ask(event, seen)
+    }
+}
+
+// How many items were accepted from a peer by an entry.
+fn accepted_in(entry: &Entry, peer: SpaceId) -> u64 {
+    let Event::Arrive(frame) = &entry.event else {
+        return 0;
+    };
+    if frame.from != peer {
+        return 0;
+    }
+    match &entry.result {
+        Ok(Answer::Took(count)) => *count,
+        Ok(_) => 0,
+        Err(_) => 0,
+    }
+}
+
+// What a space answers.
+fn result_of(space: &mut Space, event: &Event) -> Result<Result<Answer, Refusal>, AllocError> {
+    match space.step(event) {
+        Ok(answer) => Ok(Ok(answer)),
+        Err(SpaceError::Refused(refusal)) => Ok(Err(refusal)),
+        Err(SpaceError::OutOfMemory) => Err(AllocError),
+    }
+}
+
+// What a space is asked.
+fn random_event(
+    alloc: Global,
+    words: &mut Words,
+    peer: SpaceId,
+    rep: WireRep,
+) -> Result<Event, AllocError> {
+    let number = words.below(3).saturating_add(1);
+    Ok(match words.below(32) {
+        0..=13 => Event::Act(peer),
+        14..=15 => Event::Export,
+        16 => Event::Dup(rep),
+        17 => Event::Release(rep),
+        18..=19 => Event::Call {
+            target: WireRep {
+                owner: peer,
+                index: 0,
+            },
+            method: 1,
+            value: random_value(alloc, words, SPACES)?,
+        },
+        20 => Event::TakeReply(CallNo::new(number)),
+        21..=22 => Event::Claim,
+        23 => random_finish(alloc, words, JobNo::new(number))?,
+        24..=25 => Event::Settle,
+        26 => Event::Clean,
+        27 => Event::Withdraw(rep.index),
+        28..=30 => Event::Transmit(peer),
+        _ => random_end(words, peer),
+    })
+}
+
+// A tick, or seldom a close, of the session with a peer.
+fn random_end(words: &mut Words, peer: SpaceId) -> Event {
+    if words.below(8) == 0 {
+        Event::Close(peer)
+    } else {
+        Event::Tick(peer)
+    }
+}
+
+// The end of a job.
+fn random_finish(alloc: Global, words: &mut Words, job: JobNo) -> Result<Event, AllocError> {
+    let outcome = match words.below(3) {
+        0 => Outcome::NoMethod,
+        1 => Outcome::Fault(random_value(alloc, words, SPACES)?),
+        _ => Outcome::Answer(random_value(alloc, words, SPACES)?),
+    };
+    Ok(Event::Finish(job, outcome))
+}
