@@ -37,8 +37,12 @@ struct Outcome {
 // What is said of all runs of a script.
 #[derive(Clone, Copy)]
 struct Tally {
+    // How many there are.
     runs: u64,
+    // How many are as they should be.
     right: u64,
+    // In how many the session was open before the close.
+    cut: u64,
 }
 
 fn main(rt: HostRuntime) -> ExitCode {
@@ -67,24 +71,28 @@ fn run(rt: &HostRuntime) -> io::Result<()> {
     let tally = closes_at_all(rt, &script, steps)?;
     let runs = tally.runs;
     let right = tally.right;
+    let cut = tally.cut;
     let text = format!(in alloc;
         "{right} of {runs} closes: verdict yes, quiet after {ROUNDS} rounds, each space shut"
     )?;
+    rt.println(text.as_str())?;
+    let text = format!(in alloc; "{cut} of them closed a session that was open")?;
     rt.println(text.as_str())
 }
 
 // Makes the runs of a script of so many steps with a close, and writes which aren't as they should
 // be.
 fn closes_at_all(rt: &HostRuntime, script: &Script, steps: usize) -> io::Result<Tally> {
-    let mut tally = Tally { runs: 0, right: 0 };
+    let mut tally = Tally {
+        runs: 0,
+        right: 0,
+        cut: 0,
+    };
     for place in 0..=steps {
         for space in 0..script.n.get() {
             for peer in 0..script.n.get() {
                 if let Some(cut) = cut_of(place, space, peer) {
-                    tally.runs = tally.runs.saturating_add(1);
-                    if is_right(rt, script, cut)? {
-                        tally.right = tally.right.saturating_add(1);
-                    }
+                    try_cut(rt, script, cut, &mut tally)?;
                 }
             }
         }
@@ -102,18 +110,21 @@ fn cut_of(place: usize, space: u16, peer: u16) -> Option<Cut> {
     Some(Cut { place, space, peer })
 }
 
-// Whether a script with a close is as it should be; where it isn't, that is written.
-fn is_right(rt: &HostRuntime, script: &Script, cut: Cut) -> io::Result<bool> {
+// Makes a script with a close, counts it, and writes what isn't as it should be.
+fn try_cut(rt: &HostRuntime, script: &Script, cut: Cut, tally: &mut Tally) -> io::Result<()> {
+    tally.runs = tally.runs.saturating_add(1);
     let Ok(outcome) = outcome_of(rt.alloc(), script, Some(cut)) else {
-        rt.println("memory")?;
-        return Ok(false);
+        return rt.println("memory");
     };
-    if outcome.is_cut && outcome.verdict == Verdict::Yes && outcome.is_quiet {
-        return Ok(true);
+    if outcome.is_cut {
+        tally.cut = tally.cut.saturating_add(1);
+    }
+    if outcome.verdict == Verdict::Yes && outcome.is_quiet {
+        tally.right = tally.right.saturating_add(1);
+        return Ok(());
     }
     let text = text_of(rt.alloc(), cut, &outcome)?;
-    rt.println(text.as_str())?;
-    Ok(false)
+    rt.println(text.as_str())
 }
 
 // What is wrong with a script with a close.
@@ -128,10 +139,9 @@ fn text_of(alloc: Global, cut: Cut, outcome: &Outcome) -> Result<String, AllocEr
     let place = cut.place;
     let space = cut.space.get();
     let peer = cut.peer.get();
-    let cut = outcome.is_cut;
-    let quiet = outcome.is_quiet;
+    let quiet = if outcome.is_quiet { "" } else { ", not quiet" };
     format!(in alloc;
-        "{space} closes with {peer} after {place} steps: {cut}, verdict {verdict}, quiet {quiet}"
+        "{space} closes with {peer} after {place} steps: verdict {verdict}{quiet}"
     )
 }
 

@@ -45,14 +45,17 @@ pub fn random_value(alloc: Global, words: &mut Words, n: u16) -> Result<Value, A
     };
     match words.below(4) {
         0 => Ok(Value::Int(7)),
-        1 => {
-            let mut values = Vec::new(alloc);
-            values.push(Value::Ref(rep))?;
-            values.push(Value::Ref(rep))?;
-            Ok(Value::List(Values::from_vec(values)))
-        }
+        1 => Ok(Value::List(twice(alloc, &rep)?)),
         _ => Ok(Value::Ref(rep)),
     }
+}
+
+// A reference, twice.
+fn twice(alloc: Global, rep: &WireRep) -> Result<Values, AllocError> {
+    let mut values = Vec::new(alloc);
+    values.push(Value::Ref(*rep))?;
+    values.push(Value::Ref(*rep))?;
+    Ok(Values::from_vec(values))
 }
 
 // An item with small numbers.

@@ -15,66 +15,54 @@ use std::alloc::{AllocError, Global};
 // So many spaces there are; the first one isn't a stranger.
 const SPACES: u16 = 4;
 
-/// A space, what it was asked and answered, and what strangers know of it.
+/// What a space among strangers did.
+#[derive(Drop)]
 pub struct Life {
     alloc: Global,
     here: Here,
     limits: Limits,
-    space: Space,
     // What it did, the newest first.
     entries: Vec<Entry>,
 }
 
+/// A new space among strangers. Only memory fails it.
+pub fn new_space(alloc: Global, id: SpaceId, limits: Limits) -> Result<Space, AllocError> {
+    Space::new(alloc, id, SPACES, limits)
+}
+
 impl Life {
-    /// The first space of some, which did nothing. Only memory fails it.
-    pub fn new(alloc: Global, id: SpaceId, limits: Limits) -> Result<Life, AllocError> {
-        let space = Space::new(alloc, id, SPACES, limits)?;
-        Ok(Life {
+    /// A space that did nothing.
+    pub fn new(alloc: Global, id: SpaceId, limits: Limits) -> Life {
+        Life {
             alloc,
             here: Here {
                 space: id,
                 n: SPACES,
             },
             limits,
-            space,
             entries: Vec::new(alloc),
-        })
-    }
-
-    /// Ends it.
-    pub fn end(self) {
-        let Life {
-            alloc: _,
-            here: _,
-            limits: _,
-            space,
-            entries: _entries,
-        } = self;
-        space.shut();
-    }
-
-    // Asks the space something: its answer, where it is the right one.
-    fn ask(&mut self, event: Event, seen: &mut Happenings) -> Result<bool, AllocError> {
-        let alloc = self.alloc;
-        let wanted = right::right(
-            alloc,
-            &self.here,
-            &self.limits,
-            self.entries.as_slice(),
-            &event,
-        )?;
-        let found = result_of(&mut self.space, &event)?;
-        if let Ok(answer) = &found {
-            seen.note_answer(answer)?;
         }
-        let is_right = same_result(&found, &wanted);
-        let entry = Entry {
-            space: self.here.space,
-            event,
-            result: found,
-        };
+    }
+
+    // Asks the space something: whether its answer is the right one.
+    fn ask(
+        &mut self,
+        space: &mut Space,
+        event: Event,
+        seen: &mut Happenings,
+    ) -> Result<bool, AllocError> {
+        let entry = entry_of(space, event)?;
+        let is_right = self.is_right(&entry)?;
+        note(seen, &entry)?;
         self.entries.insert(0, entry)?;
         Ok(is_right)
+    }
+
+    // Whether an entry's result is the right one after all before it.
+    fn is_right(&self, entry: &Entry) -> Result<bool, AllocError> {
+        let entries = self.entries.as_slice();
+        let wanted = right::right(self.alloc, &self.here, &self.limits, entries, &entry.event)?;
+        Ok(same_result(&entry.result, &wanted))
     }
 
     // How many items were accepted from a peer.
@@ -90,26 +78,16 @@ impl Life {
     /// that `decode` refuses doesn't come. Only memory fails it.
     pub fn frame_comes(
         &mut self,
+        space: &mut Space,
         words: &mut Words,
         seen: &mut Happenings,
     ) -> Result<bool, AllocError> {
-        let alloc = self.alloc;
         let Some(frame) = self.random_frame(words)? else {
             return Ok(true);
         };
-        let Some(mut bytes) = spelling_of(alloc, &frame)? else {
-            return Ok(true);
-        };
-        if words.below(3) == 0 {
-            change_one(&mut bytes, words);
-        }
-        match decode(alloc, bytes.as_slice()) {
-            Ok(frame) => self.ask(Event::Arrive(frame), seen),
-            Err(FrameError::Fault(fault)) => {
-                seen.note_fault(fault)?;
-                Ok(true)
-            }
-            Err(FrameError::OutOfMemory) => Err(AllocError),
+        match altered(self.alloc, &frame, words, seen)? {
+            Some(frame) => self.ask(space, Event::Arrive(frame), seen),
+            None => Ok(true),
         }
     }
 
@@ -153,7 +131,12 @@ impl Life {
 
     /// The space acts on an item of a stranger, or does something else: whether it answers what is
     /// right. Only memory fails it.
-    pub fn does(&mut self, words: &mut Words, seen: &mut Happenings) -> Result<bool, AllocError> {
+    pub fn does(
+        &mut self,
+        space: &mut Space,
+        words: &mut Words,
+        seen: &mut Happenings,
+    ) -> Result<bool, AllocError> {
         let Some(peer) = random_space(words, SPACES) else {
             return Ok(true);
         };
@@ -161,7 +144,7 @@ impl Life {
             return Ok(true);
         };
         let event = random_event(self.alloc, words, peer, rep)?;
-        self.ask(event, seen)
+        self.ask(space, event, seen)
     }
 }
 
@@ -180,12 +163,54 @@ fn accepted_in(entry: &Entry, peer: SpaceId) -> u64 {
     }
 }
 
+// What a frame becomes on its way, in one of three of which a byte is changed: none where nothing is
+// left that is a frame.
+fn altered(
+    alloc: Global,
+    frame: &Frame,
+    words: &mut Words,
+    seen: &mut Happenings,
+) -> Result<Option<Frame>, AllocError> {
+    let Some(mut bytes) = spelling_of(alloc, frame)? else {
+        return Ok(None);
+    };
+    if words.below(3) == 0 {
+        change_one(&mut bytes, words);
+    }
+    match decode(alloc, bytes.as_slice()) {
+        Ok(frame) => Ok(Some(frame)),
+        Err(FrameError::Fault(fault)) => {
+            seen.note_fault(fault)?;
+            Ok(None)
+        }
+        Err(FrameError::OutOfMemory) => Err(AllocError),
+    }
+}
+
+// What a space answers to an event, with the event.
+fn entry_of(space: &mut Space, event: Event) -> Result<Entry, AllocError> {
+    let result = result_of(space, &event)?;
+    Ok(Entry {
+        space: space.id(),
+        event,
+        result,
+    })
+}
+
 // What a space answers.
 fn result_of(space: &mut Space, event: &Event) -> Result<Result<Answer, Refusal>, AllocError> {
     match space.step(event) {
         Ok(answer) => Ok(Ok(answer)),
         Err(SpaceError::Refused(refusal)) => Ok(Err(refusal)),
         Err(SpaceError::OutOfMemory) => Err(AllocError),
+    }
+}
+
+// Notes what a space answered.
+fn note(seen: &mut Happenings, entry: &Entry) -> Result<(), AllocError> {
+    match &entry.result {
+        Ok(answer) => seen.note_answer(answer),
+        Err(_) => Ok(()),
     }
 }
 

@@ -8,12 +8,13 @@ mod lives;
 mod seen;
 mod streams;
 
-use crate::lives::Life;
+use crate::lives::{Life, new_space};
 use crate::seen::Happenings;
 use crate::streams::{changed_frames, frames_of, no_frames, try_stream};
 use nob_frame::FrameFault;
 use nob_ids::{Limits, SpaceId};
 use nob_random::Words;
+use nob_space::Space;
 use std::alloc::{AllocError, Global};
 use std::io;
 use std::process::ExitCode;
@@ -24,7 +25,7 @@ const LONG: usize = 100_000;
 // So many bytes a stream has in which one is changed, and so many of these there are.
 const SHORT: usize = 1_000;
 
-const CHANGED: u64 = 500;
+const CHANGED: u64 = 10_000;
 
 // So many frames come to spaces, and so many to one.
 const FRAMES: u64 = 100_000;
@@ -115,19 +116,25 @@ fn life_of(alloc: Global, seed: u64, seen: &mut Happenings) -> Result<u64, Alloc
     let Some(limits) = Limits::new(4, 3) else {
         return Ok(0);
     };
-    let mut life = Life::new(alloc, id, limits)?;
-    let right = frames_come(&mut life, seed, seen);
-    life.end();
+    let mut space = new_space(alloc, id, limits)?;
+    let mut life = Life::new(alloc, id, limits);
+    let right = frames_come(&mut space, &mut life, seed, seen);
+    space.shut();
     right
 }
 
-// The same in a new life.
-fn frames_come(life: &mut Life, seed: u64, seen: &mut Happenings) -> Result<u64, AllocError> {
+// The same with a new space and its life.
+fn frames_come(
+    space: &mut Space,
+    life: &mut Life,
+    seed: u64,
+    seen: &mut Happenings,
+) -> Result<u64, AllocError> {
     let mut words = Words::new(seed);
     let mut right: u64 = 0;
     for _ in 0..FRAMES_OF_A_LIFE {
-        let comes = life.frame_comes(&mut words, seen)?;
-        let does = life.does(&mut words, seen)?;
+        let comes = life.frame_comes(space, &mut words, seen)?;
+        let does = life.does(space, &mut words, seen)?;
         if comes && does {
             right = right.saturating_add(1);
         }

@@ -76,7 +76,10 @@ pub fn try_stream(alloc: Global, stream: &[u8], words: &mut Words) -> Result<Str
     let mut places = Places::new(alloc);
     let mut count = 0;
     let mut left = stream;
-    while !left.is_empty() {
+    for _ in 0..stream.len() {
+        if left.is_empty() {
+            break;
+        }
         let length = words.below(LONGEST).saturating_add(1) as usize;
         let (piece, rest) = left.split_at(length.min(left.len()));
         left = rest;
