@@ -6,7 +6,7 @@ ghost use Rattle.nob_pickle.specs.declared.value.Value.TheVariants as values;
 ghost use Rattle.nob_choices.specs.Choices as spec;
 
 use nob_ids::{SpaceId, WireRep};
-use nob_model::Outcome;
+use nob_model_types::Outcome;
 use nob_pickle::{Value, Values};
 use nob_random::Words;
 use std::alloc::{AllocError, Global};
@@ -85,7 +85,7 @@ pub fn random_value(
 {
     let word = words.below(5);
     if word == 0 {
-        return Ok(Value::Int(7));
+        return Ok(Value::Unit);
     }
     let first = random_object(words, objects);
     if word == 1 {
