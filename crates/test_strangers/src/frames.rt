@@ -81,6 +81,32 @@ fn random_item(alloc: Global, words: &mut Words, n: u16) -> Result<Item, AllocEr
     })
 }
 
+// An item that may well be in its place: a call of the agent with a reference of its sender's, the
+// grant of one, or the reply to the first call.
+fn good_item(words: &mut Words, from: SpaceId) -> Item {
+    let index = words.below(2).saturating_add(1);
+    match words.below(8) {
+        0..=4 => Item::Call {
+            call: CallNo::new(1),
+            target: 0,
+            method: 1,
+            value: Value::Ref(WireRep { owner: from, index }),
+        },
+        5..=6 => Item::DirtyOk(index),
+        _ => Item::Reply {
+            call: CallNo::new(1),
+            status: 0,
+            value: Value::Unit,
+        },
+    }
+}
+
+/// The bytes of an item that may well be in its place.
+pub fn good_payload(alloc: Global, words: &mut Words, from: SpaceId) -> Result<Bytes, AllocError> {
+    let item = good_item(words, from);
+    bytes_of(alloc, words, &item)
+}
+
 /// The bytes of an item; or of none, seldom.
 pub fn random_payload(alloc: Global, words: &mut Words, n: u16) -> Result<Bytes, AllocError> {
     if words.below(12) == 0 {
@@ -88,7 +114,12 @@ pub fn random_payload(alloc: Global, words: &mut Words, n: u16) -> Result<Bytes,
         return Ok(Bytes::from_vec(random_bytes(alloc, words, count)?));
     }
     let item = random_item(alloc, words, n)?;
-    match nob_item::encode(alloc, &item) {
+    bytes_of(alloc, words, &item)
+}
+
+// The bytes of an item; or others, where it has none.
+fn bytes_of(alloc: Global, words: &mut Words, item: &Item) -> Result<Bytes, AllocError> {
+    match nob_item::encode(alloc, item) {
         Ok(bytes) => Ok(Bytes::from_vec(bytes)),
         Err(ItemError::Fault(_)) => Ok(Bytes::from_vec(random_bytes(alloc, words, 9)?)),
         Err(ItemError::OutOfMemory) => Err(AllocError),

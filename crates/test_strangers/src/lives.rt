@@ -1,13 +1,15 @@
 //! Short lives of one space among strangers: each answer must be the right one by the definitions.
 
 use crate::frames::{
-    change_one, random_payload, random_rep, random_space, random_value, reason_bytes, spelling_of,
+    change_one, good_payload, random_payload, random_rep, random_space, random_value, reason_bytes,
+    spelling_of,
 };
 use crate::seen::Happenings;
 use nob_frame::{Bytes, Frame, FrameError, FrameKind, decode};
 use nob_ids::{CallNo, JobNo, Limits, SpaceId, WireRep};
 use nob_model::{Answer, Entry, Event, Here, Outcome, Refusal, right};
 use nob_model_same::same_result;
+use nob_pickle::Value;
 use nob_random::Words;
 use nob_space::{Space, SpaceError};
 use std::alloc::{AllocError, Global};
@@ -21,6 +23,10 @@ pub struct Life {
     alloc: Global,
     here: Here,
     limits: Limits,
+    // Whether its stranger sends what may well be in its place, and it is busy with that.
+    is_friendly: bool,
+    // So many of the spaces it has to do with.
+    reach: u16,
     // What it did, the newest first.
     entries: Vec<Entry>,
 }
@@ -32,7 +38,7 @@ pub fn new_space(alloc: Global, id: SpaceId, limits: Limits) -> Result<Space, Al
 
 impl Life {
     /// A space that did nothing.
-    pub fn new(alloc: Global, id: SpaceId, limits: Limits) -> Life {
+    pub fn new(alloc: Global, id: SpaceId, limits: Limits, is_friendly: bool) -> Life {
         Life {
             alloc,
             here: Here {
@@ -40,6 +46,8 @@ impl Life {
                 n: SPACES,
             },
             limits,
+            is_friendly,
+            reach: if is_friendly { 2 } else { SPACES },
             entries: Vec::new(alloc),
         }
     }
@@ -93,7 +101,7 @@ impl Life {
 
     // A frame from a stranger: the next item of its session mostly.
     fn random_frame(&self, words: &mut Words) -> Result<Option<Frame>, AllocError> {
-        let Some(from) = random_space(words, SPACES) else {
+        let Some(from) = random_space(words, self.reach) else {
             return Ok(None);
         };
         let ack = if words.below(4) == 0 {
@@ -106,8 +114,7 @@ impl Life {
             1 => (FrameKind::Close, 0, reason_bytes(self.alloc, words)?),
             _ => {
                 let seq = self.random_seq(words, from);
-                let payload = random_payload(self.alloc, words, SPACES)?;
-                (FrameKind::Data, seq, payload)
+                (FrameKind::Data, seq, self.payload(words, from)?)
             }
         };
         Ok(Some(Frame {
@@ -120,6 +127,14 @@ impl Life {
         }))
     }
 
+    // What a stranger's frame carries.
+    fn payload(&self, words: &mut Words, from: SpaceId) -> Result<Bytes, AllocError> {
+        if self.is_friendly {
+            return good_payload(self.alloc, words, from);
+        }
+        random_payload(self.alloc, words, SPACES)
+    }
+
     // The number of the next item of a stranger mostly.
     fn random_seq(&self, words: &mut Words, from: SpaceId) -> u64 {
         if words.below(8) == 0 {
@@ -129,20 +144,38 @@ impl Life {
         }
     }
 
-    /// The space acts on an item of a stranger, or does something else: whether it answers what is
-    /// right. Only memory fails it.
-    pub fn does(
+    /// The space acts on items of strangers, or does something else, before the next frame comes:
+    /// whether it answers what is right. Only memory fails it.
+    pub fn does_some(
         &mut self,
         space: &mut Space,
         words: &mut Words,
         seen: &mut Happenings,
     ) -> Result<bool, AllocError> {
-        let Some(peer) = random_space(words, SPACES) else {
+        let deeds = if self.is_friendly { 4 } else { 1 };
+        let mut are_right = true;
+        for _ in 0..deeds {
+            are_right = self.does(space, words, seen)? && are_right;
+        }
+        Ok(are_right)
+    }
+
+    // The space acts on an item of a stranger, or does something else.
+    fn does(
+        &mut self,
+        space: &mut Space,
+        words: &mut Words,
+        seen: &mut Happenings,
+    ) -> Result<bool, AllocError> {
+        let Some(peer) = random_space(words, self.reach) else {
             return Ok(true);
         };
         let Some(rep) = random_rep(words, SPACES) else {
             return Ok(true);
         };
+        if self.is_friendly {
+            return self.ask(space, busy_event(words, peer), seen);
+        }
         let event = random_event(self.alloc, words, peer, rep)?;
         self.ask(space, event, seen)
     }
@@ -244,6 +277,28 @@ fn random_event(
         28..=30 => Event::Transmit(peer),
         _ => random_end(words, peer),
     })
+}
+
+// What a space is asked that is busy with what came.
+fn busy_event(words: &mut Words, peer: SpaceId) -> Event {
+    match words.below(16) {
+        0..=4 => Event::Act(peer),
+        5 => Event::Settle,
+        6 => Event::Claim,
+        7 => Event::Finish(JobNo::new(1), Outcome::NoMethod),
+        8..=9 => Event::Clean,
+        10 => Event::Transmit(peer),
+        11 => Event::Call {
+            target: WireRep {
+                owner: peer,
+                index: 0,
+            },
+            method: 1,
+            value: Value::Unit,
+        },
+        12 => Event::TakeReply(CallNo::new(1)),
+        _ => Event::Tick(peer),
+    }
 }
 
 // A tick, or seldom a close, of the session with a peer.

@@ -27,9 +27,7 @@ const SHORT: usize = 1_000;
 
 const CHANGED: u64 = 10_000;
 
-// So many frames come to spaces, and so many to one.
-const FRAMES: u64 = 100_000;
-
+// So many frames come to one space.
 const FRAMES_OF_A_LIFE: u64 = 25;
 
 fn main(rt: HostRuntime) -> ExitCode {
@@ -39,21 +37,31 @@ fn main(rt: HostRuntime) -> ExitCode {
     }
 }
 
-// Tries all, and writes what is said of it.
+// Tries all, and writes what is said of it. How many frames come to spaces is read from standard
+// input.
 fn run(rt: &HostRuntime) -> io::Result<()> {
-    let alloc = rt.alloc();
     let mut words = Words::new(1);
     try_long(rt, &mut words)?;
     try_changed(rt, &mut words)?;
+    let mut frames = 0;
+    for line in rt.lines(rt.alloc()) {
+        frames = line?.as_str().parse::<u64>().unwrap_or(0);
+    }
+    try_lives(rt, frames)
+}
+
+// Lets so many frames come to spaces, and writes what is said of it.
+fn try_lives(rt: &HostRuntime, frames: u64) -> io::Result<()> {
+    let alloc = rt.alloc();
     let mut seen = Happenings::new(alloc);
     let mut right: u64 = 0;
-    for life in 0..FRAMES / FRAMES_OF_A_LIFE {
+    for life in 0..frames / FRAMES_OF_A_LIFE {
         match life_of(alloc, life, &mut seen) {
             Ok(count) => right = right.saturating_add(count),
             Err(AllocError) => return rt.println("memory"),
         }
     }
-    let text = format!(in alloc; "{right} of {FRAMES} frames: every answer the right one")?;
+    let text = format!(in alloc; "{right} of {frames} frames: every answer the right one")?;
     rt.println(text.as_str())?;
     let faults = seen.faults.count();
     let reasons = seen.reasons.count();
@@ -117,7 +125,7 @@ fn life_of(alloc: Global, seed: u64, seen: &mut Happenings) -> Result<u64, Alloc
         return Ok(0);
     };
     let mut space = new_space(alloc, id, limits)?;
-    let mut life = Life::new(alloc, id, limits);
+    let mut life = Life::new(alloc, id, limits, seed % 4 == 0);
     let right = frames_come(&mut space, &mut life, seed, seen);
     space.shut();
     right
@@ -134,7 +142,7 @@ fn frames_come(
     let mut right: u64 = 0;
     for _ in 0..FRAMES_OF_A_LIFE {
         let comes = life.frame_comes(space, &mut words, seen)?;
-        let does = life.does(space, &mut words, seen)?;
+        let does = life.does_some(space, &mut words, seen)?;
         if comes && does {
             right = right.saturating_add(1);
         }
