@@ -2,6 +2,8 @@
 //! act on it; then each space settles and gives up what it can.
 #![tactic(auto)]
 
+mod asking;
 mod rounds;
 
-pub use rounds::{MOST_REPEATS, answer_of, ask, bring, repeat, round};
+pub use asking::{MOST_REPEATS, ask, repeat};
+pub use rounds::{bring, deliver, round};

@@ -1,74 +1,80 @@
-//! Steps of a world, one after the other, until a space refuses.
+//! Rounds: what each space has to send is brought to the others, and then each settles and gives up
+//! what it can.
 
+ghost use Rattle.std.specs.Prelude.{◌≡◌, ◌≤◌};
+
+use crate::asking::{MOST_REPEATS, ask, repeat};
 use nob_ids::SpaceId;
-use nob_model::{Answer, Event, WorldStep};
+use nob_model_types::{Event, WorldStep};
 use nob_world::{World, WorldError};
 use std::alloc::AllocError;
 
-/// So many times a space is asked one thing in a row at most.
-pub const MOST_REPEATS: u64 = 4096;
-
-/// Makes a step: its answer, or none where it is refused, or where there is no space or no frame
-/// for it. Only memory fails it.
-pub fn answer_of(world: &mut World, step: &WorldStep) -> Result<Option<Answer>, AllocError> {
-    match world.step(step) {
-        Ok(Ok(answer)) => Ok(Some(answer)),
-        Ok(Err(_)) => Ok(None),
-        Err(WorldError::OutOfMemory) => Err(AllocError),
-        Err(WorldError::NoSpace) => Ok(None),
-        Err(WorldError::NoFrame) => Ok(None),
+/// Delivers so many frames, the first of which stands behind so many; one that there isn't is left
+/// out. Only memory fails it. It recurses once for each.
+pub fn deliver(world: &mut World, behind: u64, most: u64) -> Result<(), AllocError>
+    ensures n { world.new.n ≡ world.old.n }
+{
+    if most == 0 {
+        return Ok(());
     }
-}
-
-/// Asks a space something: whether it did it. Only memory fails it.
-pub fn ask(world: &mut World, space: SpaceId, event: Event) -> Result<bool, AllocError> {
-    let answer = answer_of(world, &WorldStep::Do(space, event))?;
-    Ok(answer.is_some())
-}
-
-/// Asks a space the same until it refuses, or `MOST_REPEATS` times. Only memory fails it.
-pub fn repeat(world: &mut World, space: SpaceId, event: &Event) -> Result<(), AllocError> {
-    for _ in 0..MOST_REPEATS {
-        if !ask(world, space, event.copy()?)? {
-            return Ok(());
-        }
+    let number = behind.saturating_add(1);
+    match world.step(&WorldStep::Deliver(number)) {
+        Ok(_) => {}
+        Err(WorldError::OutOfMemory) => return Err(AllocError),
+        Err(WorldError::NoSpace) => {}
+        Err(WorldError::NoFrame) => {}
     }
-    Ok(())
+    deliver(world, number, most - 1)
 }
 
-/// Brings what a space has to send to another, each frame once and in order, which acts on it as
-/// long as it has something to act on. Only memory fails it.
-pub fn bring(world: &mut World, from: SpaceId, to: SpaceId) -> Result<(), AllocError> {
-    let before = world.frames().len() as u64;
+/// Brings what a space has to send to another, each frame once and in order, which then acts on
+/// what came as long as it has something to act on. Only memory fails it. The caller's condition:
+/// there are such spaces.
+pub fn bring(world: &mut World, from: SpaceId, to: SpaceId) -> Result<(), AllocError>
+    requires sender { from ≤ world.old.n }
+    requires receiver { to ≤ world.old.n }
+    ensures n { world.new.n ≡ world.old.n }
+{
+    let before = world.frames().len();
     ask(world, from, Event::Transmit(to))?;
-    let after = world.frames().len() as u64;
-    for place in before..after {
-        answer_of(world, &WorldStep::Deliver(place.saturating_add(1)))?;
-    }
-    repeat(world, to, &Event::Act(from))
+    let after = world.frames().len();
+    deliver(world, before as u64, after.saturating_sub(before) as u64)?;
+    repeat(world, to, &Event::Act(from), MOST_REPEATS)
 }
 
 /// One round: each space brings the others what it has to send, and then settles and gives up all
 /// that it can. Only memory fails it.
-pub fn round(world: &mut World) -> Result<(), AllocError> {
+pub fn round(world: &mut World) -> Result<(), AllocError>
+    ensures n { world.new.n ≡ world.old.n }
+{
     let n = world.n();
-    for place in 0..n {
-        if let Some(space) = SpaceId::new(place.saturating_add(1)) {
-            bring_to_all(world, space)?;
-            repeat(world, space, &Event::Settle)?;
-            repeat(world, space, &Event::Clean)?;
-        }
-    }
-    Ok(())
+    round_of(world, n)
 }
 
-// Brings each other space what a space has to send.
-fn bring_to_all(world: &mut World, from: SpaceId) -> Result<(), AllocError> {
+// The part of a round of the spaces up to this number.
+fn round_of(world: &mut World, last: u16) -> Result<(), AllocError>
+    requires { last ≤ world.old.n }
+    ensures n { world.new.n ≡ world.old.n }
+{
+    let Some(space) = SpaceId::new(last) else {
+        return Ok(());
+    };
+    round_of(world, last - 1)?;
     let n = world.n();
-    for place in 0..n {
-        if let Some(to) = SpaceId::new(place.saturating_add(1)) {
-            bring(world, from, to)?;
-        }
-    }
-    Ok(())
+    bring_to(world, space, n)?;
+    repeat(world, space, &Event::Settle, MOST_REPEATS)?;
+    repeat(world, space, &Event::Clean, MOST_REPEATS)
+}
+
+// Brings the spaces up to this number what a space has to send.
+fn bring_to(world: &mut World, from: SpaceId, last: u16) -> Result<(), AllocError>
+    requires sender { from ≤ world.old.n }
+    requires receivers { last ≤ world.old.n }
+    ensures n { world.new.n ≡ world.old.n }
+{
+    let Some(to) = SpaceId::new(last) else {
+        return Ok(());
+    };
+    bring_to(world, from, last - 1)?;
+    bring(world, from, to)
 }

@@ -3,8 +3,8 @@
 use crate::script::Move;
 use nob_ids::SpaceId;
 use nob_model::{Answer, Event, WorldStep};
-use nob_rounds::{MOST_REPEATS, answer_of, ask};
-use nob_world::World;
+use nob_rounds::MOST_REPEATS;
+use nob_world::{World, WorldError};
 use std::alloc::AllocError;
 
 /// A close: where, and of which session.
@@ -58,7 +58,8 @@ impl Course {
             return Ok(());
         };
         if cut.place == self.made {
-            self.is_cut = ask(world, cut.space, Event::Close(cut.peer))?;
+            let step = WorldStep::Do(cut.space, Event::Close(cut.peer));
+            self.is_cut = answer_of(world, &step)?.is_some();
         }
         Ok(())
     }
@@ -85,5 +86,17 @@ impl Course {
             }
         }
         Ok(())
+    }
+}
+
+// Makes a step: its answer, or none where it is refused, or where there is no space or no frame for
+// it.
+fn answer_of(world: &mut World, step: &WorldStep) -> Result<Option<Answer>, AllocError> {
+    match world.step(step) {
+        Ok(Ok(answer)) => Ok(Some(answer)),
+        Ok(Err(_)) => Ok(None),
+        Err(WorldError::OutOfMemory) => Err(AllocError),
+        Err(WorldError::NoSpace) => Ok(None),
+        Err(WorldError::NoFrame) => Ok(None),
     }
 }
