@@ -92,7 +92,7 @@ fn closes_at_all(rt: &HostRuntime, script: &Script, steps: usize) -> io::Result<
         for space in 0..script.n.get() {
             for peer in 0..script.n.get() {
                 if let Some(cut) = cut_of(place, space, peer) {
-                    try_cut(rt, script, cut, &mut tally)?;
+                    try_cut(rt, script, &cut, &mut tally)?;
                 }
             }
         }
@@ -111,9 +111,9 @@ fn cut_of(place: usize, space: u16, peer: u16) -> Option<Cut> {
 }
 
 // Makes a script with a close, counts it, and writes what isn't as it should be.
-fn try_cut(rt: &HostRuntime, script: &Script, cut: Cut, tally: &mut Tally) -> io::Result<()> {
+fn try_cut(rt: &HostRuntime, script: &Script, cut: &Cut, tally: &mut Tally) -> io::Result<()> {
     tally.runs = tally.runs.saturating_add(1);
-    let Ok(outcome) = outcome_of(rt.alloc(), script, Some(cut)) else {
+    let Ok(outcome) = outcome_of(rt.alloc(), script, Some(*cut)) else {
         return rt.println("memory");
     };
     if outcome.is_cut {
@@ -128,7 +128,7 @@ fn try_cut(rt: &HostRuntime, script: &Script, cut: Cut, tally: &mut Tally) -> io
 }
 
 // What is wrong with a script with a close.
-fn text_of(alloc: Global, cut: Cut, outcome: &Outcome) -> Result<String, AllocError> {
+fn text_of(alloc: Global, cut: &Cut, outcome: &Outcome) -> Result<String, AllocError> {
     let verdict = match outcome.verdict {
         Verdict::Yes => "yes",
         Verdict::No(Promise::Fronts) => "no fronts",
@@ -140,9 +140,7 @@ fn text_of(alloc: Global, cut: Cut, outcome: &Outcome) -> Result<String, AllocEr
     let space = cut.space.get();
     let peer = cut.peer.get();
     let quiet = if outcome.is_quiet { "" } else { ", not quiet" };
-    format!(in alloc;
-        "{space} closes with {peer} after {place} steps: verdict {verdict}{quiet}"
-    )
+    format!(in alloc; "{space} closes with {peer} after {place} steps: verdict {verdict}{quiet}")
 }
 
 // Makes a script with a close, if there is one, in a new world, and then the rounds.

@@ -51,7 +51,10 @@ pub fn script_of(alloc: Global, text: &[u8]) -> Result<Option<Script>, AllocErro
 fn moves_of(alloc: Global, text: &[u8]) -> Result<Option<Vec<Move>>, AllocError> {
     let mut moves = Vec::new(alloc);
     let mut left = text;
-    while let Some((line, rest)) = first_line(left) {
+    for _ in 0..text.len() {
+        let Some((line, rest)) = first_line(left) else {
+            break;
+        };
         let Some(next) = move_of(alloc, line)? else {
             return Ok(None);
         };

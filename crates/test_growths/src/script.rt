@@ -40,7 +40,10 @@ pub fn script_of(alloc: Global, text: &[u8]) -> Result<Option<Script>, AllocErro
 fn steps_of(alloc: Global, text: &[u8]) -> Result<Option<Vec<WorldStep>>, AllocError> {
     let mut steps = Vec::new(alloc);
     let mut left = text;
-    while let Some((line, rest)) = first_line(left) {
+    for _ in 0..text.len() {
+        let Some((line, rest)) = first_line(left) else {
+            break;
+        };
         let Some(step) = step_of(alloc, line)? else {
             return Ok(None);
         };

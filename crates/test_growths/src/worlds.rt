@@ -20,11 +20,7 @@ pub fn entries_of(alloc: Global, script: &Script) -> Result<Vec<Entry>, AllocErr
 }
 
 // The same in a world that is new.
-fn entries_in(
-    alloc: Global,
-    world: &mut World,
-    script: &Script,
-) -> Result<Vec<Entry>, AllocError> {
+fn entries_in(alloc: Global, world: &mut World, script: &Script) -> Result<Vec<Entry>, AllocError> {
     for step in script.steps.iter() {
         match make(world, step) {
             Err(WorldError::OutOfMemory) => return Err(AllocError),
@@ -57,11 +53,7 @@ fn copy_of(alloc: Global, entries: &[Entry]) -> Result<Vec<Entry>, AllocError> {
 
 /// Whether `check` accepts the traces that the entries of a script are, and finds just them. Only
 /// memory fails it.
-pub fn is_accepted(
-    alloc: Global,
-    script: &Script,
-    entries: &[Entry],
-) -> Result<bool, AllocError> {
+pub fn is_accepted(alloc: Global, script: &Script, entries: &[Entry]) -> Result<bool, AllocError> {
     let mut traces = Vec::new(alloc);
     for place in 0..script.n.get() {
         if let Some(space) = SpaceId::new(place.saturating_add(1)) {
