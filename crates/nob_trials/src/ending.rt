@@ -32,10 +32,7 @@ pub fn end(world: &mut World, facts: &mut Facts) -> Result<u64, AllocError> {
 }
 
 // Closes the other end of each session that one end has closed.
-fn close_other_ends(
-    world: &mut World,
-    closed: &[(SpaceId, SpaceId)],
-) -> Result<(), AllocError> {
+fn close_other_ends(world: &mut World, closed: &[(SpaceId, SpaceId)]) -> Result<(), AllocError> {
     for (space, peer) in closed {
         if peer.get() <= world.n() {
             ask(world, *peer, Event::Close(*space))?;
@@ -91,11 +88,7 @@ fn release_all(world: &mut World, known: &Known) -> Result<(), AllocError> {
 }
 
 // Gives back all that a space has of these objects in its hand.
-fn release_from(
-    world: &mut World,
-    space: SpaceId,
-    objects: &[WireRep],
-) -> Result<(), AllocError> {
+fn release_from(world: &mut World, space: SpaceId, objects: &[WireRep]) -> Result<(), AllocError> {
     for rep in objects {
         if space.get() <= world.n() {
             repeat(world, space, &Event::Release(*rep), MOST_REPEATS)?;

@@ -8,8 +8,8 @@ mod facts;
 
 use crate::ending::end;
 use crate::facts::Facts;
-use nob_choices::random_step;
 use nob_check::judge;
+use nob_choices::random_step;
 use nob_ids::Limits;
 use nob_model::WorldStep;
 use nob_model_journal::{Promise, Verdict};
