@@ -18,6 +18,8 @@ pub fn end(world: &mut World, facts: &mut Facts) -> Result<u64, AllocError> {
     for _ in 0..MOST_ROUNDS {
         let before = facts.news;
         close_other_ends(world, facts.closed.as_slice())?;
+        claim_all(world, facts.known.n)?;
+        facts.note_new(world.entries())?;
         end_calls(world, &facts.known)?;
         release_all(world, &facts.known)?;
         round(world)?;
@@ -41,7 +43,19 @@ fn close_other_ends(world: &mut World, closed: &[(SpaceId, SpaceId)]) -> Result<
     Ok(())
 }
 
-// Claims all jobs of each space, finishes them, and takes all replies.
+// Claims all jobs of each space.
+fn claim_all(world: &mut World, n: u16) -> Result<(), AllocError> {
+    for place in 0..n {
+        if let Some(space) = SpaceId::new(place.saturating_add(1)) {
+            if space.get() <= world.n() {
+                repeat(world, space, &Event::Claim, MOST_REPEATS)?;
+            }
+        }
+    }
+    Ok(())
+}
+
+// Finishes the jobs of each space, and takes all replies.
 fn end_calls(world: &mut World, known: &Known) -> Result<(), AllocError> {
     for place in 0..known.n {
         if let Some(space) = SpaceId::new(place.saturating_add(1)) {
@@ -52,11 +66,8 @@ fn end_calls(world: &mut World, known: &Known) -> Result<(), AllocError> {
     Ok(())
 }
 
-// Claims all jobs of a space, and finishes those up to this number.
+// Finishes a space's jobs up to this number.
 fn finish_all(world: &mut World, space: SpaceId, jobs: u64) -> Result<(), AllocError> {
-    if space.get() <= world.n() {
-        repeat(world, space, &Event::Claim, MOST_REPEATS)?;
-    }
     for job in 0..jobs {
         let job = JobNo::new(job.saturating_add(1));
         if space.get() <= world.n() {
