@@ -1,25 +1,22 @@
 //! What a list knows of what happened in its world.
 
-use nob_ids::{Reason, SpaceId, WireRep};
-use nob_model::{Answer, Event, Refusal, WorldStep};
-use nob_world::{World, WorldError};
+use nob_choices::Known;
+use nob_ids::SpaceId;
+use nob_model::{Answer, Entry, Event};
 use std::alloc::{AllocError, Global};
 
 /// What happened in a world.
 #[derive(Drop)]
 pub struct Facts {
-    /// How many spaces there are.
-    pub n: u16,
-    /// The objects that were exported, the first first.
-    pub objects: Vec<WireRep>,
+    /// How many spaces there are, the objects that were exported, the first first, and the greatest
+    /// numbers of a call and of a job of any space.
+    pub known: Known,
     /// The sessions that closed: at the first space, with the second.
     pub closed: Vec<(SpaceId, SpaceId)>,
-    /// The greatest number of a call of any space.
-    pub calls: u64,
-    /// The greatest number of a job of any space.
-    pub jobs: u64,
     /// How often something came, was acted on, settled or given up, or a session closed.
     pub news: u64,
+    // How many entries were noted.
+    noted: usize,
     replies: u64,
     settlements: u64,
     cleanings: u64,
@@ -30,11 +27,14 @@ impl Facts {
     /// Nothing, of so many spaces.
     pub fn new(alloc: Global, n: u16) -> Facts {
         Facts {
-            n,
-            objects: Vec::new(alloc),
+            known: Known {
+                n,
+                objects: Vec::new(alloc),
+                calls: 0,
+                jobs: 0,
+            },
             closed: Vec::new(alloc),
-            calls: 0,
-            jobs: 0,
+            noted: 0,
             news: 0,
             replies: 0,
             settlements: 0,
@@ -43,36 +43,40 @@ impl Facts {
         }
     }
 
+    /// How many objects were withdrawn.
+    pub fn withdrawals(&self) -> u64 {
+        self.withdrawals
+    }
+
     /// Whether replies, settlements, cleanings and withdrawals have all come.
     pub fn is_busy(&self) -> bool {
         self.replies > 0 && self.settlements > 0 && self.cleanings > 0 && self.withdrawals > 0
     }
 
-    /// Makes a step, and notes what it was answered: whether the space refused it, and why. A step
-    /// that there is no space or no frame for is none. Only memory fails it.
-    pub fn make(
-        &mut self,
-        world: &mut World,
-        step: WorldStep,
-    ) -> Result<Option<Refusal>, AllocError> {
-        match world.step(&step) {
-            Ok(Ok(answer)) => {
-                self.note(&step, &answer)?;
-                Ok(None)
-            }
-            Ok(Err(refusal)) => Ok(Some(refusal)),
-            Err(WorldError::OutOfMemory) => Err(AllocError),
-            Err(WorldError::NoSpace) => Ok(None),
-            Err(WorldError::NoFrame) => Ok(None),
+    /// Notes what happened since it was noted last, where these are all entries. Only memory fails
+    /// it.
+    pub fn note_new(&mut self, entries: &[Entry]) -> Result<(), AllocError> {
+        for entry in entries.iter().skip(self.noted) {
+            self.note(entry)?;
+        }
+        self.noted = entries.len();
+        Ok(())
+    }
+
+    // Notes an entry.
+    fn note(&mut self, entry: &Entry) -> Result<(), AllocError> {
+        match &entry.result {
+            Ok(answer) => self.note_answer(entry, answer),
+            Err(_) => Ok(()),
         }
     }
 
-    // Notes what a step was answered.
-    fn note(&mut self, step: &WorldStep, answer: &Answer) -> Result<(), AllocError> {
+    // Notes what an entry's space answered.
+    fn note_answer(&mut self, entry: &Entry, answer: &Answer) -> Result<(), AllocError> {
         match answer {
-            Answer::Exported(rep) => self.objects.push(*rep)?,
-            Answer::Called(call) => self.calls = self.calls.max(call.get()),
-            Answer::Job(job) => self.jobs = self.jobs.max(job.job.get()),
+            Answer::Exported(rep) => self.known.objects.push(*rep)?,
+            Answer::Called(call) => self.known.calls = self.known.calls.max(call.get()),
+            Answer::Job(job) => self.known.jobs = self.known.jobs.max(job.job.get()),
             Answer::Replied(_, _) => self.replies = self.replies.saturating_add(1),
             Answer::Withdrawn => self.withdrawals = self.withdrawals.saturating_add(1),
             Answer::Settled(_, _) => {
@@ -91,7 +95,7 @@ impl Facts {
             }
             Answer::Closed(_) => {
                 self.news = self.news.saturating_add(1);
-                self.note_close(step)?;
+                self.note_close(entry)?;
             }
             Answer::Done | Answer::Ended | Answer::Finished | Answer::Dropped | Answer::Frames(_) =>
                 {}
@@ -99,13 +103,13 @@ impl Facts {
         Ok(())
     }
 
-    // Notes which session a step closed. One that an arrival closes is that of its frame, which
+    // Notes which session an entry closed. One that an arrival closes is that of its frame, which
     // both ends close in the end.
-    fn note_close(&mut self, step: &WorldStep) -> Result<(), AllocError> {
-        match step {
-            WorldStep::Do(space, Event::Act(peer)) => self.closed.push((*space, *peer))?,
-            WorldStep::Do(space, Event::Tick(peer)) => self.closed.push((*space, *peer))?,
-            WorldStep::Do(space, Event::Close(peer)) => self.closed.push((*space, *peer))?,
+    fn note_close(&mut self, entry: &Entry) -> Result<(), AllocError> {
+        match &entry.event {
+            Event::Act(peer) => self.closed.push((entry.space, *peer))?,
+            Event::Tick(peer) => self.closed.push((entry.space, *peer))?,
+            Event::Close(peer) => self.closed.push((entry.space, *peer))?,
             _ => {}
         }
         Ok(())

@@ -5,17 +5,16 @@
 
 mod ending;
 mod facts;
-mod steps;
-mod words;
 
 use crate::ending::end;
 use crate::facts::Facts;
-use crate::steps::random_step;
-use crate::words::Words;
 use nob_check::judge;
+use nob_choices::random_step;
 use nob_ids::Limits;
+use nob_model::WorldStep;
 use nob_model_journal::{Promise, Verdict};
-use nob_world::World;
+use nob_random::Words;
+use nob_world::{World, WorldError};
 use std::alloc::{AllocError, Global};
 use std::io;
 use std::process::ExitCode;
@@ -100,13 +99,26 @@ fn trial_in(alloc: Global, world: &mut World, n: u16, seed: u64) -> Result<Trial
     let mut facts = Facts::new(alloc, n);
     let mut words = Words::new(seed);
     for _ in 0..STEPS {
-        let step = random_step(alloc, &mut words, &facts, world.frames().len())?;
-        facts.make(world, step)?;
+        let frames = world.frames().len() as u64;
+        let step = random_step(alloc, &mut words, &facts.known, frames)?;
+        make(world, &step)?;
+        facts.note_new(world.entries())?;
     }
-    let kept = end(world, &mut facts)?;
+    let withdrawn = end(world, &mut facts)?;
+    let exported = facts.known.objects.len() as u64;
     Ok(Trial {
         verdict: judge(alloc, world.entries())?,
-        kept,
+        kept: exported.saturating_sub(withdrawn),
         is_busy: facts.is_busy(),
     })
+}
+
+// Makes a step, whatever it is answered. Only memory fails it.
+fn make(world: &mut World, step: &WorldStep) -> Result<(), AllocError> {
+    match world.step(step) {
+        Ok(_) => Ok(()),
+        Err(WorldError::OutOfMemory) => Err(AllocError),
+        Err(WorldError::NoSpace) => Ok(()),
+        Err(WorldError::NoFrame) => Ok(()),
+    }
 }

@@ -1,0 +1,6 @@
+//! Numbers that look random, from a seed: the same on every machine.
+#![tactic(auto)]
+
+mod words;
+
+pub use words::Words;

@@ -1,0 +1,9 @@
+//! Rounds that bring a world to rest: what each space has to send is brought to the others, which
+//! act on it; then each space settles and gives up what it can.
+#![tactic(auto)]
+
+mod asking;
+mod rounds;
+
+pub use asking::{MOST_REPEATS, ask, repeat};
+pub use rounds::{bring, deliver, round};

@@ -1,0 +1,102 @@
+//! A script that goes on whatever it is answered, with a close at one place.
+
+use crate::script::Move;
+use nob_ids::SpaceId;
+use nob_model::{Answer, Event, WorldStep};
+use nob_rounds::MOST_REPEATS;
+use nob_world::{World, WorldError};
+use std::alloc::AllocError;
+
+/// A close: where, and of which session.
+#[derive(Clone, Copy)]
+pub struct Cut {
+    /// So many steps of the script stand before it.
+    pub place: usize,
+    /// The space that is asked to close.
+    pub space: SpaceId,
+    /// The peer with which it closes the session.
+    pub peer: SpaceId,
+}
+
+/// How far a script has come.
+#[derive(Drop)]
+pub struct Course {
+    /// So many steps were made, the close aside.
+    pub made: usize,
+    /// Whether the close was made, and the session was open before it.
+    pub is_cut: bool,
+    cut: Option<Cut>,
+}
+
+impl Course {
+    /// A script that hasn't begun, with this close.
+    pub fn new(cut: Option<Cut>) -> Course {
+        Course {
+            made: 0,
+            is_cut: false,
+            cut,
+        }
+    }
+
+    /// Makes all that the lines of a script say, whatever it is answered, and the close in its
+    /// place. Only memory fails it.
+    pub fn run(&mut self, world: &mut World, moves: &[Move]) -> Result<(), AllocError> {
+        for next in moves {
+            match next {
+                Move::Make(step) => {
+                    self.make(world, step)?;
+                }
+                Move::Bring(from, to) => self.bring(world, *from, *to)?,
+            }
+        }
+        self.close_where_due(world)
+    }
+
+    // Closes the session, where this is the place.
+    fn close_where_due(&mut self, world: &mut World) -> Result<(), AllocError> {
+        let Some(cut) = self.cut else {
+            return Ok(());
+        };
+        if cut.place == self.made {
+            let step = WorldStep::Do(cut.space, Event::Close(cut.peer));
+            self.is_cut = answer_of(world, &step)?.is_some();
+        }
+        Ok(())
+    }
+
+    // Makes a step of the script, behind the close where this is its place.
+    fn make(&mut self, world: &mut World, step: &WorldStep) -> Result<Option<Answer>, AllocError> {
+        self.close_where_due(world)?;
+        self.made = self.made.saturating_add(1);
+        answer_of(world, step)
+    }
+
+    // Brings what a space has to send to another.
+    fn bring(&mut self, world: &mut World, from: SpaceId, to: SpaceId) -> Result<(), AllocError> {
+        let before = world.frames().len() as u64;
+        self.make(world, &WorldStep::Do(from, Event::Transmit(to)))?;
+        let after = world.frames().len() as u64;
+        for place in before..after {
+            self.make(world, &WorldStep::Deliver(place.saturating_add(1)))?;
+        }
+        for _ in 0..MOST_REPEATS {
+            let answer = self.make(world, &WorldStep::Do(to, Event::Act(from)))?;
+            if !matches!(answer, Some(Answer::Acted(_))) {
+                return Ok(());
+            }
+        }
+        Ok(())
+    }
+}
+
+// Makes a step: its answer, or none where it is refused, or where there is no space or no frame for
+// it.
+fn answer_of(world: &mut World, step: &WorldStep) -> Result<Option<Answer>, AllocError> {
+    match world.step(step) {
+        Ok(Ok(answer)) => Ok(Some(answer)),
+        Ok(Err(_)) => Ok(None),
+        Err(WorldError::OutOfMemory) => Err(AllocError),
+        Err(WorldError::NoSpace) => Ok(None),
+        Err(WorldError::NoFrame) => Ok(None),
+    }
+}

@@ -1,0 +1,191 @@
+//! The program `test_closes`: a script of a world, and at each of its places, between each two
+//! spaces, a close that the script knows nothing of.
+#![tactic(auto)]
+
+mod course;
+mod script;
+
+use crate::course::{Course, Cut};
+use crate::script::{Script, script_of};
+use nob_check::judge;
+use nob_ids::SpaceId;
+use nob_model::{Answer, Entry};
+use nob_model_journal::{Promise, Verdict};
+use nob_rounds::round;
+use nob_world::World;
+use std::alloc::{AllocError, Global};
+use std::io;
+use std::io::Read;
+use std::process::ExitCode;
+
+// So many rounds follow a script.
+const ROUNDS: u32 = 10;
+
+// What is said of a run.
+#[derive(Clone, Copy)]
+struct Outcome {
+    // How many steps of the script were made.
+    steps: usize,
+    // Whether the session was open before the close.
+    is_cut: bool,
+    // The verdict on all that happened.
+    verdict: Verdict,
+    // Whether nothing was accepted, acted on, settled or given up in the last round.
+    is_quiet: bool,
+}
+
+// What is said of all runs of a script.
+#[derive(Clone, Copy)]
+struct Tally {
+    // How many there are.
+    runs: u64,
+    // How many are as they should be.
+    right: u64,
+    // In how many the session was open before the close.
+    cut: u64,
+}
+
+fn main(rt: HostRuntime) -> ExitCode {
+    match run(&rt) {
+        Ok(()) => ExitCode::from(0),
+        Err(_) => ExitCode::from(1),
+    }
+}
+
+// Reads a script, makes its runs, and writes which aren't as they should be, and how many are.
+fn run(rt: &HostRuntime) -> io::Result<()> {
+    let alloc = rt.alloc();
+    let mut input = Vec::new(alloc);
+    rt.stdin().read_to_end(&mut input)?;
+    let script = match script_of(alloc, input.as_slice()) {
+        Ok(Some(script)) => script,
+        Ok(None) => return rt.println("no script"),
+        Err(_) => return rt.println("memory"),
+    };
+    let Ok(whole) = outcome_of(alloc, &script, None) else {
+        return rt.println("memory");
+    };
+    let steps = whole.steps;
+    let text = format!(in alloc; "{steps} steps")?;
+    rt.println(text.as_str())?;
+    let tally = closes_at_all(rt, &script, steps)?;
+    let runs = tally.runs;
+    let right = tally.right;
+    let cut = tally.cut;
+    let text = format!(in alloc;
+        "{right} of {runs} closes: verdict yes, quiet after {ROUNDS} rounds, each space shut"
+    )?;
+    rt.println(text.as_str())?;
+    let text = format!(in alloc; "{cut} of them closed a session that was open")?;
+    rt.println(text.as_str())
+}
+
+// Makes the runs of a script of so many steps with a close, and writes which aren't as they should
+// be.
+fn closes_at_all(rt: &HostRuntime, script: &Script, steps: usize) -> io::Result<Tally> {
+    let mut tally = Tally {
+        runs: 0,
+        right: 0,
+        cut: 0,
+    };
+    for place in 0..=steps {
+        for space in 0..script.n.get() {
+            for peer in 0..script.n.get() {
+                if let Some(cut) = cut_of(place, space, peer) {
+                    try_cut(rt, script, &cut, &mut tally)?;
+                }
+            }
+        }
+    }
+    Ok(tally)
+}
+
+// The close behind so many steps of the session of the spaces at two places, where they are two.
+fn cut_of(place: usize, space: u16, peer: u16) -> Option<Cut> {
+    if space == peer {
+        return None;
+    }
+    let space = SpaceId::new(space.saturating_add(1))?;
+    let peer = SpaceId::new(peer.saturating_add(1))?;
+    Some(Cut { place, space, peer })
+}
+
+// Makes a script with a close, counts it, and writes what isn't as it should be.
+fn try_cut(rt: &HostRuntime, script: &Script, cut: &Cut, tally: &mut Tally) -> io::Result<()> {
+    tally.runs = tally.runs.saturating_add(1);
+    let Ok(outcome) = outcome_of(rt.alloc(), script, Some(*cut)) else {
+        return rt.println("memory");
+    };
+    if outcome.is_cut {
+        tally.cut = tally.cut.saturating_add(1);
+    }
+    if outcome.verdict == Verdict::Yes && outcome.is_quiet {
+        tally.right = tally.right.saturating_add(1);
+        return Ok(());
+    }
+    let text = text_of(rt.alloc(), cut, &outcome)?;
+    rt.println(text.as_str())
+}
+
+// What is wrong with a script with a close.
+fn text_of(alloc: Global, cut: &Cut, outcome: &Outcome) -> Result<String, AllocError> {
+    let verdict = match outcome.verdict {
+        Verdict::Yes => "yes",
+        Verdict::No(Promise::Fronts) => "no fronts",
+        Verdict::No(Promise::Withdraws) => "no withdraws",
+        Verdict::No(Promise::Losses) => "no losses",
+        Verdict::No(Promise::Found) => "no found",
+    };
+    let place = cut.place;
+    let space = cut.space.get();
+    let peer = cut.peer.get();
+    let quiet = if outcome.is_quiet { "" } else { ", not quiet" };
+    format!(in alloc; "{space} closes with {peer} after {place} steps: verdict {verdict}{quiet}")
+}
+
+// Makes a script with a close, if there is one, in a new world, and then the rounds.
+fn outcome_of(alloc: Global, script: &Script, cut: Option<Cut>) -> Result<Outcome, AllocError> {
+    let mut world = World::new(alloc, script.n.get(), script.limits)?;
+    let outcome = outcome_in(alloc, &mut world, script, cut);
+    world.shut();
+    outcome
+}
+
+// The same in a world that is new.
+fn outcome_in(
+    alloc: Global,
+    world: &mut World,
+    script: &Script,
+    cut: Option<Cut>,
+) -> Result<Outcome, AllocError> {
+    let mut course = Course::new(cut);
+    course.run(world, script.moves.as_slice())?;
+    let mut before = 0;
+    for _ in 0..ROUNDS {
+        before = world.entries().len();
+        round(world)?;
+    }
+    Ok(Outcome {
+        steps: course.made,
+        is_cut: course.is_cut,
+        verdict: judge(alloc, world.entries())?,
+        is_quiet: !world
+            .entries()
+            .iter()
+            .skip(before)
+            .any(|entry| is_news(entry)),
+    })
+}
+
+// Whether something was accepted, acted on, settled or given up, or a session closed.
+fn is_news(entry: &Entry) -> bool {
+    match &entry.result {
+        Ok(Answer::Took(count)) => *count > 0,
+        Ok(Answer::Acted(_)) => true,
+        Ok(Answer::Settled(_, _)) => true,
+        Ok(Answer::Cleaned(_)) => true,
+        Ok(Answer::Closed(_)) => true,
+        Ok(_) => false,
+        Err(_) => false,
+    }
+}

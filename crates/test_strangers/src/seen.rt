@@ -1,0 +1,112 @@
+//! What happened among strangers, so that it shows where too little did.
+
+use nob_frame::FrameFault;
+use nob_ids::Reason;
+use nob_model::Answer;
+use std::alloc::{AllocError, Global};
+
+/// Which numbers were seen, each once.
+#[derive(Drop)]
+pub struct Seen {
+    numbers: Vec<u8>,
+}
+
+impl Seen {
+    /// None.
+    pub fn new(alloc: Global) -> Seen {
+        Seen {
+            numbers: Vec::new(alloc),
+        }
+    }
+
+    /// This one is seen. Only memory fails it.
+    pub fn note(&mut self, number: u8) -> Result<(), AllocError> {
+        if !self.numbers.iter().any(|seen| *seen == number) {
+            self.numbers.push(number)?;
+        }
+        Ok(())
+    }
+
+    /// How many were seen.
+    pub fn count(&self) -> usize {
+        self.numbers.len()
+    }
+}
+
+/// What happened.
+#[derive(Drop)]
+pub struct Happenings {
+    /// For which faults frames were refused, by their numbers.
+    pub faults: Seen,
+    /// For which reasons sessions were closed, by their numbers.
+    pub reasons: Seen,
+    /// Which kinds of answer were given, in the order in which the type has them.
+    pub answers: Seen,
+}
+
+impl Happenings {
+    /// Nothing.
+    pub fn new(alloc: Global) -> Happenings {
+        Happenings {
+            faults: Seen::new(alloc),
+            reasons: Seen::new(alloc),
+            answers: Seen::new(alloc),
+        }
+    }
+
+    /// A frame was refused. Only memory fails it.
+    pub fn note_fault(&mut self, fault: FrameFault) -> Result<(), AllocError> {
+        self.faults.note(number_of_fault(fault))
+    }
+
+    /// A space answered. Only memory fails it.
+    pub fn note_answer(&mut self, answer: &Answer) -> Result<(), AllocError> {
+        if let Answer::Closed(reason) = answer {
+            self.note_reason(*reason)?;
+        }
+        self.answers.note(number_of_answer(answer))
+    }
+
+    // A session was closed.
+    fn note_reason(&mut self, reason: Reason) -> Result<(), AllocError> {
+        self.reasons.note(reason.number())
+    }
+}
+
+// The number of a fault.
+fn number_of_fault(fault: FrameFault) -> u8 {
+    match fault {
+        FrameFault::Short => 1,
+        FrameFault::Magic => 2,
+        FrameFault::Version => 3,
+        FrameFault::Kind => 4,
+        FrameFault::Flags => 5,
+        FrameFault::Spaces => 6,
+        FrameFault::Seq => 7,
+        FrameFault::Ack => 8,
+        FrameFault::Length => 9,
+        FrameFault::Reason => 10,
+        FrameFault::Trailing => 11,
+    }
+}
+
+// The place of an answer's kind among all kinds.
+fn number_of_answer(answer: &Answer) -> u8 {
+    match answer {
+        Answer::Exported(_) => 1,
+        Answer::Done => 2,
+        Answer::Called(_) => 3,
+        Answer::Replied(_, _) => 4,
+        Answer::Ended => 5,
+        Answer::Job(_) => 6,
+        Answer::Finished => 7,
+        Answer::Dropped => 8,
+        Answer::Acted(_) => 9,
+        Answer::Closed(_) => 10,
+        Answer::Settled(_, _) => 11,
+        Answer::Cleaned(_) => 12,
+        Answer::Withdrawn => 13,
+        Answer::Frames(_) => 14,
+        Answer::Took(_) => 15,
+    }
+}
