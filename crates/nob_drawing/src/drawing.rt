@@ -1,0 +1,34 @@
+//! All that stands in a drawing.
+
+ghost use Rattle.std.specs.Prelude.{◌≡◌, IfOk};
+ghost use Rattle.nob_drawing.specs.Layout as spec;
+
+use crate::arrows::{arrows_shapes, losses_shapes};
+use crate::bars::bars_shapes;
+use crate::entries::{entries_shapes, lives_from};
+use crate::page::Page;
+use crate::shape::Shape;
+use nob_drawing_plan::{bars, flights, lost};
+use nob_model_types::Entry;
+use std::alloc::{AllocError, Global};
+
+/// All that stands in a drawing of a journal, the newest entry of which stands first: a lifeline for
+/// each space, the bars, the entries that are shown, the arrows and the frames that are lost. It
+/// costs what the plan costs, and then a few shapes for each part of it.
+pub fn drawing(alloc: Global, page: &Page, journal: &[Entry]) -> Result<Vec<Shape>, AllocError>
+    ensures { IfOk result (λ shapes. shapes.items ≡ spec.drawing page.now journal.now) }
+{
+    let held = bars(alloc, page.n, journal)?;
+    let (departures, arrows) = flights(alloc, journal)?;
+    let losses = lost(alloc, arrows.as_slice(), departures.as_slice())?;
+    let mut shapes = lives_from(alloc, page, 1, page.n)?;
+    let mut second = bars_shapes(alloc, page, held.as_slice())?;
+    let mut third = entries_shapes(alloc, page, journal)?;
+    let mut fourth = arrows_shapes(alloc, page, arrows.as_slice())?;
+    let mut last = losses_shapes(alloc, page, losses.as_slice())?;
+    fourth.append(&mut last)?;
+    third.append(&mut fourth)?;
+    second.append(&mut third)?;
+    shapes.append(&mut second)?;
+    Ok(shapes)
+}
