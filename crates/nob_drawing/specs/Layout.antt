@@ -1,6 +1,6 @@
 -- Where everything stands in a drawing. Rows count from 1 in merged order, and the newest entry of a journal stands FIRST.
 use Prim.Native.Nat.{zero}
-use Rattle.std.specs.Prelude.{ℕ, suc, ◌+◌, ◌*◌, ◌-◌, Bool, true, false, ◌&&◌, not, ◌==◌, nat_le, nat_lt, min, max, List, [], ◌∷◌, ◌++◌, length, flat_map, codes, Option, Some, None, Result, Ok, Err, if◌then◌else◌}
+use Rattle.std.specs.Prelude.{ℕ, suc, ◌+◌, ◌*◌, ◌-◌, Bool, true, false, ◌&&◌, not, ◌==◌, nat_le, nat_lt, min, max, List, [], ◌∷◌, ◌++◌, length, map, filter, flat_map, codes, Option, Some, None, Result, Ok, Err, if◌then◌else◌}
 use Rattle.std.specs.Fmt.{decimal}
 use Rattle.nob_model_types.specs.declared.answer.Answer.{Answer}
 use Rattle.nob_model_types.specs.declared.answer.Answer.TheVariants.{Closed}
@@ -102,13 +102,25 @@ arrow_style true false = styles.Again
 arrow_style false true = styles.Ignored
 arrow_style true true = styles.IgnoredAgain
 
--- the words at the head of an arrow: in front of the lifeline that it comes to, on the side from which it comes
+-- the words at the head of an arrow: below it, in front of the lifeline that it comes to, on the side from which it comes
 abbrev pub head_words : Page → Arrow → Shape
-head_words page arrow = if nat_lt arrow.departure.space arrow.to then shapes.Text styles.Before (record { x = x_of arrow.to - 10; y = y_of page arrow.row - 3 }) (cut 32 (frame_words arrow.departure.frame)) else shapes.Text styles.Behind (record { x = x_of arrow.to + 50; y = y_of page arrow.row - 3 }) (cut 32 (frame_words arrow.departure.frame))
+head_words page arrow = if nat_lt arrow.departure.space arrow.to then shapes.Text styles.Before (record { x = x_of arrow.to - 10; y = y_of page arrow.row + 9 }) (cut 32 (frame_words arrow.departure.frame)) else shapes.Text styles.Behind (record { x = x_of arrow.to + 50; y = y_of page arrow.row + 9 }) (cut 32 (frame_words arrow.departure.frame))
+
+-- whether an arrow is seen
+abbrev pub is_arrow_seen : Page → Arrow → Bool
+is_arrow_seen page arrow = is_seen page arrow.departure.row arrow.row
 
 -- an arrow: from the lifeline of its Transmit to that of its Arrive
-abbrev pub arrow_shapes : Page → Arrow → List Shape
-arrow_shapes page arrow = if is_seen page arrow.departure.row arrow.row then shapes.Line (arrow_style arrow.departure.again arrow.ignored) (point_at page arrow.departure.space arrow.departure.row) (point_at page arrow.to arrow.row) ∷ head_words page arrow ∷ [] else []
+abbrev pub arrow_line : Page → Arrow → Shape
+arrow_line page arrow = shapes.Line (arrow_style arrow.departure.again arrow.ignored) (point_at page arrow.departure.space arrow.departure.row) (point_at page arrow.to arrow.row)
+
+-- the lines of the arrows that are seen
+abbrev pub arrows_lines : Page → List Arrow → List Shape
+arrows_lines page all = map (arrow_line page) (filter (is_arrow_seen page) all)
+
+-- their words, where their heads are shown
+abbrev pub arrows_words : Page → List Arrow → List Shape
+arrows_words page all = map (head_words page) (filter (λ arrow. is_shown page arrow.row) all)
 
 -- how a lost frame is drawn
 abbrev pub lost_style : (again : Bool) → Style
@@ -152,4 +164,4 @@ bar_shapes page bar = if is_seen page bar.start (end_of page bar.end) then shape
 
 -- all that stands in a drawing of a journal
 abbrev pub drawing : Page → List Entry → List Shape
-drawing page J = lives_from page 1 page.n ++ (flat_map (bar_shapes page) (bars page.n J) ++ (entries_shapes page J ++ (flat_map (arrow_shapes page) (arrows J) ++ flat_map (lost_shapes page) (lost (arrows J) (departures J)))))
+drawing page J = lives_from page 1 page.n ++ (entries_shapes page J ++ (flat_map (bar_shapes page) (bars page.n J) ++ (arrows_lines page (arrows J) ++ (flat_map (lost_shapes page) (lost (arrows J) (departures J)) ++ arrows_words page (arrows J)))))

@@ -29,7 +29,7 @@ fn head_words(alloc: Global, page: &Page, arrow: &Arrow) -> Result<Shape, AllocE
 {
     let words = cut_label(alloc, 32, frame_words(alloc, &arrow.departure.frame)?)?;
     let x = x_of(arrow.to);
-    let y = y_of(page, arrow.row as u128) - 3;
+    let y = y_of(page, arrow.row as u128) + 9;
     if arrow.departure.space.get() < arrow.to.get() {
         return Ok(Shape::Text(Style::Before, Point { x: x - 10, y }, words));
     }
@@ -37,40 +37,57 @@ fn head_words(alloc: Global, page: &Page, arrow: &Arrow) -> Result<Shape, AllocE
 }
 
 // The line of an arrow.
-fn arrow_line(page: &Page, arrow: &Arrow) -> Shape {
+fn arrow_line(page: &Page, arrow: &Arrow) -> Shape
+    ensures { result ≡ spec.arrow_line page.now arrow.now }
+{
     let start = point_at(page, arrow.departure.space, arrow.departure.row as u128);
     let end = point_at(page, arrow.to, arrow.row as u128);
     Shape::Line(arrow_style(arrow.departure.again, arrow.ignored), start, end)
 }
 
-// An arrow, where it is seen.
-fn arrow_shapes(alloc: Global, page: &Page, arrow: &Arrow) -> Result<Vec<Shape>, AllocError>
-    ensures { IfOk result (λ shapes. shapes.items ≡ spec.arrow_shapes page.now arrow.now) }
+// Whether an arrow is seen.
+fn is_arrow_seen(page: &Page, arrow: &Arrow) -> bool
+    ensures { result ≡ spec.is_arrow_seen page.now arrow.now }
 {
-    let mut shapes = Vec::new(alloc);
-    if !is_seen(page, arrow.departure.row as u128, arrow.row as u128) {
-        return Ok(shapes);
-    }
-    shapes.push(arrow_line(page, arrow))?;
-    shapes.push(head_words(alloc, page, arrow)?)?;
-    Ok(shapes)
+    is_seen(page, arrow.departure.row as u128, arrow.row as u128)
 }
 
-// Arrows, where they are seen.
-pub(crate) fn arrows_shapes(
+// The lines of the arrows that are seen.
+pub(crate) fn arrows_lines(
     alloc: Global,
     page: &Page,
     arrows: &[Arrow],
 ) -> Result<Vec<Shape>, AllocError>
-    ensures { IfOk result (λ shapes. shapes.items
-        ≡ flat_map (spec.arrow_shapes page.now) arrows.now) }
+    ensures { IfOk result (λ shapes. shapes.items ≡ spec.arrows_lines page.now arrows.now) }
 {
     match arrows {
         [] => Ok(Vec::new(alloc)),
         [arrow, others @ ..] => {
-            let mut rest = arrows_shapes(alloc, page, others)?;
-            let mut shapes = arrow_shapes(alloc, page, arrow)?;
-            shapes.append(&mut rest)?;
+            let mut shapes = arrows_lines(alloc, page, others)?;
+            if is_arrow_seen(page, arrow) {
+                shapes.insert(0, arrow_line(page, arrow))?;
+            }
+            Ok(shapes)
+        }
+    }
+}
+
+// The words of the arrows whose heads are shown.
+pub(crate) fn arrows_words(
+    alloc: Global,
+    page: &Page,
+    arrows: &[Arrow],
+) -> Result<Vec<Shape>, AllocError>
+    ensures { IfOk result (λ shapes. shapes.items ≡ spec.arrows_words page.now arrows.now) }
+{
+    match arrows {
+        [] => Ok(Vec::new(alloc)),
+        [arrow, others @ ..] => {
+            let mut shapes = arrows_words(alloc, page, others)?;
+            if is_shown(page, arrow.row) {
+                let words = head_words(alloc, page, arrow)?;
+                shapes.insert(0, words)?;
+            }
             Ok(shapes)
         }
     }

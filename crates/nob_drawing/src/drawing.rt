@@ -3,7 +3,7 @@
 ghost use Rattle.std.specs.Prelude.{◌≡◌, IfOk};
 ghost use Rattle.nob_drawing.specs.Layout as spec;
 
-use crate::arrows::{arrows_shapes, losses_shapes};
+use crate::arrows::{arrows_lines, arrows_words, losses_shapes};
 use crate::bars::bars_shapes;
 use crate::entries::{entries_shapes, lives_from};
 use crate::page::Page;
@@ -22,13 +22,15 @@ pub fn drawing(alloc: Global, page: &Page, journal: &[Entry]) -> Result<Vec<Shap
     let (departures, arrows) = flights(alloc, journal)?;
     let losses = lost(alloc, arrows.as_slice(), departures.as_slice())?;
     let mut shapes = lives_from(alloc, page, 1, page.n)?;
-    let mut second = bars_shapes(alloc, page, held.as_slice())?;
-    let mut third = entries_shapes(alloc, page, journal)?;
-    let mut fourth = arrows_shapes(alloc, page, arrows.as_slice())?;
-    let mut last = losses_shapes(alloc, page, losses.as_slice())?;
-    fourth.append(&mut last)?;
-    third.append(&mut fourth)?;
-    second.append(&mut third)?;
-    shapes.append(&mut second)?;
+    let mut entries = entries_shapes(alloc, page, journal)?;
+    let mut held = bars_shapes(alloc, page, held.as_slice())?;
+    let mut lines = arrows_lines(alloc, page, arrows.as_slice())?;
+    let mut losses = losses_shapes(alloc, page, losses.as_slice())?;
+    let mut words = arrows_words(alloc, page, arrows.as_slice())?;
+    losses.append(&mut words)?;
+    lines.append(&mut losses)?;
+    held.append(&mut lines)?;
+    entries.append(&mut held)?;
+    shapes.append(&mut entries)?;
     Ok(shapes)
 }
