@@ -15,8 +15,8 @@ use Rattle.nob_model_traces.specs.declared.fault.CheckFault.TheVariants as fault
 use Rattle.nob_model_traces.specs.Faults.{IsFault, AreAccepted}
 use Rattle.nob_drawing_plan.specs.Laws.{HaveArrows}
 use Rattle.nob_drawing.specs.declared.page.Page.{Page}
-use Rattle.nob_drawing.specs.Layout.{drawing}
-use Rattle.nob_drawing.specs.Writing.{svg_text}
+use Rattle.nob_drawing.specs.Layout.{drawing, width_of, height_of}
+use Rattle.nob_shapes.specs.Writing.{svg_text}
 use Rattle.nob_demo_draw.specs.declared.ending.Ending.{Ending}
 use Rattle.nob_demo_draw.specs.declared.ending.Ending.TheVariants.{Drawn, Refused, OutOfMemory}
 use Rattle.nob_demo_draw.specs.declared.playing.Part.{Part}
@@ -54,7 +54,7 @@ page_of n part fault J = record { n = n; from = max part.from 1; to = min part.t
 
 -- the drawing of a journal
 abbrev pub svg_of : ℕ → Part → Option ℕ → List Entry → List ℕ
-svg_of n part fault J = svg_text (page_of n part fault J) (drawing (page_of n part fault J) J)
+svg_of n part fault J = svg_text (width_of (page_of n part fault J)) (height_of (page_of n part fault J)) (drawing (page_of n part fault J) J)
 
 -- an input is these traces, one after the other
 abbrev pub Spells : List ℕ → List Trace → Type 0

@@ -5,9 +5,10 @@ ghost use Rattle.nob_demo_draw.specs.Draws as spec;
 
 use crate::place::fault_row;
 use crate::playing::Part;
-use nob_drawing::{Page, drawing, svg_text};
+use nob_drawing::{Page, drawing, height_of, width_of};
 use nob_model_traces::CheckFault;
 use nob_model_types::Entry;
+use nob_shapes::svg_text;
 use std::alloc::{AllocError, Global};
 
 // What is shown of a journal.
@@ -32,7 +33,7 @@ fn svg_of(
 {
     let page = page_of(n, part, fault, journal.len());
     let shapes = drawing(alloc, &page, journal)?;
-    svg_text(alloc, &page, shapes.as_slice())
+    svg_text(alloc, width_of(&page), height_of(&page), shapes.as_slice())
 }
 
 // The drawing of merged entries.

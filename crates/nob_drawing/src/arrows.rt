@@ -6,7 +6,7 @@ ghost use Rattle.nob_drawing.specs.Layout as spec;
 use crate::labels::cut_label;
 use crate::page::Page;
 use crate::places::{is_seen, is_shown, point_at, x_of, y_of};
-use crate::shape::{Point, Shape, Style};
+use nob_shapes::{Point, Shape, Style};
 use crate::words::frame_words;
 use nob_drawing_plan::{Arrow, Departure};
 use std::alloc::{AllocError, Global};

@@ -6,7 +6,7 @@ ghost use Rattle.nob_drawing.specs.Layout as spec;
 use crate::labels::label;
 use crate::page::Page;
 use crate::places::{is_seen, x_of, y_of};
-use crate::shape::{Point, Shape, Style};
+use nob_shapes::{Point, Shape, Style};
 use crate::words::mark_words;
 use nob_drawing_plan::{Bar, Mark};
 use std::alloc::{AllocError, Global};

@@ -7,7 +7,7 @@ use crate::arrows::{arrows_lines, arrows_words, losses_shapes};
 use crate::bars::bars_shapes;
 use crate::entries::{entries_shapes, lives_from};
 use crate::page::Page;
-use crate::shape::Shape;
+use nob_shapes::Shape;
 use nob_drawing_plan::{bars, flights, lost};
 use nob_model_types::Entry;
 use std::alloc::{AllocError, Global};

@@ -8,7 +8,7 @@ ghost use Rattle.nob_drawing.specs.Layout as spec;
 use crate::labels::{cut_label, label, number_label};
 use crate::page::Page;
 use crate::places::{bottom_of, is_shown, point_at, x_of, y_of};
-use crate::shape::{Point, Shape, Style};
+use nob_shapes::{Point, Shape, Style};
 use crate::words::entry_words;
 use nob_bytes::Bytes;
 use nob_ids::SpaceId;

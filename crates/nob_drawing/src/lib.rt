@@ -1,5 +1,5 @@
-//! A drawing of what spaces did: plain data (lines, boxes and texts with their places), made of the
-//! arrows and bars of nob_drawing_plan, and its text as SVG, an exact function of that data.
+//! A drawing of what spaces did: where everything stands of the arrows and bars of nob_drawing_plan,
+//! and of the entries, as shapes of nob_shapes.
 #![tactic(auto)]
 
 mod arrows;
@@ -9,11 +9,8 @@ mod entries;
 mod labels;
 mod page;
 mod places;
-mod shape;
 mod words;
-mod writing;
 
 pub use drawing::drawing;
 pub use page::Page;
-pub use shape::{Point, Shape, Style};
-pub use writing::svg_text;
+pub use places::{height_of, width_of};

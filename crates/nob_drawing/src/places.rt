@@ -4,7 +4,7 @@ ghost use Rattle.std.specs.Prelude.{◌≡◌, ◌<◌, ◌≤◌, ◌^◌};
 ghost use Rattle.nob_drawing.specs.Layout as spec;
 
 use crate::page::Page;
-use crate::shape::Point;
+use nob_shapes::Point;
 use nob_ids::SpaceId;
 
 // The place of a row among those that are shown.
@@ -50,15 +50,15 @@ pub(crate) fn bottom_of(page: &Page) -> u128
     y_of(page, page.to as u128 + 1)
 }
 
-// How wide the drawing is.
-pub(crate) fn width_of(page: &Page) -> u128
+/// How wide a drawing is.
+pub fn width_of(page: &Page) -> u128
     ensures { result ≡ spec.width_of page.now }
 {
     250 + 250 * u128::from(page.n) + 120
 }
 
-// How high the drawing is.
-pub(crate) fn height_of(page: &Page) -> u128
+/// How high a drawing is.
+pub fn height_of(page: &Page) -> u128
     ensures { result ≡ spec.height_of page.now }
 {
     bottom_of(page) + 24

@@ -1,14 +1,12 @@
 -- The text of a drawing: one line for each shape.
 use Rattle.std.specs.Prelude.{ℕ, List, [], ◌∷◌, ◌++◌, flat_map, codes, ◌==◌, if◌then◌else◌}
 use Rattle.std.specs.Fmt.{decimal}
-use Rattle.nob_drawing.specs.declared.page.Page.{Page}
-use Rattle.nob_drawing.specs.Layout.{width_of, height_of}
-use Rattle.nob_drawing.specs.declared.shape.Point.{Point}
-use Rattle.nob_drawing.specs.declared.shape.Style.{Style}
-use Rattle.nob_drawing.specs.declared.shape.Style.TheVariants as styles
-use Rattle.nob_drawing.specs.declared.shape.Shape.{Shape}
-use Rattle.nob_drawing.specs.declared.shape.Shape.TheVariants as shapes
-use Rattle.nob_drawing.specs.declared.TheConstants.{LOOKS}
+use Rattle.nob_shapes.specs.declared.shape.Point.{Point}
+use Rattle.nob_shapes.specs.declared.shape.Style.{Style}
+use Rattle.nob_shapes.specs.declared.shape.Style.TheVariants as styles
+use Rattle.nob_shapes.specs.declared.shape.Shape.{Shape}
+use Rattle.nob_shapes.specs.declared.shape.Shape.TheVariants as shapes
+use Rattle.nob_shapes.specs.declared.writing.TheConstants.{LOOKS}
 
 -- the name of a style, to which the drawing's first lines give its looks
 abbrev pub class_name : Style → List ℕ
@@ -42,10 +40,6 @@ escaped_byte byte = if byte == 38 then codes "&amp;" else if byte == 60 then cod
 abbrev pub escaped : List ℕ → List ℕ
 escaped text = flat_map escaped_byte text
 
--- a name and a number
-abbrev pub attribute : List ℕ → ℕ → List ℕ
-attribute name number = name ++ (codes "='" ++ (decimal number ++ codes "'"))
-
 -- a line
 abbrev pub line_text : Style → Point → Point → List ℕ
 line_text style from to = codes "<line class='" ++ (class_name style ++ (codes "' x1='" ++ (decimal from.x ++ (codes "' y1='" ++ (decimal from.y ++ (codes "' x2='" ++ (decimal to.x ++ (codes "' y2='" ++ (decimal to.y ++ codes "'/>\n")))))))))
@@ -73,6 +67,6 @@ shape_text (shapes.Turned style at words) = turned_start style at ++ (escaped wo
 abbrev pub head_text : (width height : ℕ) → List ℕ
 head_text width height = codes "<svg xmlns='http://www.w3.org/2000/svg' width='" ++ (decimal width ++ (codes "' height='" ++ (decimal height ++ (codes "' viewBox='0 0 " ++ (decimal width ++ (codes " " ++ (decimal height ++ codes "'>\n")))))))
 
--- a drawing
-abbrev pub svg_text : Page → List Shape → List ℕ
-svg_text page drawing = head_text (width_of page) (height_of page) ++ (LOOKS.now ++ (flat_map shape_text drawing ++ codes "</svg>\n"))
+-- a drawing so wide and so high
+abbrev pub svg_text : (width height : ℕ) → List Shape → List ℕ
+svg_text width height drawing = head_text width height ++ (LOOKS.now ++ (flat_map shape_text drawing ++ codes "</svg>\n"))

@@ -2,10 +2,8 @@
 
 ghost use Rattle.std.specs.Prelude.{◌≡◌, ◌++◌, ◌∷◌, IfOk, OnOk, codes, flat_map};
 ghost use Rattle.std.specs.String.{string_bytes};
-ghost use Rattle.nob_drawing.specs.Writing as spec;
+ghost use Rattle.nob_shapes.specs.Writing as spec;
 
-use crate::page::Page;
-use crate::places::{height_of, width_of};
 use crate::shape::{Point, Shape, Style};
 use std::alloc::{AllocError, Global};
 
@@ -207,11 +205,17 @@ fn head_text(alloc: Global, width: u128, height: u128) -> Result<String, AllocEr
         "<svg xmlns='http://www.w3.org/2000/svg' width='{width}' height='{height}' viewBox='0 0 {width} {height}'>\n")
 }
 
-/// The text of a drawing as SVG, for which nothing outside is needed. Linear in it.
-pub fn svg_text(alloc: Global, page: &Page, shapes: &[Shape]) -> Result<Vec<u8>, AllocError>
-    ensures { IfOk result (λ text. text.items ≡ spec.svg_text page.now shapes.now) }
+/// The text of a drawing so wide and so high as SVG, for which nothing outside is needed. Linear in
+/// it.
+pub fn svg_text(
+    alloc: Global,
+    width: u128,
+    height: u128,
+    shapes: &[Shape],
+) -> Result<Vec<u8>, AllocError>
+    ensures { IfOk result (λ text. text.items ≡ spec.svg_text width height shapes.now) }
 {
-    let head = head_text(alloc, width_of(page), height_of(page))?;
+    let head = head_text(alloc, width, height)?;
     let mut text = head.into_bytes();
     text.extend_from_slice(LOOKS)?;
     put_shapes(alloc, &mut text, shapes)?;
