@@ -8,9 +8,9 @@ use Rattle.nob_model_types.specs.declared.refusal.Refusal.{Refusal}
 use Rattle.nob_model_types.specs.declared.entry.Entry.{Entry}
 use Rattle.nob_drawing_plan.specs.declared.mark.Mark.{Mark}
 use Rattle.nob_drawing_plan.specs.declared.mark.Mark.TheVariants as marks
-use Rattle.nob_drawing_plan.specs.declared.bars.Bar.{Bar}
-use Rattle.nob_drawing_plan.specs.declared.flights.Departure.{Departure}
-use Rattle.nob_drawing_plan.specs.declared.flights.Arrow.{Arrow}
+use Rattle.nob_drawing_plan.specs.declared.bar.Bar.{Bar}
+use Rattle.nob_drawing_plan.specs.declared.flight.Departure.{Departure}
+use Rattle.nob_drawing_plan.specs.declared.flight.Arrow.{Arrow}
 use Rattle.nob_drawing_plan.specs.Bars.{row_after, bars}
 use Rattle.nob_drawing_plan.specs.Flights.{arrows, departures, lost}
 use Rattle.nob_drawing.specs.declared.page.Page.{Page}

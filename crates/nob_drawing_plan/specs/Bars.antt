@@ -5,7 +5,7 @@ use Rattle.std.specs.Prelude.{ℕ, suc, ◌+◌, Bool, true, false, ◌&&◌, no
 use Rattle.std.specs.List.{list_any}
 use Rattle.nob_model_types.specs.declared.entry.Entry.{Entry}
 use Rattle.nob_drawing_plan.specs.declared.mark.Mark.{Mark}
-use Rattle.nob_drawing_plan.specs.declared.bars.Bar.{Bar}
+use Rattle.nob_drawing_plan.specs.declared.bar.Bar.{Bar}
 use Rattle.nob_drawing_plan.specs.Marks.{same_mark, marks_at}
 
 -- the row of an entry after those before it

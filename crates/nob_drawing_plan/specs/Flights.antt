@@ -14,8 +14,8 @@ use Rattle.nob_model_types.specs.declared.entry.Entry.{Entry}
 use Rattle.nob_model_words.specs.Deeds.{deed_in}
 use Rattle.nob_model_words.specs.Sessions.{or_else}
 use Rattle.nob_model_journal.specs.Journals.{frames_of}
-use Rattle.nob_drawing_plan.specs.declared.flights.Departure.{Departure}
-use Rattle.nob_drawing_plan.specs.declared.flights.Arrow.{Arrow}
+use Rattle.nob_drawing_plan.specs.declared.flight.Departure.{Departure}
+use Rattle.nob_drawing_plan.specs.declared.flight.Arrow.{Arrow}
 use Rattle.nob_drawing_plan.specs.Bars.{row_after}
 
 -- whether two frames are the same

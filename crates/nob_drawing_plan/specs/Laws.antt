@@ -8,7 +8,7 @@ use Rattle.nob_model_words.specs.Deeds.{deed_in}
 use Rattle.nob_model_journal.specs.Journals.{frames_of, Each}
 use Rattle.nob_model_journal.specs.Runs.{ArrivesGiven}
 use Rattle.nob_drawing_plan.specs.declared.mark.Mark.{Mark}
-use Rattle.nob_drawing_plan.specs.declared.flights.Arrow.{Arrow}
+use Rattle.nob_drawing_plan.specs.declared.flight.Arrow.{Arrow}
 use Rattle.nob_drawing_plan.specs.Marks.{same_mark, marks_at}
 use Rattle.nob_drawing_plan.specs.Bars.{has_bar, bars, row_after}
 use Rattle.nob_drawing_plan.specs.Flights.{arrows}

@@ -3,12 +3,13 @@
 //! listed or a reference is pinned.
 #![tactic(auto)]
 
-mod bars;
-mod flights;
+mod bar;
+mod flight;
+pub mod laws;
 mod mark;
 mod marks;
 
-pub use bars::{Bar, bars};
-pub use flights::{Arrow, Departure, flights, lost};
+pub use bar::{Bar, bars};
+pub use flight::{Arrow, Departure, flights, lost};
 pub use mark::Mark;
 pub use marks::marks_at;

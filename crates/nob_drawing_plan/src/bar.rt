@@ -1,6 +1,6 @@
 //! The bars beside the lifelines.
 
-ghost use Rattle.std.specs.Prelude.{◌≡◌, ◌+◌, ◌<◌, ◌^◌, ℕ, IfOk, map, filter, length, Option};
+ghost use Rattle.std.specs.Prelude.{◌≡◌, ◌==◌, ◌+◌, ◌<◌, ◌^◌, ℕ, IfOk, map, filter, length, Option};
 ghost use Rattle.std.specs.List.{list_any};
 ghost use Rattle.nob_drawing_plan.specs.Marks.{same_mark};
 ghost use Rattle.nob_drawing_plan.specs.Bars as spec;
