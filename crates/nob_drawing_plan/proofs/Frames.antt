@@ -1,5 +1,5 @@
 -- Frames that are the same to the test are the same.
-use Rattle.std.proofs.Common.{◌≡◌, ◌&&◌, true, refl, arith}
+use Rattle.std.proofs.Common.{◌≡◌, true, refl, arith}
 use Rattle.std.specs.Prelude.{◌==◌}
 use Rattle.std.proofs.lemmas.Bool.{and_parts, and_from, eqb-true, eq-eqb}
 use Rattle.std.proofs.lemmas.Slice.Eq.{bytes_eq-Decides}

@@ -1,6 +1,6 @@
 -- The arrows of a drawing: a frame from the Transmit that gave it to an Arrive of it; and the frames that never arrive.
 -- Rows count from 1 in merged order, and the newest entry of a journal stands FIRST.
-use Rattle.std.specs.Prelude.{ℕ, Bool, true, false, ◌&&◌, ◌||◌, not, ◌==◌, List, [], ◌∷◌, ◌++◌, length, filter, Option, Some, None, Result, Ok, Err, if◌then◌else◌}
+use Rattle.std.specs.Prelude.{ℕ, Bool, true, false, ◌&&◌, not, ◌==◌, List, [], ◌∷◌, ◌++◌, length, filter, Option, Some, None, Result, Ok, Err, if◌then◌else◌}
 use Rattle.std.specs.List.{list_any}
 use Rattle.std.specs.Str.{bytes_eq}
 use Rattle.nob_frame.specs.Kinds.{kind_number, is_data, is_ack}

@@ -1,6 +1,6 @@
 -- What holds at a space after what it did, so that a drawing has a bar for it as long as it holds: an object is live, a
 -- client is listed for one, a reference is pinned. These are the words of a space's history.
-use Rattle.std.specs.Prelude.{ℕ, Bool, true, false, ◌&&◌, ◌==◌, List, [], ◌++◌, map, filter, flat_map}
+use Rattle.std.specs.Prelude.{ℕ, Bool, false, ◌&&◌, ◌==◌, List, ◌++◌, map, filter, flat_map}
 use Rattle.nob_ids.specs.Names.{is_same}
 use Rattle.nob_ids.specs.declared.wire_rep.WireRep.{WireRep}
 use Rattle.nob_item.specs.Kinds.{counted_in}

@@ -138,7 +138,9 @@ fn with_ended(
 ) -> Result<Vec<Bar>, AllocError>
     ensures { IfOk result (λ after. after.items ≡ map (spec.ended space row held.now) bars.now) }
 {
-    bars.iter().map(|bar| bar.ended(space, row, held)).collect(alloc)
+    bars.iter()
+        .map(|bar| bar.ended(space, row, held))
+        .collect(alloc)
 }
 
 // The bars with those that begin.

@@ -184,10 +184,7 @@ fn with_arrival(
 /// The frames that the Transmits of a journal gave, and an arrow for each Arrive from the newest
 /// Transmit before it that gave its frame. The newest entry stands first, rows count from the
 /// oldest. At each arrival all frames that were given are looked through.
-pub fn flights(
-    alloc: Global,
-    journal: &[Entry],
-) -> Result<(Vec<Departure>, Vec<Arrow>), AllocError>
+pub fn flights(alloc: Global, journal: &[Entry]) -> Result<(Vec<Departure>, Vec<Arrow>), AllocError>
     ensures departures { IfOk result (λ found. found.0.items ≡ spec.departures journal.now) }
     ensures arrows { IfOk result (λ found. found.1.items ≡ spec.arrows journal.now) }
 {

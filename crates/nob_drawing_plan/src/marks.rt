@@ -25,7 +25,10 @@ fn live_of(alloc: Global, reps: &[WireRep]) -> Result<Vec<Mark>, AllocError>
 fn listed_of(alloc: Global, rep: WireRep, clients: &[SpaceId]) -> Result<Vec<Mark>, AllocError>
     ensures { IfOk result (λ found. found.items ≡ map (marks.Listed rep) clients.now) }
 {
-    clients.iter().map(|client| Mark::Listed(rep, *client)).collect(alloc)
+    clients
+        .iter()
+        .map(|client| Mark::Listed(rep, *client))
+        .collect(alloc)
 }
 
 // The clients among these spaces that are listed for an index.
@@ -94,7 +97,9 @@ fn pins_of(alloc: Global, sent_item: &SentItem) -> Result<Vec<Mark>, AllocError>
     let number = sent_item.number;
     let carried = nob_item::counted_refs(alloc, &sent_item.item)?;
     let reps = once(alloc, carried.as_slice())?;
-    reps.iter().map(|rep| Mark::Pinned(*rep, to, number)).collect(alloc)
+    reps.iter()
+        .map(|rep| Mark::Pinned(*rep, to, number))
+        .collect(alloc)
 }
 
 // The references that all these items were sent with.
