@@ -125,8 +125,7 @@ fn rectangle_text(
     let class = class_name(style);
     let x = corner.x;
     let y = corner.y;
-    format!(in alloc;
-        "<rect class='{class}' x='{x}' y='{y}' width='{width}' height='{height}'/>\n")
+    format!(in alloc; "<rect class='{class}' x='{x}' y='{y}' width='{width}' height='{height}'/>\n")
 }
 
 // What stands before a text.
@@ -202,7 +201,8 @@ fn head_text(alloc: Global, width: u128, height: u128) -> Result<String, AllocEr
     ensures { IfOk result (λ text. string_bytes text ≡ spec.head_text width height) }
 {
     format!(in alloc;
-        "<svg xmlns='http://www.w3.org/2000/svg' width='{width}' height='{height}' viewBox='0 0 {width} {height}'>\n")
+        "<svg xmlns='http://www.w3.org/2000/svg' width='{width}' height='{height}' viewBox='0 0 {width} {height}'>\n"
+    )
 }
 
 /// The text of a drawing so wide and so high as SVG, for which nothing outside is needed. Linear in
