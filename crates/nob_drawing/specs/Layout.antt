@@ -1,6 +1,6 @@
 -- Where everything stands in a drawing. Rows count from 1 in merged order, and the newest entry of a journal stands FIRST.
 use Prim.Native.Nat.{zero}
-use Rattle.std.specs.Prelude.{ℕ, suc, ◌+◌, ◌*◌, ◌-◌, Bool, true, false, ◌&&◌, not, ◌==◌, nat_le, nat_lt, min, max, List, [], ◌∷◌, ◌++◌, length, map, filter, flat_map, codes, Option, Some, None, Result, Ok, Err, if◌then◌else◌}
+use Rattle.std.specs.Prelude.{ℕ, suc, ◌+◌, ◌*◌, ◌-◌, Bool, true, false, ◌&&◌, ◌==◌, nat_le, nat_lt, min, max, List, [], ◌∷◌, ◌++◌, map, filter, flat_map, codes, Option, Some, None, Result, Ok, Err, if◌then◌else◌}
 use Rattle.std.specs.Fmt.{decimal}
 use Rattle.nob_model_types.specs.declared.answer.Answer.{Answer}
 use Rattle.nob_model_types.specs.declared.answer.Answer.TheVariants.{Closed}
@@ -56,14 +56,18 @@ is_shown page row = nat_le page.from row && nat_le row page.to
 abbrev pub is_seen : Page → (start end : ℕ) → Bool
 is_seen page start end = nat_le start page.to && nat_le page.from end
 
--- the lifeline of a space, with its name
-abbrev pub life_shapes : Page → ℕ → List Shape
-life_shapes page space = shapes.Line styles.Life (record { x = x_of space; y = 72 }) (record { x = x_of space; y = bottom_of page }) ∷ shapes.Text styles.Name (record { x = x_of space; y = 62 }) (codes "space " ++ decimal space) ∷ []
+-- the lifeline of a space
+abbrev pub life_line : Page → ℕ → Shape
+life_line page space = shapes.Line styles.Life (record { x = x_of space; y = 72 }) (record { x = x_of space; y = bottom_of page })
 
--- the lifelines of the spaces after this one, as many as are said
+-- its name
+abbrev pub life_name : ℕ → Shape
+life_name space = shapes.Text styles.Name (record { x = x_of space; y = 62 }) (codes "space " ++ decimal space)
+
+-- the lifelines with their names of so many spaces, from this one on
 abbrev pub lives_from : Page → (space count : ℕ) → List Shape
 lives_from page space zero = []
-lives_from page space (suc count) = life_shapes page space ++ lives_from page (space + 1) count
+lives_from page space (suc count) = life_line page space ∷ life_name space ∷ lives_from page (space + 1) count
 
 -- how the entry at a row is shown: as a fault, refused, as a close, or as any other
 abbrev pub result_style : Result Answer Refusal → Style
@@ -86,9 +90,17 @@ entry_text page row entry = shapes.Text (entry_style page row entry) (record { x
 abbrev pub entry_dot : Page → ℕ → Entry → Shape
 entry_dot page row entry = shapes.Rectangle (entry_style page row entry) (record { x = x_of entry.space - 3; y = y_of page row - 3 }) 6 6
 
--- the entry at a row: its number, its text, a faint line to its lifeline, and the point there
+-- the number of a row
+abbrev pub row_number : Page → ℕ → Shape
+row_number page row = shapes.Text styles.Number (record { x = 36; y = y_of page row + 4 }) (decimal row)
+
+-- a faint line from the text of an entry to its lifeline
+abbrev pub guide : Page → ℕ → Entry → Shape
+guide page row entry = shapes.Line styles.Guide (record { x = 470; y = y_of page row }) (point_at page entry.space row)
+
+-- the entry at a row
 abbrev pub entry_shapes : Page → ℕ → Entry → List Shape
-entry_shapes page row entry = shapes.Text styles.Number (record { x = 36; y = y_of page row + 4 }) (decimal row) ∷ entry_text page row entry ∷ shapes.Line styles.Guide (record { x = 470; y = y_of page row }) (point_at page entry.space row) ∷ entry_dot page row entry ∷ []
+entry_shapes page row entry = row_number page row ∷ entry_text page row entry ∷ guide page row entry ∷ entry_dot page row entry ∷ []
 
 -- the entries of a journal that are shown
 abbrev pub entries_shapes : Page → List Entry → List Shape
@@ -127,21 +139,37 @@ abbrev pub lost_style : (again : Bool) → Style
 lost_style false = styles.Lost
 lost_style true = styles.LostAgain
 
--- where a lost frame ends: towards its receiver, above those of the same Transmit that follow
-abbrev pub lost_end : Page → Departure → Point
-lost_end page departure = record { x = (if nat_lt departure.space departure.frame.to then x_of departure.space + 80 else x_of departure.space - 80); y = y_of page departure.row + 12 - 3 * min departure.left 4 }
+-- whether a lost frame goes to the right
+abbrev pub goes_right : Departure → Bool
+goes_right departure = nat_lt departure.space departure.frame.to
 
--- a cross
-abbrev pub cross : Style → Point → List Shape
-cross style at = shapes.Line style (record { x = at.x - 4; y = at.y - 4 }) (record { x = at.x + 4; y = at.y + 4 }) ∷ shapes.Line style (record { x = at.x - 4; y = at.y + 4 }) (record { x = at.x + 4; y = at.y - 4 }) ∷ []
+-- how far to the right it ends: a little way towards its receiver
+abbrev pub lost_x : Bool → ℕ → ℕ
+lost_x true x = x + 80
+lost_x false x = x - 80
+
+-- where it ends: above those of the same Transmit that follow
+abbrev pub lost_end : Page → Departure → Point
+lost_end page departure = record { x = lost_x (goes_right departure) (x_of departure.space); y = y_of page departure.row + 12 - 3 * min departure.left 4 }
+
+-- its line
+abbrev pub lost_line : Page → Departure → Shape
+lost_line page departure = shapes.Line (lost_style departure.again) (point_at page departure.space departure.row) (lost_end page departure)
+
+-- a cross: one line that falls, and one that rises
+abbrev pub falling : Point → Shape
+falling at = shapes.Line styles.Cross (record { x = at.x - 4; y = at.y - 4 }) (record { x = at.x + 4; y = at.y + 4 })
+
+abbrev pub rising : Point → Shape
+rising at = shapes.Line styles.Cross (record { x = at.x - 4; y = at.y + 4 }) (record { x = at.x + 4; y = at.y - 4 })
 
 -- the words at it
 abbrev pub lost_words : Page → Departure → Shape
-lost_words page departure = if nat_lt departure.space departure.frame.to then shapes.Text styles.Behind (record { x = x_of departure.space + 90; y = y_of page departure.row + 15 }) (cut 32 (frame_words departure.frame)) else shapes.Text styles.Before (record { x = x_of departure.space - 90; y = y_of page departure.row + 15 }) (cut 32 (frame_words departure.frame))
+lost_words page departure = if goes_right departure then shapes.Text styles.Behind (record { x = x_of departure.space + 90; y = y_of page departure.row + 15 }) (cut 32 (frame_words departure.frame)) else shapes.Text styles.Before (record { x = x_of departure.space - 90; y = y_of page departure.row + 15 }) (cut 32 (frame_words departure.frame))
 
--- a lost frame
+-- a lost frame: its line, the cross at its end, and its words
 abbrev pub lost_shapes : Page → Departure → List Shape
-lost_shapes page departure = if is_shown page departure.row then shapes.Line (lost_style departure.again) (point_at page departure.space departure.row) (lost_end page departure) ∷ (cross styles.Cross (lost_end page departure) ++ lost_words page departure ∷ []) else []
+lost_shapes page departure = if is_shown page departure.row then lost_line page departure ∷ falling (lost_end page departure) ∷ rising (lost_end page departure) ∷ lost_words page departure ∷ [] else []
 
 -- how a bar is drawn
 abbrev pub mark_style : Mark → Style
@@ -158,9 +186,17 @@ end_of page (Some row) = row
 abbrev pub bar_x : Bar → ℕ
 bar_x bar = x_of bar.space + 8 + 11 * bar.lane
 
--- a bar
+-- its box
+abbrev pub bar_box : Page → Bar → Shape
+bar_box page bar = shapes.Rectangle (mark_style bar.mark) (record { x = bar_x bar; y = y_of page bar.start }) 9 (y_of page (end_of page bar.end) - y_of page bar.start)
+
+-- the words in it
+abbrev pub bar_words : Page → Bar → Shape
+bar_words page bar = shapes.Turned styles.Held (record { x = bar_x bar + 2; y = y_of page bar.start + 3 }) (mark_words bar.mark)
+
+-- a bar, where it is seen
 abbrev pub bar_shapes : Page → Bar → List Shape
-bar_shapes page bar = if is_seen page bar.start (end_of page bar.end) then shapes.Rectangle (mark_style bar.mark) (record { x = bar_x bar; y = y_of page bar.start }) 9 (y_of page (end_of page bar.end) - y_of page bar.start) ∷ shapes.Turned styles.Held (record { x = bar_x bar + 2; y = y_of page bar.start + 3 }) (mark_words bar.mark) ∷ [] else []
+bar_shapes page bar = if is_seen page bar.start (end_of page bar.end) then bar_box page bar ∷ bar_words page bar ∷ [] else []
 
 -- all that stands in a drawing of a journal
 abbrev pub drawing : Page → List Entry → List Shape

@@ -1,14 +1,14 @@
 //! Arrows, and frames that are lost.
 
-ghost use Rattle.std.specs.Prelude.{◌≡◌, ◌++◌, ◌∷◌, [], IfOk, flat_map};
+ghost use Rattle.std.specs.Prelude.{◌≡◌, ◌+◌, ◌-◌, ◌*◌, ◌^◌, ◌<◌, ◌≤◌, min, IfOk, flat_map};
 ghost use Rattle.nob_drawing.specs.Layout as spec;
 
 use crate::labels::cut_label;
 use crate::page::Page;
 use crate::places::{is_seen, is_shown, point_at, x_of, y_of};
-use nob_shapes::{Point, Shape, Style};
 use crate::words::frame_words;
 use nob_drawing_plan::{Arrow, Departure};
+use nob_shapes::{Point, Shape, Style};
 use std::alloc::{AllocError, Global};
 
 // How an arrow is drawn.
@@ -42,7 +42,11 @@ fn arrow_line(page: &Page, arrow: &Arrow) -> Shape
 {
     let start = point_at(page, arrow.departure.space, arrow.departure.row as u128);
     let end = point_at(page, arrow.to, arrow.row as u128);
-    Shape::Line(arrow_style(arrow.departure.again, arrow.ignored), start, end)
+    Shape::Line(
+        arrow_style(arrow.departure.again, arrow.ignored),
+        start,
+        end,
+    )
 }
 
 // Whether an arrow is seen.
@@ -104,17 +108,41 @@ fn lost_style(again: bool) -> Style
 }
 
 // Whether a lost frame goes to the right.
-fn goes_right(departure: &Departure) -> bool {
+fn goes_right(departure: &Departure) -> bool
+    ensures { result ≡ spec.goes_right departure.now }
+{
     departure.space.get() < departure.frame.to.get()
+}
+
+// How far to the right a lost frame ends.
+fn lost_x(right: bool, x: u128) -> u128
+    requires { (500 ≤ x) × (x < 2 ^ 14) }
+    ensures place { result ≡ spec.lost_x right x }
+    ensures bound { (4 ≤ result) × (result < 2 ^ 15) }
+{
+    if right {
+        return x + 80;
+    }
+    x - 80
+}
+
+// How far down a lost frame ends.
+fn lost_y(page: &Page, departure: &Departure) -> u128
+    ensures place { result
+        ≡ spec.y_of page.now departure.now.row + 12 - 3 * min departure.now.left 4 }
+    ensures bound { (4 ≤ result) × (result < 2 ^ 71) }
+{
+    y_of(page, departure.row as u128) + 12 - 3 * (departure.left as u128).min(4)
 }
 
 // Where a lost frame ends.
 fn lost_end(page: &Page, departure: &Departure) -> Point
-    ensures { result ≡ spec.lost_end page.now departure.now }
+    ensures place { result ≡ spec.lost_end page.now departure.now }
+    ensures across { (4 ≤ result.x) × (result.x < 2 ^ 15) }
+    ensures down { (4 ≤ result.y) × (result.y < 2 ^ 71) }
 {
-    let start = x_of(departure.space);
-    let x = if goes_right(departure) { start + 80 } else { start - 80 };
-    let y = y_of(page, departure.row as u128) + 12 - 3 * (departure.left as u128).min(4);
+    let x = lost_x(goes_right(departure), x_of(departure.space));
+    let y = lost_y(page, departure);
     Point { x, y }
 }
 
@@ -132,7 +160,11 @@ fn lost_words(alloc: Global, page: &Page, departure: &Departure) -> Result<Shape
 }
 
 // One line of a cross: from above.
-fn falling(at: Point) -> Shape {
+fn falling(at: Point) -> Shape
+    requires across { (4 ≤ at.x) × (at.x < 2 ^ 15) }
+    requires down { (4 ≤ at.y) × (at.y < 2 ^ 71) }
+    ensures { result ≡ spec.falling at }
+{
     Shape::Line(
         Style::Cross,
         Point {
@@ -147,7 +179,11 @@ fn falling(at: Point) -> Shape {
 }
 
 // The other one: from below.
-fn rising(at: Point) -> Shape {
+fn rising(at: Point) -> Shape
+    requires across { (4 ≤ at.x) × (at.x < 2 ^ 15) }
+    requires down { (4 ≤ at.y) × (at.y < 2 ^ 71) }
+    ensures { result ≡ spec.rising at }
+{
     Shape::Line(
         Style::Cross,
         Point {
@@ -162,7 +198,9 @@ fn rising(at: Point) -> Shape {
 }
 
 // The line of a lost frame.
-fn lost_line(page: &Page, departure: &Departure) -> Shape {
+fn lost_line(page: &Page, departure: &Departure) -> Shape
+    ensures { result ≡ spec.lost_line page.now departure.now }
+{
     let start = point_at(page, departure.space, departure.row as u128);
     Shape::Line(
         lost_style(departure.again),

@@ -1,14 +1,14 @@
 //! Bars.
 
-ghost use Rattle.std.specs.Prelude.{◌≡◌, ◌++◌, ◌∷◌, ◌≤◌, ◌<◌, ◌^◌, [], IfOk, flat_map};
+ghost use Rattle.std.specs.Prelude.{◌≡◌, ◌<◌, ◌^◌, IfOk, flat_map};
 ghost use Rattle.nob_drawing.specs.Layout as spec;
 
 use crate::labels::label;
 use crate::page::Page;
 use crate::places::{is_seen, x_of, y_of};
-use nob_shapes::{Point, Shape, Style};
 use crate::words::mark_words;
 use nob_drawing_plan::{Bar, Mark};
+use nob_shapes::{Point, Shape, Style};
 use std::alloc::{AllocError, Global};
 
 // How a bar is drawn.
@@ -41,7 +41,9 @@ fn bar_x(bar: &Bar) -> u128
 }
 
 // The box of a bar.
-fn bar_box(page: &Page, bar: &Bar) -> Shape {
+fn bar_box(page: &Page, bar: &Bar) -> Shape
+    ensures { result ≡ spec.bar_box page.now bar.now }
+{
     let y = y_of(page, bar.start as u128);
     let end = y_of(page, end_of(page, bar.end));
     let corner = Point { x: bar_x(bar), y };
@@ -49,7 +51,9 @@ fn bar_box(page: &Page, bar: &Bar) -> Shape {
 }
 
 // The words in it.
-fn bar_words(alloc: Global, page: &Page, bar: &Bar) -> Result<Shape, AllocError> {
+fn bar_words(alloc: Global, page: &Page, bar: &Bar) -> Result<Shape, AllocError>
+    ensures { IfOk result (λ shape. shape ≡ spec.bar_words page.now bar.now) }
+{
     let words = label(mark_words(alloc, bar.mark)?);
     let at = Point {
         x: bar_x(bar) + 2,

@@ -1,64 +1,58 @@
 //! Lifelines, and the entries on them.
 
-ghost use Rattle.std.specs.Prelude.{◌≡◌, ◌++◌, ◌∷◌, ◌≤◌, ◌<◌, ◌+◌, [], IfOk, codes};
-ghost use Rattle.std.specs.Fmt.{decimal};
-ghost use Rattle.nob_drawing_plan.specs.Bars.{row_after};
+ghost use Rattle.std.specs.Prelude.{◌≡◌, ◌<◌, ◌+◌, ◌^◌, IfOk};
 ghost use Rattle.nob_drawing.specs.Layout as spec;
 
 use crate::labels::{cut_label, label, number_label};
 use crate::page::Page;
-use crate::places::{bottom_of, is_shown, point_at, x_of, y_of};
-use nob_shapes::{Point, Shape, Style};
+use crate::places::{bottom_of, column, is_shown, point_at, x_of, y_of};
 use crate::words::entry_words;
-use nob_bytes::Bytes;
-use nob_ids::SpaceId;
 use nob_model_types::{Answer, Entry, Refusal};
+use nob_shapes::{Point, Shape, Style};
 use std::alloc::{AllocError, Global};
 
 // The name of a space.
-fn name_of(alloc: Global, space: SpaceId) -> Result<Bytes, AllocError>
-    ensures { IfOk result (λ name. name ≡ codes "space " ++ decimal space) }
+fn life_name(alloc: Global, space: u32) -> Result<Shape, AllocError>
+    ensures { IfOk result (λ shape. shape ≡ spec.life_name space) }
 {
     let text = format!(in alloc; "space {space}")?;
-    Ok(label(text))
+    let at = Point {
+        x: column(space),
+        y: 62,
+    };
+    Ok(Shape::Text(Style::Name, at, label(text)))
 }
 
 // The lifeline of a space.
-fn life_line(page: &Page, space: SpaceId) -> Shape {
-    let x = x_of(space);
-    Shape::Line(
-        Style::Life,
-        Point { x, y: 72 },
-        Point {
-            x,
-            y: bottom_of(page),
-        },
-    )
+fn life_line(page: &Page, space: u32) -> Shape
+    ensures { result ≡ spec.life_line page.now space }
+{
+    let x = column(space);
+    let top = Point { x, y: 72 };
+    let bottom = Point {
+        x,
+        y: bottom_of(page),
+    };
+    Shape::Line(Style::Life, top, bottom)
 }
 
-// The lifelines of the spaces after this one, as many as are said, in front of other shapes.
+// The lifelines with their names of so many spaces, from this one on.
 pub(crate) fn lives_from(
     alloc: Global,
     page: &Page,
-    space: u16,
-    count: u16,
+    space: u32,
+    count: u32,
 ) -> Result<Vec<Shape>, AllocError>
+    requires { space + count < 2 ^ 32 }
     ensures { IfOk result (λ shapes. shapes.items ≡ spec.lives_from page.now space count) }
 {
-    let Some(here) = SpaceId::new(space) else {
-        return Ok(Vec::new(alloc));
-    };
     if count == 0 {
         return Ok(Vec::new(alloc));
     }
     let mut shapes = lives_from(alloc, page, space + 1, count - 1)?;
-    let name = name_of(alloc, here)?;
-    let at = Point {
-        x: x_of(here),
-        y: 62,
-    };
-    shapes.insert(0, Shape::Text(Style::Name, at, name))?;
-    shapes.insert(0, life_line(page, here))?;
+    let name = life_name(alloc, space)?;
+    shapes.insert(0, name)?;
+    shapes.insert(0, life_line(page, space))?;
     Ok(shapes)
 }
 
@@ -119,7 +113,9 @@ fn entry_dot(page: &Page, row: usize, entry: &Entry) -> Shape
 }
 
 // The number of a row.
-fn row_number(alloc: Global, page: &Page, row: usize) -> Result<Shape, AllocError> {
+fn row_number(alloc: Global, page: &Page, row: usize) -> Result<Shape, AllocError>
+    ensures { IfOk result (λ shape. shape ≡ spec.row_number page.now row) }
+{
     let number = number_label(alloc, row)?;
     let at = Point {
         x: 36,
@@ -129,7 +125,9 @@ fn row_number(alloc: Global, page: &Page, row: usize) -> Result<Shape, AllocErro
 }
 
 // The line from the text of an entry to its lifeline.
-fn guide(page: &Page, row: usize, entry: &Entry) -> Shape {
+fn guide(page: &Page, row: usize, entry: &Entry) -> Shape
+    ensures { result ≡ spec.guide page.now row entry.now }
+{
     let start = Point {
         x: 470,
         y: y_of(page, row as u128),

@@ -4,13 +4,13 @@
 
 mod arrows;
 mod bars;
-mod whole;
 mod entries;
 mod labels;
 mod page;
 mod places;
+mod whole;
 mod words;
 
-pub use whole::drawing;
 pub use page::Page;
 pub use places::{height_of, width_of};
+pub use whole::drawing;

@@ -4,8 +4,8 @@ ghost use Rattle.std.specs.Prelude.{◌≡◌, ◌<◌, ◌≤◌, ◌^◌};
 ghost use Rattle.nob_drawing.specs.Layout as spec;
 
 use crate::page::Page;
-use nob_shapes::Point;
 use nob_ids::SpaceId;
+use nob_shapes::Point;
 
 // The place of a row among those that are shown.
 fn place_of(page: &Page, row: u128) -> u128
@@ -13,7 +13,9 @@ fn place_of(page: &Page, row: u128) -> u128
     ensures bound { result ≤ 2 ^ 64 }
 {
     let first = (page.from as u128).saturating_sub(1);
-    row.max(first).min(page.to as u128 + 1).saturating_sub(first)
+    row.max(first)
+        .min(page.to as u128 + 1)
+        .saturating_sub(first)
 }
 
 // How far down a row stands.
@@ -30,6 +32,13 @@ pub(crate) fn x_of(space: SpaceId) -> u128
     ensures bound { (500 ≤ result) × (result < 2 ^ 14) }
 {
     250 + 250 * u128::from(space.get())
+}
+
+// How far to the right the lifeline of the space of a number stands.
+pub(crate) fn column(number: u32) -> u128
+    ensures { result ≡ spec.x_of number }
+{
+    250 + 250 * u128::from(number)
 }
 
 // A point on the lifeline of a space at a row.

@@ -7,9 +7,9 @@ use crate::arrows::{arrows_lines, arrows_words, losses_shapes};
 use crate::bars::bars_shapes;
 use crate::entries::{entries_shapes, lives_from};
 use crate::page::Page;
-use nob_shapes::Shape;
 use nob_drawing_plan::{bars, flights, lost};
 use nob_model_types::Entry;
+use nob_shapes::Shape;
 use std::alloc::{AllocError, Global};
 
 /// All that stands in a drawing of a journal, the newest entry of which stands first: a lifeline for
@@ -21,7 +21,7 @@ pub fn drawing(alloc: Global, page: &Page, journal: &[Entry]) -> Result<Vec<Shap
     let held = bars(alloc, page.n, journal)?;
     let (departures, arrows) = flights(alloc, journal)?;
     let losses = lost(alloc, arrows.as_slice(), departures.as_slice())?;
-    let mut shapes = lives_from(alloc, page, 1, page.n)?;
+    let mut shapes = lives_from(alloc, page, 1, u32::from(page.n))?;
     let mut entries = entries_shapes(alloc, page, journal)?;
     let mut held = bars_shapes(alloc, page, held.as_slice())?;
     let mut lines = arrows_lines(alloc, page, arrows.as_slice())?;

@@ -58,12 +58,7 @@ fn settle_words(alloc: Global, item: u64) -> Result<String, AllocError>
 }
 
 // An item from one space to another.
-fn item_words(
-    alloc: Global,
-    from: SpaceId,
-    to: SpaceId,
-    item: &Item,
-) -> Result<String, AllocError>
+fn item_words(alloc: Global, from: SpaceId, to: SpaceId, item: &Item) -> Result<String, AllocError>
     ensures { IfOk result (λ text. string_bytes text ≡ spec.item_words from to item.now) }
 {
     match item {
@@ -189,10 +184,7 @@ fn event_words(alloc: Global, event: &Event) -> Result<String, AllocError>
 }
 
 // A result.
-fn result_words(
-    alloc: Global,
-    response: &Result<Answer, Refusal>,
-) -> Result<String, AllocError>
+fn result_words(alloc: Global, response: &Result<Answer, Refusal>) -> Result<String, AllocError>
     ensures { IfOk result (λ text. string_bytes text ≡ spec.result_words response.now) }
 {
     match response {
