@@ -1,5 +1,5 @@
 -- What `nobj draw` writes for an input, and how it ends.
-use Rattle.std.specs.Prelude.{◌≡◌, ℕ, ◌+◌, Bool, ◌&&◌, ◌==◌, List, [], ◌∷◌, ◌++◌, length, reverse, min, max, codes, Option, Some, None, if◌then◌else◌}
+use Rattle.std.specs.Prelude.{◌≡◌, ℕ, ◌+◌, Bool, true, false, ◌&&◌, ◌==◌, List, [], ◌∷◌, length, reverse, min, max, codes, Option, Some, None, if◌then◌else◌}
 use Rattle.std.specs.List.{AllByRecursion, flat_map}
 use Rattle.nob_model_types.specs.declared.entry.Entry.{Entry}
 use Rattle.nob_model_journal.specs.Journals.{at}
@@ -43,6 +43,13 @@ fault_row (faults.NotARun space place) J = row_of space place J
 fault_row (faults.NoOrigin space place) J = row_of space place J
 fault_row (faults.Stamp space place) J = row_of space place J
 
+-- whether a fault is of an entry, of traces that belong together
+abbrev pub is_of_entry : CheckFault → Bool
+is_of_entry faults.Set = false
+is_of_entry (faults.NotARun space place) = true
+is_of_entry (faults.NoOrigin space place) = true
+is_of_entry (faults.Stamp space place) = true
+
 -- how many spaces there are, by the first trace: as many as each of traces that belong together says
 abbrev pub spaces_of : List Trace → ℕ
 spaces_of [] = 0
@@ -53,7 +60,7 @@ abbrev pub page_of : ℕ → Part → Option ℕ → List Entry → Page
 page_of n part fault J = record { n = n; from = max part.from 1; to = min part.to (length J); fault = fault }
 
 -- the drawing of a journal
-abbrev pub svg_of : ℕ → Part → Option ℕ → List Entry → List ℕ
+unfoldable pub svg_of : ℕ → Part → Option ℕ → List Entry → List ℕ
 svg_of n part fault J = svg_text (width_of (page_of n part fault J)) (height_of (page_of n part fault J)) (drawing (page_of n part fault J) J)
 
 -- an input is these traces, one after the other

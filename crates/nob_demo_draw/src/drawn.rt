@@ -12,11 +12,13 @@ use nob_shapes::svg_text;
 use std::alloc::{AllocError, Global};
 
 // What is shown of a journal.
-fn page_of(n: u16, part: Part, fault: Option<usize>, count: usize) -> Page {
+fn page_of(n: u16, part: Part, fault: Option<usize>, journal: &[Entry]) -> Page
+    ensures { result ≡ spec.page_of n part fault journal.now }
+{
     Page {
         n,
         from: part.from.max(1),
-        to: part.to.min(count),
+        to: part.to.min(journal.len()),
         fault,
     }
 }
@@ -31,7 +33,7 @@ fn svg_of(
 ) -> Result<Vec<u8>, AllocError>
     ensures { IfOk result (λ text. text.items ≡ spec.svg_of n part fault journal.now) }
 {
-    let page = page_of(n, part, fault, journal.len());
+    let page = page_of(n, part, fault, journal);
     let shapes = drawing(alloc, &page, journal)?;
     svg_text(alloc, width_of(&page), height_of(&page), shapes.as_slice())
 }

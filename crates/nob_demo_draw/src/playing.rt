@@ -1,10 +1,12 @@
 //! Whole inputs.
 
 ghost use Rattle.std.specs.Prelude.{◌≡◌, ◌++◌, [], ℕ, List, IfOk};
+ghost use Rattle.nob_model_traces.specs.Faults.{IsFault};
 ghost use Rattle.nob_demo_draw.specs.Draws as spec;
 
 use crate::drawn::{drawn, drawn_wrong};
 use crate::ending::Ending;
+use crate::place::is_of_entry;
 use crate::set::{entries_of, spaces_of};
 use nob_check_traces::check;
 use nob_model_traces::{CheckError, CheckFault};
@@ -67,14 +69,26 @@ fn bytes_of_traces(
             let bytes = drawn(alloc, spaces_of(traces), part, merged.into_vec())?;
             Ok((bytes, Ending::Drawn))
         }
-        Err(CheckError::Fault(CheckFault::Set)) => {
-            Ok((b"C4\n".as_slice().to_vec(alloc)?, Ending::Refused))
-        }
-        Err(CheckError::Fault(fault)) => {
-            let merged = entries_of(alloc, traces)?;
-            let bytes = drawn_wrong(alloc, spaces_of(traces), part, fault, merged)?;
-            Ok((bytes, Ending::Refused))
-        }
+        Err(CheckError::Fault(fault)) => bytes_of_wrong(alloc, traces, part, fault),
         Err(CheckError::OutOfMemory) => Err(AllocError),
     }
+}
+
+// What is written for traces that this is wrong with.
+fn bytes_of_wrong(
+    alloc: Global,
+    traces: &[Trace],
+    part: Part,
+    fault: CheckFault,
+) -> Result<(Vec<u8>, Ending), AllocError>
+    requires { IsFault traces.now fault }
+    ensures { (input : List ℕ) → spec.Spells input traces.now → IfOk result (λ said.
+        spec.Draws input part (said.0.items ++ spec.last_line said.1) said.1) }
+{
+    if !is_of_entry(fault) {
+        return Ok((b"C4\n".as_slice().to_vec(alloc)?, Ending::Refused));
+    }
+    let merged = entries_of(alloc, traces)?;
+    let bytes = drawn_wrong(alloc, spaces_of(traces), part, fault, merged)?;
+    Ok((bytes, Ending::Refused))
 }
