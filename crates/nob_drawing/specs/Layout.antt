@@ -148,9 +148,13 @@ abbrev pub lost_x : Bool → ℕ → ℕ
 lost_x true x = x + 80
 lost_x false x = x - 80
 
--- where it ends: above those of the same Transmit that follow
+-- how far down it ends: below those in front of it of the same Transmit
+abbrev pub lost_y : Page → Departure → ℕ
+lost_y page departure = y_of page departure.row + 12 + 12 * min departure.place 6
+
+-- where it ends
 abbrev pub lost_end : Page → Departure → Point
-lost_end page departure = record { x = lost_x (goes_right departure) (x_of departure.space); y = y_of page departure.row + 12 - 3 * min departure.left 4 }
+lost_end page departure = record { x = lost_x (goes_right departure) (x_of departure.space); y = lost_y page departure }
 
 -- its line
 abbrev pub lost_line : Page → Departure → Shape
@@ -165,7 +169,7 @@ rising at = shapes.Line styles.Cross (record { x = at.x - 4; y = at.y + 4 }) (re
 
 -- the words at it
 abbrev pub lost_words : Page → Departure → Shape
-lost_words page departure = if goes_right departure then shapes.Text styles.Behind (record { x = x_of departure.space + 90; y = y_of page departure.row + 15 }) (cut 32 (frame_words departure.frame)) else shapes.Text styles.Before (record { x = x_of departure.space - 90; y = y_of page departure.row + 15 }) (cut 32 (frame_words departure.frame))
+lost_words page departure = if goes_right departure then shapes.Text styles.Behind (record { x = x_of departure.space + 90; y = lost_y page departure + 4 }) (cut 32 (frame_words departure.frame)) else shapes.Text styles.Before (record { x = x_of departure.space - 90; y = lost_y page departure + 4 }) (cut 32 (frame_words departure.frame))
 
 -- a lost frame: its line, the cross at its end, and its words
 abbrev pub lost_shapes : Page → Departure → List Shape

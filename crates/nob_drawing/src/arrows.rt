@@ -128,11 +128,10 @@ fn lost_x(right: bool, x: u128) -> u128
 
 // How far down a lost frame ends.
 fn lost_y(page: &Page, departure: &Departure) -> u128
-    ensures place { result
-        ≡ spec.y_of page.now departure.now.row + 12 - 3 * min departure.now.left 4 }
+    ensures place { result ≡ spec.lost_y page.now departure.now }
     ensures bound { (4 ≤ result) × (result < 2 ^ 71) }
 {
-    y_of(page, departure.row as u128) + 12 - 3 * (departure.left as u128).min(4)
+    y_of(page, departure.row as u128) + 12 + 12 * (departure.place as u128).min(6)
 }
 
 // Where a lost frame ends.
@@ -152,7 +151,7 @@ fn lost_words(alloc: Global, page: &Page, departure: &Departure) -> Result<Shape
 {
     let words = cut_label(alloc, 32, frame_words(alloc, &departure.frame)?)?;
     let x = x_of(departure.space);
-    let y = y_of(page, departure.row as u128) + 15;
+    let y = lost_y(page, departure) + 4;
     if goes_right(departure) {
         return Ok(Shape::Text(Style::Behind, Point { x: x + 90, y }, words));
     }

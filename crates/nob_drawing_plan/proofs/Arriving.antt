@@ -1,5 +1,5 @@
 -- Each arrival has its arrow.
-use Rattle.std.proofs.Common.{◌≡◌, ℕ, ◌<◌, ◌⊎◌, inl, inr, Bool, true, false, cond, List, [], ◌∷◌, ◌++◌, length, Option, Some, None, refl, sym, ap, subst, ◌∙◌, arith}
+use Rattle.std.proofs.Common.{◌≡◌, ℕ, ◌+◌, ◌<◌, ◌⊎◌, inl, inr, Bool, true, false, cond, List, [], ◌∷◌, ◌++◌, length, Option, Some, None, refl, sym, ap, subst, ◌∙◌, arith}
 use Prim.Native.Nat.{zero, suc}
 use Rattle.std.specs.List.{Contains}
 use Rattle.std.proofs.lemmas.List.Elements.{Contains-append_left, Contains-append_right, Contains-append_cases}
@@ -39,47 +39,47 @@ contains_lone x y (suc k, less, is) = absurd (omega (arith, less))
 abbrev IsNew : (s row : ℕ) → List Frame → Departure → Type 0
 IsNew s row frames d = Contains frames d.frame × (d.space ≡ s) × (d.row ≡ row)
 
-one_more : (s row : ℕ) (frame : Frame) (frames : List Frame) (D : List Departure) (d : Departure) → Contains (departure_of s row (length frames) frame D ∷ []) d → IsNew s row (frame ∷ frames) d
-one_more s row frame frames D d there =
-    subst (IsNew s row (frame ∷ frames)) (contains_lone d (departure_of s row (length frames) frame D) there) (contains_here frame frame frames refl, refl, refl)
+one_more : (s row place : ℕ) (frame : Frame) (frames : List Frame) (D : List Departure) (d : Departure) → Contains (departure_of s row place frame D ∷ []) d → IsNew s row (frame ∷ frames) d
+one_more s row place frame frames D d there =
+    subst (IsNew s row (frame ∷ frames)) (contains_lone d (departure_of s row place frame D) there) (contains_here frame frame frames refl, refl, refl)
 
-more_given : (s row : ℕ) (frames : List Frame) (D : List Departure) (d : Departure) → Contains (with_departures s row frames D) d → Contains D d ⊎ IsNew s row frames d
-more_given s row [] D d there = inl there
-more_given s row (frame ∷ frames) D d there = by (more_given s row frames (D ++ new ∷ []) d there)
+more_given : (s row place : ℕ) (frames : List Frame) (D : List Departure) (d : Departure) → Contains (with_departures s row place frames D) d → Contains D d ⊎ IsNew s row frames d
+more_given s row place [] D d there = inl there
+more_given s row place (frame ∷ frames) D d there = by (more_given s row (place + 1) frames (D ++ new ∷ []) d there)
   where
     new : Departure
-    new = departure_of s row (length frames) frame D
+    new = departure_of s row place frame D
 
     old : Contains D d ⊎ Contains (new ∷ []) d → Contains D d ⊎ IsNew s row (frame ∷ frames) d
     old (inl before) = inl before
-    old (inr lone) = inr (one_more s row frame frames D d lone)
+    old (inr lone) = inr (one_more s row place frame frames D d lone)
 
     by : Contains (D ++ new ∷ []) d ⊎ IsNew s row frames d → Contains D d ⊎ IsNew s row (frame ∷ frames) d
     by (inl before) = old (Contains-append_cases D (new ∷ []) d before)
     by (inr (one, space, place)) = inr (contains_there d.frame frame frames one, space, place)
 
-kept : (s row : ℕ) (frames : List Frame) (D : List Departure) (d : Departure) → Contains D d → Contains (with_departures s row frames D) d
-kept s row [] D d there = there
-kept s row (frame ∷ frames) D d there = kept s row frames (D ++ departure_of s row (length frames) frame D ∷ []) d (Contains-append_left D (departure_of s row (length frames) frame D ∷ []) d there)
+kept : (s row place : ℕ) (frames : List Frame) (D : List Departure) (d : Departure) → Contains D d → Contains (with_departures s row place frames D) d
+kept s row place [] D d there = there
+kept s row place (frame ∷ frames) D d there = kept s row (place + 1) frames (D ++ departure_of s row place frame D ∷ []) d (Contains-append_left D (departure_of s row place frame D ∷ []) d there)
 
 -- a departure of a frame
 abbrev HasOf : List Departure → Frame → Type 0
 HasOf D frame = (d : Departure) × Contains D d × (d.frame ≡ frame)
 
-departed : (s row : ℕ) (frames : List Frame) (D : List Departure) (frame : Frame) → Contains frames frame → HasOf (with_departures s row frames D) frame
-departed s row [] D frame there = absurd (contains_none frame there)
-departed s row (first ∷ frames) D frame (zero, less, is) =
-    let new = departure_of s row (length frames) first D in
-    (new, kept s row frames (D ++ new ∷ []) new (Contains-append_right D (new ∷ []) new (contains_here new new [] refl)), is)
-departed s row (first ∷ frames) D frame (suc k, less, is) = departed s row frames (D ++ departure_of s row (length frames) first D ∷ []) frame (k, omega (arith, less), is)
+departed : (s row place : ℕ) (frames : List Frame) (D : List Departure) (frame : Frame) → Contains frames frame → HasOf (with_departures s row place frames D) frame
+departed s row place [] D frame there = absurd (contains_none frame there)
+departed s row place (first ∷ frames) D frame (zero, less, is) =
+    let new = departure_of s row place first D in
+    (new, kept s row (place + 1) frames (D ++ new ∷ []) new (Contains-append_right D (new ∷ []) new (contains_here new new [] refl)), is)
+departed s row place (first ∷ frames) D frame (suc k, less, is) = departed s row (place + 1) frames (D ++ departure_of s row place first D ∷ []) frame (k, omega (arith, less), is)
 
 was_departed : (J : List Entry) (frame : Frame) → Contains (transmitted_frames J) frame → HasOf (departures J) frame
 was_departed [] frame there = absurd (contains_none frame there)
 was_departed (entry ∷ J) frame there = by (was_departed J frame) (Contains-append_cases (transmitted_frames J) (frames_of (deed_in entry)) frame there)
   where
     by : (Contains (transmitted_frames J) frame → HasOf (departures J) frame) → Contains (transmitted_frames J) frame ⊎ Contains (frames_of (deed_in entry)) frame → HasOf (departures (entry ∷ J)) frame
-    by rest (inl before) = let found = rest before in (found.0, kept entry.space (row_after J) (frames_of (deed_in entry)) (departures J) found.0 found.1, found.2)
-    by rest (inr own) = departed entry.space (row_after J) (frames_of (deed_in entry)) (departures J) frame own
+    by rest (inl before) = let found = rest before in (found.0, kept entry.space (row_after J) 0 (frames_of (deed_in entry)) (departures J) found.0 found.1, found.2)
+    by rest (inr own) = departed entry.space (row_after J) 0 (frames_of (deed_in entry)) (departures J) frame own
 
 -- an entry of a journal gave the frame of a departure
 pub record IsGiven (J : List Entry) (d : Departure) : Type 0 where
@@ -104,7 +104,7 @@ later_given entry J d given = record {
 
 was_given : (J : List Entry) (d : Departure) → Contains (departures J) d → IsGiven J d
 was_given [] d there = absurd (contains_none d there)
-was_given (entry ∷ J) d there = by (was_given J d) (more_given entry.space (row_after J) (frames_of (deed_in entry)) (departures J) d there)
+was_given (entry ∷ J) d there = by (was_given J d) (more_given entry.space (row_after J) 0 (frames_of (deed_in entry)) (departures J) d there)
   where
     by : (Contains (departures J) d → IsGiven J d) → Contains (departures J) d ⊎ IsNew entry.space (row_after J) (frames_of (deed_in entry)) d → IsGiven (entry ∷ J) d
     by rest (inl before) = later_given entry J d (rest before)

@@ -1,6 +1,6 @@
 -- The arrows of a drawing: a frame from the Transmit that gave it to an Arrive of it; and the frames that never arrive.
 -- Rows count from 1 in merged order, and the newest entry of a journal stands FIRST.
-use Rattle.std.specs.Prelude.{ℕ, Bool, true, false, ◌&&◌, not, ◌==◌, List, [], ◌∷◌, ◌++◌, length, filter, Option, Some, None, Result, Ok, Err, if◌then◌else◌}
+use Rattle.std.specs.Prelude.{ℕ, ◌+◌, Bool, true, false, ◌&&◌, not, ◌==◌, List, [], ◌∷◌, ◌++◌, filter, Option, Some, None, Result, Ok, Err, if◌then◌else◌}
 use Rattle.std.specs.List.{list_any}
 use Rattle.std.specs.Str.{bytes_eq}
 use Rattle.nob_frame.specs.Kinds.{kind_number, is_data, is_ack}
@@ -30,19 +30,19 @@ is_twin frame other = is_data frame.kind && is_data other.kind && frame.from == 
 abbrev pub is_again : Frame → List Departure → Bool
 is_again frame departures = list_any (λ departure. is_twin frame departure.frame) departures
 
--- a frame that space s gives at a row, where so many others follow of the same Transmit
-abbrev pub departure_of : (s row left : ℕ) → Frame → List Departure → Departure
-departure_of s row left frame before = record { frame = frame; space = s; row = row; left = left; again = is_again frame before }
+-- the frame at a place of a Transmit that space s does at a row
+abbrev pub departure_of : (s row place : ℕ) → Frame → List Departure → Departure
+departure_of s row place frame before = record { frame = frame; space = s; row = row; place = place; again = is_again frame before }
 
--- departures with those of these frames
-abbrev pub with_departures : (s row : ℕ) → List Frame → List Departure → List Departure
-with_departures s row [] departures = departures
-with_departures s row (frame ∷ frames) departures = with_departures s row frames (departures ++ departure_of s row (length frames) frame departures ∷ [])
+-- departures with those of these frames, the first of which is at this place
+abbrev pub with_departures : (s row place : ℕ) → List Frame → List Departure → List Departure
+with_departures s row place [] departures = departures
+with_departures s row place (frame ∷ frames) departures = with_departures s row (place + 1) frames (departures ++ departure_of s row place frame departures ∷ [])
 
 -- the frames that Transmits gave, each with its Transmit, the first first
 abbrev pub departures : List Entry → List Departure
 departures [] = []
-departures (entry ∷ J) = with_departures entry.space (row_after J) (frames_of (deed_in entry)) (departures J)
+departures (entry ∷ J) = with_departures entry.space (row_after J) 0 (frames_of (deed_in entry)) (departures J)
 
 -- whether a departure is of this frame
 abbrev pub is_of : Frame → Departure → Bool

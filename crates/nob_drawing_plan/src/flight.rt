@@ -1,6 +1,6 @@
 //! The arrows between the lifelines.
 
-ghost use Rattle.std.specs.Prelude.{◌≡◌, ◌++◌, IfOk, Some, filter, not};
+ghost use Rattle.std.specs.Prelude.{◌≡◌, ◌+◌, ◌<◌, ◌^◌, ◌++◌, length, IfOk, Some, filter, not};
 ghost use Rattle.std.specs.List.{list_any};
 ghost use Rattle.std.specs.Option.{option_map};
 ghost use Rattle.nob_drawing_plan.specs.Bars.{row_after};
@@ -21,8 +21,8 @@ pub struct Departure {
     pub space: SpaceId,
     /// The row of the Transmit.
     pub row: usize,
-    /// How many frames follow that the same Transmit gave.
-    pub left: usize,
+    /// Its place among the frames that the Transmit gave, from 0.
+    pub place: usize,
     /// Whether its item was given before.
     pub again: bool,
 }
@@ -36,7 +36,7 @@ impl Departure {
             frame: self.frame.copy()?,
             space: self.space,
             row: self.row,
-            left: self.left,
+            place: self.place,
             again: self.again,
         })
     }
@@ -95,15 +95,18 @@ fn is_again(frame: &Frame, departures: &[Departure]) -> bool
     }
 }
 
-// Departures with those of these frames, which a space gives at a row.
+// Departures with those of these frames, the first of which is at this place of a Transmit that a
+// space does at a row.
 fn with_departures(
     space: SpaceId,
     row: usize,
+    place: usize,
     frames: &[Frame],
     mut departures: Vec<Departure>,
 ) -> Result<Vec<Departure>, AllocError>
+    requires { place + length frames.now < 2 ^ 64 }
     ensures { IfOk result (λ all. all.items
-        ≡ spec.with_departures space row frames.now departures.items) }
+        ≡ spec.with_departures space row place frames.now departures.items) }
 {
     match frames {
         [] => Ok(departures),
@@ -114,10 +117,10 @@ fn with_departures(
                 frame,
                 space,
                 row,
-                left: others.len(),
+                place,
                 again,
             })?;
-            with_departures(space, row, others, departures)
+            with_departures(space, row, place + 1, others, departures)
         }
     }
 }
@@ -194,7 +197,7 @@ pub fn flights(alloc: Global, journal: &[Entry]) -> Result<(Vec<Departure>, Vec<
             let (departures, arrows) = flights(alloc, older)?;
             let row = older.len() + 1;
             let all = with_arrival(entry, row, departures.as_slice(), arrows)?;
-            let more = with_departures(entry.space, row, frames_of(entry), departures)?;
+            let more = with_departures(entry.space, row, 0, frames_of(entry), departures)?;
             Ok((more, all))
         }
     }
