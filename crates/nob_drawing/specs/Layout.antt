@@ -146,7 +146,7 @@ goes_right departure = nat_lt departure.space departure.frame.to
 -- how far to the right it ends: a little way towards its receiver
 abbrev pub lost_x : Bool → ℕ → ℕ
 lost_x true x = x + 80
-lost_x false x = x - 80
+lost_x false x = x - 40
 
 -- how far down it ends: below those in front of it of the same Transmit
 abbrev pub lost_y : Page → Departure → ℕ
@@ -169,7 +169,7 @@ rising at = shapes.Line styles.Cross (record { x = at.x - 4; y = at.y + 4 }) (re
 
 -- the words at it
 abbrev pub lost_words : Page → Departure → Shape
-lost_words page departure = if goes_right departure then shapes.Text styles.Behind (record { x = x_of departure.space + 90; y = lost_y page departure + 4 }) (cut 32 (frame_words departure.frame)) else shapes.Text styles.Before (record { x = x_of departure.space - 90; y = lost_y page departure + 4 }) (cut 32 (frame_words departure.frame))
+lost_words page departure = if goes_right departure then shapes.Text styles.Behind (record { x = x_of departure.space + 90; y = lost_y page departure + 4 }) (cut 32 (frame_words departure.frame)) else shapes.Text styles.Before (record { x = x_of departure.space - 48; y = lost_y page departure + 4 }) (cut 32 (frame_words departure.frame))
 
 -- a lost frame: its line, the cross at its end, and its words
 abbrev pub lost_shapes : Page → Departure → List Shape

@@ -123,7 +123,7 @@ fn lost_x(right: bool, x: u128) -> u128
     if right {
         return x + 80;
     }
-    x - 80
+    x - 40
 }
 
 // How far down a lost frame ends.
@@ -155,7 +155,7 @@ fn lost_words(alloc: Global, page: &Page, departure: &Departure) -> Result<Shape
     if goes_right(departure) {
         return Ok(Shape::Text(Style::Behind, Point { x: x + 90, y }, words));
     }
-    Ok(Shape::Text(Style::Before, Point { x: x - 90, y }, words))
+    Ok(Shape::Text(Style::Before, Point { x: x - 48, y }, words))
 }
 
 // One line of a cross: from above.
