@@ -41,10 +41,11 @@ point_at page space row = record { x = x_of space; y = y_of page row }
 abbrev pub bottom_of : Page → ℕ
 bottom_of page = y_of page (page.to + 1)
 
--- how wide and how high the drawing is
+-- how wide the drawing is
 abbrev pub width_of : Page → ℕ
 width_of page = x_of page.n + 120
 
+-- how high it is
 abbrev pub height_of : Page → ℕ
 height_of page = bottom_of page + 24
 
@@ -69,16 +70,18 @@ abbrev pub lives_from : Page → (space count : ℕ) → List Shape
 lives_from page space zero = []
 lives_from page space (suc count) = life_line page space ∷ life_name space ∷ lives_from page (space + 1) count
 
--- how the entry at a row is shown: as a fault, refused, as a close, or as any other
+-- how a result is shown: as a close, as an answer, or refused
 abbrev pub result_style : Result Answer Refusal → Style
 result_style (Ok (Closed reason)) = styles.Closing
 result_style (Ok _) = styles.Answered
 result_style (Err refusal) = styles.Refused
 
+-- whether the entry at a row is the one that is wrong
 abbrev pub is_fault_at : Option ℕ → ℕ → Bool
 is_fault_at None row = false
 is_fault_at (Some place) row = place == row
 
+-- how the entry at a row is shown: as wrong, or as its result is
 abbrev pub entry_style : Page → ℕ → Entry → Style
 entry_style page row entry = if is_fault_at page.fault row then styles.Fault else result_style entry.result
 
@@ -160,10 +163,11 @@ lost_end page departure = record { x = lost_x (goes_right departure) (x_of depar
 abbrev pub lost_line : Page → Departure → Shape
 lost_line page departure = shapes.Line (lost_style departure.again) (point_at page departure.space departure.row) (lost_end page departure)
 
--- a cross: one line that falls, and one that rises
+-- one line of a cross: from above
 abbrev pub falling : Point → Shape
 falling at = shapes.Line styles.Cross (record { x = at.x - 4; y = at.y - 4 }) (record { x = at.x + 4; y = at.y + 4 })
 
+-- the other one: from below
 abbrev pub rising : Point → Shape
 rising at = shapes.Line styles.Cross (record { x = at.x - 4; y = at.y + 4 }) (record { x = at.x + 4; y = at.y - 4 })
 

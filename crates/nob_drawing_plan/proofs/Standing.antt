@@ -35,7 +35,7 @@ mark_is (Pinned rep peer item) (Pinned other twin number) h =
     cc
 mark_is _ _ h = absurd (true≢false (sym h))
 
-mark_self : (a : Mark) → same_mark a a ≡ true
+pub mark_self : (a : Mark) → same_mark a a ≡ true
 mark_self (Live rep) = same_self rep
 mark_self (Listed rep client) = and_from (is_same rep rep) (client == client) (same_self rep) (eq-eqb client client refl)
 mark_self (Pinned rep peer item) = and_from (is_same rep rep && peer == peer) (item == item) (and_from (is_same rep rep) (peer == peer) (same_self rep) (eq-eqb peer peer refl)) (eq-eqb item item refl)

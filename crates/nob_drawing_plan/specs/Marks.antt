@@ -1,12 +1,13 @@
 -- What holds at a space after what it did, so that a drawing has a bar for it as long as it holds: an object is live, a
 -- client is listed for one, a reference is pinned. These are the words of a space's history.
-use Rattle.std.specs.Prelude.{ℕ, Bool, false, ◌&&◌, ◌==◌, List, ◌++◌, map, filter, flat_map}
+use Rattle.std.specs.Prelude.{ℕ, Bool, false, ◌&&◌, ◌==◌, List, ◌++◌, map, filter, flat_map, true, false, Option, Some, None}
 use Rattle.nob_ids.specs.Names.{is_same}
 use Rattle.nob_ids.specs.declared.wire_rep.WireRep.{WireRep}
 use Rattle.nob_item.specs.Kinds.{counted_in}
 use Rattle.nob_model_types.specs.declared.entry.Entry.{Entry}
 use Rattle.nob_model_words.specs.Objects.{exports, live}
 use Rattle.nob_model_words.specs.declared.deed.Deed.{Deed}
+use Rattle.nob_model_words.specs.declared.deed.Deed.TheVariants as did
 use Rattle.nob_model_work.specs.Gifts.{once}
 use Rattle.nob_model_history.specs.Listing.{is_listed}
 use Rattle.nob_model_history.specs.Transit.{bundles}
@@ -51,3 +52,20 @@ marks_of s h = live_marks s h.deeds ++ (listed_marks s h.deeds ++ pinned_marks h
 -- all that holds at space s among n after a journal
 abbrev pub marks_at : (n s : ℕ) → List Entry → List Mark
 marks_at n s J = marks_of s (history_at s n J)
+
+-- whether a deed changes no mark of its space, whatever was done before
+abbrev pub is_quiet_deed : Deed → Bool
+is_quiet_deed (did.Dup rep) = true
+is_quiet_deed (did.Release rep) = true
+is_quiet_deed (did.TakeReply call status value) = true
+is_quiet_deed (did.TakeEnd call) = true
+is_quiet_deed (did.Claim job) = true
+is_quiet_deed (did.Transmit peer frames) = true
+is_quiet_deed (did.Arrive frame count) = true
+is_quiet_deed (did.Tick peer) = true
+is_quiet_deed _ = false
+
+-- whether an entry that did this, or nothing, changes none
+abbrev pub is_quiet : Option Deed → Bool
+is_quiet None = true
+is_quiet (Some deed) = is_quiet_deed deed

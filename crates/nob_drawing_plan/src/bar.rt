@@ -6,7 +6,7 @@ ghost use Rattle.nob_drawing_plan.specs.Marks.{same_mark};
 ghost use Rattle.nob_drawing_plan.specs.Bars as spec;
 
 use crate::mark::Mark;
-use crate::marks::marks_at;
+use crate::marks::{is_quiet, marks_at};
 use nob_ids::SpaceId;
 use nob_model_types::Entry;
 use nob_model_words::Here;
@@ -167,7 +167,8 @@ fn with_begun(
 }
 
 /// The bars of a journal of so many spaces, the newest entry of which stands first, in the order in
-/// which they begin. At each entry the whole of its space's journal before it is read again.
+/// which they begin. At each entry that may change a mark the whole of its space's journal before it
+/// is read again.
 pub fn bars(alloc: Global, n: u16, journal: &[Entry]) -> Result<Vec<Bar>, AllocError>
     ensures { IfOk result (λ bars. bars.items ≡ spec.bars n journal.now) }
 {
@@ -175,6 +176,9 @@ pub fn bars(alloc: Global, n: u16, journal: &[Entry]) -> Result<Vec<Bar>, AllocE
         [] => Ok(Vec::new(alloc)),
         [entry, older @ ..] => {
             let before = bars(alloc, n, older)?;
+            if is_quiet(entry)? {
+                return Ok(before);
+            }
             let space = entry.space;
             let here = Here { space, n };
             let held = marks_at(alloc, &here, journal)?;

@@ -1,6 +1,7 @@
 //! What holds at a space after what it did.
 
 ghost use Rattle.std.specs.Prelude.{◌≡◌, IfOk, map, filter, flat_map};
+ghost use Rattle.nob_model_words.specs.Deeds.{deed_in};
 ghost use Rattle.nob_model_history.specs.Listing.{is_listed};
 ghost use Rattle.nob_drawing_plan.specs.declared.mark.Mark.TheVariants as marks;
 ghost use Rattle.nob_drawing_plan.specs.Marks as spec;
@@ -142,4 +143,31 @@ pub fn marks_at(alloc: Global, here: &Here, journal: &[Entry]) -> Result<Vec<Mar
 {
     let history = history_at(alloc, here, journal)?;
     marks_of(alloc, here.space, &history)
+}
+
+// Whether a deed changes no mark of its space.
+fn is_quiet_deed(deed: &Deed) -> bool
+    ensures { result ≡ spec.is_quiet_deed deed.now }
+{
+    match deed {
+        Deed::Dup(_) => true,
+        Deed::Release(_) => true,
+        Deed::TakeReply(_, _, _) => true,
+        Deed::TakeEnd(_) => true,
+        Deed::Claim(_) => true,
+        Deed::Transmit(_, _) => true,
+        Deed::Arrive(_, _) => true,
+        Deed::Tick(_) => true,
+        _ => false,
+    }
+}
+
+// Whether an entry changes no mark of its space.
+pub(crate) fn is_quiet(entry: &Entry) -> Result<bool, AllocError>
+    ensures { IfOk result (λ quiet. quiet ≡ spec.is_quiet (deed_in entry.now)) }
+{
+    match Deed::of_entry(entry)? {
+        Some(deed) => Ok(is_quiet_deed(&deed)),
+        None => Ok(true),
+    }
 }
