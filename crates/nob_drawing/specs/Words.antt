@@ -1,0 +1,93 @@
+-- The words that stand in a drawing: of frames, entries and bars.
+use Rattle.std.specs.Prelude.{ℕ, List, [], ◌∷◌, ◌++◌, length, take, nat_le, codes, Option, Some, None, Result, Ok, Err, if◌then◌else◌}
+use Rattle.std.specs.Fmt.{decimal}
+use Rattle.nob_frame.specs.declared.frame.Frame.{Frame}
+use Rattle.nob_frame.specs.declared.frame.FrameKind.{FrameKind}
+use Rattle.nob_frame.specs.declared.frame.FrameKind.TheVariants as kinds
+use Rattle.nob_item.specs.declared.item.Item.{Item}
+use Rattle.nob_item.specs.declared.item.Item.TheVariants as items
+use Rattle.nob_model_types.specs.declared.event.Event.{Event}
+use Rattle.nob_model_types.specs.declared.event.Event.TheVariants as events
+use Rattle.nob_model_types.specs.declared.answer.Answer.{Answer}
+use Rattle.nob_model_types.specs.declared.answer.Answer.TheVariants as answers
+use Rattle.nob_model_types.specs.declared.refusal.Refusal.{Refusal}
+use Rattle.nob_model_types.specs.declared.entry.Entry.{Entry}
+use Rattle.nob_model_words.specs.Sessions.{item_spelt}
+use Rattle.nob_model_text.specs.Values.{rep_text, value_text}
+use Rattle.nob_model_text.specs.Events.{event_text}
+use Rattle.nob_model_text.specs.Answers.{answer_text, refusal_text}
+use Rattle.nob_drawing_plan.specs.declared.mark.Mark.{Mark}
+use Rattle.nob_drawing_plan.specs.declared.mark.Mark.TheVariants as marks
+
+-- a word and a reference
+abbrev pub about : List ℕ → (owner index : ℕ) → List ℕ
+about word owner index = word ++ rep_text (record { owner = owner; index = index })
+
+-- an item from a to b: its kind, and the object, or the number of the call or item, that it is about
+abbrev pub item_words : (a b : ℕ) → Item → List ℕ
+item_words a b (items.Call call target method value) = about (codes "Call ") b target ++ 32 ∷ (decimal method ++ 32 ∷ value_text value)
+item_words a b (items.Reply call status value) = codes "Reply " ++ (decimal call ++ 32 ∷ (decimal status ++ 32 ∷ value_text value))
+item_words a b (items.Settle item) = codes "Settle " ++ decimal item
+item_words a b (items.Dirty index) = about (codes "Dirty ") b index
+item_words a b (items.DirtyOk index) = about (codes "DirtyOk ") a index
+item_words a b (items.DirtyNo index) = about (codes "DirtyNo ") a index
+item_words a b (items.Clean index) = about (codes "Clean ") b index
+
+-- the item that a Data frame carries, if it carries one
+abbrev pub data_words : (a b : ℕ) → Option Item → List ℕ
+data_words a b None = codes "no item"
+data_words a b (Some item) = item_words a b item
+
+-- the reason in a Close frame
+abbrev pub close_words : List ℕ → List ℕ
+close_words [] = codes "Close"
+close_words (reason ∷ rest) = codes "Close " ++ decimal reason
+
+-- a frame of this kind
+abbrev pub words_of : FrameKind → Frame → List ℕ
+words_of kinds.Data frame = data_words frame.from frame.to (item_spelt frame.payload)
+words_of kinds.Ack frame = codes "Ack " ++ decimal frame.ack
+words_of kinds.Close frame = close_words frame.payload
+
+-- a frame: the item that it carries, or what it acknowledges, or why its sender has closed
+abbrev pub frame_words : Frame → List ℕ
+frame_words frame = words_of frame.kind frame
+
+-- frames behind others
+abbrev pub behind_words : List Frame → List ℕ
+behind_words [] = []
+behind_words (frame ∷ frames) = codes ", " ++ (frame_words frame ++ behind_words frames)
+
+-- the frames that a Transmit gave
+abbrev pub frames_words : List Frame → List ℕ
+frames_words [] = codes "none"
+frames_words (frame ∷ frames) = frame_words frame ++ behind_words frames
+
+-- the frame that arrives, where one does
+abbrev pub arrival_words : Event → List ℕ
+arrival_words (events.Arrive frame) = frame_words frame
+arrival_words _ = []
+
+-- the frames that an answer gives, where it gives some
+abbrev pub given_words : Answer → List ℕ
+given_words (answers.Frames frames) = frames_words frames
+given_words _ = []
+
+-- a result, as traces have it save its frames
+abbrev pub result_words : Result Answer Refusal → List ℕ
+result_words (Ok answer) = answer_text (given_words answer) answer
+result_words (Err refusal) = refusal_text refusal
+
+-- an entry, as scripts and traces have it save its frames
+abbrev pub entry_words : Entry → List ℕ
+entry_words entry = decimal entry.space ++ 32 ∷ (event_text (arrival_words entry.event) entry.event ++ (codes " = " ++ result_words entry.result))
+
+-- what a bar shows
+abbrev pub mark_words : Mark → List ℕ
+mark_words (marks.Live rep) = rep_text rep ++ codes " live"
+mark_words (marks.Listed rep client) = rep_text rep ++ (codes " listed " ++ decimal client)
+mark_words (marks.Pinned rep peer item) = rep_text rep ++ (codes " pinned for " ++ decimal peer)
+
+-- words that are too long are cut
+abbrev pub cut : (most : ℕ) → List ℕ → List ℕ
+cut most words = if nat_le (length words) most then words else take most words ++ codes ".."

@@ -1,0 +1,4 @@
+pub mod Frames
+pub mod Arriving
+pub mod Standing
+pub mod Quiet

@@ -1,0 +1,4 @@
+pub mod Marks
+pub mod Bars
+pub mod Flights
+pub mod Laws

@@ -1,0 +1,242 @@
+//! The arrows between the lifelines.
+
+ghost use Rattle.std.specs.Prelude.{◌≡◌, ◌+◌, ◌<◌, ◌^◌, ◌++◌, length, IfOk, Some, filter, not};
+ghost use Rattle.std.specs.List.{list_any};
+ghost use Rattle.std.specs.Option.{option_map};
+ghost use Rattle.nob_drawing_plan.specs.Bars.{row_after};
+ghost use Rattle.nob_drawing_plan.specs.Flights as spec;
+
+use nob_frame::Frame;
+use nob_ids::SpaceId;
+use nob_model_traces::origins::frames_of;
+use nob_model_types::{Answer, Entry, Event, Refusal};
+use std::alloc::{AllocError, Global};
+
+/// A frame that a Transmit gave.
+#[derive(Debug, Drop)]
+pub struct Departure {
+    /// The frame.
+    pub frame: Frame,
+    /// The space that gave it.
+    pub space: SpaceId,
+    /// The row of the Transmit.
+    pub row: usize,
+    /// Its place among the frames that the Transmit gave, from 0.
+    pub place: usize,
+    /// Whether its item was given before.
+    pub again: bool,
+}
+
+impl Departure {
+    /// An equal departure. Only memory fails it.
+    pub fn copy(&self) -> Result<Departure, AllocError>
+        ensures { IfOk result (λ departure. departure ≡ self.now) }
+    {
+        Ok(Departure {
+            frame: self.frame.copy()?,
+            space: self.space,
+            row: self.row,
+            place: self.place,
+            again: self.again,
+        })
+    }
+
+    // Whether it is of this frame.
+    fn is_of(&self, frame: &Frame) -> bool
+        ensures { result ≡ spec.is_of frame.now self.now }
+    {
+        same_frame(frame, &self.frame)
+    }
+}
+
+/// A frame from the Transmit that gave it to an Arrive of it.
+#[derive(Debug, Drop)]
+pub struct Arrow {
+    /// The frame, and where it comes from.
+    pub departure: Departure,
+    /// The space at which it arrives.
+    pub to: SpaceId,
+    /// The row of the Arrive.
+    pub row: usize,
+    /// Whether it is refused, or accepts no item though it is no Ack.
+    pub ignored: bool,
+}
+
+// Whether two frames are the same.
+fn same_frame(frame: &Frame, other: &Frame) -> bool
+    ensures { result ≡ spec.same_frame frame.now other.now }
+{
+    frame.kind.number() == other.kind.number()
+        && (frame.from == other.from
+            && (frame.to == other.to
+                && (frame.seq == other.seq
+                    && (frame.ack == other.ack
+                        && frame.payload.as_slice() == other.payload.as_slice()))))
+}
+
+// Whether a frame carries the item of another.
+fn is_twin(frame: &Frame, other: &Frame) -> bool
+    ensures { result ≡ spec.is_twin frame.now other.now }
+{
+    frame.kind.is_data()
+        && other.kind.is_data()
+        && frame.from == other.from
+        && frame.to == other.to
+        && frame.seq == other.seq
+}
+
+// Whether the item of a frame was given before.
+fn is_again(frame: &Frame, departures: &[Departure]) -> bool
+    ensures { result ≡ spec.is_again frame.now departures.now }
+{
+    match departures {
+        [] => false,
+        [departure, others @ ..] => is_twin(frame, &departure.frame) || is_again(frame, others),
+    }
+}
+
+// Departures with those of these frames, the first of which is at this place of a Transmit that a
+// space does at a row.
+fn with_departures(
+    space: SpaceId,
+    row: usize,
+    place: usize,
+    frames: &[Frame],
+    mut departures: Vec<Departure>,
+) -> Result<Vec<Departure>, AllocError>
+    requires { place + length frames.now < 2 ^ 64 }
+    ensures { IfOk result (λ all. all.items
+        ≡ spec.with_departures space row place frames.now departures.items) }
+{
+    match frames {
+        [] => Ok(departures),
+        [frame, others @ ..] => {
+            let again = is_again(frame, departures.as_slice());
+            let frame = frame.copy()?;
+            departures.push(Departure {
+                frame,
+                space,
+                row,
+                place,
+                again,
+            })?;
+            with_departures(space, row, place + 1, others, departures)
+        }
+    }
+}
+
+// The newest departure of a frame.
+fn last_of<'a>(frame: &Frame, departures: &'a [Departure]) -> Option<&'a Departure>
+    ensures { option_map (λ departure. departure.now) result
+        ≡ spec.last_of frame.now departures.now }
+{
+    match departures {
+        [] => None,
+        [departure, others @ ..] => {
+            if let Some(last) = last_of(frame, others) {
+                return Some(last);
+            }
+            if departure.is_of(frame) {
+                return Some(departure);
+            }
+            None
+        }
+    }
+}
+
+// Whether an arrival is ignored.
+fn is_ignored(frame: &Frame, answer: &Result<Answer, Refusal>) -> bool
+    ensures { result ≡ spec.is_ignored frame.now answer.now }
+{
+    match answer {
+        Err(_) => true,
+        Ok(answer) => match answer {
+            Answer::Took(count) => *count == 0 && !frame.kind.is_ack(),
+            _ => false,
+        },
+    }
+}
+
+// Arrows with that of an entry at a row, if it is an arrival.
+fn with_arrival(
+    entry: &Entry,
+    row: usize,
+    departures: &[Departure],
+    mut arrows: Vec<Arrow>,
+) -> Result<Vec<Arrow>, AllocError>
+    ensures { IfOk result (λ all. all.items ≡ arrows.items
+        ++ spec.arrow_of entry.now.space row entry.now.event entry.now.result departures.now) }
+{
+    match &entry.event {
+        Event::Arrive(frame) => {
+            let Some(departure) = last_of(frame, departures) else {
+                return Ok(arrows);
+            };
+            arrows.push(Arrow {
+                departure: departure.copy()?,
+                to: entry.space,
+                row,
+                ignored: is_ignored(frame, &entry.result),
+            })?;
+            Ok(arrows)
+        }
+        _ => Ok(arrows),
+    }
+}
+
+/// The frames that the Transmits of a journal gave, and an arrow for each Arrive from the newest
+/// Transmit before it that gave its frame. The newest entry stands first, rows count from the
+/// oldest. At each arrival all frames that were given are looked through.
+pub fn flights(alloc: Global, journal: &[Entry]) -> Result<(Vec<Departure>, Vec<Arrow>), AllocError>
+    ensures departures { IfOk result (λ found. found.0.items ≡ spec.departures journal.now) }
+    ensures arrows { IfOk result (λ found. found.1.items ≡ spec.arrows journal.now) }
+{
+    match journal {
+        [] => Ok((Vec::new(alloc), Vec::new(alloc))),
+        [entry, older @ ..] => {
+            let (departures, arrows) = flights(alloc, older)?;
+            let row = older.len() + 1;
+            let all = with_arrival(entry, row, departures.as_slice(), arrows)?;
+            let more = with_departures(entry.space, row, 0, frames_of(entry), departures)?;
+            Ok((more, all))
+        }
+    }
+}
+
+// Whether an arrow is of a departure.
+fn comes_from(departure: &Departure, arrow: &Arrow) -> bool
+    ensures { result ≡ spec.comes_from departure.now arrow.now }
+{
+    departure.row == arrow.departure.row && same_frame(&departure.frame, &arrow.departure.frame)
+}
+
+// Whether one of these arrows is of a departure.
+fn arrives(departure: &Departure, arrows: &[Arrow]) -> bool
+    ensures { result ≡ list_any (spec.comes_from departure.now) arrows.now }
+{
+    match arrows {
+        [] => false,
+        [arrow, others @ ..] => comes_from(departure, arrow) || arrives(departure, others),
+    }
+}
+
+/// The departures from which none of these arrows comes. It compares each with all arrows.
+pub fn lost(
+    alloc: Global,
+    arrows: &[Arrow],
+    departures: &[Departure],
+) -> Result<Vec<Departure>, AllocError>
+    ensures { IfOk result (λ found. found.items ≡ spec.lost arrows.now departures.now) }
+{
+    match departures {
+        [] => Ok(Vec::new(alloc)),
+        [departure, others @ ..] => {
+            let mut found = lost(alloc, arrows, others)?;
+            if arrives(departure, arrows) {
+                return Ok(found);
+            }
+            found.insert(0, departure.copy()?)?;
+            Ok(found)
+        }
+    }
+}
