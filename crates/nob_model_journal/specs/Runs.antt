@@ -1,7 +1,7 @@
 -- Runs of a world: journals in which each space answered right and each frame that arrived was given before; and by
 -- which steps a journal came about. The newest stands FIRST.
 use Prim.Native.Nat.{zero}
-use Rattle.std.specs.Prelude.{◌≡◌, ◌≤◌, ⊤, ℕ, suc, List, [], ◌∷◌, Option, Some, None, slice_get}
+use Rattle.std.specs.Prelude.{◌≡◌, ◌≤◌, ⊤, ℕ, suc, Bool, true, false, List, [], ◌∷◌, Option, Some, None, slice_get}
 use Rattle.std.specs.List.{Contains}
 use Rattle.nob_ids.specs.declared.limits.Limits.{Limits}
 use Rattle.nob_frame.specs.declared.frame.Frame.{Frame}
@@ -35,9 +35,14 @@ abbrev pub frame_of : ℕ → List Frame → Option Frame
 frame_of zero frames = None
 frame_of (suc place) frames = slice_get frames place
 
--- a step made an entry after the entries before: of the space and the event that it names, or of the frame that it delivers, which arrives at the space that it goes to
+-- whether an event is the arrival of a frame
+abbrev pub is_arrival : Event → Bool
+is_arrival (Arrive frame) = true
+is_arrival _ = false
+
+-- a step made an entry after the entries before: of the space and the event that it names, which is no arrival, or of the frame that it delivers, which arrives at the space that it goes to
 abbrev pub IsMadeBy : WorldStep → Entry → List Entry → Type 0
-IsMadeBy (Do space event) entry J = (entry.space ≡ space) × (entry.event ≡ event)
+IsMadeBy (Do space event) entry J = (is_arrival event ≡ false) × (entry.space ≡ space) × (entry.event ≡ event)
 IsMadeBy (Deliver number) entry J = (frame : Frame) × (frame_of number (transmitted_frames J) ≡ Some frame) × (entry.space ≡ frame.to) × (entry.event ≡ Arrive frame)
 
 -- a journal came from steps, the last of which stands first: they are as many, and each made its entry

@@ -8,7 +8,7 @@ use Rattle.nob_trace.specs.Reading.{TraceProblem, TracesProblem}
 use Rattle.nob_trace_text.specs.Lines.{lines_of}
 use Rattle.nob_plain.specs.Verdicts.{IsVerdict}
 use Rattle.nob_script_text.specs.declared.ending.Ending.{Ending}
-use Rattle.nob_script_text.specs.Scripts.{FromScript}
+use Rattle.nob_script_text.specs.Scripts.{FromScript, IsVerdictOf}
 use Rattle.nob_plain.specs.Journals.{FromJournal}
 
 -- the input begins as a trace does
@@ -25,7 +25,7 @@ IsJudged input text = (trace : Trace) × IsTrace trace × (input ≡ trace_text 
 
 -- what is written is what a script gives where there is memory enough
 abbrev pub IsAnswers : List ℕ → List ℕ → Type 0
-IsAnswers input text = (ending : Ending) × FromScript false (lines_of input) text ending
+IsAnswers input text = (ending : Ending) × FromScript false IsVerdictOf (lines_of input) text ending
 
 -- whether an equals sign stands in a line
 abbrev pub has_equals_sign : List ℕ → Bool

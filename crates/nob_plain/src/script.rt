@@ -10,7 +10,7 @@ ghost use Rattle.nob_model_journal.specs.Verdicts.{IsVerdict};
 ghost use Rattle.nob_trace_text.specs.Lines.{lines_of};
 ghost use Rattle.nob_script_text.specs.declared.ending.Ending.{Ending as EndingOf};
 ghost use Rattle.nob_script_text.specs.Worlds as spec;
-ghost use Rattle.nob_script_text.specs.Scripts.{FromLines, FromOpening, Grows};
+ghost use Rattle.nob_script_text.specs.Scripts.{FromLines, FromOpening, Grows, IsVerdictOf};
 ghost use Rattle.nob_plain.specs.Outputs.{IsAnswers};
 
 use nob_frame::Frame;
@@ -201,7 +201,7 @@ fn put_answers(
 ) -> Result<(), AllocError>
     ensures { OnOk result ((ending : EndingOf)
         × Grows text.old.items text.new.items
-        (λ written. FromOpening false line.now (lines_of steps.now) written ending)) }
+        (λ written. FromOpening false IsVerdictOf line.now (lines_of steps.now) written ending)) }
 {
     let Some(opening) = opening_of(alloc, line)? else {
         return push_bad_step(alloc, text, 1);
@@ -221,7 +221,7 @@ fn put_steps(
 ) -> Result<(), AllocError>
     ensures { OnOk result ((ending : EndingOf)
         × Grows text.old.items text.new.items
-        (λ written. FromLines false 2 world.old (lines_of steps.now) written ending)) }
+        (λ written. FromLines false IsVerdictOf 2 world.old (lines_of steps.now) written ending)) }
 {
     let mut left = steps;
     let mut number: u64 = 2;

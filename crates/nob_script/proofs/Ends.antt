@@ -7,7 +7,7 @@ use Rattle.nob_script_text.specs.declared.ending.Ending.TheVariants.{Judged, Bad
 use Rattle.nob_script_text.specs.Scripts.{AtEnd, FromLine, FromLines, FromOpening, FromNothing, FromScript, Grows, IsNoOpening, IsNoStep, last_line}
 use Rattle.nob_script_text.specs.Worlds.{World}
 use Rattle.nob_script_text.proofs.Playing.{Completes}
-use Rattle.nob_script.specs.Plays.{EndsBadly}
+use Rattle.nob_script.specs.Plays.{EndsBadly, IsSafelyYes}
 
 -- it was written which line is none
 pub bad_written : (n : ℕ) (old new : List ℕ) → new ≡ old ++ bad_step_text n → Grows old (new ++ []) (λ written. EndsBadly n written BadStep)
@@ -23,19 +23,19 @@ bad_line n world line from_next written ending none (EndsBadly.bad is how) = Fro
 bad_line n world line from_next written ending none (EndsBadly.stopped out) = FromLine.stopped out
 
 -- and all lines with it
-pub line_ends : (n : ℕ) (line : List ℕ) (left all : List (List ℕ)) (first world : World) (old text new : List ℕ) (ending : Ending) → Completes true n (line ∷ left) all first world old text → IsNoStep line
-    → Grows text new (λ written. EndsBadly n written ending) → Grows old new (λ written. FromLines true 2 first all written ending)
+pub line_ends : (n : ℕ) (line : List ℕ) (left all : List (List ℕ)) (first world : World) (old text new : List ℕ) (ending : Ending) → Completes true IsSafelyYes n (line ∷ left) all first world old text → IsNoStep line
+    → Grows text new (λ written. EndsBadly n written ending) → Grows old new (λ written. FromLines true IsSafelyYes 2 first all written ending)
 line_ends n line left all first world old text new ending before none g =
-    let h = before g.0 ending (bad_line n world line (λ next rest. FromLines true (n + 1) next left rest ending) g.0 ending none g.2) in
+    let h = before g.0 ending (bad_line n world line (λ next rest. FromLines true IsSafelyYes (n + 1) next left rest ending) g.0 ending none g.2) in
     (h.0, g.1 ∙ h.1, h.2)
 
 -- so does a first line that is none
-pub bad_opening : (line : List ℕ) (lines : List (List ℕ)) (written : List ℕ) (ending : Ending) → IsNoOpening line → EndsBadly 1 written ending → FromOpening true line lines written ending
+pub bad_opening : (line : List ℕ) (lines : List (List ℕ)) (written : List ℕ) (ending : Ending) → IsNoOpening line → EndsBadly 1 written ending → FromOpening true IsSafelyYes line lines written ending
 bad_opening line lines written ending none (EndsBadly.bad is how) = FromOpening.bad none is how
 bad_opening line lines written ending none (EndsBadly.stopped out) = FromOpening.stopped out
 
 -- and a script without a line
-pub no_line : (written : List ℕ) (ending : Ending) → EndsBadly 1 written ending → FromScript true [] written ending
+pub no_line : (written : List ℕ) (ending : Ending) → EndsBadly 1 written ending → FromScript true IsSafelyYes [] written ending
 no_line written ending (EndsBadly.bad is how) = FromNothing.bad is how
 no_line written ending (EndsBadly.stopped out) = FromNothing.stopped out
 

@@ -70,8 +70,8 @@ module _ (w v : World) (e : Entry) (makes : Makes w v e) where
   -- what a step that made this entry is answered by, and the world after it
   pub made_right : (step : WorldStep) (answer : Result Answer Refusal) → e.result ≡ answer → IsMadeBy step e (journal w) → (result_text (length w.frames) answer ≡ (outcome_of (script_world w) step).0) × (script_world v ≡ (outcome_of (script_world w) step).1)
   made_right (Do space event) answer is made =
-      let there : nat_lt w.n space ≡ false = let low = of_world.last in let same = makes.same_n in let s = made.0 in grind (arith, nat_tests, low, same, s) in
-      let does_it = does_this space event made.0 made.1 in
+      let there : nat_lt w.n space ≡ false = let low = of_world.last in let same = makes.same_n in let s = made.1 in grind (arith, nat_tests, low, same, s) in
+      let does_it = does_this space event made.1 made.2 in
       let chosen : outcome_of (script_world w) (Do space event) ≡ does (script_world w) space event = ap (λ (b : Bool). if b then (codes "X1", script_world w) else does (script_world w) space event) there in (
         ap (result_text (length w.frames)) (sym is ∙ does_it.0) ∙ sym (ap (λ (o : scripts.Outcome). o.0) chosen),
         does_it.1 ∙ sym (ap (λ (o : scripts.Outcome). o.1) chosen),

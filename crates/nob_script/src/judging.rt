@@ -2,7 +2,7 @@
 
 ghost use Rattle.std.specs.Prelude.{◌≡◌, ◌++◌, true};
 ghost use Rattle.nob_script_text.specs.Scripts.{AtEnd, Grows, last_line};
-ghost use Rattle.nob_script.specs.Plays.{SaysYes, script_world};
+ghost use Rattle.nob_script.specs.Plays.{SaysYes, script_world, IsSafelyYes};
 
 use nob_model_journal::Verdict;
 use nob_script_text::{Ending, verdict_line};
@@ -12,7 +12,7 @@ use nob_world::World;
 // every world.
 pub(crate) fn judge(world: &World, text: &mut Vec<u8>) -> Ending
     ensures judged { Grows text.old.items (text.new.items ++ last_line result)
-        (λ written. AtEnd true (script_world world.now) written result) }
+        (λ written. AtEnd true IsSafelyYes (script_world world.now) written result) }
     ensures yes { SaysYes result }
 {
     // A look at the entries shows what is proved of them.

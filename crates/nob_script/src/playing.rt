@@ -6,7 +6,7 @@ ghost use Rattle.nob_ids.specs.declared.limits.Limits.{Limits as LimitsOf};
 ghost use Rattle.nob_model_reading.specs.declared.opening.Opening.{Opening as OpeningOf};
 ghost use Rattle.nob_script_text.specs.Scripts.{AreLimitsOf, FromLines, FromOpening, Grows, IsNoStep, IsOpeningLine, StepMade, last_line};
 ghost use Rattle.nob_script_text.specs.Worlds.{new_world};
-ghost use Rattle.nob_script.specs.Plays.{EndsBadly, Plays, SaysYes, script_world};
+ghost use Rattle.nob_script.specs.Plays.{EndsBadly, Plays, SaysYes, script_world, IsSafelyYes};
 
 use crate::judging::judge;
 use crate::stepping::make_step;
@@ -35,7 +35,7 @@ pub fn play(alloc: Global, script: &[u8], text: &mut Vec<u8>) -> Ending
 // Writes what a script gives that has this first line and these further ones.
 fn play_from(alloc: Global, line: &[u8], steps: &[u8], text: &mut Vec<u8>) -> Ending
     ensures plays { Grows text.old.items (text.new.items ++ last_line result)
-        (λ written. FromOpening true line.now (lines_of steps.now) written result) }
+        (λ written. FromOpening true IsSafelyYes line.now (lines_of steps.now) written result) }
     ensures yes { SaysYes result }
 {
     let Ok(read) = opening_of(alloc, line) else {
@@ -67,7 +67,7 @@ fn play_in(
     ensures plays { (opening : OpeningOf) (limits : LimitsOf) → IsOpeningLine line.now opening
         → AreLimitsOf opening.limits limits → script_world world.old ≡ new_world opening.n limits
         → Grows text.old.items (text.new.items ++ last_line result)
-        (λ written. FromOpening true line.now (lines_of steps.now) written result) }
+        (λ written. FromOpening true IsSafelyYes line.now (lines_of steps.now) written result) }
     ensures yes { SaysYes result }
 {
     let Ok(()) = push_line(text, line, b"", b"") else {
@@ -80,7 +80,8 @@ fn play_in(
 // and then the verdict.
 fn play_steps(alloc: Global, world: &mut World, steps: &[u8], text: &mut Vec<u8>) -> Ending
     ensures plays { Grows text.old.items (text.new.items ++ last_line result)
-        (λ written. FromLines true 2 (script_world world.old) (lines_of steps.now) written result) }
+        (λ written. FromLines true IsSafelyYes 2 (script_world world.old)
+        (lines_of steps.now) written result) }
     ensures yes { SaysYes result }
 {
     let mut left = steps;

@@ -53,24 +53,28 @@ pub data FromLine (may_lack : Bool) (n : ℕ) (world : World) (line : List ℕ) 
   -- memory runs out
   stopped : RanOut may_lack text ending → FromLine may_lack n world line from_next text ending
 
--- what is written at the end of the steps: the verdict on all that was done
-pub data AtEnd (may_lack : Bool) (world : World) (text : List ℕ) (ending : Ending) : Type 0 where
-  judged : (verdict : Verdict) → IsVerdict world.n world.journal verdict → text ≡ verdict_line verdict → ending ≡ Judged verdict → AtEnd may_lack world text ending
-  stopped : RanOut may_lack text ending → AtEnd may_lack world text ending
+-- the verdict on a world is that of the definitions
+abbrev pub IsVerdictOf : World → Verdict → Type 0
+IsVerdictOf world verdict = IsVerdict world.n world.journal verdict
+
+-- what is written at the end of the steps: the verdict on all that was done, as `judges` has it
+pub data AtEnd (may_lack : Bool) (judges : World → Verdict → Type 0) (world : World) (text : List ℕ) (ending : Ending) : Type 0 where
+  judged : (verdict : Verdict) → judges world verdict → text ≡ verdict_line verdict → ending ≡ Judged verdict → AtEnd may_lack judges world text ending
+  stopped : RanOut may_lack text ending → AtEnd may_lack judges world text ending
 
 -- what is written from these lines of a script on, of which the first is line n
-abbrev pub FromLines : (may_lack : Bool) → ℕ → World → List (List ℕ) → List ℕ → Ending → Type 0
-FromLines may_lack n world [] text ending = AtEnd may_lack world text ending
-FromLines may_lack n world (line ∷ lines) text ending = FromLine may_lack n world line (λ next rest. FromLines may_lack (n + 1) next lines rest ending) text ending
+abbrev pub FromLines : (may_lack : Bool) → (judges : World → Verdict → Type 0) → ℕ → World → List (List ℕ) → List ℕ → Ending → Type 0
+FromLines may_lack judges n world [] text ending = AtEnd may_lack judges world text ending
+FromLines may_lack judges n world (line ∷ lines) text ending = FromLine may_lack n world line (λ next rest. FromLines may_lack judges (n + 1) next lines rest ending) text ending
 
 -- what is written for a script whose first line is this one
-pub data FromOpening (may_lack : Bool) (line : List ℕ) (lines : List (List ℕ)) (text : List ℕ) (ending : Ending) : Type 0 where
+pub data FromOpening (may_lack : Bool) (judges : World → Verdict → Type 0) (line : List ℕ) (lines : List (List ℕ)) (text : List ℕ) (ending : Ending) : Type 0 where
   -- the line as it came, and then the steps in a new world
-  opened : (opening : Opening) (limits : Limits) (rest : List ℕ) → IsOpeningLine line opening → AreLimitsOf opening.limits limits → text ≡ line_text line ++ rest → FromLines may_lack 2 (new_world opening.n limits) lines rest ending → FromOpening may_lack line lines text ending
+  opened : (opening : Opening) (limits : Limits) (rest : List ℕ) → IsOpeningLine line opening → AreLimitsOf opening.limits limits → text ≡ line_text line ++ rest → FromLines may_lack judges 2 (new_world opening.n limits) lines rest ending → FromOpening may_lack judges line lines text ending
   -- it is no first line, and the run ends
-  bad : IsNoOpening line → text ≡ bad_step_text 1 → ending ≡ BadStep → FromOpening may_lack line lines text ending
+  bad : IsNoOpening line → text ≡ bad_step_text 1 → ending ≡ BadStep → FromOpening may_lack judges line lines text ending
   -- memory runs out
-  stopped : RanOut may_lack text ending → FromOpening may_lack line lines text ending
+  stopped : RanOut may_lack text ending → FromOpening may_lack judges line lines text ending
 
 -- what is written for a script without a line: the first one is missing
 pub data FromNothing (may_lack : Bool) (text : List ℕ) (ending : Ending) : Type 0 where
@@ -78,9 +82,9 @@ pub data FromNothing (may_lack : Bool) (text : List ℕ) (ending : Ending) : Typ
   stopped : RanOut may_lack text ending → FromNothing may_lack text ending
 
 -- what is written for a script of these lines, and how its run ends
-abbrev pub FromScript : (may_lack : Bool) → List (List ℕ) → List ℕ → Ending → Type 0
-FromScript may_lack [] text ending = FromNothing may_lack text ending
-FromScript may_lack (line ∷ lines) text ending = FromOpening may_lack line lines text ending
+abbrev pub FromScript : (may_lack : Bool) → (judges : World → Verdict → Type 0) → List (List ℕ) → List ℕ → Ending → Type 0
+FromScript may_lack judges [] text ending = FromNothing may_lack text ending
+FromScript may_lack judges (line ∷ lines) text ending = FromOpening may_lack judges line lines text ending
 
 -- what is written after a script's text: the line `memory` where memory ran out beside the steps
 abbrev pub last_line : Ending → List ℕ

@@ -24,14 +24,14 @@ copied_same v value same = (let one : v ≡ value = cc in ap (λ (w : Value). sp
 pub none_copied : (value : Value) → None ≡ Some value → ⊥
 none_copied value same = cc
 
-module _ {s n : ℕ} {limits : Limits} {st : State} {D : List Deed} (stands : Stands s n limits st D) (call : ℕ) (event : Event) (is : event ≡ events.TakeReply call) where
+module _ {s n : ℕ} {st : State} (call : ℕ) (event : Event) (is : event ≡ events.TakeReply call) where
   -- what is answered to a TakeReply is what the state tells
-  takes_there : right_after s n limits (history_of s n D) event ≡ take_answer call st
+  takes_there : {limits : Limits} {D : List Deed} → Stands s n limits st D → right_after s n limits (history_of s n D) event ≡ take_answer call st
   unfolding right_after
-  takes_there = ap (right_after s n limits (history_of s n D)) is ∙ take_right stands call
+  takes_there {limits = limits} {D = D} stands = ap (right_after s n limits (history_of s n D)) is ∙ take_right stands call
 
-  pub takes_wanting : IsOk (take_answer call st) → IsOk (right_after s n limits (history_of s n D) event)
-  takes_wanting there = subst IsOk (sym takes_there) there
+  pub takes_wanting : {limits : Limits} {D : List Deed} → Stands s n limits st D → IsOk (take_answer call st) → IsOk (right_after s n limits (history_of s n D) event)
+  takes_wanting stands there = subst IsOk (sym (takes_there stands)) there
 
   -- a value that is copied wherever a reply is brought is what the answer owns
   pub takes_fit : (spare : Spare) (answer : Answer) → IsComing s n st event answer → ((status : ℕ) (value : Value) → take_answer call st ≡ Ok (answers.Replied status value) → spare ≡ spares.Value value) → Fits spare answer
@@ -52,4 +52,4 @@ module _ {s n : ℕ} {limits : Limits} {st : State} {D : List Deed} (stands : St
         | answers.Withdrawn ↦ λ _ _. tt
         | answers.Frames frames ↦ λ own _. absurd (cc)
         | answers.Took count ↦ λ _ _. tt
-      ] (subst (λ (e : Event). is_some (deed_of e answer) ≡ true) is coming.own) (sym takes_there ∙ coming.is_right limits D stands)
+      ] (subst (λ (e : Event). is_some (deed_of e answer) ≡ true) is coming.own) (sym (takes_there coming.stands) ∙ coming.is_right)

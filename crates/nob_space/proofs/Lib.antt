@@ -1,3 +1,4 @@
 pub mod Places
 pub mod Acted
+pub mod Owners
 pub mod Coming

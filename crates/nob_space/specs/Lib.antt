@@ -1,3 +1,4 @@
-pub mod Steps
 pub mod Spaces
+pub mod Steps
+pub mod Events
 pub mod Twice

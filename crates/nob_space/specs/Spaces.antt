@@ -8,7 +8,6 @@ use Rattle.nob_model_types.specs.declared.event.Event.{Event}
 use Rattle.nob_model_types.specs.declared.event.Event.TheVariants as events
 use Rattle.nob_model_types.specs.declared.refusal.Refusal.{Refusal}
 use Rattle.nob_model_words.specs.Deeds.{deeds}
-use Rattle.nob_model_words.specs.declared.deed.Deed.{Deed}
 use Rattle.nob_space_state.specs.declared.error.SpaceError.{SpaceError}
 use Rattle.nob_space_state.specs.declared.error.SpaceError.TheVariants as errors
 use Rattle.nob_space_state.specs.Parts.{State}
@@ -25,9 +24,9 @@ pub record Owner : Type 0 where
 abbrev pub StandsFor : Owner → List Entry → Type 0
 StandsFor space L = Stands space.id space.n space.limits space.state (deeds L)
 
--- there are no more spaces than there may be, and there is a list of deeds that the state stands for
+-- there are no more spaces than there may be, and there is a list of entries that the state stands for
 abbrev pub IsOwner : (s n : ℕ) → Limits → State → Type 0
-IsOwner s n limits state = (n ≤ 32) × (D : List Deed) × Stands s n limits state D
+IsOwner s n limits state = (n ≤ 32) × (L : List Entry) × Stands s n limits state (deeds L)
 
 -- the entry of an event with its result
 abbrev pub entry_of : ℕ → Event → Result Answer Refusal → Entry

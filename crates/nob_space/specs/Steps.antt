@@ -1,50 +1,30 @@
 -- What one event makes of the state of a space.
-use Rattle.std.specs.Prelude.{◌≡◌, ⊤, ℕ, ◌<◌, ◌^◌, Bool, true, false, List, ◌∷◌, Option, Some, None, is_some, Result, Ok, Err, IsOk}
-use Rattle.nob_ids.specs.declared.limits.Limits.{Limits}
+use Rattle.std.specs.Prelude.{◌≡◌, ◌⊎◌, ⊤, ℕ, ◌<◌, ◌^◌, true, List, Option, None, is_some, Result, Ok, Err, IsOk}
 use Rattle.nob_pickle.specs.Limits.{Fits}
+use Rattle.nob_model_end.specs.Right.{right_front}
 use Rattle.nob_model_types.specs.declared.answer.Answer.{Answer}
 use Rattle.nob_model_types.specs.declared.answer.Answer.TheVariants as answers
 use Rattle.nob_model_types.specs.declared.event.Event.{Event}
 use Rattle.nob_model_types.specs.declared.event.Event.TheVariants as events
 use Rattle.nob_model_types.specs.declared.refusal.Refusal.{Refusal}
 use Rattle.nob_model_words.specs.Deeds.{deed_of}
-use Rattle.nob_model_words.specs.declared.deed.Deed.{Deed}
 use Rattle.nob_model_work.specs.Gifts.{value_of}
-use Rattle.nob_model_history.specs.Histories.{history_of}
-use Rattle.nob_model.specs.Right.{right_after}
+use Rattle.nob_model_history.specs.declared.history.History.{History}
+use Rattle.nob_model_history.specs.Ends.{calls_at}
 use Rattle.nob_space_state.specs.declared.error.SpaceError.{SpaceError}
 use Rattle.nob_space_state.specs.declared.error.SpaceError.TheVariants as errors
-use Rattle.nob_space_state.specs.Parts.{State}
-use Rattle.nob_space_state.specs.Stands.{Stands}
+use Rattle.nob_space_items.specs.Acts.{FrontWants}
 
--- whether an event acts on an item, which has to be read first
-abbrev pub reads_item : Event → Bool
-reads_item (events.Act peer) = true
-reads_item (_) = false
+-- the item that an event acts on, if there is one: that at the front of the inbox from the peer
+abbrev pub front_for : Event → History → Option (ℕ × List ℕ)
+front_for (events.Act peer) h = right_front (calls_at peer h)
+front_for (_) h = None
 
--- a result is the right one, or memory was wanted: then nothing else refuses the event, but for an item that couldn't be read
-abbrev pub AnswersRight : Event → Result Answer SpaceError → Result Answer Refusal → Type 0
-AnswersRight event (Ok answer) right = right ≡ Ok answer
-AnswersRight event (Err (errors.Refused refusal)) right = right ≡ Err refusal
-AnswersRight event (Err errors.OutOfMemory) right = reads_item event ≡ false → IsOk right
-
--- a list with what was done, if anything was
-abbrev pub with_deed : Option Deed → List Deed → List Deed
-with_deed None D = D
-with_deed (Some deed) D = deed ∷ D
-
--- a list with what an event did by its result: a refused one did nothing
-abbrev pub with_done : Event → Result Answer SpaceError → List Deed → List Deed
-with_done event (Ok answer) D = with_deed (deed_of event answer) D
-with_done event (Err error) D = D
-
--- the result of an event is the right one after every list that old stands for
-abbrev pub StepAnswers : (s n : ℕ) → State → Event → Result Answer SpaceError → Type 0
-StepAnswers s n old event result = (limits : Limits) (D : List Deed) → Stands s n limits old D → AnswersRight event result (right_after s n limits (history_of s n D) event)
-
--- new stands for every list that old stands for, with what the event did
-abbrev pub StepStands : (s n : ℕ) → State → State → Event → Result Answer SpaceError → Type 0
-StepStands s n old new event result = (limits : Limits) (D : List Deed) → Stands s n limits old D → Stands s n limits new (with_done event result D)
+-- a result is the right one, or memory was wanted: then nothing else refuses the event, or it was wanted to read this item, whatever that is
+abbrev pub AnswersRight : Option (ℕ × List ℕ) → Result Answer SpaceError → Result Answer Refusal → Type 0
+AnswersRight front (Ok answer) right = right ≡ Ok answer
+AnswersRight front (Err (errors.Refused refusal)) right = right ≡ Err refusal
+AnswersRight front (Err errors.OutOfMemory) right = IsOk right ⊎ FrontWants front
 
 -- an answer is one of the event's own
 abbrev pub IsOwn : Event → Result Answer SpaceError → Type 0

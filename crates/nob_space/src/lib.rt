@@ -1,12 +1,15 @@
 //! A space: what it answers to each event, for every list of what it did before.
 #![tactic(auto)]
 
+mod answers;
+mod events;
 mod space;
-mod steps;
 mod twice;
 mod work;
 
 pub use nob_session::Due;
-pub use nob_space_state::SpaceError;
+pub use nob_space_items::ActResult;
+pub use nob_space_settling::SettledItem;
+pub use nob_space_state::{CallResult, ReplyFate, SpaceError};
 pub use space::Space;
 pub use work::Work;

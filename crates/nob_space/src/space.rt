@@ -14,12 +14,13 @@ ghost use Rattle.nob_model.specs.Next as next;
 ghost use Rattle.nob_model.specs.Right.{right};
 ghost use Rattle.nob_space_state.specs.Dues as dues;
 ghost use Rattle.nob_space_state.specs.Stands.{AnswersOrWants};
-ghost use Rattle.nob_space.specs.Spaces.{StandsFor, SameSpace, with_entry, wants_memory};
-ghost use Rattle.nob_space.specs.Steps.{AnswersRight, HandsOnFitting};
-ghost use Rattle.nob_space.specs.Twice.{first_of};
+ghost use Rattle.nob_space.specs.Spaces.{StandsFor, SameSpace, wants_memory};
+ghost use Rattle.nob_space.specs.Steps.{HandsOnFitting, IsOwn};
+ghost use Rattle.nob_space.specs.Events.{StepAnswers, StepStands};
+ghost use Rattle.nob_space.specs.Twice.{first_of, wants_memory_twice};
 
-use crate::steps;
-use crate::twice::step_twice;
+use crate::answers::{of_arrive, of_call, of_finish, of_tick};
+use crate::twice::{again, spare_of};
 use crate::work::{Work, acts, sends};
 use nob_frame::Frame;
 use nob_ids::{CallNo, Limits, SpaceId};
@@ -34,10 +35,10 @@ use std::marker::Model;
 /// and has a session with each other space. Contracts see its number, its limits and its state, and
 /// for which lists of entries that stands. It holds pins, so it can't be let go: `shut` ends it.
 pub struct Space {
-    here: Here,
+    pub(crate) here: Here,
     limits: Limits,
-    alloc: Global,
-    parts: Parts,
+    pub(crate) alloc: Global,
+    pub(crate) parts: Parts,
 }
 
 impl Model for Space {
@@ -184,13 +185,11 @@ impl Space {
     }
 
     /// One event: its answer, or why the space refuses it. After a refusal, or where memory was
-    /// wanted, the space is as it was. What it costs is said at each event of the state.
+    /// wanted, the space is as it was. It costs what the event's own method does.
     pub fn step(&mut self, event: &Event) -> Result<Answer, SpaceError>
-        ensures answer { (L : List Entry) → StandsFor self.old L
-            → AnswersRight event.now result
-            (right self.old.id self.old.n self.old.limits L event.now) }
-        ensures stands { (L : List Entry) → StandsFor self.old L
-            → StandsFor self.new (with_entry self.old.id event.now result L) }
+        ensures answer { StepAnswers self.old event.now result }
+        ensures own { IsOwn event.now result }
+        ensures stands { StepStands self.old self.new event.now result }
         ensures err { OnErr result ((L : List Entry) → StandsFor self.old L
             → StandsFor self.new L) }
         // What is handed on has a spelling.
@@ -198,29 +197,59 @@ impl Space {
         ensures same { SameSpace self.old self.new }
         ensures memory { wants_memory event.now ≡ false → result ≢ Err SpaceError.OutOfMemory }
     {
-        let here = self.here;
-        let alloc = self.alloc;
-        steps::step(&mut self.parts, alloc, &here, event)
+        match event {
+            Event::Export => Ok(Answer::Exported(self.export()?)),
+            Event::Dup(rep) => {
+                self.dup(rep)?;
+                Ok(Answer::Done)
+            }
+            Event::Release(rep) => {
+                self.release(rep)?;
+                Ok(Answer::Done)
+            }
+            Event::Call {
+                target,
+                method,
+                value,
+            } => Ok(Answer::Called(self.call(target, *method, value)?)),
+            Event::TakeReply(call) => Ok(of_call(self.take_reply(*call)?)),
+            Event::Claim => Ok(Answer::Job(self.claim()?)),
+            Event::Finish(job, outcome) => Ok(of_finish(self.finish(*job, outcome)?)),
+            Event::Act(peer) => Ok(self.act(*peer)?.to_answer()),
+            Event::Settle => {
+                let settled = self.settle()?;
+                Ok(Answer::Settled(settled.peer, settled.item))
+            }
+            Event::Clean => Ok(Answer::Cleaned(self.clean()?)),
+            Event::Withdraw(index) => {
+                self.withdraw(*index)?;
+                Ok(Answer::Withdrawn)
+            }
+            Event::Transmit(peer) => Ok(Answer::Frames(self.transmit(*peer)?)),
+            Event::Arrive(frame) => Ok(of_arrive(self.arrive(frame)?)),
+            Event::Tick(peer) => Ok(of_tick(self.tick(*peer)?)),
+            Event::Close(peer) => Ok(Answer::Closed(self.close(*peer)?)),
+        }
     }
 
     /// One event, with two equal answers: for the entry that is kept of it, and for who asked. All
     /// that the second owns is copied before anything changes. It costs what `step` costs, and the
     /// copy.
     pub fn step_twice(&mut self, event: &Event) -> Result<(Answer, Answer), SpaceError>
-        ensures answer { (L : List Entry) → StandsFor self.old L
-            → AnswersRight event.now (first_of result)
-            (right self.old.id self.old.n self.old.limits L event.now) }
+        ensures answer { StepAnswers self.old event.now (first_of result) }
         ensures equal { IfOk result (λ two. two.1 ≡ two.0) }
         ensures fits { HandsOnFitting event.now (first_of result) }
-        ensures stands { (L : List Entry) → StandsFor self.old L
-            → StandsFor self.new (with_entry self.old.id event.now (first_of result) L) }
+        ensures stands { StepStands self.old self.new event.now (first_of result) }
         ensures err { OnErr result ((L : List Entry) → StandsFor self.old L
             → StandsFor self.new L) }
         ensures same { SameSpace self.old self.new }
+        ensures memory { wants_memory_twice event.now ≡ false
+            → result ≢ Err SpaceError.OutOfMemory }
     {
-        let here = self.here;
-        let alloc = self.alloc;
-        step_twice(&mut self.parts, alloc, &here, event)
+        let spare = spare_of(&self.parts, &self.here, event)?;
+        let answer = self.step(event)?;
+        let second = again(&answer, spare);
+        Ok((answer, second))
     }
 
     /// Closes each session that is open, as if it was asked to, and ends the space: each of its

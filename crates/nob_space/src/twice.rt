@@ -1,6 +1,6 @@
 //! Two equal answers to one event: what the second owns is copied before anything changes.
 
-ghost use Rattle.std.specs.Prelude.{◌≡◌, ℕ, List, IsOk, IfOk, OnErr};
+ghost use Rattle.std.specs.Prelude.{◌≡◌, List, false, IsOk, IfOk, OnErr};
 ghost use Rattle.nob_ids.specs.declared.limits.Limits.{Limits as LimitsOf};
 ghost use Rattle.nob_model_types.specs.declared.answer.Answer.{Answer as AnswerOf};
 ghost use Rattle.nob_model_words.specs.declared.deed.Deed.{Deed};
@@ -8,14 +8,12 @@ ghost use Rattle.nob_model_history.specs.Histories.{history_of};
 ghost use Rattle.nob_model.specs.Right.{right_after};
 ghost use Rattle.nob_space_state.specs.Parts.{state_of};
 ghost use Rattle.nob_space_state.specs.Stands.{Stands, IsState};
-ghost use Rattle.nob_space.specs.Steps.{HandsOnFitting, StepAnswers, StepStands};
-ghost use Rattle.nob_space.specs.Twice.{Fits, IsComing, first_of};
+ghost use Rattle.nob_space.specs.Twice.{Fits, IsComing, wants_memory_twice};
 
-use crate::steps::step;
 use nob_model::{Answer, Event, Frames, Here, Job};
 use nob_pickle::Value;
 use nob_space_state::{Parts, SpaceError};
-use std::alloc::{AllocError, Global};
+use std::alloc::AllocError;
 
 /// What an answer owns.
 #[derive(Debug, Drop)]
@@ -32,11 +30,12 @@ pub enum Spare {
 
 // What the answer to an event owns, copied. Memory is wanted only where nothing refuses the event.
 #[tactic(auto, unfolding(nob_model::specs::Right::right_after))]
-fn spare_of(parts: &Parts, here: &Here, event: &Event) -> Result<Spare, AllocError>
+pub(crate) fn spare_of(parts: &Parts, here: &Here, event: &Event) -> Result<Spare, AllocError>
     requires { IsState here.now.space here.now.n (state_of parts.now) }
     ensures fits { IfOk result (λ spare. (answer : AnswerOf)
         → IsComing here.now.space here.now.n (state_of parts.now) event.now answer
         → Fits spare answer) }
+    ensures only { wants_memory_twice event.now ≡ false → IsOk result }
     ensures memory { OnErr result ((limits : LimitsOf) (D : List Deed)
         → Stands here.now.space here.now.n limits (state_of parts.now) D
         → IsOk (right_after here.now.space here.now.n limits
@@ -63,7 +62,7 @@ fn spare_of(parts: &Parts, here: &Here, event: &Event) -> Result<Spare, AllocErr
 }
 
 // An answer again, of which this is what it owns. It takes no memory.
-fn again(answer: &Answer, spare: Spare) -> Answer
+pub(crate) fn again(answer: &Answer, spare: Spare) -> Answer
     requires { Fits spare answer.now }
     ensures { result ≡ answer.now }
 {
@@ -93,30 +92,4 @@ fn again(answer: &Answer, spare: Spare) -> Answer
         },
         Answer::Took(count) => Answer::Took(*count),
     }
-}
-
-// One event, with two equal answers.
-pub(crate) fn step_twice(
-    parts: &mut Parts,
-    alloc: Global,
-    here: &Here,
-    event: &Event,
-) -> Result<(Answer, Answer), SpaceError>
-    requires { IsState here.now.space here.now.n (state_of parts.old) }
-    ensures answer { StepAnswers here.now.space here.now.n (state_of parts.old) event.now
-        (first_of result) }
-    ensures equal { IfOk result (λ two. two.1 ≡ two.0) }
-    ensures fits { HandsOnFitting event.now (first_of result) }
-    ensures stands { StepStands here.now.space here.now.n (state_of parts.old)
-        (state_of parts.new) event.now (first_of result) }
-{
-    let Ok(spare) = spare_of(parts, here, event) else {
-        return Err(SpaceError::OutOfMemory);
-    };
-    let answer = match step(parts, alloc, here, event) {
-        Ok(answer) => answer,
-        Err(error) => return Err(error),
-    };
-    let second = again(&answer, spare);
-    Ok((answer, second))
 }

@@ -1,5 +1,5 @@
 -- What one entry more leaves of a world.
-use Rattle.std.proofs.Common.{◌≡◌, ℕ, ◌+◌, ◌-◌, ◌≤◌, Bool, true, false, not, ◌==◌, List, [], ◌∷◌, ◌++◌, length, take, reverse, get_or, slice_get, Option, Some, None, Result, Ok, Err, if◌then◌else◌, refl, sym, ap, subst, ◌∙◌, arith}
+use Rattle.std.proofs.Common.{◌≡◌, ℕ, ◌+◌, ◌-◌, ◌≤◌, Bool, true, false, not, ◌==◌, List, [], ◌∷◌, ◌++◌, length, take, reverse, get_or, slice_get, Option, Some, None, Result, Ok, Err, if◌then◌else◌, ◌≢◌, refl, sym, ap, subst, ◌∙◌, arith}
 use Rattle.std.specs.List.{AllByRecursion, Contains}
 use Rattle.std.proofs.lemmas.Option.{slice_get_read, slice_get_within, get_or_from_slice_get}
 use Prim.Native.Nat.{zero, suc}
@@ -33,7 +33,9 @@ use Rattle.nob_model_safety.specs.Typed.{IsOfTypes, AreOfTypes}
 use Rattle.nob_table_rows.proofs.Flat.{get_set_other}
 use Rattle.nob_space_state.proofs.Ends.{set_here}
 use Rattle.nob_space.specs.Spaces.{Owner, StandsFor, SameSpace}
-use Rattle.nob_world.specs.Worlds.{IsSpaceOf, SpacesStand, IsWorld, world_of, entry_of, is_arrival}
+use Rattle.nob_world.specs.Worlds.{IsSpaceOf, SpacesStand, IsWorld, world_of, entry_of, is_arrival, why_stopped}
+use Rattle.nob_world.specs.declared.error.WorldError.{WorldError}
+use Rattle.nob_world.specs.declared.error.WorldError.TheVariants.{NoSpace, NoFrame, OutOfMemory}
 
 -- an entry more of a space stands in its own list
 at_own : (p : ℕ) (event : Event) (result : Result Answer Refusal) (J : List Entry) → at p (entry_of p event result ∷ J) ≡ entry_of p event result ∷ at p J
@@ -223,3 +225,10 @@ placed_push holds [] x all last zero y got = subst (holds zero) (let same : x �
 placed_push holds [] x all last (suc i) y got = absurd cc
 placed_push holds (z ∷ xs) x all last zero y got = all zero y got
 placed_push holds (z ∷ xs) x all last (suc i) y got = placed_push (λ j. holds (suc j)) xs x (λ j w there. all (suc j) w there) last i y got
+
+-- why a step made no entry, by when each reason comes
+pub why_is : (wrong : Option WorldError) (error : WorldError) → ((fault : WorldError) → wrong ≡ Some fault → Err {Unit {0}} {WorldError} error ≡ Err fault) → (error ≢ OutOfMemory → wrong ≡ Some error) → error ≡ why_stopped wrong
+why_is (Some fault) error exact only = let same : Err {Unit {0}} {WorldError} error ≡ Err fault = exact fault refl in cc
+why_is None NoSpace exact only = absurd (let wrong : None ≡ Some NoSpace = only (λ same. cc) in cc)
+why_is None NoFrame exact only = absurd (let wrong : None ≡ Some NoFrame = only (λ same. cc) in cc)
+why_is None OutOfMemory exact only = refl

@@ -7,7 +7,6 @@ use Rattle.nob_frame.specs.Spelling.{Fits}
 use Rattle.nob_model_types.specs.declared.answer.Answer.{Answer}
 use Rattle.nob_model_types.specs.declared.refusal.Refusal.{Refusal}
 use Rattle.nob_model_types.specs.declared.event.Event.{Event}
-use Rattle.nob_model_types.specs.declared.event.Event.TheVariants.{Arrive}
 use Rattle.nob_model_types.specs.declared.entry.Entry.{Entry}
 use Rattle.nob_model_types.specs.declared.entry.WorldStep.{WorldStep}
 use Rattle.nob_model_types.specs.declared.entry.WorldStep.TheVariants.{Do, Deliver}
@@ -15,9 +14,10 @@ use Rattle.nob_model_journal.specs.Journals.{at, transmitted_frames}
 use Rattle.nob_model_safety.specs.Typed.{AreOfTypes}
 pub use Rattle.nob_model_invariant.specs.Safe.{IsSafe}
 use Rattle.nob_model_journal.specs.Runs.{WorldRun, frame_of, IsMadeBy}
+pub use Rattle.nob_model_journal.specs.Runs.{is_arrival}
 use Rattle.nob_space.specs.Spaces.{Owner, StandsFor}
 use Rattle.nob_world.specs.declared.error.WorldError.{WorldError}
-use Rattle.nob_world.specs.declared.error.WorldError.TheVariants.{NoSpace, NoFrame}
+use Rattle.nob_world.specs.declared.error.WorldError.TheVariants.{NoSpace, NoFrame, OutOfMemory}
 
 -- a world: how many spaces there are, the limits of their sessions, the spaces, what was asked of them and answered, and the frames that were ever transmitted
 pub record World : Type 0 where
@@ -58,11 +58,6 @@ pub record IsWorld (world : World) : Type 0 where
   pub for_spaces : AllByRecursion (λ frame. frame.to ≤ world.n) world.frames
   pub typed : AreOfTypes (journal world)
 
--- whether an event is the arrival of a frame
-abbrev pub is_arrival : Event → Bool
-is_arrival (Arrive frame) = true
-is_arrival _ = false
-
 -- whether a frame was found
 abbrev pub is_there : Option Frame → Bool
 is_there (Some frame) = true
@@ -72,6 +67,11 @@ is_there None = false
 abbrev pub step_fault : ℕ → List Frame → WorldStep → Option WorldError
 step_fault n frames (Do space event) = if not (nat_le 1 space && nat_le space n) then Some NoSpace else (if is_arrival event then Some NoFrame else None)
 step_fault n frames (Deliver number) = if is_there (frame_of number frames) then None else Some NoFrame
+
+-- why a step made no entry: what is wrong with it, or else want of memory
+abbrev pub why_stopped : Option WorldError → WorldError
+why_stopped (Some fault) = fault
+why_stopped None = OutOfMemory
 
 -- an entry of a space for an event, with its result
 abbrev pub entry_of : ℕ → Event → Result Answer Refusal → Entry

@@ -3,7 +3,8 @@
 ghost use Rattle.std.specs.Prelude.{◌≡◌, ◌≢◌, ◌≤◌, ◌<◌, ◌++◌, ◌∷◌, [], ℕ, List, Some, None, Ok, Err, reverse, slice_get, length, IfOk, IfErr, OnErr, OnOk, MatchOption};
 ghost use Rattle.nob_model_types.specs.declared.entry.WorldStep.{WorldStep as WorldStepOf};
 ghost use Rattle.nob_model_journal.specs.Journals.{transmitted_frames};
-ghost use Rattle.nob_model_journal.specs.Runs.{ArrivesGiven, WorldRun, From};
+ghost use Rattle.nob_model_journal.specs.Runs.{WorldRun, From};
+ghost use Rattle.nob_model_safety.specs.Typed.{AreOfTypes};
 ghost use Rattle.nob_world.specs.Worlds as spec;
 ghost use Rattle.nob_world.specs.declared.error.WorldError.{WorldError as WorldErrorOf};
 
@@ -81,6 +82,7 @@ impl World {
         ensures entries { result.now ≡ self.now.entries }
         ensures run { WorldRun self.now.n (λ _. self.now.limits) (reverse result.now) }
         ensures safe { spec.IsSafe self.now.n (reverse result.now) }
+        ensures typed { AreOfTypes (reverse result.now) }
     {
         self.entries.as_slice()
     }
@@ -166,8 +168,7 @@ impl World {
         // It stops at a step that there is no space or no frame for, or that memory is wanted for.
         ensures stopped { IfErr result (λ stop. (step : WorldStepOf)
             × (slice_get steps.now stop.0 ≡ Some step)
-            × (stop.1 ≢ WorldError.OutOfMemory
-            → spec.step_fault self.new.n self.new.frames step ≡ Some stop.1)) }
+            × (stop.1 ≡ spec.why_stopped (spec.step_fault self.new.n self.new.frames step))) }
         ensures n { self.new.n ≡ self.old.n }
         ensures limits { self.new.limits ≡ self.old.limits }
     {

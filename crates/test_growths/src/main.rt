@@ -6,7 +6,7 @@ mod script;
 mod worlds;
 
 use crate::script::{Script, script_of};
-use crate::worlds::{entries_of, is_accepted};
+use crate::worlds::{Way, entries_of, is_accepted};
 use nob_check::judge;
 use nob_model::Entry;
 use nob_model_journal::Verdict;
@@ -73,10 +73,10 @@ fn script_in(alloc: Global, text: &[u8]) -> Result<Option<Script>, AllocError> {
     }
 }
 
-// Runs a script twice.
+// Runs a script twice: step by step, and all steps at once.
 fn said_of(alloc: Global, script: &Script) -> Result<Said, AllocError> {
-    let first = entries_of(alloc, script)?;
-    let second = entries_of(alloc, script)?;
+    let first = entries_of(alloc, script, Way::StepByStep)?;
+    let second = entries_of(alloc, script, Way::AllAtOnce)?;
     let entries = first.as_slice();
     Ok(Said {
         is_same: are_same(entries, second.as_slice()),

@@ -8,30 +8,77 @@ use nob_trace::{Entries, Stamped, Trace};
 use nob_world::{World, WorldError};
 use std::alloc::{AllocError, Global};
 
+/// How the steps of a script are made.
+#[derive(Clone, Copy)]
+pub enum Way {
+    /// One after the other.
+    StepByStep,
+    /// As whole lists: all that are left, as often as a step stops them.
+    AllAtOnce,
+}
+
 /// The entries that a script makes in a new world. Only memory fails it, twice in one place.
-pub fn entries_of(alloc: Global, script: &Script) -> Result<Vec<Entry>, AllocError> {
+pub fn entries_of(alloc: Global, script: &Script, way: Way) -> Result<Vec<Entry>, AllocError> {
     let mut world = match World::new(alloc, script.n.get(), script.limits) {
         Ok(world) => world,
         Err(_) => World::new(alloc, script.n.get(), script.limits)?,
     };
-    let entries = entries_in(alloc, &mut world, script);
+    let entries = entries_in(alloc, &mut world, script, way);
     world.shut();
     entries
 }
 
 // The same in a world that is new.
-fn entries_in(alloc: Global, world: &mut World, script: &Script) -> Result<Vec<Entry>, AllocError> {
-    for step in script.steps.iter() {
+fn entries_in(
+    alloc: Global,
+    world: &mut World,
+    script: &Script,
+    way: Way,
+) -> Result<Vec<Entry>, AllocError> {
+    match way {
+        Way::StepByStep => make_each(world, script.steps.as_slice())?,
+        Way::AllAtOnce => make_all(world, script.steps.as_slice())?,
+    }
+    match copy_of(alloc, world.entries()) {
+        Ok(entries) => Ok(entries),
+        Err(_) => copy_of(alloc, world.entries()),
+    }
+}
+
+// Makes steps one after the other.
+fn make_each(world: &mut World, steps: &[WorldStep]) -> Result<(), AllocError> {
+    for step in steps {
         match make(world, step) {
             Err(WorldError::OutOfMemory) => return Err(AllocError),
             Err(WorldError::NoSpace) | Err(WorldError::NoFrame) => {}
             Ok(_) => {}
         }
     }
-    match copy_of(alloc, world.entries()) {
-        Ok(entries) => Ok(entries),
-        Err(_) => copy_of(alloc, world.entries()),
+    Ok(())
+}
+
+// Makes steps as whole lists: behind one that there is no space or no frame for it goes on with the next,
+// at one that wanted memory with that one. So each list but one leaves a step out.
+fn make_all(world: &mut World, steps: &[WorldStep]) -> Result<(), AllocError> {
+    let mut left = steps;
+    for _ in 0..steps.len().saturating_add(2) {
+        left = match world.run(left) {
+            Ok(()) => return Ok(()),
+            Err((place, WorldError::OutOfMemory)) => from_place(left, place),
+            Err((place, WorldError::NoSpace)) | Err((place, WorldError::NoFrame)) => {
+                from_place(left, place.saturating_add(1))
+            }
+        };
     }
+    Err(AllocError)
+}
+
+// The steps from a place on.
+fn from_place(steps: &[WorldStep], place: usize) -> &[WorldStep] {
+    if place > steps.len() {
+        return steps;
+    }
+    steps.split_at(place).1
 }
 
 // Makes a step, once more where it wanted memory.

@@ -1,6 +1,6 @@
 use Rattle.std.proofs.Common.{false, refl}
 use Rattle.nob_trace_text.specs.Lines.{lines_of, bad_step_text}
-use Rattle.nob_script_text.specs.Scripts.{FromOpening}
+use Rattle.nob_script_text.specs.Scripts.{FromOpening, IsVerdictOf}
 use Rattle.nob_script_text.proofs.Playing.{bad_made, no_opening, opening_done}
 use Rattle.nob_plain.proofs.Playing.{found_so, on_ok_so}
 use Rattle.nob_plain.proofs.script.put_answers.Goals as goal
@@ -10,7 +10,7 @@ returns-in_default c =
     let line = c.args.line.now in
     let lines = lines_of c.args.steps.now in
     let none = no_opening line c.in_ok-opening.field-0 c.in_default.is c.in_ok-opening.ensures.only in
-    bad_made c.push_bad_step.result c.args.text.now.items c.args.text.now.items c.push_bad_step.new.text.items 1 (λ written ending. FromOpening false line lines written ending) c.push_bad_step.ensures.ok (bad_step_text 1, refl, FromOpening.bad none refl refl)
+    bad_made c.push_bad_step.result c.args.text.now.items c.args.text.now.items c.push_bad_step.new.text.items 1 (λ written ending. FromOpening false IsVerdictOf line lines written ending) c.push_bad_step.ensures.ok (bad_step_text 1, refl, FromOpening.bad none refl refl)
 
 pub returns : goal.returns
 returns c =
@@ -21,4 +21,4 @@ returns c =
     let new = c.put_steps.new.text.items in
     let opening = c.in-Some.opening in
     let found = found_so _ c.in_ok-opening.field-0 opening c.in-Some.is c.in_ok-opening.ensures.found in
-    on_ok_so c.put_steps.result (λ written. (written.0, opening_done false line lines opening c.limits_of.result c.new-world.result old begun new written.0 found c.limits_of.ensures c.new-world.ensures c.in_ok-push_line.ensures.ok written.1)) c.put_steps.ensures
+    on_ok_so c.put_steps.result (λ written. (written.0, opening_done false IsVerdictOf line lines opening c.limits_of.result c.new-world.result old begun new written.0 found c.limits_of.ensures c.new-world.ensures c.in_ok-push_line.ensures.ok written.1)) c.put_steps.ensures

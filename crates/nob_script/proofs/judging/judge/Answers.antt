@@ -9,4 +9,4 @@ use Rattle.nob_script.proofs.judging.judge.Goals as goal
 pub returns-clause-judged : goal.returns-clause-judged
 returns-clause-judged c =
     let safe = subst (λ (entries : List Entry). IsSafe c.args.world.now.n (reverse entries)) c.entries.ensures.entries c.entries.ensures.safe in
-    (c.verdict_line.result.now, append-nil c.extend_from_slice.new.self.items ∙ c.in-Ok.ensures.items, AtEnd.judged Yes (safe.fronts, safe.withdraws, safe.losses, safe.found) c.verdict_line.ensures refl)
+    (c.verdict_line.result.now, append-nil c.extend_from_slice.new.self.items ∙ c.in-Ok.ensures.items, AtEnd.judged Yes (refl, safe) c.verdict_line.ensures refl)

@@ -3,7 +3,7 @@ use Rattle.nob_trace_text.specs.Lines.{lines_of}
 use Rattle.nob_script_text.specs.declared.ending.Ending.TheVariants.{OutOfMemory}
 use Rattle.nob_script_text.specs.Scripts.{FromLines, Grows, last_line}
 use Rattle.nob_script_text.proofs.Playing.{Completes, line_more, lines_done, run_stopped, grown}
-use Rattle.nob_script.specs.Plays.{EndsBadly, script_world}
+use Rattle.nob_script.specs.Plays.{EndsBadly, script_world, IsSafelyYes}
 use Rattle.nob_script.proofs.Ends.{line_ends}
 use Rattle.nob_script.proofs.playing.play_steps.Goals as goal
 
@@ -17,10 +17,10 @@ returns-in_default-play_line-clause-plays c =
     let world = script_world c.loop-line.world in
     let old = c.args.text.now.items in
     let now = c.loop-line.text.items in
-    let so_far = subst (λ (ls : List (List ℕ)). Completes true number ls all first world old now) c.in-Some.ensures.lines c.loop-line.invariant.1 in
+    let so_far = subst (λ (ls : List (List ℕ)). Completes true IsSafelyYes number ls all first world old now) c.in-Some.ensures.lines c.loop-line.invariant.1 in
     let new = c.play_line.new.text.items in
     let same = ap (λ (xs : List ℕ). xs ++ codes "memory\n") c.in_default-play_line.ensures.err in
-    grown old (new ++ codes "memory\n") (now ++ codes "memory\n") (λ written. FromLines true 2 first all written OutOfMemory) same (run_stopped number (c.in-Some.line.now ∷ left) all first world old now so_far)
+    grown old (new ++ codes "memory\n") (now ++ codes "memory\n") (λ written. FromLines true IsSafelyYes 2 first all written OutOfMemory) same (run_stopped IsSafelyYes number (c.in-Some.line.now ∷ left) all first world old now so_far)
 
 pub returns-then-not-is_step-clause-plays : goal.returns-then-not-is_step-clause-plays
 returns-then-not-is_step-clause-plays c =
@@ -32,7 +32,7 @@ returns-then-not-is_step-clause-plays c =
     let world = script_world c.loop-line.world in
     let old = c.args.text.now.items in
     let now = c.loop-line.text.items in
-    let so_far = subst (λ (ls : List (List ℕ)). Completes true number ls all first world old now) c.in-Some.ensures.lines c.loop-line.invariant.1 in
+    let so_far = subst (λ (ls : List (List ℕ)). Completes true IsSafelyYes number ls all first world old now) c.in-Some.ensures.lines c.loop-line.invariant.1 in
     let off = c.if-not-is_step.true in
     let ending = c.bad_step.result in
     let new = c.bad_step.new.text.items ++ last_line ending in
@@ -49,9 +49,9 @@ loop-line-preserved c =
     let world = script_world c.loop-line.world in
     let old = c.args.text.now.items in
     let now = c.loop-line.text.items in
-    let so_far = subst (λ (ls : List (List ℕ)). Completes true number ls all first world old now) c.in-Some.ensures.lines c.loop-line.invariant.1 in
+    let so_far = subst (λ (ls : List (List ℕ)). Completes true IsSafelyYes number ls all first world old now) c.in-Some.ensures.lines c.loop-line.invariant.1 in
     let made = c.in-Ok.ensures.made c.if-not-is_step.false in
-    (omega (arith, c.loop-line.invariant.0, c.in-Some.ensures.shorter), line_more true number line left all first world (script_world c.play_line.new.world) old now c.play_line.new.text.items made.0 so_far made.2 made.1)
+    (omega (arith, c.loop-line.invariant.0, c.in-Some.ensures.shorter), line_more true IsSafelyYes number line left all first world (script_world c.play_line.new.world) old now c.play_line.new.text.items made.0 so_far made.2 made.1)
 
 pub returns-clause-plays : goal.returns-clause-plays
 returns-clause-plays c =
@@ -61,6 +61,6 @@ returns-clause-plays c =
     let world = script_world c.loop-line.world in
     let old = c.args.text.now.items in
     let now = c.loop-line.text.items in
-    let so_far = subst (λ (left : List ℕ). Completes true number (lines_of left) all first world old now) c.in_default.ensures.lines c.loop-line.invariant.1 in
+    let so_far = subst (λ (left : List ℕ). Completes true IsSafelyYes number (lines_of left) all first world old now) c.in_default.ensures.lines c.loop-line.invariant.1 in
     let ending = c.judge.result in
-    lines_done true number all first world old now (c.judge.new.text.items ++ last_line ending) ending so_far c.judge.ensures.judged
+    lines_done true IsSafelyYes number all first world old now (c.judge.new.text.items ++ last_line ending) ending so_far c.judge.ensures.judged

@@ -1,12 +1,12 @@
 use Rattle.std.proofs.Common.{◌+◌, ◌≤◌, true, length}
 use Rattle.nob_trace_text.specs.Lines.{lines_of}
 use Rattle.nob_script_text.proofs.Playing.{Completes}
-use Rattle.nob_script.specs.Plays.{script_world}
+use Rattle.nob_script.specs.Plays.{script_world, IsSafelyYes}
 use Rattle.nob_script.proofs.playing.play_steps.Given as goal
 
 -- what completes the lines that are left completes all
 abbrev pub invariant-loop-line : goal.invariant-loop-line
-invariant-loop-line l = (l.number + length l.left ≤ length l.steps + 2) × Completes true l.number (lines_of l.left) (lines_of l.steps) (script_world l.fn.world) (script_world l.world) l.fn.text.items l.text.items
+invariant-loop-line l = (l.number + length l.left ≤ length l.steps + 2) × Completes true IsSafelyYes l.number (lines_of l.left) (lines_of l.steps) (script_world l.fn.world) (script_world l.world) l.fn.text.items l.text.items
 
 -- each line leaves fewer bytes
 abbrev pub decreases-loop-line : goal.decreases-loop-line

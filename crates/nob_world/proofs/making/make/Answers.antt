@@ -3,10 +3,11 @@ use Rattle.std.proofs.lemmas.List.{append-nil}
 use Rattle.nob_model_types.specs.declared.answer.Answer.{Answer}
 use Rattle.nob_model_types.specs.declared.entry.Entry.{Entry}
 use Rattle.nob_frame.specs.declared.frame.Frame.{Frame}
+use Rattle.nob_model_history.specs.Histories.{history}
 use Rattle.nob_model.specs.Right.{right}
 use Rattle.nob_space_state.specs.declared.error.SpaceError.{SpaceError}
 use Rattle.nob_space.specs.Spaces.{StandsFor, with_entry}
-use Rattle.nob_space.specs.Steps.{AnswersRight, HandsOnFitting}
+use Rattle.nob_space.specs.Steps.{AnswersRight, HandsOnFitting, front_for}
 use Rattle.nob_world.specs.Worlds.{entry_of}
 use Rattle.nob_world.proofs.Typed.{entry_typed, entry_refused}
 use Rattle.nob_world.proofs.Worlds.{Asked, world_made, world_kept, gives_of, looked_space, goes_of}
@@ -51,7 +52,7 @@ returns-in-Err-Refused-clause-world c n limits world arrives =
     } in
     let told = c.in-Err-Refused.ensures {u = tt} in
     world_made asked (Err c.in-Err-Refused.refusal) [] c.put_entry-in-Err-Refused.new.entries.items c.reserve-2.new.self.items
-    (λ L stands. subst (λ (error : SpaceError). AnswersRight c.args.event (Err error) (right c.index_mut.result.now.id c.index_mut.result.now.n c.index_mut.result.now.limits L c.args.event)) c.in-Err-Refused.field-0-is (told.answer L stands))
+    (λ L stands. subst (λ (error : SpaceError). AnswersRight (front_for c.args.event (history c.index_mut.result.now.id c.index_mut.result.now.n L)) (Err error) (right c.index_mut.result.now.id c.index_mut.result.now.n c.index_mut.result.now.limits L c.args.event)) c.in-Err-Refused.field-0-is (told.answer L stands))
     (λ L stands. subst (λ (error : SpaceError). StandsFor c.step_twice.new.self (with_entry c.index_mut.result.now.id c.args.event (Err error) L)) c.in-Err-Refused.field-0-is (told.stands L stands))
     refl
     tt
