@@ -1,4 +1,4 @@
--- Where clap takes words that name `spaces`, the numbers of its options are in range.
+-- Where clap takes words that name a subcommand, the numbers of its options are in range.
 use Rattle.std.proofs.Common.{◌≡◌, ◌∙◌, ℕ, Bool, true, false, List, [], ◌∷◌, Option, Some, None, codes, is_some, option_map, refl, sym, ap, subst, true≢false}
 use Rattle.std.specs.Prelude.{if◌then◌else◌, find, slice_get, unwrap_or, option_and_then}
 use Rattle.std.specs.List.{All, slice_index_or}
@@ -18,7 +18,7 @@ use Rattle.clap.specs.declared.builder.value_parser.ValueParser.TheVariants.{Uns
 use Rattle.clap.specs.declared.builder.value_parser.Reading.{Reading}
 use Rattle.clap.specs.declared.builder.value_parser.Reading.TheVariants.{AsWritten}
 use Rattle.clap.proofs.ValueTestLemmas.{accepts-Accepts}
-use Rattle.nob_demo_words.specs.Options.{AreWithin, IsWithin, greatest}
+use Rattle.nob_demo_words.specs.Options.{AreWithin, DrawIsWithin, IsWithin, SceneIsWithin, greatest}
 use Rattle.nob_demo_words.specs.Words.{TakenAreWithin, nobj, takes_words, word_faults}
 use Rattle.nob_demo_words.proofs.Taken.{Good, IsOwn, find_own, good_level, left_none, never, right_none}
 
@@ -69,39 +69,69 @@ record HasNumbers (c : List Rule) : Type 0 where
   loss : HasNumber 0 9 (codes "loss") c
   seed : HasNumber 0 greatest (codes "seed") c
 
--- the rules of a subcommand are found by their names, and the subcommand `spaces` has the numbers
-abbrev IsRight : Shape → Type 0
-IsRight s = All (IsOwn s.rules) s.rules × (bytes_eq s.name (codes "spaces") ≡ true → HasNumbers s.rules)
+record HasRows (c : List Rule) : Type 0 where
+  from : HasNumber 1 greatest (codes "from") c
+  to : HasNumber 1 greatest (codes "to") c
+
+-- the rules of a subcommand are found by their names, and the subcommands `spaces` and `draw` have the numbers
+record IsRight (s : Shape) : Type 0 where
+  own : All (IsOwn s.rules) s.rules
+  scene : bytes_eq s.name (codes "spaces") ≡ true → HasNumbers s.rules
+  draw : bytes_eq s.name (codes "draw") ≡ true → HasRows s.rules
 
 abbrev leaf : ℕ → Shape
 leaf i = slice_index_or (built nobj).subs i help_shape
 
 pair_right : IsRight (leaf 0)
-pair_right = (All-from_recursion (IsOwn (leaf 0).rules) (leaf 0).rules ((refl, refl), tt), λ e. absurd (true≢false (sym e)))
+pair_right = record {
+  own = All-from_recursion (IsOwn (leaf 0).rules) (leaf 0).rules ((refl, refl), tt);
+  scene = λ e. absurd (true≢false (sym e));
+  draw = λ e. absurd (true≢false (sym e));
+}
 
 script_right : IsRight (leaf 1)
-script_right = (All-from_recursion (IsOwn (leaf 1).rules) (leaf 1).rules ((refl, refl), tt), λ e. absurd (true≢false (sym e)))
+script_right = record {
+  own = All-from_recursion (IsOwn (leaf 1).rules) (leaf 1).rules ((refl, refl), tt);
+  scene = λ e. absurd (true≢false (sym e));
+  draw = λ e. absurd (true≢false (sym e));
+}
 
 check_right : IsRight (leaf 2)
-check_right = (All-from_recursion (IsOwn (leaf 2).rules) (leaf 2).rules ((refl, refl), tt), λ e. absurd (true≢false (sym e)))
+check_right = record {
+  own = All-from_recursion (IsOwn (leaf 2).rules) (leaf 2).rules ((refl, refl), tt);
+  scene = λ e. absurd (true≢false (sym e));
+  draw = λ e. absurd (true≢false (sym e));
+}
 
-spaces_right : IsRight (leaf 3)
-spaces_right = (
-  All-from_recursion (IsOwn (leaf 3).rules) (leaf 3).rules ((refl, refl), ((refl, refl), ((refl, refl), ((refl, refl), ((refl, refl), ((refl, refl), ((refl, refl), tt))))))),
-  λ e. record {
+draw_right : IsRight (leaf 3)
+draw_right = record {
+  own = All-from_recursion (IsOwn (leaf 3).rules) (leaf 3).rules ((refl, refl), ((refl, refl), ((refl, refl), tt)));
+  scene = λ e. absurd (true≢false (sym e));
+  draw = λ e. record { from = (_, refl, refl); to = (_, refl, refl) };
+}
+
+spaces_right : IsRight (leaf 4)
+spaces_right = record {
+  own = All-from_recursion (IsOwn (leaf 4).rules) (leaf 4).rules ((refl, refl), ((refl, refl), ((refl, refl), ((refl, refl), ((refl, refl), ((refl, refl), ((refl, refl), tt)))))));
+  scene = λ e. record {
     spaces = (_, refl, refl);
     workers = (_, refl, refl);
     calls = (_, refl, refl);
     loss = (_, refl, refl);
     seed = (_, refl, refl);
-  },
-)
+  };
+  draw = λ e. absurd (true≢false (sym e));
+}
 
-help_right : IsRight (leaf 4)
-help_right = (All-from_recursion (IsOwn (leaf 4).rules) (leaf 4).rules ((refl, refl), tt), λ e. absurd (true≢false (sym e)))
+help_right : IsRight (leaf 5)
+help_right = record {
+  own = All-from_recursion (IsOwn (leaf 5).rules) (leaf 5).rules ((refl, refl), tt);
+  scene = λ e. absurd (true≢false (sym e));
+  draw = λ e. absurd (true≢false (sym e));
+}
 
 all_right : All IsRight (built nobj).subs
-all_right = All-from_recursion IsRight (built nobj).subs (pair_right, (script_right, (check_right, (spaces_right, (help_right, tt)))))
+all_right = All-from_recursion IsRight (built nobj).subs (pair_right, (script_right, (check_right, (draw_right, (spaces_right, (help_right, tt))))))
 
 -- ---- the whole
 
@@ -109,8 +139,8 @@ no_kinds : (ks : Kinds) → takes_words ks ≡ true → ks ≡ []
 no_kinds [] e = refl
 no_kinds (k ∷ ks) e = absurd (true≢false (sym e))
 
-are_within : (s : Shape) (rows : List Row) → All (Good s.rules) rows → HasNumbers s.rules → AreWithin rows
-are_within s rows all has = record {
+scene_within : (s : Shape) (rows : List Row) → All (Good s.rules) rows → HasNumbers s.rules → SceneIsWithin rows
+scene_within s rows all has = record {
   spaces = within s.rules rows all 2 8 (codes "spaces") has.spaces;
   workers = within s.rules rows all 1 16 (codes "workers") has.workers;
   calls = within s.rules rows all 0 10000 (codes "calls") has.calls;
@@ -118,22 +148,33 @@ are_within s rows all has = record {
   seed = within s.rules rows all 0 greatest (codes "seed") has.seed;
 }
 
-at_leaf : (subs : List Shape) → All IsRight subs → (name : Text) (words : List Text) (rows : List Row) (found : Option Shape) → find (λ s. answers_to name (label_of s)) subs ≡ found
-    → option_map_or (λ s. level_fault s [] nothing_held words false []) found [] ≡ []
-    → option_map (λ s. rows_at s words) found ≡ Some (codes "spaces", rows) → AreWithin rows
-at_leaf subs right name words rows None f fault e = let bad : false ≡ true = ap is_some e in absurd (true≢false (sym bad))
-at_leaf subs right name words rows (Some s) f fault e =
-    let is_right = (find_own IsRight _ subs right s f).0 in
-    let both : rows_at s words ≡ (codes "spaces", rows) = ap (λ o. unwrap_or o (rows_at s words)) e in
-    let named : bytes_eq s.name (codes "spaces") ≡ true = (bytes_eq-Decides s.name (codes "spaces")).1 (ap (λ (p : Text × List Row). p.0) both) in
-    let all = good_level s is_right.0 [] words fault in
-    are_within s rows (subst (All (Good s.rules)) (ap (λ (p : Text × List Row). p.1) both) all) (is_right.1 named)
+draw_within : (s : Shape) (rows : List Row) → All (Good s.rules) rows → HasRows s.rules → DrawIsWithin rows
+draw_within s rows all has = record {
+  from = within s.rules rows all 1 greatest (codes "from") has.from;
+  to = within s.rules rows all 1 greatest (codes "to") has.to;
+}
 
-at_stop : (a : App) → All IsRight a.subs → (stop : Option (Text × List Text)) (rows : List Row) → entered_fault a stop ≡ [] → entered a stop ≡ Some (codes "spaces", rows) → AreWithin rows
-at_stop a right None rows fault e = let bad : false ≡ true = ap is_some e in absurd (true≢false (sym bad))
-at_stop a right (Some p) rows fault e = at_leaf a.subs right p.0 p.1 rows (find (λ s. answers_to p.0 (label_of s)) a.subs) refl fault e
+are_within : (s : Shape) → IsRight s → (name : Text) (rows : List Row) → All (Good s.rules) rows → s.name ≡ name → AreWithin name rows
+are_within s is name rows all named = record {
+  scene = λ e. scene_within s rows all (is.scene ((bytes_eq-Decides s.name (codes "spaces")).1 (named ∙ e)));
+  draw = λ e. draw_within s rows all (is.draw ((bytes_eq-Decides s.name (codes "draw")).1 (named ∙ e)));
+}
+
+at_leaf : (subs : List Shape) → All IsRight subs → (called name : Text) (words : List Text) (rows : List Row) (found : Option Shape) → find (λ s. answers_to called (label_of s)) subs ≡ found
+    → option_map_or (λ s. level_fault s [] nothing_held words false []) found [] ≡ []
+    → option_map (λ s. rows_at s words) found ≡ Some (name, rows) → AreWithin name rows
+at_leaf subs right called name words rows None f fault e = let bad : false ≡ true = ap is_some e in absurd (true≢false (sym bad))
+at_leaf subs right called name words rows (Some s) f fault e =
+    let is_right = (find_own IsRight _ subs right s f).0 in
+    let both : rows_at s words ≡ (name, rows) = ap (λ o. unwrap_or o (rows_at s words)) e in
+    let all = good_level s is_right.own [] words fault in
+    are_within s is_right name rows (subst (All (Good s.rules)) (ap (λ (p : Text × List Row). p.1) both) all) (ap (λ (p : Text × List Row). p.0) both)
+
+at_stop : (a : App) → All IsRight a.subs → (stop : Option (Text × List Text)) (name : Text) (rows : List Row) → entered_fault a stop ≡ [] → entered a stop ≡ Some (name, rows) → AreWithin name rows
+at_stop a right None name rows fault e = let bad : false ≡ true = ap is_some e in absurd (true≢false (sym bad))
+at_stop a right (Some p) name rows fault e = at_leaf a.subs right p.0 name p.1 rows (find (λ s. answers_to p.0 (label_of s)) a.subs) refl fault e
 
 pub taken_are_within : TakenAreWithin
-taken_are_within words rows taken e =
+taken_are_within words name rows taken e =
     let fault = no_kinds (word_faults words) taken in
-    at_stop (built nobj) all_right (walk (built nobj).top.rules (names_of (built nobj)) nothing_held (argument_words (built nobj) words)).stopped rows (left_none _ _ (right_none _ _ fault)) e
+    at_stop (built nobj) all_right (walk (built nobj).top.rules (names_of (built nobj)) nothing_held (argument_words (built nobj) words)).stopped name rows (left_none _ _ (right_none _ _ fault)) e

@@ -1,5 +1,5 @@
--- The options of the subcommand `spaces`, and the scene that they say.
-use Rattle.std.specs.Prelude.{ℕ, Bool, false, List, [], ◌∷◌, codes, Option, Some, None, IfSome}
+-- The options of the subcommands `spaces` and `draw`, and what they say.
+use Rattle.std.specs.Prelude.{◌≡◌, ℕ, Bool, false, List, [], ◌∷◌, codes, Option, Some, None, IfSome}
 use Rattle.std.specs.Option.{option_map_or}
 use Rattle.std.specs.Str.{bytes_eq}
 use Rattle.std.specs.Str.Parse.{digits_value, without_leading_plus}
@@ -9,6 +9,8 @@ use Rattle.clap.specs.Values.{IsUnsignedIn}
 use Rattle.clap.specs.declared.builder.action.ArgAction.TheVariants.{SetTrue}
 use Rattle.clap.specs.declared.builder.value_parser.ValueParser.TheVariants.{Unsigned}
 use Rattle.nob_demo_words.specs.Scenes.{Setting}
+use Rattle.nob_demo_words.specs.declared.words.Subcommand.{Subcommand}
+use Rattle.nob_demo_words.specs.declared.words.Subcommand.TheVariants.{Draw}
 
 -- the option `--NAME N`, where N is a number from the lowest to the highest, as clap sees it
 abbrev pub number_rule : (name : Text) (lowest highest : ℕ) → Rule
@@ -30,6 +32,14 @@ spaces_rules = number_rule (codes "spaces") 2 8 ∷ number_rule (codes "workers"
 abbrev pub spaces_shape : Shape
 spaces_shape = record (new_shape (codes "spaces")) { rules = spaces_rules }
 
+-- the options of `draw`: the numbers of two rows, which count from 1
+abbrev pub draw_rules : List Rule
+draw_rules = number_rule (codes "from") 1 greatest ∷ number_rule (codes "to") 1 greatest ∷ []
+
+-- the subcommand `draw` as clap sees it
+abbrev pub draw_shape : Shape
+draw_shape = record (new_shape (codes "draw")) { rules = draw_rules }
+
 -- the number that the text of an option says; where the option isn't there, the number that stands by default
 abbrev pub number_said : (default : ℕ) → Option Text → ℕ
 number_said default None = default
@@ -50,14 +60,28 @@ setting_in rows = record {
   traces = is_said (one_of (codes "traces") rows);
 }
 
+-- the drawing that the options say of which clap found these rows: from the first row, and to the last that there may be, where an option isn't there
+abbrev pub draw_in : List Row → Subcommand
+draw_in rows = Draw (number_said 1 (one_of (codes "from") rows)) (number_said greatest (one_of (codes "to") rows))
+
 -- where the option has a text, it is a number from the lowest to the highest
 abbrev pub IsWithin : (lowest highest : ℕ) → Option Text → Type 0
 IsWithin lowest highest text = IfSome text (IsUnsignedIn lowest highest)
 
--- the options of which clap found these rows say numbers in range
-pub record AreWithin (rows : List Row) : Type 0 where
+-- the options of `spaces` of which clap found these rows say numbers in range
+pub record SceneIsWithin (rows : List Row) : Type 0 where
   pub spaces : IsWithin 2 8 (one_of (codes "spaces") rows)
   pub workers : IsWithin 1 16 (one_of (codes "workers") rows)
   pub calls : IsWithin 0 10000 (one_of (codes "calls") rows)
   pub loss : IsWithin 0 9 (one_of (codes "loss") rows)
   pub seed : IsWithin 0 greatest (one_of (codes "seed") rows)
+
+-- the options of `draw` of which clap found these rows say numbers in range
+pub record DrawIsWithin (rows : List Row) : Type 0 where
+  pub from : IsWithin 1 greatest (one_of (codes "from") rows)
+  pub to : IsWithin 1 greatest (one_of (codes "to") rows)
+
+-- the options of the subcommand of this name, of which clap found these rows, say numbers in range
+pub record AreWithin (name : Text) (rows : List Row) : Type 0 where
+  pub scene : name ≡ codes "spaces" → SceneIsWithin rows
+  pub draw : name ≡ codes "draw" → DrawIsWithin rows

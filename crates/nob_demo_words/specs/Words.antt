@@ -4,7 +4,7 @@ use Rattle.std.specs.Str.{bytes_eq}
 use Rattle.clap.specs.Words.{App, Row, Text, with_subcommand, fault_of, subcommand_of}
 use Rattle.clap.specs.Simple.{new_shape}
 use Rattle.clap.specs.Kinds.{Kinds}
-use Rattle.nob_demo_words.specs.Options.{spaces_shape, setting_in, AreWithin}
+use Rattle.nob_demo_words.specs.Options.{draw_in, draw_shape, spaces_shape, setting_in, AreWithin}
 use Rattle.nob_demo_words.specs.declared.fault.Fault.{Fault}
 use Rattle.nob_demo_words.specs.declared.fault.Fault.TheVariants.{Words, Read, Write, Memory}
 use Rattle.nob_demo_words.specs.declared.words.Subcommand.{Subcommand}
@@ -22,9 +22,13 @@ nobj_with_script = with_subcommand nobj_with_pair (new_shape (codes "script"))
 abbrev pub nobj_with_check : App
 nobj_with_check = with_subcommand nobj_with_script (new_shape (codes "check"))
 
+-- the same command with the subcommand `draw` too, with its options
+abbrev pub nobj_with_draw : App
+nobj_with_draw = with_subcommand nobj_with_check draw_shape
+
 -- the command `nobj`: it has the subcommand `spaces` too, with its options
 abbrev pub nobj : App
-nobj = with_subcommand nobj_with_check spaces_shape
+nobj = with_subcommand nobj_with_draw spaces_shape
 
 -- the kinds of error that clap may answer to these words, of which the first is the program's name: none where it takes them
 abbrev pub word_faults : List (List ℕ) → Kinds
@@ -35,9 +39,9 @@ abbrev pub takes_words : Kinds → Bool
 takes_words [] = true
 takes_words (k ∷ ks) = false
 
--- the subcommand of this name: `script`, `check`, `spaces`, of whose options clap found these rows, or `pair`
+-- the subcommand of this name: `script`, `check`, `draw` or `spaces`, of whose options clap found these rows, or `pair`
 abbrev pub subcommand_named : (name : Text) → List Row → Subcommand
-subcommand_named name rows = if bytes_eq name (codes "script") then Script else (if bytes_eq name (codes "check") then Check else (if bytes_eq name (codes "spaces") then Spaces (setting_in rows) else Pair))
+subcommand_named name rows = if bytes_eq name (codes "script") then Script else (if bytes_eq name (codes "check") then Check else (if bytes_eq name (codes "draw") then draw_in rows else (if bytes_eq name (codes "spaces") then Spaces (setting_in rows) else Pair)))
 
 -- the subcommand that clap met, with the rows of its options: `pair` where it met none
 abbrev pub subcommand_by : Option (Text × List Row) → Subcommand
@@ -55,6 +59,6 @@ IsWordsFault Read taken = ⊥
 IsWordsFault Memory taken = Unit {0}
 IsWordsFault Write taken = ⊥
 
--- where clap takes words that name `spaces`, the numbers of its options are in range
+-- where clap takes words that name a subcommand, the numbers of its options are in range
 abbrev pub TakenAreWithin : Type 0
-TakenAreWithin = (words : List (List ℕ)) (rows : List Row) → takes_words (word_faults words) ≡ true → subcommand_of nobj words ≡ Some (codes "spaces", rows) → AreWithin rows
+TakenAreWithin = (words : List (List ℕ)) (name : Text) (rows : List Row) → takes_words (word_faults words) ≡ true → subcommand_of nobj words ≡ Some (name, rows) → AreWithin name rows

@@ -2,8 +2,8 @@
 
 ghost use Rattle.nob_demo_words.specs.Words.{TakenAreWithin};
 
-/// Where clap takes words that name `spaces`, the numbers of its options are in range: no default
-/// stands in for a text.
+/// Where clap takes words that name `spaces` or `draw`, the numbers of its options are in range: no
+/// default stands in for a text.
 pub fn taken_are_within()
     ensures { TakenAreWithin }
 {}

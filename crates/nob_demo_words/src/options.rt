@@ -1,17 +1,18 @@
-//! The options of the subcommand `spaces`.
+//! The options of the subcommands `spaces` and `draw`.
 
 ghost use Rattle.std.specs.Prelude.{◌≡◌, ◌≤◌, codes, false, IfOk};
 ghost use Rattle.clap.specs.Words.{app_of, found_of, new_app, one_of, rows_of, rule_of, shape_of};
 ghost use Rattle.clap.specs.declared.builder.command.Command.TheViews.{out-Command as fields_of};
-ghost use Rattle.nob_demo_words.specs.Options.{flag_rule, is_said, number_rule, setting_in, spaces_shape, AreWithin};
+ghost use Rattle.nob_demo_words.specs.Options.{draw_in, draw_shape, flag_rule, is_said, number_rule, setting_in, spaces_shape, DrawIsWithin, SceneIsWithin};
 
 use crate::scene::Scene;
+use crate::words::Subcommand;
 use clap::builder::ValueParser;
 use clap::{Arg, ArgAction, ArgMatches, Command};
 use std::alloc::{AllocError, Global};
 
 /// The subcommand `spaces` with its options.
-pub fn with_options<'a>(alloc: Global, spaces: Command<'a>) -> Result<Command<'a>, AllocError>
+pub fn with_scene<'a>(alloc: Global, spaces: Command<'a>) -> Result<Command<'a>, AllocError>
     requires new { app_of spaces ≡ new_app (codes "spaces") }
     requires local { (fields_of spaces).has_globals ≡ false }
     ensures shape { IfOk result (λ command. shape_of command ≡ spaces_shape) }
@@ -24,6 +25,17 @@ pub fn with_options<'a>(alloc: Global, spaces: Command<'a>) -> Result<Command<'a
         .arg(number(alloc, "loss", "L", 0, 9).help("Frames of ten that are lost: 0 to 9, else 0"))?
         .arg(number(alloc, "seed", "X", 0, u64::MAX).help("Where chances start: a u64, else 1"))?
         .arg(flag(alloc, "traces").help("Writes the traces"))
+}
+
+/// The subcommand `draw` with its options.
+pub fn with_rows<'a>(alloc: Global, draw: Command<'a>) -> Result<Command<'a>, AllocError>
+    requires new { app_of draw ≡ new_app (codes "draw") }
+    requires local { (fields_of draw).has_globals ≡ false }
+    ensures shape { IfOk result (λ command. shape_of command ≡ draw_shape) }
+    ensures local { IfOk result (λ command. (fields_of command).has_globals ≡ false) }
+{
+    draw.arg(number(alloc, "from", "K", 1, u64::MAX).help("The first row: 1 or more, else 1"))?
+        .arg(number(alloc, "to", "L", 1, u64::MAX).help("The last row: 1 or more, else the last"))
 }
 
 // The option `--NAME N`, where N is a number from the lowest to the highest.
@@ -53,7 +65,7 @@ fn flag<'a>(alloc: Global, name: &'a str) -> Arg<'a>
 
 /// The scene that the options say.
 pub fn scene_in<'a>(options: &ArgMatches<'a>) -> Scene
-    requires { AreWithin (rows_of (found_of options.now)) }
+    requires { SceneIsWithin (rows_of (found_of options.now)) }
     ensures { result ≡ setting_in (rows_of (found_of options.now)) }
 {
     let spaces = options.get_one::<u8>("spaces").unwrap_or(3);
@@ -63,6 +75,16 @@ pub fn scene_in<'a>(options: &ArgMatches<'a>) -> Scene
     let seed = options.get_one::<u64>("seed").unwrap_or(1);
     let traces = is_set(options, "traces");
     Scene::new(spaces, workers, calls, loss, seed, traces)
+}
+
+/// The drawing that the options say.
+pub fn draw_in<'a>(options: &ArgMatches<'a>) -> Subcommand
+    requires { DrawIsWithin (rows_of (found_of options.now)) }
+    ensures { result ≡ draw_in (rows_of (found_of options.now)) }
+{
+    let from = options.get_one::<usize>("from").unwrap_or(1);
+    let to = options.get_one::<usize>("to").unwrap_or(usize::MAX);
+    Subcommand::Draw { from, to }
 }
 
 // Whether a flag is set.

@@ -3,10 +3,10 @@
 ghost use Rattle.std.specs.Prelude.{◌≡◌, ℕ, true, false, codes, List, map, IfOk, IfErr, OnOk, Option, Some};
 ghost use Rattle.clap.specs.Words.{app_of, found_of, rows_of, subcommand_rows_of, FailsBy, Row};
 ghost use Rattle.nob_demo_words.specs.Options.{AreWithin};
-ghost use Rattle.nob_demo_words.specs.Words.{nobj, nobj_with_check, nobj_with_pair, nobj_with_script, subcommand_by, subcommand_in, subcommand_named, word_faults, takes_words, IsWordsFault};
+ghost use Rattle.nob_demo_words.specs.Words.{nobj, nobj_with_check, nobj_with_draw, nobj_with_pair, nobj_with_script, subcommand_by, subcommand_in, subcommand_named, word_faults, takes_words, IsWordsFault};
 
 use crate::fault::Fault;
-use crate::options::{scene_in, with_options};
+use crate::options::{draw_in, scene_in, with_rows, with_scene};
 use crate::scene::Scene;
 use clap::error::ErrorKind;
 use clap::{ArgMatches, Command, Error};
@@ -114,6 +114,23 @@ Traces, and what is written for them:
 
 Example: nobj check < examples/spaces/check/three-traces-accepted.traces";
 
+const DRAW_HELP: &str = "\
+What is read are traces, as `nobj check` reads them. What is written is one SVG,
+which a browser shows: a lifeline for each space; a row for each entry, in order
+of stamp, with what the space was asked and what it answered; an arrow for each
+frame that arrives, and a cross where one is lost; and bars where an object is
+live (green), a client is listed (blue) and a reference is pinned (orange).
+
+Rows count from 1. With --from and --to only those from K to L are drawn, as far
+as there are any: none where K is greater than L. It is for pages: what it costs
+grows with the cube of how many entries are read.
+
+An entry that `nobj check` finds wrong is red, and the status is 1. Where the
+input isn't traces, or they aren't one of each space, there is no drawing but
+the line that `nobj check` writes (R1, R2, R3 or C4), or `memory`.
+
+Example: nobj draw < examples/spaces/check/whole-life.traces > whole-life.svg";
+
 const SPACES_HELP: &str = "\
 N spaces run in threads of this process, each with W workers. Space 1 exports a
 counter under the name `counter`. Every other space looks it up at space 1 and
@@ -141,14 +158,22 @@ pub enum Subcommand {
     Script,
     /// Traces of spaces are checked.
     Check,
+    /// Traces of spaces are drawn.
+    Draw {
+        /// The first row of the drawing, counted from 1.
+        from: usize,
+        /// The last row, where there are so many.
+        to: usize,
+    },
     /// A scene of spaces is played.
     Spaces(Scene),
 }
 
 /// Judges the words, of which the first is the program's name: `script` runs a script of a world,
-/// `check` checks traces, `spaces` plays the scene that its options say, `pair`, or no further
-/// word, runs a script of a pair. Anything else is refused with clap's text, and so is a number of
-/// a scene that is none, or out of its range.
+/// `check` checks traces, `draw` draws the rows of traces that its options say, `spaces` plays the
+/// scene that its options say, `pair`, or no further word, runs a script of a pair. Anything else
+/// is refused with clap's text, and so is the number of an option that is none, or out of its
+/// range.
 pub fn judge<S: AsStr>(alloc: Global, words: &[S]) -> Result<Subcommand, Fault>
     ensures taken { OnOk result (takes_words (word_faults (map S.text words.now)) ≡ true) }
     ensures subcommand { IfOk result (λ subcommand.
@@ -177,8 +202,8 @@ fn matched<S: AsStr>(alloc: Global, words: &[S]) -> Result<Subcommand, Error>
 
 // What the subcommand runs that was met.
 fn met_in<'a>(matches: &ArgMatches<'a>) -> Subcommand
-    requires { (rows : List Row) → subcommand_rows_of matches.now ≡ Some (codes "spaces", rows)
-        → AreWithin rows }
+    requires { (name : List ℕ) (rows : List Row)
+        → subcommand_rows_of matches.now ≡ Some (name, rows) → AreWithin name rows }
     ensures { result ≡ subcommand_by (subcommand_rows_of matches.now) }
 {
     match matches.subcommand() {
@@ -189,13 +214,15 @@ fn met_in<'a>(matches: &ArgMatches<'a>) -> Subcommand
 
 // What the subcommand of this name runs, with its options.
 fn named<'a>(name: &str, options: &ArgMatches<'a>) -> Subcommand
-    requires { name.now ≡ codes "spaces" → AreWithin (rows_of (found_of options.now)) }
+    requires { AreWithin name.now (rows_of (found_of options.now)) }
     ensures { result ≡ subcommand_named name.now (rows_of (found_of options.now)) }
 {
     if name == "script" {
         Subcommand::Script
     } else if name == "check" {
         Subcommand::Check
+    } else if name == "draw" {
+        draw_in(options)
     } else if name == "spaces" {
         Subcommand::Spaces(scene_in(options))
     } else {
@@ -210,9 +237,21 @@ fn command<'a>(alloc: Global) -> Result<Command<'a>, AllocError>
     let spaces = Command::new(alloc, "spaces")
         .about("Plays a scene of spaces in threads, and checks what they did")
         .after_help(SPACES_HELP);
-    let spaces = with_options(alloc, spaces)?;
-    let command = command_with_check(alloc)?;
+    let spaces = with_scene(alloc, spaces)?;
+    let command = command_with_draw(alloc)?;
     command.subcommand(spaces)
+}
+
+// The command with the subcommands `pair`, `script`, `check` and `draw`.
+fn command_with_draw<'a>(alloc: Global) -> Result<Command<'a>, AllocError>
+    ensures { IfOk result (λ command. app_of command ≡ nobj_with_draw) }
+{
+    let draw = Command::new(alloc, "draw")
+        .about("Draws traces of spaces, read from standard input, as an SVG")
+        .after_help(DRAW_HELP);
+    let draw = with_rows(alloc, draw)?;
+    let command = command_with_check(alloc)?;
+    command.subcommand(draw)
 }
 
 // The command with the subcommands `pair`, `script` and `check`.

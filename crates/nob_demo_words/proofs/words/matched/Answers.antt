@@ -29,4 +29,4 @@ met_in-requires g c =
     let is = c.in_ok-command.ensures in
     let found = (c.in_ok-matches.ensures.matches (subst (λ (a : App). is_simple a ≡ true) (sym is) refl)).1 ∙ ap (λ (a : App). subcommand_of a words) is in
     let none = subst (λ (a : App). fault_of a words ≡ []) is (c.in_ok-matches.ensures.kinds (subst (λ (a : App). is_simple_and_free a ≡ true) (sym is) refl)) in
-    λ rows e. taken_are_within words rows (ap takes_words none) (sym found ∙ e)
+    λ name rows e. taken_are_within words name rows (ap takes_words none) (sym found ∙ e)
