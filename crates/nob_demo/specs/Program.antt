@@ -11,11 +11,14 @@ use Rattle.nob_script.specs.Plays as worlds
 use Rattle.nob_demo_check.specs.Checks as checks
 use Rattle.nob_demo_check.specs.declared.ending.Ending.{Ending as CheckEnding}
 use Rattle.nob_demo_check.specs.declared.ending.Ending.TheVariants as check_endings
+use Rattle.nob_demo_draw.specs.Draws as drawings
+use Rattle.nob_demo_draw.specs.declared.ending.Ending.{Ending as DrawEnding}
+use Rattle.nob_demo_draw.specs.declared.ending.Ending.TheVariants as draw_endings
 use Rattle.nob_demo_words.specs.declared.words.Subcommand.{Subcommand}
 use Rattle.nob_demo_scenes.specs.declared.ending.Ending.{Ending as SceneEnding}
 use Rattle.nob_demo_scenes.specs.declared.ending.Ending.TheVariants as scene_endings
 use Rattle.nob_demo_scenes.specs.Endings as scenes
-use Rattle.nob_demo_words.specs.declared.words.Subcommand.TheVariants.{Pair, Script, Check, Spaces}
+use Rattle.nob_demo_words.specs.declared.words.Subcommand.TheVariants.{Pair, Script, Check, Draw, Spaces}
 use Rattle.nob_demo_words.specs.declared.fault.Fault.{Fault}
 use Rattle.nob_demo_words.specs.declared.fault.Fault.TheVariants.{Words, Read, Write, Memory}
 
@@ -84,6 +87,12 @@ check_status_of check_endings.Accepted = 0
 check_status_of check_endings.Refused = 1
 check_status_of check_endings.OutOfMemory = 1
 
+-- the status that a drawing of traces ends with: 0 where they are accepted
+abbrev pub draw_status_of : DrawEnding → ℕ
+draw_status_of draw_endings.Drawn = 0
+draw_status_of draw_endings.Refused = 1
+draw_status_of draw_endings.OutOfMemory = 1
+
 -- the status that the play of a scene ends with: 0 where its traces are accepted, or printed
 abbrev pub scene_status_of : SceneEnding → ℕ
 scene_status_of scene_endings.Accepted = 0
@@ -97,6 +106,7 @@ abbrev pub reads_input : Subcommand → Bool
 reads_input Pair = true
 reads_input Script = true
 reads_input Check = true
+reads_input (Draw from to) = true
 reads_input (Spaces setting) = false
 
 -- the input that a subcommand was given: the whole, of as many bytes as were read, which are the reader's where it tells them; or, for one that reads none, nothing
@@ -109,6 +119,7 @@ abbrev pub Does : Subcommand → (input text : List ℕ) → (status : ℕ) → 
 Does Pair input text status = (outcome : Outcome) × Plays input text outcome × (status ≡ status_of outcome)
 Does Script input text status = (ending : Ending) × worlds.Plays input text ending × worlds.SaysYes ending × (status ≡ world_status_of ending)
 Does Check input text status = (ending : CheckEnding) × checks.Checks input text ending × (status ≡ check_status_of ending)
+Does (Draw from to) input text status = (ending : DrawEnding) × drawings.Draws input (record { from = from; to = to }) text ending × (status ≡ draw_status_of ending)
 Does (Spaces setting) input text status = (ending : SceneEnding) × scenes.Plays setting text ending × (status ≡ scene_status_of ending)
 
 -- what a run was given, and how far it came: whether clap took the words, which subcommand they name, what was read, the bytes of `out` before and after, and whether a write to it failed

@@ -3,10 +3,11 @@
 ghost use Rattle.std.specs.Prelude.{◌≡◌, ◌++◌, [], ℕ, true, false, map, not, IsOk, IsErr, IfOk, IfErr};
 ghost use Rattle.std.specs.Io.KnownBytes.{Appends};
 ghost use Rattle.nob_demo_words.specs.Words.{subcommand_in, word_faults, takes_words};
-ghost use Rattle.nob_demo.specs.Program.{Ended, Does, Goes, IsInput, IsReadingFault, reads_input, status_of, world_status_of, check_status_of, scene_status_of};
+ghost use Rattle.nob_demo.specs.Program.{Ended, Does, Goes, IsInput, IsReadingFault, reads_input, status_of, world_status_of, check_status_of, draw_status_of, scene_status_of};
 
 use crate::reading::read_all;
 use crate::streams::{Sink, Source};
+use nob_demo_draw::Part;
 use nob_demo_pair::Outcome;
 use nob_demo_words::{Fault, Subcommand, judge};
 use nob_model_journal::Verdict;
@@ -19,9 +20,9 @@ use std::thread::Threads;
 
 /// Runs the program on the words of its command line, the first of which is its name: the exit
 /// status. All is written to `out` but clap's text and the line `read fault`, which go to `err`.
-/// Status 0: the last line says yes, or a scene's traces are printed; 1: neither, or a read, a
-/// write or memory failed; 2: the words are refused. A scene reads nothing, and its spaces run in
-/// threads.
+/// Status 0: the last line says yes, or a scene's traces are printed, or traces that `check`
+/// accepts are drawn; 1: none of these, or a read, a write or memory failed; 2: the words are
+/// refused. A scene reads nothing, and its spaces run in threads.
 pub fn run<H: Threads + Wait + Sync, S: AsStr, R: Read, W: Write, E: Write>(
     rt: &H,
     alloc: Global,
@@ -135,6 +136,7 @@ fn input_of<R: Read>(
         Subcommand::Pair => read_all(alloc, source),
         Subcommand::Script => read_all(alloc, source),
         Subcommand::Check => read_all(alloc, source),
+        Subcommand::Draw { .. } => read_all(alloc, source),
         Subcommand::Spaces(_) => Ok(Vec::new(alloc)),
     }
 }
@@ -164,6 +166,10 @@ fn play<H: Threads + Wait + Sync>(
             let ending = nob_demo_check::play(alloc, input, text);
             (ending.last_line(), check_status_of(ending))
         }
+        Subcommand::Draw { from, to } => {
+            let ending = nob_demo_draw::play(alloc, input, Part { from, to }, text);
+            (ending.last_line(), draw_status_of(ending))
+        }
         Subcommand::Spaces(scene) => {
             let ending = nob_demo_spaces::play(rt, alloc, scene, text);
             (ending.last_line(), scene_status_of(ending))
@@ -181,6 +187,17 @@ fn scene_status_of(ending: nob_demo_scenes::Ending) -> u8
         nob_demo_scenes::Ending::Printed => 0,
         nob_demo_scenes::Ending::Full => 1,
         nob_demo_scenes::Ending::OutOfMemory => 1,
+    }
+}
+
+// The status that a drawing of traces ends with.
+fn draw_status_of(ending: nob_demo_draw::Ending) -> u8
+    ensures { result ≡ draw_status_of ending }
+{
+    match ending {
+        nob_demo_draw::Ending::Drawn => 0,
+        nob_demo_draw::Ending::Refused => 1,
+        nob_demo_draw::Ending::OutOfMemory => 1,
     }
 }
 

@@ -123,7 +123,7 @@ live (green), a client is listed (blue) and a reference is pinned (orange).
 
 Rows count from 1. With --from and --to only those from K to L are drawn, as far
 as there are any: none where K is greater than L. It is for pages: what it costs
-grows with the cube of how many entries are read.
+grows faster than the cube of how many entries are read.
 
 An entry that `nobj check` finds wrong is red, and the status is 1. Where the
 input isn't traces, or they aren't one of each space, there is no drawing but

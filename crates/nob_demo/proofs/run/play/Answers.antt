@@ -1,6 +1,8 @@
 use Rattle.std.proofs.Common.{ℕ, List, ◌++◌, subst, sym}
 use Rattle.nob_demo_words.specs.declared.words.Subcommand.{Subcommand}
 use Rattle.nob_demo_check.specs.Checks as checks
+use Rattle.nob_demo_draw.specs.Draws as drawings
+use Rattle.nob_demo_draw.specs.declared.playing.Part.{Part}
 use Rattle.nob_demo.specs.Program.{Does}
 use Rattle.nob_demo.proofs.run.play.Goals as goal
 
@@ -11,3 +13,12 @@ returns-in-Check g c =
     let said = subst (λ (last : List ℕ). checks.Checks c.args.input.now (before ++ last) ending) (sym c.last_line-in-Check.ensures) c.play-ending-in-Check.ensures in
     subst (λ (subcommand : Subcommand). Does subcommand c.args.input.now (before ++ c.last_line-in-Check.result.now) c.check_status_of.result) (sym c.in-Check.is)
     (ending, said, c.check_status_of.ensures)
+
+pub returns-in-Draw : goal.returns-in-Draw
+returns-in-Draw g c =
+    let ending = c.play-ending-in-Draw.result in
+    let before = c.play-ending-in-Draw.new.text.items in
+    let part : Part = record { from = c.in-Draw.from; to = c.in-Draw.to } in
+    let said = subst (λ (last : List ℕ). drawings.Draws c.args.input.now part (before ++ last) ending) (sym c.last_line-in-Draw.ensures) c.play-ending-in-Draw.ensures in
+    subst (λ (subcommand : Subcommand). Does subcommand c.args.input.now (before ++ c.last_line-in-Draw.result.now) c.draw_status_of.result) (sym c.in-Draw.is)
+    (ending, said, c.draw_status_of.ensures)
