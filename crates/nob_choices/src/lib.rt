@@ -2,7 +2,9 @@
 #![tactic(auto)]
 
 mod choices;
+mod known;
 mod steps;
 
 pub use choices::{random_object, random_outcome, random_space, random_value};
-pub use steps::{Known, random_event, random_step};
+pub use known::{Known, known_of, objects_of};
+pub use steps::{random_event, random_step};

@@ -5,6 +5,7 @@ ghost use Rattle.nob_model_types.specs.declared.event.Event.TheVariants as event
 ghost use Rattle.nob_choices.specs.Choices as spec;
 
 use crate::choices::{random_object, random_outcome, random_space, random_value};
+use crate::known::Known;
 use nob_ids::{CallNo, JobNo, SpaceId, WireRep};
 use nob_model_types::{Event, WorldStep};
 use nob_random::Words;
@@ -15,19 +16,6 @@ const LAST_FRAMES: u64 = 12;
 
 // The method that is called.
 const METHOD: u16 = 1;
-
-/// What a choice looks at.
-#[derive(Drop)]
-pub struct Known {
-    /// How many spaces there are.
-    pub n: u16,
-    /// The objects that were exported, the first first.
-    pub objects: Vec<WireRep>,
-    /// The greatest number of a call.
-    pub calls: u64,
-    /// The greatest number of a job.
-    pub jobs: u64,
-}
 
 // What is called: an object, or the agent of a space.
 fn random_target(words: &mut Words, n: u16, rep: &WireRep) -> WireRep
