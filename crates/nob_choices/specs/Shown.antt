@@ -1,5 +1,5 @@
 -- What the entries of all spaces, the first first, show that a choice looks at.
-use Rattle.std.specs.Prelude.{ℕ, max, List, filter_map, map, Option, Some, None, Result, Ok, Err}
+use Rattle.std.specs.Prelude.{ℕ, max, List, filter_map, Option, Some, None, Result, Ok}
 use Rattle.std.specs.List.{fold}
 use Rattle.nob_ids.specs.declared.wire_rep.WireRep.{WireRep}
 use Rattle.nob_model_types.specs.declared.answer.Answer.{Answer}
