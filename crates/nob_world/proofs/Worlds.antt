@@ -226,9 +226,13 @@ placed_push holds [] x all last (suc i) y got = absurd cc
 placed_push holds (z ∷ xs) x all last zero y got = all zero y got
 placed_push holds (z ∷ xs) x all last (suc i) y got = placed_push (λ j. holds (suc j)) xs x (λ j w there. all (suc j) w there) last i y got
 
+-- what a step that made no entry gave
+abbrev pub stopped_by : WorldError → Result (Result Answer Refusal) WorldError
+stopped_by error = Err error
+
 -- why a step made no entry, by when each reason comes
-pub why_is : (wrong : Option WorldError) (error : WorldError) → ((fault : WorldError) → wrong ≡ Some fault → Err {Unit {0}} {WorldError} error ≡ Err fault) → (error ≢ OutOfMemory → wrong ≡ Some error) → error ≡ why_stopped wrong
-why_is (Some fault) error exact only = let same : Err {Unit {0}} {WorldError} error ≡ Err fault = exact fault refl in cc
+pub why_is : (wrong : Option WorldError) (error : WorldError) → ((fault : WorldError) → wrong ≡ Some fault → stopped_by error ≡ stopped_by fault) → (error ≢ OutOfMemory → wrong ≡ Some error) → error ≡ why_stopped wrong
+why_is (Some fault) error exact only = let same : stopped_by error ≡ stopped_by fault = exact fault refl in cc
 why_is None NoSpace exact only = absurd (let wrong : None ≡ Some NoSpace = only (λ same. cc) in cc)
 why_is None NoFrame exact only = absurd (let wrong : None ≡ Some NoFrame = only (λ same. cc) in cc)
 why_is None OutOfMemory exact only = refl
