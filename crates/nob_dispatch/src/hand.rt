@@ -100,6 +100,26 @@ impl<O: Object> Hand<O> {
         }
     }
 
+    /// Takes the next errand if there is one now and the worker is free: whether the worker keeps one
+    /// then. It doesn't wait, and may find none while another thread is just giving or getting one.
+    pub fn try_get<R: Wait>(&mut self, rt: &R) -> bool
+        ensures kept { self.old.worker.job ≢ None → (result ≡ true) × (self.new ≡ self.old) }
+        ensures got { self.old.worker.job ≡ None → result ≡ true
+            → serving.Gets self.old self.new }
+        ensures none { result ≡ false → (self.old.worker.job ≡ None) × (self.new ≡ self.old) }
+    {
+        if !self.worker.is_free() {
+            return true;
+        }
+        let Some(errand) = self.errands.try_get_as(rt) else {
+            return false;
+        };
+        match self.worker.take(errand) {
+            Ok(()) => true,
+            Err(_) => unreachable!(),
+        }
+    }
+
     /// One turn: a step of the job that the worker keeps, as `Worker::turn` has it. An object that
     /// comes back is given to the lane at once, before the Finish. Where it was found that nobody
     /// gets it any more it is let go. A hand that gives up does so in place of a step.

@@ -12,4 +12,4 @@ pub use nob_dispatch_jobs::{
     AddError, Dispatcher, Errand, Gate, Handing, JobCalls, OpenGate, Place, Progress, Return,
     Shelf, Worker,
 };
-pub use pool::serve;
+pub use pool::{carry_out, serve};

@@ -36,14 +36,16 @@ pub fn serve<O: Object, R: Wait, C: JobCalls, G: Gate>(
     }
 }
 
-// Carries out the job that a hand keeps, to its end. What can't be done yet is tried again after a
-// rest.
-fn carry_out<O: Object, R: Wait, C: JobCalls, G: Gate>(
+/// Carries out the job that a hand keeps, to its end. What can't be done yet is tried again after a
+/// rest, K2 at once; after any other error of the keeper the job is given up, as `serve` does.
+pub fn carry_out<O: Object, R: Wait, C: JobCalls, G: Gate>(
     rt: &R,
     keeper: &C,
     gate: &G,
     hand: &mut Hand<O>,
-) {
+)
+    ensures taken { hand.new.taken ≡ hand.old.taken }
+{
     let mut rest = FIRST_REST;
     for _ in rt.forever() {
         match hand.turn(rt, keeper, gate) {
