@@ -230,12 +230,10 @@ impl<'x, B: Object> Node<'x, B> {
         ensures { IfOk result (λ returned.
             calls.IsCallBy self.old self.new event.now returned) }
     {
-        let acts = self.site.acts();
         self.ask(rt, event)?;
         let Some(call) = call_in(&self.seat) else {
             return Err(STRANGE);
         };
-        self.site.look_for_act(acts);
         self.take_reply(rt, call)
     }
 

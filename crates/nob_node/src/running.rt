@@ -9,10 +9,12 @@ use nob_dispatch::{Desk, Errand, Gate, Hand, Place, Return, Shelf};
 use nob_dispatch_lanes::LaneTake;
 use nob_dispatch_objects::Object;
 use nob_keeper::{Keeper, KeeperError, Seat};
-use nob_node_site::{Config, Crew, Ends, Inbox, Kept, Left, Outbox, Site, run_crew, site_of};
+use nob_node_site::{
+    Config, Crew, Ends, Inbox, Kept, Left, Outbox, Parts, Site, run_crew, site_of,
+};
 use nob_trace::Trace;
 use std::alloc::Global;
-use std::sync::Wait;
+use std::sync::{Mutex, Wait};
 use std::thread::{self, Threads};
 
 /// What a node leaves when it has ended.
@@ -141,7 +143,13 @@ fn finish<B: Object, R: Wait>(
     remains: Remains<B>,
 ) -> Result<Report<B>, (NodeError, Vec<Left<B>>)> {
     let has_failed = site.has_failed();
-    let (keeper, outbox, _desk) = site.into_parts();
+    let Parts {
+        keeper,
+        outbox,
+        inboxes,
+        carer,
+        desk: _,
+    } = site.into_parts();
     let Remains {
         seat,
         rest,
@@ -151,12 +159,7 @@ fn finish<B: Object, R: Wait>(
         keeper.shut();
         return without_memory(alloc);
     };
-    let Crew {
-        inboxes,
-        hands,
-        carer,
-        mut seats,
-    } = crew;
+    let Crew { hands, mut seats } = crew;
     keep(&mut seats, seat);
     keep(&mut seats, carer.end());
     keep_all(&mut seats, outbox, inboxes);
@@ -174,12 +177,13 @@ fn finish<B: Object, R: Wait>(
 }
 
 // The seats of what transmitted and of those that took.
-fn keep_all(seats: &mut Vec<Seat>, outbox: Outbox, inboxes: Vec<Inbox>) {
+fn keep_all(seats: &mut Vec<Seat>, outbox: Outbox, inboxes: Vec<Mutex<Inbox>>) {
     if let Some(seat) = outbox.into_seat() {
         keep(seats, seat);
     }
     for inbox in inboxes {
-        if let Some(taker) = inbox.taker {
+        let Inbox { taker } = inbox.into_inner();
+        if let Some(taker) = taker {
             let (seat, _end, _due) = taker.end();
             keep(seats, seat);
         }

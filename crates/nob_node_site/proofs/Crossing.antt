@@ -26,7 +26,7 @@ use Rattle.nob_node_site.proofs.object.Kept.TheSendSync as kept
 use Rattle.nob_node_site.specs.contracts.object.Kept as Kept
 use Rattle.nob_node_site.specs.contracts.outbox.Outbox as Outbox
 use Rattle.nob_node_site.specs.contracts.crew.Crew as Crew
-use Rattle.nob_node_site.specs.contracts.crew.Inbox as Inbox
+use Rattle.nob_node_site.specs.contracts.inbox.Inbox as Inbox
 use Rattle.nob_node_site.specs.contracts.site.Site as Site
 use Rattle.nob_agents.specs.contracts.carer.Carer as Carer
 use Rattle.nob_keeper.specs.contracts.seat.Seat as Seat
@@ -85,10 +85,10 @@ module _ (B : RattleType) (g : Object.Ghosts B.Denot) (crossing : IsSend B) wher
   site_sync =
       let T = Site.the_type B g in
       recorded_sync (Struct (shape T)) T.D T.to T.to_one (struct_sync (shape T)
-      (keeper_field_sync, (search (outbox_field_send, crosses, sendable) depth 60 fits 20000, (search (desk_of_node_send, crosses, sendable) depth 60 fits 20000, (condvar_sync, (search (crosses, sendable) depth 60 fits 20000, (condvar_sync, (search (crosses, sendable) depth 60 fits 20000, (search (crosses, sendable) depth 60 fits 20000, (search (crosses, sendable) depth 60 fits 20000, (search (crosses, sendable) depth 60 fits 20000, (search (crosses, sendable) depth 60 fits 20000, (search (crosses, sendable) depth 60 fits 20000, tt)))))))))))))
+      (keeper_field_sync, (search (outbox_field_send, crosses, sendable) depth 60 fits 20000, (search (desk_of_node_send, crosses, sendable) depth 60 fits 20000, (condvar_sync, (search (crosses, sendable) depth 60 fits 20000, (condvar_sync, (search (crosses, sendable) depth 60 fits 20000, (search (inbox_send, crosses, sendable) depth 60 fits 20000, (search (crosses, sendable) depth 60 fits 20000, (search (crosses, sendable) depth 60 fits 20000, (search (carer_field_send, crosses, sendable) depth 60 fits 20000, (search (crosses, sendable) depth 60 fits 20000, (search (crosses, sendable) depth 60 fits 20000, (search (crosses, sendable) depth 60 fits 20000, (search (crosses, sendable) depth 60 fits 20000, (search (crosses, sendable) depth 60 fits 20000, (search (crosses, sendable) depth 60 fits 20000, (search (crosses, sendable) depth 60 fits 20000, (search (crosses, sendable) depth 60 fits 20000, (search (crosses, sendable) depth 60 fits 20000, (search (crosses, sendable) depth 60 fits 20000, tt))))))))))))))))))))))
 
   pub crew_send : IsSend (Crew.the_row B g)
   crew_send =
       let T = Crew.the_type B g in
       recorded_send (Struct (shape T)) T.D T.to T.to_one (struct_send (shape T)
-      (Vec-send Inbox.the_row inbox_send, (search (hand_of_node_send, crosses, sendable) depth 60 fits 20000, (search (carer_field_send, crosses, sendable) depth 60 fits 20000, (Vec-send Seat.the_row seat_send, tt)))))
+      (search (hand_of_node_send, crosses, sendable) depth 60 fits 20000, (Vec-send Seat.the_row seat_send, tt)))

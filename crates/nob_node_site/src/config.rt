@@ -41,7 +41,8 @@ impl Config {
         tick_every: u32,
     ) -> Option<Config>
         ensures { IfSome result (λ config. (config.space ≡ space) × (config.n ≡ n)
-            × (config.workers ≡ workers)) }
+            × (config.limits ≡ limits) × (config.workers ≡ workers)
+            × (config.pause ≡ pause) × (config.tick_every ≡ tick_every)) }
     {
         if n == 0 || n > MOST_SPACES || space.get() > n {
             return None;

@@ -3,6 +3,9 @@
 
 mod config;
 mod crew;
+mod idlers;
+mod inbox;
+mod lookout;
 mod making;
 mod object;
 mod outbox;
@@ -10,8 +13,9 @@ mod site;
 mod threads;
 
 pub use config::{Config, Ends};
-pub use crew::{Crew, Inbox, run_crew};
+pub use crew::{Crew, run_crew};
+pub use inbox::Inbox;
 pub use making::site_of;
 pub use object::{Kept, Left};
-pub use outbox::Outbox;
-pub use site::Site;
+pub use outbox::{Outbox, Pulse};
+pub use site::{Parts, Site};

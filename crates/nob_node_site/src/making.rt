@@ -8,7 +8,8 @@ ghost use Rattle.nob_dispatch_lanes.specs.Ends.{given_by, got_by};
 ghost use Rattle.nob_dispatch_lanes.specs.Lanes.{all_given, all_got};
 
 use crate::config::{Config, Ends};
-use crate::crew::{Crew, Inbox};
+use crate::crew::Crew;
+use crate::inbox::Inbox;
 use crate::object::Kept;
 use crate::outbox::Outbox;
 use crate::site::Site;
@@ -21,6 +22,7 @@ use nob_keeper::Keeper;
 use nob_link::{PutEnd, TakeEnd};
 use nob_space::Space;
 use std::alloc::Global;
+use std::sync::Mutex;
 
 /// So many errands, and so many objects on their way back, a node's lanes hold.
 const LANE: usize = 1024;
@@ -33,11 +35,12 @@ pub fn site_of<B: Object>(
     ends: Vec<Ends>,
 ) -> Option<(Site<B>, Crew<B>)> {
     let keeper = keeper_of(alloc, config)?;
-    let Some((outbox, desk, crew)) = crew_of::<B>(alloc, &keeper, config, ends) else {
+    let Some((outbox, inboxes, desk, crew)) = crew_of::<B>(alloc, &keeper, config, ends) else {
         keeper.shut();
         return None;
     };
-    Some((Site::new(keeper, outbox, desk), crew))
+    let carer = Carer::new(keeper.seat());
+    Some((Site::new(keeper, outbox, inboxes, carer, desk), crew))
 }
 
 // A keeper of a new space.
@@ -60,19 +63,14 @@ fn crew_of<B: Object>(
     keeper: &Keeper,
     config: &Config,
     ends: Vec<Ends>,
-) -> Option<(Outbox, Desk<Kept<B>>, Crew<B>)> {
+) -> Option<(Outbox, Vec<Mutex<Inbox>>, Desk<Kept<B>>, Crew<B>)> {
     let seats = Vec::with_capacity(alloc, ends.len().saturating_add(OTHER_SEATS)).ok()?;
     let mut inboxes = Vec::new(alloc);
     let ways = ways_of(alloc, keeper, ends, &mut inboxes)?;
     let sender = Sender::new(keeper.seat(), ways, config.pause, config.tick_every);
     let (desk, hands) = pool_of(alloc, keeper, config.workers)?;
-    let crew = Crew {
-        inboxes,
-        hands,
-        carer: Carer::new(keeper.seat()),
-        seats,
-    };
-    Some((Outbox::new(alloc, sender), desk, crew))
+    let crew = Crew { hands, seats };
+    Some((Outbox::new(alloc, sender), inboxes, desk, crew))
 }
 
 // The seats of the Sender, the Carer, the desk and the application, and of 16 workers.
@@ -146,7 +144,7 @@ fn ways_of(
     alloc: Global,
     keeper: &Keeper,
     ends: Vec<Ends>,
-    inboxes: &mut Vec<Inbox>,
+    inboxes: &mut Vec<Mutex<Inbox>>,
 ) -> Option<Vec<Way<PutEnd>>>
     ensures { IfSome result (λ ways. AllByRecursion (IsTied []) ways.items × AreApart ways.items) }
 {
@@ -161,7 +159,7 @@ fn add_ways(
     keeper: &Keeper,
     mut ends: Vec<Ends>,
     ways: &mut Vec<Way<PutEnd>>,
-    inboxes: &mut Vec<Inbox>,
+    inboxes: &mut Vec<Mutex<Inbox>>,
 ) -> Option<()>
     requires { AllByRecursion (IsTied []) ways.old.items × AreApart ways.old.items }
     ensures { OnSome result (AllByRecursion (IsTied []) ways.new.items × AreApart ways.new.items) }
@@ -180,7 +178,7 @@ fn add_way(
     keeper: &Keeper,
     ends: Ends,
     ways: &mut Vec<Way<PutEnd>>,
-    inboxes: &mut Vec<Inbox>,
+    inboxes: &mut Vec<Mutex<Inbox>>,
 ) -> Option<()>
     requires { AllByRecursion (IsTied []) ways.old.items × AreApart ways.old.items }
     ensures { OnSome result (AllByRecursion (IsTied []) ways.new.items × AreApart ways.new.items) }
@@ -195,7 +193,8 @@ fn add_way(
         return Some(());
     }
     let taker = Taker::new(keeper.seat(), peer, take);
-    inboxes.push(Inbox { taker: Some(taker) }).ok()?;
+    let inbox = Inbox { taker: Some(taker) };
+    inboxes.push(Mutex::new(inbox)).ok()?;
     put_first(ways, Way::new(peer, shim, put, Vec::new(alloc)))
 }
 

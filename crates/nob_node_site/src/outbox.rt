@@ -19,6 +19,17 @@ pub struct Outbox {
     has_passed: bool,
 }
 
+/// What came of a turn of what transmits.
+#[derive(Clone, Copy, Debug, PartialEq, Eq)]
+pub enum Pulse {
+    /// Something was transmitted that nobody else did: again, most likely.
+    Busy,
+    /// Something is out.
+    Quiet,
+    /// Nothing is left to do.
+    Done,
+}
+
 impl Outbox {
     /// What transmits by a Sender.
     pub fn new(alloc: Global, sender: Sender<PutEnd>) -> Outbox {
@@ -37,15 +48,17 @@ impl Outbox {
         }
     }
 
-    /// A turn of the Sender: whether nothing was left for it to do, by what the keeper said before.
-    pub fn turn<R: Wait>(&mut self, rt: &R, keeper: &Keeper, dues: &Dues) -> bool {
+    /// A turn of the Sender: what came of it, by what the keeper said before.
+    pub fn turn<R: Wait>(&mut self, rt: &R, keeper: &Keeper, dues: &Dues) -> Pulse {
         let Some(sender) = &mut self.sender else {
-            return true;
+            return Pulse::Done;
         };
         match sender.turn(rt, keeper) {
-            Ok(Turn::Idle) => sender.is_done(dues),
-            Ok(_) => false,
-            Err(error) => error != KeeperError::OutOfMemory,
+            Ok(Turn::Idle) if sender.is_done(dues) => Pulse::Done,
+            Ok(Turn::Idle) => Pulse::Quiet,
+            Ok(_) => Pulse::Busy,
+            Err(KeeperError::OutOfMemory) => Pulse::Quiet,
+            Err(_) => Pulse::Done,
         }
     }
 

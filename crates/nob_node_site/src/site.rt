@@ -2,29 +2,62 @@
 
 ghost use Rattle.std.specs.Prelude.{◌≡◌, [], IfErr};
 
+use crate::idlers::Idlers;
+use crate::inbox::{Inbox, Taken};
+use crate::lookout::Lookout;
 use crate::object::Kept;
-use crate::outbox::Outbox;
-use nob_agents::Calls;
+use crate::outbox::{Outbox, Pulse};
+use nob_agents::{Calls, Carer, Turn};
 use nob_dispatch::{Assigned, Desk, JobCalls, Place};
 use nob_dispatch_objects::{Agent, Object};
 use nob_ids::CallNo;
-use nob_keeper::{Dues, Keeper, KeeperError, Look, Seat, WorkKind, wakes_of};
-use nob_model_types::Event;
+use nob_keeper::{Dues, Keeper, KeeperError, Look, Receipt, Seat, WorkKind, wakes_of};
+use nob_model_types::{Answer, Event};
 use nob_offers::Offered;
+use nob_space::Work;
 use std::alloc::Global;
 use std::sync::atomic::{AtomicBool, AtomicU64, Ordering};
 use std::sync::{Condvar, Mutex, Wait};
-use std::thread;
 use std::time::Duration;
+use std::{hint, thread};
 
-/// So often a thread looks again for what it waits for before it sleeps: for some 100 microseconds.
-pub(crate) const PATIENCE: u32 = 400;
+/// So often a thread looks for what it waits for before it sleeps.
+const PATIENCE: u32 = 100;
+
+/// So many bytes an item has at most that is no call and no reply.
+const LONGEST_NOTE: usize = 9;
+
+/// So long it leaves the processor alone between two looks.
+const SPINS: u32 = 30;
 
 /// So many microseconds the thread rests at a time that transmits again what is out.
 const REST: u64 = 100;
 
-/// What the threads of a node share. Locks are taken in one order: the desk's or the outbox's, and
-/// then the keeper's.
+/// So many it rests where what is out may be lost.
+const SHORT_REST: u64 = 5;
+
+/// What a thread looks for that has nothing to do.
+#[derive(Clone, Copy, Debug)]
+enum Sought {
+    /// A reply, where so many items had been acted on that may be one.
+    Reply(u64),
+    /// An errand.
+    Errand,
+    /// That there is no object at an index.
+    Withdrawal(u64),
+}
+
+/// The parts of a site that are left when its node has ended.
+pub struct Parts<B: Object> {
+    pub keeper: Keeper,
+    pub outbox: Outbox,
+    pub inboxes: Vec<Mutex<Inbox>>,
+    pub carer: Carer,
+    pub desk: Option<Desk<Kept<B>>>,
+}
+
+/// What the threads of a node share. Locks are waited for in one order: an inbox's, the desk's, the
+/// keeper's. Those of what cares and of what transmits are only tried.
 pub struct Site<B: Object> {
     pub(crate) keeper: Keeper,
     // Who hands something on offers a turn.
@@ -38,8 +71,26 @@ pub struct Site<B: Object> {
     starts: Condvar,
     // How many threads carry out jobs.
     serving: AtomicU64,
-    // How many items were acted on.
-    acts: AtomicU64,
+    // What comes over each link. Its own thread has the lock while it sleeps in the link.
+    inboxes: Vec<Mutex<Inbox>>,
+    // How often a thread without work looked for a parcel.
+    turns: AtomicU64,
+    // Threads without work look at the links meanwhile.
+    lookout: Lookout,
+    // What settles, cleans and withdraws. Who made that possible offers a turn.
+    care: Offered<Carer>,
+    // Whether what cares was refused something, for want of room.
+    care_is_late: AtomicBool,
+    // Workers without a job.
+    idlers: Idlers,
+    // How many items have come that may be replies: all but notes.
+    arrived: AtomicU64,
+    // How many of them had come when an item was acted on last.
+    replies: AtomicU64,
+    // How many these were when a call was made last.
+    asked: AtomicU64,
+    // Whether the desk has a job to end for which a session has no room.
+    desk_is_late: AtomicBool,
     // The thread that transmits again what is out rests here between its turns.
     pulse: AtomicU64,
     // Whether no more is transmitted: the links are ended.
@@ -51,7 +102,13 @@ pub struct Site<B: Object> {
 }
 
 impl<B: Object> Site<B> {
-    pub fn new(keeper: Keeper, outbox: Outbox, desk: Desk<Kept<B>>) -> Site<B> {
+    pub fn new(
+        keeper: Keeper,
+        outbox: Outbox,
+        inboxes: Vec<Mutex<Inbox>>,
+        carer: Carer,
+        desk: Desk<Kept<B>>,
+    ) -> Site<B> {
         Site {
             keeper,
             outbox: Offered::new(outbox),
@@ -60,7 +117,16 @@ impl<B: Object> Site<B> {
             started: Mutex::new(None),
             starts: Condvar::new(),
             serving: AtomicU64::new(0),
-            acts: AtomicU64::new(0),
+            inboxes,
+            turns: AtomicU64::new(0),
+            lookout: Lookout::new(),
+            care: Offered::new(carer),
+            care_is_late: AtomicBool::new(false),
+            idlers: Idlers::new(),
+            arrived: AtomicU64::new(0),
+            replies: AtomicU64::new(0),
+            asked: AtomicU64::new(0),
+            desk_is_late: AtomicBool::new(false),
             pulse: AtomicU64::new(0),
             is_sealed: AtomicBool::new(false),
             has_failed: AtomicBool::new(false),
@@ -76,7 +142,7 @@ impl<B: Object> Site<B> {
     }
 
     /// Its parts, once all threads are done with it.
-    pub fn into_parts(self) -> (Keeper, Outbox, Option<Desk<Kept<B>>>) {
+    pub fn into_parts(self) -> Parts<B> {
         let Site {
             keeper,
             outbox,
@@ -85,13 +151,28 @@ impl<B: Object> Site<B> {
             started: _,
             starts: _,
             serving: _,
-            acts: _,
+            inboxes,
+            turns: _,
+            lookout: _,
+            care,
+            care_is_late: _,
+            idlers: _,
+            arrived: _,
+            replies: _,
+            asked: _,
+            desk_is_late: _,
             pulse: _,
             is_sealed: _,
             has_failed: _,
             has_ended: _,
         } = self;
-        (keeper, outbox.into_inner(), desk.into_inner())
+        Parts {
+            keeper,
+            outbox: outbox.into_inner(),
+            inboxes,
+            carer: care.into_inner(),
+            desk: desk.into_inner(),
+        }
     }
 
     /// Says whether all threads are made.
@@ -150,41 +231,145 @@ impl<B: Object> Site<B> {
         }
     }
 
-    /// A turn of what transmits that also repeats what is out: whether nothing was left to do, by
-    /// what the keeper said before.
-    pub fn repeat<R: Wait>(&self, rt: &R, dues: &Dues) -> bool {
+    /// A turn of what transmits that also repeats what is out: what came of it, by what the keeper said
+    /// before.
+    pub fn repeat<R: Wait>(&self, rt: &R, dues: &Dues) -> Pulse {
         let is_done = AtomicBool::new(false);
-        let done = &is_done;
+        let is_busy = AtomicBool::new(false);
+        let (done, busy) = (&is_done, &is_busy);
         self.outbox.offer(rt, |outbox: &mut Outbox| {
-            done.store(outbox.turn(rt, &self.keeper, dues), Ordering::SeqCst)
+            let pulse = outbox.turn(rt, &self.keeper, dues);
+            done.store(pulse == Pulse::Done, Ordering::SeqCst);
+            busy.store(pulse == Pulse::Busy, Ordering::SeqCst);
         });
-        is_done.load(Ordering::SeqCst)
-    }
-
-    /// Leaves the processor to others for a while. Nobody has to wake it.
-    pub fn rest<R: Wait>(&self, rt: &R) {
-        self.pulse.park_timeout(rt, 0, Duration::from_micros(REST));
-    }
-
-    /// How many items were acted on.
-    pub fn acts(&self) -> u64 {
-        self.acts.load(Ordering::SeqCst)
-    }
-
-    /// Looks for a moment for an item more to be acted on than so many, which may bring a reply.
-    pub fn look_for_act(&self, acts: u64) {
-        for _ in 0..PATIENCE {
-            if self.acts() != acts {
-                return;
-            }
-            thread::yield_now();
+        if is_done.load(Ordering::SeqCst) {
+            return Pulse::Done;
         }
+        if is_busy.load(Ordering::SeqCst) {
+            return Pulse::Busy;
+        }
+        Pulse::Quiet
+    }
+
+    /// Leaves the processor to others for a while, a shorter one where that is said. Nobody has to wake
+    /// it.
+    pub fn rest<R: Wait>(&self, rt: &R, is_short: bool) {
+        let rest = if is_short { SHORT_REST } else { REST };
+        self.pulse.park_timeout(rt, 0, Duration::from_micros(rest));
+    }
+
+    /// How many links there are.
+    pub(crate) fn links(&self) -> usize {
+        self.inboxes.len()
+    }
+
+    /// What comes over the link of a place.
+    pub(crate) fn inbox(&self, place: usize) -> Option<&Mutex<Inbox>> {
+        self.inboxes.get(place)
+    }
+
+    /// The threads without work that look at the links.
+    pub(crate) fn lookout(&self) -> &Lookout {
+        &self.lookout
+    }
+
+    // Looks for a moment for what is sought, and has what comes over the links meanwhile arrive: whether
+    // it is there. Else whoever sleeps in a link takes what comes over it again.
+    fn look_for<R: Wait>(&self, rt: &R, sought: Sought) -> bool {
+        self.lookout.come();
+        let is_there = self.look_on(rt, sought);
+        self.lookout.leave(is_there);
+        is_there
+    }
+
+    fn look_on<R: Wait>(&self, rt: &R, sought: Sought) -> bool {
+        for _ in 0..PATIENCE {
+            if self.is_there(sought) {
+                return true;
+            }
+            if !self.take_next(rt) {
+                pause();
+            }
+        }
+        self.is_there(sought)
+    }
+
+    // Whether what is sought is there, most likely.
+    fn is_there(&self, sought: Sought) -> bool {
+        match sought {
+            Sought::Reply(replies) => self.replies.load(Ordering::SeqCst) != replies,
+            Sought::Errand => self.idlers.has_errand() || self.idlers.is_over(),
+            Sought::Withdrawal(index) => match self.desk.try_lock() {
+                Some(held) => !has_place(&held, index),
+                None => false,
+            },
+        }
+    }
+
+    // Takes a parcel from a link, if there is one at a link whose inbox nobody else works on: whether
+    // there was. Each time another link comes first.
+    fn take_next<R: Wait>(&self, rt: &R) -> bool {
+        let turn = self.turns.fetch_add(1, Ordering::SeqCst);
+        let Some(first) = turn.checked_rem(self.inboxes.len() as u64) else {
+            return false;
+        };
+        let first = first as usize;
+        for inbox in self.inboxes.iter().skip(first) {
+            if self.has_taken(rt, inbox) {
+                return true;
+            }
+        }
+        for inbox in self.inboxes.iter().take(first) {
+            if self.has_taken(rt, inbox) {
+                return true;
+            }
+        }
+        false
+    }
+
+    // A turn of an inbox, if nobody else works on it: whether it did something.
+    fn has_taken<R: Wait>(&self, rt: &R, inbox: &Mutex<Inbox>) -> bool {
+        match inbox.try_lock() {
+            Some(mut inbox) => inbox.turn(rt, self) == Taken::Some,
+            None => false,
+        }
+    }
+
+    /// How often an errand was given.
+    pub(crate) fn rings(&self) -> u64 {
+        self.idlers.rings()
+    }
+
+    /// An errand was taken.
+    pub(crate) fn take_errand(&self) {
+        self.idlers.take();
+    }
+
+    /// Whether no errand comes any more.
+    pub(crate) fn has_no_more(&self) -> bool {
+        self.idlers.is_over()
+    }
+
+    /// Looks for an errand for a moment, if no other worker does: whether there is one.
+    pub(crate) fn look_for_errand<R: Wait>(&self, rt: &R) -> bool {
+        if self.idlers.is_full() {
+            return false;
+        }
+        self.idlers.come();
+        let is_there = self.look_for(rt, Sought::Errand);
+        self.idlers.leave();
+        is_there || self.idlers.has_errand()
+    }
+
+    /// Sleeps until an errand is given, where none was since so many rings were read. Who gives one
+    /// wakes it, and who leaves one; the end of the jobs does too.
+    pub(crate) fn sleep<R: Wait>(&self, rt: &R, rings: u64) {
+        self.idlers.sleep(rt, rings);
     }
 
     /// Ends all links: the end is put on each. Where the node has failed they are given up. The
     /// threads that care and transmit end.
     pub fn end_links<R: Wait>(&self, rt: &R) {
-        self.keeper.stop(rt, WorkKind::Care);
         self.keeper.stop(rt, WorkKind::Send);
         self.is_sealed.store(true, Ordering::SeqCst);
         for _ in rt.forever() {
@@ -192,7 +377,7 @@ impl<B: Object> Site<B> {
             if self.has_ended.load(Ordering::SeqCst) {
                 return;
             }
-            self.rest(rt);
+            self.rest(rt, false);
         }
     }
 
@@ -200,10 +385,39 @@ impl<B: Object> Site<B> {
     pub fn assign<R: Wait>(&self, rt: &R) {
         let mut held = self.desk.lock(rt);
         if let Some(desk) = &mut *held {
-            assign_all(rt, &self.keeper, desk);
+            self.assign_all(rt, desk);
         }
         drop(held);
         self.returned.notify_all();
+    }
+
+    // Turns of a desk, until it has nothing to do. Where a job can't be ended for want of room, whoever
+    // makes room looks again: he sees that there is such a job, or this thread sees the room.
+    fn assign_all<R: Wait>(&self, rt: &R, desk: &mut Desk<Kept<B>>) {
+        let mut is_late = self.assign_some(rt, desk);
+        if is_late {
+            self.desk_is_late.store(true, Ordering::SeqCst);
+            is_late = self.assign_some(rt, desk);
+        }
+        if !is_late {
+            self.desk_is_late.store(false, Ordering::SeqCst);
+        }
+    }
+
+    // Turns of a desk, until it has nothing to do, or nothing now: whether something is to be tried
+    // again.
+    fn assign_some<R: Wait>(&self, rt: &R, desk: &mut Desk<Kept<B>>) -> bool {
+        for _ in rt.forever() {
+            match desk.turn(rt, &self.keeper) {
+                Ok(Assigned::Handed) => self.idlers.give(),
+                Ok(Assigned::Did) => {}
+                Ok(Assigned::Later) => return true,
+                Ok(Assigned::Idle) => return false,
+                Err(KeeperError::OutOfMemory) => thread::yield_now(),
+                Err(_) => return false,
+            }
+        }
+        unreachable!()
     }
 
     /// Claims no more, and waits until all objects have come back, or the node has failed; then
@@ -214,7 +428,10 @@ impl<B: Object> Site<B> {
         let mut held = self
             .returned
             .wait_while(rt, self.desk.lock(rt), |held| self.awaits(held));
-        held.take()
+        let desk = held.take();
+        drop(held);
+        self.idlers.end();
+        desk
     }
 
     /// One more thread carries out jobs.
@@ -288,6 +505,7 @@ impl<B: Object> Site<B> {
 
     /// Waits until there is no object at an index, or the node has failed.
     pub fn wait_withdrawn<R: Wait>(&self, rt: &R, index: u64) {
+        self.look_for(rt, Sought::Withdrawal(index));
         let held = self.returned.wait_while(rt, self.desk.lock(rt), |held| {
             has_place(held, index) && !self.has_failed()
         });
@@ -317,16 +535,113 @@ impl<B: Object> Site<B> {
         let Ok(answer) = &receipt.result else {
             return;
         };
-        if is_act(&receipt.event) {
-            self.acts.fetch_add(1, Ordering::SeqCst);
-        }
+        self.count(&receipt.event, answer);
         let wakes = wakes_of(&receipt.event, answer);
-        if wakes.send {
+        if wakes.send && !is_followed(answer) {
             self.transmit(rt);
         }
-        if wakes.claim {
+        let may_assign = wakes.send && self.desk_is_late.load(Ordering::SeqCst);
+        let may_care = wakes.send && self.care_is_late.load(Ordering::SeqCst);
+        if wakes.claim || wakes.care {
+            let work = self.keeper.work(rt);
+            self.attend(
+                rt,
+                work.claim || may_assign || is_finish(&receipt.event),
+                is_care(&work) || may_care,
+            );
+        } else {
+            self.attend(rt, may_assign, may_care);
+        }
+    }
+
+    // Counts the items that may be replies: for who looks for one.
+    fn count(&self, event: &Event, answer: &Answer) {
+        match event {
+            Event::Call { .. } => {
+                let replies = self.replies.load(Ordering::SeqCst);
+                self.asked.store(replies, Ordering::SeqCst);
+            }
+            Event::Arrive(frame) => {
+                if is_followed(answer) && frame.payload.len() > LONGEST_NOTE {
+                    self.arrived.fetch_add(1, Ordering::SeqCst);
+                }
+            }
+            Event::Act(_) => {
+                let arrived = self.arrived.load(Ordering::SeqCst);
+                self.replies.store(arrived, Ordering::SeqCst);
+            }
+            _ => {}
+        }
+    }
+
+    // Claims and cares, where there may be something.
+    fn attend<R: Wait>(&self, rt: &R, may_assign: bool, may_care: bool) {
+        if may_assign {
             self.assign(rt);
         }
+        if may_care {
+            self.care(rt);
+        }
+    }
+
+    /// Claims jobs, settles, cleans and withdraws what others left. What had no room waits for it.
+    pub fn attend_left<R: Wait>(&self, rt: &R) {
+        let work = self.keeper.work(rt);
+        self.attend(
+            rt,
+            work.claim && !self.desk_is_late.load(Ordering::SeqCst),
+            is_care(&work) && !self.care_is_late.load(Ordering::SeqCst),
+        );
+    }
+
+    // Settles, cleans and withdraws what there is, or leaves it to the one who does.
+    fn care<R: Wait>(&self, rt: &R) {
+        self.care.hand();
+        self.care
+            .offer(rt, |carer: &mut Carer| self.care_all(rt, carer));
+    }
+
+    // Turns of what cares, until there is nothing to do, or no room for it. Whoever makes room looks
+    // again: he sees that something was refused, or this thread sees the room.
+    fn care_all<R: Wait>(&self, rt: &R, carer: &mut Carer) {
+        for _ in rt.forever() {
+            if self.is_sealed() {
+                return;
+            }
+            match carer.turn(rt, &self.keeper) {
+                Ok(Turn::Did(_)) => {
+                    self.transmit(rt);
+                    if self.keeper.work(rt).claim {
+                        self.assign(rt);
+                    }
+                    self.let_go(rt, carer);
+                    let is_late = is_refused(carer.seat().newest());
+                    if self.care_is_late.swap(is_late, Ordering::SeqCst) && is_late {
+                        return;
+                    }
+                }
+                Ok(_) => {
+                    self.care_is_late.store(false, Ordering::SeqCst);
+                    return;
+                }
+                Err(KeeperError::OutOfMemory) => thread::yield_now(),
+                Err(error) => return self.note(rt, error),
+            }
+        }
+    }
+
+    // Lets the object go that was just withdrawn, if one was.
+    fn let_go<R: Wait>(&self, rt: &R, carer: &Carer) {
+        let Some(receipt) = carer.seat().newest() else {
+            return;
+        };
+        let Event::Withdraw(index) = &receipt.event else {
+            return;
+        };
+        let Ok(Answer::Withdrawn) = &receipt.result else {
+            return;
+        };
+        self.remove(rt, *index);
     }
 
     // Where the trace is full the node has failed.
@@ -337,10 +652,31 @@ impl<B: Object> Site<B> {
     }
 }
 
-// Whether an item is acted on.
-fn is_act(event: &Event) -> bool {
+// Whether an answer says that items were accepted, on which whoever had them arrive acts next.
+fn is_followed(answer: &Answer) -> bool {
+    match answer {
+        Answer::Took(count) => *count > 0,
+        _ => false,
+    }
+}
+
+// Whether there is something to settle, to clean or to withdraw.
+fn is_care(work: &Work) -> bool {
+    work.settle || work.clean || work.withdraw.is_some()
+}
+
+// Whether a receipt says no: what was tried can't be done now.
+fn is_refused(receipt: Option<&Receipt>) -> bool {
+    match receipt {
+        Some(receipt) => receipt.result.is_err(),
+        None => false,
+    }
+}
+
+// Whether a job is ended.
+fn is_finish(event: &Event) -> bool {
     match event {
-        Event::Act(_) => true,
+        Event::Finish(..) => true,
         _ => false,
     }
 }
@@ -364,17 +700,12 @@ fn is_agent_away<B: Object>(held: &Option<Desk<Kept<B>>>) -> bool {
     }
 }
 
-// Turns of a desk, until it has nothing to do.
-fn assign_all<B: Object, R: Wait>(rt: &R, keeper: &Keeper, desk: &mut Desk<Kept<B>>) {
-    for _ in rt.forever() {
-        match desk.turn(rt, keeper) {
-            Ok(Assigned::Handed) => {}
-            Ok(Assigned::Did) => {}
-            Ok(_) => return,
-            Err(KeeperError::OutOfMemory) => thread::yield_now(),
-            Err(_) => return,
-        }
+// Leaves the processor to others for a moment.
+fn pause() {
+    for _ in 0..SPINS {
+        hint::spin_loop();
     }
+    thread::yield_now();
 }
 
 impl<B: Object> Calls for Site<B> {
@@ -408,7 +739,14 @@ impl<B: Object> Calls for Site<B> {
 
 impl<B: Object> JobCalls for Site<B> {
     fn call<R: Wait>(&self, rt: &R, seat: &mut Seat, event: &Event) -> Result<(), KeeperError> {
-        Calls::call(self, rt, seat, event, 0)
+        if !is_finish(event) {
+            return Calls::call(self, rt, seat, event, 0);
+        }
+        // Whose job ends takes the next errand itself: no worker is woken for it.
+        self.idlers.come();
+        let called = Calls::call(self, rt, seat, event, 0);
+        self.idlers.leave();
+        called
     }
 
     fn wait_reply<R: Wait>(
@@ -417,8 +755,13 @@ impl<B: Object> JobCalls for Site<B> {
         seat: &mut Seat,
         call: CallNo,
     ) -> Result<(), KeeperError> {
+        let asked = self.asked.load(Ordering::SeqCst);
+        self.look_for(rt, Sought::Reply(asked));
         match self.keeper.wait_reply(rt, seat, call) {
-            Ok(()) => Ok(()),
+            Ok(()) => {
+                self.follow(rt, seat);
+                Ok(())
+            }
             Err(error) => {
                 self.note(rt, error);
                 Err(error)

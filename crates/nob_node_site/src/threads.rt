@@ -1,68 +1,130 @@
 //! What each thread of a node does.
 
-use crate::crew::Inbox;
-use crate::site::{PATIENCE, Site};
-use nob_agents::{Carer, Taker, Turn};
+use crate::inbox::Taken;
+use crate::object::Kept;
+use crate::outbox::Pulse;
+use crate::site::Site;
+use nob_dispatch::{Gate, Hand, carry_out};
 use nob_dispatch_objects::Object;
-use nob_keeper::{KeeperError, Receipt, Wake, WorkKind};
-use nob_link::TakeEnd;
-use nob_model_types::{Answer, Event};
+use nob_keeper::{Wake, WorkKind};
 use std::sync::Wait;
 use std::thread;
 
-/// Takes what comes over one link, until nothing comes any more. It sleeps in the link, once it has
-/// looked for the next parcel for a moment. Where the
-/// trace is full the Taker is let go, with its end of the link.
-pub fn take<B: Object, R: Wait>(rt: &R, site: &Site<B>, inbox: &mut Inbox) {
-    if let Some(taker) = &mut inbox.taker
-        && take_all(rt, site, taker)
-    {
-        return;
+/// So many times running the thread that transmits again what is out rests for short, while nothing
+/// happens.
+const SHORT_RESTS: u32 = 64;
+
+/// Takes what comes over the link of a place, until nothing comes any more. It sleeps in the link, and
+/// rests while others look at the links.
+pub fn take<B: Object, R: Wait>(rt: &R, site: &Site<B>, place: usize) {
+    let lookout = site.lookout();
+    let mut comes = lookout.comes();
+    for _ in rt.forever() {
+        let bell = lookout.bell();
+        if !take_turns(rt, site, place, comes) {
+            return;
+        }
+        comes = lookout.comes();
+        lookout.rest(rt, bell);
     }
-    inbox.taker = None;
 }
 
-// Takes what comes over one link: whether that ended since nothing comes any more, and not since no
-// entry can be made.
-fn take_all<B: Object, R: Wait>(rt: &R, site: &Site<B>, taker: &mut Taker<TakeEnd>) -> bool {
-    let mut patience: u32 = 0;
+// Takes what comes over the link of a place, until others look at the links, of whom so many had begun
+// before. False where nothing comes any more.
+fn take_turns<B: Object, R: Wait>(rt: &R, site: &Site<B>, place: usize, comes: u64) -> bool {
+    let Some(inbox) = site.inbox(place) else {
+        return false;
+    };
+    let mut inbox = inbox.lock(rt);
     for _ in rt.forever() {
-        match taker.turn(rt, site) {
-            Ok(Turn::Did(_)) => patience = PATIENCE,
-            Ok(Turn::Idle) if patience > 0 => {
-                patience -= 1;
-                thread::yield_now();
-            }
-            Ok(Turn::Idle) => taker.wait(rt),
-            Ok(Turn::End) => return true,
-            Err(KeeperError::OutOfMemory) => thread::yield_now(),
-            Err(_) => return false,
+        match inbox.turn(rt, site) {
+            Taken::Some => {}
+            Taken::Nothing if site.lookout().is_kept(comes) => return true,
+            Taken::Nothing => inbox.wait(rt),
+            Taken::NoMemory => thread::yield_now(),
+            Taken::End => return false,
         }
     }
     unreachable!()
 }
 
+/// Gets errands and carries them out, until none comes any more. Without one it looks for a moment, if
+/// no other worker does, and then sleeps.
+pub fn serve<B: Object, R: Wait, G: Gate>(
+    rt: &R,
+    site: &Site<B>,
+    gate: &G,
+    hand: &mut Hand<Kept<B>>,
+) {
+    for _ in rt.forever() {
+        let rings = site.rings();
+        if hand.try_get(rt) {
+            site.take_errand();
+            carry_out(rt, site, gate, hand);
+        } else if site.has_no_more() {
+            break;
+        } else if !site.look_for_errand(rt) {
+            site.sleep(rt, rings);
+        }
+    }
+    nob_dispatch::serve(rt, site, gate, hand);
+    site.leave(rt);
+}
+
 /// Says whether all threads are made, this one being the last; then transmits what is out again, and
-/// what others left, until the links are ended. It sleeps at the keeper while nothing is out.
+/// does what others left to transmit, to claim, to settle, to clean and to withdraw, until the links are
+/// ended. It sleeps at the keeper while nothing is out.
 pub fn send<B: Object, R: Wait>(rt: &R, site: &Site<B>, is_whole: bool) {
     site.start(rt, is_whole);
+    let mut standstill = Standstill::new();
     for _ in rt.forever() {
         if site.is_sealed() || site.has_failed() {
             return;
         }
         let dues = site.keeper.dues(rt);
-        if !site.repeat(rt, &dues) {
-            site.rest(rt);
-        } else if !is_woken(rt, site, WorkKind::Send, dues.place) {
+        let pulse = site.repeat(rt, &dues);
+        site.attend_left(rt);
+        let is_short = standstill.is_short_after(dues.place, pulse);
+        if pulse != Pulse::Done {
+            site.rest(rt, is_short);
+        } else if !is_woken(rt, site, dues.place) {
             return;
         }
     }
 }
 
-// Waits for work of a kind behind a place: whether there may be some. Where the trace is full the
-// node has failed.
-fn is_woken<B: Object, R: Wait>(rt: &R, site: &Site<B>, kind: WorkKind, place: u64) -> bool {
-    match site.keeper.wait_past(rt, kind, place) {
+/// For how long nothing has happened at a node but that it transmitted again.
+#[derive(Clone, Copy, Debug, Drop)]
+struct Standstill {
+    // How many entries there were after the last turn.
+    place: u64,
+    // How many turns found nothing more.
+    turns: u32,
+}
+
+impl Standstill {
+    fn new() -> Standstill {
+        Standstill { place: 0, turns: 0 }
+    }
+
+    // Whether the rest after a turn is short, before which there were so many entries: what is out may
+    // be lost. A peer that answers nothing for long isn't asked as often.
+    fn is_short_after(&mut self, place: u64, pulse: Pulse) -> bool {
+        self.turns = if place == self.place {
+            self.turns.saturating_add(1)
+        } else {
+            0
+        };
+        let more = if pulse == Pulse::Busy { 1 } else { 0 };
+        self.place = place.saturating_add(more);
+        self.turns > 0 && self.turns < SHORT_RESTS
+    }
+}
+
+// Waits for something to transmit behind a place: whether there may be something. Where the trace is
+// full the node has failed.
+fn is_woken<B: Object, R: Wait>(rt: &R, site: &Site<B>, place: u64) -> bool {
+    match site.keeper.wait_past(rt, WorkKind::Send, place) {
         Wake::Work => true,
         Wake::TraceFull => {
             site.fail(rt);
@@ -70,51 +132,4 @@ fn is_woken<B: Object, R: Wait>(rt: &R, site: &Site<B>, kind: WorkKind, place: u
         }
         Wake::Stopped => false,
     }
-}
-
-/// Acts on what is left, settles, cleans and withdraws, until it is told to stop. What is withdrawn
-/// is let go. It sleeps at the keeper while there is nothing to do.
-pub fn care<B: Object, R: Wait>(rt: &R, site: &Site<B>, carer: &mut Carer) {
-    for _ in rt.forever() {
-        let look = site.keeper.look(rt);
-        let place = match carer.turn(rt, site) {
-            Ok(Turn::Did(_)) => {
-                let_go(rt, site, carer);
-                is_refused(carer.seat().newest()).then_some(look.place)
-            }
-            Ok(_) => Some(look.place),
-            Err(KeeperError::OutOfMemory) => {
-                thread::yield_now();
-                None
-            }
-            Err(_) => return,
-        };
-        if let Some(place) = place
-            && !is_woken(rt, site, WorkKind::Care, place)
-        {
-            return;
-        }
-    }
-}
-
-// Whether a receipt says no: what was tried can't be done now.
-fn is_refused(receipt: Option<&Receipt>) -> bool {
-    match receipt {
-        Some(receipt) => receipt.result.is_err(),
-        None => false,
-    }
-}
-
-// Lets the object go that was just withdrawn, if one was.
-fn let_go<B: Object, R: Wait>(rt: &R, site: &Site<B>, carer: &Carer) {
-    let Some(receipt) = carer.seat().newest() else {
-        return;
-    };
-    let Event::Withdraw(index) = &receipt.event else {
-        return;
-    };
-    let Ok(Answer::Withdrawn) = &receipt.result else {
-        return;
-    };
-    site.remove(rt, *index);
 }

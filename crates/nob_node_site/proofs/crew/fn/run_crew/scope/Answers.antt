@@ -1,21 +1,16 @@
 use denote.Param.Send.{sendable}
 use Rattle.std.proofs.Crossing.{crosses}
-use Rattle.nob_agents.proofs.Crossing.{carer_send}
-use Rattle.nob_node_site.proofs.Crossing.{site_sync, hand_of_node_send, inbox_send}
+use Rattle.nob_node_site.proofs.Crossing.{site_sync, hand_of_node_send}
 use Rattle.nob_node_site.proofs.crew.fn.run_crew.scope.Goals as goal
 
--- a thread that takes shares the site, and has its Taker
+-- a thread that takes shares the site
 pub spawn-requires-send-F : goal.spawn-requires-send-F
-spawn-requires-send-F g c κs within = search (site_sync, inbox_send, sendable, crosses) depth 60 fits 20000
+spawn-requires-send-F g c κs within = search (site_sync, sendable, crosses) depth 60 fits 20000
 
 -- a worker's thread shares the site and the gate, and has its hand
 pub spawn-requires-in-loop-hand-send-F : goal.spawn-requires-in-loop-hand-send-F
 spawn-requires-in-loop-hand-send-F g c κs within = search (site_sync, hand_of_node_send, sendable, crosses) depth 60 fits 20000
 
--- the thread that cares shares the site, and has the Carer
-pub spawn-requires-2-send-F : goal.spawn-requires-2-send-F
-spawn-requires-2-send-F g c κs within = search (site_sync, carer_send, sendable, crosses) depth 60 fits 20000
-
 -- the thread that transmits again shares the site
-pub spawn-requires-3-send-F : goal.spawn-requires-3-send-F
-spawn-requires-3-send-F g c κs within = search (site_sync, sendable, crosses) depth 60 fits 20000
+pub spawn-requires-2-send-F : goal.spawn-requires-2-send-F
+spawn-requires-2-send-F g c κs within = search (site_sync, sendable, crosses) depth 60 fits 20000
