@@ -19,15 +19,16 @@ pub(crate) struct Called {
 }
 
 impl Called {
-    // Looks both up at their spaces.
+    // Looks both up at their spaces, the first by this name.
     pub(crate) fn find<R: Wait>(
         rt: &R,
         node: &mut Node<Thing>,
         server: SpaceId,
+        name: &[u8],
         relay: SpaceId,
     ) -> Option<Called> {
-        let server = look_up(rt, node, server)?;
-        match look_up(rt, node, relay) {
+        let server = look_up(rt, node, server, name)?;
+        match look_up(rt, node, relay, NAME) {
             Some(relay) => Some(Called { server, relay }),
             None => {
                 give_back(rt, node, server);
@@ -67,7 +68,7 @@ impl Called {
         node: &mut Node<Thing>,
         kind: Kind,
     ) -> Option<()> {
-        if kind == Kind::Null {
+        if kind == Kind::Null || kind == Kind::Apart {
             return ask(rt, node, &self.server, Value::Unit);
         }
         let Ok(fresh) = node.export(rt, Thing::Answers) else {
@@ -108,8 +109,8 @@ impl Called {
 }
 
 // The object of a space's name.
-fn look_up<R: Wait>(rt: &R, node: &mut Node<Thing>, space: SpaceId) -> Option<Hold> {
-    let Ok(returned) = node.lookup(rt, space, NAME) else {
+fn look_up<R: Wait>(rt: &R, node: &mut Node<Thing>, space: SpaceId, name: &[u8]) -> Option<Hold> {
+    let Ok(returned) = node.lookup(rt, space, name) else {
         return None;
     };
     match returned.into_hold() {

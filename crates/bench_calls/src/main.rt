@@ -23,7 +23,9 @@ use std::thread::Threads;
 fn main(rt: HostRuntime) -> ExitCode {
     let done = match read_task(&rt) {
         Ok(Some(task)) => run(&rt, rt.alloc(), task),
-        Ok(None) => rt.println("bench_calls floor|idle|null|fresh|life|handoff CALLERS CALLS LOSS"),
+        Ok(None) => rt.println(
+            "bench_calls floor|idle|null|apart|fresh|life|handoff CALLERS CALLS LOSS",
+        ),
         Err(error) => Err(error),
     };
     match done {

@@ -2,8 +2,8 @@
 
 use crate::caller::Called;
 use crate::meeting::Meeting;
-use crate::owner::{give_back, offer};
-use crate::task::Task;
+use crate::owner::{NAME, give_back, name_for, offer, offer_each};
+use crate::task::{Kind, Task};
 use crate::thing::Thing;
 use nob_ids::SpaceId;
 use nob_node::{App, Node};
@@ -24,8 +24,10 @@ pub(crate) enum Part {
 pub(crate) struct Player<'m> {
     alloc: Global,
     meeting: &'m Meeting,
+    // The number of its space.
+    space: u16,
     // How many applications there are.
-    players: u64,
+    players: u16,
     // How often this one has come to the meeting.
     came: u64,
     part: Part,
@@ -42,7 +44,8 @@ impl<'m> Player<'m> {
     pub(crate) fn new(
         alloc: Global,
         meeting: &'m Meeting,
-        players: u64,
+        space: u16,
+        players: u16,
         part: Part,
         task: Task,
         server: SpaceId,
@@ -51,6 +54,7 @@ impl<'m> Player<'m> {
         Player {
             alloc,
             meeting,
+            space,
             players,
             came: 0,
             part,
@@ -65,8 +69,8 @@ impl<'m> Player<'m> {
     fn meet<R: Wait>(&mut self, rt: &R) {
         self.came = self.came.saturating_add(1);
         self.meeting.come(rt, 1);
-        self.meeting
-            .wait(rt, self.players.saturating_mul(self.came));
+        let players = self.players as u64;
+        self.meeting.wait(rt, players.saturating_mul(self.came));
     }
 
     // Comes as often as it hasn't come yet, and waits for nobody.
@@ -77,7 +81,10 @@ impl<'m> Player<'m> {
 
     // Has an object for the others until they are done.
     fn offer<R: Wait>(&mut self, rt: &R, node: &mut Node<Thing>, thing: Thing) {
-        let hold = offer(rt, node, thing);
+        let hold = offer(rt, node, thing, NAME);
+        if self.task.kind == Kind::Apart {
+            offer_each(rt, node, thing, self.players);
+        }
         self.meet(rt);
         self.meet(rt);
         if let Some(hold) = hold {
@@ -88,7 +95,13 @@ impl<'m> Player<'m> {
     // Calls what the others have.
     fn call<R: Wait>(&mut self, rt: &R, node: &mut Node<Thing>) {
         self.meet(rt);
-        if let Some(called) = Called::find(rt, node, self.server, self.relay) {
+        let own = name_for(self.space);
+        let name = if self.task.kind == Kind::Apart {
+            &own
+        } else {
+            NAME
+        };
+        if let Some(called) = Called::find(rt, node, self.server, name, self.relay) {
             self.answered = called.call_all(rt, self.alloc, node, self.task.kind, self.task.calls);
             called.give_back(rt, node);
         }

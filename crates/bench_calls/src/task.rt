@@ -11,6 +11,8 @@ pub(crate) enum Kind {
     Idle,
     /// Nothing is passed.
     Null,
+    /// As `Null`, and each caller calls an object of its own.
+    Apart,
     /// A reference to a new object is passed, and given back by the one who called.
     Fresh,
     /// As `Fresh`, and the object is waited for until it is withdrawn.
@@ -61,6 +63,7 @@ fn kind_of(word: &str) -> Kind {
         "fresh" => Kind::Fresh,
         "life" => Kind::Life,
         "handoff" => Kind::Handoff,
+        "apart" => Kind::Apart,
         _ => Kind::Null,
     }
 }
