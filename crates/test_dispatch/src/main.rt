@@ -6,6 +6,7 @@ mod node;
 mod objects;
 mod rows;
 
+use crate::rows::Laters;
 use std::alloc::Global;
 use std::io;
 use std::process::ExitCode;
@@ -20,16 +21,26 @@ fn main(rt: HostRuntime) -> ExitCode {
 
 // Runs the rows, and prints what was told.
 fn run<R: Wait + Print>(rt: &R, alloc: Global) -> io::Result<()> {
-    let Some((told, is_whole)) = rows::run(rt, alloc) else {
+    let Some(ran) = rows::run(rt, alloc) else {
         return println!(rt; "failed");
     };
-    for told in told.iter() {
+    for told in ran.told.iter() {
         match told.number {
             Some(number) => println!(rt; "{}: status {}, {number}", told.row, told.status)?,
             None => println!(rt; "{}: status {}", told.row, told.status)?,
         }
     }
-    println!(rt; "each entry has its receipt: {}", said(is_whole))
+    let Laters {
+        full,
+        free,
+        has_ended,
+    } = ran.laters;
+    println!(rt; "turns that found no room to end a job: {full}")?;
+    println!(rt;
+        "once there is room: {free}, and it has ended: {}",
+        said(has_ended)
+    )?;
+    println!(rt; "each entry has its receipt: {}", said(ran.is_whole))
 }
 
 // Yes or no.

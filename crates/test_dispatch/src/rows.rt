@@ -2,6 +2,7 @@
 
 use crate::node::{Polled, Staff, keeper_of, relay};
 use crate::objects::Thing;
+use nob_dispatch::Handing;
 use nob_dispatch_objects::Agent;
 use nob_ids::{CallNo, SpaceId, WireRep};
 use nob_keeper::Seat;
@@ -12,6 +13,13 @@ use std::sync::Wait;
 
 /// So many rounds are made for replies.
 const ROUNDS: u32 = 40;
+
+/// So many turns a dispatcher has for the job that it can't end yet: it is claimed in the first, and its
+/// object looked for in the second.
+const TURNS: u32 = 5;
+
+/// More calls than a session has room for.
+const MOST_CALLS: u32 = 5000;
 
 /// The staff of both spaces.
 #[derive(Drop)]
@@ -28,8 +36,27 @@ pub(crate) struct Told {
     pub(crate) number: Option<i64>,
 }
 
-/// Runs all rows: what was told, and whether each entry of both spaces has its receipt.
-pub(crate) fn run<R: Wait>(rt: &R, alloc: Global) -> Option<(Vec<Told>, bool)> {
+/// How often a dispatcher said that the end of a job is tried again: while there was no room for it, and
+/// once there was.
+#[derive(Clone, Copy, Debug, PartialEq, Eq)]
+pub(crate) struct Laters {
+    pub(crate) full: u32,
+    pub(crate) free: u32,
+    // Whether the dispatcher kept no job in the end.
+    pub(crate) has_ended: bool,
+}
+
+/// What came of the run.
+#[derive(Drop)]
+pub(crate) struct Ran {
+    pub(crate) told: Vec<Told>,
+    pub(crate) laters: Laters,
+    // Whether each entry of both spaces has its receipt.
+    pub(crate) is_whole: bool,
+}
+
+/// Runs all rows.
+pub(crate) fn run<R: Wait>(rt: &R, alloc: Global) -> Option<Ran> {
     let first = SpaceId::new(1)?;
     let second = SpaceId::new(2)?;
     let one = keeper_of(alloc, first)?;
@@ -42,10 +69,15 @@ pub(crate) fn run<R: Wait>(rt: &R, alloc: Global) -> Option<(Vec<Told>, bool)> {
         theirs: Staff::new(alloc, &other, first),
     };
     let told = both.rows(rt, alloc, &one, &other);
+    let laters = both.no_room(rt, &one, &other);
     let Both { ours, theirs } = both;
     let is_whole = close(alloc, one, ours);
     let is_other_whole = close(alloc, other, theirs);
-    Some((told?, is_whole && is_other_whole))
+    Some(Ran {
+        told: told?,
+        laters: laters?,
+        is_whole: is_whole && is_other_whole,
+    })
 }
 
 // Ends a space. Whether each entry of its trace has its receipt.
@@ -162,6 +194,36 @@ impl Both {
         Some(())
     }
 
+    // A job of the second space whose object isn't there, while the session has no room for its end,
+    // since nothing that was handed on has been transmitted; and then some of that is.
+    fn no_room<R: Wait>(&mut self, rt: &R, one: &Polled, other: &Polled) -> Option<Laters> {
+        ask(rt, one, &mut self.ours, reference(2, 4)?, 0, Value::Unit)?;
+        fill(rt, other, &mut self.theirs, reference(1, 0)?);
+        relay(rt, one, &mut self.ours, other, &mut self.theirs)?;
+        let act = Event::Act(self.theirs.peer);
+        other.keeper.call(rt, &mut self.theirs.seat, &act, 0).ok()?;
+        let full = self.laters(rt, other)?;
+        relay(rt, other, &mut self.theirs, one, &mut self.ours)?;
+        relay(rt, one, &mut self.ours, other, &mut self.theirs)?;
+        let free = self.laters(rt, other)?;
+        Some(Laters {
+            full,
+            free,
+            has_ended: self.theirs.dispatcher.is_at_rest(),
+        })
+    }
+
+    // Some turns of the second space's dispatcher: how many said that something is tried again.
+    fn laters<R: Wait>(&mut self, rt: &R, other: &Polled) -> Option<u32> {
+        let mut laters: u32 = 0;
+        for _ in 0..TURNS {
+            if let Handing::Later = self.theirs.dispatcher.turn(rt, other).ok()? {
+                laters = laters.saturating_add(1);
+            }
+        }
+        Some(laters)
+    }
+
     // A method calls an object of its caller's space.
     fn nested<R: Wait>(
         &mut self,
@@ -214,6 +276,15 @@ fn ask<R: Wait>(
     match &staff.seat.newest()?.result {
         Ok(Answer::Called(call)) => Some(*call),
         _ => None,
+    }
+}
+
+// Makes calls until one is refused: the session has no room for another.
+fn fill<R: Wait>(rt: &R, polled: &Polled, staff: &mut Staff, target: WireRep) {
+    for _ in 0..MOST_CALLS {
+        if ask(rt, polled, staff, target, 0, Value::Unit).is_none() {
+            return;
+        }
     }
 }
 
