@@ -41,10 +41,16 @@ impl Outbox {
         }
     }
 
-    /// Transmits what is new. What fails is done by a later turn.
-    pub fn flush<R: Wait>(&mut self, rt: &R, keeper: &Keeper) {
-        if let Some(sender) = &mut self.sender {
-            let _ = sender.flush(rt, keeper);
+    /// Transmits what is new: whether nothing was, so that nothing new is left. What fails is done
+    /// by a later turn.
+    pub fn flush<R: Wait>(&mut self, rt: &R, keeper: &Keeper) -> bool {
+        let Some(sender) = &mut self.sender else {
+            return true;
+        };
+        match sender.flush(rt, keeper) {
+            Ok(count) => count == 0,
+            Err(KeeperError::OutOfMemory) => false,
+            Err(_) => true,
         }
     }
 
@@ -111,8 +117,8 @@ impl Outbox {
     }
 }
 
-// Puts what is behind a way's shim, and then the end: whether all is put, or the link's other end is
-// gone.
+// Puts what is behind a way's shim, and then the end: whether all is put, or the link's other end
+// is gone.
 fn end_way<R: Wait>(rt: &R, way: &mut Way<PutEnd>, has_passed: &mut bool) -> bool {
     for _ in rt.forever() {
         match way.put_next(rt) {

@@ -218,21 +218,21 @@ impl<B: Object> Site<B> {
             .offer(rt, |outbox: &mut Outbox| self.send(rt, outbox));
     }
 
-    // What is transmitted in a turn.
+    // What is transmitted in a turn. What was handed on before the links are ended goes first:
+    // whether they are is read before it is looked for.
     fn send<R: Wait>(&self, rt: &R, outbox: &mut Outbox) {
         if self.has_failed() {
             outbox.give_up();
         }
-        if !self.is_sealed() {
-            return outbox.flush(rt, &self.keeper);
-        }
-        if outbox.put_ends(rt) {
+        let is_sealed = self.is_sealed();
+        let is_whole = outbox.flush(rt, &self.keeper);
+        if is_sealed && is_whole && outbox.put_ends(rt) {
             self.has_ended.store(true, Ordering::SeqCst);
         }
     }
 
-    /// A turn of what transmits that also repeats what is out: what came of it, by what the keeper said
-    /// before.
+    /// A turn of what transmits that also repeats what is out: what came of it, by what the keeper
+    /// said before.
     pub fn repeat<R: Wait>(&self, rt: &R, dues: &Dues) -> Pulse {
         let is_done = AtomicBool::new(false);
         let is_busy = AtomicBool::new(false);
@@ -251,8 +251,8 @@ impl<B: Object> Site<B> {
         Pulse::Quiet
     }
 
-    /// Leaves the processor to others for a while, a shorter one where that is said. Nobody has to wake
-    /// it.
+    /// Leaves the processor to others for a while, a shorter one where that is said. Nobody has to
+    /// wake it.
     pub fn rest<R: Wait>(&self, rt: &R, is_short: bool) {
         let rest = if is_short { SHORT_REST } else { REST };
         self.pulse.park_timeout(rt, 0, Duration::from_micros(rest));
@@ -273,8 +273,8 @@ impl<B: Object> Site<B> {
         &self.lookout
     }
 
-    // Looks for a moment for what is sought, and has what comes over the links meanwhile arrive: whether
-    // it is there. Else whoever sleeps in a link takes what comes over it again.
+    // Looks for a moment for what is sought, and has what comes over the links meanwhile arrive:
+    // whether it is there. Else whoever sleeps in a link takes what comes over it again.
     fn look_for<R: Wait>(&self, rt: &R, sought: Sought) -> bool {
         self.lookout.come();
         let is_there = self.look_on(rt, sought);
@@ -306,8 +306,8 @@ impl<B: Object> Site<B> {
         }
     }
 
-    // Takes a parcel from a link, if there is one at a link whose inbox nobody else works on: whether
-    // there was. Each time another link comes first.
+    // Takes a parcel from a link, if there is one at a link whose inbox nobody else works on:
+    // whether there was. Each time another link comes first.
     fn take_next<R: Wait>(&self, rt: &R) -> bool {
         let turn = self.turns.fetch_add(1, Ordering::SeqCst);
         let Some(first) = turn.checked_rem(self.inboxes.len() as u64) else {
@@ -391,8 +391,9 @@ impl<B: Object> Site<B> {
         self.returned.notify_all();
     }
 
-    // Turns of a desk, until it has nothing to do. Where a job can't be ended for want of room, whoever
-    // makes room looks again: he sees that there is such a job, or this thread sees the room.
+    // Turns of a desk, until it has nothing to do. Where a job can't be ended for want of room,
+    // whoever makes room looks again: he sees that there is such a job, or this thread sees the
+    // room.
     fn assign_all<R: Wait>(&self, rt: &R, desk: &mut Desk<Kept<B>>) {
         let mut is_late = self.assign_some(rt, desk);
         if is_late {
@@ -601,8 +602,8 @@ impl<B: Object> Site<B> {
             .offer(rt, |carer: &mut Carer| self.care_all(rt, carer));
     }
 
-    // Turns of what cares, until there is nothing to do, or no room for it. Whoever makes room looks
-    // again: he sees that something was refused, or this thread sees the room.
+    // Turns of what cares, until there is nothing to do, or no room for it. Whoever makes room
+    // looks again: he sees that something was refused, or this thread sees the room.
     fn care_all<R: Wait>(&self, rt: &R, carer: &mut Carer) {
         for _ in rt.forever() {
             if self.is_sealed() {
