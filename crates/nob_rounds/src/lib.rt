@@ -5,5 +5,5 @@
 mod asking;
 mod rounds;
 
-pub use asking::{MOST_REPEATS, ask, repeat};
-pub use rounds::{bring, deliver, round};
+pub use asking::{Asking, MOST_REPEATS, ask, ask_each, repeat, repeat_each};
+pub use rounds::{bring, deliver, deliver_each, round, spaces_in};

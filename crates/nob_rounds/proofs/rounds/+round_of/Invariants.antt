@@ -1,4 +1,0 @@
-use Rattle.nob_rounds.proofs.rounds.+round_of.Given as goal
-
-abbrev pub decreases-round_of : goal.decreases-round_of
-decreases-round_of l = l.last
