@@ -198,7 +198,7 @@ impl Both {
     // since nothing that was handed on has been transmitted; and then some of that is.
     fn no_room<R: Wait>(&mut self, rt: &R, one: &Polled, other: &Polled) -> Option<Laters> {
         ask(rt, one, &mut self.ours, reference(2, 4)?, 0, Value::Unit)?;
-        fill(rt, other, &mut self.theirs, reference(1, 0)?);
+        fill(rt, other, &mut self.theirs);
         relay(rt, one, &mut self.ours, other, &mut self.theirs)?;
         let act = Event::Act(self.theirs.peer);
         other.keeper.call(rt, &mut self.theirs.seat, &act, 0).ok()?;
@@ -279,9 +279,12 @@ fn ask<R: Wait>(
     }
 }
 
-// Makes calls until one is refused: the session has no room for another.
-fn fill<R: Wait>(rt: &R, polled: &Polled, staff: &mut Staff, target: WireRep) {
+// Makes calls of the first space's agent until one is refused: the session has no room for another.
+fn fill<R: Wait>(rt: &R, polled: &Polled, staff: &mut Staff) {
     for _ in 0..MOST_CALLS {
+        let Some(target) = reference(1, 0) else {
+            return;
+        };
         if ask(rt, polled, staff, target, 0, Value::Unit).is_none() {
             return;
         }
