@@ -174,9 +174,15 @@ fn one_life(world: &mut World, owner: SpaceId, client: SpaceId) -> Result<bool, 
 
 // Asks a space something: its answer, where it doesn't refuse.
 fn ask(world: &mut World, space: SpaceId, event: Event) -> Result<Option<Answer>, WorldError> {
-    match world.step(&WorldStep::Do(space, event))? {
+    make(world, &WorldStep::Do(space, event))
+}
+
+// Makes a step: its answer, where its space doesn't refuse.
+fn make(world: &mut World, step: &WorldStep) -> Result<Option<Answer>, WorldError> {
+    match world.step(step) {
         Ok(answer) => Ok(Some(answer)),
-        Err(_) => Ok(None),
+        Err(WorldError::Refused(_)) => Ok(None),
+        Err(error) => Err(error),
     }
 }
 
@@ -226,7 +232,7 @@ fn carry(world: &mut World, from: SpaceId, to: SpaceId) -> Result<(), WorldError
     ask(world, from, Event::Transmit(to))?;
     let after = world.frames().len();
     for place in before..after {
-        let _ = world.step(&WorldStep::Deliver(place as u64 + 1))?;
+        make(world, &WorldStep::Deliver(place as u64 + 1))?;
     }
     for _ in 0..MOST_ITEMS {
         if ask(world, to, Event::Act(from))?.is_none() {
