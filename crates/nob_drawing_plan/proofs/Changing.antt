@@ -4,7 +4,7 @@ use Rattle.std.specs.Prelude.{◌==◌, not, flat_map}
 use Rattle.std.specs.List.{list_any, list_all}
 use Rattle.std.proofs.lemmas.Bool.{and_parts, and_from, or_cases, or_left, or_right, eqb-true, eq-eqb}
 use Rattle.std.proofs.lemmas.Grind.{flat_map-append}
-use Rattle.std.proofs.lemmas.List.Folds.{list_any-append, list_all-append}
+use Rattle.std.proofs.lemmas.List.Folds.{list_any-append}
 use Rattle.nob_ids.specs.Names.{is_same}
 use Rattle.nob_ids.specs.declared.wire_rep.WireRep.{WireRep}
 use Rattle.nob_item.specs.declared.item.Item.{Item}
@@ -20,7 +20,6 @@ use Rattle.nob_model_history.proofs.Turning.{same_ref}
 use Rattle.nob_model_history.proofs.Dirtying.{same_self}
 use Rattle.nob_drawing_plan.specs.declared.mark.Mark.{Mark}
 use Rattle.nob_drawing_plan.specs.declared.mark.Mark.TheVariants.{Live, Listed, Pinned}
-use Rattle.nob_drawing_plan.specs.declared.steps.Change.{Change}
 use Rattle.nob_drawing_plan.specs.declared.steps.Change.TheVariants as changes
 use Rattle.nob_drawing_plan.specs.Marks.{same_mark, pins_of}
 use Rattle.nob_drawing_plan.specs.Steps.{change_by, change_of, is_entered_still, holds_still, first_new}

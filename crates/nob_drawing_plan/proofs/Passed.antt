@@ -1,9 +1,9 @@
 -- The pass over a journal gives its bars.
-use Rattle.std.proofs.Common.{◌≡◌, ◌&&◌, ℕ, ◌+◌, ◌-◌, ◌<◌, ◌≤◌, Bool, true, false, true≢false, cond, List, [], ◌∷◌, ◌++◌, length, drop, get_or, Option, Some, None, refl, sym, ap, subst, ◌∙◌, arith}
+use Rattle.std.proofs.Common.{◌≡◌, ◌&&◌, ℕ, ◌+◌, ◌-◌, ◌<◌, Bool, true, false, cond, List, [], ◌∷◌, length, drop, get_or, Option, Some, None, refl, sym, ap, subst, ◌∙◌, arith}
 use Rattle.std.specs.Prelude.{◌==◌}
-use Rattle.std.specs.List.{list_any, list_all, cons_option}
+use Rattle.std.specs.List.{list_all, cons_option}
 use Rattle.std.proofs.lemmas.Bool.{and_parts, and_from, eqb-true, eq-eqb}
-use Rattle.std.proofs.lemmas.List.{drop_more, drop_all, length-drop}
+use Rattle.std.proofs.lemmas.List.{drop_more, length-drop}
 use Rattle.std.proofs.lemmas.List.Folds.{list_all-append}
 use Rattle.nob_ids.specs.declared.wire_rep.WireRep.{WireRep}
 use Rattle.nob_model_types.specs.declared.entry.Entry.{Entry}
@@ -17,9 +17,8 @@ use Rattle.nob_check_ledgers.specs.Ledgers.{ledger_of, ledger_after, has_loans_m
 use Rattle.nob_check_ledgers.specs.declared.ledger.Ledger.{Ledger}
 use Rattle.nob_check_ledgers.proofs.Kept.{ledger_kept}
 use Rattle.nob_check_ledgers.proofs.Loaning.{loans_made}
-use Rattle.nob_drawing_plan.specs.declared.mark.Mark.{Mark}
 use Rattle.nob_drawing_plan.specs.declared.bar.Bar.{Bar}
-use Rattle.nob_drawing_plan.specs.Marks.{marks_of, marks_at, is_quiet}
+use Rattle.nob_drawing_plan.specs.Marks.{marks_of, is_quiet}
 use Rattle.nob_drawing_plan.specs.Bars.{row_after, bars_after, bars}
 use Rattle.nob_drawing_plan.specs.Steps.{bars_by_deed}
 use Rattle.nob_drawing_plan.specs.Passing.{exports_own, are_own, ledger_in, without, ledgers_after, bars_after_did, Stand}
@@ -138,9 +137,9 @@ pub record IsOf (n : ℕ) (J : List Entry) (ledgers : List Ledger) (bars_so_far 
   pub bars_are : are_own J ≡ true → bars_so_far ≡ bars n J
 
 pub of_none : (n : ℕ) (J : List Entry) → J ≡ [] → (ledgers : List Ledger) (bars_so_far : List Bar) (own : Bool) → ledgers ≡ [] → bars_so_far ≡ [] → own ≡ true → IsOf n J ledgers bars_so_far own
-of_none n J is ledgers B own no_ledger no_bar yes = record {
+of_none n J is ledgers B own no_ledger no_bar all_own = record {
   stands = λ s. ap (ledger_in n s) no_ledger ∙ ap (λ (L : List Entry). ledger_of s n (deeds_at s L)) (sym is);
-  own_is = yes ∙ ap are_own (sym is);
+  own_is = all_own ∙ ap are_own (sym is);
   bars_are = λ all. no_bar ∙ ap (bars n) (sym is);
 }
 

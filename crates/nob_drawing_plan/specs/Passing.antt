@@ -6,7 +6,7 @@ use Rattle.nob_model_words.specs.Deeds.{deed_in}
 use Rattle.nob_model_words.specs.declared.deed.Deed.{Deed}
 use Rattle.nob_model_words.specs.declared.deed.Deed.TheVariants.{Export}
 use Rattle.nob_model_journal.specs.Journals.{deeds_at}
-use Rattle.nob_check_ledgers.specs.Ledgers.{ledger_of, ledger_after, has_loans_made}
+use Rattle.nob_check_ledgers.specs.Ledgers.{ledger_of, ledger_after}
 use Rattle.nob_check_ledgers.specs.declared.ledger.Ledger.{Ledger}
 use Rattle.nob_drawing_plan.specs.declared.bar.Bar.{Bar}
 use Rattle.nob_drawing_plan.specs.Steps.{bars_by_deed}

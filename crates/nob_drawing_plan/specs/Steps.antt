@@ -1,6 +1,6 @@
 -- What one deed changes of the bars of its space, by what can be looked up once it is done: which of the marks that have
 -- a bar still hold, and which marks are new. The newest deed stands FIRST.
-use Rattle.std.specs.Prelude.{ℕ, Bool, true, false, ◌&&◌, not, ◌==◌, List, [], ◌∷◌, length, map, filter, flat_map, Option, Some, None, drop, if◌then◌else◌}
+use Rattle.std.specs.Prelude.{ℕ, Bool, true, ◌&&◌, not, ◌==◌, List, [], ◌∷◌, length, map, filter, flat_map, Option, Some, None, drop, if◌then◌else◌}
 use Rattle.nob_item.specs.declared.item.Item.{Item}
 use Rattle.nob_item.specs.declared.item.Item.TheVariants as items
 use Rattle.nob_model_words.specs.Sessions.{closed, item_at}

@@ -1,6 +1,6 @@
 //! The bars of a journal in one pass.
 
-ghost use Rattle.std.specs.Prelude.{◌≡◌, ◌<◌, ◌+◌, ◌^◌, ◌&&◌, IfOk, true, length};
+ghost use Rattle.std.specs.Prelude.{◌≡◌, ◌&&◌, IfOk, Some, true};
 ghost use Rattle.nob_model_words.specs.Deeds.{deed_in};
 ghost use Rattle.nob_check_ledgers.specs.Ledgers.{has_loans_made};
 ghost use Rattle.nob_drawing_plan.specs.Bars.{bars as bars_of};

@@ -1,7 +1,6 @@
 //! What one deed changes of the bars of its space.
 
-ghost use Rattle.std.specs.Prelude.{◌≡◌, ◌∷◌, IfOk, Option, map, filter, flat_map, drop};
-ghost use Rattle.std.specs.Option.{option_map};
+ghost use Rattle.std.specs.Prelude.{◌≡◌, IfOk, Some, true, map, drop};
 ghost use Rattle.nob_model_history.specs.Transit.{is_pinned as is_pinned_word};
 ghost use Rattle.nob_check_ledgers.specs.Ledgers.{ledger_after, has_loans_made};
 ghost use Rattle.nob_drawing_plan.specs.Steps as spec;
@@ -31,12 +30,12 @@ pub enum Change {
 }
 
 // What acting on an item from a peer changes.
-fn change_by(from: SpaceId, item: Option<&Item>) -> Change
-    ensures { result ≡ spec.change_by from (option_map (λ item. item.now) item) }
+fn change_by(from: SpaceId, item: &Item) -> Change
+    ensures { result ≡ spec.change_by from (Some item.now) }
 {
     match item {
-        Some(Item::Dirty(index)) => Change::Asked(from, *index),
-        Some(Item::Clean(index)) => Change::GaveUp(from, *index),
+        Item::Dirty(index) => Change::Asked(from, *index),
+        Item::Clean(index) => Change::GaveUp(from, *index),
         _ => Change::Other,
     }
 }
@@ -47,7 +46,10 @@ fn change_of(deed: &Deed, past: &DeedIndex) -> Change
 {
     match deed {
         Deed::Export(rep) => Change::Exported(*rep),
-        Deed::Act(from, number) => change_by(*from, past.item_at(*from, *number)),
+        Deed::Act(from, number) => match past.item_at(*from, *number) {
+            Some(item) => change_by(*from, item),
+            None => Change::Other,
+        },
         _ => Change::Other,
     }
 }
