@@ -2,3 +2,7 @@ pub mod Frames
 pub mod Arriving
 pub mod Standing
 pub mod Quiet
+pub mod Held
+pub mod Changing
+pub mod Stepping
+pub mod Passed

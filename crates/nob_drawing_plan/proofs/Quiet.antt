@@ -19,7 +19,7 @@ use Rattle.nob_drawing_plan.proofs.Standing.{mark_self, tell}
 
 -- ---- marks
 
-kept_by : (s n : ℕ) (deed : Deed) (D : List Deed) → is_quiet_deed deed ≡ true → marks_of s (history_of s n (deed ∷ D)) ≡ marks_of s (history_of s n D)
+pub kept_by : (s n : ℕ) (deed : Deed) (D : List Deed) → is_quiet_deed deed ≡ true → marks_of s (history_of s n (deed ∷ D)) ≡ marks_of s (history_of s n D)
 unfolding gifts gifts_of
 kept_by s n (did.Dup rep) D quiet = refl
 kept_by s n (did.Release rep) D quiet = refl
@@ -73,13 +73,13 @@ ends_same s row held (bar ∷ B) stand =
     own : goes_on s bar ≡ true → list_any (same_mark bar.mark) held ≡ true
     own goes = stand bar.mark (or_left (is_bar_of s bar.mark bar) (has_bar s bar.mark B) (ap (λ (b : Bool). b && same_mark bar.mark bar.mark) goes ∙ mark_self bar.mark))
 
-begun_same : (s row : ℕ) (ms : List Mark) (B : List Bar) → ((m : Mark) → list_any (same_mark m) ms ≡ true → has_bar s m B ≡ true) → with_begun s row ms B ≡ B
+pub begun_same : (s row : ℕ) (ms : List Mark) (B : List Bar) → ((m : Mark) → list_any (same_mark m) ms ≡ true → has_bar s m B ≡ true) → with_begun s row ms B ≡ B
 begun_same s row [] B stand = refl
 begun_same s row (x ∷ ms) B stand =
     ap (λ (b : Bool). cond b (with_begun s row ms B) (with_begun s row ms (B ++ new_bar s row x B ∷ []))) (stand x (or_left (same_mark x x) (list_any (same_mark x) ms) (mark_self x)))
     ∙ begun_same s row ms B (λ m there. stand m (or_right (same_mark m x) (list_any (same_mark m) ms) there))
 
-after_same : (s row : ℕ) (held : List Mark) (B : List Bar) → ((m : Mark) → has_bar s m B ≡ list_any (same_mark m) held) → bars_after s row held B ≡ B
+pub after_same : (s row : ℕ) (held : List Mark) (B : List Bar) → ((m : Mark) → has_bar s m B ≡ list_any (same_mark m) held) → bars_after s row held B ≡ B
 after_same s row held B stand =
     ap (λ (all : List Bar). with_begun s row held all) (ends_same s row held B (λ m there. sym (stand m) ∙ there))
     ∙ begun_same s row held B (λ m there. stand m ∙ there)

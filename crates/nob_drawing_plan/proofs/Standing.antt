@@ -19,7 +19,7 @@ use Rattle.nob_drawing_plan.specs.Bars.{row_after, is_endless, goes_on, is_bar_o
 
 -- ---- marks
 
-mark_is : (a b : Mark) → same_mark a b ≡ true → a ≡ b
+pub mark_is : (a b : Mark) → same_mark a b ≡ true → a ≡ b
 mark_is (Live rep) (Live other) h = ap Live (same_ref rep other h)
 mark_is (Listed rep client) (Listed other twin) h =
     let parts = and_parts (is_same rep other) (client == twin) h in
@@ -114,7 +114,7 @@ end_own s row held m bar =
     ∙ and_swapped (goes_on s bar) (list_any (same_mark bar.mark) held) (same_mark bar.mark m) (list_any (same_mark m) held)
     (λ same. ap (λ (x : Mark). list_any (same_mark x) held) (mark_is bar.mark m same))
 
-ends_own : (s row : ℕ) (held : List Mark) (m : Mark) (B : List Bar) → has_bar s m (map (ended s row held) B) ≡ (has_bar s m B && list_any (same_mark m) held)
+pub ends_own : (s row : ℕ) (held : List Mark) (m : Mark) (B : List Bar) → has_bar s m (map (ended s row held) B) ≡ (has_bar s m B && list_any (same_mark m) held)
 ends_own s row held m [] = refl
 ends_own s row held m (bar ∷ B) =
     ap (λ (b : Bool). b || has_bar s m (map (ended s row held) B)) (end_own s row held m bar)
@@ -155,7 +155,7 @@ ends_other s other row held m (bar ∷ B) apart =
 
 -- ---- bars that begin
 
-new_own : (s row : ℕ) (x m : Mark) (B : List Bar) → is_bar_of s m (new_bar s row x B) ≡ same_mark x m
+pub new_own : (s row : ℕ) (x m : Mark) (B : List Bar) → is_bar_of s m (new_bar s row x B) ≡ same_mark x m
 new_own s row x m B = ap (λ (b : Bool). (b && true) && same_mark x m) (eq-eqb s s refl)
 
 new_other : (s other row : ℕ) (x m : Mark) (B : List Bar) → (other == s) ≡ false → is_bar_of s m (new_bar other row x B) ≡ false

@@ -7,6 +7,7 @@ ghost use Rattle.nob_drawing_plan.specs.Bars as spec;
 
 use crate::mark::Mark;
 use crate::marks::{is_quiet, marks_at};
+use crate::passing::passed;
 use nob_ids::SpaceId;
 use nob_model_types::Entry;
 use nob_model_words::Here;
@@ -29,7 +30,7 @@ pub struct Bar {
 
 impl Bar {
     // Whether it is of a space and goes on.
-    fn goes_on(&self, space: SpaceId) -> bool
+    pub(crate) fn goes_on(&self, space: SpaceId) -> bool
         ensures { result ≡ spec.goes_on space self.now }
     {
         self.space == space && self.end.is_none()
@@ -144,7 +145,7 @@ fn with_ended(
 }
 
 // The bars with those that begin.
-fn with_begun(
+pub(crate) fn with_begun(
     alloc: Global,
     space: SpaceId,
     row: usize,
@@ -166,16 +167,15 @@ fn with_begun(
     }
 }
 
-/// The bars of a journal of so many spaces, the newest entry of which stands first, in the order in
-/// which they begin. At each entry that may change a mark the whole of its space's journal before it
-/// is read again.
-pub fn bars(alloc: Global, n: u16, journal: &[Entry]) -> Result<Vec<Bar>, AllocError>
+// The bars of a journal, whatever its spaces exported: at each entry that may change a mark the
+// whole of its space's journal before it is read again.
+fn bars_read(alloc: Global, n: u16, journal: &[Entry]) -> Result<Vec<Bar>, AllocError>
     ensures { IfOk result (λ bars. bars.items ≡ spec.bars n journal.now) }
 {
     match journal {
         [] => Ok(Vec::new(alloc)),
         [entry, older @ ..] => {
-            let before = bars(alloc, n, older)?;
+            let before = bars_read(alloc, n, older)?;
             if is_quiet(entry)? {
                 return Ok(before);
             }
@@ -187,4 +187,18 @@ pub fn bars(alloc: Global, n: u16, journal: &[Entry]) -> Result<Vec<Bar>, AllocE
             with_begun(alloc, space, row, held.as_slice(), left)
         }
     }
+}
+
+/// The bars of a journal of so many spaces, the newest entry of which stands first, in the order in
+/// which they begin. It passes the entries once, and each looks up what it touches. Only where a
+/// space exported an object under another space's name, as in no run, it reads what was done again
+/// and again.
+pub fn bars(alloc: Global, n: u16, journal: &[Entry]) -> Result<Vec<Bar>, AllocError>
+    ensures { IfOk result (λ bars. bars.items ≡ spec.bars n journal.now) }
+{
+    let pass = passed(alloc, n, journal)?;
+    if pass.own {
+        return Ok(pass.bars);
+    }
+    bars_read(alloc, n, journal)
 }

@@ -8,6 +8,8 @@ mod flight;
 pub mod laws;
 mod mark;
 mod marks;
+mod passing;
+mod steps;
 
 pub use bar::{Bar, bars};
 pub use flight::{Arrow, Departure, flights, lost};

@@ -91,7 +91,7 @@ fn listed_for(
 }
 
 // The references that an item was sent with, each once.
-fn pins_of(alloc: Global, sent_item: &SentItem) -> Result<Vec<Mark>, AllocError>
+pub(crate) fn pins_of(alloc: Global, sent_item: &SentItem) -> Result<Vec<Mark>, AllocError>
     ensures { IfOk result (λ found. found.items ≡ spec.pins_of sent_item.now) }
 {
     let to = sent_item.to;
@@ -146,7 +146,7 @@ pub fn marks_at(alloc: Global, here: &Here, journal: &[Entry]) -> Result<Vec<Mar
 }
 
 // Whether a deed changes no mark of its space.
-fn is_quiet_deed(deed: &Deed) -> bool
+pub(crate) fn is_quiet_deed(deed: &Deed) -> bool
     ensures { result ≡ spec.is_quiet_deed deed.now }
 {
     match deed {

@@ -1,6 +1,6 @@
 use Rattle.std.proofs.Common.{sym, ◌∙◌}
 use Rattle.nob_drawing_plan.proofs.Quiet.{quiet_step}
-use Rattle.nob_drawing_plan.proofs.bar.+bars.Goals as goal
+use Rattle.nob_drawing_plan.proofs.bar.+bars_read.Goals as goal
 
 pub returns-then-branch : goal.returns-then-branch
 returns-then-branch t c =
