@@ -2,72 +2,57 @@
 //! space 2 passes it on to space 3, each drops it, and only then can space 1 withdraw the object.
 #![tactic(auto)]
 
-mod carrying;
-mod opening;
-
-use crate::carrying::{METHOD, agent_of, exchange, serve};
-use crate::opening::with_spaces;
-use nob_model_types::Refusal;
+use nob_exchange::{agent_of, exchange, with_three};
+use nob_ids::Limits;
+use nob_model_types::{Outcome, Refusal};
 use nob_pickle::Value;
 use nob_space::{Space, SpaceError};
-use std::io;
 use std::process::ExitCode;
 
 fn main(rt: HostRuntime) -> ExitCode {
-    let said = match with_spaces(rt.alloc()) {
-        Ok(tries) => say(&rt, &tries),
+    let said = match with_three(rt.alloc(), Limits::default(), play) {
+        Ok([Err(sent), Err(held), Err(passed), Ok(())]) => {
+            println!(&rt; "{sent}\n{held}\n{passed}\nwithdrawn")
+        }
+        Ok(_) => println!(&rt; "not as it should be"),
         Err(error) => println!(&rt; "it failed: {error}"),
     };
-    match said {
-        Ok(()) => ExitCode::from(0),
-        Err(_) => ExitCode::from(1),
-    }
-}
-
-// What each try to withdraw the object came to.
-fn say(rt: &HostRuntime, tries: &[Result<(), Refusal>; 4]) -> io::Result<()> {
-    for tried in tries.iter() {
-        match tried {
-            Ok(()) => println!(rt; "withdrawn")?,
-            Err(refusal) => println!(rt; "{refusal}")?,
-        }
-    }
-    Ok(())
+    ExitCode::from(u8::from(said.is_err()))
 }
 
 // The life of one reference: what space 1 is answered each time that it tries to withdraw the object.
-pub(crate) fn play(
+fn play(
     one: &mut Space,
     two: &mut Space,
     three: &mut Space,
 ) -> Result<[Result<(), Refusal>; 4], SpaceError> {
     // Space 1 makes an object, hands a reference to it to space 2, and keeps none itself.
     let object = one.export()?;
-    let call = one.call(&agent_of(two), METHOD, &Value::Ref(object))?;
+    let call = one.call(&agent_of(two), 1, &Value::Ref(object))?;
     one.release(&object)?;
-    let on_its_way = one.withdraw(object.index);
+    let sent = one.withdraw(object.index);
 
-    // Space 2 is listed for it now; it keeps the reference beyond the call, and answers.
+    // Space 2 keeps the reference beyond the call, and answers: it is listed for the object now.
     exchange(one, two)?;
     two.dup(&object)?;
-    serve(two)?;
+    let job = two.claim()?;
+    two.finish(job.job, &Outcome::Answer(Value::Unit))?;
     exchange(one, two)?;
     one.take_reply(call)?;
-    let at_two = one.withdraw(object.index);
+    let held = one.withdraw(object.index);
 
     // Space 2 passes it on to space 3 and drops its own.
-    two.call(&agent_of(three), METHOD, &Value::Ref(object))?;
+    two.call(&agent_of(three), 1, &Value::Ref(object))?;
     two.release(&object)?;
     exchange(two, three)?;
     exchange(one, three)?;
     exchange(two, three)?;
     exchange(one, two)?;
-    let at_three = one.withdraw(object.index);
+    let passed = one.withdraw(object.index);
 
-    // Space 3 has carried its call out, and holds the reference no more.
-    serve(three)?;
-    exchange(two, three)?;
+    // Space 3 drops it where its call ends.
+    let job = three.claim()?;
+    three.finish(job.job, &Outcome::Answer(Value::Unit))?;
     exchange(one, three)?;
-    let at_nobody = one.withdraw(object.index);
-    Ok([on_its_way, at_two, at_three, at_nobody])
+    Ok([sent, held, passed, one.withdraw(object.index)])
 }

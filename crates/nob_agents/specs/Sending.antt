@@ -1,4 +1,5 @@
--- What an agent that sends has done: the ways to its peers, and what it asked of its space. In lists of receipts, and of what a way was fed, the newest stands FIRST.
+-- What an agent that sends has done: the ways to its peers, and what it asked of its space.
+-- In lists of receipts, and of what a way was fed, the newest stands FIRST.
 use Rattle.std.specs.Prelude.{◌≢◌, ◌≤◌, ℕ, ◌==◌, if◌then◌else◌, List, [], ◌∷◌, ◌++◌, length, map, take, reverse, Result, Ok}
 use Rattle.std.specs.List.{AllByRecursion}
 use Rattle.nob_frame.specs.declared.frame.Frame.{Frame}
@@ -55,7 +56,7 @@ abbrev pub AreApart : List Way → Type 0
 AreApart [] = Unit {0}
 AreApart (way ∷ ways) = AllByRecursion (λ other. other.peer ≢ way.peer) ways × AreApart ways
 
--- what each way put, and then what is kept behind its shim, is the shim's output on the frames of the Transmits to its peer, save the last ones of the newest
+-- what each way put and keeps behind its shim is the shim's output on the frames of the Transmits to its peer, save the newest one's last
 pub record AreTied (s : Sending) : Type 0 where
   pub tied : AllFed (λ peer. fed peer s.handled s.receipts) s.ways
   pub apart : AreApart s.ways

@@ -59,6 +59,6 @@ Follow taken arrived None = AllZip ArrivedAbove taken arrived
 Follow [] arrived (Some kept) = ⊥
 Follow (newest ∷ taken) arrived (Some kept) = (newest ≡ kept) × AllZip ArrivedAbove taken arrived
 
--- the frames of the parcels that an agent took are, in order, those that arrived by its receipts, each stamped above its parcel, and then at most one that it keeps
+-- the frames that an agent took are, in order, those that arrived by its receipts, each stamped above its parcel, and at most one that it keeps
 abbrev pub IsTied : Taking → Type 0
 IsTied t = Follow (frames_in (reverse t.taken)) (arrivals t.receipts) (kept_of t.due)

@@ -24,7 +24,7 @@ use Rattle.nob_check.specs.Books.{find_ledger, did_by, sent_by, both_open_by, re
 abbrev pub can_use_by : (ℕ → List Deed) → WireRep → Ledger → Bool
 can_use_by did rep ledger = is_held_by rep ledger && reaches_owner_by did ledger.index.here.space rep
 
--- whether what the space of a ledger sent to a place isn't settled, on a session that is open at both ends, and the space reaches the owner of a reference
+-- whether what a ledger's space sent to a place isn't settled, on a session open at both ends, and the space reaches the owner of a reference
 abbrev pub is_open_place_by : (ℕ → List Deed) → WireRep → Ledger → Place → Bool
 is_open_place_by did rep ledger place = not (is_settled place.to place.number ledger.index.deeds) && both_open_by did ledger.index.here.space place.to && reaches_owner_by did ledger.index.here.space rep
 

@@ -26,7 +26,7 @@ pub struct Judging {
     pub withdraws: bool,
     /// Whether no reference was lost without a cause.
     pub losses: bool,
-    /// Whether no session was closed because of what came over it.
+    /// Whether no session was closed for a fault in what came over it.
     pub found: bool,
 }
 

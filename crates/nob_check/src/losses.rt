@@ -18,7 +18,7 @@ use nob_model_types::{Answer, Refusal};
 use nob_model_words::Deed;
 use std::alloc::{AllocError, Global};
 
-// Whether a session closes for this reason because of what came over it.
+// Whether a session closes for this reason for a fault in what came over it.
 fn is_fault(reason: Reason) -> bool
     ensures { result ≡ findings.is_fault reason }
 {

@@ -53,7 +53,7 @@ PlaceTest = Place → Bool
 abbrev pub place_of : SentItem → Place
 place_of sent_item = record { to = sent_item.to; number = sent_item.number }
 
--- the tables say what was sent: how many items went to each peer, and a test holds of a place of a reference where it holds of that of an item which carries it
+-- the tables say what was sent: how many items to each peer; and a test of a reference's places holds where it does of an item's that carries it
 pub record Tell (counts : List (ℕ × ℕ)) (rows : List (WireRep × List Place)) (sent_items : List SentItem) : Type 0 where
   pub counted : (p : ℕ) → count_in p counts ≡ count_to p sent_items
   pub carried : (rep : WireRep) (test : PlaceTest) → list_any test (places_in rep rows) ≡ list_any (λ sent_item. carries rep sent_item.item && test (place_of sent_item)) sent_items

@@ -34,20 +34,26 @@ most_bytes = 2 ^ 26
 abbrev pub least_room : ℕ
 least_room = 2 ^ 12
 
--- what was read: the bytes of the reader before the first read and after the last, how many reads were made, how many bytes they gave, whether one failed, and whether one told the end
+-- what was read, and how
 pub record Reading : Type 0 where
+  -- the bytes of the reader before the first read, where it tells them
   pub input : Option (List ℕ)
+  -- and after the last
   pub rest : Option (List ℕ)
+  -- how many reads were made
   pub reads : ℕ
+  -- how many bytes they gave
   pub bytes : ℕ
+  -- whether one failed
   pub failed : Bool
+  -- whether one told the end
   pub ended : Bool
 
 -- the reads gave so many bytes: where the reader tells its bytes, these are the bytes that it had and has no more
 abbrev pub IsCounted : Reading → Type 0
 IsCounted r = IfSome r.input (λ all. IfSome r.rest (λ left. length all ≡ r.bytes + length left))
 
--- the input was read whole: no read failed, one told the end, there were no more of them than the program makes, and they gave no more bytes than it takes
+-- the input was read whole: no read failed, one told the end, and there were no more reads and bytes than the program takes
 abbrev pub IsWhole : Reading → Type 0
 IsWhole r = (r.failed ≡ false) × (r.ended ≡ true) × (r.reads ≤ most_reads) × (r.bytes ≤ most_bytes)
 
@@ -109,12 +115,12 @@ reads_input Check = true
 reads_input (Draw from to) = true
 reads_input (Spaces setting) = false
 
--- the input that a subcommand was given: the whole, of as many bytes as were read, which are the reader's where it tells them; or, for one that reads none, nothing
+-- the input that a subcommand was given: all that was read, which is the reader's where it tells that; nothing for one that reads none
 abbrev pub IsInput : (reads : Bool) → Reading → (bytes : List ℕ) → Type 0
 IsInput true r bytes = IsWhole r × (length bytes ≡ r.bytes) × IfSome r.input (λ input. bytes ≡ input)
 IsInput false r bytes = (r.reads ≡ 0) × (bytes ≡ [])
 
--- what a subcommand writes for an input, and the status that its run ends with; the verdict on a world, or on traces, is never no. Of a scene, which threads play, it is said what may be written of some traces and some tally, and not which those are
+-- what a subcommand writes for an input, and its status; the verdict is never no. Of a scene: what may be written of some traces and some tally
 abbrev pub Does : Subcommand → (input text : List ℕ) → (status : ℕ) → Type 0
 Does Pair input text status = (outcome : Outcome) × Plays input text outcome × (status ≡ status_of outcome)
 Does Script input text status = (ending : Ending) × worlds.Plays input text ending × worlds.SaysYes ending × (status ≡ world_status_of ending)
@@ -122,13 +128,19 @@ Does Check input text status = (ending : CheckEnding) × checks.Checks input tex
 Does (Draw from to) input text status = (ending : DrawEnding) × drawings.Draws input (record { from = from; to = to }) text ending × (status ≡ draw_status_of ending)
 Does (Spaces setting) input text status = (ending : SceneEnding) × scenes.Plays setting text ending × (status ≡ scene_status_of ending)
 
--- what a run was given, and how far it came: whether clap took the words, which subcommand they name, what was read, the bytes of `out` before and after, and whether a write to it failed
+-- what a run was given, and how far it came
 pub record Attempt : Type 0 where
+  -- whether clap took the words
   pub taken : Bool
+  -- which subcommand they name
   pub subcommand : Subcommand
+  -- what was read
   pub reading : Reading
+  -- the bytes of `out` before
   pub out_before : Option (List ℕ)
+  -- and after
   pub out_after : Option (List ℕ)
+  -- whether a write to it failed
   pub out_failed : Bool
 
 -- nothing was written to `out`
@@ -155,7 +167,7 @@ IsRefused a = (a.taken ≡ false) × (a.reading.reads ≡ 0)
 abbrev pub IsUnread : Attempt → Type 0
 IsUnread a = (a.taken ≡ true) × (reads_input a.subcommand ≡ true) × IsReadFault a.reading
 
--- memory may run out here: the input isn't read whole yet and can still be, and nothing was read where clap refuses the words, or the subcommand reads no input
+-- memory may run out here: the input can still be read whole, and nothing was read for words that clap refuses or that name no input
 abbrev pub MayStop : Attempt → Type 0
 MayStop a = IsPart a.reading × (a.taken ≡ false → a.reading.reads ≡ 0) × (reads_input a.subcommand ≡ false → a.reading.reads ≡ 0)
 

@@ -19,7 +19,7 @@ pub data Prints (traces : List Trace) (text : List ℕ) (ending : Ending) : Type
   printed : All IsWritable traces → text ≡ flat_map trace_text traces → ending ≡ Printed → Prints traces text ending
   unwritten : (All IsWritable traces → ⊥) → text ≡ codes "R2\n" → ending ≡ Refused → Prints traces text ending
 
--- what is said where traces are checked, with a tally: yes where they are together a run of a world, of which all is proved that is proved of such runs, and no where something is wrong with them
+-- what is said of traces, with a tally: yes where they are together a run of a world, which is safe; no where something is wrong with them
 pub data Judges (tally : Tally) (traces : List Trace) (text : List ℕ) (ending : Ending) : Type 0 where
   accepted : (merged : List Entry) → AreAccepted traces merged → IsSafe (length traces) (reverse merged) → text ≡ lines tally true → ending ≡ Accepted → Judges tally traces text ending
   refused : (fault : CheckFault) → IsFault traces fault → text ≡ lines tally false → ending ≡ Refused → Judges tally traces text ending
@@ -38,7 +38,7 @@ pub data Ends (setting : Setting) (tally : Tally) (traces : List Trace) (text : 
   told : Tells setting tally traces text ending → Ends setting tally traces text ending
   no_memory : text ≡ codes "memory\n" → ending ≡ OutOfMemory → Ends setting tally traces text ending
 
--- what is written of a scene, and how it ends: where a space stopped, just that; else what is told of the tally of its callers and the traces of its spaces
+-- what is written of a scene, and how it ends: that a space stopped, where one did; else what is told of the tally and the traces
 abbrev pub Says : Setting → Option Stop → Tally → List Trace → (text : List ℕ) → Ending → Type 0
 Says setting (Some stop) tally traces text ending = (text ≡ last_line (stopped stop)) × (ending ≡ stopped stop)
 Says setting None tally traces text ending = Ends setting tally traces text ending

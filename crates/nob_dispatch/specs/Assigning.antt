@@ -9,13 +9,19 @@ use Rattle.nob_dispatch_jobs.specs.Ends.{with_job}
 use Rattle.nob_dispatch_jobs.specs.Dispatching.{Dispatching}
 use Rattle.nob_dispatch_jobs.specs.Dispatching as dispatching
 
--- a desk, as contracts see it: the numbers of the jobs that it gave and of those whose objects came back, the first first; the job that it handed on and could not give, since nobody gets any more; how many objects it takes to be away; whether it claims no more; and its dispatcher
+-- a desk, as contracts see it
 pub record Assigning (O : Type 0) : Type 0 where
+  -- the numbers of the jobs that it gave, the first first
   pub given : List ℕ
+  -- of those whose objects came back
   pub back : List ℕ
+  -- the job that it handed on and could not give, since nobody gets any more
   pub unsent : Option ℕ
+  -- how many objects it takes to be away
   pub away : ℕ
+  -- whether it claims no more
   pub has_stopped : Bool
+  -- its dispatcher
   pub dispatcher : Dispatching O
 
 -- the number of a job, if there is one
@@ -28,7 +34,7 @@ module _ {O : Type 0} where
   abbrev pub handed_on : Assigning O → List ℕ
   handed_on a = with_job a.unsent (reverse a.given)
 
-  -- each job that was claimed was handed on, is kept, or was ended by the dispatcher, as often as it was claimed; what was given and hasn't come back is counted as away, 512 objects at most
+  -- each job that was claimed was handed on, is kept, or was ended, as often; and what was given and isn't back is counted as away, 512 at most
   abbrev pub IsTied : Assigning O → Type 0
   IsTied a = dispatching.IsTied (handed_on a) a.dispatcher × (length a.given ≤ a.away + length a.back) × (a.away ≤ 512)
 

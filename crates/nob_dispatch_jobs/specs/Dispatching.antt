@@ -13,12 +13,17 @@ use Rattle.nob_dispatch_jobs.specs.declared.stage.Finish.{Finish}
 use Rattle.nob_dispatch_jobs.specs.Ends.{ended, claimed, job_of, with_job}
 use Rattle.nob_dispatch_jobs.specs.Shelves.{place_of, with_place}
 
--- a dispatcher, as contracts see it: its receipts, the objects, the job that is to be handed on, the jobs whose objects are away, the first claimed first, and the job that is to be ended, since its object isn't there
+-- a dispatcher, as contracts see it
 pub record Dispatching (O : Type 0) : Type 0 where
+  -- its receipts
   pub receipts : List Receipt
+  -- the objects
   pub shelf : List (ℕ × Place O)
+  -- the job that is to be handed on
   pub due : Option ℕ
+  -- the jobs whose objects are away, the first claimed first
   pub waiting : List ℕ
+  -- the job that is to be ended, since its object isn't there
   pub ending : Option ℕ
 
 -- the numbers of jobs

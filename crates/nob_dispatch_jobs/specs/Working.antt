@@ -44,7 +44,7 @@ module _ {O : Type 0} where
   abbrev pub with_errand : Errand O → Working → Working
   with_errand errand worker = record { receipts = worker.receipts; job = Some errand.job.job; object = Some errand.job.target }
 
-  -- a turn gives back the object that the worker had, with its job's number and its own index, or the worker has what it had, of the job that it had it of
+  -- a turn gives back the object that the worker had, with its job's number and index, or the worker still has what it had, of that job
   abbrev pub GivesBack : Result (Progress O) KeeperError → Working → Working → Type 0
   GivesBack (Ok (progresses.Back back)) old new = (old.job ≡ Some back.job) × (old.object ≡ Some back.index) × (new.object ≡ None)
   GivesBack _ old new = (new.object ≡ old.object) × (held new ≡ held old)

@@ -43,11 +43,13 @@ account_of space entries = record { id = space.id; n = space.n; limits = space.l
 abbrev pub account_in : Trace → Account
 account_in trace = record { id = trace.space; n = trace.n; limits = trace.limits; entries = trace.entries }
 
--- each result is the right one after the entries before, the stamps rise, there are no more entries than fill a trace, and the last stamp is no greater than what was seen and the entries allow
+-- each result is right after the entries before, and the stamps rise
 pub record IsAccount (account : Account) : Type 0 where
   pub right : AreRight account.id account.n account.limits (list_of account.id account.entries)
   pub rise : Rise 0 account.entries
+  -- there are no more entries than fill a trace
   pub few : length account.entries ≤ most_entries
+  -- the last stamp is no greater than what was seen and the entries allow
   pub low : last_stamp 0 account.entries ≤ last_seen + length account.entries
 
 -- a space stands for the entries that are kept of it, which are right

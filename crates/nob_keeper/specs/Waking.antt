@@ -11,7 +11,7 @@ abbrev pub is_closing : Answer → Bool
 is_closing (answers.Closed reason) = true
 is_closing (_) = false
 
--- whether there may be more to transmit: an event handed an item on or closed a session, or a frame came, which may want an Ack, or make room in the window
+-- whether there may be more to transmit: an event handed an item on or closed a session, or a frame came, which may want an Ack or make room
 abbrev pub may_send : Event → Answer → Bool
 may_send (events.Call target method value) answer = true
 may_send (events.Finish job outcome) answer = true

@@ -13,7 +13,7 @@ use Rattle.nob_model_words.specs.declared.deed.Deed.TheVariants.{Call, Act, Clea
 abbrev pub IsOfFirst : ℕ → WireRep → Type 0
 IsOfFirst n rep = IsSpaceOf n rep.owner
 
--- a deed speaks of the first n spaces alone: the one that a Call goes to, the sender of an item that is acted on, the owners of the counted references that the item carries, and the owner of what is given up
+-- a deed speaks of the first n spaces alone: whom a Call goes to, whose item is acted on, the owners of its counted references or of what is given up
 abbrev pub SpeaksOfFirst : ℕ → Deed → List Deed → Type 0
 SpeaksOfFirst n (Call target method value call) D = IsOfFirst n target
 SpeaksOfFirst n (Act p k) D = IsSpaceOf n p × ((item : Item) → item_at p k D ≡ Some item → AllByRecursion (IsOfFirst n) (counted_in item))

@@ -1,4 +1,4 @@
--- Every reference is found: what comes next has no fault, and so no session closes because of what came over it.
+-- Every reference is found: what comes next has no fault, and so no session closes for a fault in what came over it.
 use Rattle.std.proofs.Common.{◌≡◌, ℕ, ◌+◌, ◌&&◌, not, Bool, true, false, cond, List, [], ◌∷◌, length, Option, Some, None, Result, Ok, Err, refl, sym, ap, subst, ◌∙◌}
 use Rattle.std.specs.Prelude.{◌==◌, ◌≢◌, nat_lt, nat_le}
 use Rattle.std.specs.List.{AllByRecursion, list_any}
@@ -200,7 +200,7 @@ close_closes s n p limits h reason e fault =
     let told = (close_tells s n p reason h e).1 in
     absurd (asked_kind reason (ap (λ (ending : Ending). ending.reason) (close_reason (is_open (calls_at p h)) (record { peer = p; reason = Asked }) told.0 told.1) ∙ told.2) fault)
 
--- no event closes a session because of what came over it, but for a bad item
+-- no event closes a session for a fault in what came over it, but for a bad item
 event_closes : (s n : ℕ) (limits : ℕ → Limits) (J : List Entry) (event : Event) (reason : Reason) → WorldRun n limits J → AreOfTypes J → Closes (right_after s n (limits s) (history_at s n J) event) reason → OnlyBad reason
 event_closes s n limits J (events.Act p) reason run typed e = λ fault. absurd (act_closes s n p limits J reason run typed e)
 event_closes s n limits J (events.Arrive frame) reason run typed e = arrive_closes s n frame (limits s) (history_at s n J) reason e

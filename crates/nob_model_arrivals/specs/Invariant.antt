@@ -12,13 +12,18 @@ use Rattle.nob_model_safety.specs.Asking.{items_among}
 use Rattle.nob_model_arrivals.specs.Underway.{under_way, AreGuarded}
 use Rattle.nob_model_arrivals.specs.Counting.{count_of, makes_call, calls_in_hand}
 
--- what a client sent to an owner and the owner hasn't acted on is guarded: where it calls an object, the agent aside, or carries a counted reference to one of the owner's, the client is entered for that (the last Dirty or Clean for it that the owner acted on is a Dirty, which it answered by DirtyOk), and no Dirty or Clean for it is under way before
+-- what a client sent to an owner and the owner hasn't acted on is guarded: each item that needs an object (a call of it, or a reference to it)
+-- comes while the client is entered for that, and no Dirty or Clean for it is under way before
 pub record Guarded (n : ℕ) (J : List Entry) : Type 0 where
   pub guarded : (c o x : ℕ) → c ≢ o → AreGuarded o x (is_entered o x c (deeds_at o J)) (under_way n c o J)
 
--- client c and owner o keep to Calls and Replies: the Calls of c are numbered all different, and so are the Replies of o; each Reply is of a Call that was acted on, and of one whose message neither waits nor is ready nor runs; and a Call has its Reply acted on, or waits for one, unless c has closed the session
+-- client c and owner o keep to Calls and Replies
 pub record Answers (n : ℕ) (J : List Entry) : Type 0 where
+  -- the Calls of c are numbered all different
   pub called_once : (c o k : ℕ) → count_of (makes_call k) (sent_to n c o J) ≤ 1
+  -- and so are the Replies of o
   pub replied_once : (o c k : ℕ) → count_of (replies_to k) (sent_to n o c J) ≤ 1
+  -- each Reply is of a Call that was acted on, and of one whose message neither waits nor is ready nor runs
   pub replied_called : (o c k : ℕ) → calls_in_hand c k (work o n (deeds_at o J)) + count_of (replies_to k) (sent_to n o c J) ≤ count_of (makes_call k) (items_among (acted_from c o J))
+  -- a Call has its Reply acted on, or waits for one, unless c has closed the session
   pub awaited : (c o k : ℕ) → closed_at c o J ≡ false → 1 ≤ count_of (makes_call k) (sent_to n c o J) → (1 ≤ count_of (replies_to k) (items_among (acted_from o c J))) ⊎ (list_any (awaits_reply o k) (work c n (deeds_at c J)).calls ≡ true)

@@ -31,7 +31,7 @@ abbrev pub unless_asked : Option Bool → Bool → Bool
 unless_asked None entered = entered
 unless_asked (Some ask) entered = false
 
--- items to a space are guarded for an index, by whether their sender is entered for it: it is where one needs the object, and no Dirty or Clean for it stands before that one
+-- items to a space are guarded for an index: the sender is entered where one needs the object, and no Dirty or Clean for it stands before that
 abbrev pub AreGuarded : (to x : ℕ) → Bool → List Item → Type 0
 AreGuarded to x entered [] = ⊤
 AreGuarded to x entered (item ∷ more) = (needs_object to x item ≡ true → entered ≡ true) × AreGuarded to x (unless_asked (ask_in x item) entered) more

@@ -20,8 +20,8 @@ pub fn answers()
     ensures { AnswersLaw }
 {}
 
-/// In every run of a world every reference is found: no session is closed because of what came over
-/// it. Asked of the run: what each Call and Finish handed on is of its types.
+/// In every run of a world every reference is found: no session is closed for a fault in what came
+/// over it. Asked of the run: what each Call and Finish handed on is of its types.
 #[tactic(auto, using(crate::proofs::Finding::found_law))]
 pub fn found()
     ensures { FoundLaw }

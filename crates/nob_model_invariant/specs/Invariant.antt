@@ -22,7 +22,7 @@ pub record Loans (n : ℕ) (J : List Entry) : Type 0 where
   pub running : (s : ℕ) → AllByRecursion (λ (run : Run). IsAllLent run.message) (work s n (deeds_at s J)).running
   pub replies : (s : ℕ) → AllByRecursion IsAllLent (work s n (deeds_at s J)).replies
 
--- the invariant of n spaces: sessions and what comes over them; the turns of clients and owners; what was named; who is listed, what is held and lent, what is live; what is under way; Calls and their Replies; what is settled, waits, was denied, and how the copies stand
+-- the invariant of n spaces: sessions, turns of clients and owners, who is listed, what is held, live and under way, Calls, settling, and the copies
 pub record Invariant (n : ℕ) (J : List Entry) : Type 0 where
   pub sessions : Sessions n J
   pub readings : Readings n J

@@ -10,12 +10,17 @@ use Rattle.nob_model_journal.specs.Runs.{WorldRun}
 use Rattle.nob_model_losses.specs.Leaks.{NoLeak}
 use Rattle.nob_model_safety.specs.Typed.{AreOfTypes}
 
--- what is proved of all that happens in a world of n spaces: what each space acted on from each peer is a gapless front of what that peer sent it, and nothing after that session's close; no owner withdraws an object while a space on an open session can use it or its reference is in open transit; no reference is lost without a cause; every reference is found: no session closes because of what came over it; and no object leaks: once all is quiet, an object that no space can use can be withdrawn
+-- what is proved of all that happens in a world of n spaces
 pub record IsSafe (n : ℕ) (J : List Entry) : Type 0 where
+  -- what each space acted on from each peer is a gapless front of what that peer sent it, and nothing after that session's close
   pub fronts : Fronts n J
+  -- no owner withdraws an object while a space on an open session can use it or its reference is in open transit
   pub withdraws : SafeWithdraw n J
+  -- no reference is lost without a cause
   pub losses : NoFalseLoss n J
+  -- every reference is found: no session is closed for a fault in what came over it
   pub found : Found J
+  -- no object leaks: once all is quiet, each live object that no space can use can be withdrawn
   pub leaks : NoLeak n J
 
 -- every run of a world is safe, each space with limits of its own

@@ -1,5 +1,5 @@
--- Every reference is found: no session is closed because of what came over it. So each Call that is acted on names a live
--- object or the agent, and each own counted reference that comes to its owner is live.
+-- Every reference is found: no session is closed for a fault in what came over it (a Close of the peer closes it
+-- too). So each Call that is acted on names a live object or the agent, and each own counted reference that comes to its owner is live.
 use Rattle.std.specs.Prelude.{◌≡◌, Bool, true, false, List, Result, Ok}
 use Rattle.std.specs.List.{AllByRecursion}
 use Rattle.nob_ids.specs.declared.reason.Reason.{Reason}
@@ -9,7 +9,7 @@ use Rattle.nob_model_types.specs.declared.answer.Answer.TheVariants.{Closed}
 use Rattle.nob_model_types.specs.declared.refusal.Refusal.{Refusal}
 use Rattle.nob_model_types.specs.declared.entry.Entry.{Entry}
 
--- whether a session closes for this reason because of what came over it
+-- whether this reason to close is a fault in what came over the session
 abbrev pub is_fault : Reason → Bool
 is_fault Asked = false
 is_fault PeerClosed = false

@@ -37,11 +37,11 @@ is_loss s n p rep (Some (items.DirtyOk index)) D = false
 is_loss s n p rep (Some (items.DirtyNo index)) D = names rep p index
 is_loss s n p rep (Some (items.Clean index)) D = false
 
--- whether the loss of a reference at s is excused by a copy that came from a: a isn't the owner, and its session with s or with the owner isn't open at both ends
+-- whether a copy that came from a excuses that s lost it: a isn't the owner, and its session with s or with the owner isn't open at both ends
 abbrev pub is_excuse : (s : ℕ) → WireRep → List Entry → ℕ → Bool
 is_excuse s rep J a = not (is_own a rep) && not (both_open a s J && both_open a rep.owner J)
 
--- each reference that is lost by an entry is excused by all copies that came, that of the entry's own item too; which sessions are open is read before the entry
+-- each reference that an entry loses is excused by all copies that came, its own item's too; which sessions are open is read before the entry
 abbrev pub LosesExcused : ℕ → Entry → List Entry → Type 0
 LosesExcused n entry J = (p k : ℕ) (rep : WireRep) → deed_in entry ≡ Some (Act p k) → is_loss entry.space n p rep (item_at p k (deeds_at entry.space J)) (deeds_at entry.space J) ≡ true → AllByRecursion (λ a. is_excuse entry.space rep J a ≡ true) (sources entry.space n rep (Act p k ∷ deeds_at entry.space J))
 

@@ -18,11 +18,14 @@ abbrev pub ArrivesGiven : Event → List Entry → Type 0
 ArrivesGiven (Arrive frame) J = Contains (transmitted_frames J) frame
 ArrivesGiven (_) J = ⊤
 
--- an entry of a world of n spaces, each with limits of its own, after the entries before: it is of one of the spaces, its result is the right one for this space's entries, and what arrives was given
+-- an entry of a world of n spaces, each with limits of its own, after the entries before
 pub record IsOfWorld (n : ℕ) (limits : ℕ → Limits) (entry : Entry) (J : List Entry) : Type 0 where
+  -- it is of one of the spaces
   pub first : 1 ≤ entry.space
   pub last : entry.space ≤ n
+  -- its result is the right one for this space's entries
   pub is_right : IsRight entry.space n (limits entry.space) entry (at entry.space J)
+  -- what arrives was given
   pub arrives : ArrivesGiven entry.event J
 
 -- a run of a world of n spaces
@@ -40,7 +43,7 @@ abbrev pub is_arrival : Event → Bool
 is_arrival (Arrive frame) = true
 is_arrival _ = false
 
--- a step made an entry after the entries before: of the space and the event that it names, which is no arrival, or of the frame that it delivers, which arrives at the space that it goes to
+-- a step made an entry after those before: of the space and event that it names, which is no arrival, or of the frame that it delivers where it goes
 abbrev pub IsMadeBy : WorldStep → Entry → List Entry → Type 0
 IsMadeBy (Do space event) entry J = (is_arrival event ≡ false) × (entry.space ≡ space) × (entry.event ≡ event)
 IsMadeBy (Deliver number) entry J = (frame : Frame) × (frame_of number (transmitted_frames J) ≡ Some frame) × (entry.space ≡ frame.to) × (entry.event ≡ Arrive frame)

@@ -114,6 +114,6 @@ is_lossless n s _ J = true
 abbrev pub excuses_losses : ℕ → List Entry → Bool
 excuses_losses n J = each (λ entry before. is_lossless n entry.space (deed_in entry) before) J
 
--- whether no session is closed because of what came over it
+-- whether no session is closed for a fault in what came over it
 abbrev pub finds_all : List Entry → Bool
 finds_all J = list_all (λ entry. not (is_fault_found entry.result)) J

@@ -7,7 +7,7 @@ ghost use Rattle.nob_model_journal.specs.Tests as tests;
 use nob_ids::Reason;
 use nob_model_types::{Answer, Entry, Refusal};
 
-// Whether a session closes for this reason because of what came over it.
+// Whether a session closes for this reason for a fault in what came over it.
 fn is_fault(reason: Reason) -> bool
     ensures { result ≡ words.is_fault reason }
 {
@@ -27,7 +27,7 @@ fn is_fault_found(response: &Result<Answer, Refusal>) -> bool
     }
 }
 
-/// Whether no session of a journal is closed because of what came over it.
+/// Whether no session of a journal is closed for a fault in what came over it.
 pub fn finds_all(journal: &[Entry]) -> bool
     ensures { result ≡ tests.finds_all journal.now }
 {

@@ -9,7 +9,7 @@ pub enum Promise {
     Withdraws,
     /// No reference is lost without a cause.
     Losses,
-    /// No session is closed because of what came over it.
+    /// No session is closed for a fault in what came over it.
     Found,
 }
 

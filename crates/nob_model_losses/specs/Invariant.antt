@@ -32,8 +32,11 @@ pub record Waiting (n : ℕ) (J : List Entry) : Type 0 where
 pub record Denials (n : ℕ) (J : List Entry) : Type 0 where
   pub settled : (o b x : ℕ) → has_no (gave n o b x J) ≡ true → AllByRecursion (λ one. (one.to == b) ≡ true → carries (own_ref o x) one.item ≡ true → is_settled b one.number (deeds_at o J) ≡ true) (sent (history_at o n J))
 
--- how it stands with the copies of a reference that b acted on since it last sent a Clean for it: without a surrogate on an open session there are none; while the owner's answer is awaited each waits in its message, or b has closed its session with the sender; where the owner refused it each is excused
+-- how it stands with the copies of a reference that b acted on since it last sent a Clean for it
 pub record Copies (n : ℕ) (J : List Entry) : Type 0 where
+  -- without a surrogate on an open session there are none
   pub none_without : (b : ℕ) (rep : WireRep) → is_peer b n rep.owner ≡ true → closed_at b rep.owner J ≡ false → is_standing (turns b n rep (deeds_at b J)) ≡ false → copies b n rep (deeds_at b J) ≡ []
+  -- while the owner's answer is awaited each waits in its message, or b has closed its session with the sender
   pub pending_wait : (b : ℕ) (rep : WireRep) → closed_at b rep.owner J ≡ false → is_pending (turns b n rep (deeds_at b J)) ≡ true → AllByRecursion (λ copy. (is_waiting copy.0 copy.1 (work b n (deeds_at b J)).waiting || closed_at b copy.0 J) ≡ true) (copies b n rep (deeds_at b J))
+  -- where the owner refused it each is excused
   pub refused_excused : (b : ℕ) (rep : WireRep) → is_refused (turns b n rep (deeds_at b J)) ≡ true → AllByRecursion (λ a. is_excuse b rep J a ≡ true) (sources b n rep (deeds_at b J))

@@ -1,4 +1,4 @@
--- No object leaks: once all is quiet, an object that no space can use can be withdrawn.
+-- No object leaks: once all is quiet, each live object that no space can use can be withdrawn.
 use Rattle.std.specs.Prelude.{◌≡◌, ◌≤◌, ◌⊎◌, ℕ, true, false, List, Err, Ok}
 use Rattle.nob_model_types.specs.declared.answer.Answer.TheVariants as answers
 use Rattle.nob_model_types.specs.declared.refusal.Refusal.TheVariants as refusals

@@ -84,10 +84,13 @@ OkFirst [] = ⊤
 OkFirst (true ∷ answers) = OkFirst answers
 OkFirst (false ∷ answers) = AllByRecursion (λ answer. answer ≡ false) answers
 
--- a client and an owner took turns: a Dirty, a Clean, a Dirty and so on; each Dirty but the last is answered, and the last is or waits for it; and what a Clean gave up was granted
+-- a client and an owner took turns
 pub record AskedInTurn (asks answers : List Bool) : Type 0 where
+  -- a Dirty, a Clean, a Dirty and so on
   pub alternate : Alternate true asks
+  -- each Dirty but the last is answered, and the last is or waits for it
   pub counts : (length answers ≡ dirties_in asks) ⊎ ((length answers + 1 ≡ dirties_in asks) × (last_or false asks ≡ true))
+  -- what a Clean gave up was granted
   pub were_granted : AllByRecursion (λ answer. answer ≡ true) (take (cleans_in asks) answers)
 
 -- an owner answered what it was asked: each Dirty once, and never a DirtyOk after a DirtyNo

@@ -30,19 +30,24 @@ use Rattle.nob_model_safety.specs.Asking.{asked, heard, was_asked, gave, turns_b
 use Rattle.nob_model_journal.specs.Journals.{deeds_at, closed_at, history_at, sent_to, acted_from, transmitted_frames}
 use Rattle.nob_model_journal.specs.Fronts.{ActsInOrder}
 
--- a frame as an end gave it: it acknowledges no more than what the end accepted, and a Data frame carries the payload of its number, which was transmitted
+-- a frame as an end gave it: it acknowledges no more than the end accepted, and a Data frame carries the transmitted payload of its number
 pub record IsCarried (calls : List EndEntry) (frame : Frame) : Type 0 where
   pub acknowledges : frame.ack ≤ length (accepted calls) + 1
   pub is_transmitted : is_data frame.kind ≡ true → frame.seq ≤ transmitted calls
   pub is_numbered : is_data frame.kind ≡ true → 1 ≤ frame.seq
   pub carries : is_data frame.kind ≡ true → slice_get (handed calls) (frame.seq - 1) ≡ Some frame.payload
 
--- the sessions of every two spaces a and b, from a to b: every item that a sent has a spelling; of these b accepted a beginning, each was transmitted before, and what a heard acknowledged was accepted; b acted on a beginning of them, in order; and every frame that was ever given is as its sender gave it
+-- the sessions of every two spaces a and b, from a to b
 pub record Sessions (n : ℕ) (J : List Entry) : Type 0 where
+  -- every item that a sent has a spelling
   pub items_spelt : (a b : ℕ) → AllByRecursion Fits (sent_to n a b J)
+  -- each that b accepted was transmitted before, and what a heard acknowledged was accepted
   pub reached : (a b : ℕ) → a ≢ b → Reaches (calls_at b (history_at a n J)) (calls_at a (history_at b n J))
+  -- b accepted a beginning of them
   pub accepted_in_order : (a b : ℕ) → a ≢ b → IsBeginning (accepted (calls_at a (history_at b n J))) (map payload_of (sent_to n a b J))
+  -- and acted on a beginning of them, in order
   pub acted_in_order : (a b : ℕ) → ActsInOrder n a b J
+  -- every frame that was ever given is as its sender gave it
   pub frames_carry : (frame : Frame) → Contains (transmitted_frames J) frame → IsCarried (calls_at frame.to (history_at frame.from n J)) frame
 
 -- every client took turns with every owner: its turns for a reference are what it asked and what it heard
@@ -50,10 +55,13 @@ pub record Clients (n : ℕ) (J : List Entry) : Type 0 where
   pub turns_are : (c : ℕ) (rep : WireRep) → turns c n rep (deeds_at c J) ≡ turns_by (asked n c rep J) (heard c rep J)
   pub taken : (c : ℕ) (rep : WireRep) → AskedInTurn (asked n c rep J) (heard c rep J)
 
--- every owner answered every client in turn: each Dirty once; a DirtyNo was of an object that was exported and isn't live any more; and a client is entered for an index exactly where it asked last by a Dirty and was answered last by DirtyOk
+-- every owner answered every client in turn
 pub record Owners (n : ℕ) (J : List Entry) : Type 0 where
+  -- each Dirty once
   pub answered : (o c x : ℕ) → AnsweredInTurn (was_asked o c x J) (gave n o c x J)
+  -- a DirtyNo was of an object that was exported and isn't live any more
   pub denied : (o c x : ℕ) → has_no (gave n o c x J) ≡ true → (is_exported o x (deeds_at o J) ≡ true) × (is_live o x (deeds_at o J) ≡ false)
+  -- a client is entered for an index exactly where it asked last by a Dirty and was answered last by DirtyOk
   pub entered : (o c x : ℕ) → is_entered o x c (deeds_at o J) ≡ (last_or false (was_asked o c x J) && is_yes (last_word said.Silent (gave n o c x J)))
 
 -- all that is named in what a space sent was exported by its owner

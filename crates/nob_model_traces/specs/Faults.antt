@@ -31,7 +31,7 @@ pub record IsLost (traces : List Trace) (fault : CheckFault) : Type 0 where
   pub is_merged : IsMerged traces merged
   pub lost : IsOriginFault merged fault
 
--- this is what is wrong with traces: they don't belong together; else a result isn't right; else a frame arrives that no entry transmitted, or none before it
+-- this is wrong with traces: they don't belong together; else a result isn't right; else a frame arrives that no entry transmitted, or none before it
 abbrev pub IsFault : List Trace → CheckFault → Type 0
 IsFault traces faults.Set = are_one_each traces ≡ false
 IsFault traces (faults.NotARun space place) = (are_one_each traces ≡ true) × IsFirstNoRun traces space place

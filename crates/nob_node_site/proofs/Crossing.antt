@@ -22,9 +22,9 @@ use Rattle.nob_keeper.specs.contracts.held.Held as Held
 use Rattle.nob_keeper.specs.contracts.keeper.Keeper as Keeper
 use Rattle.nob_link.proofs.ends.PutEnd.TheSendSync as put_end
 use Rattle.nob_link.specs.contracts.ends.PutEnd as PutEnd
-use Rattle.nob_node_site.proofs.object.Kept.TheSendSync as kept
-use Rattle.nob_node_site.specs.contracts.object.Kept as Kept
-use Rattle.nob_node_site.specs.contracts.outbox.Outbox as Outbox
+use Rattle.nob_node_parts.proofs.object.Kept.TheSendSync as kept
+use Rattle.nob_node_parts.specs.contracts.object.Kept as Kept
+use Rattle.nob_node_parts.specs.contracts.outbox.Outbox as Outbox
 use Rattle.nob_node_site.specs.contracts.crew.Crew as Crew
 use Rattle.nob_node_site.specs.contracts.inbox.Inbox as Inbox
 use Rattle.nob_node_site.specs.contracts.site.Site as Site

@@ -1,7 +1,8 @@
 //! What a node is made of.
 
-ghost use Rattle.std.specs.Prelude.{◌≡◌, ◌≤◌, [], IfSome};
+ghost use Rattle.std.specs.Prelude.{◌≡◌, ◌≤◌, [], IfSome, is_some};
 ghost use Rattle.nob_fault.specs.Shims.{opening};
+ghost use Rattle.nob_node_site.specs.Configs as spec;
 
 use nob_fault::Shim;
 use nob_ids::{Limits, SpaceId};
@@ -40,7 +41,8 @@ impl Config {
         pause: u32,
         tick_every: u32,
     ) -> Option<Config>
-        ensures { IfSome result (λ config. (config.space ≡ space) × (config.n ≡ n)
+        ensures some { is_some result ≡ spec.may_be space n workers }
+        ensures config { IfSome result (λ config. (config.space ≡ space) × (config.n ≡ n)
             × (config.limits ≡ limits) × (config.workers ≡ workers)
             × (config.pause ≡ pause) × (config.tick_every ≡ tick_every)) }
     {

@@ -3,12 +3,8 @@
 
 mod config;
 mod crew;
-mod idlers;
 mod inbox;
-mod lookout;
 mod making;
-mod object;
-mod outbox;
 mod site;
 mod threads;
 
@@ -16,6 +12,5 @@ pub use config::{Config, Ends};
 pub use crew::{Crew, run_crew};
 pub use inbox::Inbox;
 pub use making::site_of;
-pub use object::{Kept, Left};
-pub use outbox::{Outbox, Pulse};
+pub use nob_node_parts::{Kept, Left, Outbox, Pulse};
 pub use site::{Parts, Site};

@@ -2,17 +2,14 @@
 
 ghost use Rattle.std.specs.Prelude.{◌≡◌, [], IfErr};
 
-use crate::idlers::Idlers;
 use crate::inbox::{Inbox, Taken};
-use crate::lookout::Lookout;
-use crate::object::Kept;
-use crate::outbox::{Outbox, Pulse};
 use nob_agents::{Calls, Carer, Turn};
 use nob_dispatch::{Assigned, Desk, JobCalls, Place};
 use nob_dispatch_objects::{Agent, Object};
 use nob_ids::CallNo;
 use nob_keeper::{Dues, Keeper, KeeperError, Look, Receipt, Seat, WorkKind, wakes_of};
 use nob_model_types::{Answer, Event};
+use nob_node_parts::{Idlers, Kept, Lookout, Outbox, Pulse};
 use nob_offers::Offered;
 use nob_space::Work;
 use std::alloc::Global;

@@ -1,12 +1,11 @@
 //! What each thread of a node does.
 
 use crate::inbox::Taken;
-use crate::object::Kept;
-use crate::outbox::Pulse;
 use crate::site::Site;
 use nob_dispatch::{Gate, Hand, carry_out};
 use nob_dispatch_objects::Object;
 use nob_keeper::{Wake, WorkKind};
+use nob_node_parts::{Kept, Pulse};
 use std::sync::Wait;
 use std::thread;
 

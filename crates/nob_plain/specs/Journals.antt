@@ -38,7 +38,7 @@ pub data FromEntry (n : ℕ) (J : List Entry) (line : List ℕ) (from_next : Lis
   -- the line is no entry, and nothing is judged
   bad : IsNoEntry line → text ≡ bad_entry_text n → FromEntry n J line from_next text
 
--- what is written from these lines of a journal on, of which the first is line n, after these entries, the newest of which stands first: the verdict on all of them
+-- what is written from these lines of a journal on, the first being line n, after these entries, the newest FIRST: the verdict on all of them
 abbrev pub FromEntries : ℕ → List Entry → List (List ℕ) → List ℕ → Type 0
 FromEntries n J [] text = SaysVerdict most_spaces J text
 FromEntries n J (line ∷ lines) text = FromEntry n J line (λ next rest. FromEntries (n + 1) next lines rest) text

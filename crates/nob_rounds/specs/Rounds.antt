@@ -1,4 +1,4 @@
--- What is added to the entries of a world, which stand oldest first, where its spaces are asked things and frames arrive, and where it is brought to rest.
+-- What is added to the entries of a world, the oldest of which stands first: its spaces are asked things, frames arrive, it is brought to rest.
 use Prim.Native.Nat.{zero}
 use Rattle.std.specs.Prelude.{◌≡◌, ◌+◌, ◌-◌, ◌&&◌, not, nat_le, nat_lt, ℕ, suc, Bool, true, false, is_ok, List, [], ◌∷◌, ◌++◌, length, reverse, Option, Some, None, Result, Ok, Err, if◌then◌else◌}
 use Rattle.nob_ids.specs.Names.{most_spaces}

@@ -31,8 +31,8 @@ pub fn ask(world: &mut World, space: SpaceId, event: Event) -> Result<bool, Allo
     ensures n { world.new.n ≡ world.old.n }
 {
     match world.step(&WorldStep::Do(space, event)) {
-        Ok(Ok(_)) => Ok(true),
-        Ok(Err(_)) => Ok(false),
+        Ok(_) => Ok(true),
+        Err(WorldError::Refused(_)) => Ok(false),
         Err(WorldError::OutOfMemory) => Err(AllocError),
         Err(WorldError::NoSpace) => unreachable!(),
         Err(WorldError::NoFrame) => unreachable!(),

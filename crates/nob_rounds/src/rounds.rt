@@ -18,7 +18,7 @@ pub fn deliver(world: &mut World, number: u64) -> Result<(), AllocError>
 {
     let _frames = world.frames();
     match world.step(&WorldStep::Deliver(number)) {
-        Ok(_) => Ok(()),
+        Ok(_) | Err(WorldError::Refused(_)) => Ok(()),
         Err(WorldError::OutOfMemory) => Err(AllocError),
         Err(WorldError::NoSpace) => unreachable!(),
         Err(WorldError::NoFrame) => Ok(()),

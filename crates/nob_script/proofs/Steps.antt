@@ -23,9 +23,9 @@ use Rattle.nob_trace_text.specs.Lines.{answered_text}
 use Rattle.nob_script_text.specs.Scripts.{Grows, StepMade, IsStepLine}
 use Rattle.nob_script_text.specs.Worlds as scripts
 use Rattle.nob_script_text.specs.Worlds.{delivers, does, entry_in, makes_entry, outcome_of, result_text, with_entry}
-use Rattle.nob_world.specs.Worlds.{World, journal, AddsTo, entry_of, is_arrival, is_there, step_fault}
+use Rattle.nob_world.specs.Worlds.{World, journal, AddsTo, entry_of, is_arrival, is_there, outcome, step_fault}
 use Rattle.nob_world.specs.declared.error.WorldError.{WorldError}
-use Rattle.nob_world.specs.declared.error.WorldError.TheVariants.{NoSpace, NoFrame, OutOfMemory}
+use Rattle.nob_world.specs.declared.error.WorldError.TheVariants.{Refused, NoSpace, NoFrame, OutOfMemory}
 use Rattle.nob_script.specs.Plays.{script_world, step_result_text}
 
 -- an entry is that of its parts
@@ -146,16 +146,20 @@ line_written (Ok a) old new line answer P is so = (answered_text line answer, is
 line_written (Err e) old new line answer P is so = tt
 
 -- what a step of a line gave is written as the definitions have it
-pub step_made : (w v : World) (line written : List ℕ) (step : WorldStep) (r : Result (Result Answer Refusal) WorldError) → IsStepLine line step
-    → IfOk r (λ answer. AddsTo step answer w.entries v.entries)
+pub step_made : (w v : World) (line written : List ℕ) (step : WorldStep) (r : Result Answer WorldError) → IsStepLine line step
+    → IfOk (outcome r) (λ answer. AddsTo step answer w.entries v.entries)
     → ((fault : WorldError) → step_fault w.n w.frames step ≡ Some fault → r ≡ Err fault)
-    → IfErr r (λ error. error ≢ OutOfMemory → step_fault w.n w.frames step ≡ Some error)
-    → OnErr r (v.entries ≡ w.entries) → OnErr r (v.frames ≡ w.frames) → v.n ≡ w.n → v.limits ≡ w.limits
+    → IfErr (outcome r) (λ error. error ≢ OutOfMemory → step_fault w.n w.frames step ≡ Some error)
+    → OnErr (outcome r) (v.entries ≡ w.entries) → OnErr (outcome r) (v.frames ≡ w.frames) → v.n ≡ w.n → v.limits ≡ w.limits
     → WorldRun v.n (λ _. v.limits) (journal v) → w.frames ≡ transmitted_frames (journal w) → v.frames ≡ transmitted_frames (journal v)
     → written ≡ answered_text line (step_result_text (length w.frames) r) → StepMade true (script_world w) line (script_world v) written
 step_made w v line written step (Ok answer) is adds fault only kept kept_frames same_n same_limits run before after text =
     let makes : Makes w v adds.entry = record { added = adds.added; same_n = same_n; same_limits = same_limits; run = run; before = before; after = after } in
-    let right_there = made_right w v adds.entry makes step answer adds.result_is adds.made in
+    let right_there = made_right w v adds.entry makes step (Ok answer) adds.result_is adds.made in
+    StepMade.answered step is (text ∙ ap (answered_text line) right_there.0) right_there.1
+step_made w v line written step (Err (Refused refusal)) is adds fault only kept kept_frames same_n same_limits run before after text =
+    let makes : Makes w v adds.entry = record { added = adds.added; same_n = same_n; same_limits = same_limits; run = run; before = before; after = after } in
+    let right_there = made_right w v adds.entry makes step (Err refusal) adds.result_is adds.made in
     StepMade.answered step is (text ∙ ap (answered_text line) right_there.0) right_there.1
 step_made w v line written step (Err NoSpace) is adds fault only kept kept_frames same_n same_limits run before after text =
     let there = no_space w step is.0 (only (λ e. absurd cc)) in

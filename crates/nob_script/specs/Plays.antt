@@ -1,7 +1,6 @@
 -- A script that is run on a world of spaces.
 use Rattle.std.specs.Prelude.{◌≡◌, ⊤, ℕ, true, List, codes, Result, Ok, Err}
 use Rattle.nob_model_types.specs.declared.answer.Answer.{Answer}
-use Rattle.nob_model_types.specs.declared.refusal.Refusal.{Refusal}
 use Rattle.nob_trace_text.specs.Lines.{lines_of, bad_step_text}
 use Rattle.nob_script_text.specs.declared.ending.Ending.{Ending}
 use Rattle.nob_script_text.specs.declared.ending.Ending.TheVariants.{Judged, BadStep}
@@ -13,15 +12,16 @@ use Rattle.nob_script_text.specs.Worlds.{result_text}
 use Rattle.nob_script_text.specs.Worlds as scripts
 use Rattle.nob_world.specs.Worlds.{World, journal, IsSafe}
 use Rattle.nob_world.specs.declared.error.WorldError.{WorldError}
-use Rattle.nob_world.specs.declared.error.WorldError.TheVariants.{NoSpace, NoFrame, OutOfMemory}
+use Rattle.nob_world.specs.declared.error.WorldError.TheVariants.{Refused, NoSpace, NoFrame, OutOfMemory}
 
 -- a world of spaces as a script speaks of it
 abbrev pub script_world : World → scripts.World
 script_world world = record { n = world.n; limits = world.limits; journal = journal world; frames = world.frames }
 
 -- what is written of what a step gave, where so many frames were transmitted before
-abbrev pub step_result_text : ℕ → Result (Result Answer Refusal) WorldError → List ℕ
-step_result_text before (Ok result) = result_text before result
+abbrev pub step_result_text : ℕ → Result Answer WorldError → List ℕ
+step_result_text before (Ok answer) = result_text before (Ok answer)
+step_result_text before (Err (Refused refusal)) = result_text before (Err refusal)
 step_result_text before (Err NoSpace) = codes "X1"
 step_result_text before (Err NoFrame) = codes "X2"
 step_result_text before (Err OutOfMemory) = codes "S14"

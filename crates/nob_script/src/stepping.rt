@@ -5,7 +5,7 @@ ghost use Rattle.std.specs.String.{string_bytes};
 ghost use Rattle.nob_script_text.specs.Scripts.{Grows, IsStepLine, StepMade};
 ghost use Rattle.nob_script.specs.Plays.{script_world, step_result_text as text_of_step};
 
-use nob_model::{Answer, Refusal, WorldStep};
+use nob_model::{Answer, WorldStep};
 use nob_script_text::result_text;
 use nob_trace_text::push_line;
 use nob_world::{World, WorldError};
@@ -38,12 +38,13 @@ pub(crate) fn make_step(
 fn step_result_text(
     alloc: Global,
     before: usize,
-    outcome: Result<Result<Answer, Refusal>, WorldError>,
+    outcome: Result<Answer, WorldError>,
 ) -> Result<String, AllocError>
     ensures { IfOk result (λ text. string_bytes text ≡ text_of_step before outcome) }
 {
     match outcome {
-        Ok(response) => result_text(alloc, before, &response),
+        Ok(answer) => result_text(alloc, before, &Ok(answer)),
+        Err(WorldError::Refused(refusal)) => result_text(alloc, before, &Err(refusal)),
         Err(WorldError::NoSpace) => String::from_str(alloc, "X1"),
         Err(WorldError::NoFrame) => String::from_str(alloc, "X2"),
         Err(WorldError::OutOfMemory) => String::from_str(alloc, "S14"),

@@ -114,6 +114,7 @@ fn make(world: &mut World, step: &WorldStep) -> Result<(), AllocError> {
     match world.step(step) {
         Ok(_) => Ok(()),
         Err(WorldError::OutOfMemory) => Err(AllocError),
+        Err(WorldError::Refused(_)) => Ok(()),
         Err(WorldError::NoSpace) => Ok(()),
         Err(WorldError::NoFrame) => Ok(()),
     }

@@ -17,9 +17,9 @@ use Rattle.nob_model_journal.specs.Runs.{WorldRun, frame_of, IsMadeBy}
 pub use Rattle.nob_model_journal.specs.Runs.{is_arrival}
 use Rattle.nob_space.specs.Spaces.{Owner, StandsFor}
 use Rattle.nob_world.specs.declared.error.WorldError.{WorldError}
-use Rattle.nob_world.specs.declared.error.WorldError.TheVariants.{NoSpace, NoFrame, OutOfMemory}
+use Rattle.nob_world.specs.declared.error.WorldError.TheVariants.{Refused, NoSpace, NoFrame, OutOfMemory}
 
--- a world: how many spaces there are, the limits of their sessions, the spaces, what was asked of them and answered, and the frames that were ever transmitted
+-- a world: how many spaces, the limits of their sessions, the spaces, what was asked of them and answered, and all frames ever transmitted
 pub record World : Type 0 where
   pub n : ℕ
   pub limits : Limits
@@ -47,15 +47,21 @@ pub record SpacesStand (n : ℕ) (limits : Limits) (spaces : List Owner) (J : Li
   pub each : length spaces ≡ n
   pub stand : (place : ℕ) (space : Owner) → slice_get spaces place ≡ Some space → IsSpaceOf n limits J (place + 1) space
 
--- there are 1 to 32 spaces, their entries are a run of a world, and the frames are those that were transmitted, each of which has a spelling and goes to a space; what was handed on is of its types
+-- a world is one of 1 to 32 spaces
 pub record IsWorld (world : World) : Type 0 where
   pub some : 1 ≤ world.n
   pub few : world.n ≤ 32
+  -- each space stands for its own entries
   pub spaces : SpacesStand world.n world.limits world.spaces (journal world)
+  -- their entries are a run of a world
   pub run : WorldRun world.n (λ _. world.limits) (journal world)
+  -- the frames are those that were transmitted
   pub frames : world.frames ≡ transmitted_frames (journal world)
+  -- each of which has a spelling
   pub spelt : AllByRecursion Fits world.frames
+  -- and goes to a space
   pub for_spaces : AllByRecursion (λ frame. frame.to ≤ world.n) world.frames
+  -- what was handed on is of its types
   pub typed : AreOfTypes (journal world)
 
 -- whether a frame was found
@@ -63,7 +69,7 @@ abbrev pub is_there : Option Frame → Bool
 is_there (Some frame) = true
 is_there None = false
 
--- what is wrong with a step, where so many spaces are and these frames were transmitted: there is no such space, or no such frame, or a frame is to arrive that isn't delivered
+-- what is wrong with a step among so many spaces and these frames: there is no such space or frame, or a frame is to arrive undelivered
 abbrev pub step_fault : ℕ → List Frame → WorldStep → Option WorldError
 step_fault n frames (Do space event) = if not (nat_le 1 space && nat_le space n) then Some NoSpace else (if is_arrival event then Some NoFrame else None)
 step_fault n frames (Deliver number) = if is_there (frame_of number frames) then None else Some NoFrame
@@ -72,6 +78,14 @@ step_fault n frames (Deliver number) = if is_there (frame_of number frames) then
 abbrev pub why_stopped : Option WorldError → WorldError
 why_stopped (Some fault) = fault
 why_stopped None = OutOfMemory
+
+-- what a step came to: an entry with what its space answered or why it refused, or why it makes none
+abbrev pub outcome : Result Answer WorldError → Result (Result Answer Refusal) WorldError
+outcome (Ok answer) = Ok (Ok answer)
+outcome (Err (Refused refusal)) = Ok (Err refusal)
+outcome (Err NoSpace) = Err NoSpace
+outcome (Err NoFrame) = Err NoFrame
+outcome (Err OutOfMemory) = Err OutOfMemory
 
 -- an entry of a space for an event, with its result
 abbrev pub entry_of : ℕ → Event → Result Answer Refusal → Entry

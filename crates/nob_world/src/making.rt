@@ -20,7 +20,7 @@ ghost use Rattle.nob_world.specs.declared.error.WorldError.{WorldError as WorldE
 use crate::error::WorldError;
 use nob_frame::Frame;
 use nob_ids::SpaceId;
-use nob_model::{Answer, Entry, Event, Refusal, WorldStep};
+use nob_model::{Answer, Entry, Event, WorldStep};
 use nob_session::wire;
 use nob_space::{Space, SpaceError};
 use std::alloc::{AllocError, Global};
@@ -106,18 +106,18 @@ pub(crate) fn make(
     frames: &mut Vec<Frame>,
     space: SpaceId,
     event: Event,
-) -> Result<Result<Answer, Refusal>, WorldError>
+) -> Result<Answer, WorldError>
     requires { space ≤ length spaces.old.items }
-    ensures entries { IfOk result (λ answer. entries.new.items
+    ensures entries { IfOk (spec.outcome result) (λ answer. entries.new.items
         ≡ entries.old.items ++ spec.entry_of space event answer ∷ []) }
     ensures world { (n : ℕ) (limits : LimitsOf)
         → spec.IsWorld (spec.world_of n limits spaces.old.items entries.old.items frames.old.items)
         → ArrivesGiven event (reverse entries.old.items)
         → spec.IsWorld (spec.world_of n limits spaces.new.items entries.new.items
         frames.new.items) }
-    ensures only { IfErr result (λ error. error ≡ WorldError.OutOfMemory) }
-    ensures err { OnErr result (entries.new.items ≡ entries.old.items) }
-    ensures err_frames { OnErr result (frames.new.items ≡ frames.old.items) }
+    ensures only { IfErr (spec.outcome result) (λ error. error ≡ WorldError.OutOfMemory) }
+    ensures err { OnErr (spec.outcome result) (entries.new.items ≡ entries.old.items) }
+    ensures err_frames { OnErr (spec.outcome result) (frames.new.items ≡ frames.old.items) }
 {
     let Ok(()) = entries.reserve(1) else {
         return Err(WorldError::OutOfMemory);
@@ -140,7 +140,7 @@ pub(crate) fn make(
                 },
             );
             put_frames(frames, more);
-            Ok(Ok(answer))
+            Ok(answer)
         }
         Err(SpaceError::Refused(refusal)) => {
             put_entry(
@@ -151,7 +151,7 @@ pub(crate) fn make(
                     result: Err(refusal),
                 },
             );
-            Ok(Err(refusal))
+            Err(WorldError::Refused(refusal))
         }
         Err(SpaceError::OutOfMemory) => Err(WorldError::OutOfMemory),
     }
@@ -175,10 +175,10 @@ pub(crate) fn take_step(
     entries: &mut Vec<Entry>,
     frames: &mut Vec<Frame>,
     step: &WorldStep,
-) -> Result<Result<Answer, Refusal>, WorldError>
+) -> Result<Answer, WorldError>
     requires { (limits : LimitsOf) × spec.IsWorld
         (spec.world_of n limits spaces.old.items entries.old.items frames.old.items) }
-    ensures entries { IfOk result (λ answer.
+    ensures entries { IfOk (spec.outcome result) (λ answer.
         spec.AddsTo step.now answer entries.old.items entries.new.items) }
     ensures world { (limits : LimitsOf) → spec.IsWorld
         (spec.world_of n limits spaces.old.items entries.old.items frames.old.items)
@@ -186,10 +186,10 @@ pub(crate) fn take_step(
         frames.new.items) }
     ensures fault { (fault : WorldErrorOf)
         → spec.step_fault n frames.old.items step.now ≡ Some fault → result ≡ Err fault }
-    ensures only { IfErr result (λ error. error ≢ WorldError.OutOfMemory
+    ensures only { IfErr (spec.outcome result) (λ error. error ≢ WorldError.OutOfMemory
         → spec.step_fault n frames.old.items step.now ≡ Some error) }
-    ensures err { OnErr result (entries.new.items ≡ entries.old.items) }
-    ensures err_frames { OnErr result (frames.new.items ≡ frames.old.items) }
+    ensures err { OnErr (spec.outcome result) (entries.new.items ≡ entries.old.items) }
+    ensures err_frames { OnErr (spec.outcome result) (frames.new.items ≡ frames.old.items) }
 {
     match step {
         WorldStep::Do(space, event) => {

@@ -12,7 +12,7 @@ use crate::error::WorldError;
 use crate::making::take_step;
 use nob_frame::Frame;
 use nob_ids::{Limits, SpaceId};
-use nob_model::{Answer, Entry, Refusal, WorldStep};
+use nob_model::{Answer, Entry, WorldStep};
 use nob_space::Space;
 use std::alloc::{AllocError, Global};
 use std::marker::Model;
@@ -62,9 +62,10 @@ impl Model for World {
 }
 
 impl World {
-    /// The number of spaces.
+    /// The number of spaces, which is 1 to 32.
     pub fn n(&self) -> u16
-        ensures { result ≡ self.now.n }
+        ensures n { result ≡ self.now.n }
+        ensures few { result ≤ 32 }
     {
         self.n
     }
@@ -133,18 +134,18 @@ impl World {
     /// there is no space or no frame for makes none, nor does one that memory is wanted for: then
     /// the world is as it was. It costs what the event costs at its space, the frame's bytes, and
     /// copies of the event, the answer and the frames.
-    pub fn step(&mut self, step: &WorldStep) -> Result<Result<Answer, Refusal>, WorldError>
-        ensures adds { IfOk result (λ answer.
+    pub fn step(&mut self, step: &WorldStep) -> Result<Answer, WorldError>
+        ensures adds { IfOk (spec.outcome result) (λ answer.
             spec.AddsTo step.now answer self.old.entries self.new.entries) }
         ensures safe { spec.IsSafe self.new.n (spec.journal self.new) }
         // X1 and X2 come exactly where they are due.
         ensures fault { (fault : WorldErrorOf)
             → spec.step_fault self.old.n self.old.frames step.now ≡ Some fault
             → result ≡ Err fault }
-        ensures only { IfErr result (λ error. error ≢ WorldError.OutOfMemory
+        ensures only { IfErr (spec.outcome result) (λ error. error ≢ WorldError.OutOfMemory
             → spec.step_fault self.old.n self.old.frames step.now ≡ Some error) }
-        ensures err { OnErr result (self.new.entries ≡ self.old.entries) }
-        ensures err_frames { OnErr result (self.new.frames ≡ self.old.frames) }
+        ensures err { OnErr (spec.outcome result) (self.new.entries ≡ self.old.entries) }
+        ensures err_frames { OnErr (spec.outcome result) (self.new.frames ≡ self.old.frames) }
         ensures n { self.new.n ≡ self.old.n }
         ensures limits { self.new.limits ≡ self.old.limits }
     {
@@ -176,7 +177,7 @@ impl World {
         let _ = &self.n;
         for (place, step) in steps.iter().enumerate() {
             match self.step(step) {
-                Ok(_) => {}
+                Ok(_) | Err(WorldError::Refused(_)) => {}
                 Err(error) => return Err((place, error)),
             }
         }

@@ -93,10 +93,10 @@ impl Course {
 // it.
 fn answer_of(world: &mut World, step: &WorldStep) -> Result<Option<Answer>, AllocError> {
     match world.step(step) {
-        Ok(Ok(answer)) => Ok(Some(answer)),
-        Ok(Err(_)) => Ok(None),
+        Ok(answer) => Ok(Some(answer)),
         Err(WorldError::OutOfMemory) => Err(AllocError),
-        Err(WorldError::NoSpace) => Ok(None),
-        Err(WorldError::NoFrame) => Ok(None),
+        Err(WorldError::Refused(_)) | Err(WorldError::NoSpace) | Err(WorldError::NoFrame) => Ok(
+            None,
+        ),
     }
 }

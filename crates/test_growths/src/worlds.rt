@@ -3,7 +3,7 @@
 use crate::script::Script;
 use nob_check_traces::{CheckError, check};
 use nob_ids::SpaceId;
-use nob_model::{Answer, Entry, Refusal, WorldStep};
+use nob_model::{Answer, Entry, WorldStep};
 use nob_trace::{Entries, Stamped, Trace};
 use nob_world::{World, WorldError};
 use std::alloc::{AllocError, Global};
@@ -50,7 +50,7 @@ fn make_each(world: &mut World, steps: &[WorldStep]) -> Result<(), AllocError> {
     for step in steps {
         match make(world, step) {
             Err(WorldError::OutOfMemory) => return Err(AllocError),
-            Err(WorldError::NoSpace) | Err(WorldError::NoFrame) => {}
+            Err(WorldError::Refused(_)) | Err(WorldError::NoSpace) | Err(WorldError::NoFrame) => {}
             Ok(_) => {}
         }
     }
@@ -65,9 +65,7 @@ fn make_all(world: &mut World, steps: &[WorldStep]) -> Result<(), AllocError> {
         left = match world.run(left) {
             Ok(()) => return Ok(()),
             Err((place, WorldError::OutOfMemory)) => from_place(left, place),
-            Err((place, WorldError::NoSpace)) | Err((place, WorldError::NoFrame)) => {
-                from_place(left, place.saturating_add(1))
-            }
+            Err((place, _)) => from_place(left, place.saturating_add(1)),
         };
     }
     Err(AllocError)
@@ -82,7 +80,7 @@ fn from_place(steps: &[WorldStep], place: usize) -> &[WorldStep] {
 }
 
 // Makes a step, once more where it wanted memory.
-fn make(world: &mut World, step: &WorldStep) -> Result<Result<Answer, Refusal>, WorldError> {
+fn make(world: &mut World, step: &WorldStep) -> Result<Answer, WorldError> {
     match world.step(step) {
         Err(WorldError::OutOfMemory) => world.step(step),
         result => result,

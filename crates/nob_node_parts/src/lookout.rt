@@ -11,7 +11,7 @@ const REST: u64 = 100;
 /// takes what comes over the link again once nobody looked for a rest, or the last one who looked goes to
 /// sleep.
 #[derive(Drop)]
-pub(crate) struct Lookout {
+pub struct Lookout {
     // How many look.
     present: AtomicU64,
     // How many have begun to look.
@@ -21,7 +21,8 @@ pub(crate) struct Lookout {
 }
 
 impl Lookout {
-    pub(crate) fn new() -> Lookout {
+    /// Nobody looks, nor has looked.
+    pub fn new() -> Lookout {
         Lookout {
             present: AtomicU64::new(0),
             comes: AtomicU64::new(0),
@@ -29,15 +30,15 @@ impl Lookout {
         }
     }
 
-    // Comes to look. Who comes leaves.
-    pub(crate) fn come(&self) {
+    /// Comes to look. Who comes leaves.
+    pub fn come(&self) {
         self.present.fetch_add(1, Ordering::SeqCst);
         self.comes.fetch_add(1, Ordering::SeqCst);
     }
 
-    // Leaves. Who goes on with work comes back soon; else, where nobody looks any more, the threads of
-    // the links are woken.
-    pub(crate) fn leave(&self, has_work: bool) {
+    /// Leaves. Who goes on with work comes back soon; else, where nobody looks any more, the threads of
+    /// the links are woken.
+    pub fn leave(&self, has_work: bool) {
         let before = self.present.fetch_sub(1, Ordering::SeqCst);
         if before == 1 && !has_work {
             self.bell.fetch_add(1, Ordering::SeqCst);
@@ -45,23 +46,23 @@ impl Lookout {
         }
     }
 
-    // Whether somebody looks, or has begun to since so many had.
-    pub(crate) fn is_kept(&self, comes: u64) -> bool {
+    /// Whether somebody looks, or has begun to since so many had.
+    pub fn is_kept(&self, comes: u64) -> bool {
         self.present.load(Ordering::SeqCst) > 0 || self.comes() != comes
     }
 
-    // How many have begun to look.
-    pub(crate) fn comes(&self) -> u64 {
+    /// How many have begun to look.
+    pub fn comes(&self) -> u64 {
         self.comes.load(Ordering::SeqCst)
     }
 
-    // How often nobody looked any more.
-    pub(crate) fn bell(&self) -> u64 {
+    /// How often nobody looked any more.
+    pub fn bell(&self) -> u64 {
         self.bell.load(Ordering::SeqCst)
     }
 
-    // Rests, where nobody who looked went to sleep since the bell was read. Nobody has to wake it.
-    pub(crate) fn rest<R: Wait>(&self, rt: &R, bell: u64) {
+    /// Rests, where nobody who looked went to sleep since the bell was read. Nobody has to wake it.
+    pub fn rest<R: Wait>(&self, rt: &R, bell: u64) {
         self.bell
             .park_timeout(rt, (bell % (1 << 32)) as u32, Duration::from_micros(REST));
     }

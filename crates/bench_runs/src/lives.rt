@@ -1,19 +1,12 @@
-//! The program `nob_long_run`: a long run of a world, judged as often as standard input says.
-//! `bench/judge` measures it.
-#![tactic(auto)]
+//! Whole lives of references in a world.
 
-use nob_check::judge;
-use nob_ids::{CallNo, JobNo, Limits, SpaceId, WireRep};
+use nob_ids::{CallNo, JobNo, SpaceId, WireRep};
 use nob_model::{Answer, Event, Outcome, WorldStep};
-use nob_model_journal::Verdict;
 use nob_pickle::Value;
 use nob_world::{World, WorldError};
-use std::alloc::Global;
-use std::io;
-use std::process::ExitCode;
 
-// So many spaces the world has.
-const SPACES: u32 = 4;
+/// So many spaces the world has.
+pub(crate) const SPACES: u32 = 4;
 
 // So many items are acted on after one carriage at most, so that each walk ends.
 const MOST_ITEMS: usize = 64;
@@ -21,71 +14,21 @@ const MOST_ITEMS: usize = 64;
 // The method that is called.
 const METHOD: u16 = 1;
 
-fn main(rt: HostRuntime) -> ExitCode {
-    match run(&rt) {
-        Ok(()) => ExitCode::from(0),
-        Err(_) => ExitCode::from(1),
-    }
-}
-
-// Reads how many lives of references are made and how often all that happened is judged, a line
-// each, and does so.
-fn run(rt: &HostRuntime) -> io::Result<()> {
-    let alloc = rt.alloc();
-    let mut lives = 0;
-    let mut times = 0;
-    for (place, line) in rt.lines(alloc).enumerate() {
-        let number = line?.as_str().parse::<u32>().unwrap_or(0);
-        if place == 0 {
-            lives = number;
-        } else {
-            times = number;
-        }
-    }
-    match live_and_judge(alloc, lives, times) {
-        Ok(Some(count)) => {
-            let text = format!(in alloc; "{count} entries: verdict yes")?;
-            rt.println(text.as_str())
-        }
-        Ok(None) => rt.println("not as it should be"),
-        Err(_) => rt.println("memory"),
-    }
-}
-
-// So many lives in a new world, judged so often: how many entries they made, where every verdict is
-// yes.
-fn live_and_judge(alloc: Global, lives: u32, times: u32) -> Result<Option<usize>, WorldError> {
-    let mut world = World::new(alloc, SPACES as u16, Limits::default())?;
-    let done = judged(alloc, &mut world, lives, times);
-    world.shut();
-    done
-}
-
-// So many lives in a world, judged so often.
-fn judged(
-    alloc: Global,
-    world: &mut World,
-    lives: u32,
-    times: u32,
-) -> Result<Option<usize>, WorldError> {
+/// So many lives, of objects of each space in turn: whether each came to its end.
+pub(crate) fn live(world: &mut World, lives: u32) -> Result<bool, WorldError> {
     for life in 0..lives {
         let place = life % SPACES;
         let owner = space_at(place);
         let client = space_at((place + 1 + life / SPACES % (SPACES - 1)) % SPACES);
         if !one_life(world, owner, client)? {
-            return Ok(None);
+            return Ok(false);
         }
     }
-    for _ in 0..times {
-        if judge(alloc, world.entries())? != Verdict::Yes {
-            return Ok(None);
-        }
-    }
-    Ok(Some(world.entries().len()))
+    Ok(true)
 }
 
-// The space at a place, counted from 0.
-fn space_at(place: u32) -> SpaceId {
+/// The space at a place, counted from 0.
+pub(crate) fn space_at(place: u32) -> SpaceId {
     match SpaceId::new((place % 32) as u16 + 1) {
         Some(space) => space,
         None => unreachable!(),
@@ -120,9 +63,15 @@ fn one_life(world: &mut World, owner: SpaceId, client: SpaceId) -> Result<bool, 
 
 // Asks a space something: its answer, where it doesn't refuse.
 fn ask(world: &mut World, space: SpaceId, event: Event) -> Result<Option<Answer>, WorldError> {
-    match world.step(&WorldStep::Do(space, event))? {
+    make(world, &WorldStep::Do(space, event))
+}
+
+// Makes a step: its answer, where its space doesn't refuse.
+fn make(world: &mut World, step: &WorldStep) -> Result<Option<Answer>, WorldError> {
+    match world.step(step) {
         Ok(answer) => Ok(Some(answer)),
-        Err(_) => Ok(None),
+        Err(WorldError::Refused(_)) => Ok(None),
+        Err(error) => Err(error),
     }
 }
 
@@ -172,7 +121,7 @@ fn carry(world: &mut World, from: SpaceId, to: SpaceId) -> Result<(), WorldError
     ask(world, from, Event::Transmit(to))?;
     let after = world.frames().len();
     for place in before..after {
-        let _ = world.step(&WorldStep::Deliver(place as u64 + 1))?;
+        make(world, &WorldStep::Deliver(place as u64 + 1))?;
     }
     for _ in 0..MOST_ITEMS {
         if ask(world, to, Event::Act(from))?.is_none() {

@@ -9,7 +9,7 @@ const MOST_LOOKERS: u64 = 1;
 /// Workers without a job: some look for an errand, and the others sleep. Who gives an errand wakes one
 /// that sleeps, unless one looks; who took an errand, and leaves others, does so too.
 #[derive(Drop)]
-pub(crate) struct Idlers {
+pub struct Idlers {
     // How many errands were given and not taken.
     errands: AtomicU64,
     // How many workers look, or are about to.
@@ -21,7 +21,8 @@ pub(crate) struct Idlers {
 }
 
 impl Idlers {
-    pub(crate) fn new() -> Idlers {
+    /// None, and no errand.
+    pub fn new() -> Idlers {
         Idlers {
             errands: AtomicU64::new(0),
             lookers: AtomicU64::new(0),
@@ -30,8 +31,8 @@ impl Idlers {
         }
     }
 
-    // An errand was given.
-    pub(crate) fn give(&self) {
+    /// An errand was given.
+    pub fn give(&self) {
         self.errands.fetch_add(1, Ordering::SeqCst);
         self.rings.fetch_add(1, Ordering::SeqCst);
         if self.lookers.load(Ordering::SeqCst) == 0 {
@@ -39,52 +40,54 @@ impl Idlers {
         }
     }
 
-    // An errand was taken. If one is left, and nobody looks, one that sleeps is woken for it.
-    pub(crate) fn take(&self) {
+    /// An errand was taken. If one is left, and nobody looks, one that sleeps is woken for it.
+    pub fn take(&self) {
         let before = self.errands.fetch_sub(1, Ordering::SeqCst);
         if before > 1 && self.lookers.load(Ordering::SeqCst) == 0 {
             self.rings.wake_one();
         }
     }
 
-    // Whether there is an errand.
-    pub(crate) fn has_errand(&self) -> bool {
+    /// Whether there is an errand.
+    pub fn has_errand(&self) -> bool {
         self.errands.load(Ordering::SeqCst) > 0
     }
 
-    // Comes to look, or says that it will. Who comes leaves, and then tries to take an errand.
-    pub(crate) fn come(&self) {
+    /// Comes to look, or says that it will. Who comes leaves, and then tries to take an errand.
+    pub fn come(&self) {
         self.lookers.fetch_add(1, Ordering::SeqCst);
     }
 
-    pub(crate) fn leave(&self) {
+    /// Looks no more.
+    pub fn leave(&self) {
         self.lookers.fetch_sub(1, Ordering::SeqCst);
     }
 
-    // Whether as many look as may.
-    pub(crate) fn is_full(&self) -> bool {
+    /// Whether as many look as may.
+    pub fn is_full(&self) -> bool {
         self.lookers.load(Ordering::SeqCst) >= MOST_LOOKERS
     }
 
-    // How often an errand was given. It is read before a try to take one that fails.
-    pub(crate) fn rings(&self) -> u64 {
+    /// How often an errand was given. It is read before a try to take one that fails.
+    pub fn rings(&self) -> u64 {
         self.rings.load(Ordering::SeqCst)
     }
 
-    // Sleeps where no errand was given since so many rings were read, until it is woken, or for no
-    // reason.
-    pub(crate) fn sleep<R: Wait>(&self, rt: &R, rings: u64) {
+    /// Sleeps where no errand was given since so many rings were read, until it is woken, or for no
+    /// reason.
+    pub fn sleep<R: Wait>(&self, rt: &R, rings: u64) {
         self.rings.park(rt, (rings % (1 << 32)) as u32);
     }
 
-    // No errand comes any more: all wake.
-    pub(crate) fn end(&self) {
+    /// No errand comes any more: all wake.
+    pub fn end(&self) {
         self.is_over.store(true, Ordering::SeqCst);
         self.rings.fetch_add(1, Ordering::SeqCst);
         self.rings.wake_all();
     }
 
-    pub(crate) fn is_over(&self) -> bool {
+    /// Whether no errand comes any more.
+    pub fn is_over(&self) -> bool {
         self.is_over.load(Ordering::SeqCst)
     }
 }
