@@ -2,6 +2,7 @@
 //! each object is withdrawn.
 
 ghost use Rattle.std.specs.Prelude.{◌≡◌, OnOk};
+ghost use Rattle.nob_notes.specs.Notes.{news_in as news_in_of};
 ghost use Rattle.nob_endings.specs.Endings as spec;
 
 use crate::askings::{claims, closes, ends_of_calls, releases, spaces_up_to, withdrawals};
@@ -24,7 +25,14 @@ pub fn end(alloc: Global, world: &mut World) -> Result<(), AllocError>
     withdraw_all(alloc, world)
 }
 
-// Rounds until one brings nothing new, or so many.
+// How many entries of a world say something new.
+fn news_of(world: &World) -> usize
+    ensures { result ≡ news_in_of world.now.entries }
+{
+    news_in(world.entries())
+}
+
+// Rounds until one brings nothing new, or so many. It recurses once for each.
 fn end_rounds(alloc: Global, world: &mut World, most: u64) -> Result<(), AllocError>
     ensures entries { OnOk result (spec.WentEndRounds most world.old.n
         world.old.entries world.new.entries) }
@@ -33,9 +41,9 @@ fn end_rounds(alloc: Global, world: &mut World, most: u64) -> Result<(), AllocEr
     if most == 0 {
         return Ok(());
     }
-    let before = news_in(world.entries());
+    let before = news_of(world);
     end_round(alloc, world)?;
-    if news_in(world.entries()) == before {
+    if news_of(world) == before {
         return Ok(());
     }
     end_rounds(alloc, world, most - 1)
