@@ -1,53 +1,37 @@
--- What one answer makes of a space's past.
-use Rattle.std.proofs.Common.{◌≡◌, ℕ, Bool, true, false, List, ◌∷◌, Result, Ok, Err, is_ok, refl, sym, ap, subst, ◌∙◌}
-use Rattle.nob_ids.specs.declared.limits.Limits.{Limits}
-use Rattle.nob_model_types.specs.declared.answer.Answer.{Answer}
-use Rattle.nob_model_types.specs.declared.refusal.Refusal.{Refusal}
-use Rattle.nob_model_types.specs.declared.event.Event.{Event}
-use Rattle.nob_model_types.specs.declared.entry.Entry.{Entry}
-use Rattle.nob_model.specs.Right.{right}
-use Rattle.nob_space_state.specs.declared.error.SpaceError.{SpaceError}
-use Rattle.nob_space_state.specs.declared.error.SpaceError.TheVariants as errors
-use Rattle.nob_space.specs.Spaces.{Owner, StandsFor, SameSpace, entry_of}
-use Rattle.nob_space.specs.Events.{StepAnswers, StepStands}
-use Rattle.nob_exchange.specs.Exchanges.{Past, Has, answer_to, asked, does}
+-- How turns of work, and carrying to and fro, are made up of single ones.
+use Rattle.std.proofs.Common.{◌≡◌, ℕ, suc, Bool, true, false, ◌||◌, if◌then◌else◌, refl, sym, subst}
+use Rattle.nob_space.specs.Spaces.{Owner}
+use Rattle.nob_exchange.specs.Exchanges.{Past, Has, Pair, HaveBoth, is_busy, cleaned, worked, most_turns, carried_both_ways, turned, talk, exchanged}
 
--- what is right for a space is what one with its past answers
-right_is : (old : Owner) (event : Event) (res : Result Answer Refusal) (past : Past) → Has old past → right old.id old.n old.limits past.entries event ≡ res → answer_to event past ≡ res
-right_is old event res past has is =
-    sym (ap (λ (x : ℕ). right x old.n old.limits past.entries event) has.id ∙ ap (λ (x : ℕ). right past.space x old.limits past.entries event) has.n ∙ ap (λ (x : Limits). right past.space past.n x past.entries event) has.limits) ∙ is
+-- either of two tests
+pub or_left : (a b : Bool) → a ≡ true → (a || b) ≡ true
+or_left true b is = refl
+or_left false b is = (let clash : false ≡ true = is in absurd (cc))
 
--- a space that stands for one entry more has that past
-has_more : (old new : Owner) (event : Event) (res : Result Answer Refusal) (past : Past) → Has old past → SameSpace old new → right old.id old.n old.limits past.entries event ≡ res → StandsFor new (entry_of old.id event res ∷ past.entries) → Has new (asked event past)
-has_more old new event res past has same is stands =
-    let entry : entry_of old.id event res ≡ entry_of past.space event (answer_to event past) = ap (λ (x : ℕ). entry_of x event res) has.id ∙ ap (λ (r : Result Answer Refusal). entry_of past.space event r) (sym (right_is old event res past has is)) in
-    record {
-      id = same.id ∙ has.id;
-      n = same.n ∙ has.n;
-      limits = same.limits ∙ has.limits;
-      stands = subst (λ (e : Entry). StandsFor new (e ∷ past.entries)) entry stands;
-    }
+pub or_right : (a b : Bool) → b ≡ true → (a || b) ≡ true
+or_right true b is = refl
+or_right false b is = is
 
--- an answer makes one entry more
-pub answered : (old new : Owner) (event : Event) (answer : Answer) → StepAnswers old event (Ok answer) → StepStands old new event (Ok answer) → SameSpace old new → (past : Past) → Has old past → Has new (asked event past)
-answered old new event answer answers stands same past has = has_more old new event (Ok answer) past has same (answers past.entries has.stands) (stands past.entries has.stands)
+pub or_none : (a b : Bool) → a ≡ false → b ≡ false → (a || b) ≡ false
+or_none true b is other = (let clash : true ≡ false = is in absurd (cc))
+or_none false b is other = other
 
--- so does a refusal
-pub refused : (old new : Owner) (event : Event) (refusal : Refusal) → StepAnswers old event (Err (errors.Refused refusal)) → StepStands old new event (Err (errors.Refused refusal)) → SameSpace old new → (past : Past) → Has old past → Has new (asked event past)
-refused old new event refusal answers stands same past has = has_more old new event (Err refusal) past has same (answers past.entries has.stands) (stands past.entries has.stands)
+-- there was nothing left to do
+pub worked_idle : (less most peer : ℕ) (owner : Owner) (past : Past) → most ≡ suc less → is_busy peer past ≡ false → Has owner (cleaned peer past) → Has owner (worked most peer past)
+worked_idle less most peer owner past counted idle has = subst (λ (k : ℕ). Has owner (worked k peer past)) (sym counted) (subst (λ (b : Bool). Has owner (if b then worked less peer (cleaned peer past) else cleaned peer past)) (sym idle) has)
 
--- what an answer is in the past's words
-pub answer_is : (old : Owner) (event : Event) (answer : Answer) → StepAnswers old event (Ok answer) → (past : Past) → Has old past → answer_to event past ≡ Ok answer
-answer_is old event answer answers past has = right_is old event (Ok answer) past has (answers past.entries has.stands)
+-- there was, and it went on
+pub worked_on : (less most peer : ℕ) (owner : Owner) (past : Past) → most ≡ suc less → is_busy peer past ≡ true → Has owner (worked less peer (cleaned peer past)) → Has owner (worked most peer past)
+worked_on less most peer owner past counted busy has = subst (λ (k : ℕ). Has owner (worked k peer past)) (sym counted) (subst (λ (b : Bool). Has owner (if b then worked less peer (cleaned peer past) else cleaned peer past)) (sym busy) has)
 
--- and a refusal
-pub refusal_is : (old : Owner) (event : Event) (refusal : Refusal) → StepAnswers old event (Err (errors.Refused refusal)) → (past : Past) → Has old past → answer_to event past ≡ Err refusal
-refusal_is old event refusal answers past has = right_is old event (Err refusal) past has (answers past.entries has.stands)
+-- two spaces, the other one first
+pub turn : (one other : Owner) (pair : Pair) → HaveBoth one other pair → HaveBoth other one (turned pair)
+turn one other pair both = record { has_one = both.has_other; has_other = both.has_one }
 
--- what is answered is done
-pub done : (old : Owner) (event : Event) (answer : Answer) → StepAnswers old event (Ok answer) → (past : Past) → Has old past → true ≡ does event past
-done old event answer answers past has = sym (ap is_ok (answer_is old event answer answers past has))
+-- neither had a frame for the other
+pub exchange_ends : (less times : ℕ) (one other : Owner) (pair : Pair) → times ≡ suc less → talk most_turns pair ≡ false → HaveBoth one other (carried_both_ways most_turns pair) → HaveBoth one other (exchanged most_turns times pair)
+exchange_ends less times one other pair counted silent both = subst (λ (k : ℕ). HaveBoth one other (exchanged most_turns k pair)) (sym counted) (subst (λ (b : Bool). HaveBoth one other (if b then exchanged most_turns less (carried_both_ways most_turns pair) else carried_both_ways most_turns pair)) (sym silent) both)
 
--- what is refused isn't
-pub not_done : (old : Owner) (event : Event) (refusal : Refusal) → StepAnswers old event (Err (errors.Refused refusal)) → (past : Past) → Has old past → false ≡ does event past
-not_done old event refusal answers past has = sym (ap is_ok (refusal_is old event refusal answers past has))
+-- one had, and it went on
+pub exchange_goes_on : (less times : ℕ) (one other : Owner) (pair : Pair) → times ≡ suc less → talk most_turns pair ≡ true → HaveBoth one other (exchanged most_turns less (carried_both_ways most_turns pair)) → HaveBoth one other (exchanged most_turns times pair)
+exchange_goes_on less times one other pair counted talks both = subst (λ (k : ℕ). HaveBoth one other (exchanged most_turns k pair)) (sym counted) (subst (λ (b : Bool). HaveBoth one other (if b then exchanged most_turns less (carried_both_ways most_turns pair) else carried_both_ways most_turns pair)) (sym talks) both)

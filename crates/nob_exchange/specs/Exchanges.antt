@@ -1,6 +1,6 @@
 -- What spaces do for one another where a program carries their frames. The newest entry of a space stands FIRST.
 use Prim.Native.Nat.{zero}
-use Rattle.std.specs.Prelude.{◌≡◌, ℕ, suc, Bool, true, false, ◌||◌, not, is_ok, List, [], ◌∷◌, Option, Some, None, Result, Ok, Err, if◌then◌else◌}
+use Rattle.std.specs.Prelude.{◌≡◌, ℕ, suc, Bool, true, false, ◌||◌, is_ok, List, [], ◌∷◌, Option, Some, None, Result, Ok, if◌then◌else◌}
 use Rattle.nob_ids.specs.declared.limits.Limits.{Limits}
 use Rattle.nob_ids.specs.declared.wire_rep.WireRep.{WireRep}
 use Rattle.nob_frame.specs.declared.frame.Frame.{Frame}

@@ -1,28 +1,58 @@
-//! Asking one space something, whatever it answers.
+//! What one space is asked, whatever it answers.
 
-ghost use Rattle.std.specs.Prelude.{◌≡◌, IfOk, OnOk, OnErr};
+ghost use Rattle.std.specs.Prelude.{◌≡◌, IfOk, OnOk};
 ghost use Rattle.nob_model_types.specs.declared.event.Event.TheVariants as events;
 ghost use Rattle.nob_space.specs.Spaces.{SameSpace};
 ghost use Rattle.nob_exchange.specs.Exchanges as spec;
 
 use nob_frame::Frame;
 use nob_ids::SpaceId;
-use nob_model::{Event, Frames};
+use nob_model::Frames;
 use nob_space::{Space, SpaceError};
 use std::alloc::AllocError;
 
 /// So many times in a row a space works at most.
 pub const MOST_TURNS: u64 = 4096;
 
-// Asks a space something: whether it does it. Only memory fails it.
-fn ask(space: &mut Space, event: &Event) -> Result<bool, AllocError>
+// Asks a space to act on an item of a peer: whether it does. Only memory fails it.
+fn act(space: &mut Space, peer: SpaceId) -> Result<bool, AllocError>
     ensures done { IfOk result (λ done. (past : spec.Past) → spec.Has space.old past
-        → done ≡ spec.does event.now past) }
+        → done ≡ spec.does (events.Act peer) past) }
     ensures has { OnOk result ((past : spec.Past) → spec.Has space.old past
-        → spec.Has space.new (spec.asked event.now past)) }
+        → spec.Has space.new (spec.asked (events.Act peer) past)) }
     ensures same { SameSpace space.old space.new }
 {
-    match space.step(event) {
+    match space.act(peer) {
+        Ok(_) => Ok(true),
+        Err(SpaceError::Refused(_)) => Ok(false),
+        Err(SpaceError::OutOfMemory) => Err(AllocError),
+    }
+}
+
+// Asks a space to settle a message: whether it does. Only memory fails it.
+fn settle(space: &mut Space) -> Result<bool, AllocError>
+    ensures done { IfOk result (λ done. (past : spec.Past) → spec.Has space.old past
+        → done ≡ spec.does events.Settle past) }
+    ensures has { OnOk result ((past : spec.Past) → spec.Has space.old past
+        → spec.Has space.new (spec.asked events.Settle past)) }
+    ensures same { SameSpace space.old space.new }
+{
+    match space.settle() {
+        Ok(_) => Ok(true),
+        Err(SpaceError::Refused(_)) => Ok(false),
+        Err(SpaceError::OutOfMemory) => Err(AllocError),
+    }
+}
+
+// Asks a space to give a surrogate up: whether it does. Only memory fails it.
+fn clean(space: &mut Space) -> Result<bool, AllocError>
+    ensures done { IfOk result (λ done. (past : spec.Past) → spec.Has space.old past
+        → done ≡ spec.does events.Clean past) }
+    ensures has { OnOk result ((past : spec.Past) → spec.Has space.old past
+        → spec.Has space.new (spec.asked events.Clean past)) }
+    ensures same { SameSpace space.old space.new }
+{
+    match space.clean() {
         Ok(_) => Ok(true),
         Err(SpaceError::Refused(_)) => Ok(false),
         Err(SpaceError::OutOfMemory) => Err(AllocError),
@@ -66,9 +96,9 @@ fn work_once(space: &mut Space, peer: SpaceId) -> Result<bool, AllocError>
         → spec.Has space.new (spec.cleaned peer past)) }
     ensures same { SameSpace space.old space.new }
 {
-    let acted = ask(space, &Event::Act(peer))?;
-    let settled = ask(space, &Event::Settle)?;
-    let cleaned = ask(space, &Event::Clean)?;
+    let acted = act(space, peer)?;
+    let settled = settle(space)?;
+    let cleaned = clean(space)?;
     Ok(acted || settled || cleaned)
 }
 

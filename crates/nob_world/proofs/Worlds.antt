@@ -1,5 +1,6 @@
 -- What one entry more leaves of a world.
 use Rattle.std.proofs.Common.{◌≡◌, ℕ, ◌+◌, ◌-◌, ◌≤◌, Bool, true, false, not, ◌==◌, List, [], ◌∷◌, ◌++◌, length, take, reverse, get_or, slice_get, Option, Some, None, Result, Ok, Err, if◌then◌else◌, ◌≢◌, refl, sym, ap, subst, ◌∙◌, arith}
+use Rattle.std.specs.Prelude.{IfErr}
 use Rattle.std.specs.List.{AllByRecursion, Contains}
 use Rattle.std.proofs.lemmas.Option.{slice_get_read, slice_get_within, get_or_from_slice_get}
 use Prim.Native.Nat.{zero, suc}
@@ -33,9 +34,9 @@ use Rattle.nob_model_safety.specs.Typed.{IsOfTypes, AreOfTypes}
 use Rattle.nob_table_rows.proofs.Flat.{get_set_other}
 use Rattle.nob_space_state.proofs.Ends.{set_here}
 use Rattle.nob_space.specs.Spaces.{Owner, StandsFor, SameSpace}
-use Rattle.nob_world.specs.Worlds.{IsSpaceOf, SpacesStand, IsWorld, world_of, entry_of, is_arrival, why_stopped}
+use Rattle.nob_world.specs.Worlds.{IsSpaceOf, SpacesStand, IsWorld, world_of, entry_of, is_arrival, outcome, why_stopped}
 use Rattle.nob_world.specs.declared.error.WorldError.{WorldError}
-use Rattle.nob_world.specs.declared.error.WorldError.TheVariants.{NoSpace, NoFrame, OutOfMemory}
+use Rattle.nob_world.specs.declared.error.WorldError.TheVariants.{Refused, NoSpace, NoFrame, OutOfMemory}
 
 -- an entry more of a space stands in its own list
 at_own : (p : ℕ) (event : Event) (result : Result Answer Refusal) (J : List Entry) → at p (entry_of p event result ∷ J) ≡ entry_of p event result ∷ at p J
@@ -226,13 +227,20 @@ placed_push holds [] x all last (suc i) y got = absurd cc
 placed_push holds (z ∷ xs) x all last zero y got = all zero y got
 placed_push holds (z ∷ xs) x all last (suc i) y got = placed_push (λ j. holds (suc j)) xs x (λ j w there. all (suc j) w there) last i y got
 
--- what a step that made no entry gave
-abbrev pub stopped_by : WorldError → Result (Result Answer Refusal) WorldError
-stopped_by error = Err error
-
 -- why a step made no entry, by when each reason comes
-pub why_is : (wrong : Option WorldError) (error : WorldError) → ((fault : WorldError) → wrong ≡ Some fault → stopped_by error ≡ stopped_by fault) → (error ≢ OutOfMemory → wrong ≡ Some error) → error ≡ why_stopped wrong
-why_is (Some fault) error exact only = let same : stopped_by error ≡ stopped_by fault = exact fault refl in cc
-why_is None NoSpace exact only = absurd (let wrong : None ≡ Some NoSpace = only (λ same. cc) in cc)
-why_is None NoFrame exact only = absurd (let wrong : None ≡ Some NoFrame = only (λ same. cc) in cc)
-why_is None OutOfMemory exact only = refl
+pub why_is : (wrong : Option WorldError) (error : WorldError) (r : Result Answer WorldError) → ((fault : WorldError) → wrong ≡ Some fault → r ≡ Err fault) → outcome r ≡ Err error → IfErr (outcome r) (λ e. e ≢ OutOfMemory → wrong ≡ Some e) → error ≡ why_stopped wrong
+why_is wrong error (Ok answer) exact is only = absurd cc
+why_is wrong error (Err (Refused refusal)) exact is only = absurd cc
+why_is wrong error (Err NoSpace) exact is only =
+    let told : wrong ≡ Some NoSpace = only (λ same. absurd cc) in
+    let same : error ≡ NoSpace = cc in
+    same ∙ sym (ap why_stopped told)
+why_is wrong error (Err NoFrame) exact is only =
+    let told : wrong ≡ Some NoFrame = only (λ same. absurd cc) in
+    let same : error ≡ NoFrame = cc in
+    same ∙ sym (ap why_stopped told)
+why_is (Some fault) error (Err OutOfMemory) exact is only =
+    let told : Err OutOfMemory ≡ Err fault = exact fault refl in
+    let same : error ≡ OutOfMemory = cc in
+    same ∙ (let last : OutOfMemory ≡ fault = cc in last)
+why_is None error (Err OutOfMemory) exact is only = let same : error ≡ OutOfMemory = cc in same

@@ -12,7 +12,7 @@ use crate::error::WorldError;
 use crate::making::take_step;
 use nob_frame::Frame;
 use nob_ids::{Limits, SpaceId};
-use nob_model::{Answer, Entry, WorldStep};
+use nob_model::{Answer, Entry, Refusal, WorldStep};
 use nob_space::Space;
 use std::alloc::{AllocError, Global};
 use std::marker::Model;
@@ -176,8 +176,8 @@ impl World {
         // A look at a field shows the invariant, so that no step at all is safe too.
         let _ = &self.n;
         for (place, step) in steps.iter().enumerate() {
-            match self.step(step) {
-                Ok(_) | Err(WorldError::Refused(_)) => {}
+            match outcome(self.step(step)) {
+                Ok(_) => {}
                 Err(error) => return Err((place, error)),
             }
         }
@@ -195,6 +195,19 @@ impl World {
             frames: _frames,
         } = self;
         shut_all(spaces);
+    }
+}
+
+// What a step came to: what its space answered or why it refused, or why it made no entry.
+fn outcome(told: Result<Answer, WorldError>) -> Result<Result<Answer, Refusal>, WorldError>
+    ensures { result ≡ spec.outcome told }
+{
+    match told {
+        Ok(answer) => Ok(Ok(answer)),
+        Err(WorldError::Refused(refusal)) => Ok(Err(refusal)),
+        Err(WorldError::NoSpace) => Err(WorldError::NoSpace),
+        Err(WorldError::NoFrame) => Err(WorldError::NoFrame),
+        Err(WorldError::OutOfMemory) => Err(WorldError::OutOfMemory),
     }
 }
 

@@ -1,7 +1,9 @@
-use Rattle.std.proofs.Common.{◌≡◌, List, Option, Some, length, slice_get, refl, sym, ap, subst, ◌∙◌}
+use Rattle.std.proofs.Common.{◌≡◌, List, Option, Some, Result, Err, OnErr, length, slice_get, refl, sym, ap, subst, ◌∙◌}
 use Rattle.std.proofs.lemmas.Option.{slice_get_read}
 use Rattle.nob_frame.specs.declared.frame.Frame.{Frame}
-use Rattle.nob_world.specs.Worlds.{World, IsSafe, journal, world_of, step_fault, why_stopped}
+use Rattle.nob_model_types.specs.declared.answer.Answer.{Answer}
+use Rattle.nob_model_types.specs.declared.refusal.Refusal.{Refusal}
+use Rattle.nob_world.specs.Worlds.{World, IsSafe, journal, outcome, world_of, step_fault, why_stopped}
 use Rattle.nob_world.specs.declared.error.WorldError.{WorldError}
 use Rattle.nob_world.proofs.Safe.{safe}
 use Rattle.nob_world.proofs.Worlds.{why_is}
@@ -17,11 +19,12 @@ loop-place-init c = record {
 
 pub returns-in-Err-clause-stopped : goal.returns-in-Err-clause-stopped
 returns-in-Err-clause-stopped c =
-    let told = c.in-Err.ensures {u = tt} in
+    let told : outcome c.step.result ≡ Err c.in-Err.error = sym c.outcome.ensures ∙ c.in-Err.is in
+    let kept : c.step.new.self.frames ≡ c.loop-place.self.frames = subst (λ (r : Result (Result Answer Refusal) WorldError). OnErr r (c.step.new.self.frames ≡ c.loop-place.self.frames)) told c.step.ensures.err_frames in
     let there : slice_get c.args.steps.now c.loop-place.place ≡ Some c.index-steps-place.result = slice_get_read c.args.steps.now (length c.args.steps.now) c.loop-place.place c.index-steps-place.result refl c.loop-place-test.true c.index-steps-place.is in
     let faults : step_fault c.step.new.self.n c.step.new.self.frames c.index-steps-place.result ≡ step_fault c.loop-place.self.n c.loop-place.self.frames c.index-steps-place.result =
-    ap (λ n. step_fault n c.step.new.self.frames c.index-steps-place.result) c.step.ensures.n ∙ ap (λ (frames : List Frame). step_fault c.loop-place.self.n frames c.index-steps-place.result) told.err_frames in (
+    ap (λ n. step_fault n c.step.new.self.frames c.index-steps-place.result) c.step.ensures.n ∙ ap (λ (frames : List Frame). step_fault c.loop-place.self.n frames c.index-steps-place.result) kept in (
       c.index-steps-place.result,
       there,
-      subst (λ (wrong : Option WorldError). c.in-Err.error ≡ why_stopped wrong) (sym faults) (why_is (step_fault c.loop-place.self.n c.loop-place.self.frames c.index-steps-place.result) c.in-Err.error told.fault told.only),
+      subst (λ (wrong : Option WorldError). c.in-Err.error ≡ why_stopped wrong) (sym faults) (why_is (step_fault c.loop-place.self.n c.loop-place.self.frames c.index-steps-place.result) c.in-Err.error c.step.result c.step.ensures.fault told c.step.ensures.only),
     )
