@@ -1,0 +1,57 @@
+//! What a space could do next, by the definitions.
+
+use nob_ids::SpaceId;
+use nob_model::next::{can_act, can_claim, can_clean, can_send, can_settle, to_withdraw};
+use nob_model::{Here, History};
+use nob_space::Work;
+use std::alloc::{AllocError, Global};
+
+/// What a space with this history could do next. Only memory fails it.
+pub fn work_of(
+    alloc: Global,
+    here: &Here,
+    window: u64,
+    history: &History,
+) -> Result<Work, AllocError> {
+    let act = acts_of(alloc, here, history)?;
+    let send = sends_of(alloc, here, window, history)?;
+    let settle = can_settle(alloc, here, history)?;
+    let clean = can_clean(alloc, here, history)?;
+    let claim = can_claim(history);
+    let withdraw = to_withdraw(alloc, here.space, history)?;
+    Ok(Work {
+        act,
+        send,
+        settle,
+        clean,
+        claim,
+        withdraw,
+    })
+}
+
+// Whether there is an item to act on, from each space.
+fn acts_of(alloc: Global, here: &Here, history: &History) -> Result<[bool; 32], AllocError> {
+    let mut all = [false; 32];
+    for place in 0..32 {
+        if let Some(peer) = SpaceId::new(place as u16 + 1) {
+            all[place] = can_act(alloc, here, peer, history)?;
+        }
+    }
+    Ok(all)
+}
+
+// Whether a Transmit would give a frame, to each space.
+fn sends_of(
+    alloc: Global,
+    here: &Here,
+    window: u64,
+    history: &History,
+) -> Result<[bool; 32], AllocError> {
+    let mut all = [false; 32];
+    for place in 0..32 {
+        if let Some(peer) = SpaceId::new(place as u16 + 1) {
+            all[place] = can_send(alloc, here, peer, window, history)?;
+        }
+    }
+    Ok(all)
+}
