@@ -3,16 +3,13 @@
 //! each object must have been withdrawn.
 #![tactic(auto)]
 
-mod ending;
-mod facts;
-
-use crate::ending::end;
-use crate::facts::Facts;
 use nob_check::judge;
-use nob_choices::random_step;
+use nob_choices::{known_of, random_step};
+use nob_endings::end;
 use nob_ids::Limits;
 use nob_model::WorldStep;
 use nob_model_journal::{Promise, Verdict};
+use nob_notes::facts_of;
 use nob_random::Words;
 use nob_world::{World, WorldError};
 use std::alloc::{AllocError, Global};
@@ -30,8 +27,8 @@ const STEPS: u64 = 400;
 struct Trial {
     verdict: Verdict,
     // How many objects can't be withdrawn at the end.
-    kept: u64,
-    // Whether calls, replies, settlements, cleanings and withdrawals have all come in it.
+    kept: usize,
+    // Whether replies, settlements, cleanings and withdrawals have all come in it.
     is_busy: bool,
 }
 
@@ -89,26 +86,25 @@ fn text_of(alloc: Global, seed: u64, trial: &Trial) -> Result<String, AllocError
 fn trial_of(alloc: Global, seed: u64) -> Result<Trial, AllocError> {
     let n = if seed % 2 == 0 { 4 } else { 3 };
     let mut world = World::new(alloc, n, Limits::default())?;
-    let trial = trial_in(alloc, &mut world, n, seed);
+    let trial = trial_in(alloc, &mut world, seed);
     world.shut();
     trial
 }
 
-// Tries the list of a seed in a new world of so many spaces.
-fn trial_in(alloc: Global, world: &mut World, n: u16, seed: u64) -> Result<Trial, AllocError> {
-    let mut facts = Facts::new(alloc, n);
+// Tries the list of a seed in a new world.
+fn trial_in(alloc: Global, world: &mut World, seed: u64) -> Result<Trial, AllocError> {
     let mut words = Words::new(seed);
     for _ in 0..STEPS {
+        let known = known_of(alloc, world.n(), world.entries())?;
         let frames = world.frames().len() as u64;
-        let step = random_step(alloc, &mut words, &facts.known, frames)?;
+        let step = random_step(alloc, &mut words, &known, frames)?;
         make(world, &step)?;
-        facts.note_new(world.entries())?;
     }
-    let withdrawn = end(world, &mut facts)?;
-    let exported = facts.known.objects.len() as u64;
+    end(alloc, world)?;
+    let facts = facts_of(world.entries());
     Ok(Trial {
         verdict: judge(alloc, world.entries())?,
-        kept: exported.saturating_sub(withdrawn),
+        kept: facts.kept(),
         is_busy: facts.is_busy(),
     })
 }
