@@ -1,6 +1,6 @@
 -- What is added to the entries of a world, which stand oldest first, where what began there is ended.
 use Prim.Native.Nat.{zero}
-use Rattle.std.specs.Prelude.{◌≡◌, ◌==◌, ℕ, suc, Bool, true, false, List, [], ◌∷◌, ◌++◌, map, flat_map}
+use Rattle.std.specs.Prelude.{◌≡◌, ◌==◌, ℕ, suc, Bool, true, false, List, [], ◌∷◌, ◌++◌, map}
 use Rattle.nob_ids.specs.declared.wire_rep.WireRep.{WireRep}
 use Rattle.nob_model_types.specs.declared.event.Outcome.TheVariants as outcomes
 use Rattle.nob_model_types.specs.declared.event.Event.{Event}
