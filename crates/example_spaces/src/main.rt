@@ -1,5 +1,4 @@
-//! The program `example_spaces`: three spaces in one thread. Space 1 hands out a reference to an object,
-//! space 2 passes it on to space 3, each drops it, and only then can space 1 withdraw the object.
+//! The program `example_spaces`: the life of one reference among three spaces in one thread.
 #![tactic(auto)]
 
 use nob_exchange::{agent_of, exchange, with_three};
@@ -9,23 +8,27 @@ use nob_pickle::Value;
 use nob_space::{Space, SpaceError};
 use std::process::ExitCode;
 
+type Tries = [Result<(), Refusal>; 4];
+
 fn main(rt: HostRuntime) -> ExitCode {
     let said = match with_three(rt.alloc(), Limits::default(), play) {
-        Ok([Err(sent), Err(held), Err(passed), Ok(())]) => {
-            println!(&rt; "{sent}\n{held}\n{passed}\nwithdrawn")
-        }
-        Ok(_) => println!(&rt; "not as it should be"),
+        Ok(tries) => say(&rt, &tries),
         Err(error) => println!(&rt; "it failed: {error}"),
     };
     ExitCode::from(u8::from(said.is_err()))
 }
 
-// The life of one reference: what space 1 is answered each time that it tries to withdraw the object.
-fn play(
-    one: &mut Space,
-    two: &mut Space,
-    three: &mut Space,
-) -> Result<[Result<(), Refusal>; 4], SpaceError> {
+fn say(rt: &HostRuntime, tries: &Tries) -> std::io::Result<()> {
+    match tries {
+        [Err(sent), Err(held), Err(passed), Ok(())] => println!(rt;
+            "{sent}\n{held}\n{passed}\nwithdrawn"
+        ),
+        _ => println!(rt; "not as it should be"),
+    }
+}
+
+// What space 1 is answered each time that it tries to withdraw the object.
+fn play(one: &mut Space, two: &mut Space, three: &mut Space) -> Result<Tries, SpaceError> {
     // Space 1 makes an object, hands a reference to it to space 2, and keeps none itself.
     let object = one.export()?;
     let call = one.call(&agent_of(two), 1, &Value::Ref(object))?;
@@ -41,7 +44,7 @@ fn play(
     one.take_reply(call)?;
     let held = one.withdraw(object.index);
 
-    // Space 2 passes it on to space 3 and drops its own.
+    // Space 2 passes it on to space 3 and drops its own; that drops it where its call ends.
     two.call(&agent_of(three), 1, &Value::Ref(object))?;
     two.release(&object)?;
     exchange(two, three)?;
@@ -49,8 +52,6 @@ fn play(
     exchange(two, three)?;
     exchange(one, two)?;
     let passed = one.withdraw(object.index);
-
-    // Space 3 drops it where its call ends.
     let job = three.claim()?;
     three.finish(job.job, &Outcome::Answer(Value::Unit))?;
     exchange(one, three)?;
