@@ -23,7 +23,7 @@ pub record Ends : Type 0 where
 abbrev pub ends_of : End → End → List Frame → Ends
 ends_of first second frames = record { first = first; second = second; frames = frames }
 
--- the two ends between the spaces 1 and 2 with these limits stand for a list of calls if it is a run of a pair, each end stands for the calls on it, and the frames are those that the run gave
+-- two ends with these limits stand for a list of calls if it is a run of a pair, each stands for its own, and the frames are those given
 pub record PairStands (limits : Limits) (ends : Ends) (J : List PairEntry) : Type 0 where
   pub first : Stands 1 2 limits ends.first (first_calls J)
   pub second : Stands 2 1 limits ends.second (second_calls J)

@@ -1,7 +1,7 @@
 -- What a scene is: spaces in threads of one process, of which the first exports a counter that the others call.
 use Rattle.std.specs.Prelude.{◌≤◌, ℕ, Bool}
 
--- the numbers of a scene: how many spaces, workers of each and calls in all, how many frames of ten are lost, where the chances start, and whether the traces are printed
+-- a scene: its spaces, the workers of each, calls in all, frames of ten that are lost, where chances start, and whether traces are printed
 pub record Setting : Type 0 where
   pub spaces : ℕ
   pub workers : ℕ

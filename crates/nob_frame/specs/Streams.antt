@@ -32,7 +32,7 @@ IsCut rest = frame_at rest ≡ Err faults.Short
 abbrev pub IsBroken : List ℕ → FrameFault → Type 0
 IsBroken rest fault = (frame_at rest ≡ Err fault) × (fault ≢ faults.Short) × (fault ≢ faults.Trailing)
 
--- what a push gives and leaves: the frames before a rest that is cut off, which is kept; or the fault of a rest that is broken; and after a fault the same
+-- what a push gives and leaves: the frames before a cut-off rest, which is kept; or the fault of a broken rest; and after a fault the same
 abbrev pub Pushes : Kept → List ℕ → Result (List Frame) FrameFault → Kept → Type 0
 Pushes (Ok kept) piece (Ok frames) (Ok rest) = Splits (kept ++ piece) frames rest × IsCut rest
 Pushes (Ok kept) piece (Err fault) (Err met) = (met ≡ fault) × (frames : List Frame) × (rest : List ℕ) × Splits (kept ++ piece) frames rest × IsBroken rest fault
@@ -63,7 +63,7 @@ abbrev pub kept_of : Option FrameFault → List ℕ → Kept
 kept_of None kept = Ok kept
 kept_of (Some fault) kept = Err fault
 
--- what is true of a Feed: it keeps a rest that is cut off, and knows how many bytes that wants; or it met a fault that no more bytes mend, and keeps nothing
+-- what is true of a Feed: it keeps a cut-off rest, and knows how many bytes that wants; or it met a lasting fault, and keeps nothing
 abbrev pub IsSound : Option FrameFault → List ℕ → ℕ → Type 0
 IsSound None kept wanted = IsCut kept × (wanted ≡ wanted_by kept)
 IsSound (Some fault) kept wanted = (fault ≢ faults.Short) × (fault ≢ faults.Trailing) × (kept ≡ [])

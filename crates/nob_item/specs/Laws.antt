@@ -11,6 +11,6 @@ use Rattle.nob_item.specs.declared.item.Item.{Item}
 abbrev pub OneItem : Type 0
 OneItem = (bytes : List ℕ) (item twin : Item) → Spelt bytes item → Spelt bytes twin → item ≡ twin
 
--- the counted references of an item are the references in its value whose index isn't 0, each as often as it stands there and in that order; a note has none
+-- the counted references of an item are those in its value with an index other than 0, in their order, repeats too; a note has none
 abbrev pub CountedAreRefs : Type 0
 CountedAreRefs = ((item : Item) (value : Value) → value_in item ≡ Some value → counted_in item ≡ filter is_counted (refs_in value)) × ((item : Item) → value_in item ≡ None → counted_in item ≡ [])

@@ -94,7 +94,7 @@ calls_made (_ ∷ D) = calls_made D
 abbrev pub is_last_call : History → Bool
 is_last_call h = nat_le most_calls (length h.work.calls) || nat_le last_number (calls_made h.deeds)
 
--- Call: the next number of a call, unless there is no such peer, its session has closed here, the target isn't held, the value may not be sent, a limit is reached, or the session takes no item more
+-- Call: the call's number, unless there is no peer, it closed here, the target isn't held, a value or limit forbids, or the session is full
 unfoldable pub right_call : (s n : ℕ) → WireRep → Value → History → Result Answer Refusal
 right_call s n target value h = unless (refuse_if (not (is_peer s n target.owner)) refusals.NoPeer or_else refuse_if (closed target.owner h.deeds) refusals.Closed or_else refuse_if (is_counted target && not (is_held s target h)) refusals.NotHeld or_else value_refused s h value or_else refuse_if (is_last_call h) refusals.Limit or_else send_refused target.owner Limited h) (answers.Called (calls_made h.deeds + 1))
 

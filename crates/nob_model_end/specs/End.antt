@@ -92,7 +92,7 @@ owes_after BadItem = true
 owes_after BadReference = true
 owes_after OutOfPlace = true
 
--- whether a Close frame is owed: from a close for another reason than the peer's, or from a frame that isn't a Close and arrived at the closed end, to the next transmit
+-- whether a Close is owed: from a close that is not for the peer's, or a non-Close that arrived at the closed end, to the next transmit
 abbrev pub owes_close : List EndEntry → Bool
 owes_close [] = false
 owes_close (Arrive frame (Ok (arrived.Took k)) ∷ L) = owes_close L || (not (is_open L) && not (is_close frame.kind))

@@ -33,7 +33,7 @@ abbrev pub ArrivesFrom : List Frame → EndEntry → Type 0
 ArrivesFrom frames (Arrive frame answer) = Contains frames frame
 ArrivesFrom frames (_) = Unit {0}
 
--- a run of two ends between the spaces a and b: each answer is the right one on the calls of that end before, and each arriving frame was given by an earlier transmit of the other end. A frame that never arrives is lost; one may arrive any number of times, in any order
+-- a run of two ends: each answer is right after the calls of that end before, and each arriving frame was transmitted by the other end before
 abbrev pub PairRun : (a b : ℕ) → (at_a at_b : Limits) → List PairEntry → Type 0
 PairRun a b at_a at_b [] = Unit {0}
 PairRun a b at_a at_b (First entry ∷ J) = PairRun a b at_a at_b J × IsRight a b at_a entry (first_calls J) × ArrivesFrom (transmitted_frames (second_calls J)) entry
@@ -52,7 +52,7 @@ told_item (Front answer ∷ L) = answer
 told_item (Take ∷ L) = None
 told_item (_ ∷ L) = told_item L
 
--- the items that were taken at an end, each with the number that `front` told before, the first first. Where `front` told none, it is the first that waits
+-- the items taken at an end, the first first, each with the number that `front` told before; where it told none, the first that waits
 abbrev pub taken_items : List EndEntry → List (ℕ × List ℕ)
 taken_items [] = []
 taken_items (Take ∷ L) = taken_items L ++ option_to_list (option_or (told_item L) (right_front L))
@@ -73,7 +73,7 @@ TakesWhileOpen [] = Unit {0}
 TakesWhileOpen (Take ∷ L) = IsTrue (is_open L) × TakesWhileOpen L
 TakesWhileOpen (_ ∷ L) = TakesWhileOpen L
 
--- the fronts of a pair: what was taken at each end, with the numbers that `front` told, is a beginning of what `send` of the other end took, with the numbers that it told, every item once and in order; these numbers are 1, 2, ..; and nothing is taken after that end closed
+-- what each end took, with its numbers, is a beginning of what the other sent, numbered 1, 2, .., each once; and none after that end's close
 pub record PairFronts (J : List PairEntry) : Type 0 where
   pub at_second : IsBeginning (taken_items (second_calls J)) (handed_items (first_calls J))
   pub at_first : IsBeginning (taken_items (first_calls J)) (handed_items (second_calls J))
@@ -86,7 +86,7 @@ pub record PairFronts (J : List PairEntry) : Type 0 where
 abbrev pub PairLaw : Type 0
 PairLaw = (a b : ℕ) (at_a at_b : Limits) (J : List PairEntry) → PairRun a b at_a at_b J → PairFronts J
 
--- how far the items of one end came: those that the other accepted are a beginning of those that were handed, the highest number that was transmitted lies between, and what is acknowledged was accepted
+-- how far an end's items came: accepted ones are a beginning of the handed, the highest transmitted lies between, the acknowledged were accepted
 pub record Reaches (sender receiver : List EndEntry) : Type 0 where
   pub front : IsBeginning (accepted receiver) (handed sender)
   pub acknowledged_accepted : lowest sender ≤ length (accepted receiver) + 1

@@ -66,7 +66,7 @@ abbrev pub closed_frames : (me peer ack : ℕ) → Bool → Option Reason → Li
 closed_frames me peer ack owes None = []
 closed_frames me peer ack owes (Some reason) = if owes then close_frame me peer ack reason ∷ [] else []
 
--- `transmit`: of an open end the unacknowledged items from the lowest on, at most a window of them, or an Ack if a Data frame arrived since the last transmit; of a closed end the Close that it owes. Each frame's `ack` is one more than the number of accepted items
+-- `transmit`: an open end gives a window of unacknowledged items, or an Ack if Data arrived since the last; a closed end the Close that it owes
 abbrev pub right_transmit : (me peer window : ℕ) → List EndEntry → List Frame
 right_transmit me peer window L =
     if is_open L then open_frames me peer (length (accepted L) + 1) (lowest L) (data_arrived L) (take window (unacknowledged L))
@@ -80,7 +80,7 @@ is_of_pair me peer frame = (frame.from == peer) && (frame.to == me)
 abbrev pub is_accepted : Frame → List EndEntry → Bool
 is_accepted frame L = is_data frame.kind && (frame.seq == length (accepted L) + 1) && nat_le frame.seq last_item && nat_lt (length (waiting L)) inbox_limit
 
--- `arrive`: a frame of another pair is refused; a closed end takes nothing; a Close closes with reason 2, an `ack` of what was never transmitted with reason 4; else the item is accepted or ignored
+-- `arrive`: another pair's frame is refused; a closed end takes nothing; a Close or a wrong `ack` closes; else the item is accepted or ignored
 abbrev pub right_arrive : (me peer : ℕ) → Frame → List EndEntry → Result Arrived EndRefusal
 right_arrive me peer frame L =
     if not (is_of_pair me peer frame) then Err refusal.Strange

@@ -8,7 +8,7 @@ use Rattle.nob_model_words.specs.declared.deed.Deed.TheVariants.{Act}
 use Rattle.nob_model_words.specs.Sessions.{closed, item_at}
 use Rattle.nob_model_words.specs.Objects.{is_live}
 
--- whether a client's last Dirty or Clean for an index is a Dirty that was answered by DirtyOk, after an item from it: a Dirty is answered so if the object is live
+-- whether a client's last Dirty or Clean for an index is a Dirty from an item, answered by DirtyOk since the object was live
 abbrev pub is_entered_after : (s index : ℕ) → Option Item → List Deed → Bool → Bool
 is_entered_after s index None D before = before
 is_entered_after s index (Some (items.Call call target method value)) D before = before

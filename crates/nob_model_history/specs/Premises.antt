@@ -14,7 +14,7 @@ use Rattle.nob_model_history.specs.Histories.{history_of}
 use Rattle.nob_model_history.specs.Ends.{calls_at}
 use Rattle.nob_model_history.specs.Transit.{count_to, sent, is_settle_of}
 
--- a deed accepts the next item or none: a frame that was accepted took one item, is a Data frame, and its number is one more than what was accepted from its sender before
+-- a deed accepts no item, or the next: by a Data frame that took one, whose number is one more than was accepted from its sender before
 abbrev pub AcceptsNext : (s n : ℕ) → Deed → List Deed → Type 0
 AcceptsNext s n (Arrive frame (suc k)) D = (k ≡ 0) × (is_data frame.kind ≡ true) × (frame.seq ≡ length (accepted (calls_at frame.from (history_of s n D))) + 1)
 AcceptsNext s n (_) D = ⊤

@@ -46,7 +46,7 @@ is_pending t = t.asks && t.answers + 1 == t.dirties
 abbrev pub is_standing : Turns → Bool
 is_standing t = is_pending t || is_granted t || is_refused t
 
--- whether a reference gets a Dirty when space s acts on an item that carries it: it has no surrogate, and its owner is a peer on a session that is open here
+-- whether a reference gets a Dirty when space s acts on its item: it has no surrogate, and its owner is a peer on a session open here
 abbrev pub wants_dirty : (s n : ℕ) → WireRep → List Deed → Turns → Bool
 wants_dirty s n rep D before = is_peer s n rep.owner && not (closed rep.owner D) && not (is_standing before)
 

@@ -73,7 +73,7 @@ abbrev pub is_none_of : {A : Type 0} → List A → Bool
 is_none_of [] = true
 is_none_of (x ∷ xs) = false
 
--- a message that was acted on, by its item: without counted references a Call is a ready job and a Reply is ready at once, else they wait; a Reply answers its call
+-- a message acted on: without counted references a Call is a ready job and a Reply is ready, else they wait; a Reply answers its call
 unfoldable pub after_message : Message → Item → InHand → InHand
 after_message message (items.Call call target method value) work = if is_none_of message.copies then make_ready message work else wait message work
 after_message message (items.Reply call status value) work = with_calls (call_after_reply message.from call) (if is_none_of message.copies then make_reply message work else wait message work)
@@ -144,7 +144,7 @@ after_end k work = record { waiting = work.waiting; ready = work.ready; running 
 unfoldable pub after_call : (p k : ℕ) → InHand → InHand
 after_call p k work = record { waiting = work.waiting; ready = work.ready; running = work.running; replies = work.replies; calls = work.calls ++ record { call = k; to = p; stage = stages.Sent } ∷ [] }
 
--- after the session with p closed: its messages that wait and its ready jobs are thrown away, and calls to it that have no ready reply end; what runs goes on, and ready replies stay
+-- after the session with p closed: its waiting messages and ready jobs are gone, calls without a ready reply end; what runs goes on
 unfoldable pub after_close : ℕ → InHand → InHand
 after_close p work = record { waiting = filter (is_not_from p) work.waiting; ready = filter (is_not_from p) work.ready; running = work.running; replies = work.replies; calls = map (call_after_close p work.replies) work.calls }
 

@@ -99,7 +99,7 @@ pub data Step (before after : State) : Type 0 where
   -- the sleeper wakes for no reason
   stirs : before.sleeper ≡ Sleeps → after ≡ record before { sleeper = Up } → Step before after
 
--- a run of n threads beside the sleeper, the latest state first: it begins with the opening state, and each other state comes after the one before by a step
+-- a run of n threads beside the sleeper, the latest state first: it begins with the opening state, and each other follows by a step
 abbrev pub IsRun : ℕ → List State → Type 0
 IsRun n [] = ⊥
 IsRun n (s ∷ []) = s ≡ opening n

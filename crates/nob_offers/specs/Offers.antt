@@ -14,7 +14,7 @@ pub data Stand : Type 0 where
   -- it has given the turn back, which began when so much was handed, and not looked yet
   Gave : ℕ → Stand
 
--- the counter of what was handed; whether the lock is held; of each turn that was given back, how much was handed when it began, the latest first; where each thread stands
+-- what was handed; whether the lock is held; how much was handed when each turn given back began, the latest first; where each thread stands
 pub record State : Type 0 where
   pub handed : ℕ
   pub held : Bool
@@ -52,7 +52,7 @@ pub data Step (t : ℕ) (before after : State) : Type 0 where
   -- it looks, and finds that the counter has moved: it offers again
   finds_more : (began : ℕ) → StandsAt before t (Gave began) → before.handed ≢ began → after ≡ record before { threads = set before.threads t Owes } → Step t before after
 
--- a run of n threads, the latest state first: it begins with the opening state, and each other state comes after the one before by a step of some thread
+-- a run of n threads, the latest state first: it begins with the opening state, and each other follows by a step of some thread
 abbrev pub IsRun : ℕ → List State → Type 0
 IsRun n [] = ⊥
 IsRun n (s ∷ []) = s ≡ opening n

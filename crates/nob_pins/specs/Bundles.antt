@@ -17,7 +17,7 @@ pub record Table : Type 0 where
   pub bundles : List Pinned
   pub room : ℕ
 
--- whether a bundle of these references to this peer takes no memory. Which room that is, callers don't see: in this form it is any peer's and any references'
+-- whether a bundle of these references to this peer takes no memory; in this form that room is any peer's and any references'
 unfoldable pub has_room : Table → ℕ → List WireRep → Bool
 has_room table peer reps = nat_lt 0 table.room
 

@@ -39,7 +39,7 @@ with_item e payload =
       owes_close = e.owes_close;
     }
 
--- the frames that a transmit gives: of an open end the unacknowledged items from the lowest on, at most a window of them, or an Ack if one is due; of a closed end the Close that it owes
+-- what a transmit gives: of an open end a window of unacknowledged items, or an Ack if one is due; of a closed end the Close that it owes
 abbrev pub frames_of : End → List Frame
 frames_of e =
     if is_open_end e then open_frames e.me e.peer (e.accepted + 1) e.lowest e.data_arrived (take e.limits.window e.unacknowledged)

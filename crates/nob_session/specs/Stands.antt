@@ -77,7 +77,7 @@ closed_end e reason =
       owes_close = word.owes_after reason;
     }
 
--- an open end that has heard a Data or Ack frame: what the frame acknowledges is kept no longer, and if that is something new the ticks are counted anew
+-- an open end that has heard a Data or Ack frame: it keeps what is not yet acknowledged, and its ticks start anew if some newly is
 abbrev pub heard : End → Frame → End
 heard e frame =
     record {

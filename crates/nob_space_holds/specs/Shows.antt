@@ -16,7 +16,7 @@ use Rattle.nob_model_history.specs.Holds.{times, hand, lent_in}
 use Rattle.nob_model_history.specs.Transit as transit
 use Rattle.nob_model.specs.Right.{own_ref}
 
--- how a reference to another space's object stands: while the session with its owner is open here by what was asked and answered, and then lost as long as it is held
+-- how another space's reference stands: while its owner's session is open here by what was asked and answered, then lost while held
 abbrev pub far_state : (has_closed has_holds : Bool) → Turns → TableState
 far_state true has_holds t = if has_holds then states.Lost else states.Unknown
 far_state false has_holds t = if is_pending t then states.Pending else if is_granted t then states.Granted else if is_refused t then states.Refused else states.Unknown

@@ -27,7 +27,7 @@ abbrev pub FrontWants : Option (ℕ × List ℕ) → Type 0
 FrontWants None = ⊥
 FrontWants (Some front) = IsTrue (wants_memory front.1)
 
--- a result is the right one for the item at this front, unless memory was wanted: then nothing else refuses the event, or it was wanted to read the item, whatever that is
+-- a result is right for the item at this front, unless memory was wanted: to read the item, or where nothing else refuses the event
 abbrev pub ActsOrWants : Option (ℕ × List ℕ) → Result ActResult SpaceError → Result Answer Refusal → Type 0
 ActsOrWants front (Ok done) right = right ≡ Ok (act_answer done)
 ActsOrWants front (Err (errors.Refused refusal)) right = right ≡ Err refusal

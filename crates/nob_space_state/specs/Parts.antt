@@ -7,7 +7,7 @@ use Rattle.nob_pins.specs.Bundles as pins
 use Rattle.nob_model_work.specs.declared.work.InHand.{InHand}
 use Rattle.nob_space_state.specs.declared.parts.Parts.{Parts}
 
--- what a space keeps: its ends of the sessions, at place p - 1 the one with space p; its objects and surrogates; who is listed for its objects; the pins of what it sent; the work in hand; and how many calls and jobs were made
+-- what a space keeps: sessions, the one with space p at place p - 1; objects and surrogates; clients; pins; work in hand; how many calls and jobs
 pub record State : Type 0 where
   pub sessions : List Roomy
   pub table : Table
