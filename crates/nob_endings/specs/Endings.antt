@@ -67,7 +67,7 @@ withdrawals objects = map (λ (rep : WireRep). to_ask rep.owner (events.Withdraw
 abbrev pub ClosedOtherEnds : ℕ → List Entry → List Entry → Type 0
 ClosedOtherEnds n old new = AskedEach n (closes (closed_ends old)) old new
 
--- each space claimed jobs until there were none
+-- each space claimed jobs until it was refused, 4,096 times at most
 abbrev pub ClaimedAll : ℕ → List Entry → List Entry → Type 0
 ClaimedAll n old new = AskedEachUntilRefused n (claims (spaces_of n)) old new
 
