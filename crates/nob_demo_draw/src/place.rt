@@ -28,15 +28,13 @@ fn is_at(space: SpaceId, place: usize, entry: &Entry, older: &[Entry]) -> bool
 fn row_of(space: SpaceId, place: usize, journal: &[Entry]) -> Option<usize>
     ensures { result ≡ spec.row_of space place journal.now }
 {
-    match journal {
-        [] => None,
-        [entry, older @ ..] => {
-            if is_at(space, place, entry, older) {
-                return Some(older.len() + 1);
-            }
-            row_of(space, place, older)
+    for newer in 0..journal.len() {
+        let older = journal.split_at(newer + 1).1;
+        if is_at(space, place, &journal[newer], older) {
+            return Some(older.len() + 1);
         }
     }
+    None
 }
 
 // The row of the entry that is wrong.

@@ -64,16 +64,13 @@ pub(crate) fn arrows_lines(
 ) -> Result<Vec<Shape>, AllocError>
     ensures { IfOk result (λ shapes. shapes.items ≡ spec.arrows_lines page.now arrows.now) }
 {
-    match arrows {
-        [] => Ok(Vec::new(alloc)),
-        [arrow, others @ ..] => {
-            let mut shapes = arrows_lines(alloc, page, others)?;
-            if is_arrow_seen(page, arrow) {
-                shapes.insert(0, arrow_line(page, arrow))?;
-            }
-            Ok(shapes)
+    let mut shapes = Vec::new(alloc);
+    for arrow in arrows {
+        if is_arrow_seen(page, arrow) {
+            shapes.push(arrow_line(page, arrow))?;
         }
     }
+    Ok(shapes)
 }
 
 // The words of the arrows whose heads are shown.
@@ -84,17 +81,13 @@ pub(crate) fn arrows_words(
 ) -> Result<Vec<Shape>, AllocError>
     ensures { IfOk result (λ shapes. shapes.items ≡ spec.arrows_words page.now arrows.now) }
 {
-    match arrows {
-        [] => Ok(Vec::new(alloc)),
-        [arrow, others @ ..] => {
-            let mut shapes = arrows_words(alloc, page, others)?;
-            if is_shown(page, arrow.row) {
-                let words = head_words(alloc, page, arrow)?;
-                shapes.insert(0, words)?;
-            }
-            Ok(shapes)
+    let mut shapes = Vec::new(alloc);
+    for arrow in arrows {
+        if is_shown(page, arrow.row) {
+            shapes.push(head_words(alloc, page, arrow)?)?;
         }
     }
+    Ok(shapes)
 }
 
 // How a lost frame is drawn.
@@ -233,13 +226,10 @@ pub(crate) fn losses_shapes(
     ensures { IfOk result (λ shapes. shapes.items
         ≡ flat_map (spec.lost_shapes page.now) departures.now) }
 {
-    match departures {
-        [] => Ok(Vec::new(alloc)),
-        [departure, others @ ..] => {
-            let mut rest = losses_shapes(alloc, page, others)?;
-            let mut shapes = lost_shapes(alloc, page, departure)?;
-            shapes.append(&mut rest)?;
-            Ok(shapes)
-        }
+    let mut shapes = Vec::new(alloc);
+    for departure in departures {
+        let mut more = lost_shapes(alloc, page, departure)?;
+        shapes.append(&mut more)?;
     }
+    Ok(shapes)
 }

@@ -83,13 +83,10 @@ pub(crate) fn bars_shapes(
 ) -> Result<Vec<Shape>, AllocError>
     ensures { IfOk result (λ shapes. shapes.items ≡ flat_map (spec.bar_shapes page.now) bars.now) }
 {
-    match bars {
-        [] => Ok(Vec::new(alloc)),
-        [bar, others @ ..] => {
-            let mut rest = bars_shapes(alloc, page, others)?;
-            let mut shapes = bar_shapes(alloc, page, bar)?;
-            shapes.append(&mut rest)?;
-            Ok(shapes)
-        }
+    let mut shapes = Vec::new(alloc);
+    for bar in bars {
+        let mut more = bar_shapes(alloc, page, bar)?;
+        shapes.append(&mut more)?;
     }
+    Ok(shapes)
 }

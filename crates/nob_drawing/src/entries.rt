@@ -164,17 +164,14 @@ pub(crate) fn entries_shapes(
 ) -> Result<Vec<Shape>, AllocError>
     ensures { IfOk result (λ shapes. shapes.items ≡ spec.entries_shapes page.now journal.now) }
 {
-    match journal {
-        [] => Ok(Vec::new(alloc)),
-        [entry, older @ ..] => {
-            let mut shapes = entries_shapes(alloc, page, older)?;
-            let row = older.len() + 1;
-            if !is_shown(page, row) {
-                return Ok(shapes);
-            }
+    let mut shapes = Vec::new(alloc);
+    for passed in 0..journal.len() {
+        let row = passed + 1;
+        if is_shown(page, row) {
+            let entry = &journal[journal.len() - row];
             let mut more = entry_shapes(alloc, page, row, entry)?;
             shapes.append(&mut more)?;
-            Ok(shapes)
         }
     }
+    Ok(shapes)
 }

@@ -78,16 +78,10 @@ fn has_bar(space: SpaceId, mark: Mark, bars: &[Bar]) -> bool
 fn lanes_of(alloc: Global, space: SpaceId, bars: &[Bar]) -> Result<Vec<usize>, AllocError>
     ensures { IfOk result (λ lanes. lanes.items ≡ spec.lanes_of space bars.now) }
 {
-    match bars {
-        [] => Ok(Vec::new(alloc)),
-        [bar, others @ ..] => {
-            let mut lanes = lanes_of(alloc, space, others)?;
-            if bar.goes_on(space) {
-                lanes.insert(0, bar.lane)?;
-            }
-            Ok(lanes)
-        }
-    }
+    bars.iter()
+        .filter(|bar| bar.goes_on(space))
+        .map(|bar| bar.lane)
+        .collect(alloc)
 }
 
 // Whether a lane is one of these.

@@ -89,10 +89,9 @@ fn is_twin(frame: &Frame, other: &Frame) -> bool
 fn is_again(frame: &Frame, departures: &[Departure]) -> bool
     ensures { result ≡ spec.is_again frame.now departures.now }
 {
-    match departures {
-        [] => false,
-        [departure, others @ ..] => is_twin(frame, &departure.frame) || is_again(frame, others),
-    }
+    departures
+        .iter()
+        .any(|departure| is_twin(frame, &departure.frame))
 }
 
 // Departures with those of these frames, the first of which is at this place of a Transmit that a
@@ -130,18 +129,13 @@ fn last_of<'a>(frame: &Frame, departures: &'a [Departure]) -> Option<&'a Departu
     ensures { option_map (λ departure. departure.now) result
         ≡ spec.last_of frame.now departures.now }
 {
-    match departures {
-        [] => None,
-        [departure, others @ ..] => {
-            if let Some(last) = last_of(frame, others) {
-                return Some(last);
-            }
-            if departure.is_of(frame) {
-                return Some(departure);
-            }
-            None
+    for back in 0..departures.len() {
+        let departure = &departures[departures.len() - 1 - back];
+        if departure.is_of(frame) {
+            return Some(departure);
         }
     }
+    None
 }
 
 // Whether an arrival is ignored.
@@ -191,16 +185,15 @@ pub fn flights(alloc: Global, journal: &[Entry]) -> Result<(Vec<Departure>, Vec<
     ensures departures { IfOk result (λ found. found.0.items ≡ spec.departures journal.now) }
     ensures arrows { IfOk result (λ found. found.1.items ≡ spec.arrows journal.now) }
 {
-    match journal {
-        [] => Ok((Vec::new(alloc), Vec::new(alloc))),
-        [entry, older @ ..] => {
-            let (departures, arrows) = flights(alloc, older)?;
-            let row = older.len() + 1;
-            let all = with_arrival(entry, row, departures.as_slice(), arrows)?;
-            let more = with_departures(entry.space, row, 0, frames_of(entry), departures)?;
-            Ok((more, all))
-        }
+    let mut departures = Vec::new(alloc);
+    let mut arrows = Vec::new(alloc);
+    for passed in 0..journal.len() {
+        let entry = &journal[journal.len() - 1 - passed];
+        let row = passed + 1;
+        arrows = with_arrival(entry, row, departures.as_slice(), arrows)?;
+        departures = with_departures(entry.space, row, 0, frames_of(entry), departures)?;
     }
+    Ok((departures, arrows))
 }
 
 // Whether an arrow is of a departure.
@@ -214,10 +207,7 @@ fn comes_from(departure: &Departure, arrow: &Arrow) -> bool
 fn arrives(departure: &Departure, arrows: &[Arrow]) -> bool
     ensures { result ≡ list_any (spec.comes_from departure.now) arrows.now }
 {
-    match arrows {
-        [] => false,
-        [arrow, others @ ..] => comes_from(departure, arrow) || arrives(departure, others),
-    }
+    arrows.iter().any(|arrow| comes_from(departure, arrow))
 }
 
 /// The departures from which none of these arrows comes. It compares each with all arrows.
@@ -228,15 +218,11 @@ pub fn lost(
 ) -> Result<Vec<Departure>, AllocError>
     ensures { IfOk result (λ found. found.items ≡ spec.lost arrows.now departures.now) }
 {
-    match departures {
-        [] => Ok(Vec::new(alloc)),
-        [departure, others @ ..] => {
-            let mut found = lost(alloc, arrows, others)?;
-            if arrives(departure, arrows) {
-                return Ok(found);
-            }
-            found.insert(0, departure.copy()?)?;
-            Ok(found)
+    let mut found = Vec::new(alloc);
+    for departure in departures {
+        if !arrives(departure, arrows) {
+            found.push(departure.copy()?)?;
         }
     }
+    Ok(found)
 }

@@ -1,5 +1,5 @@
-//! The program `nob_lives`: whole lives of references between two spaces, as many as standard input
-//! says. `bench/lives` measures it.
+//! The program `nob_lives`: whole lives of references between two spaces, and calls from one to the
+//! other, as many as standard input says. `bench/lives` and `bench/sessions` measure it.
 #![tactic(auto)]
 
 use nob_ids::{CallNo, JobNo, Limits, SpaceId, WireRep};
@@ -23,28 +23,42 @@ fn main(rt: HostRuntime) -> ExitCode {
     }
 }
 
-// Reads how many objects are held beside the lives, and how many lives are made, a line each, and
-// makes them.
+// What is asked for.
+#[derive(Clone, Copy, Drop)]
+struct Wanted {
+    // How many objects are held beside.
+    held: u32,
+    // How many whole lives are made.
+    lives: u32,
+    // How many calls are made then.
+    calls: u32,
+}
+
+// Reads how many objects are held beside, how many lives are made and how many calls, a line each,
+// and makes them.
 fn run(rt: &HostRuntime) -> io::Result<()> {
     let alloc = rt.alloc();
-    let mut held = 0;
-    let mut lives = 0;
+    let mut wanted = Wanted {
+        held: 0,
+        lives: 0,
+        calls: 0,
+    };
     for (place, line) in rt.lines(alloc).enumerate() {
         let number = line?.as_str().parse::<u32>().unwrap_or(0);
-        if place == 0 {
-            held = number;
-        } else {
-            lives = number;
+        match place {
+            0 => wanted.held = number,
+            1 => wanted.lives = number,
+            _ => wanted.calls = number,
         }
     }
-    match live_all(alloc, held, lives) {
+    match live_all(alloc, wanted) {
         Ok(()) => rt.println("done"),
         Err(_) => rt.println("refused"),
     }
 }
 
-// The objects that are held, and then the lives, at two new spaces.
-fn live_all(alloc: Global, held: u32, lives: u32) -> Result<(), SpaceError> {
+// The objects that are held, and then the lives and the calls, at two new spaces.
+fn live_all(alloc: Global, wanted: Wanted) -> Result<(), SpaceError> {
     let Some(one) = SpaceId::new(1) else {
         unreachable!();
     };
@@ -59,7 +73,7 @@ fn live_all(alloc: Global, held: u32, lives: u32) -> Result<(), SpaceError> {
             return Err(SpaceError::OutOfMemory);
         }
     };
-    let done = live(&mut owner, &mut client, held, lives);
+    let done = live(&mut owner, &mut client, wanted);
     let quiet = is_quiet(&owner) && is_quiet(&client);
     owner.shut();
     client.shut();
@@ -77,14 +91,32 @@ fn is_quiet(space: &Space) -> bool {
     !acts && !work.settle && !work.clean && !work.claim && work.withdraw.is_none()
 }
 
-// The objects that are held, and then the lives.
-fn live(owner: &mut Space, client: &mut Space, held: u32, lives: u32) -> Result<(), SpaceError> {
-    for _ in 0..held {
+// The objects that are held, and then the lives and the calls.
+fn live(owner: &mut Space, client: &mut Space, wanted: Wanted) -> Result<(), SpaceError> {
+    for _ in 0..wanted.held {
         owner.step_twice(&Event::Export)?;
     }
-    for _ in 0..lives {
+    for _ in 0..wanted.lives {
         one_life(owner, client)?;
     }
+    for _ in 0..wanted.calls {
+        one_call(owner, client)?;
+    }
+    Ok(())
+}
+
+// A call of a space's agent by the other, whose reply is taken.
+fn one_call(owner: &mut Space, client: &mut Space) -> Result<(), SpaceError> {
+    let target = WireRep {
+        owner: owner.id(),
+        index: 0,
+    };
+    let call = client.call(&target, METHOD, &Value::Unit)?;
+    carry(client, owner)?;
+    let job = owner.claim()?;
+    owner.finish(job.job, &Outcome::NoMethod)?;
+    carry(owner, client)?;
+    client.take_reply(call)?;
     Ok(())
 }
 
@@ -147,11 +179,9 @@ fn claim(space: &mut Space) -> Result<JobNo, SpaceError> {
 
 // What a space has to send is brought to another, which acts on it.
 fn carry(from: &mut Space, to: &mut Space) -> Result<(), SpaceError> {
-    let Answer::Frames(frames) = from.step(&Event::Transmit(to.id()))? else {
-        return Ok(());
-    };
+    let frames = from.transmit(to.id())?;
     for frame in frames.as_slice() {
-        to.step(&Event::Arrive(frame.copy()?))?;
+        to.arrive(frame)?;
     }
     act_on_all(to, from.id())
 }
@@ -159,7 +189,7 @@ fn carry(from: &mut Space, to: &mut Space) -> Result<(), SpaceError> {
 // A space acts on all that came from another.
 fn act_on_all(space: &mut Space, other: SpaceId) -> Result<(), SpaceError> {
     for _ in 0..MOST_ITEMS {
-        match space.step(&Event::Act(other)) {
+        match space.act(other) {
             Ok(_) => {}
             Err(SpaceError::Refused(Refusal::Nothing)) => return Ok(()),
             Err(error) => return Err(error),
