@@ -1,5 +1,5 @@
 -- The highest number among the frames that a transmit gives.
-use Rattle.std.proofs.Common.{◌≡◌, ℕ, ◌+◌, ◌-◌, ◌<◌, ◌≤◌, max, Bool, true, false, if◌then◌else◌, List, [], ◌∷◌, length, take, drop, get_or, arith, absurd, refl, ap, ◌∙◌}
+use Rattle.std.proofs.Common.{◌≡◌, ℕ, ◌+◌, ◌-◌, ◌<◌, ◌≤◌, max, Bool, true, false, if◌then◌else◌, List, [], ◌∷◌, length, take, drop, get_or, arith, refl, ap, ◌∙◌}
 use Rattle.std.proofs.lemmas.List.{drop_more, get_or-take, length-take-le}
 use Rattle.nob_frame.specs.declared.frame.FrameKind.TheVariants.{Data}
 use Rattle.nob_model_end.specs.End.{greatest_seq}
@@ -22,26 +22,3 @@ highest_given me peer ack n t count due (payload ∷ payloads) same low out = om
 pub due_given : (me peer ack n t count : ℕ) (due : Bool) (payloads : List (List ℕ)) → length payloads ≡ count → 0 < count → due_up_to t (n + (count - 1)) ≡ due_of t (open_frames me peer ack n due payloads)
 due_given me peer ack n t count due [] same some = absurd (omega (arith, same, some))
 due_given me peer ack n t count due (payload ∷ payloads) same some = ap (due_up_to t) (omega (arith, same, greatest_given me peer ack n payload payloads))
-
--- what is due where none is given
-pub due_none : (me peer ack n t : ℕ) (due : Bool) (payloads : List (List ℕ)) → length payloads ≡ 0 → (if due then Ack else Nothing) ≡ due_of t (open_frames me peer ack n due payloads)
-due_none me peer ack n t true [] none = refl
-due_none me peer ack n t false [] none = refl
-due_none me peer ack n t due (payload ∷ payloads) none = absurd (omega (arith, none))
-
--- the frames of an open end that gives payloads
-pub frames_given : (me peer ack n : ℕ) (due : Bool) (payloads : List (List ℕ)) → 0 < length payloads → open_frames me peer ack n due payloads ≡ data_frames me peer ack n payloads
-frames_given me peer ack n due [] some = absurd (omega (arith, some))
-frames_given me peer ack n due (payload ∷ payloads) some = refl
-
--- the frames of an open end that gives none
-pub frames_none : (me peer ack n : ℕ) (due : Bool) (payloads : List (List ℕ)) → length payloads ≡ 0 → open_frames me peer ack n due payloads ≡ (if due then ack_frame me peer ack ∷ [] else [])
-frames_none me peer ack n due [] none = refl
-frames_none me peer ack n due (payload ∷ payloads) none = absurd (omega (arith, none))
-
--- of the first so many payloads the one at i is given next
-pub next_given : (me peer ack n : ℕ) (payloads : List (List ℕ)) (count i : ℕ) (d : List ℕ) → i < count → count ≤ length payloads → data_frames me peer ack (n + i) (drop i (take count payloads)) ≡ record { kind = Data; from = me; to = peer; seq = n + i; ack = ack; payload = get_or payloads i d } ∷ data_frames me peer ack (n + i + 1) (drop (i + 1) (take count payloads))
-next_given me peer ack n payloads count i d before there =
-    ap (data_frames me peer ack (n + i))
-    (drop_more (take count payloads) i d (omega (arith, before, length-take-le count payloads there))
-    ∙ ap (λ x. x ∷ drop (i + 1) (take count payloads)) (get_or-take count payloads i d before))

@@ -1,5 +1,12 @@
-use Rattle.std.proofs.Common.{rules}
+use Rattle.std.proofs.Common.{◌<◌, length, subst, sym}
+use Rattle.nob_session.specs.Sound.{as_seen}
+use Rattle.nob_session.specs.Stands.{Roomy, Stands}
+use Rattle.nob_session.proofs.Taken.{taken_stands}
 use Rattle.nob_session.proofs.session.Session.take.Goals as goal
 
 pub returns-clause-answer : goal.returns-clause-answer
-returns-clause-answer c = rw (← c.self.view_is, c.pop_front-taken.ensures.rest) (search rules)
+returns-clause-answer c = λ me peer limits L stands.
+    rw (c.pop_front-taken.ensures.rest)
+    (taken_stands me peer limits L (as_seen c.self.inside).end
+    (subst (λ (r : Roomy). 0 < length r.end.waiting) (sym c.self.view_is) c.requires)
+    (subst (λ (r : Roomy). Stands me peer limits r.end L) (sym c.self.view_is) stands))
