@@ -1,11 +1,8 @@
 -- The highest number among the frames that a transmit gives.
-use Rattle.std.proofs.Common.{◌≡◌, ℕ, ◌+◌, ◌-◌, ◌<◌, ◌≤◌, max, Bool, true, false, if◌then◌else◌, List, [], ◌∷◌, length, take, drop, get_or, arith, refl, ap, ◌∙◌}
-use Rattle.std.proofs.lemmas.List.{drop_more, get_or-take, length-take-le}
-use Rattle.nob_frame.specs.declared.frame.FrameKind.TheVariants.{Data}
+use Rattle.std.proofs.Common.{◌≡◌, ℕ, ◌+◌, ◌-◌, ◌<◌, ◌≤◌, max, Bool, true, false, List, [], ◌∷◌, length, arith, ap}
 use Rattle.nob_model_end.specs.End.{greatest_seq}
-use Rattle.nob_model_end.specs.Right.{ack_frame, data_frames, open_frames}
+use Rattle.nob_model_end.specs.Right.{data_frames, open_frames}
 use Rattle.nob_session.specs.Dues.{due_of, due_up_to}
-use Rattle.nob_session.specs.declared.due.Due.TheVariants.{Nothing, Ack}
 
 -- the last of the frames has the greatest number
 greatest_given : (me peer ack n : ℕ) (payload : List ℕ) (payloads : List (List ℕ)) → greatest_seq (data_frames me peer ack n (payload ∷ payloads)) ≡ n + length payloads

@@ -1,5 +1,5 @@
 -- The sizes of items in parts of a list.
-use Rattle.std.proofs.Common.{ℕ, zero, suc, List, [], ◌∷◌, ◌++◌, take, drop}
+use Rattle.std.proofs.Common.{ℕ, zero, suc, List, [], ◌∷◌, take}
 use Rattle.std.specs.List.{AllByRecursion}
 
 pub all_taken : {X : Type 0} (P : X → Type 0) (n : ℕ) (xs : List X) → AllByRecursion P xs → AllByRecursion P (take n xs)

@@ -7,7 +7,7 @@ use Rattle.nob_model_end.specs.declared.entry.EndEntry.TheVariants.{Take}
 use Rattle.nob_model_end.specs.End.{accepted, is_open, takes, waiting}
 use Rattle.nob_model_end.specs.Right.{IsRight, first_of}
 use Rattle.nob_session.specs.Calls.{without_front}
-use Rattle.nob_session.specs.Stands.{End, Stands, end_of}
+use Rattle.nob_session.specs.Stands.{End, Stands}
 
 -- what waits is what waited, without the first of it
 waiting_taken : (L : List EndEntry) → waiting (Take ∷ L) ≡ drop 1 (waiting L)

@@ -1,10 +1,10 @@
 -- What holds of the fields of every session end.
-use Rattle.std.specs.Prelude.{◌≡◌, ℕ, ◌+◌, ◌-◌, ◌^◌, ◌<◌, ◌≤◌, Bool, true, false, List, [], length, Option, is_none}
+use Rattle.std.specs.Prelude.{◌≡◌, ◌+◌, ◌-◌, ◌^◌, ◌<◌, ◌≤◌, true, false, [], length, is_none}
 use Rattle.std.specs.List.{AllByRecursion}
 use Rattle.std.specs.VecDeque.{deque_len, deque_capacity}
 use Rattle.nob_session.specs.declared.session.Session.TheInside.{Inside}
 use Rattle.nob_session.specs.Items.{IsItem}
-use Rattle.nob_session.specs.Stands.{End, Roomy}
+use Rattle.nob_session.specs.Stands.{Roomy}
 
 -- a session's fields as callers see them
 abbrev pub as_seen : Inside → Roomy

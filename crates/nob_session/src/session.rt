@@ -32,9 +32,9 @@ use std::alloc::{AllocError, Global};
 use std::collections::VecDeque;
 use std::marker::Model;
 
-/// One end of the session between two spaces. It keeps the payloads that are unacknowledged and
-/// those that wait, and no other: what is acknowledged, taken, or there when the end closes is given
-/// up at once.
+/// One end of the session between two spaces. It holds the payloads that are unacknowledged and
+/// those that wait, and no other: what is acknowledged or taken is given up at once, and so is all
+/// when the end closes.
 #[derive(Debug, Drop)]
 pub struct Session {
     alloc: Global,
@@ -47,7 +47,8 @@ pub struct Session {
     // the lowest number that isn't acknowledged
     lowest: u64,
     transmitted: u64,
-    // the accepted payloads that wait, the first first, in a ring of 256 places; none once it is closed
+    // the accepted payloads that wait, the first first, in a ring of 256 places; none once it is
+    // closed
     waiting: VecDeque<Bytes>,
     accepted: u64,
     taken: u64,
@@ -302,8 +303,8 @@ impl Session {
         let given = self.given();
         let ack = self.accepted + 1;
         if given > 0 {
-            let payloads = &self.unacknowledged;
-            return data_frames(self.alloc, self.me, self.peer, ack, self.lowest, payloads, given);
+            let (first, payloads) = (self.lowest, &self.unacknowledged);
+            return data_frames(self.alloc, self.me, self.peer, ack, first, payloads, given);
         }
         if !self.data_arrived {
             return Ok(Vec::new(self.alloc));
