@@ -435,7 +435,7 @@ impl Session {
         ensures taken { self.new.end ≡ without_front self.old.end }
         ensures room { self.old.room ≤ self.new.room }
     {
-        let _taken = self.waiting.pop_front();
+        give_up(&mut self.waiting, 1);
         self.taken += 1;
     }
 
