@@ -5,4 +5,5 @@ pub mod Quiet
 pub mod Held
 pub mod Changing
 pub mod Stepping
+mod Newest
 pub mod Passed

@@ -1,0 +1,64 @@
+-- Walking back along what was given, the newest of a frame comes first; and along a journal, the oldest entry.
+use Rattle.std.proofs.Common.{◌≡◌, ℕ, ◌<◌, ◌+◌, ◌-◌, Bool, true, false, List, [], ◌∷◌, ◌++◌, length, take, drop, get_or, Option, Some, None, if◌then◌else◌, refl, sym, ap, ◌∙◌, arith}
+use Rattle.std.proofs.lemmas.List.{take_more}
+use Rattle.nob_frame.specs.declared.frame.Frame.{Frame}
+use Rattle.nob_model_types.specs.declared.entry.Entry.{Entry}
+use Rattle.nob_model_words.specs.Sessions.{or_else}
+use Rattle.nob_drawing_plan.specs.declared.flight.Departure.{Departure}
+use Rattle.nob_drawing_plan.specs.declared.flight.Arrow.{Arrow}
+use Rattle.nob_model_words.specs.Deeds.{deed_in}
+use Rattle.nob_model_journal.specs.Journals.{frames_of}
+use Rattle.nob_drawing_plan.specs.Bars.{row_after}
+use Rattle.nob_drawing_plan.specs.Flights as spec
+
+-- one departure more behind the others
+last_behind : (frame : Frame) (x : Departure) (older : List Departure) → spec.last_of frame (older ++ x ∷ []) ≡ (if spec.is_of frame x then Some x else spec.last_of frame older)
+last_behind frame x [] = refl
+last_behind frame x (d ∷ older) =
+    ap (λ (found : Option Departure). or_else found (if spec.is_of frame d then Some d else None)) (last_behind frame x older)
+    ∙ by (spec.is_of frame x)
+  where
+    by : (b : Bool) → or_else (if b then Some x else spec.last_of frame older) (if spec.is_of frame d then Some d else None) ≡ (if b then Some x else or_else (spec.last_of frame older) (if spec.is_of frame d then Some d else None))
+    by true = refl
+    by false = refl
+
+-- so many of the first, and the one behind them
+taken_back : (xs : List Departure) (back : ℕ) (x : Departure) → back < length xs → x ≡ get_or xs (length xs - 1 - back) x → take (length xs - back) xs ≡ take (length xs - (back + 1)) xs ++ x ∷ []
+taken_back xs back x less is =
+    let upper : length xs - back ≡ length xs - 1 - back + 1 = omega (arith, less) in
+    let lower : length xs - 1 - back ≡ length xs - (back + 1) = omega (arith, less) in
+    let inside : length xs - 1 - back < length xs = omega (arith, less) in
+    ap (λ (k : ℕ). take k xs) upper
+    ∙ take_more xs (length xs - 1 - back) x inside
+    ∙ ap (λ (y : Departure). take (length xs - 1 - back) xs ++ y ∷ []) (sym is)
+    ∙ ap (λ (k : ℕ). take k xs ++ x ∷ []) lower
+
+-- where the one behind is of the frame it is the newest
+pub found_back : (frame : Frame) (xs : List Departure) (back : ℕ) (x : Departure) → back < length xs → x ≡ get_or xs (length xs - 1 - back) x → spec.last_of frame (take (length xs - back) xs) ≡ spec.last_of frame xs → spec.is_of frame x ≡ true → Some x ≡ spec.last_of frame xs
+found_back frame xs back x less is so_far of =
+    sym (ap (λ (b : Bool). if b then Some x else spec.last_of frame (take (length xs - (back + 1)) xs)) of)
+    ∙ sym (last_behind frame x (take (length xs - (back + 1)) xs))
+    ∙ ap (spec.last_of frame) (sym (taken_back xs back x less is))
+    ∙ so_far
+
+-- else it stands before it
+pub passed_back : (frame : Frame) (xs : List Departure) (back : ℕ) (x : Departure) → back < length xs → x ≡ get_or xs (length xs - 1 - back) x → spec.last_of frame (take (length xs - back) xs) ≡ spec.last_of frame xs → spec.is_of frame x ≡ false → spec.last_of frame (take (length xs - (back + 1)) xs) ≡ spec.last_of frame xs
+passed_back frame xs back x less is so_far other =
+    sym (ap (λ (b : Bool). if b then Some x else spec.last_of frame (take (length xs - (back + 1)) xs)) other)
+    ∙ sym (last_behind frame x (take (length xs - (back + 1)) xs))
+    ∙ ap (spec.last_of frame) (sym (taken_back xs back x less is))
+    ∙ so_far
+
+-- the departures and the arrows with those of one entry more
+pub flights_next : (entry : Entry) (J more : List Entry) (row : ℕ) (D : List Departure) (A all : List Arrow) (after : List Departure) → more ≡ entry ∷ J → row ≡ row_after J → (D ≡ spec.departures J) × (A ≡ spec.arrows J) → all ≡ A ++ spec.arrow_of entry.space row entry.event entry.result D → after ≡ spec.with_departures entry.space row 0 (frames_of (deed_in entry)) D → (after ≡ spec.departures more) × (all ≡ spec.arrows more)
+flights_next entry J more row D A all after is place so_far with_arrow with_given = (
+  with_given
+      ∙ ap (λ (r : ℕ). spec.with_departures entry.space r 0 (frames_of (deed_in entry)) D) place
+      ∙ ap (spec.with_departures entry.space (row_after J) 0 (frames_of (deed_in entry))) so_far.0
+      ∙ ap spec.departures (sym is),
+  with_arrow
+      ∙ ap (λ (r : ℕ). A ++ spec.arrow_of entry.space r entry.event entry.result D) place
+      ∙ ap (λ (given : List Departure). A ++ spec.arrow_of entry.space (row_after J) entry.event entry.result given) so_far.0
+      ∙ ap (λ (arrows : List Arrow). arrows ++ spec.arrow_of entry.space (row_after J) entry.event entry.result (spec.departures J)) so_far.1
+      ∙ ap spec.arrows (sym is),
+)
