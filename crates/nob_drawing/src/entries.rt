@@ -1,6 +1,6 @@
 //! Lifelines, and the entries on them.
 
-ghost use Rattle.std.specs.Prelude.{◌≡◌, ◌<◌, ◌+◌, ◌^◌, IfOk};
+ghost use Rattle.std.specs.Prelude.{◌≡◌, ◌<◌, ◌+◌, ◌^◌, IfOk, ◌++◌, [], if◌then◌else◌};
 ghost use Rattle.nob_drawing.specs.Layout as spec;
 
 use crate::labels::{cut_label, label, number_label};
@@ -156,6 +156,25 @@ fn entry_shapes(
     Ok(shapes)
 }
 
+// Shapes with those of an entry of a row, if it is shown.
+fn with_entry(
+    alloc: Global,
+    page: &Page,
+    row: usize,
+    entry: &Entry,
+    mut shapes: Vec<Shape>,
+) -> Result<Vec<Shape>, AllocError>
+    ensures { IfOk result (λ all. all.items ≡ shapes.items
+        ++ (if spec.is_shown page.now row then spec.entry_shapes page.now row entry.now else [])) }
+{
+    if !is_shown(page, row) {
+        return Ok(shapes);
+    }
+    let mut more = entry_shapes(alloc, page, row, entry)?;
+    shapes.append(&mut more)?;
+    Ok(shapes)
+}
+
 // The entries of a journal that are shown.
 pub(crate) fn entries_shapes(
     alloc: Global,
@@ -166,12 +185,8 @@ pub(crate) fn entries_shapes(
 {
     let mut shapes = Vec::new(alloc);
     for passed in 0..journal.len() {
-        let row = passed + 1;
-        if is_shown(page, row) {
-            let entry = &journal[journal.len() - row];
-            let mut more = entry_shapes(alloc, page, row, entry)?;
-            shapes.append(&mut more)?;
-        }
+        let entry = &journal[journal.len() - 1 - passed];
+        shapes = with_entry(alloc, page, passed + 1, entry, shapes)?;
     }
     Ok(shapes)
 }
