@@ -7,4 +7,4 @@
 mod rows;
 mod sets;
 
-pub use sets::DirtySets;
+pub use sets::{DirtySets, Listing};

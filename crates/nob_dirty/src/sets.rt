@@ -9,11 +9,13 @@ use nob_ids::SpaceId;
 use std::alloc::{AllocError, Global};
 use std::marker::Model;
 
-// A client at an index.
+/// A client at an index: what contracts see of the sets is a list of these.
 #[derive(Clone, Copy, Debug, PartialEq, Eq)]
-pub(crate) struct Listing {
-    pub(crate) index: u64,
-    pub(crate) client: SpaceId,
+pub struct Listing {
+    /// The index.
+    pub index: u64,
+    /// The client.
+    pub client: SpaceId,
 }
 
 /// The dirty sets of a space: a set of pairs of an index and a client, each kept once. Contracts
