@@ -79,12 +79,7 @@ unsafe extern "C" {
     fn nob_clean(handle: *mut RawHandle, told: *mut Told) -> u32;
     fn nob_withdraw(handle: *mut RawHandle, index: u64, told: *mut Told) -> u32;
     fn nob_transmit(handle: *mut RawHandle, peer: u16, told: *mut Told) -> u32;
-    fn nob_arrive(
-        handle: *mut RawHandle,
-        frame: *const u8,
-        length: usize,
-        told: *mut Told,
-    ) -> u32;
+    fn nob_arrive(handle: *mut RawHandle, frame: *const u8, length: usize, told: *mut Told) -> u32;
     fn nob_tick(handle: *mut RawHandle, peer: u16, told: *mut Told) -> u32;
     fn nob_close(handle: *mut RawHandle, peer: u16, told: *mut Told) -> u32;
 
@@ -166,9 +161,7 @@ impl Handle {
     pub(crate) fn call(&mut self, owner: u16, index: u64, method: u16, pickle: &[u8]) -> Answered {
         let (at, length) = (pickle.as_ptr(), pickle.len());
         // SAFETY: as above; any numbers may be given, and the pickle is one slice.
-        self.ask(|handle, told| unsafe {
-            nob_call(handle, owner, index, method, at, length, told)
-        })
+        self.ask(|handle, told| unsafe { nob_call(handle, owner, index, method, at, length, told) })
     }
 
     pub(crate) fn take_reply(&mut self, call: u64) -> Answered {

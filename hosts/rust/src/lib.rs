@@ -37,6 +37,7 @@ mod reading;
 mod refusal;
 pub mod script;
 mod space;
+pub mod tcp;
 mod trace;
 mod value;
 

@@ -244,10 +244,8 @@ impl Space {
     /// The first message, in order of acting, whose references are all resolved is settled, and
     /// its sender told: whose item that was.
     pub fn settle(&mut self) -> Result<SettledItem, SpaceError> {
-        let result = told(self.handle.settle()).map(|told| SettledItem {
-            peer: space_of(told.space),
-            item: ItemNo::new(told.number),
-        });
+        let result = told(self.handle.settle())
+            .map(|told| SettledItem { peer: space_of(told.space), item: ItemNo::new(told.number) });
         self.noted(result, || Event::Settle, Answer::from)
     }
 
