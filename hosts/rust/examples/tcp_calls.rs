@@ -8,8 +8,8 @@
 //! isn't named, is how many calls of a caller wait for their replies at once. It prints how many
 //! calls were answered in a second, after a fifth as many that aren't counted.
 //!
-//! A space and its connections are worked by one thread, which looks at the connections for some 200
-//! microseconds before it rests. TCP loses nothing while a connection stands, so nothing is
+//! A space and its connections are worked by one thread, which looks at them for some 50
+//! microseconds before it waits. TCP loses nothing while a connection stands, so nothing is
 //! transmitted again.
 
 use masttomato::{CallNo, CallResult, Due, Limits, Outcome, Reference, Space, SpaceId, Value};
@@ -25,6 +25,9 @@ use std::time::{Duration, Instant};
 type Fallible<T> = Result<T, Box<dyn Error + Send + Sync>>;
 
 const OWNER: u16 = 1;
+
+/// Who waits looks for so long before it rests.
+const LOOKS: Duration = Duration::from_micros(50);
 
 fn main() -> Fallible<()> {
     let words: Vec<String> = env::args().skip(1).collect();
@@ -61,15 +64,35 @@ impl Wire {
         Ok(Wire { peer, stream, piece: vec![0; 65_536] })
     }
 
-    // Takes what has come, acts on it, and settles and gives up what can be: whether something came.
-    // The end of the stream is an error.
+    // Takes what has come: whether that is anything.
     fn take(&mut self, space: &mut Space) -> Fallible<bool> {
-        let length = match self.stream.read(&mut self.piece) {
-            Ok(0) => return Err("the connection has ended".into()),
-            Ok(length) => length,
-            Err(error) if error.kind() == ErrorKind::WouldBlock => return Ok(false),
-            Err(error) => return Err(error.into()),
-        };
+        match self.stream.read(&mut self.piece) {
+            Ok(length) => self.bring(space, length).map(|()| true),
+            Err(error) if error.kind() == ErrorKind::WouldBlock => Ok(false),
+            Err(error) => Err(error.into()),
+        }
+    }
+
+    // Waits for something to come, and takes it.
+    fn wait(&mut self, space: &mut Space) -> Fallible<()> {
+        let since = Instant::now();
+        while since.elapsed() < LOOKS {
+            if self.take(space)? {
+                return Ok(());
+            }
+        }
+        self.stream.set_nonblocking(false)?;
+        let length = self.stream.read(&mut self.piece)?;
+        self.stream.set_nonblocking(true)?;
+        self.bring(space, length)
+    }
+
+    // Has a piece of the stream arrive, acts on it, and settles and gives up what can be. The end of
+    // the stream is an error.
+    fn bring(&mut self, space: &mut Space, length: usize) -> Fallible<()> {
+        if length == 0 {
+            return Err("the connection has ended".into());
+        }
         space.push(self.peer, &self.piece[..length])?;
         while let Some(arrived) = space.arrive_next() {
             arrived?;
@@ -77,7 +100,7 @@ impl Wire {
         while space.act(self.peer).is_ok() {}
         while space.settle().is_ok() {}
         while space.clean().is_ok() {}
-        Ok(true)
+        Ok(())
     }
 
     // Transmits what was never transmitted. An Ack alone waits for the next item, which says it too.
@@ -98,23 +121,6 @@ impl Wire {
     }
 }
 
-/// How long nothing has come: who looks in vain for a while rests in between.
-struct Patience {
-    since: Instant,
-}
-
-impl Patience {
-    fn look(&mut self, came: bool) {
-        if came {
-            self.since = Instant::now();
-        } else if self.since.elapsed() > Duration::from_micros(200) {
-            thread::sleep(Duration::from_micros(50));
-        } else {
-            thread::yield_now();
-        }
-    }
-}
-
 // The owner's process: its agent answers a reference to its object, which answers unit and keeps
 // nothing that it is passed.
 fn serve(callers: u16) -> Fallible<()> {
@@ -129,31 +135,45 @@ fn serve(callers: u16) -> Fallible<()> {
         stream.read_exact(&mut number)?;
         wires.push(Wire::new(space_id(u16::from_be_bytes(number)), stream)?);
     }
-    let mut patience = Patience { since: Instant::now() };
     while !wires.is_empty() {
-        let mut came = false;
         // A caller that has ended ends its connection.
-        wires.retain_mut(|wire| match wire.take(&mut space) {
-            Ok(some) => {
-                came |= some;
-                true
+        match &mut wires[..] {
+            [wire] => {
+                if wire.wait(&mut space).is_err() {
+                    return Ok(());
+                }
             }
-            Err(_) => false,
-        });
-        if came {
-            while let Ok(job) = space.claim() {
-                let is_agent = job.target == 0;
-                let value = if is_agent { Value::Ref(object) } else { Value::Unit };
-                space.finish(job.job, &Outcome::Answer(value))?;
-            }
-            while space.clean().is_ok() {}
-            for wire in &mut wires {
-                wire.give(&mut space)?;
+            _ => {
+                let taken = take_any(&mut wires, &mut space);
+                wires.retain(|wire| !taken.contains(&wire.peer));
             }
         }
-        patience.look(came);
+        while let Ok(job) = space.claim() {
+            let is_agent = job.target == 0;
+            let value = if is_agent { Value::Ref(object) } else { Value::Unit };
+            space.finish(job.job, &Outcome::Answer(value))?;
+        }
+        while space.clean().is_ok() {}
+        for wire in &mut wires {
+            wire.give(&mut space)?;
+        }
     }
     Ok(())
+}
+
+// Takes what has come over any of these connections, and waits where nothing has: which have ended.
+fn take_any(wires: &mut [Wire], space: &mut Space) -> Vec<SpaceId> {
+    let since = Instant::now();
+    loop {
+        let looks: Vec<_> = wires.iter_mut().map(|wire| (wire.peer, wire.take(space))).collect();
+        if looks.iter().any(|(_, taken)| !matches!(taken, Ok(false))) {
+            let ended = looks.into_iter().filter(|(_, taken)| taken.is_err());
+            return ended.map(|(peer, _)| peer).collect();
+        }
+        if since.elapsed() > LOOKS {
+            thread::sleep(LOOKS);
+        }
+    }
 }
 
 fn measure(kind: &str, callers: u16, calls: u64, at_once: usize) -> Fallible<()> {
@@ -208,7 +228,7 @@ impl Caller {
         let call = caller.space.call(caller.object, 0, &Value::Unit)?;
         while !caller.space.reply_ready(call) {
             caller.wire.give(&mut caller.space)?;
-            caller.wire.take(&mut caller.space)?;
+            caller.wire.wait(&mut caller.space)?;
         }
         match caller.space.take_reply(call)? {
             CallResult::Replied { value: Value::Ref(object), .. } => caller.object = object,
@@ -221,17 +241,13 @@ impl Caller {
     fn make(&mut self, calls: u64, at_once: usize) -> Fallible<()> {
         let mut waiting = Vec::with_capacity(at_once);
         let (mut made, mut answered) = (0, 0);
-        let mut patience = Patience { since: Instant::now() };
         while answered < calls {
             while waiting.len() < at_once && made < calls {
                 waiting.push(self.call()?);
                 made += 1;
             }
             self.wire.give(&mut self.space)?;
-            while !self.wire.take(&mut self.space)? {
-                patience.look(false);
-            }
-            patience.look(true);
+            self.wire.wait(&mut self.space)?;
             let space = &mut self.space;
             waiting.retain(|call| {
                 let is_answered = space.reply_ready(*call) && space.take_reply(*call).is_ok();

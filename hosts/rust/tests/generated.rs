@@ -6,23 +6,36 @@ mod common;
 use common::nobj;
 use masttomato::script::{Opening, Step, World, play};
 use masttomato::{Answer, CallNo, Event, JobNo, Limits, Outcome, Reference, SpaceId, Value};
+use std::thread;
 
 const SCRIPTS: u64 = 1_000;
 
+const THREADS: u64 = 4;
+
 #[test]
 fn a_thousand_scripts_give_the_same_text() {
-    let mut steps = 0;
-    for seed in 1..=SCRIPTS {
-        let script = Maker::new(seed).script();
-        let (text, world) = play(script.as_bytes()).expect("memory");
-        let world = world.unwrap_or_else(|| panic!("seed {seed}: {text}"));
-        let wanted = nobj("script", script.as_bytes());
-        assert_eq!(text + "verdict yes\n", wanted, "seed {seed}");
-        let checked = nobj("check", world.traces().as_bytes());
-        assert!(checked.ends_with("\nverdict yes\n"), "seed {seed}: {checked}");
-        steps += script.lines().count() - 1;
-    }
+    let steps: usize = thread::scope(|scope| {
+        let threads: Vec<_> = (1..=THREADS)
+            .map(|first| {
+                let seeds = (first..=SCRIPTS).step_by(THREADS as usize);
+                scope.spawn(move || seeds.map(assert_same_text).sum::<usize>())
+            })
+            .collect();
+        threads.into_iter().map(|thread| thread.join().expect("the same text")).sum()
+    });
     println!("{SCRIPTS} scripts of {steps} steps");
+}
+
+// How many steps the script of a seed has, which gives the same text by `nobj script`.
+fn assert_same_text(seed: u64) -> usize {
+    let script = Maker::new(seed).script();
+    let (text, world) = play(script.as_bytes()).expect("memory");
+    let world = world.unwrap_or_else(|| panic!("seed {seed}: {text}"));
+    let wanted = nobj("script", script.as_bytes());
+    assert_eq!(text + "verdict yes\n", wanted, "seed {seed}");
+    let checked = nobj("check", world.traces().as_bytes());
+    assert!(checked.ends_with("\nverdict yes\n"), "seed {seed}: {checked}");
+    script.lines().count() - 1
 }
 
 #[test]

@@ -108,6 +108,8 @@ fn child(here: SpaceId, folder: &Path) -> Fallible<()> {
     println!("{}", taken.local_addr()?.port());
     let line = io::stdin().lines().next().ok_or("no ports")??;
     let ports = line.split(' ').map(str::parse).collect::<Result<Vec<u16>, _>>()?;
+    // The parent's end of the pipe closes where the parent ends.
+    thread::spawn(|| process::exit(io::stdin().lines().count() as i32));
     let entries = File::create(folder.join(here.to_string()))?;
     let mut site = Site::new(Space::new(here, space(3), limits())?, taken, &ports, entries);
     match here.get() {
@@ -118,8 +120,9 @@ fn child(here: SpaceId, folder: &Path) -> Fallible<()> {
     while site.call(space(3).agent(), 9, Value::Unit).is_some() {
         thread::sleep(Duration::from_millis(20));
     }
+    site.write()?;
     println!("the session with space 3 closed for reason {}", site.closed.ok_or("no reason")?);
-    Ok(site.write()?)
+    Ok(())
 }
 
 fn own(site: &mut Site) -> Fallible<()> {

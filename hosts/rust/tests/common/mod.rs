@@ -1,4 +1,5 @@
-//! What tests share: the repository, and the program `nobj`.
+//! What tests share: the repository, and the program `nobj`. Not each of them uses all of it.
+#![allow(dead_code)]
 
 use std::io::Write;
 use std::path::{Path, PathBuf};
