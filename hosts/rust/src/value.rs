@@ -52,6 +52,20 @@ pub enum PickleFault {
     TooBig,
 }
 
+impl PickleFault {
+    /// All faults, P1 to P8.
+    pub const ALL: [PickleFault; 8] = [
+        PickleFault::Short,
+        PickleFault::Tag,
+        PickleFault::Bytes,
+        PickleFault::Count,
+        PickleFault::Depth,
+        PickleFault::Trailing,
+        PickleFault::Space,
+        PickleFault::TooBig,
+    ];
+}
+
 impl fmt::Display for PickleFault {
     fn fmt(&self, f: &mut fmt::Formatter<'_>) -> fmt::Result {
         f.write_str(match self {
