@@ -23,7 +23,7 @@ fn main() {
 fn link() -> Fallible<()> {
     println!("cargo::rerun-if-env-changed=NOB_HOST_ARCHIVE");
     println!("cargo::rerun-if-env-changed=RATTLE_KIT");
-    let archive = match env::var_os("NOB_HOST_ARCHIVE") {
+    let archive = match env::var_os("NOB_HOST_ARCHIVE").filter(|named| !named.is_empty()) {
         Some(named) => PathBuf::from(named),
         None => proved_archive()?,
     };
@@ -48,9 +48,13 @@ fn proved_archive() -> Fallible<PathBuf> {
     let archive = folder.join("out/libnob_host.a");
     let mut newest = None;
     for name in crates_below(&root, "nob_host")? {
-        let sources = root.join("crates").join(name).join("src");
-        println!("cargo::rerun-if-changed={}", sources.display());
-        newest = newest.max(newest_below(&sources));
+        for part in ["src", "specs", "proofs"] {
+            let sources = root.join("crates").join(&name).join(part);
+            if sources.is_dir() {
+                println!("cargo::rerun-if-changed={}", sources.display());
+                newest = newest.max(newest_below(&sources));
+            }
+        }
     }
     if changed(&archive) >= newest && archive.is_file() {
         return Ok(archive);
@@ -94,10 +98,10 @@ fn crates_below(root: &Path, top: &str) -> Fallible<BTreeSet<String>> {
     Ok(found)
 }
 
-// When the newest file in a folder was changed.
+// When the newest file in a folder and those below it was changed.
 fn newest_below(folder: &Path) -> Option<SystemTime> {
-    let files = fs::read_dir(folder).into_iter().flatten().flatten();
-    files.filter_map(|entry| changed(&entry.path())).max()
+    let paths = fs::read_dir(folder).into_iter().flatten().flatten().map(|entry| entry.path());
+    paths.filter_map(|path| if path.is_dir() { newest_below(&path) } else { changed(&path) }).max()
 }
 
 fn changed(file: &Path) -> Option<SystemTime> {

@@ -19,7 +19,7 @@ pub type Parcel = (u64, Frame);
 /// What is put on a broken one is lost, and may be transmitted again: a session wants no more.
 ///
 /// Threads bring what comes; the thread that has the space takes it from the channel. They end with
-/// the process.
+/// the process. Whoever connects is believed to be the space that it says it is.
 #[derive(Clone, Debug)]
 pub struct Links {
     here: SpaceId,

@@ -33,9 +33,12 @@ impl Trace {
         self.stamp
     }
 
-    /// The next entry has a stamp above this one.
+    /// The next entry has a stamp above this one, if it is below 2^63: so whatever stamps others
+    /// send, there are some left.
     pub fn rise_to(&mut self, stamp: u64) {
-        self.stamp = self.stamp.max(stamp);
+        if stamp < 1 << 63 {
+            self.stamp = self.stamp.max(stamp);
+        }
     }
 
     /// Puts an entry behind the others, with a stamp above the last one.
