@@ -86,10 +86,9 @@ fn crates_below(root: &Path, top: &str) -> Fallible<BTreeSet<String>> {
     let mut found = BTreeSet::new();
     let mut left = vec![top];
     while let Some(name) = left.pop() {
-        if let Some((_, below)) = uses.iter().find(|(user, _)| *user == name) {
-            if found.insert(name.to_string()) {
-                left.extend(below.split_whitespace());
-            }
+        let Some((_, below)) = uses.iter().find(|(user, _)| *user == name) else { continue };
+        if found.insert(name.to_string()) {
+            left.extend(below.split_whitespace());
         }
     }
     if found.is_empty() {
