@@ -26,8 +26,10 @@ type Fallible<T> = Result<T, Box<dyn Error + Send + Sync>>;
 
 const OWNER: u16 = 1;
 
-/// Who waits looks for so long before it rests.
+/// Who waits looks for so long before it rests; but where that was in vain, so many times not at all:
+/// looking helps while the other process runs beside this one, and takes its time where it can't.
 const LOOKS: Duration = Duration::from_micros(50);
+const RESTS: u32 = 20;
 
 fn main() -> Fallible<()> {
     let words: Vec<String> = env::args().skip(1).collect();
@@ -55,13 +57,14 @@ struct Wire {
     peer: SpaceId,
     stream: TcpStream,
     piece: Vec<u8>,
+    rests: u32,
 }
 
 impl Wire {
     fn new(peer: SpaceId, stream: TcpStream) -> Fallible<Wire> {
         stream.set_nodelay(true)?;
         stream.set_nonblocking(true)?;
-        Ok(Wire { peer, stream, piece: vec![0; 65_536] })
+        Ok(Wire { peer, stream, piece: vec![0; 65_536], rests: 0 })
     }
 
     // Takes what has come: whether that is anything.
@@ -76,11 +79,12 @@ impl Wire {
     // Waits for something to come, and takes it.
     fn wait(&mut self, space: &mut Space) -> Fallible<()> {
         let since = Instant::now();
-        while since.elapsed() < LOOKS {
+        while self.rests == 0 && since.elapsed() < LOOKS {
             if self.take(space)? {
                 return Ok(());
             }
         }
+        self.rests = self.rests.checked_sub(1).unwrap_or(RESTS);
         self.stream.set_nonblocking(false)?;
         let length = self.stream.read(&mut self.piece)?;
         self.stream.set_nonblocking(true)?;

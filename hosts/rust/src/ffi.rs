@@ -2,13 +2,15 @@
 //! one file with `unsafe` in it; what it offers to the rest of the crate is safe.
 //!
 //! What every call below meets, by what `Handle` is:
-//! - The handle is made by `Handle::new` alone, from null, and never copied. It is private here, so
-//!   nothing else ever sees its pointer. `nob_end` is called once, by `Drop`, and nothing after it.
+//! - The handle is made by `Handle::new` alone, from null, and never copied or read. It is private
+//!   here, so nothing else ever sees it. `nob_end` is called once, by `Drop`, and nothing after it.
 //! - A `Handle` is neither `Send` nor `Sync`: all calls of one handle are made by one thread, so one
-//!   at a time, and none of them calls back. None is made by a signal handler.
-//! - A pointer and a length come from one slice, which lives through the call. The pointer of a
-//!   slice is never null, and no function keeps it.
-//! - `Told` and `Work` are laid out as the library has them, and are the caller's own.
+//!   at a time, and none of them calls back. A signal handler, or the forked child of a process with
+//!   threads, can't make one but by unsafe code of another crate.
+//! - A pointer and a length come from one slice, which lives through the call and which nothing
+//!   writes meanwhile. The pointer of a slice is never null, and no function keeps it.
+//! - `Told` and `Work` are laid out as the library has them. They, and what bytes are copied to, are
+//!   the caller's own, and apart from the handle and from every slice.
 //! - The library allocates by the `malloc`, `realloc` and `free` of the process, which is what it
 //!   is linked with. What it allocates it frees itself.
 
