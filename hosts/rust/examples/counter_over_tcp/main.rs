@@ -22,7 +22,7 @@ fn space(number: u16) -> SpaceId {
 }
 
 fn limits() -> Limits {
-    Limits::new(8, 100).expect("limits")
+    Limits::new(8, 200).expect("limits")
 }
 
 fn main() -> Fallible<()> {
@@ -83,11 +83,12 @@ fn print_until(place: usize, said: &mut Said, last: &str) -> Fallible<()> {
 }
 
 // The trace of a space: its first line says how many entries it has, which a process that is killed
-// can't say itself.
+// can't say itself. It may be killed while it writes a line.
 fn trace(number: u16, folder: &Path) -> io::Result<String> {
     let entries = fs::read_to_string(folder.join(number.to_string()))?;
-    let count = entries.lines().count() as u64;
-    Ok(Trace::first_line(space(number), space(3), limits(), count) + &entries)
+    let whole = &entries[..entries.rfind('\n').map_or(0, |end| end + 1)];
+    let count = whole.lines().count() as u64;
+    Ok(Trace::first_line(space(number), space(3), limits(), count) + whole)
 }
 
 // The first line that `nobj check` writes, how many entries there are, differs from run to run.
