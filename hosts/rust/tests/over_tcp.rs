@@ -18,10 +18,10 @@ verdict yes
 
 #[test]
 fn the_counter_is_called_over_tcp() {
-    // `cargo test` builds the examples beside the folder of the tests.
-    let test = std::env::current_exe().expect("this program");
-    let built = test.ancestors().nth(2).expect("its folders").join("examples/counter_over_tcp");
-    let output = Command::new(built).stderr(Stdio::inherit()).output().expect("the example");
+    let mut cargo = Command::new(env!("CARGO"));
+    cargo.args(["run", "--quiet", "--example", "counter_over_tcp"]);
+    cargo.current_dir(env!("CARGO_MANIFEST_DIR")).stderr(Stdio::inherit());
+    let output = cargo.output().expect("the example");
     assert_eq!(String::from_utf8_lossy(&output.stdout), SAID);
     assert!(output.status.success());
 }
