@@ -156,26 +156,32 @@ impl Space {
         }
     }
 
-    /// A new object: its reference, once in the hand.
+    /// A new object: its reference, once in the hand. Limit where the space has all the live
+    /// objects or indexes that it may have.
     pub fn export(&mut self) -> Result<Reference, SpaceError> {
         let result = told(self.handle.export()).map(reference_of);
         self.noted(result, || Event::Export, Answer::Exported)
     }
 
-    /// One more hold in the hand.
+    /// One more hold in the hand. NoObject where an own object isn't live, NotHeld where nothing
+    /// holds the reference or it is an agent's, Closed where the session with its owner has closed
+    /// here, Limit where the hand is full.
     pub fn dup(&mut self, reference: Reference) -> Result<(), SpaceError> {
         let result = told(self.handle.dup(reference.owner.get(), reference.index)).map(drop);
         self.noted(result, || Event::Dup(reference), done)
     }
 
-    /// A hold in the hand is given back.
+    /// A hold in the hand is given back. NoObject where an own object isn't live, NotHeld where none
+    /// is in the hand.
     pub fn release(&mut self, reference: Reference) -> Result<(), SpaceError> {
         let result = told(self.handle.release(reference.owner.get(), reference.index)).map(drop);
         self.noted(result, || Event::Release(reference), done)
     }
 
     /// Calls a method of an object with a value, whose references are pinned until the object's
-    /// owner has settled them: the number of the call.
+    /// owner has settled them: the number of the call. NoPeer, Closed, NotHeld of the target; TooBig
+    /// where the value has no pickle; NoObject, NotHeld or Closed of a reference in it; then Limit,
+    /// QueueFull or SeqEnd. Linear in the value.
     pub fn call(
         &mut self,
         target: Reference,
@@ -190,7 +196,8 @@ impl Space {
     }
 
     /// What a call brought: its reply, whose references come into the hand, or that there will be
-    /// none.
+    /// none. NoCall where there is no such call, NotReady while there is no reply, Limit where a
+    /// hand would be too full.
     pub fn take_reply(&mut self, call: CallNo) -> Result<CallResult, SpaceError> {
         let result = told(self.handle.take_reply(call.get())).map(|told| match told.kind {
             4 => CallResult::Replied { status: told.number as u8, value: self.value() },
@@ -200,7 +207,8 @@ impl Space {
         self.noted(result, || Event::TakeReply(call), Answer::from)
     }
 
-    /// The first ready job, in order of becoming ready, whose target isn't running.
+    /// The first ready job, in order of becoming ready, whose target isn't running. Nothing where
+    /// there is none, Limit where the numbers are used up.
     pub fn claim(&mut self) -> Result<Job, SpaceError> {
         let result = told(self.handle.claim()).map(|told| Job {
             job: JobNo::new(told.number),
@@ -214,7 +222,8 @@ impl Space {
     }
 
     /// A job's outcome goes to its client, or is dropped where the session with the client has
-    /// closed; what the job had on loan is given back.
+    /// closed; what the job had on loan is given back. NoJob where no such job runs; then refused as
+    /// the value of a call is, or by QueueFull or SeqEnd.
     pub fn finish(&mut self, job: JobNo, outcome: &Outcome) -> Result<ReplyFate, SpaceError> {
         let (number, (pickle, has_pickle)) = match outcome {
             Outcome::Answer(value) => (0, self.pickle_of(value)),
@@ -231,7 +240,8 @@ impl Space {
     }
 
     /// The item at the front of the inbox from a peer is acted on; one with a fault closes the
-    /// session instead.
+    /// session instead. NoPeer, Closed, Nothing where none waits; and the item stays where a limit
+    /// would be passed or a session has no number for what it asks for.
     pub fn act(&mut self, peer: SpaceId) -> Result<ActResult, SpaceError> {
         let result = told(self.handle.act(peer.get())).map(|told| match told.kind {
             9 => ActResult::Acted(ItemNo::new(told.number)),
@@ -242,7 +252,8 @@ impl Space {
     }
 
     /// The first message, in order of acting, whose references are all resolved is settled, and
-    /// its sender told: whose item that was.
+    /// its sender told: whose item that was. Nothing where there is none, SeqEnd where a session has
+    /// no number left.
     pub fn settle(&mut self) -> Result<SettledItem, SpaceError> {
         let result = told(self.handle.settle())
             .map(|told| SettledItem { peer: space_of(told.space), item: ItemNo::new(told.number) });
@@ -250,20 +261,22 @@ impl Space {
     }
 
     /// The first surrogate, in the order of their last Dirties, that is granted on an open session,
-    /// without holds and without pins, is given up, and its owner told: its reference.
+    /// without holds and without pins, is given up, and its owner told: its reference. Nothing where
+    /// there is none, SeqEnd where the session has no number left.
     pub fn clean(&mut self) -> Result<Reference, SpaceError> {
         let result = told(self.handle.clean()).map(reference_of);
         self.noted(result, || Event::Clean, Answer::Cleaned)
     }
 
-    /// The object of an index is live no more.
+    /// The object of an index is live no more. NoObject where none is live, StillUsed where it is
+    /// held, pinned here, listed for a client, or the agent.
     pub fn withdraw(&mut self, index: u64) -> Result<(), SpaceError> {
         let result = told(self.handle.withdraw(index)).map(drop);
         self.noted(result, || Event::Withdraw(index), withdrawn)
     }
 
     /// The frames that are to be sent to a peer now: what isn't acknowledged, a window at most, or
-    /// an Ack or a Close that is owed, or none.
+    /// an Ack or a Close that is owed, or none. NoPeer where there is no such peer.
     pub fn transmit(&mut self, peer: SpaceId) -> Result<Frames, SpaceError> {
         let result = told(self.handle.transmit(peer.get())).map(|told| match told.number {
             0 => Frames::default(),
@@ -273,7 +286,7 @@ impl Space {
     }
 
     /// A frame came for this space: how many items it brought, or that it closed the session with
-    /// its sender.
+    /// its sender. NoPeer where it isn't for this space or from none of its peers.
     pub fn arrive(&mut self, frame: &Frame) -> Result<Arrived, SpaceError> {
         let result = told(self.handle.arrive(frame.as_bytes())).map(arrived_of);
         self.noted(result, || Event::Arrive(frame.clone()), Answer::from)
@@ -313,7 +326,7 @@ impl Space {
     }
 
     /// The session with a peer counts one tick more: for which reason it closes, where its retries
-    /// are used up.
+    /// are used up. NoPeer, Closed.
     pub fn tick(&mut self, peer: SpaceId) -> Result<Option<Reason>, SpaceError> {
         let result = told(self.handle.tick(peer.get())).map(|told| match told.kind {
             2 => None,
@@ -323,7 +336,7 @@ impl Space {
         self.noted(result, || Event::Tick(peer), ticked)
     }
 
-    /// Closes the session with a peer.
+    /// Closes the session with a peer, for the reason that it was asked to. NoPeer, Closed.
     pub fn close(&mut self, peer: SpaceId) -> Result<Reason, SpaceError> {
         let result = told(self.handle.close(peer.get())).map(reason_of);
         self.noted(result, || Event::Close(peer), Answer::Closed)

@@ -87,6 +87,8 @@ impl Links {
             frames.iter().map(|frame| [&stamp.to_be_bytes(), frame.as_bytes()].concat());
         let Some(stream) = &mut *place else { return };
         if parcels.any(|parcel| stream.write_all(&parcel).is_err()) {
+            // Half a parcel may stand on it, so nothing else may follow.
+            let _was_broken = stream.shutdown(Shutdown::Both);
             *place = None;
         }
     }
