@@ -1,0 +1,134 @@
+//! Why a space doesn't do what it is asked.
+
+use std::error::Error;
+use std::fmt;
+
+/// What still uses an object that is to be withdrawn: the first of these that holds.
+#[derive(Clone, Copy, Debug, PartialEq, Eq)]
+pub enum Use {
+    /// S11(1): its owner holds it.
+    Held,
+    /// S11(2): a reference to it is in transit from its owner.
+    InTransit,
+    /// S11(3): a client is listed for it.
+    Listed,
+    /// S11(4): it is the agent.
+    Agent,
+}
+
+/// A refusal of a space. It changes nothing. Its text is a name, a colon, and what it says.
+#[derive(Clone, Copy, Debug, PartialEq, Eq)]
+pub enum Refusal {
+    /// S1: there is no such peer.
+    NoPeer,
+    /// S2: the session is closed at this space.
+    Closed,
+    /// S3: the object isn't live.
+    NoObject,
+    /// S4: the reference isn't held.
+    NotHeld,
+    /// S5: too many items are unacknowledged.
+    QueueFull,
+    /// S6: the numbers of items are used up.
+    SeqEnd,
+    /// S7: the value has no pickle.
+    TooBig,
+    /// S8: there is no such call, or its reply was taken.
+    NoCall,
+    /// S9: the reply isn't ready.
+    NotReady,
+    /// S10: there is nothing to do.
+    Nothing,
+    /// S11: the object is still used.
+    StillUsed(Use),
+    /// S12: the job isn't running.
+    NoJob,
+    /// S13: a limit is reached.
+    Limit,
+}
+
+impl Refusal {
+    /// All refusals, in the order of their names.
+    pub const ALL: [Refusal; 16] = [
+        Refusal::NoPeer,
+        Refusal::Closed,
+        Refusal::NoObject,
+        Refusal::NotHeld,
+        Refusal::QueueFull,
+        Refusal::SeqEnd,
+        Refusal::TooBig,
+        Refusal::NoCall,
+        Refusal::NotReady,
+        Refusal::Nothing,
+        Refusal::StillUsed(Use::Held),
+        Refusal::StillUsed(Use::InTransit),
+        Refusal::StillUsed(Use::Listed),
+        Refusal::StillUsed(Use::Agent),
+        Refusal::NoJob,
+        Refusal::Limit,
+    ];
+
+    /// The refusal's name, as scripts and traces have it: `S1`, .., `S11(3)`, ..
+    pub fn name(self) -> &'static str {
+        self.texts().0
+    }
+
+    // The name, and what it says.
+    fn texts(self) -> (&'static str, &'static str) {
+        match self {
+            Refusal::NoPeer => ("S1", "there is no such peer"),
+            Refusal::Closed => ("S2", "the session is closed at this space"),
+            Refusal::NoObject => ("S3", "the object isn't live"),
+            Refusal::NotHeld => ("S4", "the reference isn't held"),
+            Refusal::QueueFull => ("S5", "too many items are unacknowledged"),
+            Refusal::SeqEnd => ("S6", "the numbers of items are used up"),
+            Refusal::TooBig => ("S7", "the value has no pickle"),
+            Refusal::NoCall => ("S8", "there is no such call, or its reply was taken"),
+            Refusal::NotReady => ("S9", "the reply isn't ready"),
+            Refusal::Nothing => ("S10", "there is nothing to do"),
+            Refusal::StillUsed(Use::Held) => ("S11(1)", "its owner holds it"),
+            Refusal::StillUsed(Use::InTransit) => {
+                ("S11(2)", "a reference to it is in transit from its owner")
+            }
+            Refusal::StillUsed(Use::Listed) => ("S11(3)", "a client is listed for it"),
+            Refusal::StillUsed(Use::Agent) => ("S11(4)", "it is the agent"),
+            Refusal::NoJob => ("S12", "the job isn't running"),
+            Refusal::Limit => ("S13", "a limit is reached"),
+        }
+    }
+}
+
+impl fmt::Display for Refusal {
+    fn fmt(&self, f: &mut fmt::Formatter<'_>) -> fmt::Result {
+        let (name, text) = self.texts();
+        write!(f, "{name}: {text}")
+    }
+}
+
+impl Error for Refusal {}
+
+/// Why a space didn't do what it was asked. It is then as it was before.
+#[derive(Clone, Copy, Debug, PartialEq, Eq)]
+pub enum SpaceError {
+    /// The space refuses it.
+    Refused(Refusal),
+    /// Memory ran out inside the space. This makes no entry of a trace.
+    OutOfMemory,
+}
+
+impl From<Refusal> for SpaceError {
+    fn from(refusal: Refusal) -> SpaceError {
+        SpaceError::Refused(refusal)
+    }
+}
+
+impl fmt::Display for SpaceError {
+    fn fmt(&self, f: &mut fmt::Formatter<'_>) -> fmt::Result {
+        match self {
+            SpaceError::Refused(refusal) => refusal.fmt(f),
+            SpaceError::OutOfMemory => f.write_str("out of memory"),
+        }
+    }
+}
+
+impl Error for SpaceError {}
