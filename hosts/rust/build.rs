@@ -1,8 +1,9 @@
 //! Links the static library of `nob_host`, and the kit's functions that take memory for it.
 //!
-//! The library is `crates/nob_host/out/libnob_host.a`, which `rt lib` proves and makes where it is
-//! missing or older than its sources: from nothing that takes an hour or more. NOB_HOST_ARCHIVE
-//! names another file in its place, and RATTLE_KIT the kit's folder, where `rt` isn't to be asked.
+//! The library is `crates/nob_host/out/libnob_host.a`. Where it is missing or older than its sources
+//! `tools/host-library` makes it over what `rt ci` left, or else `rt lib` proves and makes it: from
+//! nothing that takes an hour or more. NOB_HOST_ARCHIVE names another file in its place, and
+//! RATTLE_KIT the kit's folder, where `rt` isn't to be asked.
 
 use std::collections::BTreeSet;
 use std::env;
@@ -57,6 +58,11 @@ fn proved_archive() -> Fallible<PathBuf> {
         }
     }
     if changed(&archive) >= newest && archive.is_file() {
+        return Ok(archive);
+    }
+    // Where `rt ci` has left the libraries below, this takes a minute; else it says so and does nothing.
+    let quick = Command::new(root.join("tools/host-library")).status();
+    if quick.is_ok_and(|status| status.success()) && archive.is_file() {
         return Ok(archive);
     }
     let made = Command::new("rt").arg("lib").current_dir(&folder).status();
