@@ -3,67 +3,68 @@
 ghost use Rattle.std.specs.Prelude.{◌≡◌, IsSome};
 ghost use Rattle.std.specs.declared.option.Option.{Option};
 ghost use Rattle.std.specs.declared.option.Option.TheVariants.{None, Some};
-ghost use Rattle.std.specs.Coded.{coded_option};
 ghost use Rattle.std.specs.contracts.impls.GlobalAllocator.TheImpl.{ghosts};
+ghost use Rattle.nob_host_space.specs.contracts.Host.{the_row as host_row};
+ghost use Rattle.nob_host_space.specs.declared.Host.{Host as HostOf};
 ghost use Rattle.nob_host_handle.specs.Kept.{kept};
 
 use crate::loose::Loose;
+use nob_host_space::Host;
 use std::alloc::Global;
-use std::marker::{Model, PhantomData};
+use std::marker::Model;
+use std::ptr::null_mut;
 
-/// One pointer, which owns the value that it keeps, or is null and keeps none.
+/// One pointer, which owns the host that it keeps, or is null and keeps none. It crosses to other
+/// languages as that pointer. Letting a handle go forgets the host that it keeps.
 #[repr(C)]
 #[derive(Drop)]
-pub struct Handle<T> {
+pub struct Handle {
     at: *mut u8,
     alloc: Global,
-    marker: PhantomData<fn() -> T>,
-    /// What it keeps.
-    pub ghost held: { Option T } by { coded_option T.code },
+    /// The host that it keeps.
+    pub ghost held: { Option HostOf },
 }
 
-impl<T> Model for Handle<T> {
-    ghost also_owns = { λ h. kept (ghosts.dealloc_token h.alloc) T.row h.at h.held };
+impl Model for Handle {
+    ghost also_owns = { λ handle. kept (ghosts.dealloc_token handle.alloc) host_row handle.at
+        handle.held };
 }
 
-impl<T: Drop> Handle<T> {
+impl Handle {
     // A handle that keeps nothing.
-    fn dead(alloc: Global) -> Handle<T>
+    fn dead(alloc: Global) -> Handle
         ensures { result.held ≡ None }
     {
-        Handle {
-            at: std::ptr::null_mut(),
-            alloc,
-            marker: PhantomData,
-        }
+        let at: *mut u8 = null_mut();
+        Handle { at, alloc }
     }
 
     // A handle that keeps what a box held.
-    fn of(loose: Loose<T>) -> Handle<T>
+    fn of(loose: Loose<Host, Global>) -> Handle
         ensures { result.held ≡ Some loose.value }
     {
         let Loose { at, alloc } = loose;
         Handle {
             at: at as *mut u8,
             alloc,
-            marker: PhantomData,
         }
     }
 
-    // The pointer that it keeps.
-    fn into_loose(self) -> Loose<T>
+    // The pointer of what it keeps.
+    fn into_loose(self) -> Loose<Host, Global>
         requires { IsSome self.held }
         ensures { self.held ≡ Some result.value }
     {
-        let Handle { at, alloc, marker: _ } = self;
+        let Handle { at, alloc } = self;
         Loose {
-            at: at as *mut T,
+            at: at as *mut Host,
             alloc,
         }
     }
 
-    /// What the handle keeps, which then keeps nothing. The caller's condition: it keeps something.
-    pub fn take(&mut self, alloc: Global) -> Box<T>
+    /// The host that the handle keeps, which keeps nothing then. The caller's condition: it keeps
+    /// one.
+    pub fn take(&mut self, alloc: Global) -> Box<Host>
         requires { IsSome self.old.held }
         ensures taken { self.old.held ≡ Some result.value }
         ensures empty { self.new.held ≡ None }
@@ -72,11 +73,11 @@ impl<T: Drop> Handle<T> {
         full.into_loose().into_box()
     }
 
-    /// The handle keeps this from now on. The caller's condition: it keeps nothing.
-    pub fn put(&mut self, value: Box<T>)
+    /// The handle keeps this host from now on. The caller's condition: it keeps nothing.
+    pub fn put(&mut self, host: Box<Host>)
         requires { self.old.held ≡ None }
-        ensures { self.new.held ≡ Some value.value }
+        ensures { self.new.held ≡ Some host.value }
     {
-        *self = Handle::of(Loose::of(value));
+        *self = Handle::of(Loose::of(host));
     }
 }

@@ -1,5 +1,5 @@
-//! A value that a program in another language keeps between two calls: a handle of one pointer that
-//! owns it.
+//! What a program in another language keeps between two calls: a handle of one pointer, which owns a
+//! host.
 #![tactic(auto)]
 
 mod handle;

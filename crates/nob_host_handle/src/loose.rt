@@ -1,32 +1,33 @@
 //! A box as its pointer.
 
 ghost use Rattle.std.specs.Prelude.{◌≡◌};
-ghost use Rattle.std.specs.contracts.impls.GlobalAllocator.TheImpl.{ghosts};
 ghost use Rattle.std.specs.Box.Ownership.{box_owns};
 
-use std::alloc::Global;
+use std::alloc::Allocator;
 use std::marker::Model;
 
-// The pointer of a box, which owns what the box owned.
-pub(crate) struct Loose<T> {
+// The pointer of a box and the box's allocator: it owns what the box owned.
+pub(crate) struct Loose<T, A: Allocator> {
     pub(crate) at: *mut T,
-    pub(crate) alloc: Global,
+    pub(crate) alloc: A,
     pub(crate) ghost value: { T },
 }
 
-impl<T> Model for Loose<T> {
-    ghost also_owns = { λ l. box_owns (ghosts.dealloc_token l.alloc) T.row l.at l.value };
+impl<T, A: Allocator> Model for Loose<T, A> {
+    ghost also_owns = { λ loose. box_owns (A.dealloc_token loose.alloc) T.row loose.at loose.value };
 }
 
-impl<T: Drop> Loose<T> {
-    pub(crate) fn of(value: Box<T>) -> Loose<T>
+impl<T: Drop, A: Allocator> Loose<T, A> {
+    // The pointer of this box.
+    pub(crate) fn of(value: Box<T, A>) -> Loose<T, A>
         ensures { result.value ≡ value.value }
     {
         let (at, alloc) = Box::into_raw_with_allocator(value);
         Loose { at, alloc }
     }
 
-    pub(crate) fn into_box(self) -> Box<T>
+    // The box again.
+    pub(crate) fn into_box(self) -> Box<T, A>
         ensures { result.value ≡ self.value }
     {
         let Loose { at, alloc } = self;
