@@ -15,7 +15,7 @@ use Rattle.std.specs.declared.alloc.Global.{Global}
 use Rattle.std.specs.contracts.alloc.Global as heap
 use Rattle.std.proofs.alloc.Global.TheLaws as heap_laws
 use Rattle.std.specs.contracts.impls.GlobalAllocator.TheImpl.{ghosts}
-use Rattle.nob_host_space.specs.contracts.Host.{the_row as host}
+use Rattle.nob_host_space.specs.contracts.host.Host.{the_row as host}
 use Rattle.nob_host_handle.specs.Kept.{kept}
 use Rattle.nob_host_handle.specs.contracts.loose.Loose as loose
 use Rattle.nob_host_handle.specs.contracts.handle.Handle as handle

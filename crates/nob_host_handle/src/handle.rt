@@ -4,8 +4,10 @@ ghost use Rattle.std.specs.Prelude.{◌≡◌, IsSome};
 ghost use Rattle.std.specs.declared.option.Option.{Option};
 ghost use Rattle.std.specs.declared.option.Option.TheVariants.{None, Some};
 ghost use Rattle.std.specs.contracts.impls.GlobalAllocator.TheImpl.{ghosts};
-ghost use Rattle.nob_host_space.specs.contracts.Host.{the_row as host_row};
-ghost use Rattle.nob_host_space.specs.declared.Host.{Host as HostOf};
+ghost use Rattle.nob_host_space.specs.contracts.host.Host.{the_row as host_row};
+ghost use Rattle.std.specs.Coded.{codes};
+ghost use Rattle.nob_pickle.specs.Marks.{trees_code};
+ghost use Rattle.nob_host_space.specs.declared.host.Host.{Host as HostOf};
 ghost use Rattle.nob_host_handle.specs.Kept.{kept};
 
 use crate::loose::Loose;
@@ -22,7 +24,7 @@ pub struct Handle {
     at: *mut u8,
     alloc: Global,
     /// The host that it keeps.
-    pub ghost held: { Option HostOf },
+    pub ghost held: { Option HostOf } by { Prim.hlevel (codes, trees_code) },
 }
 
 impl Model for Handle {

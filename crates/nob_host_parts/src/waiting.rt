@@ -1,6 +1,6 @@
 //! Frames that wait.
 
-ghost use Rattle.std.specs.Prelude.{◌≡◌, ◌≢◌, List, [], ◌∷◌, ◌==◌, length};
+ghost use Rattle.std.specs.Prelude.{◌≡◌, ◌≢◌, List, [], ◌∷◌, ◌==◌, IfSome, length};
 ghost use Rattle.std.specs.List.{AllByRecursion};
 ghost use Rattle.std.specs.Option.{MatchOption};
 ghost use Rattle.nob_frame.specs.declared.frame.Frame.{Frame as FrameOf};
@@ -47,7 +47,8 @@ impl Waiting {
 
     /// The first that waits.
     pub fn first(&self) -> Option<&Frame>
-        ensures { MatchOption result (self.now ≡ []) (λ frame.
+        ensures fits { IfSome result (λ frame. Fits frame.now) }
+        ensures first { MatchOption result (self.now ≡ []) (λ frame.
             (rest : List FrameOf) × (self.now ≡ frame.now ∷ rest)) }
     {
         self.frames.as_slice().first()

@@ -1,5 +1,5 @@
 -- What a space was asked, and what it answered in numbers. The newest entry of a space stands FIRST.
-use Rattle.std.specs.Prelude.{◌≡◌, ◌⊎◌, ◌≤◌, ⊥, ℕ, Bool, true, false, List, [], ◌∷◌, Option, Some, None, Result, Ok, Err, IsOk}
+use Rattle.std.specs.Prelude.{◌≡◌, ◌⊎◌, ◌≤◌, ℕ, Bool, true, false, List, [], ◌∷◌, Option, Some, None, Result, Ok, Err, IsOk}
 use Rattle.std.specs.List.{flat_map}
 use Rattle.nob_ids.specs.Names.{IsSpace}
 use Rattle.nob_ids.specs.declared.limits.Limits.{Limits}
@@ -9,6 +9,7 @@ use Rattle.nob_ids.specs.declared.wire_rep.WireRep.{WireRep}
 use Rattle.nob_frame.specs.declared.frame.Frame.{Frame}
 use Rattle.nob_frame.specs.declared.fault.FrameFault.{FrameFault}
 use Rattle.nob_frame.specs.Spelling.{spelling}
+use Rattle.nob_host_parts.specs.Streams.{fresh_feeds}
 use Rattle.nob_model_types.specs.declared.answer.Answer.{Answer}
 use Rattle.nob_model_types.specs.declared.answer.Answer.TheVariants as answers
 use Rattle.nob_model_types.specs.declared.entry.Entry.{Entry}
@@ -117,6 +118,18 @@ pub record AreNumbers (id n window retry : ℕ) : Type 0 where
   pub high_window : window ≤ 64
   pub low_retry : 1 ≤ retry
   pub high_retry : retry ≤ 255
+
+-- a host of a space with these numbers, which has done nothing, and nothing is kept beside it
+pub record IsNew (host : Host) (number spaces most_given most_ticks : ℕ) : Type 0 where
+  pub id : host.space.id ≡ number
+  pub n : host.space.n ≡ spaces
+  pub window : host.space.limits.window ≡ most_given
+  pub retry : host.space.limits.retry ≡ most_ticks
+  pub stands : StandsFor host.space []
+  pub value : host.value ≡ None
+  pub answer : host.answer ≡ []
+  pub waiting : host.waiting ≡ []
+  pub feeds : host.feeds ≡ fresh_feeds
 
 -- the status and the bytes of a pickle that was asked for: 0 and the pickle, or its fault and what was there
 abbrev pub pickle_status : Result (List ℕ) PickleFault → ℕ

@@ -1,6 +1,6 @@
 //! What a space is asked, with numbers and bytes for references, peers, values and frames.
 
-ghost use Rattle.std.specs.Prelude.{◌≡◌, ⊥, List, None, Some};
+ghost use Rattle.std.specs.Prelude.{◌≡◌, ◌≤◌, List, None, Some};
 ghost use Rattle.nob_ids.specs.Names.{IsSpace};
 ghost use Rattle.nob_pickle.specs.declared.value.Value.{Value as ValueOf};
 ghost use Rattle.nob_pickle.specs.Reading.{value_read};
@@ -20,7 +20,7 @@ use crate::told::Told;
 use nob_host_parts::spelled_all;
 use nob_ids::{CallNo, JobNo, SpaceId, WireRep};
 use nob_model::{Event, Outcome};
-use nob_pickle::Bytes;
+use nob_pickle::{Bytes, Value};
 use nob_space::SpaceError;
 use std::alloc::Global;
 
@@ -31,6 +31,19 @@ pub(crate) fn untold(told: &mut Told, status: u32) -> u32
 {
     *told = Told::nothing();
     status
+}
+
+// The pickle of a value, in place of these bytes: the status.
+fn pickle_into(alloc: Global, value: &Value, answer: &mut Bytes) -> u32
+    ensures { Pickles (is_wanted result) result answer.old answer.new (pickle_of value.now) }
+{
+    match nob_pickle::encode(alloc, value) {
+        Ok(bytes) => {
+            *answer = Bytes::from_vec(bytes);
+            DONE
+        }
+        Err(error) => pickle_number(error),
+    }
 }
 
 impl Host {
@@ -102,9 +115,9 @@ impl Host {
         self.ask(&Event::TakeReply(CallNo::new(call)), told)
     }
 
-    /// Finish of a job that answered the value which a pickle spells. Else the number of the
-    /// pickle's first fault.
-    pub fn finish_answer(&mut self, alloc: Global, job: u64, pickle: &[u8], told: &mut Told) -> u32
+    // Finish of a job that answered the value which a pickle spells. Else the number of the
+    // pickle's first fault.
+    fn finish_answer(&mut self, alloc: Global, job: u64, pickle: &[u8], told: &mut Told) -> u32
         ensures asked { AskedBy (value_read pickle.now)
             (λ value. events.Finish job (outcomes.Answer value)) self.old self.new told.new result }
         ensures answer { self.new.answer ≡ self.old.answer }
@@ -118,9 +131,9 @@ impl Host {
         }
     }
 
-    /// Finish of a job that failed with the value which a pickle spells. Else the number of the
-    /// pickle's first fault.
-    pub fn finish_fault(&mut self, alloc: Global, job: u64, pickle: &[u8], told: &mut Told) -> u32
+    // Finish of a job that failed with the value which a pickle spells. Else the number of the
+    // pickle's first fault.
+    fn finish_fault(&mut self, alloc: Global, job: u64, pickle: &[u8], told: &mut Told) -> u32
         ensures asked { AskedBy (value_read pickle.now)
             (λ value. events.Finish job (outcomes.Fault value)) self.old self.new told.new result }
         ensures answer { self.new.answer ≡ self.old.answer }
@@ -134,13 +147,40 @@ impl Host {
         }
     }
 
-    /// Finish of a job that has no method.
-    pub fn finish_no_method(&mut self, job: u64, told: &mut Told) -> u32
+    // Finish of a job that has no method.
+    fn finish_no_method(&mut self, job: u64, told: &mut Told) -> u32
         ensures asked { HostAsked self.old (events.Finish job outcomes.NoMethod) self.new told.new
             result }
         ensures answer { self.new.answer ≡ self.old.answer }
     {
         self.ask(&Event::Finish(JobNo::new(job), Outcome::NoMethod), told)
+    }
+
+    /// Finish of a job by its outcome: 0 an answer, 1 a fault, 2 no such method, which needs no
+    /// pickle. 60 for any other.
+    pub fn finish(
+        &mut self,
+        alloc: Global,
+        job: u64,
+        outcome: u32,
+        pickle: &[u8],
+        told: &mut Told,
+    ) -> u32
+        ensures answered { outcome ≡ 0 → AskedBy (value_read pickle.now)
+            (λ value. events.Finish job (outcomes.Answer value)) self.old self.new told.new result }
+        ensures failed { outcome ≡ 1 → AskedBy (value_read pickle.now)
+            (λ value. events.Finish job (outcomes.Fault value)) self.old self.new told.new result }
+        ensures no_method { outcome ≡ 2 → HostAsked self.old (events.Finish job outcomes.NoMethod)
+            self.new told.new result }
+        ensures range { 3 ≤ outcome → Unasked self.old self.new told.new result 60 }
+        ensures answer { self.new.answer ≡ self.old.answer }
+    {
+        match outcome {
+            0 => self.finish_answer(alloc, job, pickle, told),
+            1 => self.finish_fault(alloc, job, pickle, told),
+            2 => self.finish_no_method(job, told),
+            _ => untold(told, OUT_OF_RANGE),
+        }
     }
 
     /// Act on an item of a peer. 60 where the peer is outside 1 to 32.
@@ -198,6 +238,7 @@ impl Host {
             ≡ answer_after (is_wanted result) (right_of self.old.space L (events.Transmit peer))
             self.old.answer }
     {
+        let _here = self.space.id().get();
         match self.space.frames(peer) {
             Ok(frames) => {
                 let Ok(bytes) = spelled_all(alloc, frames.as_slice()) else {
@@ -254,12 +295,6 @@ impl Host {
         let Some(value) = &self.value else {
             return NO_VALUE;
         };
-        match nob_pickle::encode(alloc, value) {
-            Ok(bytes) => {
-                self.answer = Bytes::from_vec(bytes);
-                DONE
-            }
-            Err(error) => pickle_number(error),
-        }
+        pickle_into(alloc, value, &mut self.answer)
     }
 }

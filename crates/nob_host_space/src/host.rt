@@ -1,9 +1,9 @@
 //! A space with what it keeps for a program in another language.
 
-ghost use Rattle.std.specs.Prelude.{◌≡◌, [], None, ⊥, Err, IfOk, IfErr};
+ghost use Rattle.std.specs.Prelude.{◌≡◌, ◌≤◌, [], None, Err, IfOk, IfErr};
 ghost use Rattle.nob_host_parts.specs.Streams.{fresh_feeds};
 ghost use Rattle.nob_space.specs.Spaces.{StandsFor};
-ghost use Rattle.nob_host_space.specs.Asked.{AreNumbers, HostAsked, value_with};
+ghost use Rattle.nob_host_space.specs.Asked.{AreNumbers, HostAsked, IsNew, value_with};
 
 use crate::numbers::{DONE, OUT_OF_RANGE, WANTED, error_number};
 use crate::told::Told;
@@ -95,15 +95,7 @@ impl Host {
     /// limits of its sessions. Else why there is none: 60 where a number is outside its range, 14
     /// for want of memory.
     pub fn new(alloc: Global, id: u16, n: u16, window: u64, retry: u64) -> Result<Host, u32>
-        ensures id { IfOk result (λ host. host.space.id ≡ id) }
-        ensures n { IfOk result (λ host. host.space.n ≡ n) }
-        ensures window { IfOk result (λ host. host.space.limits.window ≡ window) }
-        ensures retry { IfOk result (λ host. host.space.limits.retry ≡ retry) }
-        ensures stands { IfOk result (λ host. StandsFor host.space []) }
-        ensures value { IfOk result (λ host. host.value ≡ None) }
-        ensures answer { IfOk result (λ host. host.answer ≡ []) }
-        ensures waiting { IfOk result (λ host. host.waiting ≡ []) }
-        ensures feeds { IfOk result (λ host. host.feeds ≡ fresh_feeds) }
+        ensures made { IfOk result (λ host. IsNew host id n window retry) }
         ensures memory { AreNumbers id n window retry → IfErr result (λ status. status ≡ 14) }
         ensures range { (AreNumbers id n window retry → ⊥) → result ≡ Err 60 }
     {

@@ -1,9 +1,7 @@
 //! What can be seen of a space, in numbers.
 
-ghost use Rattle.std.specs.Prelude.{◌≡◌, ◌≤◌, ◌-◌, ◌++◌, ⊥, ℕ, List, false, length, take, drop, is_some};
-ghost use Rattle.std.specs.Int.{bit_at};
+ghost use Rattle.std.specs.Prelude.{◌≡◌, ◌++◌, List, false, length, take, drop};
 ghost use Rattle.nob_ids.specs.Names.{IsSpace};
-ghost use Rattle.nob_host_parts.specs.Bits.{bit_of};
 ghost use Rattle.nob_model_types.specs.declared.entry.Entry.{Entry};
 ghost use Rattle.nob_model_words.specs.Deeds.{deeds};
 ghost use Rattle.nob_model_history.specs.Histories.{history};
@@ -96,27 +94,7 @@ impl Host {
 
     /// What the space could do next.
     pub fn work(&self) -> Work
-        ensures act { (L : List Entry) → StandsFor self.now.space L → (p : ℕ) → 1 ≤ p → p ≤ 32
-            → bit_at result.act (p - 1) ≡ bit_of (next.can_act self.now.space.id self.now.space.n p
-            (history self.now.space.id self.now.space.n L)) }
-        ensures send { (L : List Entry) → StandsFor self.now.space L → (p : ℕ) → 1 ≤ p → p ≤ 32
-            → bit_at result.send (p - 1) ≡ bit_of (next.can_send self.now.space.id
-            self.now.space.n p self.now.space.limits.window
-            (history self.now.space.id self.now.space.n L)) }
-        ensures settle { (L : List Entry) → StandsFor self.now.space L → result.settle
-            ≡ next.can_settle self.now.space.id self.now.space.n
-            (history self.now.space.id self.now.space.n L) }
-        ensures clean { (L : List Entry) → StandsFor self.now.space L → result.clean
-            ≡ next.can_clean self.now.space.id self.now.space.n
-            (history self.now.space.id self.now.space.n L) }
-        ensures claim { (L : List Entry) → StandsFor self.now.space L → result.claim
-            ≡ next.can_claim (history self.now.space.id self.now.space.n L) }
-        ensures withdraw { (L : List Entry) → StandsFor self.now.space L → result.withdraw
-            ≡ is_some (next.to_withdraw self.now.space.id
-            (history self.now.space.id self.now.space.n L)) }
-        ensures index { (L : List Entry) → StandsFor self.now.space L → result.index
-            ≡ looks.or_zero (next.to_withdraw self.now.space.id
-            (history self.now.space.id self.now.space.n L)) }
+        ensures { looks.ShowsWork self.now.space result }
     {
         let work = self.space.work();
         Work {

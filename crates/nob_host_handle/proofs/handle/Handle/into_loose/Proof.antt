@@ -4,7 +4,7 @@ use Rattle.std.specs.Prelude.{IsSome}
 use Rattle.std.specs.declared.option.Option.TheVariants.{Some}
 use Rattle.std.proofs.alloc.Global.TheLaws as heap_laws
 use Rattle.std.specs.contracts.impls.GlobalAllocator.TheImpl.{ghosts}
-use Rattle.nob_host_space.specs.contracts.Host.{the_row as host}
+use Rattle.nob_host_space.specs.contracts.host.Host.{the_row as host}
 use Rattle.nob_host_handle.proofs.Values.{both, both_fit, Heap, Handle, Loose, fits, loose_in, handle_out}
 use Rattle.nob_host_handle.specs.contracts.handle.Handle.into_loose as f
 use Rattle.nob_host_handle.proofs.handle.Handle.into_loose.Statement.{statement}
