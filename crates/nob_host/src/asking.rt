@@ -20,13 +20,10 @@ use std::alloc::Global;
 
 /// Export: a new object, once in the hand.
 #[unsafe(no_mangle)]
-pub extern "C" fn nob_export(
-    handle: &mut Handle,
-    alloc: Global,
-    told: &mut Told,
-) -> u32
+pub extern "C" fn nob_export(handle: &mut Handle, alloc: Global, told: &mut Told) -> u32
     requires { IsSome handle.old.held }
-    ensures asked { Through handle.old.held handle.new.held (λ old new. HostAsked old (events.Export) new told.new result) }
+    ensures asked { Through handle.old.held handle.new.held (λ old new. HostAsked old
+        events.Export new told.new result) }
     ensures answer { Through handle.old.held handle.new.held (λ old new. new.answer ≡ old.answer) }
 {
     let mut host = handle.take(alloc);
@@ -45,9 +42,11 @@ pub extern "C" fn nob_dup(
     told: &mut Told,
 ) -> u32
     requires { IsSome handle.old.held }
-    ensures asked { IsSpace owner → Through handle.old.held handle.new.held (λ old new. HostAsked old (events.Dup (reference owner index)) new told.new result) }
+    ensures asked { IsSpace owner → Through handle.old.held handle.new.held (λ old new. HostAsked
+        old (events.Dup (reference owner index)) new told.new result) }
     ensures answer { Through handle.old.held handle.new.held (λ old new. new.answer ≡ old.answer) }
-    ensures range { (IsSpace owner → ⊥) → Through handle.old.held handle.new.held (λ old new. Unasked old new told.new result 60) }
+    ensures range { (IsSpace owner → ⊥) → Through handle.old.held handle.new.held (λ old new.
+        Unasked old new told.new result 60) }
 {
     let mut host = handle.take(alloc);
     let status = host.dup(owner, index, told);
@@ -65,9 +64,11 @@ pub extern "C" fn nob_release(
     told: &mut Told,
 ) -> u32
     requires { IsSome handle.old.held }
-    ensures asked { IsSpace owner → Through handle.old.held handle.new.held (λ old new. HostAsked old (events.Release (reference owner index)) new told.new result) }
+    ensures asked { IsSpace owner → Through handle.old.held handle.new.held (λ old new. HostAsked
+        old (events.Release (reference owner index)) new told.new result) }
     ensures answer { Through handle.old.held handle.new.held (λ old new. new.answer ≡ old.answer) }
-    ensures range { (IsSpace owner → ⊥) → Through handle.old.held handle.new.held (λ old new. Unasked old new told.new result 60) }
+    ensures range { (IsSpace owner → ⊥) → Through handle.old.held handle.new.held (λ old new.
+        Unasked old new told.new result 60) }
 {
     let mut host = handle.take(alloc);
     let status = host.release(owner, index, told);
@@ -87,9 +88,12 @@ pub extern "C" fn nob_call(
     told: &mut Told,
 ) -> u32
     requires { IsSome handle.old.held }
-    ensures asked { IsSpace owner → Through handle.old.held handle.new.held (λ old new. AskedBy (value_read pickle.now) (λ value. events.Call (reference owner index) method value) old new told.new result) }
+    ensures asked { IsSpace owner → Through handle.old.held handle.new.held (λ old new. AskedBy
+        (value_read pickle.now) (λ value. events.Call (reference owner index) method value) old new
+        told.new result) }
     ensures answer { Through handle.old.held handle.new.held (λ old new. new.answer ≡ old.answer) }
-    ensures range { (IsSpace owner → ⊥) → Through handle.old.held handle.new.held (λ old new. Unasked old new told.new result 60) }
+    ensures range { (IsSpace owner → ⊥) → Through handle.old.held handle.new.held (λ old new.
+        Unasked old new told.new result 60) }
 {
     let mut host = handle.take(alloc);
     let status = host.call(alloc, owner, index, method, pickle, told);
@@ -106,7 +110,8 @@ pub extern "C" fn nob_take_reply(
     told: &mut Told,
 ) -> u32
     requires { IsSome handle.old.held }
-    ensures asked { Through handle.old.held handle.new.held (λ old new. HostAsked old (events.TakeReply call) new told.new result) }
+    ensures asked { Through handle.old.held handle.new.held (λ old new. HostAsked old
+        (events.TakeReply call) new told.new result) }
     ensures answer { Through handle.old.held handle.new.held (λ old new. new.answer ≡ old.answer) }
 {
     let mut host = handle.take(alloc);
@@ -117,13 +122,10 @@ pub extern "C" fn nob_take_reply(
 
 /// Claim: a job; its argument is kept.
 #[unsafe(no_mangle)]
-pub extern "C" fn nob_claim(
-    handle: &mut Handle,
-    alloc: Global,
-    told: &mut Told,
-) -> u32
+pub extern "C" fn nob_claim(handle: &mut Handle, alloc: Global, told: &mut Told) -> u32
     requires { IsSome handle.old.held }
-    ensures asked { Through handle.old.held handle.new.held (λ old new. HostAsked old (events.Claim) new told.new result) }
+    ensures asked { Through handle.old.held handle.new.held (λ old new. HostAsked old events.Claim
+        new told.new result) }
     ensures answer { Through handle.old.held handle.new.held (λ old new. new.answer ≡ old.answer) }
 {
     let mut host = handle.take(alloc);
@@ -143,10 +145,16 @@ pub extern "C" fn nob_finish(
     told: &mut Told,
 ) -> u32
     requires { IsSome handle.old.held }
-    ensures answered { outcome ≡ 0 → Through handle.old.held handle.new.held (λ old new. AskedBy (value_read pickle.now) (λ value. events.Finish job (outcomes.Answer value)) old new told.new result) }
-    ensures failed { outcome ≡ 1 → Through handle.old.held handle.new.held (λ old new. AskedBy (value_read pickle.now) (λ value. events.Finish job (outcomes.Fault value)) old new told.new result) }
-    ensures no_method { outcome ≡ 2 → Through handle.old.held handle.new.held (λ old new. HostAsked old (events.Finish job outcomes.NoMethod) new told.new result) }
-    ensures range { 3 ≤ outcome → Through handle.old.held handle.new.held (λ old new. Unasked old new told.new result 60) }
+    ensures answered { outcome ≡ 0 → Through handle.old.held handle.new.held (λ old new. AskedBy
+        (value_read pickle.now) (λ value. events.Finish job (outcomes.Answer value)) old new
+        told.new result) }
+    ensures failed { outcome ≡ 1 → Through handle.old.held handle.new.held (λ old new. AskedBy
+        (value_read pickle.now) (λ value. events.Finish job (outcomes.Fault value)) old new told.new
+        result) }
+    ensures no_method { outcome ≡ 2 → Through handle.old.held handle.new.held (λ old new. HostAsked
+        old (events.Finish job outcomes.NoMethod) new told.new result) }
+    ensures range { 3 ≤ outcome → Through handle.old.held handle.new.held (λ old new. Unasked old
+        new told.new result 60) }
     ensures answer { Through handle.old.held handle.new.held (λ old new. new.answer ≡ old.answer) }
 {
     let mut host = handle.take(alloc);
@@ -157,16 +165,13 @@ pub extern "C" fn nob_finish(
 
 /// Act on the next item of a peer.
 #[unsafe(no_mangle)]
-pub extern "C" fn nob_act(
-    handle: &mut Handle,
-    alloc: Global,
-    peer: u16,
-    told: &mut Told,
-) -> u32
+pub extern "C" fn nob_act(handle: &mut Handle, alloc: Global, peer: u16, told: &mut Told) -> u32
     requires { IsSome handle.old.held }
-    ensures asked { IsSpace peer → Through handle.old.held handle.new.held (λ old new. HostAsked old (events.Act peer) new told.new result) }
+    ensures asked { IsSpace peer → Through handle.old.held handle.new.held (λ old new. HostAsked old
+        (events.Act peer) new told.new result) }
     ensures answer { Through handle.old.held handle.new.held (λ old new. new.answer ≡ old.answer) }
-    ensures range { (IsSpace peer → ⊥) → Through handle.old.held handle.new.held (λ old new. Unasked old new told.new result 60) }
+    ensures range { (IsSpace peer → ⊥) → Through handle.old.held handle.new.held (λ old new. Unasked
+        old new told.new result 60) }
 {
     let mut host = handle.take(alloc);
     let status = host.act(peer, told);
@@ -176,13 +181,10 @@ pub extern "C" fn nob_act(
 
 /// Settle: a message whose references are all resolved.
 #[unsafe(no_mangle)]
-pub extern "C" fn nob_settle(
-    handle: &mut Handle,
-    alloc: Global,
-    told: &mut Told,
-) -> u32
+pub extern "C" fn nob_settle(handle: &mut Handle, alloc: Global, told: &mut Told) -> u32
     requires { IsSome handle.old.held }
-    ensures asked { Through handle.old.held handle.new.held (λ old new. HostAsked old (events.Settle) new told.new result) }
+    ensures asked { Through handle.old.held handle.new.held (λ old new. HostAsked old
+        events.Settle new told.new result) }
     ensures answer { Through handle.old.held handle.new.held (λ old new. new.answer ≡ old.answer) }
 {
     let mut host = handle.take(alloc);
@@ -193,13 +195,10 @@ pub extern "C" fn nob_settle(
 
 /// Clean: a surrogate that nothing uses is given up.
 #[unsafe(no_mangle)]
-pub extern "C" fn nob_clean(
-    handle: &mut Handle,
-    alloc: Global,
-    told: &mut Told,
-) -> u32
+pub extern "C" fn nob_clean(handle: &mut Handle, alloc: Global, told: &mut Told) -> u32
     requires { IsSome handle.old.held }
-    ensures asked { Through handle.old.held handle.new.held (λ old new. HostAsked old (events.Clean) new told.new result) }
+    ensures asked { Through handle.old.held handle.new.held (λ old new. HostAsked old events.Clean
+        new told.new result) }
     ensures answer { Through handle.old.held handle.new.held (λ old new. new.answer ≡ old.answer) }
 {
     let mut host = handle.take(alloc);
@@ -217,7 +216,8 @@ pub extern "C" fn nob_withdraw(
     told: &mut Told,
 ) -> u32
     requires { IsSome handle.old.held }
-    ensures asked { Through handle.old.held handle.new.held (λ old new. HostAsked old (events.Withdraw index) new told.new result) }
+    ensures asked { Through handle.old.held handle.new.held (λ old new. HostAsked old
+        (events.Withdraw index) new told.new result) }
     ensures answer { Through handle.old.held handle.new.held (λ old new. new.answer ≡ old.answer) }
 {
     let mut host = handle.take(alloc);
@@ -235,9 +235,13 @@ pub extern "C" fn nob_transmit(
     told: &mut Told,
 ) -> u32
     requires { IsSome handle.old.held }
-    ensures asked { IsSpace peer → Through handle.old.held handle.new.held (λ old new. HostAsked old (events.Transmit peer) new told.new result) }
-    ensures answer { IsSpace peer → Through handle.old.held handle.new.held (λ old new. (L : List Entry) → StandsFor old.space L → new.answer ≡ answer_after (is_wanted result) (right_of old.space L (events.Transmit peer)) old.answer) }
-    ensures range { (IsSpace peer → ⊥) → Through handle.old.held handle.new.held (λ old new. Unasked old new told.new result 60) }
+    ensures asked { IsSpace peer → Through handle.old.held handle.new.held (λ old new. HostAsked old
+        (events.Transmit peer) new told.new result) }
+    ensures answer { IsSpace peer → Through handle.old.held handle.new.held (λ old new. (L : List
+        Entry) → StandsFor old.space L → new.answer ≡ answer_after (is_wanted result) (right_of
+        old.space L (events.Transmit peer)) old.answer) }
+    ensures range { (IsSpace peer → ⊥) → Through handle.old.held handle.new.held (λ old new. Unasked
+        old new told.new result 60) }
 {
     let mut host = handle.take(alloc);
     let status = host.transmit(alloc, peer, told);
@@ -254,7 +258,8 @@ pub extern "C" fn nob_arrive(
     told: &mut Told,
 ) -> u32
     requires { IsSome handle.old.held }
-    ensures came { Through handle.old.held handle.new.held (λ old new. CameBy (frame_at frame.now) old new told.new result) }
+    ensures came { Through handle.old.held handle.new.held (λ old new. CameBy (frame_at frame.now)
+        old new told.new result) }
 {
     let mut host = handle.take(alloc);
     let status = host.arrive(alloc, frame, told);
@@ -264,16 +269,13 @@ pub extern "C" fn nob_arrive(
 
 /// Tick: the session with a peer counts one more.
 #[unsafe(no_mangle)]
-pub extern "C" fn nob_tick(
-    handle: &mut Handle,
-    alloc: Global,
-    peer: u16,
-    told: &mut Told,
-) -> u32
+pub extern "C" fn nob_tick(handle: &mut Handle, alloc: Global, peer: u16, told: &mut Told) -> u32
     requires { IsSome handle.old.held }
-    ensures asked { IsSpace peer → Through handle.old.held handle.new.held (λ old new. HostAsked old (events.Tick peer) new told.new result) }
+    ensures asked { IsSpace peer → Through handle.old.held handle.new.held (λ old new. HostAsked old
+        (events.Tick peer) new told.new result) }
     ensures answer { Through handle.old.held handle.new.held (λ old new. new.answer ≡ old.answer) }
-    ensures range { (IsSpace peer → ⊥) → Through handle.old.held handle.new.held (λ old new. Unasked old new told.new result 60) }
+    ensures range { (IsSpace peer → ⊥) → Through handle.old.held handle.new.held (λ old new. Unasked
+        old new told.new result 60) }
 {
     let mut host = handle.take(alloc);
     let status = host.tick(peer, told);
@@ -283,16 +285,13 @@ pub extern "C" fn nob_tick(
 
 /// Close: the session with a peer closes here.
 #[unsafe(no_mangle)]
-pub extern "C" fn nob_close(
-    handle: &mut Handle,
-    alloc: Global,
-    peer: u16,
-    told: &mut Told,
-) -> u32
+pub extern "C" fn nob_close(handle: &mut Handle, alloc: Global, peer: u16, told: &mut Told) -> u32
     requires { IsSome handle.old.held }
-    ensures asked { IsSpace peer → Through handle.old.held handle.new.held (λ old new. HostAsked old (events.Close peer) new told.new result) }
+    ensures asked { IsSpace peer → Through handle.old.held handle.new.held (λ old new. HostAsked old
+        (events.Close peer) new told.new result) }
     ensures answer { Through handle.old.held handle.new.held (λ old new. new.answer ≡ old.answer) }
-    ensures range { (IsSpace peer → ⊥) → Through handle.old.held handle.new.held (λ old new. Unasked old new told.new result 60) }
+    ensures range { (IsSpace peer → ⊥) → Through handle.old.held handle.new.held (λ old new. Unasked
+        old new told.new result 60) }
 {
     let mut host = handle.take(alloc);
     let status = host.close(peer, told);

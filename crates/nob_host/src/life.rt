@@ -8,7 +8,8 @@ use nob_host_handle::Handle;
 use nob_host_space::Host;
 use std::alloc::Global;
 
-/// Makes a space, which the handle keeps: the status. 60 where a number is outside its range, 14 for
+/// Makes a space, which the handle keeps: the status. 60 where a number is outside its range, 14
+/// for
 /// want of memory; the handle keeps nothing then.
 #[unsafe(no_mangle)]
 pub extern "C" fn nob_new(

@@ -21,10 +21,7 @@ use std::alloc::Global;
 
 /// The number of the space.
 #[unsafe(no_mangle)]
-pub extern "C" fn nob_id(
-    handle: &mut Handle,
-    alloc: Global,
-) -> u16
+pub extern "C" fn nob_id(handle: &mut Handle, alloc: Global) -> u16
     requires { IsSome handle.old.held }
     ensures id { Through handle.old.held handle.new.held (λ old new. result ≡ old.space.id) }
     ensures same { Through handle.old.held handle.new.held (λ old new. new ≡ old) }
@@ -37,10 +34,7 @@ pub extern "C" fn nob_id(
 
 /// How many spaces there are.
 #[unsafe(no_mangle)]
-pub extern "C" fn nob_n(
-    handle: &mut Handle,
-    alloc: Global,
-) -> u16
+pub extern "C" fn nob_n(handle: &mut Handle, alloc: Global) -> u16
     requires { IsSome handle.old.held }
     ensures n { Through handle.old.held handle.new.held (λ old new. result ≡ old.space.n) }
     ensures same { Through handle.old.held handle.new.held (λ old new. new ≡ old) }
@@ -53,14 +47,10 @@ pub extern "C" fn nob_n(
 
 /// Whether a client is listed for the object of an index.
 #[unsafe(no_mangle)]
-pub extern "C" fn nob_lists(
-    handle: &mut Handle,
-    alloc: Global,
-    index: u64,
-    client: u16,
-) -> bool
+pub extern "C" fn nob_lists(handle: &mut Handle, alloc: Global, index: u64, client: u16) -> bool
     requires { IsSome handle.old.held }
-    ensures listed { IsSpace client → Through handle.old.held handle.new.held (λ old new. (L : List Entry) → StandsFor old.space L → result ≡ is_listed old.space.id index client (deeds L)) }
+    ensures listed { IsSpace client → Through handle.old.held handle.new.held (λ old new. (L : List
+        Entry) → StandsFor old.space L → result ≡ is_listed old.space.id index client (deeds L)) }
     ensures range { (IsSpace client → ⊥) → result ≡ false }
     ensures same { Through handle.old.held handle.new.held (λ old new. new ≡ old) }
 {
@@ -72,13 +62,11 @@ pub extern "C" fn nob_lists(
 
 /// Whether TakeReply of a call would say anything but that the reply isn't ready.
 #[unsafe(no_mangle)]
-pub extern "C" fn nob_reply_ready(
-    handle: &mut Handle,
-    alloc: Global,
-    call: u64,
-) -> bool
+pub extern "C" fn nob_reply_ready(handle: &mut Handle, alloc: Global, call: u64) -> bool
     requires { IsSome handle.old.held }
-    ensures ready { Through handle.old.held handle.new.held (λ old new. (L : List Entry) → StandsFor old.space L → result ≡ next.reply_ready call (history old.space.id old.space.n L)) }
+    ensures ready { Through handle.old.held handle.new.held (λ old new. (L : List Entry)
+        → StandsFor old.space L → result ≡ next.reply_ready call (history old.space.id old.space.n
+        L)) }
     ensures same { Through handle.old.held handle.new.held (λ old new. new ≡ old) }
 {
     let host = handle.take(alloc);
@@ -87,15 +75,14 @@ pub extern "C" fn nob_reply_ready(
     ready
 }
 
-/// What a Transmit to a peer would give: 0 nothing, 1 an Ack alone, 2 items that were given before, 3 new ones, 4 the Close that is owed.
+/// What a Transmit to a peer would give: 0 nothing, 1 an Ack alone, 2 items that were given before,
+/// 3 new ones, 4 the Close that is owed.
 #[unsafe(no_mangle)]
-pub extern "C" fn nob_due(
-    handle: &mut Handle,
-    alloc: Global,
-    peer: u16,
-) -> u32
+pub extern "C" fn nob_due(handle: &mut Handle, alloc: Global, peer: u16) -> u32
     requires { IsSome handle.old.held }
-    ensures due { IsSpace peer → Through handle.old.held handle.new.held (λ old new. (L : List Entry) → StandsFor old.space L → result ≡ looks.due_number (dues.due old.space.id old.space.n peer old.space.limits.window (history old.space.id old.space.n L))) }
+    ensures due { IsSpace peer → Through handle.old.held handle.new.held (λ old new. (L : List
+        Entry) → StandsFor old.space L → result ≡ looks.due_number (dues.due old.space.id
+        old.space.n peer old.space.limits.window (history old.space.id old.space.n L))) }
     ensures range { (IsSpace peer → ⊥) → result ≡ 0 }
     ensures same { Through handle.old.held handle.new.held (λ old new. new ≡ old) }
 {

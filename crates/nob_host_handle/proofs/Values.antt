@@ -38,7 +38,7 @@ module _ (R Z : RattleType) (L : Laws Z) (g : Ghosts Z.Denot) where
     -- it is taken apart: its pointer is in a block, and the box there is owned beside the handle
     pub loose_out : K → (d : Loose.Denot) (vs : List Val)
         → ((b o : ℕ) (h : Val) → d.at ≡ block_ptr b o → vs ≡ both (vptr b o) h ∷ [] → Good (layout Z) h
-          → Seq K 𝓛 (‵ (box_owns (g.dealloc_token d.alloc) R (block_ptr b o) d.value) ∷ ‵ (Z.own_val d.alloc (h ∷ [])) ∷ Γ) G)
+        → Seq K 𝓛 (‵ (box_owns (g.dealloc_token d.alloc) R (block_ptr b o) d.value) ∷ ‵ (Z.own_val d.alloc (h ∷ [])) ∷ Γ) G)
         → Seq K 𝓛 (‵ (Loose.own_val d vs) ∷ Γ) G
     loose_out t d vs goes = fsplit t $ fpick t (λ parts. fsplit t $ feq_l t (λ at_all. fsplit t $ feq_l t (λ at_ptr.
         fsplit t $ handle_tells al t d.alloc parts.1.0 (λ h at_handle good. move t (1 ∷ []) $ drop t $ move t (1 ∷ []) $
@@ -50,7 +50,7 @@ module _ (R Z : RattleType) (L : Laws Z) (g : Ghosts Z.Denot) where
     -- and put together
     pub loose_in : K → (b o : ℕ) (h : Val) (a : Z.Denot) (x : R.Denot)
         → Step K 𝓛 (‵ (Loose.own_val (record { at = block_ptr b o; alloc = a; value = x }) (both (vptr b o) h ∷ [])) ∷ Γ) G
-          (‵ (box_owns (g.dealloc_token a) R (block_ptr b o) x) ∷ ‵ (Z.own_val a (h ∷ [])) ∷ Γ) G
+        (‵ (box_owns (g.dealloc_token a) R (block_ptr b o) x) ∷ ‵ (Z.own_val a (h ∷ [])) ∷ Γ) G
     loose_in t b o h a x = step (λ s. let v : Val = both (vptr b o) h in
         nothing t $ move t (2 ∷ 0 ∷ []) $ fjoin t $ feq_i t (List Val) (vptr b o ∷ []) (vptr b o ∷ []) refl $ fjoin t $ feq_i t (List Val) (v ∷ []) (v ∷ []) refl $ fjoin t $
         fpack t (Valss (RawPtr ∷ Z ∷ [])) (within (shape (loose.the_type R Z g)) (block_ptr b o, (a, tt)) (v ∷ [])) (vptr b o ∷ [], (h ∷ [], tt)) $ fjoin t $ s)
@@ -84,7 +84,7 @@ module _ {M : Type 1} {𝓤 : Ura M} {𝓛 : Logic 𝓤} {K : Type 0} {Γ : List
   -- a handle is put together
   pub handle_in : K → (p : Ptr) (h : Val) (a : Global) (k : Option host.Denot)
       → Step K 𝓛 (‵ (Handle.own_val (record { at = p; alloc = a; held = k }) (both (ptr_val p) h ∷ [])) ∷ Γ) G
-        (‵ (kept (ghosts.dealloc_token a) host p k) ∷ ‵ (Heap.own_val a (h ∷ [])) ∷ Γ) G
+      (‵ (kept (ghosts.dealloc_token a) host p k) ∷ ‵ (Heap.own_val a (h ∷ [])) ∷ Γ) G
   handle_in t p h a k = step (λ s. let v : Val = both (ptr_val p) h in
       nothing t $ move t (2 ∷ 0 ∷ []) $ fjoin t $ feq_i t (List Val) (ptr_val p ∷ []) (ptr_val p ∷ []) refl $ fjoin t $ feq_i t (List Val) (v ∷ []) (v ∷ []) refl $ fjoin t $
       fpack t (Valss (RawPtr ∷ Heap ∷ [])) (within (shape handle.the_type) (p, (heap.the_field.into a, tt)) (v ∷ [])) (ptr_val p ∷ [], (h ∷ [], tt)) $ fjoin t $ s)
@@ -92,7 +92,7 @@ module _ {M : Type 1} {𝓤 : Ura M} {𝓛 : Logic 𝓤} {K : Type 0} {Γ : List
   -- and taken apart, where it keeps something
   pub handle_out : K → (d : Handle.Denot) (vs : List Val) → IsSome d.held
       → ((b o : ℕ) (h : Val) (x : host.Denot) → d.held ≡ Some x → d.at ≡ block_ptr b o → vs ≡ both (vptr b o) h ∷ [] → Good (layout Heap) h
-        → Seq K 𝓛 (‵ (box_owns (ghosts.dealloc_token d.alloc) host (block_ptr b o) x) ∷ ‵ (Heap.own_val d.alloc (h ∷ [])) ∷ Γ) G)
+      → Seq K 𝓛 (‵ (box_owns (ghosts.dealloc_token d.alloc) host (block_ptr b o) x) ∷ ‵ (Heap.own_val d.alloc (h ∷ [])) ∷ Γ) G)
       → Seq K 𝓛 (‵ (Handle.own_val d vs) ∷ Γ) G
   handle_out t d vs is goes = fsplit t $ fpick t (λ parts. fsplit t $ feq_l t (λ at_all. fsplit t $ feq_l t (λ at_ptr.
       fsplit t $ heap_tells t d.alloc parts.1.0 (λ h at_handle good. move t (1 ∷ []) $ drop t $ move t (1 ∷ []) $

@@ -1,6 +1,6 @@
 //! Streams of frames that come in pieces.
 
-ghost use Rattle.std.specs.Prelude.{◌≡◌, ◌≢◌, [], ◌∷◌, List, Ok};
+ghost use Rattle.std.specs.Prelude.{◌≡◌, [], ◌∷◌, List, Ok};
 ghost use Rattle.nob_ids.specs.Names.{IsSpace};
 ghost use Rattle.nob_frame.specs.declared.frame.Frame.{Frame as FrameOf};
 ghost use Rattle.nob_host_parts.specs.Streams.{feed_at, SameButOf};
@@ -11,9 +11,7 @@ ghost use Rattle.nob_host_space.specs.Streams.{Pushed, BroughtOrWants};
 use crate::asking::untold;
 use crate::bringing::bring;
 use crate::host::Host;
-use crate::numbers::{
-    DONE, NONE_WAITS, OUT_OF_RANGE, STILL_WAITING, WANTED, frame_number,
-};
+use crate::numbers::{DONE, NONE_WAITS, OUT_OF_RANGE, STILL_WAITING, WANTED, frame_number};
 use crate::told::Told;
 use nob_host_parts::{Waiting, spelled};
 use nob_ids::SpaceId;
@@ -52,8 +50,8 @@ impl Host {
         ensures space { self.new.space ≡ self.old.space }
         ensures value { self.new.value ≡ self.old.value }
         ensures answer { self.new.answer ≡ self.old.answer }
-        ensures waits { IsSpace peer → self.old.waiting ≢ []
-            → Unasked self.old self.new told.new result 61 }
+        ensures waits { IsSpace peer → (frame : FrameOf) (rest : List FrameOf)
+            → self.old.waiting ≡ frame ∷ rest → Unasked self.old self.new told.new result 61 }
         ensures range { (IsSpace peer → ⊥) → Unasked self.old self.new told.new result 60 }
     {
         let Some(peer) = SpaceId::new(peer) else {
