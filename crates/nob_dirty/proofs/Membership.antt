@@ -1,26 +1,10 @@
--- What is listed after a filter, and which clients an index has.
-use Rattle.std.proofs.Common.{◌≡◌, ◌↔◌, ℕ, ◌==◌, ◌&&◌, ◌||◌, not, true, false, List, [], ◌∷◌, map, filter, cond, refl, sym, ap, ◌∙◌}
+-- Where no listing has an index, no client is listed there, and the other way round.
+use Rattle.std.proofs.Common.{◌≡◌, ◌↔◌, ℕ, ◌==◌, ◌&&◌, ◌||◌, not, true, false, List, [], ◌∷◌, refl, sym, ◌∙◌}
 use mathlib.Core.Bool.{true≢false}
-use Rattle.std.proofs.lemmas.Bool.Decides.{Decides-eqb, Decides-and}
 use Rattle.std.proofs.lemmas.Cmp.{nat_eq_equiv}
-use Rattle.std.proofs.lemmas.Map.Views.{any-filter_same, Contains-from_any, list_any-from_Contains}
 use Rattle.std.specs.List.{list_any}
 use Rattle.nob_dirty.specs.declared.sets.Listing.{Listing}
-use Rattle.nob_dirty.specs.Sets.{is_of, has_index, lists, Leaves, LeavesAll, IsEmptyAt, AreClients}
-
--- the parts of a listing that is of an index and a client
-parts : (i c : ℕ) (l : Listing) → is_of i c l ≡ true → (l.index ≡ i) × (l.client ≡ c)
-parts i c l is = (Decides-and _ _ (Decides-eqb l.index i) (Decides-eqb l.client c)).0 is
-
-pub left_one : (index client : ℕ) (set : List Listing) → Leaves set (filter (λ l. not (is_of index client l)) set) index client
-left_one index client set i c =
-    any-filter_same (is_of i c) (λ l. not (is_of index client l)) (not (index == i && client == c))
-    (λ l is. let p = parts i c l is in rw (p.0, p.1, nat_eq_equiv.symm i index, nat_eq_equiv.symm c client) refl) set
-
-pub left_all : (client : ℕ) (set : List Listing) → LeavesAll set (filter (λ l. not (l.client == client)) set) client
-left_all client set i c =
-    any-filter_same (is_of i c) (λ l. not (l.client == client)) (not (client == c))
-    (λ l is. let p = parts i c l is in rw (p.1, nat_eq_equiv.symm c client) refl) set
+use Rattle.nob_dirty.specs.Sets.{has_index, lists, IsEmptyAt}
 
 -- where no listing has the index no client is listed there
 none_there : (index : ℕ) (set : List Listing) → list_any (has_index index) set ≡ false → IsEmptyAt set index
@@ -48,19 +32,4 @@ empty_there index set = (
     | true ↦ λ some. let found = some_there index set some in absurd (true≢false (sym found.1 ∙ empty found.0))
     | false ↦ λ _. refl
   ] refl,
-)
-
--- the clients found at an index
-pub found_there : (index client : ℕ) (set : List Listing) → list_any (λ c. client == c) (map (λ (l : Listing). l.client) (filter (has_index index) set)) ≡ lists set index client
-found_there index client [] = refl
-found_there index client (l ∷ set) =
-    elim (l.index == index) as (λ b. list_any (λ c. client == c) (map (λ (m : Listing). m.client) (cond b (l ∷ filter (has_index index) set) (filter (has_index index) set))) ≡ ((b && l.client == client) || lists set index client)) [
-      | true ↦ rw (found_there index client set, nat_eq_equiv.symm client l.client) refl
-      | false ↦ found_there index client set
-    ]
-
-pub clients_there : (index : ℕ) (set : List Listing) (found : List ℕ) → found ≡ map (λ (l : Listing). l.client) (filter (has_index index) set) → AreClients set index found
-clients_there index set found is client = (
-  λ there. sym (found_there index client set) ∙ ap (λ (cs : List ℕ). list_any (λ c. client == c) cs) (sym is) ∙ list_any-from_Contains nat_eq_equiv client found there,
-  λ listed. Contains-from_any (λ x y same. (Decides-eqb x y).0 same) client found (ap (λ (cs : List ℕ). list_any (λ c. client == c) cs) is ∙ found_there index client set ∙ listed),
 )

@@ -1,6 +1,6 @@
 -- The pairs of an index and a client: which are listed, and what each call makes of that. No word tells their order.
-use Rattle.std.specs.Prelude.{◌≡◌, ◌↔◌, ◌≤◌, ℕ, ◌==◌, ◌&&◌, ◌||◌, Bool, true, false, not, List}
-use Rattle.std.specs.List.{list_any, count_by, Contains}
+use Rattle.std.specs.Prelude.{◌≡◌, ◌↔◌, ℕ, ◌==◌, ◌&&◌, ◌||◌, Bool, true, false, not, List}
+use Rattle.std.specs.List.{list_any, Contains}
 use Rattle.nob_dirty.specs.declared.sets.Listing.{Listing}
 
 -- whether the listing is of this index and client
@@ -14,10 +14,6 @@ has_index index listing = listing.index == index
 -- whether the client is listed at the index
 abbrev pub lists : List Listing → ℕ → ℕ → Bool
 lists set index client = list_any (is_of index client) set
-
--- no client is listed twice at an index
-abbrev pub IsOnce : List Listing → Type 0
-IsOnce set = (index client : ℕ) → count_by (is_of index client) set ≤ 1
 
 -- nothing is listed
 abbrev pub ListsNothing : List Listing → Type 0
@@ -46,3 +42,7 @@ LeavesAll old new client = (i c : ℕ) → lists new i c ≡ (not (client == c) 
 -- these are the clients that are listed at the index
 abbrev pub AreClients : List Listing → ℕ → List ℕ → Type 0
 AreClients set index clients = (client : ℕ) → Contains clients client ↔ (lists set index client ≡ true)
+
+-- these are the indexes at which the client is listed
+abbrev pub AreIndexes : List Listing → ℕ → List ℕ → Type 0
+AreIndexes set client indexes = (index : ℕ) → Contains indexes index ↔ (lists set index client ≡ true)

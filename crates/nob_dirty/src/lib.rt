@@ -4,6 +4,7 @@
 //! above says what happened.
 #![tactic(auto)]
 
+mod rows;
 mod sets;
 
-pub use sets::DirtySets;
+pub use sets::{DirtySets, Listing};

@@ -1,47 +1,42 @@
 //! The sets themselves.
 
-ghost use Rattle.std.specs.Prelude.{◌≡◌, ◌↔◌, true, map, filter, IsOk, OnOk, OnErr, IfOk};
-ghost use Rattle.std.specs.List.{list_any};
+ghost use Rattle.std.specs.Prelude.{◌≡◌, ◌↔◌, ℕ, true, false, IsOk, OnOk, OnErr, IfOk};
 ghost use Rattle.std.specs.List.Sorted.{IsStrictlyIncreasing};
-ghost use Rattle.nob_dirty.specs.Sets.{is_of, has_index, lists, ListsNothing, IsEmptyAt, ListsSame, Enters, Leaves, LeavesAll, AreClients};
+ghost use Rattle.nob_dirty.specs.Sets.{lists, ListsNothing, IsEmptyAt, ListsSame, Enters, Leaves, LeavesAll, AreClients, AreIndexes};
 
+use crate::rows::{Row, begin, clients_at, enter_at, has_clients, leave_at, lists, place_of};
 use nob_ids::SpaceId;
 use std::alloc::{AllocError, Global};
 use std::marker::Model;
 
-// A client at an index.
+/// A client at an index: what contracts see of the sets is a list of these.
 #[derive(Clone, Copy, Debug, PartialEq, Eq)]
-pub(crate) struct Listing {
-    pub(crate) index: u64,
-    pub(crate) client: SpaceId,
-}
-
-impl Listing {
-    // Whether it is of this index and client.
-    fn is_of(&self, index: u64, client: SpaceId) -> bool
-        ensures { result ≡ is_of index client self.now }
-    {
-        self.index == index && self.client == client
-    }
+pub struct Listing {
+    /// The index.
+    pub index: u64,
+    /// The client.
+    pub client: SpaceId,
 }
 
 /// The dirty sets of a space: a set of pairs of an index and a client, each kept once. Contracts
-/// see which client is listed at which index, and no order.
+/// see which client is listed at which index, and no order. A client that is listed has a row of
+/// its own, with its indexes in order; rows are at most as many as spaces, so that finding a row
+/// costs no more than a constant.
 #[derive(Debug, Drop)]
 pub struct DirtySets {
-    listings: Vec<Listing>,
+    rows: Vec<Row>,
 }
 
 impl Model for DirtySets {
     ghost use Rattle.std.specs.Prelude.{List};
     ghost use Rattle.nob_dirty.specs.declared.sets.Listing.{Listing};
-    ghost use Rattle.nob_dirty.specs.Sets.{IsOnce};
+    ghost use Rattle.nob_dirty.specs.Rows.{AreApart, all_listings};
 
     ghost Value = { List Listing };
 
-    ghost view = { λ sets. sets.listings.items };
+    ghost view = { λ sets. all_listings sets.rows.items };
 
-    ghost invariant = { λ sets. IsOnce sets.listings.items };
+    ghost invariant = { λ sets. AreApart sets.rows.items };
 }
 
 impl DirtySets {
@@ -50,45 +45,59 @@ impl DirtySets {
         ensures empty { ListsNothing result }
     {
         DirtySets {
-            listings: Vec::new(alloc),
+            rows: Vec::new(alloc),
         }
     }
 
-    /// Whether the client is listed at the index. Linear in the pairs.
+    /// Whether the client is listed at the index. One look-up among the client's indexes.
     pub fn lists(&self, index: u64, client: SpaceId) -> bool
         ensures { result ≡ lists self.now index client }
     {
-        self.listings
-            .iter()
-            .any(|listing| listing.is_of(index, client))
+        lists(&self.rows, Listing { index, client })
     }
 
-    /// Whether nobody is listed at the index. Linear in the pairs.
+    /// Whether nobody is listed at the index. One look-up for each client that has a row, until one
+    /// is found.
     pub fn is_empty(&self, index: u64) -> bool
         ensures { (result ≡ true) ↔ IsEmptyAt self.now index }
     {
-        !has_clients(&self.listings, index)
+        !has_clients(&self.rows, index)
     }
 
     /// The clients that are listed at the index, rising, each once. Only memory fails it, and
-    /// nobody takes none. Linear in the pairs, and a sort of the clients found.
+    /// nobody takes none. Two look-ups for each client that has a row, and a sort of the clients
+    /// found.
     pub fn clients(&self, index: u64) -> Result<Vec<SpaceId>, AllocError>
         ensures clients { IfOk result (λ found. AreClients self.now index found.items) }
         ensures rising { IfOk result (λ found. IsStrictlyIncreasing found.items) }
         ensures nobody { IsEmptyAt self.now index → IsOk result }
     {
-        let alloc = *self.listings.allocator();
+        let alloc = *self.rows.allocator();
         if self.is_empty(index) {
             return Ok(Vec::new(alloc));
         }
-        let mut found = clients_at(alloc, &self.listings, index)?;
+        let mut found = clients_at(alloc, &self.rows, index)?;
         found.sort_unstable();
         Ok(found)
     }
 
+    /// The indexes at which the client is listed, rising, each once. Only memory fails it, and a
+    /// client that is listed nowhere takes none. Linear in the indexes found.
+    pub fn indexes(&self, client: SpaceId) -> Result<Vec<u64>, AllocError>
+        ensures indexes { IfOk result (λ found. AreIndexes self.now client found.items) }
+        ensures rising { IfOk result (λ found. IsStrictlyIncreasing found.items) }
+        ensures nobody { ((index : ℕ) → lists self.now index client ≡ false) → IsOk result }
+    {
+        let alloc = *self.rows.allocator();
+        let Some(place) = place_of(&self.rows, client) else {
+            return Ok(Vec::new(alloc));
+        };
+        self.rows[place].indexes.rising(alloc)
+    }
+
     /// Lists the client at the index. A client that is listed there already stays so, and no memory
-    /// is needed then. Only memory fails it, and the sets are then as they were. Linear in the
-    /// pairs.
+    /// is needed then. Only memory fails it, and the sets are then as they were. Two look-ups among
+    /// the client's indexes.
     pub fn dirty(&mut self, index: u64, client: SpaceId) -> Result<(), AllocError>
         ensures enters { OnOk result (Enters self.old self.new index client) }
         ensures listed { lists self.old index client ≡ true → IsOk result }
@@ -97,41 +106,28 @@ impl DirtySets {
         if self.lists(index, client) {
             return Ok(());
         }
-        self.listings.push(Listing { index, client })?;
+        let Some(place) = place_of(&self.rows, client) else {
+            begin(&mut self.rows, index, client)?;
+            return Ok(());
+        };
+        enter_at(&mut self.rows, place, index)?;
         Ok(())
     }
 
-    /// Lists the client at the index no longer. Linear in the pairs.
+    /// Lists the client at the index no longer. One look-up among the client's indexes.
     pub fn clean(&mut self, index: u64, client: SpaceId)
         ensures leaves { Leaves self.old self.new index client }
     {
-        self.listings
-            .retain(|listing| !listing.is_of(index, client));
+        if let Some(place) = place_of(&self.rows, client) {
+            leave_at(&mut self.rows, place, index);
+        }
     }
 
-    /// Lists the client nowhere any longer: its session has closed. Linear in the pairs.
+    /// Lists the client nowhere any longer: its session has closed. Linear in the indexes at which
+    /// it was listed.
     pub fn close(&mut self, client: SpaceId)
         ensures leaves { LeavesAll self.old self.new client }
     {
-        self.listings.retain(|listing| listing.client != client);
+        self.rows.retain(|row| row.client != client);
     }
-}
-
-// Whether anybody is listed at the index.
-fn has_clients(listings: &[Listing], index: u64) -> bool
-    ensures { result ≡ list_any (has_index index) listings.now }
-{
-    listings.iter().any(|listing| listing.index == index)
-}
-
-// The clients at the index, in no order.
-fn clients_at(alloc: Global, listings: &[Listing], index: u64) -> Result<Vec<SpaceId>, AllocError>
-    ensures { IfOk result (λ found. found.items
-        ≡ map (λ listing. listing.client) (filter (has_index index) listings.now)) }
-{
-    listings
-        .iter()
-        .filter(|listing| listing.index == index)
-        .map(|listing| listing.client)
-        .collect(alloc)
 }

@@ -19,7 +19,7 @@ use std::time::Duration;
 use std::{hint, thread};
 
 /// So often a thread looks for what it waits for before it sleeps.
-const PATIENCE: u32 = 100;
+const PATIENCE: u32 = 400;
 
 /// So many bytes an item has at most that is no call and no reply.
 const LONGEST_NOTE: usize = 9;

@@ -1,3 +1,4 @@
 pub mod Given
 pub mod Sizes
 pub mod Spelt
+pub mod Taken

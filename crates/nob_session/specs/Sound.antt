@@ -1,9 +1,10 @@
 -- What holds of the fields of every session end.
-use Rattle.std.specs.Prelude.{◌≡◌, ℕ, ◌+◌, ◌-◌, ◌^◌, ◌<◌, ◌≤◌, Bool, true, false, List, [], length, drop, Option, is_none, vec_len, vec_capacity}
+use Rattle.std.specs.Prelude.{◌≡◌, ◌+◌, ◌-◌, ◌^◌, ◌<◌, ◌≤◌, true, false, [], length, is_none}
 use Rattle.std.specs.List.{AllByRecursion}
+use Rattle.std.specs.VecDeque.{deque_len, deque_capacity}
 use Rattle.nob_session.specs.declared.session.Session.TheInside.{Inside}
 use Rattle.nob_session.specs.Items.{IsItem}
-use Rattle.nob_session.specs.Stands.{End, Roomy}
+use Rattle.nob_session.specs.Stands.{Roomy}
 
 -- a session's fields as callers see them
 abbrev pub as_seen : Inside → Roomy
@@ -15,26 +16,27 @@ as_seen s =
         limits = s.limits;
         handed = s.handed;
         lowest = s.lowest;
-        unacknowledged = drop (s.lowest - 1) s.sent.items;
+        unacknowledged = s.unacknowledged.items;
         transmitted = s.transmitted;
         accepted = s.accepted;
         taken = s.taken;
-        waiting = drop s.taken s.received.items;
+        waiting = s.waiting.items;
         data_arrived = s.data_arrived;
         ticks = s.ticks;
         ending = s.ending;
         owes_close = s.owes_close;
       };
-      room = vec_capacity s.sent - vec_len s.sent;
+      room = deque_capacity s.unacknowledged - deque_len s.unacknowledged;
     }
 
--- the counts are in order, an open end has each payload, and a closed one none
+-- the counts are in order; an open end holds each unacknowledged payload and each that waits, a closed one none, and the ring has 256 places
 pub record IsSound (s : Inside) : Type 0 where
-  pub sent_open : is_none s.ending ≡ true → length s.sent.items ≡ s.handed
-  pub sent_closed : is_none s.ending ≡ false → s.sent.items ≡ []
-  pub sizes : AllByRecursion IsItem s.sent.items
-  pub received_open : is_none s.ending ≡ true → length s.received.items ≡ s.accepted
-  pub received_closed : is_none s.ending ≡ false → s.received.items ≡ []
+  pub unacknowledged_open : is_none s.ending ≡ true → length s.unacknowledged.items + s.lowest ≡ s.handed + 1
+  pub unacknowledged_closed : is_none s.ending ≡ false → s.unacknowledged.items ≡ []
+  pub sizes : AllByRecursion IsItem s.unacknowledged.items
+  pub waiting_open : is_none s.ending ≡ true → length s.waiting.items + s.taken ≡ s.accepted
+  pub waiting_closed : is_none s.ending ≡ false → s.waiting.items ≡ []
+  pub places : deque_capacity s.waiting ≡ 256
   pub owes_nothing : is_none s.ending ≡ true → s.owes_close ≡ false
   pub lowest_positive : 1 ≤ s.lowest
   pub lowest_out : s.lowest ≤ s.transmitted + 1

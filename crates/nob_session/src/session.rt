@@ -1,6 +1,6 @@
 //! One end of a session.
 
-ghost use Rattle.std.specs.Prelude.{◌≡◌, ◌≢◌, ◌+◌, ◌-◌, ◌<◌, ◌≤◌, ◌^◌, List, ℕ, Ok, Err, Some, None, Bool, true, false, ◌&&◌, ◌==◌, is_ok, nat_le, nat_lt, max, IfOk, IfErr, IfSome, OnOk, OnErr, IsOk, IsOkUnless, length, take, vec_len, [], ◌∷◌};
+ghost use Rattle.std.specs.Prelude.{◌≡◌, ◌≢◌, ◌+◌, ◌-◌, ◌<◌, ◌≤◌, ◌^◌, List, ℕ, Ok, Err, Some, None, Bool, true, false, ◌&&◌, ◌==◌, is_ok, nat_le, nat_lt, max, IfOk, IfErr, IfSome, OnOk, OnErr, IsOk, IsOkUnless, length, take, drop, vec_len, [], ◌∷◌};
 ghost use Rattle.nob_ids.specs.declared.limits.Limits.{Limits as LimitsOf};
 ghost use Rattle.nob_ids.specs.declared.reason.Reason.{Reason as ReasonOf};
 ghost use Rattle.nob_model_end.specs.declared.entry.EndEntry.{EndEntry};
@@ -11,6 +11,7 @@ ghost use Rattle.nob_model_end.specs.Right as right;
 ghost use Rattle.nob_model_end.specs.declared.entry.Arrived.TheVariants.{Took};
 ghost use Rattle.nob_model_end.specs.Right.{IsRight};
 ghost use Rattle.std.specs.List.{AllByRecursion};
+ghost use Rattle.std.specs.VecDeque.{deque_len, deque_capacity};
 ghost use Rattle.nob_frame.specs.Kinds.{is_data};
 ghost use Rattle.nob_frame.specs.Spelling.{Fits};
 ghost use Rattle.nob_session.specs.Items.{IsItem, IsPair};
@@ -28,24 +29,27 @@ use nob_ids::{ItemNo, Limits, Reason, SpaceId};
 use nob_model_end::right::{INBOX_LIMIT, LAST_ITEM, QUEUE_LIMIT};
 use nob_model_end::{EndRefusal, Kind};
 use std::alloc::{AllocError, Global};
+use std::collections::VecDeque;
 use std::marker::Model;
 
-/// One end of the session between two spaces. It keeps every payload that was handed to it and
-/// every one that it accepted until it closes.
+/// One end of the session between two spaces. It holds the payloads that are unacknowledged and
+/// those that wait, and no other: what is acknowledged or taken is given up at once, and so is all
+/// when the end closes.
 #[derive(Debug, Drop)]
 pub struct Session {
     alloc: Global,
     me: SpaceId,
     peer: SpaceId,
     limits: Limits,
-    // all payloads that were handed, the first first; none once it is closed
-    sent: Vec<Bytes>,
+    // the payloads that are unacknowledged, the first first; none once it is closed
+    unacknowledged: VecDeque<Bytes>,
     handed: u64,
     // the lowest number that isn't acknowledged
     lowest: u64,
     transmitted: u64,
-    // all payloads that were accepted, the first first; none once it is closed
-    received: Vec<Bytes>,
+    // the accepted payloads that wait, the first first, in a ring of 256 places; none once it is
+    // closed
+    waiting: VecDeque<Bytes>,
     accepted: u64,
     taken: u64,
     // whether a Data frame arrived since the last transmit
@@ -68,7 +72,8 @@ impl Model for Session {
 }
 
 impl Session {
-    /// Opens the end of `me` towards `peer`. Only memory fails it.
+    /// Opens the end of `me` towards `peer`, with places for all items that can wait. Only memory
+    /// fails it.
     pub fn open(
         alloc: Global,
         me: SpaceId,
@@ -82,11 +87,11 @@ impl Session {
             me,
             peer,
             limits,
-            sent: Vec::new(alloc),
+            unacknowledged: VecDeque::new(alloc),
             handed: 0,
             lowest: 1,
             transmitted: 0,
-            received: Vec::new(alloc),
+            waiting: VecDeque::with_capacity(alloc, INBOX_LIMIT)?,
             accepted: 0,
             taken: 0,
             data_arrived: false,
@@ -103,6 +108,15 @@ impl Session {
         ensures open { result ≡ is_open_end self.now.end }
     {
         self.ending.is_none()
+    }
+
+    /// How many payloads this end holds: the unacknowledged ones, and those that wait. It holds no
+    /// other.
+    pub fn held(&self) -> (usize, usize)
+        ensures { result
+            ≡ (length self.now.end.unacknowledged, length self.now.end.waiting) }
+    {
+        (self.unacknowledged.len(), self.waiting.len())
     }
 
     /// What `send` would answer to an item of this kind, had it memory: the item's number, or N1,
@@ -141,7 +155,7 @@ impl Session {
         ensures there { count ≤ self.old.room → IsOk result }
         ensures memory { IsOkUnless result SessionError.OutOfMemory }
     {
-        self.sent.reserve(count)?;
+        self.unacknowledged.reserve(count)?;
         Ok(())
     }
 
@@ -165,7 +179,7 @@ impl Session {
         ensures err_room { OnErr result (self.old.room ≤ self.new.room) }
     {
         let number = self.next(kind)?;
-        self.sent.push(Bytes::from_vec(payload))?;
+        self.unacknowledged.push_back(Bytes::from_vec(payload))?;
         self.handed += 1;
         Ok(number)
     }
@@ -178,7 +192,7 @@ impl Session {
         if self.ending.is_some() {
             return self.owes_close;
         }
-        !self.given().is_empty() || self.data_arrived
+        self.given() > 0 || self.data_arrived
     }
 
     /// What a transmit would give. It takes no memory, and constant time.
@@ -232,20 +246,18 @@ impl Session {
         Ok(frames)
     }
 
-    // The items that a transmit of the open end gives: at most a window of the unacknowledged ones.
-    fn given(&self) -> &[Bytes]
+    // How many items a transmit of the open end gives: at most a window of the unacknowledged ones.
+    fn given(&self) -> usize
         requires { self.now.end.ending ≡ None }
-        ensures items { AllByRecursion IsItem result.now }
-        ensures given { result.now ≡ take self.now.end.limits.window self.now.end.unacknowledged }
-        ensures few { length result.now ≤ 64 }
-        ensures len { self.now.end.lowest + length result.now ≤ self.now.end.handed + 1 }
+        ensures given { take result self.now.end.unacknowledged
+            ≡ take self.now.end.limits.window self.now.end.unacknowledged }
+        ensures count { length (take self.now.end.limits.window self.now.end.unacknowledged) ≡ result }
+        ensures there { result ≤ length self.now.end.unacknowledged }
+        ensures few { result ≤ 64 }
+        ensures last { self.now.end.lowest + result ≤ self.now.end.handed + 1 }
     {
-        let unacknowledged = self.sent.as_slice().split_at(self.lowest as usize - 1).1;
         let window = self.limits.window as usize;
-        if window >= unacknowledged.len() {
-            return unacknowledged;
-        }
-        unacknowledged.split_at(window).0
+        window.min(self.unacknowledged.len())
     }
 
     // The highest number that is transmitted after a transmit.
@@ -258,7 +270,7 @@ impl Session {
         if self.ending.is_some() {
             return self.transmitted;
         }
-        let last = self.lowest - 1 + self.given().len() as u64;
+        let last = self.lowest - 1 + self.given() as u64;
         self.transmitted.max(last)
     }
 
@@ -290,8 +302,9 @@ impl Session {
     {
         let given = self.given();
         let ack = self.accepted + 1;
-        if !given.is_empty() {
-            return data_frames(self.alloc, self.me, self.peer, ack, self.lowest, given);
+        if given > 0 {
+            let (first, payloads) = (self.lowest, &self.unacknowledged);
+            return data_frames(self.alloc, self.me, self.peer, ack, first, payloads, given);
         }
         if !self.data_arrived {
             return Ok(Vec::new(self.alloc));
@@ -363,7 +376,8 @@ impl Session {
             self.hear(frame);
             return Ok(Arrival::Took(0));
         }
-        self.received.push(frame.payload.copy()?)?;
+        let payload = frame.payload.copy()?;
+        self.waiting.push_back_reserved(payload);
         self.accepted += 1;
         self.hear(frame);
         Ok(Arrival::Took(1))
@@ -390,6 +404,7 @@ impl Session {
         ensures room { self.old.room ≤ self.new.room }
     {
         if frame.ack > self.lowest {
+            give_up(&mut self.unacknowledged, (frame.ack - self.lowest) as usize);
             self.lowest = frame.ack;
             self.ticks = 0;
         }
@@ -407,7 +422,7 @@ impl Session {
         ensures waits { front_text result
             ≡ right.first_of (self.now.end.taken + 1) self.now.end.waiting }
     {
-        let payload = self.received.get(self.taken as usize)?;
+        let payload = self.waiting.front()?;
         Some((ItemNo::new(self.taken + 1), payload.as_slice()))
     }
 
@@ -420,6 +435,7 @@ impl Session {
         ensures taken { self.new.end ≡ without_front self.old.end }
         ensures room { self.old.room ≤ self.new.room }
     {
+        give_up(&mut self.waiting, 1);
         self.taken += 1;
     }
 
@@ -478,37 +494,50 @@ impl Session {
         ensures closed { (result.peer ≡ self.old.end.peer) × (result.reason ≡ reason) }
         ensures thrown_away { self.new.end ≡ closed_end self.old.end reason }
     {
-        self.sent.clear();
-        self.received.clear();
+        self.unacknowledged.clear();
+        self.waiting.clear();
         self.ending = Some(reason);
         self.owes_close = reason != Reason::PeerClosed;
         Closed::new(self.peer, reason)
     }
 }
 
-// A Data frame for each of these payloads, numbered from `first`.
+// Drops so many payloads from the front of a queue, which keeps its room.
+fn give_up(payloads: &mut VecDeque<Bytes>, count: usize)
+    ensures items { payloads.new.items ≡ drop count payloads.old.items }
+    ensures len { deque_len payloads.new ≤ deque_len payloads.old }
+    ensures capacity { deque_capacity payloads.new ≡ deque_capacity payloads.old }
+{
+    for _i in 0..count {
+        let _acknowledged = payloads.pop_front();
+    }
+}
+
+// A Data frame for each of the first `count` of these payloads, numbered from `first`.
 fn data_frames(
     alloc: Global,
     me: SpaceId,
     peer: SpaceId,
     ack: u64,
     first: u64,
-    payloads: &[Bytes],
+    payloads: &VecDeque<Bytes>,
+    count: usize,
 ) -> Result<Vec<Frame>, AllocError>
-    requires { first + length payloads.now < 2 ^ 64 }
-    ensures len { IfOk result (λ frames. length frames.items ≡ length payloads.now) }
+    requires there { count ≤ length payloads.now.items }
+    requires numbers { first + count < 2 ^ 64 }
+    ensures len { IfOk result (λ frames. length frames.items ≡ count) }
     ensures frames { IfOk result (λ frames. frames.items
-        ≡ right.data_frames me peer ack first payloads.now) }
+        ≡ right.data_frames me peer ack first (take count payloads.now.items)) }
 {
     let mut frames = Vec::new(alloc);
-    for (i, payload) in payloads.iter().enumerate() {
+    for i in 0..count {
         frames.push(Frame {
             kind: FrameKind::Data,
             from: me,
             to: peer,
             seq: first + i as u64,
             ack,
-            payload: payload.copy()?,
+            payload: payloads[i].copy()?,
         })?;
     }
     Ok(frames)
@@ -548,17 +577,16 @@ fn due_of_closed(owes_close: bool) -> Due
     if owes_close { Due::Close } else { Due::Nothing }
 }
 
-// What an open end has to give, of whose items these are to be given, from the lowest on.
-fn due_of_given(transmitted: u64, lowest: u64, data_arrived: bool, given: &[Bytes]) -> Due
-    requires { lowest + length given.now < 2 ^ 63 }
-    ensures { (me peer ack : ℕ) → result
-        ≡ due_of transmitted (right.open_frames me peer ack lowest data_arrived given.now) }
+// What an open end has to give, of whose items so many are to be given, from the lowest on.
+fn due_of_given(transmitted: u64, lowest: u64, data_arrived: bool, given: usize) -> Due
+    requires { lowest + given < 2 ^ 63 }
+    ensures { (me peer ack : ℕ) (payloads : List (List ℕ)) → length payloads ≡ given → result
+        ≡ due_of transmitted (right.open_frames me peer ack lowest data_arrived payloads) }
 {
-    match given.split_first() {
-        Some((_, others)) => due_of_items(transmitted, lowest + others.len() as u64),
-        None if data_arrived => Due::Ack,
-        None => Due::Nothing,
+    if given > 0 {
+        return due_of_items(transmitted, lowest + (given - 1) as u64);
     }
+    if data_arrived { Due::Ack } else { Due::Nothing }
 }
 
 // What an end has to give whose items up to the last one are to be given.

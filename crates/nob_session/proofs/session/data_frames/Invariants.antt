@@ -1,9 +1,9 @@
-use Rattle.std.proofs.Common.{◌≡◌, ◌++◌, ◌+◌, drop, length}
+use Rattle.std.proofs.Common.{◌≡◌, ◌++◌, ◌+◌, drop, length, take}
 use Rattle.nob_model_end.specs.Right as right
 use Rattle.nob_session.proofs.session.data_frames.Given as goal
 
 abbrev pub invariant-loop-i : goal.invariant-loop-i
 invariant-loop-i l = record {
   count : length l.frames.items ≡ l.i;
-  frames : l.frames.items ++ right.data_frames l.me l.peer l.ack (l.first + l.i) (drop l.i l.payloads) ≡ right.data_frames l.me l.peer l.ack l.first l.payloads;
+  frames : l.frames.items ++ right.data_frames l.me l.peer l.ack (l.first + l.i) (drop l.i (take l.count l.payloads.items)) ≡ right.data_frames l.me l.peer l.ack l.first (take l.count l.payloads.items);
 }

@@ -1,12 +1,8 @@
-use Rattle.std.proofs.Common.{ap, sym, ◌∙◌}
-use Rattle.nob_model_end.specs.Right as right
-use Rattle.nob_session.specs.Dues.{due_of}
-use Rattle.nob_session.proofs.Given.{due_first}
+use Rattle.std.proofs.Common.{◌∙◌, arith}
+use Rattle.nob_session.proofs.Given.{due_given}
 use Rattle.nob_session.proofs.session.due_of_given.Goals as goal
 
--- the payloads that are given are the first one and the others
-pub returns-in-Some : goal.returns-in-Some
-returns-in-Some c = λ me peer ack.
+pub returns-then-given-gt0 : goal.returns-then-given-gt0
+returns-then-given-gt0 c = λ me peer ack payloads same.
     c.due_of_items.ensures
-    ∙ due_first me peer ack c.args.lowest c.args.transmitted c.args.data_arrived c.in-Some.field-0-0.now c.in-Some.others.now
-    ∙ ap (λ payloads. due_of c.args.transmitted (right.open_frames me peer ack c.args.lowest c.args.data_arrived payloads)) (sym c.in-Some.ensures.cases.0)
+    ∙ due_given me peer ack c.args.lowest c.args.transmitted c.args.given c.args.data_arrived payloads same (omega (arith, c.if-given-gt0.true))
