@@ -1,5 +1,5 @@
 -- What was refused, in numbers.
-use Rattle.std.proofs.Common.{◌≡◌, ℕ, Bool, true, false, List, Result, Ok, Err, IsOk, refl, sym, ap, subst}
+use Rattle.std.proofs.Common.{◌≡◌, ℕ, Bool, false, List, Result, IsOk, refl, sym, ap, subst}
 use Rattle.nob_pickle.specs.declared.fault.PickleFault.{PickleFault}
 use Rattle.nob_pickle.specs.declared.fault.PickleFault.TheVariants as pickles
 use Rattle.nob_pickle.specs.declared.fault.PickleError.{PickleError}

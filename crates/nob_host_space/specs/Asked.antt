@@ -2,7 +2,6 @@
 use Rattle.std.specs.Prelude.{◌≡◌, ◌⊎◌, ◌≤◌, ℕ, Bool, true, false, List, [], ◌∷◌, Option, Some, None, Result, Ok, Err, IsOk}
 use Rattle.std.specs.List.{flat_map}
 use Rattle.nob_ids.specs.Names.{IsSpace}
-use Rattle.nob_ids.specs.declared.limits.Limits.{Limits}
 use Rattle.nob_pickle.specs.declared.fault.PickleFault.{PickleFault}
 use Rattle.nob_pickle.specs.declared.value.Value.{Value}
 use Rattle.nob_ids.specs.declared.wire_rep.WireRep.{WireRep}

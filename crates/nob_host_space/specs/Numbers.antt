@@ -1,5 +1,5 @@
 -- The numbers by which a program in another language knows what a space answered and why it refused.
-use Rattle.std.specs.Prelude.{ℕ, Bool, ◌==◌, List, length, Option, Some, None, Result, Ok, Err}
+use Rattle.std.specs.Prelude.{ℕ, Bool, ◌==◌, length, Result, Ok, Err}
 use Rattle.nob_ids.specs.Reasons.{reason_number}
 use Rattle.nob_ids.specs.declared.wire_rep.WireRep.{WireRep}
 use Rattle.nob_pickle.specs.declared.fault.PickleFault.{PickleFault}

@@ -1,5 +1,5 @@
 -- What becomes of a piece of a stream and of the frames that wait, in numbers.
-use Rattle.std.specs.Prelude.{◌≡◌, ◌⊎◌, ℕ, Bool, true, false, List, [], ◌∷◌, length, Result, Ok, Err, IsOk}
+use Rattle.std.specs.Prelude.{◌≡◌, ◌⊎◌, ℕ, Bool, true, false, List, [], ◌∷◌, length, Ok, Err, IsOk}
 use Rattle.nob_frame.specs.declared.frame.Frame.{Frame}
 use Rattle.nob_frame.specs.declared.fault.FrameFault.{FrameFault}
 use Rattle.nob_frame.specs.Spelling.{spelling}
