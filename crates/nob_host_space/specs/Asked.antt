@@ -28,7 +28,7 @@ use Rattle.nob_host_space.specs.Numbers.{is_wanted, nothing, status_of, told_of,
 abbrev pub right_of : Owner → List Entry → Event → Result Answer Refusal
 right_of space L event = right space.id space.n space.limits L event
 
--- status and told are those of the right result; or memory was wanted: then nothing is told and nothing else refuses the event, or it was wanted to read the item at the front
+-- status and told are those of the right result; or memory was wanted, where nothing else refuses the event or for the item at the front
 abbrev pub Tells : (wanted : Bool) → Option (ℕ × List ℕ) → Told → ℕ → Result Answer Refusal → Type 0
 Tells false front told status result = (status ≡ status_of result) × (told ≡ told_of result)
 Tells true front told status result = (told ≡ nothing) × (IsOk result ⊎ FrontWants front)
@@ -100,11 +100,12 @@ CameBy (Err fault) old new told status = Unasked old new told status (frame_faul
 abbrev pub reference : (owner index : ℕ) → WireRep
 reference owner index = record { owner = owner; index = index }
 
--- the answer is the bytes of the frames that a Transmit gives; where it gives none it is as it was
+-- the bytes of the frames that a Transmit gives, or what was there
 abbrev pub bytes_given : Result Answer Refusal → List ℕ → List ℕ
 bytes_given (Ok (answers.Frames frames)) before = flat_map spelling frames
 bytes_given _ before = before
 
+-- the answer after a Transmit with this result
 abbrev pub answer_after : (wanted : Bool) → Result Answer Refusal → List ℕ → List ℕ
 answer_after false result before = bytes_given result before
 answer_after true result before = before
@@ -130,11 +131,12 @@ pub record IsNew (host : Host) (number spaces most_given most_ticks : ℕ) : Typ
   pub waiting : host.waiting ≡ []
   pub feeds : host.feeds ≡ fresh_feeds
 
--- the status and the bytes of a pickle that was asked for: 0 and the pickle, or its fault and what was there
+-- the status of a pickle that was asked for: 0, or the number of its fault
 abbrev pub pickle_status : Result (List ℕ) PickleFault → ℕ
 pickle_status (Ok bytes) = 0
 pickle_status (Err fault) = pickle_fault_number fault
 
+-- its bytes, or what was there
 abbrev pub pickle_bytes : Result (List ℕ) PickleFault → List ℕ → List ℕ
 pickle_bytes (Ok bytes) before = bytes
 pickle_bytes (Err fault) before = before

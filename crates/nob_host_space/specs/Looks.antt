@@ -28,7 +28,7 @@ due_number dues.Close = 4
 abbrev pub past_of : Owner → List Entry → History
 past_of space L = history space.id space.n L
 
--- what a space could do next, after every list that it stands for: a bit for each peer, and the least index of an object to withdraw
+-- what a space could do next: a bit for each peer, tests, and the least index of an object to withdraw
 pub record ShowsWork (space : Owner) (work : Work) : Type 0 where
   pub act : (L : List Entry) → StandsFor space L → (p : ℕ) → 1 ≤ p → p ≤ 32 → bit_at work.act (p - 1) ≡ bit_of (can_act space.id space.n p (past_of space L))
   pub send : (L : List Entry) → StandsFor space L → (p : ℕ) → 1 ≤ p → p ≤ 32 → bit_at work.send (p - 1) ≡ bit_of (can_send space.id space.n p space.limits.window (past_of space L))

@@ -49,10 +49,11 @@ abbrev pub error_number : SpaceError → ℕ
 error_number (errors.Refused refusal) = refusal_number refusal
 error_number errors.OutOfMemory = 14
 
--- whether a status says that memory was wanted, or that it was done
+-- whether a status says that memory was wanted
 abbrev pub is_wanted : ℕ → Bool
 is_wanted status = status == 14
 
+-- whether a status says that it was done
 abbrev pub is_done : ℕ → Bool
 is_done status = status == 0
 
@@ -133,11 +134,12 @@ answer_told answers.Withdrawn = only 13
 answer_told (answers.Frames given) = numbered 14 (length given)
 answer_told (answers.Took count) = numbered 15 count
 
--- the status of the right result, and what is told of it
+-- the status of a result
 abbrev pub status_of : Result Answer Refusal → ℕ
 status_of (Ok answer) = 0
 status_of (Err refusal) = refusal_number refusal
 
+-- what is told of a result
 abbrev pub told_of : Result Answer Refusal → Told
 told_of (Ok answer) = answer_told answer
 told_of (Err refusal) = nothing

@@ -10,7 +10,7 @@ use Rattle.nob_host_space.specs.declared.told.Told.{Told}
 use Rattle.nob_host_space.specs.Numbers.{is_wanted, nothing, numbered, frame_fault_number}
 use Rattle.nob_host_space.specs.Asked.{Asked, Unasked}
 
--- a piece gave no frames: memory was wanted, and what is kept of the stream is as it was; or the stream has the fault of this number
+-- a piece gave no frames: memory was wanted, and the stream is as it was; or it has the fault of this number
 abbrev pub PushFails : Kept → List ℕ → Kept → ℕ → Type 0
 PushFails old piece new status = ((status ≡ 14) × IsOk old × (new ≡ old)) ⊎ ((fault : FrameFault) × (status ≡ frame_fault_number fault) × Pushes old piece (Err fault) new)
 
