@@ -1,0 +1,105 @@
+//! What can be seen of a space.
+
+ghost use Rattle.std.specs.Prelude.{◌≡◌, ◌≤◌, ◌-◌, ℕ, List, false, IsSome, is_some};
+ghost use Rattle.std.specs.Int.{bit_at};
+ghost use Rattle.nob_ids.specs.Names.{IsSpace};
+ghost use Rattle.nob_model_types.specs.declared.entry.Entry.{Entry};
+ghost use Rattle.nob_model_words.specs.Deeds.{deeds};
+ghost use Rattle.nob_model_history.specs.Histories.{history};
+ghost use Rattle.nob_model_history.specs.Listing.{is_listed};
+ghost use Rattle.nob_model.specs.Next as next;
+ghost use Rattle.nob_space_state.specs.Dues as dues;
+ghost use Rattle.nob_space.specs.Spaces.{StandsFor};
+ghost use Rattle.nob_host_parts.specs.Bits.{bit_of};
+ghost use Rattle.nob_host_handle.specs.Kept.{Through};
+ghost use Rattle.nob_host_space.specs.Looks as looks;
+ghost use Rattle.nob_host_space.specs.Looks.{ShowsWork};
+
+use nob_host_handle::Handle;
+use nob_host_space::Work;
+use std::alloc::Global;
+
+/// The number of the space.
+#[unsafe(no_mangle)]
+pub extern "C" fn nob_id(handle: &mut Handle, alloc: Global) -> u16
+    requires { IsSome handle.old.held }
+    ensures id { Through handle.old.held handle.new.held (λ old new. result ≡ old.space.id) }
+    ensures same { Through handle.old.held handle.new.held (λ old new. new ≡ old) }
+{
+    let host = handle.take(alloc);
+    let id = host.id();
+    handle.put(host);
+    id
+}
+
+/// How many spaces there are.
+#[unsafe(no_mangle)]
+pub extern "C" fn nob_n(handle: &mut Handle, alloc: Global) -> u16
+    requires { IsSome handle.old.held }
+    ensures n { Through handle.old.held handle.new.held (λ old new. result ≡ old.space.n) }
+    ensures same { Through handle.old.held handle.new.held (λ old new. new ≡ old) }
+{
+    let host = handle.take(alloc);
+    let n = host.n();
+    handle.put(host);
+    n
+}
+
+/// Whether a client is listed for the object of an index.
+#[unsafe(no_mangle)]
+pub extern "C" fn nob_lists(handle: &mut Handle, alloc: Global, index: u64, client: u16) -> bool
+    requires { IsSome handle.old.held }
+    ensures listed { IsSpace client → Through handle.old.held handle.new.held (λ old new. (L : List
+        Entry) → StandsFor old.space L → result ≡ is_listed old.space.id index client (deeds L)) }
+    ensures range { (IsSpace client → ⊥) → result ≡ false }
+    ensures same { Through handle.old.held handle.new.held (λ old new. new ≡ old) }
+{
+    let host = handle.take(alloc);
+    let lists = host.lists(index, client);
+    handle.put(host);
+    lists
+}
+
+/// Whether TakeReply of a call would say anything but that the reply isn't ready.
+#[unsafe(no_mangle)]
+pub extern "C" fn nob_reply_ready(handle: &mut Handle, alloc: Global, call: u64) -> bool
+    requires { IsSome handle.old.held }
+    ensures ready { Through handle.old.held handle.new.held (λ old new. (L : List Entry)
+        → StandsFor old.space L → result ≡ next.reply_ready call (history old.space.id old.space.n
+        L)) }
+    ensures same { Through handle.old.held handle.new.held (λ old new. new ≡ old) }
+{
+    let host = handle.take(alloc);
+    let ready = host.reply_ready(call);
+    handle.put(host);
+    ready
+}
+
+/// What a Transmit to a peer would give: 0 nothing, 1 an Ack alone, 2 items that were given before,
+/// 3 new ones, 4 the Close that is owed.
+#[unsafe(no_mangle)]
+pub extern "C" fn nob_due(handle: &mut Handle, alloc: Global, peer: u16) -> u32
+    requires { IsSome handle.old.held }
+    ensures due { IsSpace peer → Through handle.old.held handle.new.held (λ old new. (L : List
+        Entry) → StandsFor old.space L → result ≡ looks.due_number (dues.due old.space.id
+        old.space.n peer old.space.limits.window (history old.space.id old.space.n L))) }
+    ensures range { (IsSpace peer → ⊥) → result ≡ 0 }
+    ensures same { Through handle.old.held handle.new.held (λ old new. new ≡ old) }
+{
+    let host = handle.take(alloc);
+    let due = host.due(peer);
+    handle.put(host);
+    due
+}
+
+/// What the space could do next.
+#[unsafe(no_mangle)]
+pub extern "C" fn nob_work(handle: &mut Handle, alloc: Global, work: &mut Work)
+    requires { IsSome handle.old.held }
+    ensures work { Through handle.old.held handle.new.held (λ old new. ShowsWork old.space work.new) }
+    ensures same { Through handle.old.held handle.new.held (λ old new. new ≡ old) }
+{
+    let host = handle.take(alloc);
+    *work = host.work();
+    handle.put(host);
+}

@@ -1,0 +1,4 @@
+pub mod Numbers
+pub mod Asked
+pub mod Streams
+pub mod Looks

@@ -1,0 +1,42 @@
+-- What becomes of a piece of a stream and of the frames that wait, in numbers.
+use Rattle.std.specs.Prelude.{◌≡◌, ◌⊎◌, ℕ, Bool, true, false, List, [], ◌∷◌, length, Ok, Err, IsOk}
+use Rattle.nob_frame.specs.declared.frame.Frame.{Frame}
+use Rattle.nob_frame.specs.declared.fault.FrameFault.{FrameFault}
+use Rattle.nob_frame.specs.Spelling.{spelling}
+use Rattle.nob_frame.specs.Streams.{Kept, Pushes}
+use Rattle.nob_model_types.specs.declared.event.Event.TheVariants as events
+use Rattle.nob_host_space.specs.declared.host.Host.{Host}
+use Rattle.nob_host_space.specs.declared.told.Told.{Told}
+use Rattle.nob_host_space.specs.Numbers.{is_wanted, nothing, numbered, frame_fault_number}
+use Rattle.nob_host_space.specs.Asked.{Asked, Unasked}
+
+-- a piece gave no frames: memory was wanted, and the stream is as it was; or it has the fault of this number
+abbrev pub PushFails : Kept → List ℕ → Kept → ℕ → Type 0
+PushFails old piece new status = ((status ≡ 14) × IsOk old × (new ≡ old)) ⊎ ((fault : FrameFault) × (status ≡ frame_fault_number fault) × Pushes old piece (Err fault) new)
+
+-- a piece was taken, and these frames wait now and are counted; or it gave none
+abbrev pub Pushed : (done : Bool) → Kept → List ℕ → List Frame → Kept → Told → ℕ → Type 0
+Pushed true old piece waiting new told status = Pushes old piece (Ok waiting) new × (told ≡ numbered 16 (length waiting))
+Pushed false old piece waiting new told status = (waiting ≡ []) × (told ≡ nothing) × PushFails old piece new status
+
+-- the frames that wait once the first was brought: all of them where memory was wanted
+abbrev pub waiting_after : (wanted : Bool) → Frame → List Frame → List Frame
+waiting_after false frame rest = rest
+waiting_after true frame rest = frame ∷ rest
+
+-- the answer then: the frame's bytes
+abbrev pub bytes_after : (wanted : Bool) → Frame → List ℕ → List ℕ
+bytes_after false frame before = spelling frame
+bytes_after true frame before = before
+
+-- a host whose first frame was brought to its space: it waits no more, and its bytes are the answer
+pub record Brought (old : Host) (frame : Frame) (rest : List Frame) (new : Host) (told : Told) (status : ℕ) : Type 0 where
+  pub asked : Asked old.space (events.Arrive frame) new.space told status
+  pub waiting : new.waiting ≡ waiting_after (is_wanted status) frame rest
+  pub answer : new.answer ≡ bytes_after (is_wanted status) frame old.answer
+  pub value : new.value ≡ old.value
+  pub feeds : new.feeds ≡ old.feeds
+
+-- the first frame was brought, or memory was wanted
+abbrev pub BroughtOrWants : (old : Host) → Frame → List Frame → (new : Host) → Told → ℕ → Type 0
+BroughtOrWants old frame rest new told status = Brought old frame rest new told status ⊎ Unasked old new told status 14

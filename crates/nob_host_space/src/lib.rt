@@ -1,0 +1,15 @@
+//! A space as a program in another language has it: what it is asked and what it answers, in
+//! numbers and bytes.
+#![tactic(auto)]
+
+mod asking;
+mod bringing;
+mod host;
+mod looks;
+mod numbers;
+mod streams;
+mod told;
+
+pub use host::Host;
+pub use looks::Work;
+pub use told::Told;

@@ -1,0 +1,133 @@
+//! What can be seen of a space, in numbers.
+
+ghost use Rattle.std.specs.Prelude.{◌≡◌, ◌++◌, List, false, length, take, drop};
+ghost use Rattle.nob_ids.specs.Names.{IsSpace};
+ghost use Rattle.nob_model_types.specs.declared.entry.Entry.{Entry};
+ghost use Rattle.nob_model_words.specs.Deeds.{deeds};
+ghost use Rattle.nob_model_history.specs.Histories.{history};
+ghost use Rattle.nob_model_history.specs.Listing.{is_listed};
+ghost use Rattle.nob_model.specs.Next as next;
+ghost use Rattle.nob_space_state.specs.Dues as dues;
+ghost use Rattle.nob_space.specs.Spaces.{StandsFor};
+ghost use Rattle.nob_host_space.specs.Looks as looks;
+
+use crate::host::Host;
+use nob_host_parts::{bits_of, copy_out};
+use nob_ids::{CallNo, SpaceId};
+use nob_session::Due;
+
+/// What a space could do next, limits, free numbers and want of memory aside.
+#[repr(C)]
+#[derive(Clone, Copy, Debug, PartialEq, Eq)]
+pub struct Work {
+    /// Bit p - 1: whether there is an item from space p to act on, also one whose fault closes the
+    /// session.
+    pub act: u32,
+    /// Bit p - 1: whether a Transmit to space p would give a frame.
+    pub send: u32,
+    /// Whether there is a message to settle.
+    pub settle: bool,
+    /// Whether there is a surrogate to give up.
+    pub clean: bool,
+    /// Whether there is a job to claim.
+    pub claim: bool,
+    /// Whether an object could be withdrawn.
+    pub withdraw: bool,
+    /// The least index of such an object, or 0.
+    pub index: u64,
+}
+
+// A number, or 0 where there is none.
+fn or_zero(number: Option<u64>) -> u64
+    ensures { result ≡ looks.or_zero number }
+{
+    number.unwrap_or(0)
+}
+
+// The number of what a Transmit would give.
+fn due_number(due: Due) -> u32
+    ensures { result ≡ looks.due_number due }
+{
+    match due {
+        Due::Nothing => 0,
+        Due::Ack => 1,
+        Due::Again => 2,
+        Due::New => 3,
+        Due::Close => 4,
+    }
+}
+
+impl Host {
+    /// The number of the space.
+    pub fn id(&self) -> u16
+        ensures { result ≡ self.now.space.id }
+    {
+        self.space.id().get()
+    }
+
+    /// How many spaces there are.
+    pub fn n(&self) -> u16
+        ensures { result ≡ self.now.space.n }
+    {
+        self.space.n()
+    }
+
+    /// Whether a client is listed for the object of an index; one outside 1 to 32 never is.
+    pub fn lists(&self, index: u64, client: u16) -> bool
+        ensures listed { IsSpace client → (L : List Entry) → StandsFor self.now.space L
+            → result ≡ is_listed self.now.space.id index client (deeds L) }
+        ensures range { (IsSpace client → ⊥) → result ≡ false }
+    {
+        let Some(client) = SpaceId::new(client) else {
+            return false;
+        };
+        self.space.lists(index, client)
+    }
+
+    /// Whether TakeReply of a call would say anything but that the reply isn't ready.
+    pub fn reply_ready(&self, call: u64) -> bool
+        ensures { (L : List Entry) → StandsFor self.now.space L → result ≡ next.reply_ready call
+            (history self.now.space.id self.now.space.n L) }
+    {
+        self.space.reply_ready(CallNo::new(call))
+    }
+
+    /// What the space could do next.
+    pub fn work(&self) -> Work
+        ensures { looks.ShowsWork self.now.space result }
+    {
+        let work = self.space.work();
+        Work {
+            act: bits_of(&work.act),
+            send: bits_of(&work.send),
+            settle: work.settle,
+            clean: work.clean,
+            claim: work.claim,
+            withdraw: work.withdraw.is_some(),
+            index: or_zero(work.withdraw),
+        }
+    }
+
+    /// What a Transmit to a peer would give: 0 nothing, 1 an Ack alone, 2 items that were given
+    /// before, 3 new ones, 4 the Close that is owed. 0 where the peer is outside 1 to 32.
+    pub fn due(&self, peer: u16) -> u32
+        ensures due { IsSpace peer → (L : List Entry) → StandsFor self.now.space L
+            → result ≡ looks.due_number (dues.due self.now.space.id self.now.space.n peer
+            self.now.space.limits.window (history self.now.space.id self.now.space.n L)) }
+        ensures range { (IsSpace peer → ⊥) → result ≡ 0 }
+    {
+        let Some(peer) = SpaceId::new(peer) else {
+            return 0;
+        };
+        due_number(self.space.due(peer))
+    }
+
+    /// Copies as many bytes of the answer as there is room for, the first first: how many it has.
+    pub fn copy_answer(&self, out: &mut [u8]) -> usize
+        ensures length { result ≡ length self.now.answer }
+        ensures copied { out.new ≡ take (length out.old) self.now.answer
+            ++ drop (length self.now.answer) out.old }
+    {
+        copy_out(self.answer.as_slice(), out)
+    }
+}

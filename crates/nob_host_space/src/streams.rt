@@ -1,0 +1,105 @@
+//! Streams of frames that come in pieces.
+
+ghost use Rattle.std.specs.Prelude.{◌≡◌, [], ◌∷◌, List, Ok};
+ghost use Rattle.nob_ids.specs.Names.{IsSpace};
+ghost use Rattle.nob_frame.specs.declared.frame.Frame.{Frame as FrameOf};
+ghost use Rattle.nob_host_parts.specs.Streams.{feed_at, SameButOf};
+ghost use Rattle.nob_host_space.specs.Numbers.{is_done};
+ghost use Rattle.nob_host_space.specs.Asked.{Unasked};
+ghost use Rattle.nob_host_space.specs.Streams.{Pushed, BroughtOrWants};
+
+use crate::asking::untold;
+use crate::bringing::bring;
+use crate::host::Host;
+use crate::numbers::{DONE, NONE_WAITS, OUT_OF_RANGE, STILL_WAITING, WANTED, frame_number};
+use crate::told::Told;
+use nob_host_parts::{Waiting, spelled};
+use nob_ids::SpaceId;
+use nob_pickle::Bytes;
+use std::alloc::Global;
+
+impl Host {
+    // The next piece of the stream from a peer, while no frame waits.
+    fn push_for(&mut self, peer: SpaceId, piece: &[u8], told: &mut Told) -> u32
+        requires { self.old.waiting ≡ [] }
+        ensures pushed { Pushed (is_done result) (feed_at self.old.feeds peer) piece.now
+            self.new.waiting (feed_at self.new.feeds peer) told.new result }
+        ensures others { SameButOf peer self.old.feeds self.new.feeds }
+        ensures space { self.new.space ≡ self.old.space }
+        ensures value { self.new.value ≡ self.old.value }
+        ensures answer { self.new.answer ≡ self.old.answer }
+    {
+        match self.feeds.push(peer, piece) {
+            Ok(frames) => {
+                *told = Told::numbered(16, frames.len() as u64);
+                self.waiting = Waiting::of(frames);
+                DONE
+            }
+            Err(error) => untold(told, frame_number(error)),
+        }
+    }
+
+    /// The next piece of the stream from a peer: the frames that are whole now wait. 60 where the
+    /// peer is outside 1 to 32, then 61 while frames still wait; then the number of the stream's
+    /// fault, or 14 for want of memory.
+    pub fn push(&mut self, peer: u16, piece: &[u8], told: &mut Told) -> u32
+        ensures pushed { IsSpace peer → self.old.waiting ≡ [] → Pushed (is_done result)
+            (feed_at self.old.feeds peer) piece.now self.new.waiting (feed_at self.new.feeds peer)
+            told.new result }
+        ensures others { SameButOf peer self.old.feeds self.new.feeds }
+        ensures space { self.new.space ≡ self.old.space }
+        ensures value { self.new.value ≡ self.old.value }
+        ensures answer { self.new.answer ≡ self.old.answer }
+        ensures waits { IsSpace peer → (frame : FrameOf) (rest : List FrameOf)
+            → self.old.waiting ≡ frame ∷ rest → Unasked self.old self.new told.new result 61 }
+        ensures range { (IsSpace peer → ⊥) → Unasked self.old self.new told.new result 60 }
+    {
+        let Some(peer) = SpaceId::new(peer) else {
+            return untold(told, OUT_OF_RANGE);
+        };
+        if !self.waiting.is_empty() {
+            return untold(told, STILL_WAITING);
+        }
+        self.push_for(peer, piece, told)
+    }
+
+    /// The first frame that waits comes to the space: the status, and what is told of what it
+    /// brought. Its bytes become the answer, and it waits no more. 62 where none waits. Where memory
+    /// is wanted nothing has changed.
+    pub fn next(&mut self, alloc: Global, told: &mut Told) -> u32
+        ensures brought { (frame : FrameOf) (rest : List FrameOf) → self.old.waiting ≡ frame ∷ rest
+            → BroughtOrWants self.old frame rest self.new told.new result }
+        ensures none { self.old.waiting ≡ [] → Unasked self.old self.new told.new result 62 }
+    {
+        let Some(frame) = self.waiting.first() else {
+            return untold(told, NONE_WAITS);
+        };
+        let Ok(bytes) = spelled(alloc, frame) else {
+            return untold(told, WANTED);
+        };
+        let status = bring(&mut self.space, frame, told);
+        if status != WANTED {
+            self.waiting.drop_first();
+            self.answer = Bytes::from_vec(bytes);
+        }
+        status
+    }
+
+    /// A new stream from a peer: what was kept of the one before is forgotten, its fault too. What
+    /// waits stays. 60 where the peer is outside 1 to 32.
+    pub fn restart(&mut self, alloc: Global, peer: u16) -> u32
+        ensures fresh { IsSpace peer → (result ≡ 0) × (feed_at self.new.feeds peer ≡ Ok []) }
+        ensures others { SameButOf peer self.old.feeds self.new.feeds }
+        ensures space { self.new.space ≡ self.old.space }
+        ensures value { self.new.value ≡ self.old.value }
+        ensures answer { self.new.answer ≡ self.old.answer }
+        ensures waiting { self.new.waiting ≡ self.old.waiting }
+        ensures range { (IsSpace peer → ⊥) → (result ≡ 60) × (self.new ≡ self.old) }
+    {
+        let Some(peer) = SpaceId::new(peer) else {
+            return OUT_OF_RANGE;
+        };
+        self.feeds.restart(alloc, peer);
+        DONE
+    }
+}
