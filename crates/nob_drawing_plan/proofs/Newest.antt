@@ -50,7 +50,7 @@ passed_back frame xs back x less is so_far other =
     ∙ so_far
 
 -- the departures and the arrows with those of one entry more
-pub flights_next : (entry : Entry) (J more : List Entry) (row : ℕ) (D : List Departure) (A all : List Arrow) (after : List Departure) → more ≡ entry ∷ J → row ≡ row_after J → (D ≡ spec.departures J) × (A ≡ spec.arrows J) → all ≡ A ++ spec.arrow_of entry.space row entry.event entry.result D → after ≡ spec.with_departures entry.space row 0 (frames_of (deed_in entry)) D → (after ≡ spec.departures more) × (all ≡ spec.arrows more)
+pub flights_next : (entry : Entry) (J more : List Entry) (at : ℕ) (D : List Departure) (A all : List Arrow) (after : List Departure) → more ≡ entry ∷ J → at ≡ row_after J → (D ≡ spec.departures J) × (A ≡ spec.arrows J) → all ≡ A ++ spec.arrow_of entry.space at entry.event entry.result D → after ≡ spec.with_departures entry.space at 0 (frames_of (deed_in entry)) D → (after ≡ spec.departures more) × (all ≡ spec.arrows more)
 flights_next entry J more row D A all after is place so_far with_arrow with_given = (
   with_given
       ∙ ap (λ (r : ℕ). spec.with_departures entry.space r 0 (frames_of (deed_in entry)) D) place
