@@ -1,7 +1,7 @@
 -- An end stays one of its session, whether a call on it succeeds or not.
 use Rattle.std.proofs.Common.{◌≡◌, ℕ, List, Result, Ok, Err, IfOk, OnErr, ◌∙◌}
 use Rattle.nob_ids.specs.declared.limits.Limits.{Limits}
-use Rattle.nob_model_end.specs.declared.entry.EndEntry.{EndEntry}
+use Rattle.nob_model_session.specs.declared.entry.EndEntry.{EndEntry}
 use Rattle.nob_session.specs.Stands.{End, Stands}
 use Rattle.nob_demo_pair.specs.Pairs.{IsEndOf}
 

@@ -6,7 +6,7 @@ use Rattle.std.specs.List.{slice_get}
 use Rattle.std.proofs.lemmas.List.{append-nil, length-append, length-take, length-drop, take-append-le, drop-append-le}
 use Rattle.nob_frame.specs.declared.frame.Frame.{Frame}
 use Rattle.nob_frame.specs.declared.frame.FrameKind.TheVariants as kinds
-use Rattle.nob_model_end.specs.Right.{data_frames}
+use Rattle.nob_model_session.specs.Right.{data_frames}
 use Rattle.nob_demo_pair.specs.declared.batch.Batch.{Batch}
 use Rattle.nob_demo_pair.specs.declared.batch.Batch.TheVariants.{Run, Whole}
 use Rattle.nob_demo_pair.specs.declared.batch.Row.{Row}

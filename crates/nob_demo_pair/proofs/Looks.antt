@@ -1,6 +1,6 @@
 -- A look at the front, and the front.
 use Rattle.std.proofs.Common.{◌≡◌, ℕ, List, [], ◌∷◌, Some, None, refl}
-use Rattle.nob_model_end.specs.Right.{first_of}
+use Rattle.nob_model_session.specs.Right.{first_of}
 use Rattle.nob_demo_pair.specs.declared.answer.Answer.{Answer}
 use Rattle.nob_demo_pair.specs.declared.answer.Answer.TheVariants as answer
 use Rattle.nob_demo_pair.specs.Fronts.{is_front}

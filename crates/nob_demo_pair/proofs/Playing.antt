@@ -3,10 +3,10 @@ use Rattle.std.proofs.Common.{◌≡◌, ℕ, ◌+◌, List, [], ◌∷◌, ◌+
 use Rattle.std.specs.declared.alloc.AllocError.{AllocError}
 use Rattle.std.proofs.lemmas.List.{append-nil}
 use Rattle.nob_demo_pair.specs.Grammar.{header_text, IsLimits}
-use Rattle.nob_trace_text.specs.Lines.{lines_of, bad_step_text, line_text}
+use Rattle.nob_text.specs.Lines.{lines_of, bad_step_text, line_text}
 use Rattle.nob_ids.specs.declared.limits.Limits.{Limits}
-use Rattle.nob_model_end.specs.declared.entry.PairEntry.{PairEntry}
-use Rattle.nob_model_end.specs.Pair.{PairFronts}
+use Rattle.nob_model_session.specs.declared.entry.PairEntry.{PairEntry}
+use Rattle.nob_model_session.specs.Pair.{PairFronts}
 use Rattle.nob_demo_pair.specs.declared.script.Outcome.{Outcome}
 use Rattle.nob_demo_pair.specs.declared.script.Outcome.TheVariants.{Fronts, BadStep, OutOfMemory}
 use Rattle.nob_demo_pair.specs.Scripts.{FromLines, FromLine, FromHeader, FromScript, AtEnd, FromNothing, StepMade, Grows, IsNoStep, IsNoHeader, Plays, last_line}

@@ -5,13 +5,13 @@ use Rattle.std.proofs.lemmas.List.Elements.{Contains-append_cases, Contains-appe
 use Rattle.nob_ids.specs.declared.limits.Limits.{Limits}
 use Rattle.nob_ids.specs.declared.reason.Reason.{Reason}
 use Rattle.nob_frame.specs.declared.frame.Frame.{Frame}
-use Rattle.nob_model_end.specs.declared.entry.EndEntry.{EndEntry}
-use Rattle.nob_model_end.specs.declared.entry.EndEntry.TheVariants.{Send, Transmit, Arrive, Front, Take, IsOpen, Tick, Close}
-use Rattle.nob_model_end.specs.declared.entry.PairEntry.{PairEntry}
-use Rattle.nob_model_end.specs.declared.entry.PairEntry.TheVariants.{First, Second}
-use Rattle.nob_model_end.specs.End.{is_open, lowest, accepted, unacknowledged, data_arrived, owes_close, ending}
-use Rattle.nob_model_end.specs.Right.{right_transmit, data_frames, open_frames, closed_frames}
-use Rattle.nob_model_end.specs.Pair.{first_calls, second_calls, transmitted_frames, PairRun}
+use Rattle.nob_model_session.specs.declared.entry.EndEntry.{EndEntry}
+use Rattle.nob_model_session.specs.declared.entry.EndEntry.TheVariants.{Send, Transmit, Arrive, Front, Take, IsOpen, Tick, Close}
+use Rattle.nob_model_session.specs.declared.entry.PairEntry.{PairEntry}
+use Rattle.nob_model_session.specs.declared.entry.PairEntry.TheVariants.{First, Second}
+use Rattle.nob_model_session.specs.End.{is_open, lowest, accepted, unacknowledged, data_arrived, owes_close, ending}
+use Rattle.nob_model_session.specs.Right.{right_transmit, data_frames, open_frames, closed_frames}
+use Rattle.nob_model_session.specs.Pair.{first_calls, second_calls, transmitted_frames, PairRun}
 use Rattle.std.proofs.lemmas.Option.{slice_get_within, get_or_from_slice_get}
 use Rattle.nob_demo_pair.specs.Run.{all_given, frame_numbered}
 use Prim.Native.Nat.{zero}

@@ -2,11 +2,11 @@
 use Rattle.std.proofs.Common.{◌≡◌, ℕ, Bool, true, false, cond, List, [], ◌∷◌, ◌++◌, Option, Some, None, IsSome, inl, inr, refl, sym, ap, subst, ◌∙◌, map, length, Result, Ok, Err, IfOk, OnOk, arith}
 use Rattle.nob_ids.specs.declared.limits.Limits.{Limits}
 use Rattle.nob_frame.specs.declared.frame.Frame.{Frame}
-use Rattle.nob_model_end.specs.declared.entry.EndEntry.TheVariants.{Arrive}
-use Rattle.nob_model_end.specs.declared.entry.PairEntry.{PairEntry}
-use Rattle.nob_model_end.specs.End.{is_open}
-use Rattle.nob_model_end.specs.Right.{right_transmit, right_front, right_arrive}
-use Rattle.nob_model_end.specs.Pair.{first_calls, second_calls, transmitted_frames, PairRun}
+use Rattle.nob_model_session.specs.declared.entry.EndEntry.TheVariants.{Arrive}
+use Rattle.nob_model_session.specs.declared.entry.PairEntry.{PairEntry}
+use Rattle.nob_model_session.specs.End.{is_open}
+use Rattle.nob_model_session.specs.Right.{right_transmit, right_front, right_arrive}
+use Rattle.nob_model_session.specs.Pair.{first_calls, second_calls, transmitted_frames, PairRun}
 use Rattle.nob_session.specs.Stands.{End, Stands}
 use Rattle.nob_demo_pair.specs.declared.step.Side.{Side}
 use Rattle.nob_demo_pair.specs.declared.step.Side.TheVariants.{First, Second}

@@ -1,5 +1,5 @@
-pub use Rattle.nob_trace_text.specs.Lines
-pub use Rattle.nob_model_end.specs.Pair
+pub use Rattle.nob_text.specs.Lines
+pub use Rattle.nob_model_session.specs.Pair
 pub use Rattle.nob_frame.specs.Spelling
 pub mod Grammar
 pub mod Fronts

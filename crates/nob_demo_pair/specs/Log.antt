@@ -1,7 +1,7 @@
 -- All frames that were ever transmitted, kept so that no payload of an item stands twice.
 use Rattle.std.specs.Prelude.{◌≡◌, ℕ, ◌+◌, ◌-◌, ◌^◌, ◌≤◌, ◌==◌, nat_lt, List, [], ◌∷◌, ◌++◌, length, take, drop, if◌then◌else◌}
 use Rattle.nob_frame.specs.declared.frame.Frame.{Frame}
-use Rattle.nob_model_end.specs.Right.{data_frames}
+use Rattle.nob_model_session.specs.Right.{data_frames}
 use Rattle.nob_demo_pair.specs.declared.batch.Batch.{Batch}
 use Rattle.nob_demo_pair.specs.declared.batch.Batch.TheVariants.{Run, Whole}
 use Rattle.nob_demo_pair.specs.declared.batch.Row.{Row}

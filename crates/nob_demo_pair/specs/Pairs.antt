@@ -4,10 +4,10 @@ use Rattle.std.specs.List.{AllByRecursion}
 use Rattle.nob_ids.specs.declared.limits.Limits.{Limits}
 use Rattle.nob_frame.specs.declared.frame.Frame.{Frame}
 use Rattle.nob_frame.specs.Spelling.{Fits}
-use Rattle.nob_model_end.specs.declared.entry.EndEntry.{EndEntry}
-use Rattle.nob_model_end.specs.declared.entry.PairEntry.{PairEntry}
-use Rattle.nob_model_end.specs.Right.{right_transmit}
-use Rattle.nob_model_end.specs.Pair.{first_calls, second_calls, PairRun}
+use Rattle.nob_model_session.specs.declared.entry.EndEntry.{EndEntry}
+use Rattle.nob_model_session.specs.declared.entry.PairEntry.{PairEntry}
+use Rattle.nob_model_session.specs.Right.{right_transmit}
+use Rattle.nob_model_session.specs.Pair.{first_calls, second_calls, PairRun}
 use Rattle.nob_session.specs.Stands.{End, Stands}
 use Rattle.nob_demo_pair.specs.declared.step.Call.{Call}
 use Rattle.nob_demo_pair.specs.declared.step.Call.TheVariants.{Put, Send, Get, Tick, Close}

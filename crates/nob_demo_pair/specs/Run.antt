@@ -7,19 +7,19 @@ use Rattle.nob_ids.specs.declared.limits.Limits.{Limits}
 use Rattle.nob_ids.specs.declared.reason.Reason.{Reason}
 use Rattle.nob_ids.specs.declared.reason.Reason.TheVariants.{Asked}
 use Rattle.nob_frame.specs.declared.frame.Frame.{Frame}
-use Rattle.nob_model_end.specs.declared.refusal.EndRefusal.{EndRefusal}
-use Rattle.nob_model_end.specs.declared.refusal.EndRefusal.TheVariants as refusal
-use Rattle.nob_model_end.specs.declared.entry.Kind.TheVariants.{Limited}
-use Rattle.nob_model_end.specs.declared.entry.Ending.{Ending}
-use Rattle.nob_model_end.specs.declared.entry.Arrived.{Arrived}
-use Rattle.nob_model_end.specs.declared.entry.Arrived.TheVariants as arrived
-use Rattle.nob_model_end.specs.declared.entry.EndEntry.{EndEntry}
-use Rattle.nob_model_end.specs.declared.entry.EndEntry.TheVariants as entry
-use Rattle.nob_model_end.specs.declared.entry.PairEntry.{PairEntry}
-use Rattle.nob_model_end.specs.declared.entry.PairEntry.TheVariants as pair
-use Rattle.nob_model_end.specs.End.{is_open}
-use Rattle.nob_model_end.specs.Right.{right_send, right_transmit, right_arrive, right_front, right_tick, right_close}
-use Rattle.nob_model_end.specs.Pair.{first_calls, second_calls}
+use Rattle.nob_model_session.specs.declared.refusal.EndRefusal.{EndRefusal}
+use Rattle.nob_model_session.specs.declared.refusal.EndRefusal.TheVariants as refusal
+use Rattle.nob_model_session.specs.declared.entry.Kind.TheVariants.{Limited}
+use Rattle.nob_model_session.specs.declared.entry.Ending.{Ending}
+use Rattle.nob_model_session.specs.declared.entry.Arrived.{Arrived}
+use Rattle.nob_model_session.specs.declared.entry.Arrived.TheVariants as arrived
+use Rattle.nob_model_session.specs.declared.entry.EndEntry.{EndEntry}
+use Rattle.nob_model_session.specs.declared.entry.EndEntry.TheVariants as entry
+use Rattle.nob_model_session.specs.declared.entry.PairEntry.{PairEntry}
+use Rattle.nob_model_session.specs.declared.entry.PairEntry.TheVariants as pair
+use Rattle.nob_model_session.specs.End.{is_open}
+use Rattle.nob_model_session.specs.Right.{right_send, right_transmit, right_arrive, right_front, right_tick, right_close}
+use Rattle.nob_model_session.specs.Pair.{first_calls, second_calls}
 use Rattle.nob_demo_pair.specs.declared.answer.Answer.{Answer}
 use Rattle.nob_demo_pair.specs.declared.answer.Answer.TheVariants as answer
 use Rattle.nob_demo_pair.specs.declared.step.Side.{Side}

@@ -1,9 +1,9 @@
 -- What is written for a pair script: a relation, since a step may be refused for want of memory.
 use Rattle.std.specs.Prelude.{◌≡◌, ◌≢◌, ℕ, ◌+◌, List, [], ◌∷◌, ◌++◌, IsTrue, codes}
 use Rattle.nob_ids.specs.declared.limits.Limits.{Limits}
-use Rattle.nob_model_end.specs.declared.entry.PairEntry.{PairEntry}
-use Rattle.nob_model_end.specs.Pair.{PairFronts, PairRun}
-use Rattle.nob_trace_text.specs.Lines.{lines_of, line_text, answered_text, bad_step_text}
+use Rattle.nob_model_session.specs.declared.entry.PairEntry.{PairEntry}
+use Rattle.nob_model_session.specs.Pair.{PairFronts, PairRun}
+use Rattle.nob_text.specs.Lines.{lines_of, line_text, answered_text, bad_step_text}
 use Rattle.nob_demo_pair.specs.declared.step.Step.{Step}
 use Rattle.nob_demo_pair.specs.declared.script.Outcome.{Outcome}
 use Rattle.nob_demo_pair.specs.declared.script.Outcome.TheVariants.{Fronts, BadStep, OutOfMemory}

@@ -1,7 +1,7 @@
 //! The frames that one transmit gave.
 
 use nob_ids::SpaceId;
-use nob_model_end::Frames;
+use nob_model_session::Frames;
 
 /// Data frames that carry items, one after the other: where the items stand, and what the frames
 /// say beside them.

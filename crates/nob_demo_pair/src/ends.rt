@@ -2,7 +2,7 @@
 
 ghost use Rattle.std.specs.Prelude.{◌≡◌, ◌++◌, ◌∷◌, List, ℕ, length, IfOk, IsTrue, IsOk, OnOk, OnErr, ◌≢◌, []};
 ghost use Rattle.nob_ids.specs.declared.limits.Limits.{Limits as LimitsOf};
-ghost use Rattle.nob_model_end.specs.declared.entry.EndEntry.{EndEntry};
+ghost use Rattle.nob_model_session.specs.declared.entry.EndEntry.{EndEntry};
 ghost use Rattle.std.specs.List.{AllByRecursion};
 ghost use Rattle.nob_frame.specs.declared.frame.Frame.{Frame as FrameOf};
 ghost use Rattle.nob_frame.specs.Spelling.{Fits, Spelt};
@@ -10,11 +10,11 @@ ghost use Rattle.nob_session.specs.Items.{IsItem, IsPair};
 ghost use Rattle.nob_session.specs.Stands.{Stands};
 ghost use Rattle.nob_session.specs.Wire.{IsSpelling};
 ghost use Rattle.nob_session.specs.Calls.{next_of};
-ghost use Rattle.nob_model_end.specs.declared.entry.Kind.TheVariants.{Limited};
+ghost use Rattle.nob_model_session.specs.declared.entry.Kind.TheVariants.{Limited};
 ghost use Rattle.nob_demo_pair.specs.Fronts.{IsFront};
 ghost use Rattle.nob_demo_pair.specs.Run.{answer_text, arrive_text, call_answer, call_takes_memory, calls_of};
-ghost use Rattle.nob_model_end.specs.Right.{right_arrive, right_transmit};
-ghost use Rattle.nob_model_end.specs.declared.entry.EndEntry.TheVariants.{Arrive};
+ghost use Rattle.nob_model_session.specs.Right.{right_arrive, right_transmit};
+ghost use Rattle.nob_model_session.specs.declared.entry.EndEntry.TheVariants.{Arrive};
 
 use crate::answer::{Answer, Sent};
 use crate::log::FrameLog;

@@ -2,7 +2,7 @@
 
 ghost use Rattle.std.specs.Prelude.{◌≡◌, ◌++◌, ◌+◌, ◌-◌, ◌<◌, ◌≤◌, ◌^◌, ℕ, List, true, [], length, take, drop, slice_get, IfOk, IfSome, IsSome, OnOk, OnErr, MatchOption};
 ghost use Rattle.nob_frame.specs.declared.frame.FrameKind.TheVariants as kinds;
-ghost use Rattle.nob_model_end.specs.Right.{data_frames};
+ghost use Rattle.nob_model_session.specs.Right.{data_frames};
 ghost use Rattle.nob_demo_pair.specs.Run.{frame_numbered};
 ghost use Rattle.nob_demo_pair.specs.Log.{AreCounted, IsThere, all_frames, frames_in, items_of};
 
@@ -10,7 +10,7 @@ use crate::batch::{Batch, ItemRun, Row};
 use crate::step::Side;
 use nob_bytes::Bytes;
 use nob_frame::{Frame, FrameKind};
-use nob_model_end::Frames;
+use nob_model_session::Frames;
 use std::alloc::{AllocError, Global};
 use std::marker::Model;
 

@@ -4,8 +4,8 @@ ghost use Rattle.std.specs.Prelude.{◌≡◌, ◌++◌, ◌∷◌, [], List, �
 ghost use Rattle.std.specs.List.{AllByRecursion};
 ghost use Rattle.nob_ids.specs.declared.limits.Limits.{Limits as LimitsOf};
 ghost use Rattle.nob_frame.specs.Spelling.{Fits};
-ghost use Rattle.nob_model_end.specs.declared.entry.EndEntry.{EndEntry};
-ghost use Rattle.nob_model_end.specs.declared.entry.PairEntry.{PairEntry};
+ghost use Rattle.nob_model_session.specs.declared.entry.EndEntry.{EndEntry};
+ghost use Rattle.nob_model_session.specs.declared.entry.PairEntry.{PairEntry};
 ghost use Rattle.nob_session.specs.Items.{IsPair};
 ghost use Rattle.nob_session.specs.Stands.{Stands};
 ghost use Rattle.nob_demo_pair.specs.Grammar.{IsStep, IsCall};

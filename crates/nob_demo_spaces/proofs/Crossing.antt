@@ -7,7 +7,7 @@ use Rattle.std.specs.contracts.result.Result as Result
 use Rattle.nob_demo_spaces.proofs.places.Part.TheSendSync as part
 use Rattle.nob_demo_spaces.specs.contracts.places.Place as Place
 use Rattle.nob_demo_spaces.specs.contracts.places.Played as Played
-use Rattle.nob_model_end.proofs.entry.Frames.TheSendSync as frames
+use Rattle.nob_model_session.proofs.entry.Frames.TheSendSync as frames
 use Rattle.nob_model_types.specs.contracts.answer.Answer as Answer
 use Rattle.nob_model_types.specs.contracts.event.Event as Event
 use Rattle.nob_model_types.specs.contracts.refusal.Refusal as Refusal

@@ -19,7 +19,7 @@ use Rattle.nob_model.specs.contracts.Message as Message
 use Rattle.nob_model.specs.contracts.OwnCall as OwnCall
 use Rattle.nob_model.specs.contracts.Run as Run
 use Rattle.nob_model.proofs.OwnCall.TheSendSync as own_call
-use Rattle.nob_model_end.proofs.entry.Frames.TheSendSync as frames
+use Rattle.nob_model_session.proofs.entry.Frames.TheSendSync as frames
 use Rattle.nob_model_types.specs.contracts.answer.Answer as Answer
 use Rattle.nob_model_types.specs.contracts.event.Event as Event
 use Rattle.nob_model_types.specs.contracts.refusal.Refusal as Refusal
@@ -30,8 +30,8 @@ use Rattle.nob_session.proofs.session.Session.TheSendSync as session
 use Rattle.nob_session.specs.contracts.session.Session as Session
 use Rattle.nob_space.specs.contracts.space.Space as Space
 use Rattle.nob_space.specs.contracts.space.Space.TheInside as SpaceInside
-use Rattle.nob_space_messages.proofs.list.SlabList.TheSendSync as lists
-use Rattle.nob_space_messages.specs.contracts.list.SlabList as SlabList
+use Rattle.nob_space_list.proofs.list.SlabList.TheSendSync as lists
+use Rattle.nob_space_list.specs.contracts.list.SlabList as SlabList
 use Rattle.nob_space_state.specs.contracts.parts.Parts as Parts
 use Rattle.nob_table.proofs.table.ObjectTable.TheSendSync as table
 use Rattle.nob_trace.specs.contracts.stamped.Stamped as Stamped

@@ -12,18 +12,18 @@ use Rattle.nob_frame.specs.Kinds.{is_close}
 use Rattle.nob_item.specs.Kinds.{counted_in}
 use Rattle.nob_item.specs.declared.item.Item.{Item}
 use Rattle.nob_item.specs.declared.item.Item.TheVariants as items
-use Rattle.nob_model_end.specs.End.{handed, is_open, unacknowledged, transmitted, is_out, ticks}
-use Rattle.nob_model_end.specs.Right as end
-use Rattle.nob_model_end.specs.Right.{queue_limit, last_item, is_limited, right_send, right_transmit, is_of_pair, is_accepted, right_arrive, right_front, right_tick, right_close}
-use Rattle.nob_model_end.specs.declared.refusal.EndRefusal.{EndRefusal}
-use Rattle.nob_model_end.specs.declared.refusal.EndRefusal.TheVariants as end_refusals
-use Rattle.nob_model_end.specs.declared.entry.Kind.{Kind}
-use Rattle.nob_model_end.specs.declared.entry.Kind.TheVariants.{Limited, Note}
-use Rattle.nob_model_end.specs.declared.entry.Ending.{Ending}
-use Rattle.nob_model_end.specs.declared.entry.Arrived.{Arrived}
-use Rattle.nob_model_end.specs.declared.entry.Arrived.TheVariants as arrived
-use Rattle.nob_model_end.specs.declared.entry.EndEntry.{EndEntry}
-use Rattle.nob_model_end.specs.declared.entry.EndEntry.TheVariants as ends
+use Rattle.nob_model_session.specs.End.{handed, is_open, unacknowledged, transmitted, is_out, ticks}
+use Rattle.nob_model_session.specs.Right as end
+use Rattle.nob_model_session.specs.Right.{queue_limit, last_item, is_limited, right_send, right_transmit, is_of_pair, is_accepted, right_arrive, right_front, right_tick, right_close}
+use Rattle.nob_model_session.specs.declared.refusal.EndRefusal.{EndRefusal}
+use Rattle.nob_model_session.specs.declared.refusal.EndRefusal.TheVariants as end_refusals
+use Rattle.nob_model_session.specs.declared.entry.Kind.{Kind}
+use Rattle.nob_model_session.specs.declared.entry.Kind.TheVariants.{Limited, Note}
+use Rattle.nob_model_session.specs.declared.entry.Ending.{Ending}
+use Rattle.nob_model_session.specs.declared.entry.Arrived.{Arrived}
+use Rattle.nob_model_session.specs.declared.entry.Arrived.TheVariants as arrived
+use Rattle.nob_model_session.specs.declared.entry.EndEntry.{EndEntry}
+use Rattle.nob_model_session.specs.declared.entry.EndEntry.TheVariants as ends
 use Rattle.nob_model_types.specs.declared.event.Outcome.{Outcome}
 use Rattle.nob_model_types.specs.declared.event.Outcome.TheVariants as outcomes
 use Rattle.nob_model_types.specs.declared.refusal.Refusal.{Refusal}

@@ -11,11 +11,11 @@ use Rattle.nob_ids.specs.declared.wire_rep.WireRep.{WireRep}
 use Rattle.nob_item.specs.Kinds.{counted_in}
 use Rattle.nob_item.specs.declared.item.Item.{Item}
 use Rattle.nob_item.specs.declared.item.Item.TheVariants as items
-use Rattle.nob_model_end.specs.End.{takes, waiting}
-use Rattle.nob_model_end.specs.Right.{first_of, right_front}
-use Rattle.nob_model_end.specs.declared.entry.Arrived.TheVariants as arrived
-use Rattle.nob_model_end.specs.declared.entry.EndEntry.{EndEntry}
-use Rattle.nob_model_end.specs.declared.entry.EndEntry.TheVariants as ends
+use Rattle.nob_model_session.specs.End.{takes, waiting}
+use Rattle.nob_model_session.specs.Right.{first_of, right_front}
+use Rattle.nob_model_session.specs.declared.entry.Arrived.TheVariants as arrived
+use Rattle.nob_model_session.specs.declared.entry.EndEntry.{EndEntry}
+use Rattle.nob_model_session.specs.declared.entry.EndEntry.TheVariants as ends
 use Rattle.nob_model_types.specs.declared.answer.Job.{Job}
 use Rattle.nob_model_words.specs.declared.deed.Deed.{Deed}
 use Rattle.nob_model_words.specs.declared.deed.Deed.TheVariants.{Call, TakeReply, TakeEnd, Claim, Finish, DropReply, Act, Settle, Clean, Transmit, Arrive, Tick, Closing}

@@ -14,7 +14,7 @@ use Rattle.nob_ids.specs.declared.limits.Limits.{Limits}
 use Rattle.nob_ids.specs.declared.reason.Reason.{Reason}
 use Rattle.nob_ids.specs.declared.wire_rep.WireRep.{WireRep}
 use Rattle.nob_pickle.specs.Spelling.{refs_in}
-use Rattle.nob_model_end.specs.End.{accepted}
+use Rattle.nob_model_session.specs.End.{accepted}
 use Rattle.nob_model_words.specs.declared.deed.Deed.{Deed}
 use Rattle.nob_model_words.specs.declared.deed.Deed.TheVariants as did
 use Rattle.nob_model_words.specs.declared.deed.Cause.{Cause}

@@ -3,8 +3,8 @@ use Rattle.std.specs.Prelude.{◌+◌, ◌≡◌, ◌≢◌, ◌≤◌, ◌↔�
 use Rattle.nob_ids.specs.declared.limits.Limits.{Limits}
 use Rattle.nob_ids.specs.declared.wire_rep.WireRep.{WireRep}
 use Rattle.nob_item.specs.declared.item.Item.{Item}
-use Rattle.nob_model_end.specs.Right as end
-use Rattle.nob_model_end.specs.declared.entry.EndEntry.{EndEntry}
+use Rattle.nob_model_session.specs.Right as end
+use Rattle.nob_model_session.specs.declared.entry.EndEntry.{EndEntry}
 use Rattle.nob_model_types.specs.declared.answer.Answer.{Answer}
 use Rattle.nob_model_types.specs.declared.answer.Answer.TheVariants as answers
 use Rattle.nob_model_types.specs.declared.refusal.Refusal.{Refusal}

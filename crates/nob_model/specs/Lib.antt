@@ -1,6 +1,6 @@
 pub use Rattle.nob_ids.specs.Names
 pub use Rattle.nob_ids.specs.Reasons
-pub use Rattle.nob_model_end.specs.End
+pub use Rattle.nob_model_session.specs.End
 pub use Rattle.nob_model_words.specs.Deeds
 pub use Rattle.nob_model_words.specs.Sessions
 pub use Rattle.nob_model_words.specs.Objects

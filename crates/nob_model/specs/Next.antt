@@ -1,6 +1,6 @@
 -- What a space could do next, and whether a reply is ready: limits and free numbers aside.
 use Rattle.std.specs.Prelude.{ℕ, Bool, true, false, ◌&&◌, not, min, List, [], ◌∷◌, map, filter, Option, Some, None, is_some, is_none, Result, Ok, Err}
-use Rattle.nob_model_end.specs.Right.{right_transmit, right_front}
+use Rattle.nob_model_session.specs.Right.{right_transmit, right_front}
 use Rattle.nob_model_types.specs.declared.answer.Answer.{Answer}
 use Rattle.nob_model_types.specs.declared.refusal.Refusal.{Refusal}
 use Rattle.nob_model_types.specs.declared.refusal.Refusal.TheVariants as refusals

@@ -1,13 +1,13 @@
 //! What a space could do next, and whether a reply is ready: limits and free numbers aside.
 
 ghost use Rattle.std.specs.Prelude.{◌≡◌, IfOk, filter, map, is_some};
-ghost use Rattle.nob_model_end.specs.Right.{right_front};
+ghost use Rattle.nob_model_session.specs.Right.{right_front};
 ghost use Rattle.nob_model.specs.Next as words;
 
 use crate::right::{take_reply, withdraw_refused};
 use nob_ids::{CallNo, SpaceId, WireRep};
 use nob_model_acting::candidates::{to_claim, to_clean, to_settle};
-use nob_model_end::{EndEntry, right as end};
+use nob_model_session::{EndEntry, right as end};
 use nob_model_history::History;
 use nob_model_history::ends::calls_at;
 use nob_model_types::{Answer, Refusal};

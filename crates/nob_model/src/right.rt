@@ -8,8 +8,8 @@ ghost use Rattle.nob_model_work.specs.Work.{is_call, is_run};
 ghost use Rattle.nob_model_work.specs.Gifts.{value_of};
 ghost use Rattle.nob_model_history.specs.Holds.{times as times_word, hand as hand_word};
 ghost use Rattle.nob_model_acting.specs.Sending.{value_refused as value_refused_word};
-ghost use Rattle.nob_model_end.specs.Texts.{texts};
-ghost use Rattle.nob_model_end.specs.Right.{right_front, first_of};
+ghost use Rattle.nob_model_session.specs.Texts.{texts};
+ghost use Rattle.nob_model_session.specs.Right.{right_front, first_of};
 ghost use Rattle.nob_model_history.specs.Ends.{calls_at as calls_word};
 ghost use Rattle.nob_model.specs.Right as words;
 
@@ -21,7 +21,7 @@ use nob_model_acting::candidates::{to_claim, to_settle};
 use nob_model_acting::sending::{
     counted, has_numbers, is_own_and_not_live, send_refused, value_refused,
 };
-use nob_model_end::{Arrived, EndRefusal, Ending, Frames, Kind, right as end, words as end_words};
+use nob_model_session::{Arrived, EndRefusal, Ending, Frames, Kind, right as end, words as end_words};
 use nob_model_history::ends::calls_at;
 use nob_model_history::holds::{hand, is_held, times};
 use nob_model_history::listing::is_any_listed;

@@ -7,11 +7,11 @@ use Rattle.nob_ids.specs.declared.reason.Reason.{Reason}
 use Rattle.nob_item.specs.declared.item.Item.{Item}
 use Rattle.nob_frame.specs.declared.frame.Frame.{Frame}
 use Rattle.nob_frame.specs.Kinds.{is_data}
-use Rattle.nob_model_end.specs.End.{accepted, handed, takes, is_open}
-use Rattle.nob_model_end.specs.Right.{right_front, first_of}
-use Rattle.nob_model_end.specs.declared.entry.EndEntry.{EndEntry}
-use Rattle.nob_model_end.specs.declared.entry.EndEntry.TheVariants as ends
-use Rattle.nob_model_end.specs.declared.entry.Arrived.TheVariants as arrived
+use Rattle.nob_model_session.specs.End.{accepted, handed, takes, is_open}
+use Rattle.nob_model_session.specs.Right.{right_front, first_of}
+use Rattle.nob_model_session.specs.declared.entry.EndEntry.{EndEntry}
+use Rattle.nob_model_session.specs.declared.entry.EndEntry.TheVariants as ends
+use Rattle.nob_model_session.specs.declared.entry.Arrived.TheVariants as arrived
 use Rattle.nob_model_words.specs.declared.deed.Deed.{Deed}
 use Rattle.nob_model_words.specs.declared.deed.Deed.TheVariants as did
 use Rattle.nob_model_words.specs.declared.deed.Cause.{Cause}

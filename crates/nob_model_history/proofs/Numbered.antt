@@ -5,9 +5,9 @@ use Rattle.std.proofs.lemmas.List.{append-nil, length-map, map-append}
 use Rattle.std.proofs.lemmas.List.Elements.{filter-append}
 use Rattle.nob_ids.specs.declared.reason.Reason.{Reason}
 use Rattle.nob_item.specs.declared.item.Item.{Item}
-use Rattle.nob_model_end.specs.End.{handed}
-use Rattle.nob_model_end.specs.declared.entry.EndEntry.{EndEntry}
-use Rattle.nob_model_end.specs.declared.entry.EndEntry.TheVariants as ends
+use Rattle.nob_model_session.specs.End.{handed}
+use Rattle.nob_model_session.specs.declared.entry.EndEntry.{EndEntry}
+use Rattle.nob_model_session.specs.declared.entry.EndEntry.TheVariants as ends
 use Rattle.nob_model_words.specs.declared.deed.Deed.{Deed}
 use Rattle.nob_model_words.specs.declared.deed.Deed.TheVariants as did
 use Rattle.nob_model_words.specs.declared.deed.Cause.{Cause}

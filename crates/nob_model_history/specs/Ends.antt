@@ -6,13 +6,13 @@ use Rattle.nob_item.specs.Writing.{bytes_of}
 use Rattle.nob_item.specs.declared.fault.ItemFault.{ItemFault}
 use Rattle.nob_item.specs.declared.item.Item.{Item}
 use Rattle.nob_item.specs.declared.item.Item.TheVariants as items
-use Rattle.nob_model_end.specs.End.{handed}
-use Rattle.nob_model_end.specs.declared.entry.Kind.{Kind}
-use Rattle.nob_model_end.specs.declared.entry.Kind.TheVariants.{Limited, Note}
-use Rattle.nob_model_end.specs.declared.entry.Ending.{Ending}
-use Rattle.nob_model_end.specs.declared.entry.Arrived.TheVariants as arrived
-use Rattle.nob_model_end.specs.declared.entry.EndEntry.{EndEntry}
-use Rattle.nob_model_end.specs.declared.entry.EndEntry.TheVariants as ends
+use Rattle.nob_model_session.specs.End.{handed}
+use Rattle.nob_model_session.specs.declared.entry.Kind.{Kind}
+use Rattle.nob_model_session.specs.declared.entry.Kind.TheVariants.{Limited, Note}
+use Rattle.nob_model_session.specs.declared.entry.Ending.{Ending}
+use Rattle.nob_model_session.specs.declared.entry.Arrived.TheVariants as arrived
+use Rattle.nob_model_session.specs.declared.entry.EndEntry.{EndEntry}
+use Rattle.nob_model_session.specs.declared.entry.EndEntry.TheVariants as ends
 use Rattle.nob_model_words.specs.declared.deed.Deed.{Deed}
 use Rattle.nob_model_words.specs.declared.deed.Deed.TheVariants.{Act, Transmit, Arrive, Tick, Closing}
 use Rattle.nob_model_words.specs.declared.deed.Cause.{Cause}

@@ -1,4 +1,4 @@
-pub use Rattle.nob_model_end.specs.End
+pub use Rattle.nob_model_session.specs.End
 pub use Rattle.nob_model_words.specs.Sessions
 pub use Rattle.nob_model_words.specs.Objects
 pub use Rattle.nob_model_words.specs.Turns

@@ -4,7 +4,7 @@ use Rattle.nob_frame.specs.Kinds.{is_data}
 use Rattle.nob_ids.specs.declared.wire_rep.WireRep.{WireRep}
 use Rattle.nob_item.specs.declared.item.Item.{Item}
 use Rattle.nob_item.specs.declared.item.Item.TheVariants as items
-use Rattle.nob_model_end.specs.End.{accepted}
+use Rattle.nob_model_session.specs.End.{accepted}
 use Rattle.nob_model_words.specs.Sessions.{item_at}
 use Rattle.nob_model_words.specs.Objects.{exports, is_live}
 use Rattle.nob_model_words.specs.Turns.{turns, is_pending, is_granted}

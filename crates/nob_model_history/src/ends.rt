@@ -1,15 +1,15 @@
 //! The calls that a space makes on its end of the session with each peer.
 
 ghost use Rattle.std.specs.Prelude.{◌≡◌, ◌∷◌, ◌+◌, IfOk, Ok, Some, None, length};
-ghost use Rattle.nob_model_end.specs.End.{handed};
-ghost use Rattle.nob_model_end.specs.declared.entry.EndEntry.TheVariants as ends;
+ghost use Rattle.nob_model_session.specs.End.{handed};
+ghost use Rattle.nob_model_session.specs.declared.entry.EndEntry.TheVariants as ends;
 ghost use Rattle.nob_model_history.specs.Ends as words;
 
 use crate::history::History;
 use nob_bytes::Bytes;
 use nob_ids::{ItemNo, Reason, SpaceId};
 use nob_item::{Item, ItemError};
-use nob_model_end::{Arrived, EndEntry, Ending, Kind};
+use nob_model_session::{Arrived, EndEntry, Ending, Kind};
 use nob_model_words::{Cause, Deed};
 use nob_model_work::{Gift, GiftList};
 use std::alloc::{AllocError, Global};
@@ -55,7 +55,7 @@ fn with_send(
         (Ok (length (handed calls.items) + 1)) ∷ calls.items) }
 {
     let payload = payload_of(alloc, item)?;
-    let count = nob_model_end::words::handed(alloc, calls.as_slice())?.len();
+    let count = nob_model_session::end::handed(alloc, calls.as_slice())?.len();
     let number = ItemNo::new(count as u64 + 1);
     calls.insert(0, EndEntry::Send(payload, kind_of(item), Ok(number)))?;
     Ok(calls)

@@ -4,7 +4,7 @@ use Rattle.std.specs.Prelude.{◌≡◌, ⊤, ℕ, ◌+◌, false, List, [], ◌
 use Rattle.std.specs.List.{AllByRecursion}
 use Rattle.nob_item.specs.declared.item.Item.{Item}
 use Rattle.nob_model_types.specs.declared.entry.Entry.{Entry}
-use Rattle.nob_model_end.specs.Pair.{IsBeginning}
+use Rattle.nob_model_session.specs.Pair.{IsBeginning}
 use Rattle.nob_model_words.specs.Sessions.{closed}
 use Rattle.nob_model_words.specs.declared.deed.Deed.{Deed}
 use Rattle.nob_model_words.specs.declared.deed.Deed.TheVariants.{Act}

@@ -7,12 +7,12 @@ use Rattle.nob_ids.specs.declared.limits.Limits.{Limits}
 use Rattle.nob_ids.specs.declared.reason.Reason.{Reason}
 use Rattle.nob_frame.specs.declared.frame.Frame.{Frame}
 use Rattle.nob_frame.specs.Kinds.{is_data, is_close}
-use Rattle.nob_model_end.specs.End.{is_open, ending, handed, lowest, greatest_seq, accepted, transmitted, data_arrived, owes_close}
-use Rattle.nob_model_end.specs.Right.{data_frames, open_frames, closed_frames, right_transmit}
-use Rattle.nob_model_end.specs.Pair as pair
-use Rattle.nob_model_end.specs.declared.entry.Arrived.TheVariants as arrived
-use Rattle.nob_model_end.specs.declared.entry.EndEntry.{EndEntry}
-use Rattle.nob_model_end.specs.declared.entry.EndEntry.TheVariants as ends
+use Rattle.nob_model_session.specs.End.{is_open, ending, handed, lowest, greatest_seq, accepted, transmitted, data_arrived, owes_close}
+use Rattle.nob_model_session.specs.Right.{data_frames, open_frames, closed_frames, right_transmit}
+use Rattle.nob_model_session.specs.Pair as pair
+use Rattle.nob_model_session.specs.declared.entry.Arrived.TheVariants as arrived
+use Rattle.nob_model_session.specs.declared.entry.EndEntry.{EndEntry}
+use Rattle.nob_model_session.specs.declared.entry.EndEntry.TheVariants as ends
 use Rattle.nob_model_types.specs.declared.entry.Entry.{Entry}
 use Rattle.nob_model_history.specs.Ends.{calls_at}
 use Rattle.nob_model.specs.Laws.{AreRightCalls}

@@ -24,8 +24,8 @@ use Rattle.nob_model_work.specs.Work.{is_call, is_run}
 use Rattle.nob_model_history.specs.declared.history.History.{History}
 use Rattle.nob_model_types.specs.declared.answer.Job.{Job}
 use Rattle.nob_frame.specs.declared.frame.Frame.{Frame}
-use Rattle.nob_model_end.specs.Right.{right_transmit}
-use Rattle.nob_model_end.specs.declared.entry.Kind.TheVariants.{Limited}
+use Rattle.nob_model_session.specs.Right.{right_transmit}
+use Rattle.nob_model_session.specs.declared.entry.Kind.TheVariants.{Limited}
 use Rattle.nob_model_words.specs.Sessions.{is_peer, closed}
 use Rattle.nob_model_work.specs.Gifts.{value_of}
 use Rattle.nob_model_history.specs.Ends.{calls_at}

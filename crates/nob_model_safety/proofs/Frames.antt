@@ -8,11 +8,11 @@ use Rattle.nob_ids.specs.declared.limits.Limits.{Limits}
 use Rattle.nob_ids.specs.declared.reason.Reason.{Reason}
 use Rattle.nob_frame.specs.declared.frame.Frame.{Frame}
 use Rattle.nob_item.specs.declared.item.Item.{Item}
-use Rattle.nob_model_end.specs.End.{is_open, accepted, lowest, data_arrived, unacknowledged, owes_close, ending, handed}
-use Rattle.nob_model_end.specs.Right.{data_frames, open_frames, closed_frames, right_transmit}
-use Rattle.nob_model_end.specs.Pair as pair
-use Rattle.nob_model_end.specs.declared.entry.EndEntry.{EndEntry}
-use Rattle.nob_model_end.specs.declared.entry.EndEntry.TheVariants as ends
+use Rattle.nob_model_session.specs.End.{is_open, accepted, lowest, data_arrived, unacknowledged, owes_close, ending, handed}
+use Rattle.nob_model_session.specs.Right.{data_frames, open_frames, closed_frames, right_transmit}
+use Rattle.nob_model_session.specs.Pair as pair
+use Rattle.nob_model_session.specs.declared.entry.EndEntry.{EndEntry}
+use Rattle.nob_model_session.specs.declared.entry.EndEntry.TheVariants as ends
 use Rattle.nob_model_types.specs.declared.entry.Entry.{Entry}
 use Rattle.nob_model_words.specs.Deeds.{deed_in}
 use Rattle.nob_model_words.specs.declared.deed.Deed.{Deed}

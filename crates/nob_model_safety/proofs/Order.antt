@@ -8,13 +8,13 @@ use Rattle.std.proofs.lemmas.Option.{slice_get_within}
 use Rattle.nob_ids.specs.declared.limits.Limits.{Limits}
 use Rattle.nob_item.specs.Spelling.{Fits, IsItemNumber}
 use Rattle.nob_item.specs.declared.item.Item.{Item}
-use Rattle.nob_model_end.specs.End.{handed, accepted, takes, is_open, unacknowledged}
-use Rattle.nob_model_end.specs.Right.{right_front, last_item, is_limited, queue_limit}
-use Rattle.nob_model_end.specs.Pair.{IsBeginning, Reaches, first_calls}
-use Rattle.nob_model_end.specs.declared.refusal.EndRefusal.TheVariants as end_refusals
-use Rattle.nob_model_end.specs.declared.entry.EndEntry.{EndEntry}
-use Rattle.nob_model_end.specs.declared.entry.EndEntry.TheVariants as ends
-use Rattle.nob_model_end.proofs.Fronts.{accepted_law}
+use Rattle.nob_model_session.specs.End.{handed, accepted, takes, is_open, unacknowledged}
+use Rattle.nob_model_session.specs.Right.{right_front, last_item, is_limited, queue_limit}
+use Rattle.nob_model_session.specs.Pair.{IsBeginning, Reaches, first_calls}
+use Rattle.nob_model_session.specs.declared.refusal.EndRefusal.TheVariants as end_refusals
+use Rattle.nob_model_session.specs.declared.entry.EndEntry.{EndEntry}
+use Rattle.nob_model_session.specs.declared.entry.EndEntry.TheVariants as ends
+use Rattle.nob_model_session.proofs.Fronts.{accepted_law}
 use Rattle.nob_model_types.specs.declared.entry.Entry.{Entry}
 use Rattle.nob_model_words.specs.declared.deed.Deed.{Deed}
 use Rattle.nob_model_words.specs.declared.deed.Deed.TheVariants as did

@@ -7,15 +7,15 @@ use Rattle.nob_ids.specs.declared.limits.Limits.{Limits}
 use Rattle.nob_ids.specs.declared.reason.Reason.{Reason}
 use Rattle.nob_frame.specs.declared.frame.Frame.{Frame}
 use Rattle.nob_item.specs.declared.item.Item.{Item}
-use Rattle.nob_model_end.specs.End.{handed}
-use Rattle.nob_model_end.specs.Right as end
-use Rattle.nob_model_end.specs.Pair as pair
-use Rattle.nob_model_end.specs.Pair.{first_calls, second_calls, ArrivesFrom, PairRun}
-use Rattle.nob_model_end.specs.declared.entry.Arrived.TheVariants as arrived
-use Rattle.nob_model_end.specs.declared.entry.EndEntry.{EndEntry}
-use Rattle.nob_model_end.specs.declared.entry.EndEntry.TheVariants as ends
-use Rattle.nob_model_end.specs.declared.entry.PairEntry.{PairEntry}
-use Rattle.nob_model_end.specs.declared.entry.PairEntry.TheVariants.{First, Second}
+use Rattle.nob_model_session.specs.End.{handed}
+use Rattle.nob_model_session.specs.Right as end
+use Rattle.nob_model_session.specs.Pair as pair
+use Rattle.nob_model_session.specs.Pair.{first_calls, second_calls, ArrivesFrom, PairRun}
+use Rattle.nob_model_session.specs.declared.entry.Arrived.TheVariants as arrived
+use Rattle.nob_model_session.specs.declared.entry.EndEntry.{EndEntry}
+use Rattle.nob_model_session.specs.declared.entry.EndEntry.TheVariants as ends
+use Rattle.nob_model_session.specs.declared.entry.PairEntry.{PairEntry}
+use Rattle.nob_model_session.specs.declared.entry.PairEntry.TheVariants.{First, Second}
 use Rattle.nob_model_types.specs.declared.entry.Entry.{Entry}
 use Rattle.nob_model_words.specs.Deeds.{deed_in}
 use Rattle.nob_model_words.specs.declared.deed.Deed.{Deed}

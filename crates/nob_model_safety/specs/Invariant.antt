@@ -5,9 +5,9 @@ use Rattle.std.specs.List.{AllByRecursion, Contains}
 use Rattle.nob_frame.specs.declared.frame.Frame.{Frame}
 use Rattle.nob_frame.specs.Kinds.{is_data}
 use Rattle.nob_item.specs.Spelling.{Fits}
-use Rattle.nob_model_end.specs.End.{handed, accepted, transmitted}
-use Rattle.nob_model_end.specs.Pair.{IsBeginning, Reaches}
-use Rattle.nob_model_end.specs.declared.entry.EndEntry.{EndEntry}
+use Rattle.nob_model_session.specs.End.{handed, accepted, transmitted}
+use Rattle.nob_model_session.specs.Pair.{IsBeginning, Reaches}
+use Rattle.nob_model_session.specs.declared.entry.EndEntry.{EndEntry}
 use Rattle.nob_ids.specs.declared.reason.Reason.TheVariants.{BadItem}
 use Rattle.nob_model_types.specs.declared.answer.Answer.{Answer}
 use Rattle.nob_model_types.specs.declared.answer.Answer.TheVariants.{Closed}

@@ -6,7 +6,7 @@ ghost use Rattle.nob_model_types.specs.declared.answer.Answer.TheVariants as ans
 use crate::frame::same_frames;
 use crate::value::same_value;
 use nob_ids::{ItemNo, SpaceId};
-use nob_model_end::Frames;
+use nob_model_session::Frames;
 use nob_model_types::{Answer, Job, Refusal};
 use nob_pickle::Value;
 

@@ -3,7 +3,7 @@
 ghost use Rattle.std.specs.Prelude.{◌≡◌, ◌↔◌, true};
 
 use nob_frame::Frame;
-use nob_model_end::Frames;
+use nob_model_session::Frames;
 
 /// Whether two frames are the same. It costs what they carry, and no more than a look where another
 /// field differs.

@@ -13,7 +13,7 @@ ghost use Rattle.nob_model_text.specs.Reading.{Reads};
 
 use crate::unread::Unread;
 use nob_ids::{SpaceId, WireRep};
-use nob_trace_text::{bytes_of, number_of};
+use nob_text::{bytes_of, number_of};
 use std::alloc::{AllocError, Global};
 
 /// The number at the front of a text, up to the first mark, and what is left. Only memory and a

@@ -3,7 +3,7 @@
 ghost use Rattle.std.specs.Prelude.{◌≡◌, IfOk};
 
 use nob_ids::{CallNo, ItemNo, JobNo, Reason, SpaceId, WireRep};
-use nob_model_end::Frames;
+use nob_model_session::Frames;
 use nob_pickle::Value;
 use std::alloc::AllocError;
 

@@ -5,7 +5,7 @@ ghost use Rattle.nob_model_words.specs.Deeds.{deed_of, deed_in, deeds as deeds_o
 
 use nob_frame::Frame;
 use nob_ids::{CallNo, ItemNo, JobNo, Reason, SpaceId, WireRep};
-use nob_model_end::Frames;
+use nob_model_session::Frames;
 use nob_model_types::{Answer, Entry, Event, Job, Outcome};
 use nob_pickle::Value;
 use std::alloc::{AllocError, Global};

@@ -5,7 +5,7 @@ use Rattle.nob_trace.specs.declared.trace.Trace.{Trace}
 use Rattle.nob_trace.specs.declared.fault.TraceFault.{TraceFault}
 use Rattle.nob_trace.specs.Traces.{trace_text, IsTrace}
 use Rattle.nob_trace.specs.Reading.{TraceProblem, TracesProblem}
-use Rattle.nob_trace_text.specs.Lines.{lines_of}
+use Rattle.nob_text.specs.Lines.{lines_of}
 use Rattle.nob_plain.specs.Verdicts.{IsVerdict}
 use Rattle.nob_script_text.specs.declared.ending.Ending.{Ending}
 use Rattle.nob_script_text.specs.Scripts.{FromScript, IsVerdictOf}

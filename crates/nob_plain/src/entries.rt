@@ -3,7 +3,7 @@
 ghost use Rattle.std.specs.Prelude.{◌≡◌, [], Some, IfOk, IfSome};
 ghost use Rattle.nob_ids.specs.Names.{IsSpace};
 ghost use Rattle.nob_model_types.specs.declared.entry.Entry.{Entry as EntryOf};
-ghost use Rattle.nob_trace_text.specs.Lines.{lines_of};
+ghost use Rattle.nob_text.specs.Lines.{lines_of};
 ghost use Rattle.nob_plain.specs.Journals as spec;
 
 use nob_check::judge;
@@ -12,7 +12,7 @@ use nob_model_reading::opening_of;
 use nob_model_text::{Unread, space_of};
 use nob_script_text::verdict_line;
 use nob_trace::{Stamped, entry_of};
-use nob_trace_text::first_line;
+use nob_text::first_line;
 use std::alloc::{AllocError, Global};
 
 /// The verdict on the journal that these lines are, behind a first line as a script has it; or

@@ -6,7 +6,7 @@
 
 ghost use Rattle.std.specs.Prelude.{◌≡◌, true, false};
 ghost use Rattle.nob_trace.specs.Reading.{Answers};
-ghost use Rattle.nob_trace_text.specs.Lines.{lines_of};
+ghost use Rattle.nob_text.specs.Lines.{lines_of};
 ghost use Rattle.nob_plain.specs.Outputs.{BeginsAsTrace, IsOutput, IsRefused, has_equals_sign as has_equals_sign_in, has_results as has_results_of};
 
 mod entries;
@@ -14,7 +14,7 @@ mod script;
 mod trace;
 
 use nob_trace::TraceError;
-use nob_trace_text::first_line;
+use nob_text::first_line;
 use nob_verdicts::refusal_line;
 use std::alloc::Global;
 use std::io::{Read, Write};

@@ -7,7 +7,7 @@ ghost use Rattle.nob_script.specs.Plays.{script_world, step_result_text as text_
 
 use nob_model::{Answer, WorldStep};
 use nob_script_text::result_text;
-use nob_trace_text::push_line;
+use nob_text::push_line;
 use nob_world::{World, WorldError};
 use std::alloc::{AllocError, Global};
 

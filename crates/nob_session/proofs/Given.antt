@@ -1,7 +1,7 @@
 -- The highest number among the frames that a transmit gives.
 use Rattle.std.proofs.Common.{◌≡◌, ℕ, ◌+◌, ◌-◌, ◌<◌, ◌≤◌, max, Bool, true, false, List, [], ◌∷◌, length, arith, ap}
-use Rattle.nob_model_end.specs.End.{greatest_seq}
-use Rattle.nob_model_end.specs.Right.{data_frames, open_frames}
+use Rattle.nob_model_session.specs.End.{greatest_seq}
+use Rattle.nob_model_session.specs.Right.{data_frames, open_frames}
 use Rattle.nob_session.specs.Dues.{due_of, due_up_to}
 
 -- the last of the frames has the greatest number

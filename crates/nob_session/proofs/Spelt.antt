@@ -4,7 +4,7 @@ use Rattle.std.specs.List.{AllByRecursion}
 use Rattle.nob_ids.specs.Names.{IsSpace}
 use Rattle.nob_frame.specs.declared.frame.FrameKind.TheVariants.{Close}
 use Rattle.nob_frame.specs.Spelling.{Fits}
-use Rattle.nob_model_end.specs.Right.{data_frames, ack_frame}
+use Rattle.nob_model_session.specs.Right.{data_frames, ack_frame}
 use Rattle.nob_session.specs.Items.{IsItem}
 
 pub data_fit : (me peer ack n : ℕ) (payloads : List (List ℕ)) → IsSpace me → IsSpace peer → me ≢ peer → 1 ≤ ack → ack ≤ 2 ^ 40 + 1 → 1 ≤ n → n + length payloads ≤ 2 ^ 40 + 1 → AllByRecursion IsItem payloads → AllByRecursion Fits (data_frames me peer ack n payloads)

@@ -2,10 +2,10 @@
 use Rattle.std.proofs.Common.{◌≡◌, ℕ, ◌+◌, ◌<◌, true, false, if◌then◌else◌, List, [], ◌∷◌, length, drop, IsSome, arith, refl, sym, subst}
 use Rattle.std.proofs.lemmas.List.{drop-drop}
 use Rattle.nob_ids.specs.declared.limits.Limits.{Limits}
-use Rattle.nob_model_end.specs.declared.entry.EndEntry.{EndEntry}
-use Rattle.nob_model_end.specs.declared.entry.EndEntry.TheVariants.{Take}
-use Rattle.nob_model_end.specs.End.{accepted, is_open, takes, waiting}
-use Rattle.nob_model_end.specs.Right.{IsRight, first_of}
+use Rattle.nob_model_session.specs.declared.entry.EndEntry.{EndEntry}
+use Rattle.nob_model_session.specs.declared.entry.EndEntry.TheVariants.{Take}
+use Rattle.nob_model_session.specs.End.{accepted, is_open, takes, waiting}
+use Rattle.nob_model_session.specs.Right.{IsRight, first_of}
 use Rattle.nob_session.specs.Calls.{without_front}
 use Rattle.nob_session.specs.Stands.{End, Stands}
 

@@ -1,8 +1,8 @@
 -- Answers of a session as those of which the definitions speak.
 use Rattle.std.specs.Prelude.{Result, Ok, Err}
-use Rattle.nob_model_end.specs.declared.refusal.EndRefusal.{EndRefusal}
-use Rattle.nob_model_end.specs.declared.entry.Arrived.{Arrived}
-use Rattle.nob_model_end.specs.declared.entry.Arrived.TheVariants as arrived
+use Rattle.nob_model_session.specs.declared.refusal.EndRefusal.{EndRefusal}
+use Rattle.nob_model_session.specs.declared.entry.Arrived.{Arrived}
+use Rattle.nob_model_session.specs.declared.entry.Arrived.TheVariants as arrived
 use Rattle.nob_session.specs.declared.error.SessionError.{SessionError}
 use Rattle.nob_session.specs.declared.error.SessionError.TheVariants.{Refused, OutOfMemory}
 use Rattle.nob_session.specs.declared.closed.Arrival.{Arrival}

@@ -1,12 +1,12 @@
 -- What the calls on an end answer and leave, by the end alone: for callers who know no list of calls.
 use Rattle.std.specs.Prelude.{◌≡◌, ℕ, ◌+◌, Bool, true, false, not, ◌&&◌, nat_le, max, List, [], ◌∷◌, ◌++◌, length, take, drop, Option, Some, None, Result, Ok, Err, if◌then◌else◌}
 use Rattle.nob_frame.specs.declared.frame.Frame.{Frame}
-use Rattle.nob_model_end.specs.declared.refusal.EndRefusal.{EndRefusal}
-use Rattle.nob_model_end.specs.declared.refusal.EndRefusal.TheVariants as refusal
-use Rattle.nob_model_end.specs.declared.entry.Kind.{Kind}
-use Rattle.nob_model_end.specs.declared.entry.Ending.{Ending}
-use Rattle.nob_model_end.specs.End.{greatest_seq}
-use Rattle.nob_model_end.specs.Right.{queue_limit, last_item, is_limited, open_frames, closed_frames}
+use Rattle.nob_model_session.specs.declared.refusal.EndRefusal.{EndRefusal}
+use Rattle.nob_model_session.specs.declared.refusal.EndRefusal.TheVariants as refusal
+use Rattle.nob_model_session.specs.declared.entry.Kind.{Kind}
+use Rattle.nob_model_session.specs.declared.entry.Ending.{Ending}
+use Rattle.nob_model_session.specs.End.{greatest_seq}
+use Rattle.nob_model_session.specs.Right.{queue_limit, last_item, is_limited, open_frames, closed_frames}
 use Rattle.nob_session.specs.declared.closed.Arrival.{Arrival}
 use Rattle.nob_session.specs.declared.closed.Arrival.TheVariants as arrival
 use Rattle.nob_session.specs.Stands.{End, is_open_end, closed_end}

@@ -2,7 +2,7 @@
 use Rattle.std.specs.Prelude.{ℕ, nat_lt, List, [], ◌∷◌, if◌then◌else◌}
 use Rattle.nob_frame.specs.declared.frame.Frame.{Frame}
 use Rattle.nob_frame.specs.Kinds.{is_ack, is_close}
-use Rattle.nob_model_end.specs.End.{greatest_seq}
+use Rattle.nob_model_session.specs.End.{greatest_seq}
 use Rattle.nob_session.specs.declared.due.Due.{Due}
 use Rattle.nob_session.specs.declared.due.Due.TheVariants.{Nothing, Ack, Again, New, Close}
 

@@ -2,10 +2,10 @@ pub use Rattle.nob_ids.specs.Names
 pub use Rattle.nob_ids.specs.Reasons
 pub use Rattle.nob_frame.specs.Kinds
 pub use Rattle.nob_frame.specs.Spelling
-pub use Rattle.nob_model_end.specs.Texts
-pub use Rattle.nob_model_end.specs.End
-pub use Rattle.nob_model_end.specs.Right
-pub use Rattle.nob_model_end.specs.Pair
+pub use Rattle.nob_model_session.specs.Texts
+pub use Rattle.nob_model_session.specs.End
+pub use Rattle.nob_model_session.specs.Right
+pub use Rattle.nob_model_session.specs.Pair
 pub mod Items
 pub mod Wire
 pub mod Stands

@@ -14,7 +14,7 @@ pub struct Closed {
 }
 
 impl Model for Closed {
-    ghost use Rattle.nob_model_end.specs.declared.entry.Ending.{Ending};
+    ghost use Rattle.nob_model_session.specs.declared.entry.Ending.{Ending};
 
     ghost Value = { Ending };
 
@@ -22,7 +22,7 @@ impl Model for Closed {
 }
 
 impl Closed {
-    ghost use Rattle.nob_model_end.specs.declared.entry.Ending.{Ending};
+    ghost use Rattle.nob_model_session.specs.declared.entry.Ending.{Ending};
 
     // Made here alone, where a session ends.
     pub(crate) fn new(peer: SpaceId, reason: Reason) -> Closed

@@ -3,7 +3,7 @@
 ghost use Rattle.std.specs.Prelude.{◌≡◌};
 ghost use Rattle.nob_session.specs.declared.error.SessionError.TheVariants.{Refused, OutOfMemory};
 
-use nob_model_end::EndRefusal;
+use nob_model_session::EndRefusal;
 use std::alloc::{AllocError, AllocFailed};
 use thiserror::Error;
 

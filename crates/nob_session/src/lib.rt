@@ -12,5 +12,5 @@ pub mod wire;
 pub use closed::{Arrival, Closed};
 pub use due::Due;
 pub use error::SessionError;
-pub use nob_model_end::{EndRefusal, Kind, laws};
+pub use nob_model_session::{EndRefusal, Kind, laws};
 pub use session::Session;

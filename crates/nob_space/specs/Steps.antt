@@ -1,7 +1,7 @@
 -- What one event makes of the state of a space.
 use Rattle.std.specs.Prelude.{◌≡◌, ◌⊎◌, ⊤, ℕ, ◌<◌, ◌^◌, true, List, Option, None, is_some, Result, Ok, Err, IsOk}
 use Rattle.nob_pickle.specs.Limits.{Fits}
-use Rattle.nob_model_end.specs.Right.{right_front}
+use Rattle.nob_model_session.specs.Right.{right_front}
 use Rattle.nob_model_types.specs.declared.answer.Answer.{Answer}
 use Rattle.nob_model_types.specs.declared.answer.Answer.TheVariants as answers
 use Rattle.nob_model_types.specs.declared.event.Event.{Event}

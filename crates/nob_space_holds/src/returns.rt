@@ -10,7 +10,7 @@ ghost use Rattle.nob_space_holds.specs.Returns.{HasLent, GivesBack, is_from, len
 use nob_ids::{JobNo, SpaceId, WireRep};
 use nob_item::Item;
 use nob_model::{Loan, Message, RefCopy, Run};
-use nob_space_messages::SlabList;
+use nob_space_list::SlabList;
 use nob_table::{ObjectTable, Part};
 
 /// Gives back one loan of a reference. Constant time on average.

@@ -4,8 +4,8 @@ ghost use Rattle.std.specs.Prelude.{◌≡◌, ◌+◌, ◌<◌, ◌≤◌, ℕ,
 ghost use Rattle.nob_ids.specs.Names.{is_counted};
 ghost use Rattle.nob_ids.specs.declared.limits.Limits.{Limits as LimitsOf};
 ghost use Rattle.nob_pickle.specs.Spelling.{refs_in};
-ghost use Rattle.nob_model_end.specs.declared.entry.EndEntry.{EndEntry};
-ghost use Rattle.nob_model_end.specs.declared.entry.EndEntry.TheVariants.{Send};
+ghost use Rattle.nob_model_session.specs.declared.entry.EndEntry.{EndEntry};
+ghost use Rattle.nob_model_session.specs.declared.entry.EndEntry.TheVariants.{Send};
 ghost use Rattle.nob_session.specs.Calls.{next_of, with_item};
 ghost use Rattle.nob_session.specs.Stands as ends;
 ghost use Rattle.std.specs.Vec.{vec_capacity};

@@ -10,12 +10,12 @@ use Rattle.nob_ids.specs.declared.reason.Reason.TheVariants.{BadReference}
 use Rattle.nob_item.specs.declared.item.Item.TheVariants as items
 use Rattle.nob_dirty.specs.declared.sets.Listing.{Listing}
 use Rattle.nob_dirty.specs.Sets.{lists}
-use Rattle.nob_model_end.specs.End.{handed, is_open}
-use Rattle.nob_model_end.specs.Right.{last_item}
-use Rattle.nob_model_end.specs.declared.entry.EndEntry.{EndEntry}
-use Rattle.nob_model_end.specs.declared.entry.EndEntry.TheVariants as ends
-use Rattle.nob_model_end.specs.declared.entry.Kind.TheVariants.{Note}
-use Rattle.nob_model_end.specs.declared.refusal.EndRefusal.TheVariants as end_refusals
+use Rattle.nob_model_session.specs.End.{handed, is_open}
+use Rattle.nob_model_session.specs.Right.{last_item}
+use Rattle.nob_model_session.specs.declared.entry.EndEntry.{EndEntry}
+use Rattle.nob_model_session.specs.declared.entry.EndEntry.TheVariants as ends
+use Rattle.nob_model_session.specs.declared.entry.Kind.TheVariants.{Note}
+use Rattle.nob_model_session.specs.declared.refusal.EndRefusal.TheVariants as end_refusals
 use Rattle.nob_session.specs.Calls.{next_of}
 use Rattle.nob_session.specs.Stands as session
 use Rattle.nob_session.specs.Stands.{End, Roomy}

@@ -14,9 +14,9 @@ use Rattle.nob_ids.specs.declared.wire_rep.WireRep.{WireRep}
 use Rattle.nob_item.specs.Kinds.{counted_in, refs_carried}
 use Rattle.nob_item.specs.declared.item.Item.{Item}
 use Rattle.nob_item.specs.declared.item.Item.TheVariants as items
-use Rattle.nob_model_end.specs.End.{waiting, takes}
-use Rattle.nob_model_end.specs.Right.{first_of, right_front}
-use Rattle.nob_model_end.specs.declared.entry.EndEntry.{EndEntry}
+use Rattle.nob_model_session.specs.End.{waiting, takes}
+use Rattle.nob_model_session.specs.Right.{first_of, right_front}
+use Rattle.nob_model_session.specs.declared.entry.EndEntry.{EndEntry}
 use Rattle.nob_session.specs.Stands as session
 use Rattle.nob_session.specs.Stands.{Roomy, End, is_open_end}
 use Rattle.nob_table_rows.specs.declared.standing.Standing.{Standing}

@@ -9,9 +9,9 @@ use Rattle.nob_item.specs.declared.item.Item.{Item}
 use Rattle.nob_item.specs.declared.item.Item.TheVariants as items
 use Rattle.nob_dirty.specs.declared.sets.Listing.{Listing}
 use Rattle.nob_dirty.specs.Sets.{lists}
-use Rattle.nob_model_end.specs.End.{waiting, takes}
-use Rattle.nob_model_end.specs.Right.{first_of}
-use Rattle.nob_model_end.specs.declared.entry.EndEntry.TheVariants as ends
+use Rattle.nob_model_session.specs.End.{waiting, takes}
+use Rattle.nob_model_session.specs.Right.{first_of}
+use Rattle.nob_model_session.specs.declared.entry.EndEntry.TheVariants as ends
 use Rattle.nob_session.specs.Stands as session
 use Rattle.nob_session.specs.Stands.{End, Roomy}
 use Rattle.nob_table_rows.specs.Counts.{is_held}

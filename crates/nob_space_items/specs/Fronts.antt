@@ -1,7 +1,7 @@
 -- The item at the front of the inbox of a session.
 use Rattle.std.specs.Prelude.{◌≡◌, ℕ, true, false, List, Some, None}
 use Rattle.nob_item.specs.declared.item.Item.{Item}
-use Rattle.nob_model_end.specs.Right.{right_front}
+use Rattle.nob_model_session.specs.Right.{right_front}
 use Rattle.nob_model_words.specs.declared.deed.Deed.{Deed}
 use Rattle.nob_model_words.specs.Sessions.{is_peer, closed, item_spelt}
 use Rattle.nob_model_history.specs.Histories.{history_of}

@@ -7,7 +7,7 @@ ghost use Rattle.nob_space_items.specs.Lending.{CanLend, Lends};
 use crate::loans::lend;
 use nob_ids::WireRep;
 use nob_model::{Loan, Message, RefCopy};
-use nob_space_messages::SlabList;
+use nob_space_list::SlabList;
 use nob_table::ObjectTable;
 
 // Whether a loan is due.

@@ -4,9 +4,9 @@ ghost use Rattle.std.specs.Prelude.{◌≡◌, ℕ, ◌+◌, ◌<◌, List, ◌�
 ghost use Rattle.nob_ids.specs.declared.limits.Limits.{Limits as LimitsOf};
 ghost use Rattle.nob_item.specs.declared.item.Item.TheVariants as items;
 ghost use Rattle.nob_dirty.specs.Sets.{ListsSame};
-ghost use Rattle.nob_model_end.specs.declared.entry.EndEntry.{EndEntry};
-ghost use Rattle.nob_model_end.specs.declared.entry.EndEntry.TheVariants as calls;
-ghost use Rattle.nob_model_end.specs.declared.entry.Kind.TheVariants as kinds;
+ghost use Rattle.nob_model_session.specs.declared.entry.EndEntry.{EndEntry};
+ghost use Rattle.nob_model_session.specs.declared.entry.EndEntry.TheVariants as calls;
+ghost use Rattle.nob_model_session.specs.declared.entry.Kind.TheVariants as kinds;
 ghost use Rattle.nob_session.specs.Calls.{next_of};
 ghost use Rattle.nob_session.specs.Stands as ends;
 ghost use Rattle.nob_table_rows.specs.Standings as standings;

@@ -11,11 +11,11 @@ use Rattle.nob_item.specs.Judging.{is_call_number}
 use Rattle.nob_item.specs.Kinds.{counted_in}
 use Rattle.nob_item.specs.declared.item.Item.{Item}
 use Rattle.nob_item.specs.declared.item.Item.TheVariants as items
-use Rattle.nob_model_end.specs.End.{handed}
-use Rattle.nob_model_end.specs.Right.{last_item}
-use Rattle.nob_model_end.specs.declared.entry.EndEntry.{EndEntry}
-use Rattle.nob_model_end.specs.declared.entry.EndEntry.TheVariants.{Send}
-use Rattle.nob_model_end.specs.declared.entry.Kind.TheVariants.{Note}
+use Rattle.nob_model_session.specs.End.{handed}
+use Rattle.nob_model_session.specs.Right.{last_item}
+use Rattle.nob_model_session.specs.declared.entry.EndEntry.{EndEntry}
+use Rattle.nob_model_session.specs.declared.entry.EndEntry.TheVariants.{Send}
+use Rattle.nob_model_session.specs.declared.entry.Kind.TheVariants.{Note}
 use Rattle.nob_session.specs.Stands as session
 use Rattle.nob_session.specs.Stands.{End, Roomy, is_open_end}
 use Rattle.nob_table.specs.Table.{Table, standing}

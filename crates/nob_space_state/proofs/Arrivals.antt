@@ -2,11 +2,11 @@
 use Rattle.std.proofs.Common.{◌≡◌, ℕ, ◌+◌, nat_lt, Bool, true, false, not, ◌==◌, List, Ok, Err, if◌then◌else◌, refl, ◌∙◌}
 use Rattle.std.proofs.lemmas.Cmp.{nat_eq_equiv}
 use Rattle.nob_frame.specs.declared.frame.Frame.{Frame}
-use Rattle.nob_model_end.specs.declared.entry.EndEntry.{EndEntry}
-use Rattle.nob_model_end.specs.declared.refusal.EndRefusal.{EndRefusal}
-use Rattle.nob_model_end.specs.End.{is_open, transmitted}
-use Rattle.nob_model_end.specs.Right.{right_tick, right_arrive, is_of_pair, is_accepted}
-use Rattle.nob_model_end.specs.declared.entry.Arrived.TheVariants as arrived
+use Rattle.nob_model_session.specs.declared.entry.EndEntry.{EndEntry}
+use Rattle.nob_model_session.specs.declared.refusal.EndRefusal.{EndRefusal}
+use Rattle.nob_model_session.specs.End.{is_open, transmitted}
+use Rattle.nob_model_session.specs.Right.{right_tick, right_arrive, is_of_pair, is_accepted}
+use Rattle.nob_model_session.specs.declared.entry.Arrived.TheVariants as arrived
 use Rattle.nob_ids.specs.declared.reason.Reason.TheVariants.{PeerClosed, BadItem}
 use Rattle.nob_frame.specs.Kinds.{is_close}
 use Rattle.nob_model_types.specs.declared.refusal.Refusal.TheVariants as refusals

@@ -26,11 +26,11 @@ use Rattle.nob_item.specs.Writing.{bytes_of}
 use Rattle.nob_item.specs.declared.fault.ItemFault.{ItemFault}
 use Rattle.nob_item.specs.declared.item.Item.{Item}
 use Rattle.nob_item.specs.declared.item.Item.TheVariants as items
-use Rattle.nob_model_end.specs.End.{handed}
-use Rattle.nob_model_end.specs.declared.entry.EndEntry.TheVariants as ends
-use Rattle.nob_model_end.specs.declared.refusal.EndRefusal.{EndRefusal}
-use Rattle.nob_model_end.specs.declared.entry.Kind.{Kind}
-use Rattle.nob_model_end.specs.declared.entry.Kind.TheVariants.{Limited}
+use Rattle.nob_model_session.specs.End.{handed}
+use Rattle.nob_model_session.specs.declared.entry.EndEntry.TheVariants as ends
+use Rattle.nob_model_session.specs.declared.refusal.EndRefusal.{EndRefusal}
+use Rattle.nob_model_session.specs.declared.entry.Kind.{Kind}
+use Rattle.nob_model_session.specs.declared.entry.Kind.TheVariants.{Limited}
 use Rattle.nob_session.specs.Stands as session
 use Rattle.nob_session.specs.Calls.{next_of}
 use Rattle.nob_session.specs.Stands.{End, Roomy, end_of}

@@ -11,8 +11,8 @@ use Rattle.nob_table.specs.Table.{standing, own, NeverUnheld, IsFirstUnheld}
 use Rattle.nob_model_types.specs.declared.answer.Answer.TheVariants as answers
 use Rattle.nob_model_types.specs.declared.refusal.Refusal.{Refusal}
 use Rattle.nob_ids.specs.declared.limits.Limits.{Limits}
-use Rattle.nob_model_end.specs.End.{transmitted}
-use Rattle.nob_model_end.specs.Right.{right_front, right_transmit}
+use Rattle.nob_model_session.specs.End.{transmitted}
+use Rattle.nob_model_session.specs.Right.{right_front, right_transmit}
 use Rattle.nob_session.specs.declared.due.Due.TheVariants.{Nothing}
 use Rattle.nob_session.specs.Dues.{due_of}
 use Rattle.nob_model_words.specs.declared.deed.Deed.{Deed}

@@ -8,7 +8,7 @@ use Rattle.nob_ids.specs.declared.reason.Reason.{Reason}
 use Rattle.nob_ids.specs.declared.wire_rep.WireRep.{WireRep}
 use Rattle.nob_frame.specs.declared.frame.Frame.{Frame}
 use Rattle.nob_pickle.specs.declared.value.Value.{Value}
-use Rattle.nob_model_end.specs.End.{accepted}
+use Rattle.nob_model_session.specs.End.{accepted}
 use Rattle.nob_model_types.specs.declared.answer.Answer.TheVariants as answers
 use Rattle.nob_model_types.specs.declared.answer.Job.{Job}
 use Rattle.nob_model_types.specs.declared.event.Event.TheVariants as events

@@ -9,7 +9,7 @@ use Rattle.nob_session.specs.Stands.{Roomy, is_open_end}
 use Rattle.nob_table_rows.specs.Counts as counts
 use Rattle.nob_table.specs.Table.{standing}
 use Rattle.nob_table_rows.specs.Standings as standings
-use Rattle.nob_model_end.specs.End.{is_open}
+use Rattle.nob_model_session.specs.End.{is_open}
 use Rattle.nob_model_words.specs.declared.deed.Deed.{Deed}
 use Rattle.nob_model_words.specs.Objects as objects
 use Rattle.nob_model_words.specs.Sessions.{is_peer, closed}

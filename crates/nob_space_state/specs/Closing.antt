@@ -8,8 +8,8 @@ use Rattle.nob_pins.specs.Bundles.{TakesOutAll}
 use Rattle.nob_table_rows.specs.Standings.{after_close}
 use Rattle.nob_table.specs.Table.{Table, standing, place_of, is_of, RemovalLeaves}
 use Rattle.nob_frame.specs.declared.frame.Frame.{Frame}
-use Rattle.nob_model_end.specs.declared.entry.Arrived.{Arrived}
-use Rattle.nob_model_end.specs.declared.entry.Arrived.TheVariants as arrived
+use Rattle.nob_model_session.specs.declared.entry.Arrived.{Arrived}
+use Rattle.nob_model_session.specs.declared.entry.Arrived.TheVariants as arrived
 use Rattle.nob_model_types.specs.declared.answer.Answer.{Answer}
 use Rattle.nob_model_types.specs.declared.answer.Answer.TheVariants as answers
 use Rattle.nob_model_words.specs.declared.deed.Cause.{Cause}

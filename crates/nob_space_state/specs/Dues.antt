@@ -1,7 +1,7 @@
 -- What a Transmit would give, in a word.
 use Rattle.std.specs.Prelude.{ℕ, if◌then◌else◌}
-use Rattle.nob_model_end.specs.End.{transmitted}
-use Rattle.nob_model_end.specs.Right.{right_transmit}
+use Rattle.nob_model_session.specs.End.{transmitted}
+use Rattle.nob_model_session.specs.Right.{right_transmit}
 use Rattle.nob_session.specs.declared.due.Due.{Due}
 use Rattle.nob_session.specs.declared.due.Due.TheVariants.{Nothing}
 use Rattle.nob_session.specs.Dues.{due_of}

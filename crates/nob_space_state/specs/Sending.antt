@@ -5,8 +5,8 @@ use Rattle.nob_ids.specs.declared.wire_rep.WireRep.{WireRep}
 use Rattle.nob_pickle.specs.Spelling.{refs_in}
 use Rattle.nob_pickle.specs.Writing.{pickle_of}
 use Rattle.nob_pickle.specs.declared.value.Value.{Value}
-use Rattle.nob_model_end.specs.declared.entry.Kind.{Kind}
-use Rattle.nob_model_end.specs.declared.entry.Kind.TheVariants.{Limited}
+use Rattle.nob_model_session.specs.declared.entry.Kind.{Kind}
+use Rattle.nob_model_session.specs.declared.entry.Kind.TheVariants.{Limited}
 use Rattle.nob_session.specs.Calls.{next_of}
 use Rattle.nob_session.specs.Stands.{Roomy}
 use Rattle.nob_pins.specs.Bundles.{Pinned, bundle_of, Adds}

@@ -23,7 +23,7 @@ use nob_model::{Here, Message, OwnCall, Refusal, Stage};
 use nob_model_words::message::replies_to;
 use nob_session::Closed;
 use nob_space_holds::throw_away;
-use nob_space_messages::SlabList;
+use nob_space_list::SlabList;
 
 // Whether a Reply from a space to a call is ready.
 fn is_replied(peer: SpaceId, call: CallNo, replies: &SlabList<Message>) -> bool

@@ -19,7 +19,7 @@ use nob_item::Item;
 use nob_model::right::LAST_NUMBER;
 use nob_model::{Here, Job, Message, Refusal, Run};
 use nob_model_acting::candidates::target_of;
-use nob_space_messages::SlabList;
+use nob_space_list::SlabList;
 
 // Whether one of these jobs has a target.
 fn is_running(target: u64, runs: &SlabList<Run>) -> bool

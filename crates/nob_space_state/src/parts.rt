@@ -9,7 +9,7 @@ use nob_ids::{Limits, SpaceId};
 use nob_model::{Here, Message, OwnCall, Run};
 use nob_pins::PinTable;
 use nob_session::Session;
-use nob_space_messages::SlabList;
+use nob_space_list::SlabList;
 use nob_table::ObjectTable;
 use std::alloc::{AllocError, Global};
 

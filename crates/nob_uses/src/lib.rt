@@ -14,7 +14,7 @@ ghost use Rattle.nob_item.specs.Reading.{item_read};
 ghost use Rattle.nob_item.specs.Spelling.{Spelt as ItemSpelt};
 ghost use Rattle.nob_item.specs.declared.item.Item.{Item as ItemOf};
 ghost use Rattle.nob_item.specs.declared.item.Item.TheVariants.{Settle};
-ghost use Rattle.nob_model_end.specs.declared.entry.Kind.TheVariants as KindOf;
+ghost use Rattle.nob_model_session.specs.declared.entry.Kind.TheVariants as KindOf;
 ghost use Rattle.nob_pickle.specs.Limits.{Fits as PickleFits};
 ghost use Rattle.nob_pickle.specs.Spelling.{spelling};
 ghost use Rattle.nob_pickle.specs.Writing.{Gives as PickleGives, pickle_of};

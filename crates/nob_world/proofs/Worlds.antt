@@ -20,9 +20,9 @@ use Rattle.nob_model_types.specs.declared.entry.Entry.{Entry}
 use Rattle.nob_model_types.specs.declared.answer.Answer.TheVariants as answers
 use Rattle.nob_model_types.specs.declared.event.Event.TheVariants as events
 use Rattle.nob_model_types.specs.declared.refusal.Refusal.TheVariants as refusals
-use Rattle.nob_model_end.specs.declared.entry.EndEntry.{EndEntry}
-use Rattle.nob_model_end.specs.End.{is_open, accepted, lowest, data_arrived, unacknowledged, owes_close, ending}
-use Rattle.nob_model_end.specs.Right.{data_frames, open_frames, closed_frames, right_transmit}
+use Rattle.nob_model_session.specs.declared.entry.EndEntry.{EndEntry}
+use Rattle.nob_model_session.specs.End.{is_open, accepted, lowest, data_arrived, unacknowledged, owes_close, ending}
+use Rattle.nob_model_session.specs.Right.{data_frames, open_frames, closed_frames, right_transmit}
 use Rattle.nob_model_words.specs.Deeds.{deed_by, deed_of}
 use Rattle.nob_model_words.specs.Sessions.{is_peer}
 use Rattle.nob_model_history.specs.Histories.{history}

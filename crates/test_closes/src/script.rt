@@ -5,7 +5,7 @@ use nob_model::WorldStep;
 use nob_model_reading::{opening_of, step_of};
 use nob_model_text::space_of;
 use nob_script_text::limits_of;
-use nob_trace_text::{first_line, number_of};
+use nob_text::{first_line, number_of};
 use std::alloc::{AllocError, Global};
 
 /// What a line says.

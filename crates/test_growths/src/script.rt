@@ -4,7 +4,7 @@ use nob_ids::{Limits, SpaceId};
 use nob_model::WorldStep;
 use nob_model_reading::{opening_of, step_of};
 use nob_script_text::limits_of;
-use nob_trace_text::first_line;
+use nob_text::first_line;
 use std::alloc::{AllocError, Global};
 
 /// A script.

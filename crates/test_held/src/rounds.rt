@@ -1,7 +1,7 @@
 //! A round: items are sent, delivered, acknowledged and taken.
 
 use nob_frame::Frame;
-use nob_model_end::Kind;
+use nob_model_session::Kind;
 use nob_session::{Session, SessionError};
 use std::alloc::Global;
 

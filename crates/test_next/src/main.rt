@@ -15,7 +15,7 @@ use nob_model::{Entry, Here, WorldStep};
 use nob_model_journal::journals::history_at;
 use nob_model_reading::{opening_of, step_of};
 use nob_script_text::limits_of;
-use nob_trace_text::{first_line, push_bad_step, push_line};
+use nob_text::{first_line, push_bad_step, push_line};
 use nob_world::{World, WorldError};
 use std::alloc::{AllocError, Global};
 use std::io;

@@ -1,7 +1,7 @@
 use Rattle.std.proofs.Common.{◌≡◌, ◌∷◌, IfOk, subst}
 use Rattle.nob_frame.specs.declared.frame.Frame.{Frame}
-use Rattle.nob_model_end.specs.declared.entry.EndEntry.TheVariants.{Arrive}
-use Rattle.nob_model_end.specs.Right.{right_arrive}
+use Rattle.nob_model_session.specs.declared.entry.EndEntry.TheVariants.{Arrive}
+use Rattle.nob_model_session.specs.Right.{right_arrive}
 use Rattle.nob_session.specs.Stands.{Stands}
 use Rattle.nob_demo_pair.specs.Run.{answer_text, arrive_text}
 use Rattle.nob_demo_pair.proofs.ends.arrive.Goals as goal

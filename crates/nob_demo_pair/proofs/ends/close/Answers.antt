@@ -1,8 +1,8 @@
 use Rattle.std.proofs.Common.{◌≡◌, ◌∷◌, Result, refl, ap, subst}
 use Rattle.nob_ids.specs.declared.reason.Reason.TheVariants.{Asked}
-use Rattle.nob_model_end.specs.declared.entry.Ending.{Ending}
-use Rattle.nob_model_end.specs.declared.refusal.EndRefusal.{EndRefusal}
-use Rattle.nob_model_end.specs.declared.entry.EndEntry.TheVariants.{Close}
+use Rattle.nob_model_session.specs.declared.entry.Ending.{Ending}
+use Rattle.nob_model_session.specs.declared.refusal.EndRefusal.{EndRefusal}
+use Rattle.nob_model_session.specs.declared.entry.EndEntry.TheVariants.{Close}
 use Rattle.nob_session.specs.Stands.{Stands}
 use Rattle.nob_demo_pair.specs.Run.{closed_text, refusal_text, close_text}
 use Rattle.nob_demo_pair.proofs.ends.close.Goals as goal

@@ -1,7 +1,7 @@
 use Rattle.std.proofs.Common.{◌≡◌, ℕ, ◌+◌, Bool, true, false, cond, List, [], ◌∷◌, ◌++◌, Option, Some, None, refl, ap, subst, sym, ◌∙◌, codes}
-use Rattle.nob_model_end.specs.declared.entry.EndEntry.TheVariants.{Front}
-use Rattle.nob_model_end.specs.End.{is_open, takes, waiting}
-use Rattle.nob_model_end.specs.Right.{right_front}
+use Rattle.nob_model_session.specs.declared.entry.EndEntry.TheVariants.{Front}
+use Rattle.nob_model_session.specs.End.{is_open, takes, waiting}
+use Rattle.nob_model_session.specs.Right.{right_front}
 use Rattle.nob_session.specs.Stands.{End, Stands}
 use Rattle.nob_demo_pair.specs.Fronts.{is_front}
 use Rattle.nob_demo_pair.specs.Run.{answer_text, got_text, got}

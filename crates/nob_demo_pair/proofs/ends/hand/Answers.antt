@@ -1,8 +1,8 @@
 use Rattle.std.proofs.Common.{◌≡◌, ℕ, List, ◌∷◌, ◌++◌, ◌∙◌, Result, Ok, refl, subst, codes}
 use Rattle.std.specs.Fmt.{decimal}
-use Rattle.nob_model_end.specs.declared.refusal.EndRefusal.{EndRefusal}
-use Rattle.nob_model_end.specs.declared.entry.Kind.TheVariants.{Limited}
-use Rattle.nob_model_end.specs.declared.entry.EndEntry.TheVariants.{Send}
+use Rattle.nob_model_session.specs.declared.refusal.EndRefusal.{EndRefusal}
+use Rattle.nob_model_session.specs.declared.entry.Kind.TheVariants.{Limited}
+use Rattle.nob_model_session.specs.declared.entry.EndEntry.TheVariants.{Send}
 use Rattle.nob_session.specs.Stands.{Stands}
 use Rattle.nob_demo_pair.specs.Run.{put_text}
 use Rattle.nob_demo_pair.proofs.ends.hand.Goals as goal

@@ -1,7 +1,7 @@
 use Rattle.std.proofs.Common.{◌≡◌, ◌∷◌, Result, Ok, Option, sym, ◌∙◌, refl, ap, subst, codes}
-use Rattle.nob_model_end.specs.declared.entry.Ending.{Ending}
-use Rattle.nob_model_end.specs.declared.refusal.EndRefusal.{EndRefusal}
-use Rattle.nob_model_end.specs.declared.entry.EndEntry.TheVariants.{Tick}
+use Rattle.nob_model_session.specs.declared.entry.Ending.{Ending}
+use Rattle.nob_model_session.specs.declared.refusal.EndRefusal.{EndRefusal}
+use Rattle.nob_model_session.specs.declared.entry.EndEntry.TheVariants.{Tick}
 use Rattle.nob_session.specs.Stands.{Stands}
 use Rattle.nob_demo_pair.specs.Run.{closed_text, refusal_text, tick_text}
 use Rattle.nob_demo_pair.proofs.ends.tick.Goals as goal

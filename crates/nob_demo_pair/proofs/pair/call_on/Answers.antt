@@ -1,4 +1,4 @@
-use Rattle.nob_model_end.specs.Pair.{first_calls, second_calls}
+use Rattle.nob_model_session.specs.Pair.{first_calls, second_calls}
 use Rattle.nob_demo_pair.proofs.Steps.{first_made, second_made}
 use Rattle.nob_demo_pair.proofs.pair.call_on.Goals as goal
 

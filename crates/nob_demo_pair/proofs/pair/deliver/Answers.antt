@@ -1,9 +1,9 @@
 use Rattle.std.proofs.Common.{◌≡◌, ◌∷◌, ℕ, List, Some, sym, ◌∙◌, subst}
 use Rattle.nob_frame.specs.declared.frame.Frame.{Frame}
 use Rattle.nob_frame.specs.Spelling.{Spelt}
-use Rattle.nob_model_end.specs.declared.entry.EndEntry.TheVariants.{Arrive}
-use Rattle.nob_model_end.specs.Right.{right_arrive}
-use Rattle.nob_model_end.specs.Pair.{first_calls, second_calls}
+use Rattle.nob_model_session.specs.declared.entry.EndEntry.TheVariants.{Arrive}
+use Rattle.nob_model_session.specs.Right.{right_arrive}
+use Rattle.nob_model_session.specs.Pair.{first_calls, second_calls}
 use Rattle.nob_demo_pair.specs.Run.{frame_numbered}
 use Rattle.nob_demo_pair.proofs.Keeping.{kept}
 use Rattle.nob_demo_pair.proofs.Steps.{first_arrived, second_arrived}

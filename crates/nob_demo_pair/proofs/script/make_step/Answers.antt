@@ -2,7 +2,7 @@ use Rattle.std.proofs.Common.{◌≡◌, ◌++◌, ◌∙◌, ap, refl, sym, sub
 use Rattle.std.proofs.lemmas.Result.{on_ok_weaker}
 use Rattle.nob_demo_pair.specs.Run.{entries_of, step_answer}
 use Rattle.nob_demo_pair.specs.Pairs.{Ends, PairStands}
-use Rattle.nob_trace_text.specs.Lines.{answered_text}
+use Rattle.nob_text.specs.Lines.{answered_text}
 use Rattle.nob_demo_pair.specs.Scripts.{StepMade}
 use Rattle.nob_demo_pair.proofs.script.make_step.Goals as goal
 

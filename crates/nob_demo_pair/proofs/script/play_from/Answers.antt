@@ -1,7 +1,7 @@
 use Rattle.std.proofs.Common.{◌≡◌, ◌++◌, [], Option, IfSome, codes, refl, subst}
 use Rattle.std.proofs.lemmas.Result.{IfOk-weaker, on_err_weaker}
 use Rattle.nob_ids.specs.declared.limits.Limits.{Limits}
-use Rattle.nob_trace_text.specs.Lines.{lines_of, bad_step_text}
+use Rattle.nob_text.specs.Lines.{lines_of, bad_step_text}
 use Rattle.nob_demo_pair.specs.Grammar.{header_text, IsLimits}
 use Rattle.nob_demo_pair.specs.declared.script.Outcome.TheVariants.{OutOfMemory}
 use Rattle.nob_demo_pair.specs.Scripts.{FromHeader, last_line}

@@ -1,6 +1,6 @@
 use Rattle.std.proofs.Common.{◌++◌, codes}
 use Rattle.std.proofs.lemmas.Result.{IfOk-weaker, on_err_weaker}
-use Rattle.nob_trace_text.specs.Lines.{lines_of}
+use Rattle.nob_text.specs.Lines.{lines_of}
 use Rattle.nob_demo_pair.specs.declared.script.Outcome.TheVariants.{OutOfMemory}
 use Rattle.nob_demo_pair.specs.Scripts.{last_line}
 use Rattle.nob_demo_pair.proofs.Playing.{script_done}

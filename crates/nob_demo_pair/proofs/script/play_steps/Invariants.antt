@@ -1,7 +1,7 @@
 use Rattle.std.proofs.Common.{List, ◌+◌, ◌≤◌, length}
 use Rattle.nob_ids.specs.declared.limits.Limits.{Limits}
-use Rattle.nob_model_end.specs.declared.entry.PairEntry.{PairEntry}
-use Rattle.nob_trace_text.specs.Lines.{lines_of}
+use Rattle.nob_model_session.specs.declared.entry.PairEntry.{PairEntry}
+use Rattle.nob_text.specs.Lines.{lines_of}
 use Rattle.nob_demo_pair.specs.Pairs.{PairStands}
 use Rattle.nob_demo_pair.proofs.Playing.{Completes}
 use Rattle.nob_demo_pair.proofs.script.play_steps.Given as goal

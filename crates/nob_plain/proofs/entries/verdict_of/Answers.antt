@@ -1,4 +1,4 @@
-use Rattle.nob_trace_text.specs.Lines.{lines_of}
+use Rattle.nob_text.specs.Lines.{lines_of}
 use Rattle.nob_plain.proofs.Entering.{journal_so}
 use Rattle.nob_plain.proofs.Playing.{found_so}
 use Rattle.nob_plain.proofs.entries.verdict_of.Goals as goal

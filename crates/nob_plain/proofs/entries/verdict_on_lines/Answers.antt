@@ -1,6 +1,6 @@
 use Rattle.std.proofs.Common.{List, ℕ, subst, arith, ap, [], ◌∷◌, ◌≡◌, ◌∙◌, reverse}
 use Rattle.std.proofs.lemmas.List.{reverse-append}
-use Rattle.nob_trace_text.specs.Lines.{lines_of}
+use Rattle.nob_text.specs.Lines.{lines_of}
 use Rattle.nob_plain.proofs.Entering.{Reads, reads_on}
 use Rattle.nob_plain.proofs.Playing.{found_so}
 use Rattle.nob_plain.proofs.entries.verdict_on_lines.Goals as goal

@@ -1,5 +1,5 @@
 use Rattle.std.proofs.Common.{◌+◌, ◌≤◌, length, reverse}
-use Rattle.nob_trace_text.specs.Lines.{lines_of}
+use Rattle.nob_text.specs.Lines.{lines_of}
 use Rattle.nob_plain.proofs.Entering.{Reads}
 use Rattle.nob_plain.proofs.entries.verdict_on_lines.Given as goal
 

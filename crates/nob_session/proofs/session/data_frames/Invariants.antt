@@ -1,5 +1,5 @@
 use Rattle.std.proofs.Common.{◌≡◌, ◌++◌, ◌+◌, drop, length, take}
-use Rattle.nob_model_end.specs.Right as right
+use Rattle.nob_model_session.specs.Right as right
 use Rattle.nob_session.proofs.session.data_frames.Given as goal
 
 abbrev pub invariant-loop-i : goal.invariant-loop-i

@@ -1,8 +1,8 @@
 use Rattle.std.proofs.Common.{◌∷◌, Ok, sym, ap, subst, ◌∙◌}
 use Rattle.nob_ids.specs.declared.wire_rep.WireRep.{WireRep}
 use Rattle.nob_item.specs.declared.item.Item.TheVariants as items
-use Rattle.nob_model_end.specs.declared.entry.EndEntry.TheVariants.{Send}
-use Rattle.nob_model_end.specs.declared.entry.Kind.TheVariants.{Note}
+use Rattle.nob_model_session.specs.declared.entry.EndEntry.TheVariants.{Send}
+use Rattle.nob_model_session.specs.declared.entry.Kind.TheVariants.{Note}
 use Rattle.nob_session.specs.Stands as ends
 use Rattle.nob_session.specs.Stands.{End}
 use Rattle.nob_model_history.specs.Ends.{payload_of, bytes_if}

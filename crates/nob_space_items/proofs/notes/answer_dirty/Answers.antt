@@ -1,6 +1,6 @@
 use Rattle.std.proofs.Common.{◌≡◌, ℕ, ◌+◌, ◌∷◌, List, Ok, sym, ap, subst, ◌∙◌}
-use Rattle.nob_model_end.specs.declared.entry.EndEntry.TheVariants as calls
-use Rattle.nob_model_end.specs.declared.entry.Kind.TheVariants as kinds
+use Rattle.nob_model_session.specs.declared.entry.EndEntry.TheVariants as calls
+use Rattle.nob_model_session.specs.declared.entry.Kind.TheVariants as kinds
 use Rattle.nob_session.specs.Stands as ends
 use Rattle.nob_session.specs.Stands.{End}
 use Rattle.nob_model_history.specs.Ends.{bytes_if, payload_of}

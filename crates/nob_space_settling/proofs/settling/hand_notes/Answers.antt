@@ -1,6 +1,6 @@
 use Rattle.std.proofs.Common.{◌≡◌, ℕ, ◌+◌, ◌∷◌, Ok, sym, ap, subst, ◌∙◌, arith}
-use Rattle.nob_model_end.specs.declared.entry.EndEntry.TheVariants.{Send}
-use Rattle.nob_model_end.specs.declared.entry.Kind.TheVariants.{Note}
+use Rattle.nob_model_session.specs.declared.entry.EndEntry.TheVariants.{Send}
+use Rattle.nob_model_session.specs.declared.entry.Kind.TheVariants.{Note}
 use Rattle.nob_session.specs.Stands.{End}
 use Rattle.nob_session.specs.Stands as ends
 use Rattle.nob_space_settling.proofs.settling.hand_notes.Goals as goal

@@ -1,8 +1,8 @@
 use Rattle.std.proofs.Common.{◌≡◌, ℕ, ◌-◌, ◌∷◌, ◌==◌, true, Ok, Err, IsOk, refl, sym, ap, subst, ◌∙◌}
 use lib.ListN.{set}
-use Rattle.nob_model_end.specs.declared.entry.Arrived.TheVariants as arrived
-use Rattle.nob_model_end.specs.declared.entry.EndEntry.TheVariants as ends
-use Rattle.nob_model_end.specs.Right.{IsRight}
+use Rattle.nob_model_session.specs.declared.entry.Arrived.TheVariants as arrived
+use Rattle.nob_model_session.specs.declared.entry.EndEntry.TheVariants as ends
+use Rattle.nob_model_session.specs.Right.{IsRight}
 use Rattle.nob_session.specs.Answers.{Answered, arrived_of}
 use Rattle.nob_session.specs.Calls.{EndsBy, evidence_of}
 use Rattle.nob_session.specs.Stands as session

@@ -1,6 +1,6 @@
 use Rattle.std.proofs.Common.{◌≡◌, ℕ, ◌-◌, true, false, Ok, get_or, refl, subst, ◌∙◌}
 use lib.ListN.{set}
-use Rattle.nob_model_end.specs.declared.entry.EndEntry.TheVariants as ends
+use Rattle.nob_model_session.specs.declared.entry.EndEntry.TheVariants as ends
 use Rattle.nob_model_words.specs.declared.deed.Cause.{Cause}
 use Rattle.nob_model_words.specs.declared.deed.Cause.TheVariants as causes
 use Rattle.nob_model_history.specs.Ends.{call_of_closing, calls_at}

@@ -1,7 +1,7 @@
 use Rattle.std.proofs.Common.{◌≡◌, ℕ, ◌-◌, ◌∷◌, true, Some, None, Ok, refl, sym, ap, subst, ◌∙◌}
 use lib.ListN.{set}
-use Rattle.nob_model_end.specs.declared.entry.EndEntry.TheVariants as ends
-use Rattle.nob_model_end.specs.Right.{IsRight}
+use Rattle.nob_model_session.specs.declared.entry.EndEntry.TheVariants as ends
+use Rattle.nob_model_session.specs.Right.{IsRight}
 use Rattle.nob_session.specs.Calls.{EndsBy}
 use Rattle.nob_session.specs.Stands as session
 use Rattle.nob_model_words.specs.Sessions.{is_peer}

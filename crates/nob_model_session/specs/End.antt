@@ -1,0 +1,103 @@
+-- The words of one end of a session, read off the whole list of its calls. The newest call stands FIRST, so that
+-- each word of a list with one call more is computed from that call and the words before. An entry with a
+-- refusal changes no word.
+use Rattle.std.specs.Prelude.{ℕ, suc, ◌+◌, ◌-◌, max, Bool, true, false, not, ◌&&◌, ◌||◌, nat_lt, nat_le, List, [], ◌∷◌, ◌++◌, drop, Option, Some, None, is_none, Ok, if◌then◌else◌}
+use Rattle.nob_ids.specs.declared.reason.Reason.{Reason}
+use Rattle.nob_ids.specs.declared.reason.Reason.TheVariants.{PeerClosed, Asked, RetriesUsedUp, BadItem, BadReference, OutOfPlace}
+use Rattle.nob_frame.specs.declared.frame.Frame.{Frame}
+use Rattle.nob_frame.specs.Kinds.{is_data, is_close}
+use Rattle.nob_model_session.specs.declared.entry.Arrived.TheVariants as arrived
+use Rattle.nob_model_session.specs.declared.entry.EndEntry.{EndEntry}
+use Rattle.nob_model_session.specs.declared.entry.EndEntry.TheVariants.{Send, Transmit, Arrive, Take, Tick, Close}
+
+-- why this end closed, if it has
+abbrev pub ending : List EndEntry → Option Reason
+ending [] = None
+ending (Arrive frame (Ok (arrived.Closed e)) ∷ L) = Some e.reason
+ending (Tick (Ok (Some e)) ∷ L) = Some e.reason
+ending (Close reason (Ok e) ∷ L) = Some e.reason
+ending (_ ∷ L) = ending L
+
+-- whether this end is open
+abbrev pub is_open : List EndEntry → Bool
+is_open L = is_none (ending L)
+
+-- the payloads that were handed to `send` and taken by it, the first first: their numbers are 1, 2, ..
+abbrev pub handed : List EndEntry → List (List ℕ)
+handed [] = []
+handed (Send payload kind (Ok n) ∷ L) = handed L ++ payload ∷ []
+handed (_ ∷ L) = handed L
+
+-- the lowest number that the peer hasn't acknowledged: the greatest `ack` of a Data or Ack frame that arrived at the open end, at least 1
+abbrev pub lowest : List EndEntry → ℕ
+lowest [] = 1
+lowest (Arrive frame (Ok (arrived.Took k)) ∷ L) = if is_open L && not (is_close frame.kind) then max (lowest L) frame.ack else lowest L
+lowest (_ ∷ L) = lowest L
+
+-- the payloads that are handed and not acknowledged: a close throws them away
+abbrev pub unacknowledged : List EndEntry → List (List ℕ)
+unacknowledged L = if is_open L then drop (lowest L - 1) (handed L) else []
+
+-- the greatest number of an item in Data frames, 0 if there are none
+abbrev pub greatest_seq : List Frame → ℕ
+greatest_seq [] = 0
+greatest_seq (frame ∷ frames) = max (if is_data frame.kind then frame.seq else 0) (greatest_seq frames)
+
+-- the highest number that was transmitted
+abbrev pub transmitted : List EndEntry → ℕ
+transmitted [] = 0
+transmitted (Transmit frames ∷ L) = max (transmitted L) (greatest_seq frames)
+transmitted (_ ∷ L) = transmitted L
+
+-- the payloads that were accepted, the first first: their numbers are 1, 2, ..
+abbrev pub accepted : List EndEntry → List (List ℕ)
+accepted [] = []
+accepted (Arrive frame (Ok (arrived.Took (suc k))) ∷ L) = accepted L ++ frame.payload ∷ []
+accepted (_ ∷ L) = accepted L
+
+-- how many items were taken
+abbrev pub takes : List EndEntry → ℕ
+takes [] = 0
+takes (Take ∷ L) = takes L + 1
+takes (_ ∷ L) = takes L
+
+-- the payloads that were accepted and wait to be taken: a close throws them away
+abbrev pub waiting : List EndEntry → List (List ℕ)
+waiting L = if is_open L then drop (takes L) (accepted L) else []
+
+-- whether a Data frame arrived at the open end since the last transmit
+abbrev pub data_arrived : List EndEntry → Bool
+data_arrived [] = false
+data_arrived (Arrive frame (Ok (arrived.Took k)) ∷ L) = data_arrived L || (is_open L && is_data frame.kind)
+data_arrived (Transmit frames ∷ L) = false
+data_arrived (_ ∷ L) = data_arrived L
+
+-- whether something is transmitted and not acknowledged
+abbrev pub is_out : List EndEntry → Bool
+is_out L = nat_le (lowest L) (transmitted L)
+
+-- the counted ticks: those with something out, since an arrival last acknowledged something new
+abbrev pub ticks : List EndEntry → ℕ
+ticks [] = 0
+ticks (Tick (Ok None) ∷ L) = if is_out L then ticks L + 1 else ticks L
+ticks (Arrive frame (Ok (arrived.Took k)) ∷ L) = if is_open L && not (is_close frame.kind) && nat_lt (lowest L) frame.ack then 0 else ticks L
+ticks (_ ∷ L) = ticks L
+
+-- whether an end that closes for this reason owes its peer a Close frame
+abbrev pub owes_after : Reason → Bool
+owes_after PeerClosed = false
+owes_after Asked = true
+owes_after RetriesUsedUp = true
+owes_after BadItem = true
+owes_after BadReference = true
+owes_after OutOfPlace = true
+
+-- whether a Close is owed: from a close that is not for the peer's, or a non-Close that arrived at the closed end, to the next transmit
+abbrev pub owes_close : List EndEntry → Bool
+owes_close [] = false
+owes_close (Arrive frame (Ok (arrived.Took k)) ∷ L) = owes_close L || (not (is_open L) && not (is_close frame.kind))
+owes_close (Arrive frame (Ok (arrived.Closed e)) ∷ L) = owes_after e.reason
+owes_close (Tick (Ok (Some e)) ∷ L) = owes_after e.reason
+owes_close (Close reason (Ok e) ∷ L) = owes_after e.reason
+owes_close (Transmit frames ∷ L) = false
+owes_close (_ ∷ L) = owes_close L

@@ -1,0 +1,236 @@
+//! The words of one end, computed plainly from the whole list of its calls, the newest first.
+
+ghost use Rattle.std.specs.Prelude.{◌≡◌, ◌≤◌, ◌<◌, ◌+◌, ◌-◌, ◌^◌, IfOk, length, drop};
+ghost use Rattle.nob_model_session.specs.Texts.{texts};
+ghost use Rattle.nob_model_session.specs.End as words;
+
+use crate::entry::{Arrived, EndEntry};
+use nob_frame::Frame;
+use nob_ids::Reason;
+use std::alloc::{AllocError, Global};
+
+/// Why the end closed, if it has.
+pub fn ending(calls: &[EndEntry]) -> Option<Reason>
+    ensures { result ≡ words.ending calls.now }
+{
+    match calls {
+        [] => None,
+        [EndEntry::Arrive(_, Ok(Arrived::Closed(e))), ..] => Some(e.reason),
+        [EndEntry::Tick(Ok(Some(e))), ..] => Some(e.reason),
+        [EndEntry::Close(_, Ok(e)), ..] => Some(e.reason),
+        [_, older @ ..] => ending(older),
+    }
+}
+
+/// Whether the end is open.
+pub fn is_open(calls: &[EndEntry]) -> bool
+    ensures { result ≡ words.is_open calls.now }
+{
+    ending(calls).is_none()
+}
+
+/// The payloads that `send` took, the first first.
+pub fn handed(alloc: Global, calls: &[EndEntry]) -> Result<Vec<&[u8]>, AllocError>
+    ensures { IfOk result (λ payloads. texts payloads.items ≡ words.handed calls.now) }
+{
+    match calls {
+        [] => Ok(Vec::new(alloc)),
+        [EndEntry::Send(payload, _, Ok(_)), older @ ..] => {
+            let mut payloads = handed(alloc, older)?;
+            payloads.push(payload.as_slice())?;
+            Ok(payloads)
+        }
+        [_, older @ ..] => handed(alloc, older),
+    }
+}
+
+/// The lowest number that the peer hasn't acknowledged.
+pub fn lowest(calls: &[EndEntry]) -> u64
+    ensures { result ≡ words.lowest calls.now }
+{
+    match calls {
+        [] => 1,
+        [EndEntry::Arrive(frame, Ok(Arrived::Took(_))), older @ ..] => {
+            let before = lowest(older);
+            if is_open(older) && !frame.kind.is_close() {
+                before.max(frame.ack)
+            } else {
+                before
+            }
+        }
+        [_, older @ ..] => lowest(older),
+    }
+}
+
+/// The greatest number of an item in Data frames, 0 if there are none.
+pub fn greatest_seq(frames: &[Frame]) -> u64
+    ensures { result ≡ words.greatest_seq frames.now }
+{
+    match frames {
+        [] => 0,
+        [frame, others @ ..] => {
+            let seq = if frame.kind.is_data() { frame.seq } else { 0 };
+            seq.max(greatest_seq(others))
+        }
+    }
+}
+
+/// The highest number that was transmitted.
+pub fn transmitted(calls: &[EndEntry]) -> u64
+    ensures { result ≡ words.transmitted calls.now }
+{
+    match calls {
+        [] => 0,
+        [EndEntry::Transmit(frames), older @ ..] => {
+            transmitted(older).max(greatest_seq(frames.as_slice()))
+        }
+        [_, older @ ..] => transmitted(older),
+    }
+}
+
+/// The payloads that were accepted, the first first.
+pub fn accepted(alloc: Global, calls: &[EndEntry]) -> Result<Vec<&[u8]>, AllocError>
+    ensures { IfOk result (λ payloads. texts payloads.items ≡ words.accepted calls.now) }
+{
+    match calls {
+        [] => Ok(Vec::new(alloc)),
+        [EndEntry::Arrive(_, Ok(Arrived::Took(0))), older @ ..] => accepted(alloc, older),
+        [EndEntry::Arrive(frame, Ok(Arrived::Took(_))), older @ ..] => {
+            let mut payloads = accepted(alloc, older)?;
+            payloads.push(frame.payload.as_slice())?;
+            Ok(payloads)
+        }
+        [_, older @ ..] => accepted(alloc, older),
+    }
+}
+
+/// How many items were taken.
+pub fn takes(calls: &[EndEntry]) -> usize
+    ensures value { result ≡ words.takes calls.now }
+    ensures bound { result ≤ length calls.now }
+{
+    match calls {
+        [] => 0,
+        [EndEntry::Take, older @ ..] => takes(older) + 1,
+        [_, older @ ..] => takes(older),
+    }
+}
+
+/// Whether a Data frame arrived at the open end since the last transmit.
+pub fn data_arrived(calls: &[EndEntry]) -> bool
+    ensures { result ≡ words.data_arrived calls.now }
+{
+    match calls {
+        [] => false,
+        [EndEntry::Arrive(frame, Ok(Arrived::Took(_))), older @ ..] => {
+            data_arrived(older) || (is_open(older) && frame.kind.is_data())
+        }
+        [EndEntry::Transmit(_), ..] => false,
+        [_, older @ ..] => data_arrived(older),
+    }
+}
+
+/// Whether something is transmitted and not acknowledged.
+pub fn is_out(calls: &[EndEntry]) -> bool
+    ensures { result ≡ words.is_out calls.now }
+{
+    lowest(calls) <= transmitted(calls)
+}
+
+/// The counted ticks.
+pub fn ticks(calls: &[EndEntry]) -> usize
+    ensures value { result ≡ words.ticks calls.now }
+    ensures bound { result ≤ length calls.now }
+{
+    match calls {
+        [] => 0,
+        [EndEntry::Tick(Ok(None)), older @ ..] => {
+            if is_out(older) {
+                ticks(older) + 1
+            } else {
+                ticks(older)
+            }
+        }
+        [EndEntry::Arrive(frame, Ok(Arrived::Took(_))), older @ ..] => {
+            if is_open(older) && !frame.kind.is_close() && lowest(older) < frame.ack {
+                0
+            } else {
+                ticks(older)
+            }
+        }
+        [_, older @ ..] => ticks(older),
+    }
+}
+
+/// Whether an end that closes for this reason owes its peer a Close frame.
+pub fn owes_after(reason: Reason) -> bool
+    ensures { result ≡ words.owes_after reason }
+{
+    match reason {
+        Reason::PeerClosed => false,
+        Reason::Asked
+        | Reason::RetriesUsedUp
+        | Reason::BadItem
+        | Reason::BadReference
+        | Reason::OutOfPlace => true,
+    }
+}
+
+/// Whether a Close frame is owed.
+pub fn owes_close(calls: &[EndEntry]) -> bool
+    ensures { result ≡ words.owes_close calls.now }
+{
+    match calls {
+        [] => false,
+        [EndEntry::Arrive(frame, Ok(Arrived::Took(_))), older @ ..] => {
+            owes_close(older) || (!is_open(older) && !frame.kind.is_close())
+        }
+        [EndEntry::Arrive(_, Ok(Arrived::Closed(e))), ..] => owes_after(e.reason),
+        [EndEntry::Tick(Ok(Some(e))), ..] => owes_after(e.reason),
+        [EndEntry::Close(_, Ok(e)), ..] => owes_after(e.reason),
+        [EndEntry::Transmit(_), ..] => false,
+        [_, older @ ..] => owes_close(older),
+    }
+}
+
+/// The payloads that are handed and not acknowledged.
+pub fn unacknowledged(alloc: Global, calls: &[EndEntry]) -> Result<Vec<&[u8]>, AllocError>
+    ensures payloads { IfOk result (λ payloads. texts payloads.items
+        ≡ words.unacknowledged calls.now) }
+    // There are no more of them than numbers from the lowest on.
+    ensures bound { IfOk result (λ payloads. 0 < length payloads.items
+        → words.lowest calls.now + length payloads.items ≤ 2 ^ 63) }
+{
+    if !is_open(calls) {
+        return Ok(Vec::new(alloc));
+    }
+    let payloads = handed(alloc, calls)?;
+    let first = lowest(calls).saturating_sub(1);
+    without_front(alloc, &payloads, first)
+}
+
+/// The payloads that were accepted and wait to be taken.
+pub fn waiting(alloc: Global, calls: &[EndEntry]) -> Result<Vec<&[u8]>, AllocError>
+    ensures { IfOk result (λ payloads. texts payloads.items ≡ words.waiting calls.now) }
+{
+    if !is_open(calls) {
+        return Ok(Vec::new(alloc));
+    }
+    let payloads = accepted(alloc, calls)?;
+    without_front(alloc, &payloads, takes(calls) as u64)
+}
+
+// The payloads but for the first so many.
+fn without_front<'a>(
+    alloc: Global,
+    payloads: &[&'a [u8]],
+    count: u64,
+) -> Result<Vec<&'a [u8]>, AllocError>
+    ensures rest { IfOk result (λ rest. texts rest.items ≡ drop count (texts payloads.now)) }
+    ensures len { IfOk result (λ rest. length rest.items ≡ length payloads.now - count) }
+{
+    if count >= payloads.len() as u64 {
+        return Ok(Vec::new(alloc));
+    }
+    Vec::from_slice(alloc, payloads.split_at(count as usize).1)
+}
