@@ -5,7 +5,7 @@ use nob_bytes::Bytes;
 use nob_case_texts::{Answer, Refusal, refused_frame};
 use nob_frame::Frame;
 use nob_ids::{Limits, Reason, SpaceId};
-use nob_model_session::{Arrived, EndEntry, EndRefusal, Frames, right, words};
+use nob_model_session::{Arrived, EndEntry, EndRefusal, Frames, end, right};
 use nob_session::{Kind, SessionError};
 use std::alloc::{AllocError, Global};
 
@@ -55,7 +55,7 @@ impl Plain {
             EndCase::Take => self.take(),
             EndCase::Tick => self.tick(),
             EndCase::Close(reason) => self.close(*reason),
-            EndCase::IsOpen => Ok(Answer::of_test(words::is_open(&self.calls))),
+            EndCase::IsOpen => Ok(Answer::of_test(end::is_open(&self.calls))),
             _ => Ok(Answer::Word("no call")),
         }
     }

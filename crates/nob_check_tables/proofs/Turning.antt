@@ -115,8 +115,8 @@ module _ (s n : ℕ) (peers : List ℕ) (D : List Deed) (same : (p : ℕ) → is
   item_turns p r (Some (items.Reply call status value)) rows = all_asked_is r (counted_in (items.Reply call status value)) rows
   item_turns p r (Some (items.Settle item)) rows = refl
   item_turns p r (Some (items.Dirty index)) rows = refl
-  item_turns p r (Some (items.DirtyOk index)) rows = changed (with_answer said.Yes) r (record { owner = p; index = index }) rows
-  item_turns p r (Some (items.DirtyNo index)) rows = changed (with_answer said.No) r (record { owner = p; index = index }) rows
+  item_turns p r (Some (items.DirtyOk index)) rows = changed (with_answer said.Granted) r (record { owner = p; index = index }) rows
+  item_turns p r (Some (items.DirtyNo index)) rows = changed (with_answer said.Refused) r (record { owner = p; index = index }) rows
   item_turns p r (Some (items.Clean index)) rows = refl
 
 -- the tables are of the space

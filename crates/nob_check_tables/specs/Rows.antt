@@ -56,6 +56,6 @@ with_item s n p (Some (items.Call call target method value)) closed rows = rows_
 with_item s n p (Some (items.Reply call status value)) closed rows = rows_with_dirties s n closed (counted_in (items.Reply call status value)) rows
 with_item s n p (Some (items.Settle item)) closed rows = rows
 with_item s n p (Some (items.Dirty index)) closed rows = rows
-with_item s n p (Some (items.DirtyOk index)) closed rows = rows_with_answer (record { owner = p; index = index }) said.Yes rows
-with_item s n p (Some (items.DirtyNo index)) closed rows = rows_with_answer (record { owner = p; index = index }) said.No rows
+with_item s n p (Some (items.DirtyOk index)) closed rows = rows_with_answer (record { owner = p; index = index }) said.Granted rows
+with_item s n p (Some (items.DirtyNo index)) closed rows = rows_with_answer (record { owner = p; index = index }) said.Refused rows
 with_item s n p (Some (items.Clean index)) closed rows = rows

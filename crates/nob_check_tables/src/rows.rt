@@ -203,14 +203,14 @@ pub fn with_item(
                 owner: peer,
                 index: *index,
             };
-            rows_with_answer(rep, OwnerAnswer::Yes, rows)
+            rows_with_answer(rep, OwnerAnswer::Granted, rows)
         }
         Item::DirtyNo(index) => {
             let rep = WireRep {
                 owner: peer,
                 index: *index,
             };
-            rows_with_answer(rep, OwnerAnswer::No, rows)
+            rows_with_answer(rep, OwnerAnswer::Refused, rows)
         }
         Item::Settle(_) | Item::Dirty(_) | Item::Clean(_) => Ok(rows),
     }

@@ -53,8 +53,8 @@ granted_before s n p rep (Some (items.Call call target method value)) D before n
 granted_before s n p rep (Some (items.Reply call status value)) D before none granted = passed_over (carries rep (items.Reply call status value)) (wants_dirty s n rep D before) (λ t. is_granted t ≡ true) (with_dirty before) before none granted
 granted_before s n p rep (Some (items.Settle item)) D before none granted = granted
 granted_before s n p rep (Some (items.Dirty index)) D before none granted = granted
-granted_before s n p rep (Some (items.DirtyOk index)) D before none granted = passed_over (names rep p index) true (λ t. is_granted t ≡ true) (with_answer said.Yes before) before (neither (names rep p index) false none).0 (subst (λ b. is_granted (if b then with_answer said.Yes before else before) ≡ true) (sym (and_true (names rep p index))) granted)
-granted_before s n p rep (Some (items.DirtyNo index)) D before none granted = elim (names rep p index) as (λ b. is_granted (if b then with_answer said.No before else before) ≡ true → is_granted before ≡ true) [
+granted_before s n p rep (Some (items.DirtyOk index)) D before none granted = passed_over (names rep p index) true (λ t. is_granted t ≡ true) (with_answer said.Granted before) before (neither (names rep p index) false none).0 (subst (λ b. is_granted (if b then with_answer said.Granted before else before) ≡ true) (sym (and_true (names rep p index))) granted)
+granted_before s n p rep (Some (items.DirtyNo index)) D before none granted = elim (names rep p index) as (λ b. is_granted (if b then with_answer said.Refused before else before) ≡ true → is_granted before ≡ true) [
   | true ↦ λ h. absurd (true≢false (sym (no_granted (before.asks) (before.answers + 1 == before.dirties) h)))
   | false ↦ λ h. h
 ] granted

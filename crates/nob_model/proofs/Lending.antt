@@ -85,9 +85,9 @@ refused_not_granted : (t : Turns) → is_refused t ≡ true → is_granted t ≡
 refused_not_granted t refused granted = both t.last (and_parts (t.asks && t.answers == t.dirties) (is_no t.last) refused).1 (and_parts (t.asks && t.answers == t.dirties) (is_yes t.last) granted).1
   where
     both : (last : OwnerAnswer) → is_no last ≡ true → is_yes last ≡ true → ⊥
-    both said.Silent denied given = (let clash : false ≡ true = denied in absurd (cc))
-    both said.Yes denied given = (let clash : false ≡ true = denied in absurd (cc))
-    both said.No denied given = (let clash : false ≡ true = given in absurd (cc))
+    both said.Pending denied given = (let clash : false ≡ true = denied in absurd (cc))
+    both said.Granted denied given = (let clash : false ≡ true = denied in absurd (cc))
+    both said.Refused denied given = (let clash : false ≡ true = given in absurd (cc))
 
 -- a turn that isn't taken
 not_turned : (b : Bool) (t after : Turns) → (b ≡ true → ⊥) → is_refused t ≡ true → is_refused (cond b after t) ≡ true

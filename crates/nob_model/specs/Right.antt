@@ -73,16 +73,16 @@ unfoldable pub right_export : ℕ → History → Result Answer Refusal
 right_export s h = unless (refuse_if (nat_le most_objects (length (live s h.deeds)) || nat_le last_number (length (exports h.deeds))) refusals.Limit) (answers.Exported (record { owner = s; index = length (exports h.deeds) + 1 }))
 
 -- whether a reference names an own object, not the agent, that isn't live
-abbrev pub is_not_live : ℕ → WireRep → History → Bool
-is_not_live s rep h = is_counted rep && is_own_and_not_live s rep h
+abbrev pub is_gone : ℕ → WireRep → History → Bool
+is_gone s rep h = is_counted rep && is_own_and_not_live s rep h
 
 -- Dup: done, unless the reference names an object that isn't live, isn't held, its owner's session has closed here, or the hand is full
 unfoldable pub right_dup : ℕ → WireRep → History → Result Answer Refusal
-right_dup s rep h = unless (refuse_if (is_not_live s rep h) refusals.NoObject or_else refuse_if (not (is_counted rep) || not (is_held s rep h)) refusals.NotHeld or_else refuse_if (not (is_own s rep) && closed rep.owner h.deeds) refusals.Closed or_else refuse_if (nat_le most_in_hand (hand rep h.deeds)) refusals.Limit) answers.Done
+right_dup s rep h = unless (refuse_if (is_gone s rep h) refusals.NoObject or_else refuse_if (not (is_counted rep) || not (is_held s rep h)) refusals.NotHeld or_else refuse_if (not (is_own s rep) && closed rep.owner h.deeds) refusals.Closed or_else refuse_if (nat_le most_in_hand (hand rep h.deeds)) refusals.Limit) answers.Done
 
 -- Release: done, unless the reference names an object that isn't live, or none of it is in the hand
 unfoldable pub right_release : ℕ → WireRep → History → Result Answer Refusal
-right_release s rep h = unless (refuse_if (is_not_live s rep h) refusals.NoObject or_else refuse_if (not (is_counted rep) || hand rep h.deeds == 0) refusals.NotHeld) answers.Done
+right_release s rep h = unless (refuse_if (is_gone s rep h) refusals.NoObject or_else refuse_if (not (is_counted rep) || hand rep h.deeds == 0) refusals.NotHeld) answers.Done
 
 -- how many calls were made
 abbrev pub calls_made : List Deed → ℕ

@@ -21,7 +21,7 @@ use nob_model_acting::candidates::{to_claim, to_settle};
 use nob_model_acting::sending::{
     counted, has_numbers, is_own_and_not_live, send_refused, value_refused,
 };
-use nob_model_session::{Arrived, EndRefusal, Ending, Frames, Kind, right as end, words as end_words};
+use nob_model_session::{Arrived, EndRefusal, Ending, Frames, Kind, end as end_words, right as end};
 use nob_model_history::ends::calls_at;
 use nob_model_history::holds::{hand, is_held, times};
 use nob_model_history::listing::is_any_listed;
@@ -65,13 +65,13 @@ pub fn export(alloc: Global, space: SpaceId, history: &History) -> Answered
 }
 
 // Whether a reference names an own object, not the agent, that isn't live.
-fn is_not_live(
+fn is_gone(
     alloc: Global,
     space: SpaceId,
     rep: &WireRep,
     history: &History,
 ) -> Result<bool, AllocError>
-    ensures { IfOk result (λ gone. gone ≡ words.is_not_live space rep.now history.now) }
+    ensures { IfOk result (λ gone. gone ≡ words.is_gone space rep.now history.now) }
 {
     if !rep.is_counted() {
         return Ok(false);
@@ -84,7 +84,7 @@ fn is_not_live(
 pub fn dup(alloc: Global, space: SpaceId, rep: &WireRep, history: &History) -> Answered
     ensures { IfOk result (λ answer. answer ≡ words.right_dup space rep.now history.now) }
 {
-    if is_not_live(alloc, space, rep, history)? {
+    if is_gone(alloc, space, rep, history)? {
         return Ok(Err(Refusal::NoObject));
     }
     if !rep.is_counted() || !is_held(alloc, space, rep, history)? {
@@ -104,7 +104,7 @@ pub fn dup(alloc: Global, space: SpaceId, rep: &WireRep, history: &History) -> A
 pub fn release(alloc: Global, space: SpaceId, rep: &WireRep, history: &History) -> Answered
     ensures { IfOk result (λ answer. answer ≡ words.right_release space rep.now history.now) }
 {
-    if is_not_live(alloc, space, rep, history)? {
+    if is_gone(alloc, space, rep, history)? {
         return Ok(Err(Refusal::NoObject));
     }
     if !rep.is_counted() || hand(alloc, rep, history.deeds.as_slice())? == 0 {

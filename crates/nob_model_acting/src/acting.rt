@@ -4,7 +4,7 @@ ghost use Rattle.std.specs.Prelude.{◌≡◌, ◌≤◌, ◌&&◌, ◌==◌, no
 ghost use Rattle.std.specs.List.{list_any, list_all};
 ghost use Rattle.nob_model_history.specs.Ends.{items_to};
 ghost use Rattle.nob_model_words.specs.Objects.{is_live};
-ghost use Rattle.nob_model_acting.specs.Sending.{is_own_and_not_live as is_not_live};
+ghost use Rattle.nob_model_acting.specs.Sending.{is_own_and_not_live};
 ghost use Rattle.nob_model_acting.specs.Acting as words;
 
 use crate::sending::{has_numbers, is_own_and_not_live};
@@ -32,7 +32,7 @@ fn is_any_not_live(
     history: &History,
 ) -> Result<bool, AllocError>
     ensures { IfOk result (λ gone. gone ≡ list_any
-        (λ rep. is_not_live space rep history.now) reps.now) }
+        (λ rep. is_own_and_not_live space rep history.now) reps.now) }
 {
     match reps {
         [] => Ok(false),

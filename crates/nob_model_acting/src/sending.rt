@@ -8,7 +8,7 @@ ghost use Rattle.nob_model_acting.specs.Sending as words;
 
 use nob_ids::{SpaceId, WireRep};
 use nob_model_session::right::LAST_ITEM;
-use nob_model_session::{EndRefusal, Kind, right, words as end_words};
+use nob_model_session::{EndRefusal, Kind, end as end_words, right};
 use nob_model_history::History;
 use nob_model_history::ends::calls_at;
 use nob_model_history::holds::is_held;

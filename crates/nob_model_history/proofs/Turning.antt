@@ -25,7 +25,7 @@ IsWaiting t = (t.asks ≡ true) × (t.answers + 1 ≡ t.dirties)
 
 -- the last Dirty is answered
 abbrev pub IsAnswered : Turns → Type 0
-IsAnswered t = (t.asks ≡ true) × (t.answers ≡ t.dirties) × ((t.last ≡ said.Yes) ⊎ (t.last ≡ said.No))
+IsAnswered t = (t.asks ≡ true) × (t.answers ≡ t.dirties) × ((t.last ≡ said.Granted) ⊎ (t.last ≡ said.Refused))
 
 -- the shapes that turns have in a right list
 abbrev pub HaveShape : Turns → Type 0
@@ -75,7 +75,7 @@ answered_stands t asks same = (
   three t.asks (t.answers == t.dirties) (is_no t.last) asks (eq-eqb _ _ same),
 )
 
-no_answer : (t : Turns) → t.asks ≡ true → t.answers ≡ t.dirties → (t.last ≡ said.Yes) ⊎ (t.last ≡ said.No) → is_standing t ≡ false → ⊥
+no_answer : (t : Turns) → t.asks ≡ true → t.answers ≡ t.dirties → (t.last ≡ said.Granted) ⊎ (t.last ≡ said.Refused) → is_standing t ≡ false → ⊥
 no_answer t asks same (inl ok) none = both_ways _ (or_parts _ _ (or_parts _ _ none).0).1 ((answered_stands t asks same).1 ∙ ap is_yes ok)
 no_answer t asks same (inr denied) none = both_ways _ (or_parts _ _ none).1 ((answered_stands t asks same).2 ∙ ap is_no denied)
 
@@ -136,7 +136,7 @@ message_shape false t none shape = shape
 pub wanted_none : (s n : ℕ) (rep : WireRep) (D : List Deed) (t : Turns) → wants_dirty s n rep D t ≡ true → is_standing t ≡ false
 wanted_none s n rep D t wanted = not-true _ (and_parts _ _ wanted).1
 
-answer_shape : (answer : OwnerAnswer) → (answer ≡ said.Yes) ⊎ (answer ≡ said.No) → (b : Bool) (t : Turns) → (b ≡ true → is_pending t ≡ true) → HaveShape t → HaveShape (cond b (with_answer answer t) t)
+answer_shape : (answer : OwnerAnswer) → (answer ≡ said.Granted) ⊎ (answer ≡ said.Refused) → (b : Bool) (t : Turns) → (b ≡ true → is_pending t ≡ true) → HaveShape t → HaveShape (cond b (with_answer answer t) t)
 answer_shape answer which true t pending shape = let waits = pending_waits t (pending refl) in inr (inr (waits.0, waits.1, which))
 answer_shape answer which false t pending shape = shape
 
@@ -147,8 +147,8 @@ item_shape s n p rep (Some (items.Call call target method value)) D answers shap
 item_shape s n p rep (Some (items.Reply call status value)) D answers shape = message_shape (carries rep (items.Reply call status value) && wants_dirty s n rep D (turns s n rep D)) (turns s n rep D) (λ both. wanted_none s n rep D (turns s n rep D) (and_parts _ _ both).1) shape
 item_shape s n p rep (Some (items.Settle item)) D answers shape = shape
 item_shape s n p rep (Some (items.Dirty index)) D answers shape = shape
-item_shape s n p rep (Some (items.DirtyOk index)) D answers shape = answer_shape said.Yes (inl refl) (names rep p index) (turns s n rep D) (λ named. subst (λ (r : WireRep). is_pending (turns s n r D) ≡ true) (named_ref rep p index named) answers) shape
-item_shape s n p rep (Some (items.DirtyNo index)) D answers shape = answer_shape said.No (inr refl) (names rep p index) (turns s n rep D) (λ named. subst (λ (r : WireRep). is_pending (turns s n r D) ≡ true) (named_ref rep p index named) answers) shape
+item_shape s n p rep (Some (items.DirtyOk index)) D answers shape = answer_shape said.Granted (inl refl) (names rep p index) (turns s n rep D) (λ named. subst (λ (r : WireRep). is_pending (turns s n r D) ≡ true) (named_ref rep p index named) answers) shape
+item_shape s n p rep (Some (items.DirtyNo index)) D answers shape = answer_shape said.Refused (inr refl) (names rep p index) (turns s n rep D) (λ named. subst (λ (r : WireRep). is_pending (turns s n r D) ≡ true) (named_ref rep p index named) answers) shape
 item_shape s n p rep (Some (items.Clean index)) D answers shape = shape
 
 clean_shape : (b : Bool) (t : Turns) → (b ≡ true → is_granted t ≡ true) → HaveShape t → HaveShape (cond b (with_clean t) t)

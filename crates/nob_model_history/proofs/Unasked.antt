@@ -141,7 +141,7 @@ still_asks_nothing : (deed : Deed) (D : List Deed) → moves_surrogates deed D �
 still_asks_nothing (did.Act p k) D none = none
 still_asks_nothing deed D none = refl
 
-answered_standing : (answer : OwnerAnswer) → (answer ≡ said.Yes) ⊎ (answer ≡ said.No) → (t : Turns) → is_pending t ≡ true → is_standing (with_answer answer t) ≡ is_standing t
+answered_standing : (answer : OwnerAnswer) → (answer ≡ said.Granted) ⊎ (answer ≡ said.Refused) → (t : Turns) → is_pending t ≡ true → is_standing (with_answer answer t) ≡ is_standing t
 answered_standing answer (inl ok) t pending =
     or_left _ (is_refused (with_answer answer t)) (or_right (is_pending (with_answer answer t)) _ ((after_answer answer t pending).1 ∙ ap is_yes ok))
     ∙ sym (or_left _ _ (or_left _ _ pending))
@@ -149,7 +149,7 @@ answered_standing answer (inr denied) t pending =
     or_right (is_pending (with_answer answer t) || is_granted (with_answer answer t)) _ ((after_answer answer t pending).2 ∙ ap is_no denied)
     ∙ sym (or_left _ _ (or_left _ _ pending))
 
-answer_standing : (answer : OwnerAnswer) → (answer ≡ said.Yes) ⊎ (answer ≡ said.No) → (b : Bool) (t : Turns) → (b ≡ true → is_pending t ≡ true) → is_standing (cond b (with_answer answer t) t) ≡ is_standing t
+answer_standing : (answer : OwnerAnswer) → (answer ≡ said.Granted) ⊎ (answer ≡ said.Refused) → (b : Bool) (t : Turns) → (b ≡ true → is_pending t ≡ true) → is_standing (cond b (with_answer answer t) t) ≡ is_standing t
 answer_standing answer which true t pending = answered_standing answer which t (pending refl)
 answer_standing answer which false t pending = refl
 
@@ -160,8 +160,8 @@ item_standing s n p rep (Some (items.Call call target method value)) D answers n
 item_standing s n p rep (Some (items.Reply call status value)) D answers none = cc
 item_standing s n p rep (Some (items.Settle item)) D answers none = refl
 item_standing s n p rep (Some (items.Dirty index)) D answers none = refl
-item_standing s n p rep (Some (items.DirtyOk index)) D answers none = answer_standing said.Yes (inl refl) (names rep p index) (turns s n rep D) (λ named. subst (λ (r : WireRep). is_pending (turns s n r D) ≡ true) (named_ref rep p index named) answers)
-item_standing s n p rep (Some (items.DirtyNo index)) D answers none = answer_standing said.No (inr refl) (names rep p index) (turns s n rep D) (λ named. subst (λ (r : WireRep). is_pending (turns s n r D) ≡ true) (named_ref rep p index named) answers)
+item_standing s n p rep (Some (items.DirtyOk index)) D answers none = answer_standing said.Granted (inl refl) (names rep p index) (turns s n rep D) (λ named. subst (λ (r : WireRep). is_pending (turns s n r D) ≡ true) (named_ref rep p index named) answers)
+item_standing s n p rep (Some (items.DirtyNo index)) D answers none = answer_standing said.Refused (inr refl) (names rep p index) (turns s n rep D) (λ named. subst (λ (r : WireRep). is_pending (turns s n r D) ≡ true) (named_ref rep p index named) answers)
 item_standing s n p rep (Some (items.Clean index)) D answers none = refl
 
 surrogate_same : (s n : ℕ) (deed : Deed) (D : List Deed) → TookTurns s n (deed ∷ D) → moves_surrogates deed D ≡ false → (rep : WireRep) → has_surrogate s n (deed ∷ D) rep ≡ has_surrogate s n D rep

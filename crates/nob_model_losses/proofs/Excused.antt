@@ -76,7 +76,7 @@ no_last before (answer ∷ answers) is = by answer (no_last (word_of answer) ans
     by true (inr refuses) = inr refuses
     by false either = inr refl
 
-heard_no : (answers : List Bool) → (is_no said.Silent ≡ true) ⊎ (has_no answers ≡ true) → has_no answers ≡ true
+heard_no : (answers : List Bool) → (is_no said.Pending ≡ true) ⊎ (has_no answers ≡ true) → has_no answers ≡ true
 heard_no answers (inl refuses) = cc
 heard_no answers (inr refuses) = refuses
 
@@ -84,7 +84,7 @@ heard_no answers (inr refuses) = refuses
 refused_denied : (n : ℕ) (limits : ℕ → Limits) (J : List Entry) → WorldRun n limits J → AreOfTypes J → (b : ℕ) (rep : WireRep) → is_refused (turns b n rep (deeds_at b J)) ≡ true → has_no (gave n rep.owner b rep.index J) ≡ true
 refused_denied n limits J run typed b rep refused =
     let by : is_refused (turns_by (asked n b rep J) (heard b rep J)) ≡ true = ap is_refused (sym ((clients n limits J run).turns_are b rep)) ∙ refused in
-    let refuses : has_no (heard b rep J) ≡ true = heard_no (heard b rep J) (no_last said.Silent (heard b rep J) (and_parts _ _ by).1) in
+    let refuses : has_no (heard b rep J) ≡ true = heard_no (heard b rep J) (no_last said.Pending (heard b rep J) (and_parts _ _ by).1) in
     let begins = answers_begin rep.index (items_among (acted_from rep.owner b J)) (sent_to n rep.owner b J) (items_begin n rep.owner b J (in_order n limits J run typed rep.owner b)) in
     ap has_no (sym begins.1) ∙ list_any-append not (heard b rep J) begins.0 ∙ or_left (has_no (heard b rep J)) (has_no begins.0) refuses
 

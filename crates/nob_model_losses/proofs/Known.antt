@@ -61,8 +61,8 @@ item_standing s n p rep (Some (items.Call call target method value)) D answers i
 item_standing s n p rep (Some (items.Reply call status value)) D answers is = not_turned (carries rep (items.Reply call status value) && wants_dirty s n rep D (turns s n rep D)) (turns s n rep D) (with_dirty (turns s n rep D)) (not_wanted s n rep D (turns s n rep D) is (carries rep (items.Reply call status value))) is
 item_standing s n p rep (Some (items.Settle item)) D answers is = is
 item_standing s n p rep (Some (items.Dirty index)) D answers is = is
-item_standing s n p rep (Some (items.DirtyOk index)) D answers is = turned_standing (names rep p index) (turns s n rep D) (with_answer said.Yes (turns s n rep D)) (λ named. granted_stands (with_answer said.Yes (turns s n rep D)) (after_answer said.Yes (turns s n rep D) (answered_pending s n p index rep D answers named)).1) is
-item_standing s n p rep (Some (items.DirtyNo index)) D answers is = turned_standing (names rep p index) (turns s n rep D) (with_answer said.No (turns s n rep D)) (λ named. refused_stands (with_answer said.No (turns s n rep D)) (after_answer said.No (turns s n rep D) (answered_pending s n p index rep D answers named)).2) is
+item_standing s n p rep (Some (items.DirtyOk index)) D answers is = turned_standing (names rep p index) (turns s n rep D) (with_answer said.Granted (turns s n rep D)) (λ named. granted_stands (with_answer said.Granted (turns s n rep D)) (after_answer said.Granted (turns s n rep D) (answered_pending s n p index rep D answers named)).1) is
+item_standing s n p rep (Some (items.DirtyNo index)) D answers is = turned_standing (names rep p index) (turns s n rep D) (with_answer said.Refused (turns s n rep D)) (λ named. refused_stands (with_answer said.Refused (turns s n rep D)) (after_answer said.Refused (turns s n rep D) (answered_pending s n p index rep D answers named)).2) is
 item_standing s n p rep (Some (items.Clean index)) D answers is = is
 
 standing_on : (s n : ℕ) (rep : WireRep) (deed : Deed) (D : List Deed) → TookTurns s n (deed ∷ D) → gives_up rep deed ≡ false → is_standing (turns s n rep D) ≡ true → is_standing (turns s n rep (deed ∷ D)) ≡ true

@@ -293,7 +293,7 @@ none_listed : (n : ℕ) (limits : ℕ → Limits) (J : List Entry) → WorldRun 
 none_listed n limits J run quiet o x low high unused c listed =
     let rep : WireRep = own_ref o x in
     let parts = and_parts (not (closed c (deeds_at o J))) (is_entered o x c (deeds_at o J)) listed in
-    let entered = and_parts (last_or false (was_asked o c x J)) (is_yes (last_word said.Silent (gave n o c x J))) (sym ((owners n limits J run).entered o c x) ∙ parts.1) in
+    let entered = and_parts (last_or false (was_asked o c x J)) (is_yes (last_word said.Pending (gave n o c x J))) (sym ((owners n limits J run).entered o c x) ∙ parts.1) in
     let peer : is_peer o n c ≡ true = asker_peer o n (limits o) c x (deeds_at o J) (right_deeds_at n limits J run o) entered.0 in
     let range = peer_range o n c peer in
     let back : is_peer c n o ≡ true = peer_back o n c peer low high in
@@ -302,7 +302,7 @@ none_listed n limits J run quiet o x low high unused c listed =
     let asks : last_or false (asked n c rep J) ≡ true = ap (last_or false) (sym (asked_out n c o x J out)) ∙ entered.0 in
     let each : length (gave n o c x J) ≡ dirties_in (was_asked o c x J) = ((owners n limits J run).answered o c x).each in
     let same : length (heard c rep J) ≡ dirties_in (asked n c rep J) = ap length (heard_all n c o x J out) ∙ each ∙ ap dirties_in (asked_out n c o x J out) in
-    let yes : is_yes (last_word said.Silent (heard c rep J)) ≡ true = ap (λ bs. is_yes (last_word said.Silent bs)) (heard_all n c o x J out) ∙ entered.1 in
+    let yes : is_yes (last_word said.Pending (heard c rep J)) ≡ true = ap (λ bs. is_yes (last_word said.Pending bs)) (heard_all n c o x J out) ∙ entered.1 in
     let granted : is_granted (turns c n rep (deeds_at c J)) ≡ true = ap is_granted ((clients n limits J run).turns_are c rep) ∙ and_from _ _ (and_from _ _ asks (eq-eqb (length (heard c rep J)) (dirties_in (asked n c rep J)) same)) yes in
     let usable : is_usable c n rep (deeds_at c J) ≡ true = and_from _ _ granted (not_from_false _ out.open_here) in
     let unheld : is_held c rep (history_at c n J) ≡ false = held_by (is_held c rep (history_at c n J)) (is_own c rep) (closed_at c o J) (closed_at o c J) (unused c range.0 range.1) out.open_here out.open_there in

@@ -32,12 +32,12 @@ dirty_idle : (b : Bool) (t : Turns) → HaveShape t → (b ≡ true → is_stand
 dirty_idle true t shape wanted none = absurd (both_ways _ none (pending_stands (with_dirty t) (after_dirty t shape (wanted refl)).1.0))
 dirty_idle false t shape wanted none = (none, refl)
 
-yes_idle : (b : Bool) (t : Turns) → (b ≡ true → is_pending t ≡ true) → is_standing (cond b (with_answer said.Yes t) t) ≡ false → is_standing t ≡ false
-yes_idle true t pending none = absurd (both_ways _ none (granted_stands (with_answer said.Yes t) (after_answer said.Yes t (pending refl)).1))
+yes_idle : (b : Bool) (t : Turns) → (b ≡ true → is_pending t ≡ true) → is_standing (cond b (with_answer said.Granted t) t) ≡ false → is_standing t ≡ false
+yes_idle true t pending none = absurd (both_ways _ none (granted_stands (with_answer said.Granted t) (after_answer said.Granted t (pending refl)).1))
 yes_idle false t pending none = none
 
-no_idle : (b : Bool) (t : Turns) → (b ≡ true → is_pending t ≡ true) → is_standing (cond b (with_answer said.No t) t) ≡ false → is_standing t ≡ false
-no_idle true t pending none = absurd (both_ways _ none (refused_stands (with_answer said.No t) (after_answer said.No t (pending refl)).2))
+no_idle : (b : Bool) (t : Turns) → (b ≡ true → is_pending t ≡ true) → is_standing (cond b (with_answer said.Refused t) t) ≡ false → is_standing t ≡ false
+no_idle true t pending none = absurd (both_ways _ none (refused_stands (with_answer said.Refused t) (after_answer said.Refused t (pending refl)).2))
 no_idle false t pending none = none
 
 -- the answer that is acted on is to a Dirty that waits for it
@@ -74,8 +74,8 @@ was_pending s n p rep (Some (items.Call call target method value)) D answers is 
 was_pending s n p rep (Some (items.Reply call status value)) D answers is = dirty_pending (carries rep (items.Reply call status value) && wants_dirty s n rep D (turns s n rep D)) (turns s n rep D) is
 was_pending s n p rep (Some (items.Settle item)) D answers is = inl is
 was_pending s n p rep (Some (items.Dirty index)) D answers is = inl is
-was_pending s n p rep (Some (items.DirtyOk index)) D answers is = inl (answer_pending (names rep p index) (turns s n rep D) (with_answer said.Yes (turns s n rep D)) (answered_pending s n p index rep D answers) is)
-was_pending s n p rep (Some (items.DirtyNo index)) D answers is = inl (answer_pending (names rep p index) (turns s n rep D) (with_answer said.No (turns s n rep D)) (answered_pending s n p index rep D answers) is)
+was_pending s n p rep (Some (items.DirtyOk index)) D answers is = inl (answer_pending (names rep p index) (turns s n rep D) (with_answer said.Granted (turns s n rep D)) (answered_pending s n p index rep D answers) is)
+was_pending s n p rep (Some (items.DirtyNo index)) D answers is = inl (answer_pending (names rep p index) (turns s n rep D) (with_answer said.Refused (turns s n rep D)) (answered_pending s n p index rep D answers) is)
 was_pending s n p rep (Some (items.Clean index)) D answers is = inl is
 
 -- ---- refused
@@ -89,11 +89,11 @@ dirty_refused true true t shape none is = absurd (both_ways _ (after_dirty t sha
 dirty_refused true false t shape none is = inl is
 dirty_refused false wanted t shape none is = inr (is, refl)
 
-yes_refused : (b : Bool) (t : Turns) → (b ≡ true → is_pending t ≡ true) → is_refused (cond b (with_answer said.Yes t) t) ≡ true → is_refused t ≡ true
-yes_refused true t pending is = absurd (both_ways _ (after_answer said.Yes t (pending refl)).2 is)
+yes_refused : (b : Bool) (t : Turns) → (b ≡ true → is_pending t ≡ true) → is_refused (cond b (with_answer said.Granted t) t) ≡ true → is_refused t ≡ true
+yes_refused true t pending is = absurd (both_ways _ (after_answer said.Granted t (pending refl)).2 is)
 yes_refused false t pending is = is
 
-no_refused : (b : Bool) (t : Turns) → is_refused (cond b (with_answer said.No t) t) ≡ true → (b ≡ true) ⊎ ((is_refused t ≡ true) × (false ≡ false))
+no_refused : (b : Bool) (t : Turns) → is_refused (cond b (with_answer said.Refused t) t) ≡ true → (b ≡ true) ⊎ ((is_refused t ≡ true) × (false ≡ false))
 no_refused true t is = inl refl
 no_refused false t is = inr (is, refl)
 

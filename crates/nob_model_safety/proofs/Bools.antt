@@ -39,11 +39,11 @@ turns_dirty asks answers = rw (dirties_push asks true, last_push false asks true
 
 -- one Clean more
 pub turns_clean : (asks answers : List Bool) → turns_by (asks ++ false ∷ []) answers ≡ with_clean (turns_by asks answers)
-turns_clean asks answers = rw (dirties_push asks false, last_push false asks false) (ap (λ (m : ℕ). record { dirties = m; answers = length answers; asks = false; last = last_word said.Silent answers }) (omega arith))
+turns_clean asks answers = rw (dirties_push asks false, last_push false asks false) (ap (λ (m : ℕ). record { dirties = m; answers = length answers; asks = false; last = last_word said.Pending answers }) (omega arith))
 
 -- one answer more
 pub turns_answer : (asks answers : List Bool) (answer : Bool) → turns_by asks (answers ++ answer ∷ []) ≡ with_answer (word_of answer) (turns_by asks answers)
-turns_answer asks answers answer = rw (length_push answers answer, word_push said.Silent answers answer) refl
+turns_answer asks answers answer = rw (length_push answers answer, word_push said.Pending answers answer) refl
 
 -- ---- alternation
 
@@ -114,12 +114,12 @@ answer_in_turn asks answers answer pending turn =
     }
 
 -- a Clean of what is granted
-pub clean_in_turn : (asks answers : List Bool) → is_granted (turns_by asks answers) ≡ true → is_yes (last_word said.Silent answers) ≡ true → AskedInTurn asks answers → AskedInTurn (asks ++ false ∷ []) answers
+pub clean_in_turn : (asks answers : List Bool) → is_granted (turns_by asks answers) ≡ true → is_yes (last_word said.Pending answers) ≡ true → AskedInTurn asks answers → AskedInTurn (asks ++ false ∷ []) answers
 clean_in_turn asks answers granted granted_last turn =
     let answered = granted_answered (turns_by asks answers) granted in
     let count : length answers ≡ dirties_in asks = answered.1 in
     let cleans : dirties_in asks ≡ cleans_in asks + 1 = cleans_are asks turn.alternate ∙ ap (λ (b : Bool). cleans_in asks + cond b 1 0) answered.0 in
-    let all : AllByRecursion IsOk answers = all_yes said.Silent (cleans_in asks) answers turn.were_granted (omega (arith, count, cleans)) granted_last in
+    let all : AllByRecursion IsOk answers = all_yes said.Pending (cleans_in asks) answers turn.were_granted (omega (arith, count, cleans)) granted_last in
     let more = cleans_push asks false in
     record {
       alternate = alternate_push true asks false turn.alternate (sym (ap not answered.0));

@@ -76,11 +76,11 @@ granted_parts t granted =
 -- ---- in a run
 
 -- whoever is granted a reference is entered for it
-pub granted_entered : (n : ℕ) (J : List Entry) (c : ℕ) (rep : WireRep) → ActsInOrder n c rep.owner J → ActsInOrder n rep.owner c J → turns c n rep (deeds_at c J) ≡ turns_by (asked n c rep J) (heard c rep J) → length (gave n rep.owner c rep.index J) ≡ dirties_in (was_asked rep.owner c rep.index J) → is_granted (turns c n rep (deeds_at c J)) ≡ true → (last_or false (was_asked rep.owner c rep.index J) && is_yes (last_word said.Silent (gave n rep.owner c rep.index J))) ≡ true
+pub granted_entered : (n : ℕ) (J : List Entry) (c : ℕ) (rep : WireRep) → ActsInOrder n c rep.owner J → ActsInOrder n rep.owner c J → turns c n rep (deeds_at c J) ≡ turns_by (asked n c rep J) (heard c rep J) → length (gave n rep.owner c rep.index J) ≡ dirties_in (was_asked rep.owner c rep.index J) → is_granted (turns c n rep (deeds_at c J)) ≡ true → (last_or false (was_asked rep.owner c rep.index J) && is_yes (last_word said.Pending (gave n rep.owner c rep.index J))) ≡ true
 granted_entered n J c rep there back are each granted =
     let parts = granted_parts (turns_by (asked n c rep J) (heard c rep J)) (ap is_granted (sym are) ∙ granted) in
     let ends = granted_ends (asked n c rep J) (was_asked rep.owner c rep.index J) (heard c rep J) (gave n rep.owner c rep.index J) (asks_begin rep.index _ _ (items_begin n c rep.owner J there)) (answers_begin rep.index _ _ (items_begin n rep.owner c J back)) parts.1 each parts.0 in
-    and_from _ _ ends.0 (ap (λ bs. is_yes (last_word said.Silent bs)) ends.1 ∙ parts.2)
+    and_from _ _ ends.0 (ap (λ bs. is_yes (last_word said.Pending bs)) ends.1 ∙ parts.2)
 
 pub listings : ListingsLaw
 listings n limits J run typed = record {

@@ -53,7 +53,7 @@ asked_of c x D = asks_among x (items_among (acted c D))
 pub record AreAnswered (asks answers : List Bool) (exported withdrawn entered : Bool) : Type 0 where
   pub in_turn : AnsweredInTurn asks answers
   pub denied : has_no answers ≡ true → (exported ≡ true) × (withdrawn ≡ true)
-  pub enters : entered ≡ (last_or false asks && is_yes (last_word said.Silent answers))
+  pub enters : entered ≡ (last_or false asks && is_yes (last_word said.Pending answers))
 
 ok_push : (answers : List Bool) (answer : Bool) → OkFirst answers → (answer ≡ true → has_no answers ≡ false) → OkFirst (answers ++ answer ∷ [])
 ok_push [] true first none = tt
@@ -105,7 +105,7 @@ dirty_answered asks answers exported withdrawn entered alive known is are = reco
     ok_first = ok_push answers alive are.in_turn.ok_first (λ lives. never_denied exported withdrawn (has_no answers) are.denied (sym is ∙ lives));
   };
   denied = λ either. denied_more answers exported withdrawn alive known is are.denied (sym (any_push not answers alive) ∙ either);
-  enters = sym (ap (λ (b : Bool). b && is_yes (last_word said.Silent (answers ++ alive ∷ []))) (last_push false asks true) ∙ ap is_yes (word_push said.Silent answers alive) ∙ yes_of alive);
+  enters = sym (ap (λ (b : Bool). b && is_yes (last_word said.Pending (answers ++ alive ∷ []))) (last_push false asks true) ∙ ap is_yes (word_push said.Pending answers alive) ∙ yes_of alive);
 }
 
 -- a Clean isn't answered
@@ -113,7 +113,7 @@ clean_answered : (asks answers : List Bool) (exported withdrawn entered : Bool) 
 clean_answered asks answers exported withdrawn entered are = record {
   in_turn = record { each = are.in_turn.each ∙ sym (dirties_push asks false ∙ plus_none (dirties_in asks)); ok_first = are.in_turn.ok_first };
   denied = are.denied;
-  enters = sym (ap (λ (b : Bool). b && is_yes (last_word said.Silent answers)) (last_push false asks false));
+  enters = sym (ap (λ (b : Bool). b && is_yes (last_word said.Pending answers)) (last_push false asks false));
 }
   where
     plus_none : (m : ℕ) → m + 0 ≡ m

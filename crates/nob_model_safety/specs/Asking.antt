@@ -58,7 +58,7 @@ last_or before (ask ∷ asks) = last_or ask asks
 
 -- an answer as the word of an owner
 abbrev pub word_of : Bool → OwnerAnswer
-word_of answer = if answer then said.Yes else said.No
+word_of answer = if answer then said.Granted else said.Refused
 
 -- the last answer, or what stands before them where there are none
 abbrev pub last_word : OwnerAnswer → List Bool → OwnerAnswer
@@ -67,7 +67,7 @@ last_word before (answer ∷ answers) = last_word (word_of answer) answers
 
 -- the turns that these asks and answers are
 abbrev pub turns_by : (asks answers : List Bool) → Turns
-turns_by asks answers = record { dirties = dirties_in asks; answers = length answers; asks = last_or false asks; last = last_word said.Silent answers }
+turns_by asks answers = record { dirties = dirties_in asks; answers = length answers; asks = last_or false asks; last = last_word said.Pending answers }
 
 -- one after the other, from this one on
 abbrev pub Alternate : Bool → List Bool → Type 0

@@ -62,7 +62,7 @@ pub record Owners (n : ℕ) (J : List Entry) : Type 0 where
   -- a DirtyNo was of an object that was exported and isn't live any more
   pub denied : (o c x : ℕ) → has_no (gave n o c x J) ≡ true → (is_exported o x (deeds_at o J) ≡ true) × (is_live o x (deeds_at o J) ≡ false)
   -- a client is entered for an index exactly where it asked last by a Dirty and was answered last by DirtyOk
-  pub entered : (o c x : ℕ) → is_entered o x c (deeds_at o J) ≡ (last_or false (was_asked o c x J) && is_yes (last_word said.Silent (gave n o c x J)))
+  pub entered : (o c x : ℕ) → is_entered o x c (deeds_at o J) ≡ (last_or false (was_asked o c x J) && is_yes (last_word said.Pending (gave n o c x J)))
 
 -- all that is named in what a space sent was exported by its owner
 pub record Names (n : ℕ) (J : List Entry) : Type 0 where

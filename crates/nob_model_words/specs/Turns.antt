@@ -16,19 +16,19 @@ use Rattle.nob_model_words.specs.Sessions.{is_peer, closed, item_at}
 
 -- before anything was asked
 abbrev pub no_turns : Turns
-no_turns = record { dirties = 0; answers = 0; asks = false; last = said.Silent }
+no_turns = record { dirties = 0; answers = 0; asks = false; last = said.Pending }
 
 -- whether an owner's last answer was DirtyOk
 abbrev pub is_yes : OwnerAnswer → Bool
-is_yes said.Silent = false
-is_yes said.Yes = true
-is_yes said.No = false
+is_yes said.Pending = false
+is_yes said.Granted = true
+is_yes said.Refused = false
 
 -- whether it was DirtyNo
 abbrev pub is_no : OwnerAnswer → Bool
-is_no said.Silent = false
-is_no said.Yes = false
-is_no said.No = true
+is_no said.Pending = false
+is_no said.Granted = false
+is_no said.Refused = true
 
 -- granted: the last of Dirty and Clean is a Dirty, each Dirty is answered, and the last answer is DirtyOk
 abbrev pub is_granted : Turns → Bool
@@ -77,8 +77,8 @@ turns_after s n p rep (Some (items.Call call target method value)) D before = if
 turns_after s n p rep (Some (items.Reply call status value)) D before = if carries rep (items.Reply call status value) && wants_dirty s n rep D before then with_dirty before else before
 turns_after s n p rep (Some (items.Settle item)) D before = before
 turns_after s n p rep (Some (items.Dirty index)) D before = before
-turns_after s n p rep (Some (items.DirtyOk index)) D before = if names rep p index then with_answer said.Yes before else before
-turns_after s n p rep (Some (items.DirtyNo index)) D before = if names rep p index then with_answer said.No before else before
+turns_after s n p rep (Some (items.DirtyOk index)) D before = if names rep p index then with_answer said.Granted before else before
+turns_after s n p rep (Some (items.DirtyNo index)) D before = if names rep p index then with_answer said.Refused before else before
 turns_after s n p rep (Some (items.Clean index)) D before = before
 
 -- the turns of space s, among n, for a reference

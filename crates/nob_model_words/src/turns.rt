@@ -16,11 +16,11 @@ use std::alloc::{AllocError, Global};
 #[derive(Clone, Copy, Debug, PartialEq, Eq)]
 pub enum OwnerAnswer {
     /// There is none yet.
-    Silent,
+    Pending,
     /// DirtyOk.
-    Yes,
+    Granted,
     /// DirtyNo.
-    No,
+    Refused,
 }
 
 /// What was asked of a reference's owner and answered.
@@ -45,7 +45,7 @@ impl Turns {
             dirties: 0,
             answers: 0,
             asks: false,
-            last: OwnerAnswer::Silent,
+            last: OwnerAnswer::Pending,
         }
     }
 
@@ -92,14 +92,14 @@ impl Turns {
     pub fn is_granted(self) -> bool
         ensures { result ≡ words.is_granted self }
     {
-        self.asks && self.answers == self.dirties && matches!(self.last, OwnerAnswer::Yes)
+        self.asks && self.answers == self.dirties && matches!(self.last, OwnerAnswer::Granted)
     }
 
     /// Refused: the same with DirtyNo.
     pub fn is_refused(self) -> bool
         ensures { result ≡ words.is_refused self }
     {
-        self.asks && self.answers == self.dirties && matches!(self.last, OwnerAnswer::No)
+        self.asks && self.answers == self.dirties && matches!(self.last, OwnerAnswer::Refused)
     }
 
     /// Pending: the last of Dirty and Clean is a Dirty, and one Dirty waits for its answer.
@@ -157,13 +157,13 @@ fn after_item(
         }
         Item::DirtyOk(index) => {
             if rep.owner == peer && rep.index == *index {
-                return Ok(before.with_answer(OwnerAnswer::Yes));
+                return Ok(before.with_answer(OwnerAnswer::Granted));
             }
             Ok(before)
         }
         Item::DirtyNo(index) => {
             if rep.owner == peer && rep.index == *index {
-                return Ok(before.with_answer(OwnerAnswer::No));
+                return Ok(before.with_answer(OwnerAnswer::Refused));
             }
             Ok(before)
         }

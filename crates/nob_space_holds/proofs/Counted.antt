@@ -5,7 +5,7 @@ use Rattle.std.proofs.lemmas.List.Elements.{filter-append}
 use Rattle.nob_ids.specs.Names.{is_same}
 use Rattle.nob_ids.specs.declared.wire_rep.WireRep.{WireRep}
 use Rattle.nob_table_rows.specs.declared.counts.Counts.{Counts}
-use Rattle.nob_table_rows.specs.declared.standing.Grant.TheVariants.{Waits, Given, Denied}
+use Rattle.nob_table_rows.specs.declared.standing.Grant.TheVariants as grants
 use Rattle.nob_table_rows.specs.declared.standing.Surrogate.{Surrogate}
 use Rattle.nob_table_rows.specs.Counts as table_counts
 use Rattle.nob_table_rows.specs.Standings.{is_known, own_standing, far_standing, state_of}
@@ -20,7 +20,7 @@ held_known true true None surrogate counts held = absurd (cc)
 held_known true false None surrogate counts held = absurd (cc)
 held_known false given row surrogate None held = absurd (cc)
 held_known false given row None (Some c) held = refl
-held_known false given row (Some g) (Some c) held = elim g.grant as (λ k. is_known (state_of k) ≡ true) [ Waits ↦ refl | Given ↦ refl | Denied ↦ refl ]
+held_known false given row (Some g) (Some c) held = elim g.grant as (λ k. is_known (state_of k) ≡ true) [ grants.Pending ↦ refl | grants.Granted ↦ refl | grants.Refused ↦ refl ]
 
 -- one more of a list
 pub times_more : (rep other : WireRep) (reps : List WireRep) → times other (rep ∷ reps) ≡ (if is_same rep other then times other reps + 1 else times other reps)

@@ -13,7 +13,7 @@ use Rattle.nob_table_rows.specs.declared.counts.Counts.{Counts}
 use Rattle.nob_table_rows.specs.declared.standing.State.TheVariants as states
 use Rattle.nob_table_rows.specs.declared.standing.Standing.{Standing}
 use Rattle.nob_table_rows.specs.declared.standing.Surrogate.{Surrogate}
-use Rattle.nob_table_rows.specs.declared.standing.Grant.TheVariants.{Waits, Given, Denied}
+use Rattle.nob_table_rows.specs.declared.standing.Grant.TheVariants as grants
 use Rattle.nob_table_rows.specs.Counts.{is_held, no_counts}
 use Rattle.nob_table_rows.specs.Rows.{row_at}
 use Rattle.nob_table_rows.specs.Standings as standings
@@ -50,7 +50,7 @@ unknown_free true true None surrogate counts unknown = refl
 unknown_free true false None surrogate counts unknown = refl
 unknown_free false given row surrogate None unknown = refl
 unknown_free false given row None (Some c) unknown = absurd (cc)
-unknown_free false given row (Some g) (Some c) unknown = absurd (elim g.grant as (λ k. is_unknown (standings.state_of k) ≡ true → ⊥) [ Waits ↦ λ e. absurd (cc) | Given ↦ λ e. absurd (cc) | Denied ↦ λ e. absurd (cc) ] unknown)
+unknown_free false given row (Some g) (Some c) unknown = absurd (elim g.grant as (λ k. is_unknown (standings.state_of k) ≡ true → ⊥) [ grants.Pending ↦ λ e. absurd (cc) | grants.Granted ↦ λ e. absurd (cc) | grants.Refused ↦ λ e. absurd (cc) ] unknown)
 
 unknown_counts : (t : Table) (rep : WireRep) → is_unknown (standing t rep).state ≡ true → (standing t rep).counts ≡ no_counts
 unknown_counts t rep unknown = unknown_free (rep.owner == t.me) (was_given t.exported rep.index) (row_at t.objects rep) (row_at t.surrogates rep) (row_at t.counted rep) unknown

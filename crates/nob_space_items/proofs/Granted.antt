@@ -70,8 +70,8 @@ lent_stays s n D m all = ap (λ (copies : List RefCopy). record { from = m.from;
 module _ {s n p k : ℕ} {D : List Deed} (index : ℕ) (front : IsFront s n p k (items.DirtyOk index) D) (there : item_at p k D ≡ Some (items.DirtyOk index)) where
   -- the reference is granted, and every other stays what it was
   granted_is : (rep : WireRep) → is_granted (turns s n rep (Act p k ∷ D)) ≡ (if is_same (own_ref p index) rep then true else is_granted (turns s n rep D))
-  granted_is rep = ap is_granted (turned true index front there rep) ∙ elim (is_same (own_ref p index) rep) as (λ b. is_same (own_ref p index) rep ≡ b → is_granted (if b then with_answer said.Yes (turns s n rep D) else turns s n rep D) ≡ (if b then true else is_granted (turns s n rep D))) [
-    | true ↦ λ same. (after_answer said.Yes (turns s n rep D) (subst (λ (w : WireRep). is_pending (turns s n w D) ≡ true) (same_ref (own_ref p index) rep same) (awaited true index front))).1
+  granted_is rep = ap is_granted (turned true index front there rep) ∙ elim (is_same (own_ref p index) rep) as (λ b. is_same (own_ref p index) rep ≡ b → is_granted (if b then with_answer said.Granted (turns s n rep D) else turns s n rep D) ≡ (if b then true else is_granted (turns s n rep D))) [
+    | true ↦ λ same. (after_answer said.Granted (turns s n rep D) (subst (λ (w : WireRep). is_pending (turns s n w D) ≡ true) (same_ref (own_ref p index) rep same) (awaited true index front))).1
     | false ↦ λ _. refl
   ] refl
 

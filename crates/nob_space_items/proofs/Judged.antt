@@ -40,7 +40,7 @@ use Rattle.nob_model_acting.specs.Acting.{fault_of, fault_if, first_fault, is_un
 use Rattle.nob_model_acting.specs.Acting as model
 use Rattle.nob_model.specs.Right.{own_ref}
 use Rattle.nob_model_acting.specs.Sending.{is_own_and_not_live}
-use Rattle.nob_space_state.specs.Looks.{names_none}
+use Rattle.nob_space_state.specs.Looks.{is_gone}
 use Rattle.nob_space_state.specs.Parts.{State}
 use Rattle.nob_space_holds.specs.Shows.{far_state}
 use Rattle.nob_space_state.specs.Stands.{Stands, bundle}
@@ -100,8 +100,8 @@ unasked_after s n p rep uncounted (Some (items.Call call target method value)) D
 unasked_after s n p rep uncounted (Some (items.Reply call status value)) D idle = not_carried (carries rep (items.Reply call status value)) (wants_dirty s n rep D (turns s n rep D)) (turns s n rep D) (uncounted_apart rep uncounted (refs_in value)) idle
 unasked_after s n p rep uncounted (Some (items.Settle item)) D idle = idle
 unasked_after s n p rep uncounted (Some (items.Dirty index)) D idle = idle
-unasked_after s n p rep uncounted (Some (items.DirtyOk index)) D idle = elim (names rep p index) as (λ b. (if b then with_answer said.Yes (turns s n rep D) else turns s n rep D).asks ≡ false) [ true ↦ idle | false ↦ idle ]
-unasked_after s n p rep uncounted (Some (items.DirtyNo index)) D idle = elim (names rep p index) as (λ b. (if b then with_answer said.No (turns s n rep D) else turns s n rep D).asks ≡ false) [ true ↦ idle | false ↦ idle ]
+unasked_after s n p rep uncounted (Some (items.DirtyOk index)) D idle = elim (names rep p index) as (λ b. (if b then with_answer said.Granted (turns s n rep D) else turns s n rep D).asks ≡ false) [ true ↦ idle | false ↦ idle ]
+unasked_after s n p rep uncounted (Some (items.DirtyNo index)) D idle = elim (names rep p index) as (λ b. (if b then with_answer said.Refused (turns s n rep D) else turns s n rep D).asks ≡ false) [ true ↦ idle | false ↦ idle ]
 unasked_after s n p rep uncounted (Some (items.Clean index)) D idle = idle
 
 -- nothing is asked of the owner of a reference that isn't counted
@@ -158,16 +158,16 @@ pending_there held t = elim (is_pending t) as (λ b. standings.is_pending (if b 
 
 module _ {s n : ℕ} {limits : Limits} {st : State} {D : List Deed} (stands : Stands s n limits st D) where
   -- an own index is live where the table has it so
-  gone_index : (index : ℕ) → names_none s st.table (own_ref s index) ≡ (not (index == 0) && not (objects.is_live s index D))
+  gone_index : (index : ℕ) → is_gone s st.table (own_ref s index) ≡ (not (index == 0) && not (objects.is_live s index D))
   gone_index index =
       ap (λ b. not (index == 0) && (b && not (standings.is_live (standing st.table (own_ref s index)).state))) (nat_eq_equiv.refl s)
       ∙ ap (λ b. not (index == 0) && not b) (stands.table.live index)
 
-  carried_there : (reps : List WireRep) → list_any (names_none s st.table) (filter is_counted reps) ≡ list_any (λ rep. is_own_and_not_live s rep (history_of s n D)) (filter is_counted reps)
+  carried_there : (reps : List WireRep) → list_any (is_gone s st.table) (filter is_counted reps) ≡ list_any (λ rep. is_own_and_not_live s rep (history_of s n D)) (filter is_counted reps)
   carried_there [] = refl
-  carried_there (rep ∷ reps) = elim (is_counted rep) as (λ b. is_counted rep ≡ b → list_any (names_none s st.table) (cond b (rep ∷ filter is_counted reps) (filter is_counted reps)) ≡ list_any (λ w. is_own_and_not_live s w (history_of s n D)) (cond b (rep ∷ filter is_counted reps) (filter is_counted reps))) [
+  carried_there (rep ∷ reps) = elim (is_counted rep) as (λ b. is_counted rep ≡ b → list_any (is_gone s st.table) (cond b (rep ∷ filter is_counted reps) (filter is_counted reps)) ≡ list_any (λ w. is_own_and_not_live s w (history_of s n D)) (cond b (rep ∷ filter is_counted reps) (filter is_counted reps))) [
     | true ↦ λ counted.
-        let here : names_none s st.table rep ≡ is_own_and_not_live s rep (history_of s n D) = gone_there stands rep ∙ ap (λ b. b && is_own_and_not_live s rep (history_of s n D)) counted in
+        let here : is_gone s st.table rep ≡ is_own_and_not_live s rep (history_of s n D) = gone_there stands rep ∙ ap (λ b. b && is_own_and_not_live s rep (history_of s n D)) counted in
         λ i. here i || carried_there reps i
     | false ↦ λ _. carried_there reps
   ] refl

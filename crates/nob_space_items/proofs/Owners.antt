@@ -53,9 +53,9 @@ use Rattle.nob_space_items.proofs.Taken.{act_is, front_is, ends_taken, note_dirt
 
 -- the state of a reference that its owner answered so
 abbrev pub answered_state : OwnerAnswer → TableState
-answered_state said.Silent = states.Pending
-answered_state said.Yes = states.Granted
-answered_state said.No = states.Refused
+answered_state said.Pending = states.Pending
+answered_state said.Granted = states.Granted
+answered_state said.Refused = states.Refused
 
 -- the note that answers so
 abbrev pub answer_note : Bool → ℕ → Item
@@ -64,8 +64,8 @@ answer_note false index = items.DirtyNo index
 
 -- what a note that answers so says
 abbrev pub said_by : Bool → OwnerAnswer
-said_by true = said.Yes
-said_by false = said.No
+said_by true = said.Granted
+said_by false = said.Refused
 
 -- a reference is named where it is the one to the object of an index of p
 names_same : (p index : ℕ) (rep : WireRep) → names rep p index ≡ is_same (own_ref p index) rep
@@ -97,8 +97,8 @@ module _ {s n p k : ℕ} {D : List Deed} (granted : Bool) (index : ℕ) (front :
 
 -- how a reference stands that was answered
 answered_far : (granted held : Bool) (t : Turns) → is_pending t ≡ true → answered_state (said_by granted) ≡ far_state false held (with_answer (said_by granted) t)
-answered_far true held t pending = let stands = after_answer said.Yes t pending in rw (stands.0, stands.1) refl
-answered_far false held t pending = let stands = after_answer said.No t pending in rw (stands.0, stands.1, stands.2) refl
+answered_far true held t pending = let stands = after_answer said.Granted t pending in rw (stands.0, stands.1) refl
+answered_far false held t pending = let stands = after_answer said.Refused t pending in rw (stands.0, stands.1, stands.2) refl
 
 -- a pending reference is a surrogate that isn't live, and so is one that was answered
 pending_is : (state : TableState) → standings.is_pending state ≡ true → (standings.is_live state ≡ false) × (standings.is_surrogate state ≡ true)
@@ -190,12 +190,12 @@ module _ {s n p k : ℕ} {limits : Limits} {st : State} {D : List Deed} (stands 
 -- ---- a refusal
 
 -- what was pending is granted neither before nor after a refusal
-still_unusable : (t : Turns) → is_pending t ≡ true → is_granted (with_answer said.No t) ≡ is_granted t
-still_unusable t pending = (after_answer said.No t pending).1 ∙ sym ((turning.waiting_stands t (turning.pending_waits t pending)).1)
+still_unusable : (t : Turns) → is_pending t ≡ true → is_granted (with_answer said.Refused t) ≡ is_granted t
+still_unusable t pending = (after_answer said.Refused t pending).1 ∙ sym ((turning.waiting_stands t (turning.pending_waits t pending)).1)
 
 module _ {s n p k : ℕ} {D : List Deed} (index : ℕ) (front : IsFront s n p k (items.DirtyNo index) D) (there : item_at p k D ≡ Some (items.DirtyNo index)) where
   granted_same : (rep : WireRep) → is_granted (turns s n rep (Act p k ∷ D)) ≡ is_granted (turns s n rep D)
-  granted_same rep = ap is_granted (turned false index front there rep) ∙ elim (is_same (own_ref p index) rep) as (λ b. is_same (own_ref p index) rep ≡ b → is_granted (if b then with_answer said.No (turns s n rep D) else turns s n rep D) ≡ is_granted (turns s n rep D)) [
+  granted_same rep = ap is_granted (turned false index front there rep) ∙ elim (is_same (own_ref p index) rep) as (λ b. is_same (own_ref p index) rep ≡ b → is_granted (if b then with_answer said.Refused (turns s n rep D) else turns s n rep D) ≡ is_granted (turns s n rep D)) [
     | true ↦ λ same. still_unusable (turns s n rep D) (subst (λ (w : WireRep). is_pending (turns s n w D) ≡ true) (turning.same_ref (own_ref p index) rep same) (awaited false index front))
     | false ↦ λ _. refl
   ] refl

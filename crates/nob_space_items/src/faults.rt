@@ -5,7 +5,7 @@ ghost use Rattle.std.specs.List.{list_any};
 ghost use Rattle.nob_item.specs.Spelling.{Fits};
 ghost use Rattle.nob_model_acting.specs.Acting as words;
 ghost use Rattle.nob_model.specs.Right.{own_ref};
-ghost use Rattle.nob_space_state.specs.Looks.{names_none};
+ghost use Rattle.nob_space_state.specs.Looks.{is_gone};
 ghost use Rattle.nob_space_state.specs.Parts.{state_of};
 ghost use Rattle.nob_space_items.specs.Judging.{carries_none, was_never_given, awaits_answer, item_fault};
 
@@ -79,7 +79,7 @@ fn fault_if(test: bool, reason: Reason) -> Option<Reason>
 fn fault_of_call(parts: &Parts, me: SpaceId, target: u64, item: &Item) -> Option<Reason>
     requires { Fits item.now }
     ensures { result ≡ words.first_fault
-        (words.fault_if (names_none me parts.now.table (own_ref me target)) Reason.BadReference)
+        (words.fault_if (is_gone me parts.now.table (own_ref me target)) Reason.BadReference)
         (words.fault_if (carries_none me (state_of parts.now) item.now) Reason.BadReference) }
 {
     let rep = WireRep {

@@ -54,9 +54,9 @@ granted_kept : (t : Turns) → is_granted t ≡ true → is_refused t ≡ false
 granted_kept t granted = and_right (t.asks && t.answers == t.dirties) (is_no t.last) (one_answer t.last (and_parts _ _ granted).1)
   where
     one_answer : (last : OwnerAnswer) → is_yes last ≡ true → is_no last ≡ false
-    one_answer said.Silent e = refl
-    one_answer said.Yes e = refl
-    one_answer said.No e = let bad : false ≡ true = e in absurd (cc)
+    one_answer said.Pending e = refl
+    one_answer said.Granted e = refl
+    one_answer said.Refused e = let bad : false ≡ true = e in absurd (cc)
 
 -- refused in the table is refused, while the session is open
 pub denied_far : (held : Bool) (t : Turns) → is_denied (far_state false held t) ≡ is_refused t

@@ -54,7 +54,7 @@ use Rattle.nob_model_history.specs.Holds.{hand, is_held, times, lent_in}
 use Rattle.nob_model.specs.Right.{right_call, is_last_call, calls_made, last_number, most_calls}
 use Rattle.nob_model_acting.specs.Sending.{◌or_else◌, refuse_if, unless, is_own_and_not_live, is_faulty, ref_refused, refs_refused, value_refused, send_refused, refusal_in}
 use Rattle.nob_space_state.specs.Parts.{State}
-use Rattle.nob_space_state.specs.Looks.{end_with, has_closed, has_holds, names_none}
+use Rattle.nob_space_state.specs.Looks.{end_with, has_closed, has_holds, is_gone}
 use Rattle.nob_space_holds.specs.Pins.{AddsPins}
 use Rattle.nob_space_state.specs.Sending.{ref_refusal, refs_refusal, value_refusal, next_refusal, send_refusal, has_last_call, call_refusal}
 use Rattle.nob_model.specs.Lists.{IsRightDeed}
@@ -108,7 +108,7 @@ module _ {s n : ℕ} {limits : Limits} {st : State} {D : List Deed} (stands : St
   ref_there : (rep : WireRep) → is_counted rep ≡ true → ref_refused s (history_of s n D) rep ≡ ref_refusal s st rep
   unfolding ref_refusal
   ref_there rep counted =
-      let gone : is_own_and_not_live s rep (history_of s n D) ≡ names_none s st.table rep = ap (λ b. b && is_own_and_not_live s rep (history_of s n D)) (sym counted) ∙ sym (gone_there stands rep) in
+      let gone : is_own_and_not_live s rep (history_of s n D) ≡ is_gone s st.table rep = ap (λ b. b && is_own_and_not_live s rep (history_of s n D)) (sym counted) ∙ sym (gone_there stands rep) in
       let held : is_held s rep (history_of s n D) ≡ has_holds st.table rep = sym (held_there stands rep counted) in
       let cut : closed rep.owner D ≡ has_closed st.sessions rep.owner = sym (closed_there stands rep.owner) in
       λ i. refuse_if (gone i) refusals.NoObject or_else refuse_if (not (held i)) refusals.NotHeld or_else refuse_if (not (rep.owner == s) && cut i) refusals.Closed

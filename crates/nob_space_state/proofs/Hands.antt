@@ -7,7 +7,7 @@ use Rattle.nob_ids.specs.declared.limits.Limits.{Limits}
 use Rattle.nob_ids.specs.declared.wire_rep.WireRep.{WireRep}
 use Rattle.nob_table_rows.specs.declared.counts.Counts.{Counts}
 use Rattle.nob_table_rows.specs.declared.counts.Part.TheVariants.{Hand}
-use Rattle.nob_table_rows.specs.declared.standing.Grant.TheVariants.{Waits, Given, Denied}
+use Rattle.nob_table_rows.specs.declared.standing.Grant.TheVariants as grants
 use Rattle.nob_table_rows.specs.declared.standing.Surrogate.{Surrogate}
 use Rattle.nob_table_rows.specs.Counts as table_counts
 use Rattle.nob_table_rows.specs.Rows.{row_at}
@@ -24,7 +24,7 @@ use Rattle.nob_model_history.specs.Holds.{hand, times, gains, releases, lent_in}
 use Rattle.nob_model.specs.Right.{right_dup, right_release, most_in_hand}
 use Rattle.nob_model_acting.specs.Sending.{◌or_else◌, refuse_if, unless}
 use Rattle.nob_space_state.specs.Judging.{dup_refusal, release_refusal}
-use Rattle.nob_space_state.specs.Looks.{has_holds, names_none, is_cut}
+use Rattle.nob_space_state.specs.Looks.{has_holds, is_gone, is_cut}
 use Rattle.nob_space_holds.specs.Holds.{one_more, one_fewer}
 use Rattle.nob_space_state.specs.Parts.{State, with_table}
 use Rattle.nob_space_holds.specs.Shows.{TableShows}
@@ -72,7 +72,7 @@ release_passes false false false e = refl
 pub dup_finds_room : (s : ℕ) (st : State) (rep : WireRep) → dup_refusal s st rep ≡ None → hold_fault st.table rep Hand ≡ None
 unfolding dup_refusal
 dup_finds_room s st rep free =
-    let passes : (has_holds st.table rep ≡ true) × (nat_le most_in_hand (standing st.table rep).counts.hand ≡ false) = dup_passes (names_none s st.table rep) (rep.index == 0) (has_holds st.table rep) (is_cut s st.sessions rep) (nat_le most_in_hand (standing st.table rep).counts.hand) free in
+    let passes : (has_holds st.table rep ≡ true) × (nat_le most_in_hand (standing st.table rep).counts.hand ≡ false) = dup_passes (is_gone s st.table rep) (rep.index == 0) (has_holds st.table rep) (is_cut s st.sessions rep) (nat_le most_in_hand (standing st.table rep).counts.hand) free in
     let known : is_known (standing st.table rep).state ≡ true = held_known (rep.owner == st.table.me) (was_given st.table.exported rep.index) (row_at st.table.objects rep) (row_at st.table.surrogates rep) (row_at st.table.counted rep) passes.0 in
     let room : (standing st.table rep).counts.hand == 4294967295 ≡ false = grind (arith, nat_tests, passes.1) in
     rw (known, room) refl
@@ -81,7 +81,7 @@ dup_finds_room s st rep free =
 pub release_finds_hold : (s : ℕ) (st : State) (rep : WireRep) → release_refusal s st rep ≡ None → release_fault st.table rep Hand ≡ None
 unfolding release_refusal
 release_finds_hold s st rep free =
-    let some : (standing st.table rep).counts.hand == 0 ≡ false = release_passes (names_none s st.table rep) (rep.index == 0) ((standing st.table rep).counts.hand == 0) free in
+    let some : (standing st.table rep).counts.hand == 0 ≡ false = release_passes (is_gone s st.table rep) (rep.index == 0) ((standing st.table rep).counts.hand == 0) free in
     let held : has_holds st.table rep ≡ true = rw some refl in
     let known : is_known (standing st.table rep).state ≡ true = held_known (rep.owner == st.table.me) (was_given st.table.exported rep.index) (row_at st.table.objects rep) (row_at st.table.surrogates rep) (row_at st.table.counted rep) held in
     rw (known, some) refl
@@ -94,7 +94,7 @@ module _ {s n : ℕ} {limits : Limits} {st : State} {D : List Deed} (stands : St
     | true ↦ λ agent. rw (agent) refl
     | false ↦ λ counted.
         rw (sym (held_there stands rep (rw counted refl)), sym (gone_there stands rep), sym (closed_there stands rep.owner), sym (stands.table.hands rep (rw counted refl)))
-        (dup_chain (names_none s st.table rep) (rep.index == 0) (has_holds st.table rep) (is_cut s st.sessions rep) (nat_le most_in_hand (standing st.table rep).counts.hand))
+        (dup_chain (is_gone s st.table rep) (rep.index == 0) (has_holds st.table rep) (is_cut s st.sessions rep) (nat_le most_in_hand (standing st.table rep).counts.hand))
   ] refl
 
   -- what is right for a Release is what the state tells
@@ -104,7 +104,7 @@ module _ {s n : ℕ} {limits : Limits} {st : State} {D : List Deed} (stands : St
     | true ↦ λ agent. rw (agent) refl
     | false ↦ λ counted.
         rw (sym (gone_there stands rep), sym (stands.table.hands rep (rw counted refl)))
-        (release_chain (names_none s st.table rep) (rep.index == 0) ((standing st.table rep).counts.hand == 0))
+        (release_chain (is_gone s st.table rep) (rep.index == 0) ((standing st.table rep).counts.hand == 0))
   ] refl
 
 -- no more is released where one more came into the hand

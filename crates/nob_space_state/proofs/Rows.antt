@@ -6,7 +6,7 @@ use Rattle.std.specs.List.{IsDistinct, AllByRecursion, list_any, filter}
 use Rattle.nob_ids.specs.Names.{is_same, is_counted}
 use Rattle.nob_ids.specs.declared.wire_rep.WireRep.{WireRep}
 use Rattle.nob_table_rows.specs.declared.counts.Counts.{Counts}
-use Rattle.nob_table_rows.specs.declared.standing.Grant.TheVariants.{Waits, Given, Denied}
+use Rattle.nob_table_rows.specs.declared.standing.Grant.TheVariants as grants
 use Rattle.nob_table_rows.specs.declared.standing.Standing.{Standing}
 use Rattle.nob_table_rows.specs.declared.standing.Surrogate.{Surrogate}
 use Rattle.nob_table_rows.specs.Counts.{no_counts}
@@ -38,7 +38,7 @@ own_there t rep own = rw own (own_standing_is (was_given t.exported rep.index) (
 far_not_live : (surrogate : Option Surrogate) (row : Option Counts) → is_live (far_standing surrogate row).state ≡ false
 far_not_live surrogate None = refl
 far_not_live None (Some c) = refl
-far_not_live (Some g) (Some c) = elim g.grant as (λ k. is_live (state_of k) ≡ false) [ Waits ↦ refl | Given ↦ refl | Denied ↦ refl ]
+far_not_live (Some g) (Some c) = elim g.grant as (λ k. is_live (state_of k) ≡ false) [ grants.Pending ↦ refl | grants.Granted ↦ refl | grants.Refused ↦ refl ]
 
 -- a filter keeps keys apart
 none_filtered : {K : Type 0} (eq : K → K → Bool) (p : K → Bool) (x : K) (xs : List K) → AllByRecursion (λ y. eq x y ≡ false) xs → AllByRecursion (λ y. eq x y ≡ false) (filter p xs)

@@ -16,7 +16,7 @@ use Rattle.nob_model_words.specs.Sessions.{is_peer, closed}
 use Rattle.nob_model_history.specs.Histories.{history_of}
 use Rattle.nob_model_history.specs.Ends.{calls_at}
 use Rattle.nob_model_history.specs.Holds.{is_held, hand, times, gains, releases, lent_in}
-use Rattle.nob_model.specs.Right.{own_ref, is_not_live}
+use Rattle.nob_model.specs.Right.{own_ref, is_gone}
 use Rattle.nob_space_state.specs.Parts.{State}
 use Rattle.nob_space_state.specs.Looks.{is_closed_end, has_closed}
 use Rattle.nob_space_state.proofs.Orderly.{orderly}
@@ -76,7 +76,7 @@ module _ {s n : ℕ} {limits : Limits} {st : State} {D : List Deed} (stands : St
       rw (in_hand, on_loan) (counts_held (times rep (gains D)) (times rep (lent_in s (history_of s n D).work)) (times rep (releases D)) ((orderly stands).released rep counted))
 
   -- an own reference is live where the table has it so
-  pub gone_there : (rep : WireRep) → not (rep.index == 0) && ((rep.owner == s) && not (standings.is_live (standing st.table rep).state)) ≡ is_not_live s rep (history_of s n D)
+  pub gone_there : (rep : WireRep) → not (rep.index == 0) && ((rep.owner == s) && not (standings.is_live (standing st.table rep).state)) ≡ is_gone s rep (history_of s n D)
   gone_there rep =
       elim (rep.owner == s) as (λ b. rep.owner == s ≡ b → not (rep.index == 0) && (b && not (standings.is_live (standing st.table rep).state)) ≡ not (rep.index == 0) && (b && not (objects.is_live s rep.index D))) [
         | true ↦ λ own.

@@ -8,12 +8,12 @@ use Rattle.nob_model_types.specs.declared.refusal.Use.TheVariants as uses
 use Rattle.nob_model.specs.Right.{most_in_hand, most_objects, last_number, own_ref}
 use Rattle.nob_pins.specs.Bundles.{count_of}
 use Rattle.nob_space_state.specs.Parts.{State}
-use Rattle.nob_space_state.specs.Looks.{has_holds, names_none, is_cut, has_clients}
+use Rattle.nob_space_state.specs.Looks.{has_holds, is_gone, is_cut, has_clients}
 
 -- why a Dup is refused
 unfoldable pub dup_refusal : ℕ → State → WireRep → Option Refusal
 dup_refusal s st rep =
-    if names_none s st.table rep then Some refusals.NoObject
+    if is_gone s st.table rep then Some refusals.NoObject
     else if rep.index == 0 then Some refusals.NotHeld
     else if not (has_holds st.table rep) then Some refusals.NotHeld
     else if is_cut s st.sessions rep then Some refusals.Closed
@@ -23,7 +23,7 @@ dup_refusal s st rep =
 -- why a Release is refused
 unfoldable pub release_refusal : ℕ → State → WireRep → Option Refusal
 release_refusal s st rep =
-    if names_none s st.table rep then Some refusals.NoObject
+    if is_gone s st.table rep then Some refusals.NoObject
     else if rep.index == 0 then Some refusals.NotHeld
     else if (standing st.table rep).counts.hand == 0 then Some refusals.NotHeld
     else None
@@ -36,7 +36,7 @@ export_refusal st = if nat_le most_objects (live st.table) || nat_le last_number
 unfoldable pub withdraw_refusal : ℕ → State → ℕ → Option Refusal
 withdraw_refusal s st index =
     if index == 0 then Some (refusals.StillUsed uses.Agent)
-    else if names_none s st.table (own_ref s index) then Some refusals.NoObject
+    else if is_gone s st.table (own_ref s index) then Some refusals.NoObject
     else if has_holds st.table (own_ref s index) then Some (refusals.StillUsed uses.Held)
     else if not (count_of st.pins.bundles (own_ref s index) == 0) then Some (refusals.StillUsed uses.InTransit)
     else if has_clients st.dirty index then Some (refusals.StillUsed uses.Listed)

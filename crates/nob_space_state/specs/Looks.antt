@@ -27,8 +27,8 @@ abbrev pub has_holds : Table → WireRep → Bool
 has_holds t rep = counts.is_held (standing t rep).counts
 
 -- whether a reference names an object of the table's space, not the agent, that isn't live
-abbrev pub names_none : ℕ → Table → WireRep → Bool
-names_none s t rep = not (rep.index == 0) && (rep.owner == s && not (is_live (standing t rep).state))
+abbrev pub is_gone : ℕ → Table → WireRep → Bool
+is_gone s t rep = not (rep.index == 0) && (rep.owner == s && not (is_live (standing t rep).state))
 
 -- whether a reference is another space's, and the end with that has closed
 abbrev pub is_cut : ℕ → List Roomy → WireRep → Bool

@@ -23,11 +23,11 @@ use Rattle.nob_model_acting.specs.Sending.{◌or_else◌, refuse_if, is_faulty, 
 use Rattle.nob_space_state.specs.declared.finish.ReplyFate.{ReplyFate}
 use Rattle.nob_space_state.specs.declared.finish.ReplyFate.TheVariants as fates
 use Rattle.nob_space_state.specs.Parts.{State}
-use Rattle.nob_space_state.specs.Looks.{end_with, has_closed, has_holds, names_none, is_cut}
+use Rattle.nob_space_state.specs.Looks.{end_with, has_closed, has_holds, is_gone, is_cut}
 
 -- why a counted reference may not be sent: own and not live, then without holds, then not own and the end with the owner closed
 unfoldable pub ref_refusal : ℕ → State → WireRep → Option Refusal
-ref_refusal s st rep = refuse_if (names_none s st.table rep) refusals.NoObject or_else refuse_if (not (has_holds st.table rep)) refusals.NotHeld or_else refuse_if (is_cut s st.sessions rep) refusals.Closed
+ref_refusal s st rep = refuse_if (is_gone s st.table rep) refusals.NoObject or_else refuse_if (not (has_holds st.table rep)) refusals.NotHeld or_else refuse_if (is_cut s st.sessions rep) refusals.Closed
 
 -- the first refusal of some references
 abbrev pub refs_refusal : ℕ → State → List WireRep → Option Refusal

@@ -8,7 +8,7 @@ ghost use Rattle.nob_space_state.specs.Parts.{state_of};
 ghost use Rattle.nob_space_state.specs.Stands.{Stands};
 ghost use Rattle.nob_table_rows.specs.Standings as standings;
 ghost use Rattle.nob_table.specs.Table.{standing};
-ghost use Rattle.nob_space_state.specs.Looks.{has_closed, has_holds, names_none, is_cut, has_clients};
+ghost use Rattle.nob_space_state.specs.Looks.{has_closed, has_holds, is_gone, is_cut, has_clients};
 ghost use Rattle.nob_pins.specs.Bundles.{count_of};
 
 use crate::parts::Parts;
@@ -47,7 +47,7 @@ impl Parts {
     /// Whether a reference names an object of this space, not the agent, that isn't live. Constant
     /// time on average.
     pub fn is_gone(&self, me: SpaceId, rep: &WireRep) -> bool
-        ensures { result ≡ names_none me self.now.table rep.now }
+        ensures { result ≡ is_gone me self.now.table rep.now }
     {
         let standing = self.table.state(*rep);
         let live = is_live(standing.state);

@@ -6,7 +6,7 @@ use Rattle.std.specs.Option.{option_map}
 use Rattle.nob_ids.specs.declared.wire_rep.WireRep.{WireRep}
 use Rattle.nob_table_rows.specs.declared.counts.Counts.{Counts}
 use Rattle.nob_table_rows.specs.declared.standing.Grant.{Grant}
-use Rattle.nob_table_rows.specs.declared.standing.Grant.TheVariants.{Waits, Given, Denied}
+use Rattle.nob_table_rows.specs.declared.standing.Grant.TheVariants as grants
 use Rattle.nob_table_rows.specs.declared.standing.Standing.{Standing}
 use Rattle.nob_table_rows.specs.declared.standing.Surrogate.{Surrogate}
 use Rattle.nob_table_rows.specs.Order.{place_in}
@@ -38,9 +38,9 @@ write_state (Some g) (Some c) after p = refl
 
 -- each answer makes a surrogate
 grant_state : (grant : Grant) → (is_surrogate (state_of grant) ≡ true) × (is_live (state_of grant) ≡ false)
-grant_state Waits = (refl, refl)
-grant_state Given = (refl, refl)
-grant_state Denied = (refl, refl)
+grant_state grants.Pending = (refl, refl)
+grant_state grants.Granted = (refl, refl)
+grant_state grants.Refused = (refl, refl)
 
 -- a reference with a place is a surrogate
 placed_state : (mine given : Bool) (row : Option Counts) (surrogate : Option Surrogate) (counts : Option Counts)
@@ -104,7 +104,7 @@ module _ (me exported : ℕ) (objects counted : List (WireRep × Counts)) (surro
 
   -- what is pending is a surrogate
   pub pending_there : is_pending (stands me exported objects counted surrogates rep).state ≡ true → IsSome (row_at surrogates rep)
-  pending_there pending = (answer_state (rep.owner == me) (was_given exported rep.index) (row_at objects rep) (row_at surrogates rep) (row_at counted rep) Waits pending).1
+  pending_there pending = (answer_state (rep.owner == me) (was_given exported rep.index) (row_at objects rep) (row_at surrogates rep) (row_at counted rep) grants.Pending pending).1
 
   -- the surrogates are those with a place
   pub placed : (dirties : ℕ) → IsTable me exported dirties objects counted surrogates → is_some (place_in surrogates rep) ≡ is_surrogate (stands me exported objects counted surrogates rep).state

@@ -319,7 +319,7 @@ impl ObjectTable {
         ensures left { ChangeLeaves self.old self.new }
         ensures err { OnErr result (Stays self.old self.new) }
     {
-        self.answer(rep, Grant::Given)
+        self.answer(rep, Grant::Granted)
     }
 
     /// The owner has refused the pending reference. B1 where it isn't pending. Constant time on
@@ -332,7 +332,7 @@ impl ObjectTable {
         ensures left { ChangeLeaves self.old self.new }
         ensures err { OnErr result (Stays self.old self.new) }
     {
-        self.answer(rep, Grant::Denied)
+        self.answer(rep, Grant::Refused)
     }
 
     /// The first surrogate in the order of the last Dirties, from this place on, that is granted

@@ -6,7 +6,7 @@ use Rattle.nob_table_rows.specs.declared.standing.State.{State}
 use Rattle.nob_table_rows.specs.declared.standing.State.TheVariants.{Unknown, Live, Withdrawn, Pending, Granted, Refused, Lost}
 use Rattle.nob_table_rows.specs.declared.standing.Standing.{Standing}
 use Rattle.nob_table_rows.specs.declared.standing.Grant.{Grant}
-use Rattle.nob_table_rows.specs.declared.standing.Grant.TheVariants.{Waits, Given, Denied}
+use Rattle.nob_table_rows.specs.declared.standing.Grant.TheVariants as grants
 use Rattle.nob_table_rows.specs.declared.standing.Surrogate.{Surrogate}
 use Rattle.nob_table_rows.specs.Counts.{no_counts, is_held, more, fewer}
 
@@ -74,9 +74,9 @@ is_unheld standing = if is_live standing.state then not (is_held standing.counts
 
 -- the state of a surrogate, by its owner's answer
 abbrev pub state_of : Grant → State
-state_of Waits = Pending
-state_of Given = Granted
-state_of Denied = Refused
+state_of grants.Pending = Pending
+state_of grants.Granted = Granted
+state_of grants.Refused = Refused
 
 -- how a reference to an object of this space stands: by whether its index was ever given, and its counts while it is live
 abbrev pub own_standing : Bool → Option Counts → Standing
@@ -86,7 +86,7 @@ own_standing false None = unknown
 
 -- the surrogate of a Dirty that was just sent, at this place
 abbrev pub waiting_surrogate : ℕ → Surrogate
-waiting_surrogate place = record { grant = Waits; place = place }
+waiting_surrogate place = record { grant = grants.Pending; place = place }
 
 -- the surrogate with its owner's answer
 abbrev pub with_grant : Grant → Surrogate → Surrogate

@@ -84,11 +84,11 @@ impl State {
 #[derive(Clone, Copy, Debug, PartialEq, Eq)]
 pub enum Grant {
     /// Nothing yet.
-    Waits,
+    Pending,
     /// That this space is entered.
-    Given,
+    Granted,
     /// That the object is withdrawn.
-    Denied,
+    Refused,
 }
 
 impl Grant {
@@ -97,9 +97,9 @@ impl Grant {
         ensures { result ≡ state_of self }
     {
         match self {
-            Grant::Waits => State::Pending,
-            Grant::Given => State::Granted,
-            Grant::Denied => State::Refused,
+            Grant::Pending => State::Pending,
+            Grant::Granted => State::Granted,
+            Grant::Refused => State::Refused,
         }
     }
 }
@@ -120,7 +120,7 @@ impl Surrogate {
         ensures { result ≡ waiting_surrogate place }
     {
         Surrogate {
-            grant: Grant::Waits,
+            grant: Grant::Pending,
             place,
         }
     }
