@@ -21,12 +21,14 @@ use nob_model_acting::candidates::{to_claim, to_settle};
 use nob_model_acting::sending::{
     counted, has_numbers, is_own_and_not_live, send_refused, value_refused,
 };
-use nob_model_session::{Arrived, EndRefusal, Ending, Frames, Kind, end as end_words, right as end};
 use nob_model_history::ends::calls_at;
 use nob_model_history::holds::{hand, is_held, times};
 use nob_model_history::listing::is_any_listed;
 use nob_model_history::transit::{first_idle, pins};
 use nob_model_history::{History, make_history};
+use nob_model_session::{
+    Arrived, EndRefusal, Ending, Frames, Kind, end as end_words, right as end,
+};
 use nob_model_types::{Answer, Entry, Event, Job, Outcome, Refusal, Use};
 use nob_model_words::message::{Message, RefCopy, is_lost_message, replies_to};
 use nob_model_words::{Deed, Here, objects, sessions, turns};

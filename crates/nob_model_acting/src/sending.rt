@@ -7,11 +7,11 @@ ghost use Rattle.nob_pickle.specs.Writing.{pickle_of};
 ghost use Rattle.nob_model_acting.specs.Sending as words;
 
 use nob_ids::{SpaceId, WireRep};
-use nob_model_session::right::LAST_ITEM;
-use nob_model_session::{EndRefusal, Kind, end as end_words, right};
 use nob_model_history::History;
 use nob_model_history::ends::calls_at;
 use nob_model_history::holds::is_held;
+use nob_model_session::right::LAST_ITEM;
+use nob_model_session::{EndRefusal, Kind, end as end_words, right};
 use nob_model_types::Refusal;
 use nob_model_words::{objects, sessions};
 use nob_pickle::Value;

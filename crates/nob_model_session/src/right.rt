@@ -5,9 +5,9 @@ ghost use Rattle.std.specs.Prelude.{◌≡◌, ◌≤◌, ◌<◌, ◌+◌, ◌^
 ghost use Rattle.nob_model_session.specs.Texts.{texts, front_text};
 ghost use Rattle.nob_model_session.specs.Right as right;
 
+use crate::end;
 use crate::entry::{Arrived, EndEntry, Ending, Kind};
 use crate::refusal::EndRefusal;
-use crate::end;
 use nob_bytes::Bytes;
 use nob_frame::{Frame, FrameKind};
 use nob_ids::{ItemNo, Limits, Reason, SpaceId};

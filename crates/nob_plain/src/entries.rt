@@ -11,8 +11,8 @@ use nob_model::Entry;
 use nob_model_reading::opening_of;
 use nob_model_text::{Unread, space_of};
 use nob_script_text::verdict_line;
-use nob_trace::{Stamped, entry_of};
 use nob_text::first_line;
+use nob_trace::{Stamped, entry_of};
 use std::alloc::{AllocError, Global};
 
 /// The verdict on the journal that these lines are, behind a first line as a script has it; or

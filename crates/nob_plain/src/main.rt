@@ -13,8 +13,8 @@ mod entries;
 mod script;
 mod trace;
 
-use nob_trace::TraceError;
 use nob_text::first_line;
+use nob_trace::TraceError;
 use nob_verdicts::refusal_line;
 use std::alloc::Global;
 use std::io::{Read, Write};

@@ -10,8 +10,8 @@ ghost use Rattle.nob_model_text.specs.Reading.{Reads};
 ghost use Rattle.nob_trace.specs.Frames.{IsFramed, frame_text, frames_text, spaced_text};
 
 use nob_frame::{Frame, FrameError};
-use nob_model_session::Frames;
 use nob_model_reading::{after, after_space};
+use nob_model_session::Frames;
 use nob_model_text::{Unread, bytes_at};
 use std::alloc::Global;
 
