@@ -6,9 +6,9 @@ ghost use Rattle.nob_item.specs.declared.item.Item.{Item as ItemOf};
 ghost use Rattle.nob_case_texts.specs.Reading.{Reads};
 ghost use Rattle.nob_case_texts.specs.Words as spec;
 
+use crate::tokens;
 use crate::unanswered::Unanswered;
 use crate::values::value;
-use crate::words;
 use nob_bytes::Bytes;
 use nob_frame::{Frame, FrameKind};
 use nob_ids::{CallNo, ItemNo};
@@ -19,17 +19,17 @@ use std::alloc::Global;
 pub fn item(alloc: Global, words: &[&str]) -> Result<Item, Unanswered> {
     match words {
         ["call", call, "on", target, "method", method, argument] => Ok(Item::Call {
-            call: CallNo::new(words::number(alloc, call)?),
-            target: words::number(alloc, target)?,
-            method: words::short_number(alloc, method)?,
+            call: CallNo::new(tokens::number(alloc, call)?),
+            target: tokens::number(alloc, target)?,
+            method: tokens::short_number(alloc, method)?,
             value: value(alloc, argument)?,
         }),
         ["reply", call, "status", status, outcome] => Ok(Item::Reply {
-            call: CallNo::new(words::number(alloc, call)?),
-            status: words::byte(alloc, status)?,
+            call: CallNo::new(tokens::number(alloc, call)?),
+            status: tokens::byte(alloc, status)?,
             value: value(alloc, outcome)?,
         }),
-        [name, number] => note(name, words::number(alloc, number)?),
+        [name, number] => note(name, tokens::number(alloc, number)?),
         _ => Err(Unanswered::NoCase),
     }
 }
@@ -57,11 +57,11 @@ pub fn frame(alloc: Global, words: &[&str]) -> Result<Frame, Unanswered> {
     };
     Ok(Frame {
         kind: kind_of(kind)?,
-        from: words::space(alloc, from)?,
-        to: words::space(alloc, to)?,
-        seq: words::number(alloc, seq)?,
-        ack: words::number(alloc, ack)?,
-        payload: Bytes::from_vec(words::bytes(alloc, payload)?),
+        from: tokens::space(alloc, from)?,
+        to: tokens::space(alloc, to)?,
+        seq: tokens::number(alloc, seq)?,
+        ack: tokens::number(alloc, ack)?,
+        payload: Bytes::from_vec(tokens::bytes(alloc, payload)?),
     })
 }
 

@@ -6,10 +6,10 @@ mod answer;
 pub mod items;
 mod refusals;
 mod text;
+pub mod tokens;
 mod unanswered;
 mod value_text;
 mod values;
-pub mod words;
 
 pub use answer::{Answer, PinAnswer, Push, Refusal};
 pub use refusals::{refused_call, refused_frame, refused_item, refused_table_call, refused_value};

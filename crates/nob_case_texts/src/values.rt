@@ -4,8 +4,8 @@ ghost use Rattle.std.specs.Prelude.{◌≡◌, IfOk};
 ghost use Rattle.nob_pickle.specs.Shape.{tree};
 ghost use Rattle.nob_case_texts.specs.Values as spec;
 
+use crate::tokens;
 use crate::unanswered::Unanswered;
-use crate::words;
 use nob_pickle::{Bytes, Value, Values};
 use std::alloc::Global;
 
@@ -72,10 +72,10 @@ fn read_chunk(alloc: Global, open: &mut Vec<Vec<Value>>, chunk: &str) -> Result<
 // Puts an element that is no list into the innermost open list.
 fn put_element(alloc: Global, open: &mut Vec<Vec<Value>>, element: &str) -> Result<(), Unanswered> {
     if let Some(digits) = element.strip_prefix('b') {
-        let bytes = words::bytes(alloc, digits)?;
+        let bytes = tokens::bytes(alloc, digits)?;
         return put(open, Value::Bytes(Bytes::from_vec(bytes)), 1);
     }
-    let (element, count) = words::repeated(alloc, element)?;
+    let (element, count) = tokens::repeated(alloc, element)?;
     put(open, leaf(alloc, element)?, count)
 }
 
@@ -85,7 +85,7 @@ fn leaf(alloc: Global, element: &str) -> Result<Value, Unanswered> {
         return Ok(Value::Unit);
     }
     if let Some(rep) = element.strip_prefix('r') {
-        return Ok(Value::Ref(words::reference(alloc, rep)?));
+        return Ok(Value::Ref(tokens::reference(alloc, rep)?));
     }
     let Some(digits) = element.strip_prefix('i') else {
         return Err(Unanswered::NoCase);
@@ -99,7 +99,7 @@ fn leaf(alloc: Global, element: &str) -> Result<Value, Unanswered> {
 // Ends the innermost open list, which stands as often as is written behind its end: once where
 // nothing is.
 fn end_list(alloc: Global, open: &mut Vec<Vec<Value>>, end: &str) -> Result<(), Unanswered> {
-    let ("", count) = words::repeated(alloc, end)? else {
+    let ("", count) = tokens::repeated(alloc, end)? else {
         return Err(Unanswered::NoCase);
     };
     let Some(values) = open.pop() else {

@@ -6,7 +6,7 @@ use crate::sets::SetCase;
 use crate::shims::{Asked, ShimCase};
 use crate::tables::TableCase;
 use crate::transit::PinCase;
-use nob_case_texts::{Unanswered, deep_value, items, value, words};
+use nob_case_texts::{Unanswered, deep_value, items, tokens, value};
 use nob_ids::{ItemNo, SpaceId, WireRep};
 use nob_pickle::Value;
 use nob_session::Kind;
@@ -59,7 +59,7 @@ pub fn case_of(alloc: Global, line: &str) -> Result<RepeatedCase, Unanswered> {
 
 fn repeated_case(alloc: Global, words: &[&str]) -> Result<RepeatedCase, Unanswered> {
     let (count, words) = match words {
-        ["times", count, words @ ..] => (words::times(alloc, count)?, words),
+        ["times", count, words @ ..] => (tokens::times(alloc, count)?, words),
         words => (1, words),
     };
     let case = lone_case(alloc, words)?;
@@ -85,7 +85,7 @@ fn codec_case(alloc: Global, words: &[&str]) -> Result<CodecCase, Unanswered> {
         ["note", words @ ..] => Ok(CodecCase::IsNote(items::item(alloc, words)?)),
         ["references", words @ ..] => Ok(CodecCase::References(value_in(alloc, words)?)),
         ["fits", words @ ..] => Ok(CodecCase::Fits(value_in(alloc, words)?)),
-        [format, bytes] => reading_case(format, words::bytes(alloc, bytes)?),
+        [format, bytes] => reading_case(format, tokens::bytes(alloc, bytes)?),
         _ => Err(Unanswered::NoCase),
     }
 }
@@ -102,8 +102,8 @@ fn reading_case(format: &str, bytes: Vec<u8>) -> Result<CodecCase, Unanswered> {
 fn feed_case(alloc: Global, words: &[&str]) -> Result<CodecCase, Unanswered> {
     match words {
         ["each", count, bytes] => Ok(CodecCase::FeedEach(
-            words::times(alloc, count)?,
-            words::bytes(alloc, bytes)?,
+            tokens::times(alloc, count)?,
+            tokens::bytes(alloc, bytes)?,
         )),
         pieces => Ok(CodecCase::Feed(pieces_of(alloc, pieces)?)),
     }
@@ -112,7 +112,7 @@ fn feed_case(alloc: Global, words: &[&str]) -> Result<CodecCase, Unanswered> {
 fn counted_case(alloc: Global, words: &[&str]) -> Result<CodecCase, Unanswered> {
     match words {
         ["behind", place, words @ ..] => Ok(CodecCase::CountedOne(
-            words::short_number(alloc, place)? as usize,
+            tokens::short_number(alloc, place)? as usize,
             items::item(alloc, words)?,
         )),
         words => Ok(CodecCase::Counted(items::item(alloc, words)?)),
@@ -134,7 +134,11 @@ fn value_in(alloc: Global, words: &[&str]) -> Result<Value, Unanswered> {
     match words {
         [word] => value(alloc, word),
         ["deep", lists, innermost] => {
-            deep_value(alloc, words::times(alloc, lists)?, value(alloc, innermost)?)
+            deep_value(
+                alloc,
+                tokens::times(alloc, lists)?,
+                value(alloc, innermost)?,
+            )
         }
         _ => Err(Unanswered::NoCase),
     }
@@ -143,7 +147,7 @@ fn value_in(alloc: Global, words: &[&str]) -> Result<Value, Unanswered> {
 fn pieces_of(alloc: Global, words: &[&str]) -> Result<Vec<Vec<u8>>, Unanswered> {
     let mut pieces = Vec::new(alloc);
     for word in words {
-        pieces.push(words::bytes(alloc, word)?)?;
+        pieces.push(tokens::bytes(alloc, word)?)?;
     }
     Ok(pieces)
 }
@@ -152,15 +156,15 @@ fn end_case(alloc: Global, words: &[&str]) -> Result<EndCase, Unanswered> {
     match words {
         [call] => bare_end_case(call),
         ["open", me, peer, "window", window, "retry", retry] => Ok(EndCase::Open(
-            words::space(alloc, me)?,
-            words::space(alloc, peer)?,
-            words::limits(alloc, window, retry)?,
+            tokens::space(alloc, me)?,
+            tokens::space(alloc, peer)?,
+            tokens::limits(alloc, window, retry)?,
         )),
-        ["send", kind, bytes] => Ok(EndCase::Send(kind_of(kind)?, words::bytes(alloc, bytes)?)),
+        ["send", kind, bytes] => Ok(EndCase::Send(kind_of(kind)?, tokens::bytes(alloc, bytes)?)),
         ["next", kind] => Ok(EndCase::Next(kind_of(kind)?)),
-        ["reserve", count] => Ok(EndCase::Reserve(words::times(alloc, count)? as usize)),
-        ["arrive", bytes] => Ok(EndCase::Arrive(words::bytes(alloc, bytes)?)),
-        ["close", reason] => Ok(EndCase::Close(words::reason(alloc, reason)?)),
+        ["reserve", count] => Ok(EndCase::Reserve(tokens::times(alloc, count)? as usize)),
+        ["arrive", bytes] => Ok(EndCase::Arrive(tokens::bytes(alloc, bytes)?)),
+        ["close", reason] => Ok(EndCase::Close(tokens::reason(alloc, reason)?)),
         ["has", "frames"] => Ok(EndCase::HasFrames),
         ["is", "open"] => Ok(EndCase::IsOpen),
         _ => Err(Unanswered::NoCase),
@@ -189,18 +193,18 @@ fn kind_of(kind: &str) -> Result<Kind, Unanswered> {
 
 fn table_case(alloc: Global, words: &[&str]) -> Result<TableCase, Unanswered> {
     match words {
-        ["new", me] => Ok(TableCase::New(words::space(alloc, me)?)),
+        ["new", me] => Ok(TableCase::New(tokens::space(alloc, me)?)),
         ["reserve", exports, surrogates] => Ok(TableCase::Reserve(
-            words::times(alloc, exports)? as usize,
-            words::times(alloc, surrogates)? as usize,
+            tokens::times(alloc, exports)? as usize,
+            tokens::times(alloc, surrogates)? as usize,
         )),
         [call] => bare_table_case(call),
-        ["withdraw", index] => Ok(TableCase::Withdraw(words::number(alloc, index)?)),
-        ["unheld", index] => Ok(TableCase::Unheld(words::number(alloc, index)?)),
-        ["idle", place] => Ok(TableCase::Idle(words::number(alloc, place)?)),
-        ["close", owner] => Ok(TableCase::Close(words::space(alloc, owner)?)),
-        [call, rep] => surrogate_case(call, words::reference(alloc, rep)?),
-        [call, rep, part] => hold_case(call, words::reference(alloc, rep)?, part),
+        ["withdraw", index] => Ok(TableCase::Withdraw(tokens::number(alloc, index)?)),
+        ["unheld", index] => Ok(TableCase::Unheld(tokens::number(alloc, index)?)),
+        ["idle", place] => Ok(TableCase::Idle(tokens::number(alloc, place)?)),
+        ["close", owner] => Ok(TableCase::Close(tokens::space(alloc, owner)?)),
+        [call, rep] => surrogate_case(call, tokens::reference(alloc, rep)?),
+        [call, rep, part] => hold_case(call, tokens::reference(alloc, rep)?, part),
         _ => Err(Unanswered::NoCase),
     }
 }
@@ -240,13 +244,13 @@ fn hold_case(call: &str, rep: WireRep, part: &str) -> Result<TableCase, Unanswer
 fn set_case(alloc: Global, words: &[&str]) -> Result<SetCase, Unanswered> {
     match words {
         ["new"] => Ok(SetCase::New),
-        ["close", client] => Ok(SetCase::Close(words::space(alloc, client)?)),
-        ["empty", index] => Ok(SetCase::IsEmpty(words::number(alloc, index)?)),
-        ["clients", index] => Ok(SetCase::Clients(words::number(alloc, index)?)),
+        ["close", client] => Ok(SetCase::Close(tokens::space(alloc, client)?)),
+        ["empty", index] => Ok(SetCase::IsEmpty(tokens::number(alloc, index)?)),
+        ["clients", index] => Ok(SetCase::Clients(tokens::number(alloc, index)?)),
         [call, index, client] => listing_case(
             call,
-            words::number(alloc, index)?,
-            words::space(alloc, client)?,
+            tokens::number(alloc, index)?,
+            tokens::space(alloc, client)?,
         ),
         _ => Err(Unanswered::NoCase),
     }
@@ -267,10 +271,10 @@ fn shim_case(alloc: Global, words: &[&str]) -> Result<ShimCase, Unanswered> {
     };
     Ok(ShimCase {
         asked: asked_of(asked)?,
-        seed: words::number(alloc, seed)?,
-        from: words::space(alloc, from)?,
-        to: words::space(alloc, to)?,
-        loss: words::number(alloc, loss)?,
+        seed: tokens::number(alloc, seed)?,
+        from: tokens::space(alloc, from)?,
+        to: tokens::space(alloc, to)?,
+        loss: tokens::number(alloc, loss)?,
     })
 }
 
@@ -296,16 +300,16 @@ fn pin_cases(alloc: Global, calls: &str) -> Result<Vec<PinCase>, Unanswered> {
 fn pin_case(alloc: Global, words: &[&str]) -> Result<PinCase, Unanswered> {
     match words {
         ["put", peer, item, reps @ ..] => Ok(PinCase::Put(
-            words::space(alloc, peer)?,
-            ItemNo::new(words::number(alloc, item)?),
-            words::references(alloc, reps)?,
+            tokens::space(alloc, peer)?,
+            ItemNo::new(tokens::number(alloc, item)?),
+            tokens::references(alloc, reps)?,
         )),
         ["settle", peer, item] => Ok(PinCase::Settle(
-            words::space(alloc, peer)?,
-            ItemNo::new(words::number(alloc, item)?),
+            tokens::space(alloc, peer)?,
+            ItemNo::new(tokens::number(alloc, item)?),
         )),
-        ["close", peer] => Ok(PinCase::Close(words::space(alloc, peer)?)),
-        ["count", rep] => Ok(PinCase::Count(words::reference(alloc, rep)?)),
+        ["close", peer] => Ok(PinCase::Close(tokens::space(alloc, peer)?)),
+        ["count", rep] => Ok(PinCase::Count(tokens::reference(alloc, rep)?)),
         _ => Err(Unanswered::NoCase),
     }
 }

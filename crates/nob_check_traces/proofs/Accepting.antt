@@ -17,8 +17,8 @@ use Rattle.nob_model_invariant.specs.Safe.{IsSafe}
 use Rattle.nob_model_invariant.proofs.Safe.{safe_law}
 use Rattle.nob_trace.specs.declared.stamped.Stamped.{Stamped}
 use Rattle.nob_trace.specs.declared.trace.Trace.{Trace}
-use Rattle.nob_trace_merging.specs.Apart.{entry_at, is_free, are_apart}
-use Rattle.nob_trace_merging.proofs.One.{one_merged}
+use Rattle.nob_model_traces.specs.Apart.{entry_at, is_free, are_apart}
+use Rattle.nob_model_traces.proofs.One.{one_merged}
 use Rattle.nob_model_traces.specs.declared.fault.CheckFault.{CheckFault}
 use Rattle.nob_model_traces.specs.declared.fault.CheckFault.TheVariants as faults
 use Rattle.nob_model_traces.specs.declared.fault.CheckError.{CheckError}

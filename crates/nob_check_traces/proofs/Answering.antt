@@ -7,7 +7,7 @@ use Rattle.nob_model_safety.specs.Typed.{IsOfTypes, AreOfTypes}
 use Rattle.nob_space.specs.Spaces.{Owner, StandsFor, SameSpace}
 use Rattle.nob_trace.specs.declared.stamped.Stamped.{Stamped}
 use Rattle.nob_trace.specs.declared.trace.Trace.{Trace}
-use Rattle.nob_trace_merging.specs.Apart.{entry_at}
+use Rattle.nob_model_traces.specs.Apart.{entry_at}
 use Rattle.nob_model_traces.specs.Traces.{IsFirstWrong, journal_at}
 use Rattle.nob_model_traces.proofs.Entering.{whole}
 use Rattle.nob_model_traces.proofs.Telling.{told, AreRightTo, told_more, right_more, right_all, wrong_at}

@@ -2,3 +2,4 @@ pub mod Typed
 pub mod Answering
 pub mod Worlds
 pub mod Accepting
+pub mod Signs

@@ -12,7 +12,7 @@ use Rattle.nob_model_words.specs.declared.deed.Cause.TheVariants as causes
 use Rattle.nob_model_safety.specs.Typed.{HandsTyped, IsOfTypes}
 use Rattle.nob_space.specs.Steps.{HandsOnFitting}
 use Rattle.nob_trace.specs.declared.stamped.Stamped.{Stamped}
-use Rattle.nob_trace_merging.specs.Apart.{entry_at}
+use Rattle.nob_model_traces.specs.Apart.{entry_at}
 
 -- so does what an answered event did
 deed_typed : (event : Event) (answer : Answer) (deed : Deed) → HandsOnFitting event (Ok answer) → deed_of event answer ≡ Some deed → HandsTyped deed

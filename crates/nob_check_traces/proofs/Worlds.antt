@@ -13,8 +13,8 @@ use Rattle.nob_model_journal.specs.Runs.{ArrivesGiven, WorldRun}
 use Rattle.nob_model_safety.specs.Typed.{IsOfTypes, AreOfTypes}
 use Rattle.nob_trace.specs.declared.stamped.Stamped.{Stamped}
 use Rattle.nob_trace.specs.declared.trace.Trace.{Trace}
-use Rattle.nob_trace_merging.specs.Apart.{entry_at, are_apart}
-use Rattle.nob_trace_merging.specs.Merged.{Dated, dated_at, dated_of, is_traced, IsMerged}
+use Rattle.nob_model_traces.specs.Apart.{entry_at, are_apart}
+use Rattle.nob_model_traces.specs.Merged.{Dated, dated_at, dated_of, is_traced, IsMerged}
 use Rattle.nob_model_traces.specs.Traces.{journal_at, is_one_of, are_one_each}
 use Rattle.nob_model_traces.specs.Origins.{HaveOrigins}
 use Rattle.nob_check_traces.specs.Running.{IsRightAndTyped, HaveLimits}

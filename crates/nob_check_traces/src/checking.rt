@@ -15,10 +15,9 @@ ghost use Rattle.nob_check_traces.specs.Accepting.{Answers};
 use crate::merged::Merged;
 use crate::origins::first_fault;
 use crate::running::run_again;
-use nob_model_traces::{CheckError, CheckFault, WrongEntry, are_one_each, lower_of};
+use nob_model_traces::{CheckError, CheckFault, WrongEntry, are_one_each, lower_of, merge};
 use nob_model_types::Entry;
 use nob_trace::Trace;
-use nob_trace_merging::merge;
 use std::alloc::{AllocError, Global};
 
 // The wrong entry of the lowest space whose trace has one.

@@ -2,9 +2,11 @@
 #![tactic(auto)]
 
 mod checking;
+mod mark;
 mod merged;
 mod origins;
 mod running;
+mod set;
 
 pub use checking::check;
 pub use merged::Merged;

@@ -3,15 +3,15 @@
 ghost use Rattle.std.specs.Prelude.{◌≡◌, ◌++◌, List, IfOk, MatchOption};
 ghost use Rattle.std.specs.List.{Contains};
 ghost use Rattle.nob_frame.specs.declared.frame.Frame.{Frame as FrameOf};
-ghost use Rattle.nob_frame_set.specs.Marks.{AreOf};
+ghost use Rattle.nob_check_traces.specs.Marks.{AreOf};
 ghost use Rattle.nob_model_types.specs.declared.entry.Entry.{Entry as EntryOf};
 ghost use Rattle.nob_model_types.specs.declared.event.Event.TheVariants as events;
 ghost use Rattle.nob_model_journal.specs.Journals.{transmitted_frames};
 ghost use Rattle.nob_model_journal.specs.Runs.{ArrivesGiven};
 ghost use Rattle.nob_model_traces.specs.Origins as words;
 
+use crate::set::FrameSet;
 use nob_frame::Frame;
-use nob_frame_set::FrameSet;
 use nob_model_traces::CheckFault;
 use nob_model_traces::origins::{frame_in, frames_of, origin_fault};
 use nob_model_types::Entry;

@@ -5,7 +5,7 @@ ghost use Rattle.nob_model_types.specs.declared.entry.Entry.{Entry as EntryOf};
 ghost use Rattle.nob_model.specs.Right.{IsRight};
 ghost use Rattle.nob_model_safety.specs.Typed.{IsOfTypes};
 ghost use Rattle.nob_space.specs.Spaces.{StandsFor, SameSpace};
-ghost use Rattle.nob_trace_merging.specs.Apart.{entry_at};
+ghost use Rattle.nob_model_traces.specs.Apart.{entry_at};
 ghost use Rattle.nob_model_traces.specs.Traces.{IsFirstWrong};
 ghost use Rattle.nob_check_traces.specs.Running as words;
 

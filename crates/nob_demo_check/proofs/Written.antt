@@ -9,7 +9,7 @@ use Rattle.nob_trace.specs.declared.fault.TraceFault.{TraceFault}
 use Rattle.nob_trace.specs.declared.fault.TraceError.TheVariants as trace_errors
 use Rattle.nob_trace.specs.declared.fault.TraceError.{TraceError}
 use Rattle.nob_trace.specs.Reading.{TracesProblem, Explains}
-use Rattle.nob_verdicts.specs.Faults.{refusal_line}
+use Rattle.nob_trace.specs.Faults.{refusal_line}
 use Rattle.nob_model_traces.specs.declared.fault.CheckFault.{CheckFault}
 use Rattle.nob_model_invariant.specs.Safe.{IsSafe}
 use Rattle.nob_model_traces.specs.declared.fault.CheckError.{CheckError}

@@ -10,7 +10,7 @@ use Rattle.nob_trace.specs.declared.fault.TraceFault.{TraceFault}
 use Rattle.nob_trace.specs.declared.fault.TraceError.TheVariants as trace_errors
 use Rattle.nob_trace.specs.Traces.{trace_text, IsTrace}
 use Rattle.nob_trace.specs.Reading.{TracesProblem}
-use Rattle.nob_verdicts.specs.Faults.{refusal_line}
+use Rattle.nob_trace.specs.Faults.{refusal_line}
 use Rattle.nob_model_traces.specs.declared.fault.CheckFault.{CheckFault}
 use Rattle.nob_model_traces.specs.declared.fault.CheckFault.TheVariants as faults
 use Rattle.nob_model_invariant.specs.Safe.{IsSafe}

@@ -6,8 +6,7 @@ ghost use Rattle.nob_demo_check.specs.Checks as spec;
 use crate::ending::Ending;
 use crate::texts::{fault_line, merged_line};
 use nob_check_traces::{CheckError, check};
-use nob_trace::{Trace, TraceError, decode_all};
-use nob_verdicts::refusal_line;
+use nob_trace::{Trace, TraceError, decode_all, refusal_line};
 use std::alloc::{AllocError, Global};
 
 /// Writes what is said of an input, which should be traces one after the other, onto an empty text:

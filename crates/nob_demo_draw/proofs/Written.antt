@@ -8,8 +8,8 @@ use Rattle.nob_trace.specs.declared.fault.TraceFault.{TraceFault}
 use Rattle.nob_trace.specs.declared.fault.TraceError.TheVariants as trace_errors
 use Rattle.nob_trace.specs.declared.fault.TraceError.{TraceError}
 use Rattle.nob_trace.specs.Reading.{TracesProblem, Explains}
-use Rattle.nob_verdicts.specs.Faults.{refusal_line}
-use Rattle.nob_trace_merging.specs.Merged.{IsMerged}
+use Rattle.nob_trace.specs.Faults.{refusal_line}
+use Rattle.nob_model_traces.specs.Merged.{IsMerged}
 use Rattle.nob_model_traces.specs.declared.fault.CheckFault.{CheckFault}
 use Rattle.nob_model_traces.specs.declared.fault.CheckFault.TheVariants as faults
 use Rattle.nob_model_traces.specs.declared.fault.CheckError.{CheckError}

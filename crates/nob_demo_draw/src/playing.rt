@@ -10,8 +10,7 @@ use crate::place::is_of_entry;
 use crate::set::{entries_of, spaces_of};
 use nob_check_traces::check;
 use nob_model_traces::{CheckError, CheckFault};
-use nob_trace::{Trace, TraceError, decode_all};
-use nob_verdicts::refusal_line;
+use nob_trace::{Trace, TraceError, decode_all, refusal_line};
 use std::alloc::{AllocError, Global};
 
 /// Which rows are drawn.

@@ -3,13 +3,13 @@
 ghost use Rattle.std.specs.Prelude.{◌≡◌, true, IfOk, IfErr};
 ghost use Rattle.std.specs.List.{AllByRecursion};
 ghost use Rattle.nob_trace.specs.Stamps.{Rise};
-ghost use Rattle.nob_trace_merging.specs.Merged.{IsMerged};
+ghost use Rattle.nob_model_traces.specs.Merged.{IsMerged};
 ghost use Rattle.nob_model_traces.specs.Traces.{are_one_each};
 ghost use Rattle.nob_demo_draw.specs.Draws as spec;
 
+use nob_model_traces::merge;
 use nob_model_types::Entry;
 use nob_trace::Trace;
-use nob_trace_merging::merge;
 use std::alloc::{AllocError, Global};
 
 // The stamps of each trace rise.

@@ -9,8 +9,7 @@ use crate::tally::Tally;
 use crate::texts::lines;
 use nob_check_traces::{CheckError, check};
 use nob_demo_words::Scene;
-use nob_trace::{Trace, TraceError, encode};
-use nob_verdicts::refusal_line;
+use nob_trace::{Trace, TraceError, encode, refusal_line};
 use std::alloc::{AllocError, Global};
 
 /// Writes what is said of a scene onto an empty text, and says how it ends, whose last line is still

@@ -9,8 +9,8 @@ use Rattle.clap.specs.Values.{IsUnsignedIn}
 use Rattle.clap.specs.declared.builder.action.ArgAction.TheVariants.{SetTrue}
 use Rattle.clap.specs.declared.builder.value_parser.ValueParser.TheVariants.{Unsigned}
 use Rattle.nob_demo_words.specs.Scenes.{Setting}
-use Rattle.nob_demo_words.specs.declared.words.Subcommand.{Subcommand}
-use Rattle.nob_demo_words.specs.declared.words.Subcommand.TheVariants.{Draw}
+use Rattle.nob_demo_words.specs.declared.command_line.Subcommand.{Subcommand}
+use Rattle.nob_demo_words.specs.declared.command_line.Subcommand.TheVariants.{Draw}
 
 -- the option `--NAME N`, where N is a number from the lowest to the highest, as clap sees it
 abbrev pub number_rule : (name : Text) (lowest highest : ℕ) → Rule

@@ -7,8 +7,8 @@ use Rattle.clap.specs.Kinds.{Kinds}
 use Rattle.nob_demo_words.specs.Options.{draw_in, draw_shape, spaces_shape, setting_in, AreWithin}
 use Rattle.nob_demo_words.specs.declared.fault.Fault.{Fault}
 use Rattle.nob_demo_words.specs.declared.fault.Fault.TheVariants.{Words, Read, Write, Memory}
-use Rattle.nob_demo_words.specs.declared.words.Subcommand.{Subcommand}
-use Rattle.nob_demo_words.specs.declared.words.Subcommand.TheVariants.{Pair, Script, Check, Spaces}
+use Rattle.nob_demo_words.specs.declared.command_line.Subcommand.{Subcommand}
+use Rattle.nob_demo_words.specs.declared.command_line.Subcommand.TheVariants.{Pair, Script, Check, Spaces}
 
 -- the command `nobj` with the subcommand `pair` alone, as clap sees it: it has a version
 abbrev pub nobj_with_pair : App

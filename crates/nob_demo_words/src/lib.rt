@@ -1,12 +1,12 @@
 //! The words of the command line of `nobj`, and why a run ends before its input does.
 #![tactic(auto)]
 
+mod command_line;
 mod fault;
 pub mod laws;
 mod options;
 mod scene;
-mod words;
 
+pub use command_line::{Subcommand, judge};
 pub use fault::Fault;
 pub use scene::Scene;
-pub use words::{Subcommand, judge};

@@ -5,8 +5,8 @@ ghost use Rattle.clap.specs.Words.{app_of, found_of, new_app, one_of, rows_of, r
 ghost use Rattle.clap.specs.declared.builder.command.Command.TheViews.{out-Command as fields_of};
 ghost use Rattle.nob_demo_words.specs.Options.{draw_in, draw_shape, flag_rule, is_said, number_rule, setting_in, spaces_shape, DrawIsWithin, SceneIsWithin};
 
+use crate::command_line::Subcommand;
 use crate::scene::Scene;
-use crate::words::Subcommand;
 use clap::builder::ValueParser;
 use clap::{Arg, ArgAction, ArgMatches, Command};
 use std::alloc::{AllocError, Global};

@@ -3,10 +3,10 @@
 ghost use Rattle.std.specs.Prelude.{◌≡◌, ◌+◌, ◌-◌, ◌*◌, ◌^◌, ◌<◌, ◌≤◌, min, IfOk, flat_map};
 ghost use Rattle.nob_drawing.specs.Layout as spec;
 
+use crate::captions::frame_words;
 use crate::labels::cut_label;
 use crate::page::Page;
 use crate::places::{is_seen, is_shown, point_at, x_of, y_of};
-use crate::words::frame_words;
 use nob_drawing_plan::{Arrow, Departure};
 use nob_shapes::{Point, Shape, Style};
 use std::alloc::{AllocError, Global};

@@ -3,10 +3,10 @@
 ghost use Rattle.std.specs.Prelude.{◌≡◌, ◌<◌, ◌^◌, IfOk, flat_map};
 ghost use Rattle.nob_drawing.specs.Layout as spec;
 
+use crate::captions::mark_words;
 use crate::labels::label;
 use crate::page::Page;
 use crate::places::{is_seen, x_of, y_of};
-use crate::words::mark_words;
 use nob_drawing_plan::{Bar, Mark};
 use nob_shapes::{Point, Shape, Style};
 use std::alloc::{AllocError, Global};

@@ -3,10 +3,10 @@
 ghost use Rattle.std.specs.Prelude.{◌≡◌, ◌<◌, ◌+◌, ◌^◌, IfOk, ◌++◌, [], if◌then◌else◌};
 ghost use Rattle.nob_drawing.specs.Layout as spec;
 
+use crate::captions::entry_words;
 use crate::labels::{cut_label, label, number_label};
 use crate::page::Page;
 use crate::places::{bottom_of, column, is_shown, point_at, x_of, y_of};
-use crate::words::entry_words;
 use nob_model_types::{Answer, Entry, Refusal};
 use nob_shapes::{Point, Shape, Style};
 use std::alloc::{AllocError, Global};

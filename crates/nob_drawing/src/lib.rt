@@ -4,12 +4,12 @@
 
 mod arrows;
 mod bars;
+mod captions;
 mod entries;
 mod labels;
 mod page;
 mod places;
 mod whole;
-mod words;
 
 pub use page::Page;
 pub use places::{height_of, width_of};

@@ -2,7 +2,7 @@
 use Rattle.std.proofs.Common.{arith, ◌≡◌, ◌≢◌, ◌==◌, OnOk, ℕ, suc, Bool, true, false, List, Result, Ok, Err, refl, sym, subst, ◌∙◌}
 use Rattle.std.proofs.lemmas.Bool.Decides.{nat_tests}
 use Rattle.nob_model_types.specs.declared.entry.Entry.{Entry}
-use Rattle.nob_notes.specs.Notes.{news_in}
+use Rattle.nob_endings.specs.Notes.{news_in}
 use Rattle.nob_rounds.specs.Rounds.{WentRound}
 use Rattle.nob_endings.specs.Endings.{ClosedOtherEnds, ClaimedAll, EndedCalls, ReleasedAll, WithdrewAll, WentEndRound, UnlessQuiet, WentEndRounds, most_rounds, Ended}
 

@@ -3,9 +3,9 @@
 ghost use Rattle.std.specs.Prelude.{◌≡◌, ◌≤◌, IfOk};
 ghost use Rattle.nob_endings.specs.Endings as spec;
 
+use crate::closings::ClosedEnd;
 use nob_ids::{CallNo, JobNo, SpaceId, WireRep};
 use nob_model_types::{Event, Outcome};
-use nob_notes::ClosedEnd;
 use nob_rounds::Asking;
 use std::alloc::{AllocError, Global};
 

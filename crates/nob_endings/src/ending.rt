@@ -2,12 +2,13 @@
 //! each object is withdrawn.
 
 ghost use Rattle.std.specs.Prelude.{◌≡◌, OnOk};
-ghost use Rattle.nob_notes.specs.Notes.{news_in as news_in_of};
+ghost use Rattle.nob_endings.specs.Notes.{news_in as news_in_of};
 ghost use Rattle.nob_endings.specs.Endings as spec;
 
 use crate::askings::{claims, closes, ends_of_calls, releases, spaces_up_to, withdrawals};
+use crate::closings::closed_ends;
+use crate::facts::news_in;
 use nob_choices::{known_of, objects_of};
-use nob_notes::{closed_ends, news_in};
 use nob_rounds::{ask_each, repeat_each, round, spaces_in};
 use nob_world::World;
 use std::alloc::{AllocError, Global};

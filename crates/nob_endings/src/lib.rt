@@ -3,6 +3,12 @@
 #![tactic(auto)]
 
 mod askings;
+mod closings;
 mod ending;
+mod facts;
+mod results;
 
+pub use closings::{ClosedEnd, closed_ends};
 pub use ending::end;
+pub use facts::{Facts, facts_of, news_in};
+pub use results::Kind;

@@ -10,7 +10,7 @@ ghost use Rattle.nob_model_history.specs.Listing.{is_listed};
 ghost use Rattle.nob_model.specs.Next as next;
 ghost use Rattle.nob_space_state.specs.Dues as dues;
 ghost use Rattle.nob_space.specs.Spaces.{StandsFor};
-ghost use Rattle.nob_host_parts.specs.Bits.{bit_of};
+ghost use Rattle.nob_host_space.specs.Bits.{bit_of};
 ghost use Rattle.nob_host_handle.specs.Kept.{Through};
 ghost use Rattle.nob_host_space.specs.Looks as looks;
 ghost use Rattle.nob_host_space.specs.Looks.{ShowsWork};

@@ -5,7 +5,7 @@ ghost use Rattle.nob_ids.specs.Names.{IsSpace};
 ghost use Rattle.nob_pickle.specs.declared.value.Value.{Value as ValueOf};
 ghost use Rattle.nob_pickle.specs.Writing.{pickle_of};
 ghost use Rattle.nob_frame.specs.declared.frame.Frame.{Frame as FrameOf};
-ghost use Rattle.nob_host_parts.specs.Streams.{feed_at, SameButOf};
+ghost use Rattle.nob_host_space.specs.Feeds.{feed_at, SameButOf};
 ghost use Rattle.nob_host_handle.specs.Kept.{Through};
 ghost use Rattle.nob_host_space.specs.Numbers.{is_done, is_wanted};
 ghost use Rattle.nob_host_space.specs.Asked.{Pickles, SameStreams, Unasked};

@@ -8,7 +8,7 @@ use Rattle.nob_ids.specs.declared.wire_rep.WireRep.{WireRep}
 use Rattle.nob_frame.specs.declared.frame.Frame.{Frame}
 use Rattle.nob_frame.specs.declared.fault.FrameFault.{FrameFault}
 use Rattle.nob_frame.specs.Spelling.{spelling}
-use Rattle.nob_host_parts.specs.Streams.{fresh_feeds}
+use Rattle.nob_host_space.specs.Feeds.{fresh_feeds}
 use Rattle.nob_model_types.specs.declared.answer.Answer.{Answer}
 use Rattle.nob_model_types.specs.declared.answer.Answer.TheVariants as answers
 use Rattle.nob_model_types.specs.declared.entry.Entry.{Entry}

@@ -2,3 +2,5 @@ pub mod Numbers
 pub mod Asked
 pub mod Streams
 pub mod Looks
+pub mod Bits
+pub mod Feeds

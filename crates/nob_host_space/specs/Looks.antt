@@ -6,7 +6,7 @@ use Rattle.nob_model_history.specs.declared.history.History.{History}
 use Rattle.nob_model_history.specs.Histories.{history}
 use Rattle.nob_model.specs.Next.{can_act, can_send, can_settle, can_clean, can_claim, to_withdraw}
 use Rattle.nob_space.specs.Spaces.{Owner, StandsFor}
-use Rattle.nob_host_parts.specs.Bits.{bit_of}
+use Rattle.nob_host_space.specs.Bits.{bit_of}
 use Rattle.nob_host_space.specs.declared.looks.Work.{Work}
 use Rattle.nob_session.specs.declared.due.Due.{Due}
 use Rattle.nob_session.specs.declared.due.Due.TheVariants as dues

@@ -14,10 +14,10 @@ ghost use Rattle.nob_host_space.specs.Numbers.{is_wanted, nothing};
 ghost use Rattle.nob_host_space.specs.Asked.{HostAsked, AskedBy, CameBy, Pickles, SameStreams, Unasked, reference, right_of, answer_after};
 
 use crate::bringing::bring;
+use crate::bytes::spelled_all;
 use crate::host::Host;
 use crate::numbers::{DONE, NO_VALUE, OUT_OF_RANGE, WANTED, frame_number, pickle_number};
 use crate::told::Told;
-use nob_host_parts::spelled_all;
 use nob_ids::{CallNo, JobNo, SpaceId, WireRep};
 use nob_model::{Event, Outcome};
 use nob_pickle::{Bytes, Value};

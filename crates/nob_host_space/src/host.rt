@@ -1,13 +1,14 @@
 //! A space with what it keeps for a program in another language.
 
 ghost use Rattle.std.specs.Prelude.{◌≡◌, ◌≤◌, [], None, Err, IfOk, IfErr};
-ghost use Rattle.nob_host_parts.specs.Streams.{fresh_feeds};
+ghost use Rattle.nob_host_space.specs.Feeds.{fresh_feeds};
 ghost use Rattle.nob_space.specs.Spaces.{StandsFor};
 ghost use Rattle.nob_host_space.specs.Asked.{AreNumbers, HostAsked, IsNew, value_with};
 
+use crate::feeds::Feeds;
 use crate::numbers::{DONE, OUT_OF_RANGE, WANTED, error_number};
 use crate::told::Told;
-use nob_host_parts::{Feeds, Waiting};
+use crate::waiting::Waiting;
 use nob_ids::{Limits, SpaceId};
 use nob_model::{Answer, Event, Job};
 use nob_pickle::{Bytes, Value};

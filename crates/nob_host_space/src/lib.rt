@@ -3,12 +3,16 @@
 #![tactic(auto)]
 
 mod asking;
+mod bits;
 mod bringing;
+mod bytes;
+mod feeds;
 mod host;
 mod looks;
 mod numbers;
 mod streams;
 mod told;
+mod waiting;
 
 pub use host::Host;
 pub use looks::Work;

@@ -11,8 +11,9 @@ ghost use Rattle.nob_space_state.specs.Dues as dues;
 ghost use Rattle.nob_space.specs.Spaces.{StandsFor};
 ghost use Rattle.nob_host_space.specs.Looks as looks;
 
+use crate::bits::bits_of;
+use crate::bytes::copy_out;
 use crate::host::Host;
-use nob_host_parts::{bits_of, copy_out};
 use nob_ids::{CallNo, SpaceId};
 use nob_session::Due;
 

@@ -3,17 +3,18 @@
 ghost use Rattle.std.specs.Prelude.{◌≡◌, [], ◌∷◌, List, Ok};
 ghost use Rattle.nob_ids.specs.Names.{IsSpace};
 ghost use Rattle.nob_frame.specs.declared.frame.Frame.{Frame as FrameOf};
-ghost use Rattle.nob_host_parts.specs.Streams.{feed_at, SameButOf};
+ghost use Rattle.nob_host_space.specs.Feeds.{feed_at, SameButOf};
 ghost use Rattle.nob_host_space.specs.Numbers.{is_done};
 ghost use Rattle.nob_host_space.specs.Asked.{Unasked};
 ghost use Rattle.nob_host_space.specs.Streams.{Pushed, BroughtOrWants};
 
 use crate::asking::untold;
 use crate::bringing::bring;
+use crate::bytes::spelled;
 use crate::host::Host;
 use crate::numbers::{DONE, NONE_WAITS, OUT_OF_RANGE, STILL_WAITING, WANTED, frame_number};
 use crate::told::Told;
-use nob_host_parts::{Waiting, spelled};
+use crate::waiting::Waiting;
 use nob_ids::SpaceId;
 use nob_pickle::Bytes;
 use std::alloc::Global;

@@ -1,9 +1,9 @@
 -- Every run of a world is safe.
 use Rattle.nob_model_safety.proofs.Fronts.{fronts_law}
 use Rattle.nob_model_safety.proofs.Withdrawing.{safe_withdraw}
-use Rattle.nob_model_arrivals.proofs.Finding.{found_law}
-use Rattle.nob_model_losses.proofs.Excused.{losses}
-use Rattle.nob_model_losses.proofs.Leaking.{leaks}
+use Rattle.nob_model_invariant.proofs.Finding.{found_law}
+use Rattle.nob_model_invariant.proofs.Excused.{losses}
+use Rattle.nob_model_invariant.proofs.Leaking.{leaks}
 use Rattle.nob_model_invariant.specs.Safe.{SafeLaw}
 
 pub safe_law : SafeLaw

@@ -11,9 +11,9 @@ use Rattle.nob_model_safety.proofs.Bad.{readings}
 use Rattle.nob_model_safety.proofs.Points as points
 use Rattle.nob_model_safety.proofs.Naming.{names}
 use Rattle.nob_model_safety.proofs.Listings.{listings}
-use Rattle.nob_model_arrivals.proofs.Guarding.{guarded_law}
-use Rattle.nob_model_arrivals.proofs.Answering.{answers_law}
-use Rattle.nob_model_losses.proofs.Points as losses
+use Rattle.nob_model_invariant.proofs.Guarding.{guarded_law}
+use Rattle.nob_model_invariant.proofs.Answering.{answers_law}
+use Rattle.nob_model_invariant.proofs.Points as losses
 use Rattle.nob_model_invariant.specs.Invariant.{Loans}
 use Rattle.nob_model_invariant.specs.Laws.{InvariantLaw}
 

@@ -9,8 +9,8 @@ use Rattle.nob_model_work.specs.declared.work.Run.{Run}
 use Rattle.nob_model_work.specs.Work.{work}
 use Rattle.nob_model_journal.specs.Journals.{deeds_at}
 use Rattle.nob_model_safety.specs.Invariant.{Sessions, Clients, Owners, Names, Listings, Holdings, Living, Settlements, Readings}
-use Rattle.nob_model_arrivals.specs.Invariant.{Guarded, Answers}
-use Rattle.nob_model_losses.specs.Invariant.{Settled, Waiting, Denials, Copies}
+use Rattle.nob_model_invariant.specs.ArrivalInvariant.{Guarded, Answers}
+use Rattle.nob_model_invariant.specs.LossInvariant.{Settled, Waiting, Denials, Copies}
 
 -- all references that a message carries are lent
 abbrev pub IsAllLent : Message → Type 0

@@ -1,6 +1,16 @@
 pub use Rattle.nob_model_journal.specs.Journals
 pub use Rattle.nob_model_journal.specs.Runs
 pub use Rattle.nob_model_safety.specs.Typed
+pub use Rattle.nob_model_journal.specs.Findings
+pub use Rattle.nob_model_journal.specs.Losses
 pub mod Invariant
 pub mod Laws
 pub mod Safe
+pub mod Underway
+pub mod Counting
+pub mod ArrivalInvariant
+pub mod ArrivalLaws
+pub mod Copies
+pub mod LossInvariant
+pub mod Leaks
+pub mod LossLaws

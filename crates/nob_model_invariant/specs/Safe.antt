@@ -7,7 +7,7 @@ use Rattle.nob_model_journal.specs.Safety.{SafeWithdraw}
 use Rattle.nob_model_journal.specs.Losses.{NoFalseLoss}
 use Rattle.nob_model_journal.specs.Findings.{Found}
 use Rattle.nob_model_journal.specs.Runs.{WorldRun}
-use Rattle.nob_model_losses.specs.Leaks.{NoLeak}
+use Rattle.nob_model_invariant.specs.Leaks.{NoLeak}
 use Rattle.nob_model_safety.specs.Typed.{AreOfTypes}
 
 -- what is proved of all that happens in a world of n spaces

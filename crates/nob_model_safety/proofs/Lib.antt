@@ -29,3 +29,8 @@ pub mod Alive
 pub mod Settled
 pub mod Bundles
 pub mod Unsettled
+pub mod AlikeLists
+pub mod AlikeReading
+pub mod AlikeGiving
+pub mod Speaking
+pub mod Judging

@@ -2,9 +2,12 @@ pub use Rattle.nob_model_journal.specs.Journals
 pub use Rattle.nob_model_journal.specs.Runs
 pub use Rattle.nob_model_journal.specs.Fronts
 pub use Rattle.nob_model_journal.specs.Safety
+pub use Rattle.nob_model_journal.specs.Verdicts
 pub mod Typed
 pub mod Asking
 pub mod Naming
 pub mod Settles
 pub mod Invariant
 pub mod Laws
+pub mod FirstSpaces
+pub mod AlikeLaws

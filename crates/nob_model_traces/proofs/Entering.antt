@@ -3,7 +3,7 @@ use Rattle.std.proofs.Common.{◌≡◌, ℕ, ◌+◌, ◌-◌, ◌<◌, length-
 use Prim.Native.Nat.{suc}
 use Rattle.std.proofs.lemmas.List.{reverse-append, take-append-drop, take_all, map-append}
 use Rattle.std.proofs.lemmas.Option.{slice_get_read}
-use Rattle.nob_trace_merging.proofs.Places.{take_some, left_some}
+use Rattle.nob_model_traces.proofs.Places.{take_some, left_some}
 
 -- an element that was read stands at its place
 pub read : {X : Type 0} (xs : List X) (i : ℕ) (x : X) → i < length xs → x ≡ get_or xs i x → slice_get xs i ≡ Some x

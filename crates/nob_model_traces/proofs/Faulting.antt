@@ -2,7 +2,7 @@
 use Rattle.std.proofs.Common.{List}
 use Rattle.nob_model_types.specs.declared.entry.Entry.{Entry}
 use Rattle.nob_trace.specs.declared.trace.Trace.{Trace}
-use Rattle.nob_trace_merging.specs.Merged.{IsMerged}
+use Rattle.nob_model_traces.specs.Merged.{IsMerged}
 use Rattle.nob_model_traces.specs.declared.fault.CheckFault.{CheckFault}
 use Rattle.nob_model_traces.specs.declared.fault.CheckFault.TheVariants as faults
 use Rattle.nob_model_traces.specs.Origins.{IsOriginFault, IsRefusedFor}

@@ -3,3 +3,7 @@ pub mod Transmitting
 pub mod Telling
 pub mod Choosing
 pub mod Faulting
+pub mod Places
+pub mod Heading
+pub mod Passing
+pub mod One

@@ -7,7 +7,7 @@ use Rattle.nob_model_types.specs.declared.entry.Entry.{Entry}
 use Rattle.nob_model.specs.Right.{IsRight}
 use Rattle.nob_trace.specs.declared.stamped.Stamped.{Stamped}
 use Rattle.nob_trace.specs.declared.trace.Trace.{Trace}
-use Rattle.nob_trace_merging.specs.Apart.{entry_at}
+use Rattle.nob_model_traces.specs.Apart.{entry_at}
 use Rattle.nob_model_traces.specs.Traces.{journal_at, AreRight, IsRightTrace, IsFirstWrong}
 use Rattle.nob_model_traces.proofs.Entering.{newest_of, parted, whole}
 

@@ -8,7 +8,7 @@ use Rattle.nob_model_traces.specs.declared.fault.CheckFault.TheVariants as fault
 use Rattle.nob_model_traces.specs.declared.fault.CheckError.{CheckError}
 use Rattle.nob_model_traces.specs.declared.fault.CheckError.TheVariants.{Fault, OutOfMemory}
 use Rattle.nob_model_traces.specs.Traces.{IsRightTrace, IsFirstWrong, are_one_each}
-use Rattle.nob_trace_merging.specs.Merged.{IsMerged}
+use Rattle.nob_model_traces.specs.Merged.{IsMerged}
 use Rattle.nob_model_traces.specs.Origins.{HaveOrigins, IsOriginFault}
 
 -- the entry at this place of this space is the first wrong one of its trace, and the traces of all lower spaces are right

@@ -1,7 +1,11 @@
 pub use Rattle.nob_model_journal.specs.Journals
 pub use Rattle.nob_model_journal.specs.Runs
-pub use Rattle.nob_trace_merging.specs.Merged
+pub use Rattle.nob_model_traces.specs.Merged
 pub mod Traces
 pub mod Origins
 pub mod Faults
 pub mod Lowest
+pub mod Apart
+pub mod Merged
+pub mod Heads
+pub mod MergingLaws

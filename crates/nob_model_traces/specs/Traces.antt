@@ -7,7 +7,7 @@ use Rattle.nob_model.specs.Right.{IsRight}
 use Rattle.nob_model_journal.specs.Journals.{Each}
 use Rattle.nob_trace.specs.declared.stamped.Stamped.{Stamped}
 use Rattle.nob_trace.specs.declared.trace.Trace.{Trace}
-use Rattle.nob_trace_merging.specs.Apart.{entry_at, are_apart}
+use Rattle.nob_model_traces.specs.Apart.{entry_at, are_apart}
 
 -- entries of a trace of space s as a journal
 abbrev pub journal_at : ℕ → List Stamped → List Entry

@@ -9,12 +9,12 @@ ghost use Rattle.nob_model_traces.specs.Lowest as words;
 
 use crate::fault::{CheckError, CheckFault, WrongEntry};
 use crate::lowest::lower_of;
+use crate::merging::merge;
 use crate::origins::first_fault;
 use crate::running::first_wrong;
 use crate::set::are_one_each;
 use nob_model_types::Entry;
 use nob_trace::Trace;
-use nob_trace_merging::merge;
 use std::alloc::{AllocError, Global};
 
 // The wrong entry of the lowest space whose trace has one.

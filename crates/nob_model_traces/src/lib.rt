@@ -5,7 +5,10 @@
 
 mod checking;
 mod fault;
+pub mod laws;
 mod lowest;
+mod merging;
+mod moment;
 pub mod origins;
 mod running;
 mod set;
@@ -13,4 +16,6 @@ mod set;
 pub use checking::check_plainly;
 pub use fault::{CheckError, CheckFault, WrongEntry};
 pub use lowest::lower_of;
+pub use merging::{copy_entry, merge};
+pub use moment::Moment;
 pub use set::are_one_each;

@@ -2,14 +2,14 @@
 
 ghost use Rattle.std.specs.Prelude.{◌≡◌, ◌↔◌, true, IfOk, MatchOption};
 ghost use Rattle.nob_model.specs.Right.{IsRight};
-ghost use Rattle.nob_trace_merging.specs.Apart.{entry_at};
+ghost use Rattle.nob_model_traces.specs.Apart.{entry_at};
 ghost use Rattle.nob_model_traces.specs.Traces as words;
 
+use crate::merging::copy_entry;
 use nob_ids::Limits;
 use nob_model::{Entry, Here, right};
 use nob_model_same::same_result;
 use nob_trace::{Stamped, Trace};
-use nob_trace_merging::copy_entry;
 use std::alloc::{AllocError, Global};
 
 // Whether an entry's result is the right one after the entries before it, the newest of which

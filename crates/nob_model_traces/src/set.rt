@@ -2,7 +2,7 @@
 
 ghost use Rattle.std.specs.Prelude.{◌≡◌};
 ghost use Rattle.std.specs.List.{list_all};
-ghost use Rattle.nob_trace_merging.specs.Apart as apart;
+ghost use Rattle.nob_model_traces.specs.Apart as apart;
 ghost use Rattle.nob_model_traces.specs.Traces as words;
 
 use nob_ids::SpaceId;

@@ -1,6 +1,6 @@
 //! Numbers that look random, from a seed: the same on every machine.
 #![tactic(auto)]
 
-mod words;
+mod row;
 
-pub use words::Words;
+pub use row::Words;

@@ -5,3 +5,5 @@ pub mod Traces
 pub mod Reading
 pub mod Writing
 pub mod Laws
+pub mod Faults
+pub mod Texts

@@ -10,7 +10,9 @@ pub mod laws;
 mod lines;
 mod numbers;
 mod reading;
+mod refusals;
 mod stamped;
+mod texts;
 mod trace;
 mod writing;
 
@@ -18,6 +20,8 @@ pub use entry_reading::entry_of;
 pub use fault::{TraceError, TraceFault};
 pub use head::Head;
 pub use reading::{decode, decode_all, trace_at};
+pub use refusals::refusal_line;
 pub use stamped::Stamped;
+pub use texts::{have_one_text, right_line, wrong_line};
 pub use trace::{Entries, Trace};
 pub use writing::{encode, result_text};

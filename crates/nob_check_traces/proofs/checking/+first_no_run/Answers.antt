@@ -2,7 +2,7 @@ use Rattle.std.proofs.Common.{◌≡◌, List, ◌∷◌, drop, sym, subst, ◌<
 use Rattle.nob_trace.specs.declared.trace.Trace.{Trace}
 use Rattle.nob_check_traces.specs.Running.{IsRightAndTyped}
 use Rattle.nob_model_traces.specs.Lowest.{IsLowest}
-use Rattle.nob_trace_merging.proofs.Places.{left_some}
+use Rattle.nob_model_traces.proofs.Places.{left_some}
 use Rattle.nob_model_traces.proofs.Entering.{read, behind}
 use Rattle.nob_model_traces.proofs.Choosing.{lowest_more}
 use Rattle.nob_check_traces.proofs.checking.+first_no_run.Goals as goal

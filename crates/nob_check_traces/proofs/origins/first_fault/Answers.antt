@@ -1,7 +1,7 @@
 use Rattle.std.proofs.Common.{◌≡◌, ◌+◌, ◌++◌, List, Option, Some, None, MatchOption, Bor, slice_get, take, length, reverse, sym, subst}
 use Rattle.std.specs.List.{Contains}
 use Rattle.nob_frame.specs.declared.frame.Frame.{Frame}
-use Rattle.nob_frame_set.specs.Marks.{AreOf}
+use Rattle.nob_check_traces.specs.Marks.{AreOf}
 use Rattle.nob_model_types.specs.declared.entry.Entry.{Entry}
 use Rattle.nob_model_types.specs.declared.event.Event.TheVariants as events
 use Rattle.nob_model_journal.specs.Journals.{at, transmitted_frames}

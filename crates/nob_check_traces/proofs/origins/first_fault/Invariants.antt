@@ -1,5 +1,5 @@
 use Rattle.std.proofs.Common.{take, reverse}
-use Rattle.nob_frame_set.specs.Marks.{AreOf}
+use Rattle.nob_check_traces.specs.Marks.{AreOf}
 use Rattle.nob_model_journal.specs.Journals.{transmitted_frames}
 use Rattle.nob_model_traces.specs.Origins.{HaveOrigins}
 use Rattle.nob_check_traces.proofs.origins.first_fault.Given as goal

@@ -1,6 +1,6 @@
 use Rattle.std.proofs.Common.{◌≡◌, ◌++◌, ◌∷◌, [], List, Some, slice_get, take, sym, ap, subst, ◌∙◌, append_assoc, arith}
 use Rattle.nob_frame.specs.declared.frame.Frame.{Frame}
-use Rattle.nob_frame_set.specs.Marks.{AreOf}
+use Rattle.nob_check_traces.specs.Marks.{AreOf}
 use Rattle.nob_model_traces.proofs.Entering.{read, take_one, whole}
 use Rattle.nob_check_traces.proofs.origins.with_frames.Goals as goal
 

@@ -1,6 +1,6 @@
 use Rattle.std.proofs.Common.{take, ◌++◌, List}
 use Rattle.nob_frame.specs.declared.frame.Frame.{Frame}
-use Rattle.nob_frame_set.specs.Marks.{AreOf}
+use Rattle.nob_check_traces.specs.Marks.{AreOf}
 use Rattle.nob_check_traces.proofs.origins.with_frames.Given as goal
 
 -- the table has those before and the frames so far

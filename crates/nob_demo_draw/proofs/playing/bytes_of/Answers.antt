@@ -1,7 +1,7 @@
 use Rattle.std.proofs.Common.{ap, ◌∙◌}
 use Rattle.nob_trace.specs.declared.fault.TraceFault.{TraceFault}
 use Rattle.nob_trace.specs.declared.fault.TraceError.TheVariants as trace_errors
-use Rattle.nob_verdicts.specs.Faults.{refusal_line}
+use Rattle.nob_trace.specs.Faults.{refusal_line}
 use Rattle.nob_demo_draw.proofs.Written.{unread_written}
 use Rattle.nob_demo_draw.proofs.playing.bytes_of.Goals as goal
 

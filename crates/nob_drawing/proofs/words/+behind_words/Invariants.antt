@@ -1,5 +1,0 @@
-use Rattle.std.proofs.Common.{length}
-use Rattle.nob_drawing.proofs.words.+behind_words.Given as goal
-
-abbrev pub decreases-behind_words : goal.decreases-behind_words
-decreases-behind_words l = length l.frames.now

@@ -1,5 +1,0 @@
--- `fresh` makes one less where it calls itself.
-use Rattle.nob_host_parts.proofs.feeds.+fresh.Given as goal
-
-abbrev pub decreases-fresh : goal.decreases-fresh
-decreases-fresh l = l.count

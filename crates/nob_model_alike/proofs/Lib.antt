@@ -1,5 +1,0 @@
-pub mod Lists
-pub mod Reading
-pub mod Giving
-pub mod Speaking
-pub mod Judging

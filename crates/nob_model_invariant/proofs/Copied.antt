@@ -1,0 +1,264 @@
+-- The copies of a reference that a space acted on since it last gave it up: where it has no surrogate there are none, and
+-- while it is pending each waits in its message, or came on a session that closed.
+use Rattle.std.proofs.Common.{◌≡◌, ℕ, ◌+◌, ◌-◌, ◌&&◌, ◌||◌, not, Bool, true, false, cond, List, [], ◌∷◌, ◌++◌, length, map, Option, Some, None, refl, sym, ap, subst, ◌∙◌, arith, ◌⊎◌, inl, inr}
+use Rattle.std.specs.Prelude.{◌==◌}
+use Rattle.std.specs.List.{AllByRecursion, list_any, list_all, slice_get}
+use Rattle.std.proofs.lemmas.Bool.{eq-eqb, and_parts, and_from, not-true, both_ways, not_from_false}
+use Rattle.nob_ids.specs.Names.{is_same}
+use Rattle.nob_ids.specs.declared.limits.Limits.{Limits}
+use Rattle.nob_ids.specs.declared.wire_rep.WireRep.{WireRep}
+use Rattle.nob_item.specs.Kinds.{counted_in}
+use Rattle.nob_item.specs.declared.item.Item.{Item}
+use Rattle.nob_model_words.specs.declared.deed.Deed.{Deed}
+use Rattle.nob_model_words.specs.declared.deed.Deed.TheVariants as did
+use Rattle.nob_model_words.specs.declared.message.Message.{Message}
+use Rattle.nob_model_words.specs.declared.message.RefCopy.{RefCopy}
+use Rattle.nob_model_words.specs.Sessions.{is_peer, closed, item_at, acted}
+use Rattle.nob_model_words.specs.Turns.{turns, is_own, is_resolved, is_pending, is_granted, is_refused, is_standing, with_clean, wants_dirty, carries}
+use Rattle.nob_model_words.specs.Messages.{message_after, is_of}
+use Rattle.nob_model_work.specs.Work.{work}
+use Rattle.nob_model_history.specs.Histories.{history_of}
+use Rattle.nob_model_history.specs.Premises.{TookTurns}
+use Rattle.nob_model_history.proofs.Inbox.{acted_takes}
+use Rattle.nob_model_history.proofs.Turning.{same_ref, shapes, pending_waits, waiting_stands, granted_answered, after_clean}
+use Rattle.nob_model_acting.specs.Candidates.{is_all_resolved}
+use Rattle.nob_model.specs.Lists.{AreRightDeeds}
+use Rattle.nob_model.proofs.Accepted.{found_passes}
+use Rattle.nob_model.proofs.Carrying.{Carries, all_carry, all_found}
+use Rattle.nob_model.proofs.Premises.{took_turns}
+use Rattle.nob_model.proofs.Waiting.{settled_message, act_number, all_weaker}
+use Rattle.nob_model_journal.specs.Losses.{is_carried, sources}
+use Rattle.nob_model_safety.proofs.Clients.{asks_peer}
+use Rattle.nob_model_safety.proofs.Lists.{all_both, place_in_whole, some_same}
+use Rattle.nob_model_safety.proofs.Settling.{waits_more}
+use Rattle.nob_model_invariant.specs.Copies.{copies}
+use Rattle.nob_model_invariant.proofs.Denied.{carried_some}
+use Rattle.nob_model_invariant.proofs.Resting.{rests, rests_on, rests_new, open_before}
+use Rattle.nob_model_invariant.proofs.Standing.{WasPending, was_idle, was_pending}
+
+-- ---- items that were acted on
+
+-- an item stands at its place among those that were acted on
+abbrev pub StandsAt : (p k : ℕ) → Item → List Deed → Type 0
+StandsAt p k item D = slice_get (acted p D) (k - 1) ≡ Some (k, Some item)
+
+-- so it stays
+stands_on : (p k : ℕ) (item : Item) (deed : Deed) (D : List Deed) → StandsAt p k item D → StandsAt p k item (deed ∷ D)
+stands_on p k item (did.Act q j) D at = elim (q == p) as (λ (b : Bool). slice_get (cond b (acted p D ++ (j, item_at p j D) ∷ []) (acted p D)) (k - 1) ≡ Some (k, Some item)) [ true ↦ place_in_whole (acted p D) ((j, item_at p j D) ∷ []) _ (k - 1) (k, Some item) refl at | false ↦ at ]
+stands_on p k item deed D at = at
+
+at_end : {X : Type 0} (xs : List X) (x : X) → slice_get (xs ++ x ∷ []) (length xs) ≡ Some x
+at_end [] x = refl
+at_end (y ∷ xs) x = at_end xs x
+
+-- the item that is acted on is the last of them
+stands_new : (s n : ℕ) (limits : Limits) (p k : ℕ) (item : Item) (D : List Deed) → AreRightDeeds s n limits (did.Act p k ∷ D) → item_at p k D ≡ Some item → StandsAt p k item (did.Act p k ∷ D)
+stands_new s n limits p k item D right is =
+    let number : k ≡ length (acted p D) + 1 = act_number s n limits p k D right.0 ∙ ap (λ (m : ℕ). m + 1) (sym (acted_takes s n p D)) in
+    let place : k - 1 ≡ length (acted p D) = omega (arith, number) in
+    let longer : List (ℕ × Option Item) = acted p D ++ (k, item_at p k D) ∷ [] in
+    ap (λ (b : Bool). slice_get (cond b longer (acted p D)) (k - 1)) (eq-eqb p p refl)
+    ∙ ap (λ (m : ℕ). slice_get longer m) place
+    ∙ at_end (acted p D) (k, item_at p k D)
+    ∙ ap (λ (one : Option Item). Some (k, one)) is
+
+-- ---- messages that wait
+
+-- a message that waits is of an item that was acted on
+abbrev pub IsActed : List Deed → Message → Type 0
+IsActed D m = StandsAt m.from m.number m.item D
+
+acted_kept : (s n : ℕ) (D E : List Deed) (m : Message) → IsActed E m → IsActed E (message_after s n D m)
+unfolding message_after
+acted_kept s n D E m at = at
+
+pub waiting_acted : (s n : ℕ) (limits : Limits) (D : List Deed) → AreRightDeeds s n limits D → AllByRecursion (IsActed D) (work s n D).waiting
+waiting_acted s n limits [] right = tt
+waiting_acted s n limits (deed ∷ D) right =
+    waits_more (IsActed (deed ∷ D)) s n deed D (acted_kept s n (deed ∷ D) (deed ∷ D))
+    (λ p k item is found some. subst (λ (one : Deed). StandsAt p k item (one ∷ D)) (sym is) (stands_new s n limits p k item D (subst (λ (one : Deed). AreRightDeeds s n limits (one ∷ D)) is right) found))
+    (all_weaker (IsActed D) (IsActed (deed ∷ D)) (λ m at. stands_on m.from m.number m.item deed D at) (work s n D).waiting (waiting_acted s n limits D right.1))
+
+-- ---- copies
+
+-- a copy of a reference is of an item that was acted on and carries it
+abbrev pub IsCopyOf : WireRep → List Deed → (ℕ × ℕ) → Type 0
+IsCopyOf rep D copy = (item : Item) × StandsAt copy.0 copy.1 item D × (carries rep item ≡ true)
+
+copy_on : (rep : WireRep) (deed : Deed) (D : List Deed) (copy : ℕ × ℕ) → IsCopyOf rep D copy → IsCopyOf rep (deed ∷ D) copy
+copy_on rep deed D copy its = (its.0, stands_on copy.0 copy.1 its.0 deed D its.1, its.2)
+
+copies_on : (s n : ℕ) (rep : WireRep) (deed : Deed) (D : List Deed) → AllByRecursion (IsCopyOf rep D) (copies s n rep D) → AllByRecursion (IsCopyOf rep (deed ∷ D)) (copies s n rep D)
+copies_on s n rep deed D all = all_weaker (IsCopyOf rep D) (IsCopyOf rep (deed ∷ D)) (copy_on rep deed D) (copies s n rep D) all
+
+new_copied : (s n : ℕ) (limits : Limits) (rep : WireRep) (p k : ℕ) (D : List Deed) → AreRightDeeds s n limits (did.Act p k ∷ D) → (found : Option Item) → item_at p k D ≡ found → AllByRecursion (IsCopyOf rep (did.Act p k ∷ D)) (copies s n rep D) → AllByRecursion (IsCopyOf rep (did.Act p k ∷ D)) (cond (is_carried rep found) ((p, k) ∷ copies s n rep D) (copies s n rep D))
+new_copied s n limits rep p k D right None is all = all
+new_copied s n limits rep p k D right (Some item) is all = by (carries rep item) refl
+  where
+    by : (b : Bool) → carries rep item ≡ b → AllByRecursion (IsCopyOf rep (did.Act p k ∷ D)) (cond b ((p, k) ∷ copies s n rep D) (copies s n rep D))
+    by true carried = ((item, stands_new s n limits p k item D right is, carried), all)
+    by false carried = all
+
+cleaned : {X : Type 0} (P : X → Type 0) (b : Bool) (xs : List X) → AllByRecursion P xs → AllByRecursion P (cond b [] xs)
+cleaned P true xs all = tt
+cleaned P false xs all = all
+
+pub copies_acted : (s n : ℕ) (limits : Limits) (rep : WireRep) (D : List Deed) → AreRightDeeds s n limits D → AllByRecursion (IsCopyOf rep D) (copies s n rep D)
+copies_acted s n limits rep [] right = tt
+copies_acted s n limits rep (did.Act p k ∷ D) right = new_copied s n limits rep p k D right (item_at p k D) refl (copies_on s n rep (did.Act p k) D (copies_acted s n limits rep D right.1))
+copies_acted s n limits rep (did.Clean other ∷ D) right = cleaned (IsCopyOf rep (did.Clean other ∷ D)) (is_same rep other && (turns s n rep D).asks) (copies s n rep D) (copies_on s n rep (did.Clean other) D (copies_acted s n limits rep D right.1))
+copies_acted s n limits rep (deed ∷ D) right = copies_on s n rep deed D (copies_acted s n limits rep D right.1)
+
+-- the spaces from which the copies came
+pub sources_are : (s n : ℕ) (rep : WireRep) (D : List Deed) → sources s n rep D ≡ map (λ (copy : ℕ × ℕ). copy.0) (copies s n rep D)
+sources_are s n rep [] = refl
+sources_are s n rep (did.Act p k ∷ D) = by (is_carried rep (item_at p k D)) (sources_are s n rep D)
+  where
+    by : (b : Bool) → sources s n rep D ≡ map (λ (copy : ℕ × ℕ). copy.0) (copies s n rep D) → cond b (p ∷ sources s n rep D) (sources s n rep D) ≡ map (λ (copy : ℕ × ℕ). copy.0) (cond b ((p, k) ∷ copies s n rep D) (copies s n rep D))
+    by true same = ap (λ (ps : List ℕ). p ∷ ps) same
+    by false same = same
+sources_are s n rep (did.Clean other ∷ D) = by (is_same rep other && (turns s n rep D).asks) (sources_are s n rep D)
+  where
+    by : (b : Bool) → sources s n rep D ≡ map (λ (copy : ℕ × ℕ). copy.0) (copies s n rep D) → cond b [] (sources s n rep D) ≡ map (λ (copy : ℕ × ℕ). copy.0) (cond b [] (copies s n rep D))
+    by true same = refl
+    by false same = same
+sources_are s n rep (deed ∷ D) = sources_are s n rep D
+
+-- ---- a message that is settled carries nothing that is pending
+
+resolved_among : (s n : ℕ) (rep : WireRep) (D : List Deed) (its : List RefCopy) → list_all (λ (copy : RefCopy). is_resolved s n copy.rep D) its ≡ true → list_any (is_same rep) (map (λ (copy : RefCopy). copy.rep) its) ≡ true → is_resolved s n rep D ≡ true
+resolved_among s n rep D [] all there = cc
+resolved_among s n rep D (copy ∷ its) all there = by (is_same rep copy.rep) refl (and_parts (is_resolved s n copy.rep D) _ all) (resolved_among s n rep D its) there
+  where
+    by : (b : Bool) → is_same rep copy.rep ≡ b → (is_resolved s n copy.rep D ≡ true) × (list_all (λ (one : RefCopy). is_resolved s n one.rep D) its ≡ true) → (list_all (λ (one : RefCopy). is_resolved s n one.rep D) its ≡ true → list_any (is_same rep) (map (λ (one : RefCopy). one.rep) its) ≡ true → is_resolved s n rep D ≡ true) → (b || list_any (is_same rep) (map (λ (one : RefCopy). one.rep) its)) ≡ true → is_resolved s n rep D ≡ true
+    by true same parts rest either = subst (λ (r : WireRep). is_resolved s n r D ≡ true) (sym (same_ref rep copy.rep same)) parts.0
+    by false same parts rest either = rest parts.1 either
+
+unresolved_by : (own granted peer shut refused : Bool) → own ≡ false → granted ≡ false → peer ≡ true → shut ≡ false → refused ≡ false → (own || (granted && not shut) || (not own && (not peer || shut || refused))) ≡ false
+unresolved_by own granted peer shut refused a b c d e = rw (a, b, c, d, e) refl
+
+-- what is pending on an open session isn't resolved
+pending_unresolved : (s n : ℕ) (rep : WireRep) (D : List Deed) → closed rep.owner D ≡ false → is_pending (turns s n rep D) ≡ true → is_resolved s n rep D ≡ false
+pending_unresolved s n rep D up pending =
+    let waits = pending_waits (turns s n rep D) pending in
+    let stands = waiting_stands (turns s n rep D) waits in
+    let peer : is_peer s n rep.owner ≡ true = asks_peer s n rep D waits.0 in
+    unresolved_by (is_own s rep) (is_granted (turns s n rep D)) (is_peer s n rep.owner) (closed rep.owner D) (is_refused (turns s n rep D))
+    (not-true (rep.owner == s) (and_parts _ _ (and_parts _ _ peer).0).0) stands.1 peer up stands.2
+
+-- the item of the message that a Settle takes
+settled_item : (s n : ℕ) (limits : Limits) (p k : ℕ) (D : List Deed) → AreRightDeeds s n limits (did.Settle p k ∷ D) → (m : Message) × (is_all_resolved s n (history_of s n D) m ≡ true) × Carries m × StandsAt p k m.item D
+settled_item s n limits p k D right =
+    let told = settled_message s n limits p k D right in
+    let m : Message = told.0 in
+    let at : IsActed D m = all_found (IsActed D) (is_of p k) (work s n D).waiting m told.4 (waiting_acted s n limits D right.1) in (
+      m,
+      found_passes (is_all_resolved s n (history_of s n D)) (work s n D).waiting m told.1,
+      all_found Carries (is_of p k) (work s n D).waiting m told.4 (all_carry s n D).waiting,
+      subst (λ (q : ℕ). StandsAt q k m.item D) told.2 (subst (λ (j : ℕ). StandsAt m.from j m.item D) told.3 at),
+    )
+
+same_at : {X : Type 0} (found : Option X) (x y : X) → found ≡ Some x → found ≡ Some y → x ≡ y
+same_at found x y one other = some_same x y (sym one ∙ other)
+
+same_pair : (k : ℕ) (x y : Item) → ◌≡◌ {A = ℕ × Option Item} (k, Some x) (k, Some y) → x ≡ y
+same_pair k x y same = some_same x y (ap (λ (pair : ℕ × Option Item). pair.1) same)
+
+settle_not_pending : (s n : ℕ) (limits : Limits) (rep : WireRep) (p k : ℕ) (D : List Deed) → AreRightDeeds s n limits (did.Settle p k ∷ D) → closed rep.owner D ≡ false → is_pending (turns s n rep D) ≡ true → IsCopyOf rep D (p, k) → ⊥
+settle_not_pending s n limits rep p k D right up pending copy =
+    let its = settled_item s n limits p k D right in
+    let m : Message = its.0 in
+    let same : copy.0 ≡ m.item = same_pair k copy.0 m.item (same_at (slice_get (acted p D) (k - 1)) (k, Some copy.0) (k, Some m.item) copy.1 its.3) in
+    let carried : list_any (is_same rep) (map (λ (one : RefCopy). one.rep) m.copies) ≡ true = ap (list_any (is_same rep)) its.2 ∙ ap (λ (item : Item). carries rep item) (sym same) ∙ copy.2 in
+    both_ways (is_resolved s n rep D) (pending_unresolved s n rep D up pending) (resolved_among s n rep D m.copies its.1 carried)
+
+-- ---- one deed more
+
+-- a copy waits in its message, or came on a session that closed
+abbrev pub Rests : (s n : ℕ) → List Deed → (ℕ × ℕ) → Type 0
+Rests s n D copy = rests s n copy.0 copy.1 D ≡ true
+
+-- how it stands with the copies of a reference
+pub record AreCopied (s n : ℕ) (rep : WireRep) (D : List Deed) : Type 0 where
+  pub none : is_peer s n rep.owner ≡ true → closed rep.owner D ≡ false → is_standing (turns s n rep D) ≡ false → copies s n rep D ≡ []
+  pub wait : closed rep.owner D ≡ false → is_pending (turns s n rep D) ≡ true → AllByRecursion (Rests s n D) (copies s n rep D)
+
+-- while a reference is pending its copies rest
+copies_rest : (s n : ℕ) (limits : Limits) (rep : WireRep) (deed : Deed) (D : List Deed) → AreRightDeeds s n limits (deed ∷ D) → closed rep.owner D ≡ false → is_pending (turns s n rep D) ≡ true → AllByRecursion (Rests s n D) (copies s n rep D) → AllByRecursion (Rests s n (deed ∷ D)) (copies s n rep D)
+copies_rest s n limits rep deed D right up pending all =
+    all_both (IsCopyOf rep D) (Rests s n D) (Rests s n (deed ∷ D)) one (copies s n rep D) (copies_acted s n limits rep D right.1) all
+  where
+    on : (copy : ℕ × ℕ) → IsCopyOf rep D copy → (Rests s n (deed ∷ D) copy) ⊎ (deed ≡ did.Settle copy.0 copy.1) → Rests s n (deed ∷ D) copy
+    on copy its (inl rest) = rest
+    on copy its (inr settles) = absurd (settle_not_pending s n limits rep copy.0 copy.1 D (subst (λ (d : Deed). AreRightDeeds s n limits (d ∷ D)) settles right) up pending its)
+
+    one : (copy : ℕ × ℕ) → IsCopyOf rep D copy → Rests s n D copy → Rests s n (deed ∷ D) copy
+    one copy its rest = on copy its (rests_on s n limits copy.0 copy.1 deed D right rest)
+
+other_copied : (s n : ℕ) (limits : Limits) (rep : WireRep) (deed : Deed) (D : List Deed) → AreRightDeeds s n limits (deed ∷ D) → turns s n rep (deed ∷ D) ≡ turns s n rep D → copies s n rep (deed ∷ D) ≡ copies s n rep D → AreCopied s n rep D → AreCopied s n rep (deed ∷ D)
+other_copied s n limits rep deed D right same also before = record {
+  none = λ peer up idle. also ∙ before.none peer (open_before rep.owner deed D up) (ap is_standing (sym same) ∙ idle);
+  wait = λ up pending.
+      let pended : is_pending (turns s n rep D) ≡ true = ap is_pending (sym same) ∙ pending in
+      let earlier = open_before rep.owner deed D up in
+      subst (AllByRecursion (Rests s n (deed ∷ D))) (sym also) (copies_rest s n limits rep deed D right earlier pended (before.wait earlier pended));
+}
+
+carried_false : (carried wanted : Bool) → (carried && wanted) ≡ false → wanted ≡ true → carried ≡ false
+carried_false true wanted none is = absurd (both_ways wanted none is)
+carried_false false wanted none is = refl
+
+new_rests : (s n : ℕ) (rep : WireRep) (p k : ℕ) (D : List Deed) (found : Option Item) → item_at p k D ≡ found → is_carried rep found ≡ true → rests s n p k (did.Act p k ∷ D) ≡ true
+new_rests s n rep p k D None is carried = cc
+new_rests s n rep p k D (Some item) is carried = rests_new s n p k item D is (carried_some rep (counted_in item) carried)
+
+more_rest : (P : (ℕ × ℕ) → Type 0) (b : Bool) (copy : ℕ × ℕ) (cs : List (ℕ × ℕ)) → (b ≡ true → P copy) → AllByRecursion P cs → AllByRecursion P (cond b (copy ∷ cs) cs)
+more_rest P true copy cs its all = (its refl, all)
+more_rest P false copy cs its all = all
+
+act_copied : (s n : ℕ) (limits : Limits) (rep : WireRep) (p k : ℕ) (D : List Deed) → AreRightDeeds s n limits (did.Act p k ∷ D) → AreCopied s n rep D → AreCopied s n rep (did.Act p k ∷ D)
+act_copied s n limits rep p k D right before = record { none = none; wait = wait }
+  where
+    took : TookTurns s n (did.Act p k ∷ D)
+    took = took_turns s n limits (did.Act p k ∷ D) right
+
+    none : is_peer s n rep.owner ≡ true → closed rep.owner D ≡ false → is_standing (turns s n rep (did.Act p k ∷ D)) ≡ false → copies s n rep (did.Act p k ∷ D) ≡ []
+    none peer up idle =
+        let was = was_idle s n p rep (item_at p k D) D took.0 (shapes s n rep D took.1) idle in
+        let wanted : wants_dirty s n rep D (turns s n rep D) ≡ true = and_from _ _ (and_from _ _ peer (not_from_false _ up)) (not_from_false _ was.0) in
+        ap (λ (b : Bool). cond b ((p, k) ∷ copies s n rep D) (copies s n rep D)) (carried_false (is_carried rep (item_at p k D)) _ was.1 wanted) ∙ before.none peer up was.0
+
+    earlier : closed rep.owner D ≡ false → WasPending s n rep (item_at p k D) D → AllByRecursion (Rests s n (did.Act p k ∷ D)) (copies s n rep D)
+    earlier up (inl pending) = copies_rest s n limits rep (did.Act p k) D right up pending (before.wait up pending)
+    earlier up (inr asked) =
+        let wanted = (and_parts (is_carried rep (item_at p k D)) _ asked).1 in
+        let open_peer = and_parts _ _ wanted in
+        subst (AllByRecursion (Rests s n (did.Act p k ∷ D))) (sym (before.none (and_parts _ _ open_peer.0).0 up (not-true _ open_peer.1))) tt
+
+    wait : closed rep.owner D ≡ false → is_pending (turns s n rep (did.Act p k ∷ D)) ≡ true → AllByRecursion (Rests s n (did.Act p k ∷ D)) (copies s n rep (did.Act p k ∷ D))
+    wait up pending =
+        more_rest (Rests s n (did.Act p k ∷ D)) (is_carried rep (item_at p k D)) (p, k) (copies s n rep D) (new_rests s n rep p k D (item_at p k D) refl)
+        (earlier up (was_pending s n p rep (item_at p k D) D took.0 pending))
+
+clean_copied : (s n : ℕ) (limits : Limits) (rep other : WireRep) (D : List Deed) → AreRightDeeds s n limits (did.Clean other ∷ D) → AreCopied s n rep D → AreCopied s n rep (did.Clean other ∷ D)
+clean_copied s n limits rep other D right before = by (is_same rep other) refl
+  where
+    granted : is_same rep other ≡ true → is_granted (turns s n rep D) ≡ true
+    granted same = subst (λ (r : WireRep). is_granted (turns s n r D) ≡ true) (sym (same_ref rep other same)) (took_turns s n limits (did.Clean other ∷ D) right).0
+
+    by : (b : Bool) → is_same rep other ≡ b → AreCopied s n rep (did.Clean other ∷ D)
+    by true same =
+        let asks : (turns s n rep D).asks ≡ true = (granted_answered (turns s n rep D) (granted same)).0 in
+        let turned : turns s n rep (did.Clean other ∷ D) ≡ with_clean (turns s n rep D) = ap (λ (b : Bool). cond b (with_clean (turns s n rep D)) (turns s n rep D)) same in
+        record {
+          none = λ peer up idle. ap (λ (b : Bool). cond (b && (turns s n rep D).asks) [] (copies s n rep D)) same ∙ ap (λ (b : Bool). cond b [] (copies s n rep D)) asks;
+          wait = λ up pending. absurd (both_ways (is_pending (with_clean (turns s n rep D))) (after_clean (turns s n rep D) (granted same)).1.0 (ap is_pending (sym turned) ∙ pending));
+        }
+    by false same = other_copied s n limits rep (did.Clean other) D right (ap (λ (b : Bool). cond b (with_clean (turns s n rep D)) (turns s n rep D)) same) (ap (λ (b : Bool). cond (b && (turns s n rep D).asks) [] (copies s n rep D)) same) before
+
+-- in every list of right deeds
+pub are_copied : (s n : ℕ) (limits : Limits) (rep : WireRep) (D : List Deed) → AreRightDeeds s n limits D → AreCopied s n rep D
+are_copied s n limits rep [] right = record { none = λ peer up idle. refl; wait = λ up pending. tt }
+are_copied s n limits rep (did.Act p k ∷ D) right = act_copied s n limits rep p k D right (are_copied s n limits rep D right.1)
+are_copied s n limits rep (did.Clean other ∷ D) right = clean_copied s n limits rep other D right (are_copied s n limits rep D right.1)
+are_copied s n limits rep (deed ∷ D) right = other_copied s n limits rep deed D right refl refl (are_copied s n limits rep D right.1)

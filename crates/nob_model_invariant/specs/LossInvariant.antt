@@ -1,0 +1,42 @@
+-- What is said of losses in every run of a world, one record a theme.
+use Rattle.std.specs.Prelude.{◌≡◌, ℕ, Bool, true, false, ◌||◌, ◌==◌, List, []}
+use Rattle.std.specs.List.{AllByRecursion}
+use Rattle.nob_ids.specs.declared.wire_rep.WireRep.{WireRep}
+use Rattle.nob_model_types.specs.declared.entry.Entry.{Entry}
+use Rattle.nob_model_words.specs.Sessions.{is_peer}
+use Rattle.nob_model_words.specs.Turns.{turns, is_own, is_lost, is_pending, is_refused, is_standing, carries}
+use Rattle.nob_model_words.specs.declared.deed.Deed.{Deed}
+use Rattle.nob_model_words.specs.declared.message.Message.{Message}
+use Rattle.nob_model_work.specs.Work.{work}
+use Rattle.nob_model_history.specs.Transit.{sent, is_settled}
+use Rattle.nob_model.specs.Right.{own_ref}
+use Rattle.nob_model_journal.specs.Journals.{deeds_at, history_at, closed_at, sent_to, acted_from}
+use Rattle.nob_model_journal.specs.Losses.{sources, is_excuse}
+use Rattle.nob_model_safety.specs.Asking.{has_no, gave}
+use Rattle.nob_model_safety.specs.Settles.{settles_among, is_in}
+use Rattle.nob_model_invariant.specs.Copies.{carries_any, is_waiting, copies}
+
+-- while b has not closed its session with a, each item from a that b acted on and that carries counted references waits in its message or was settled
+pub record Settled (n : ℕ) (J : List Entry) : Type 0 where
+  pub each : (a b : ℕ) → closed_at b a J ≡ false → AllByRecursion (λ pair. carries_any pair.1 ≡ true → (is_waiting a pair.0 (work b n (deeds_at b J)).waiting || is_in pair.0 (settles_among (sent_to n b a J))) ≡ true) (acted_from a b J)
+
+-- whether a reference that came in a message is accounted for at space s: it is its own, it is lost, or it has a surrogate
+abbrev pub is_known : (s n : ℕ) → WireRep → List Deed → Bool
+is_known s n rep D = is_own s rep || (is_lost s n rep D || is_standing (turns s n rep D))
+
+-- each reference of a message that waits is the space's own, lost, or has a surrogate
+pub record Waiting (n : ℕ) (J : List Entry) : Type 0 where
+  pub known : (b : ℕ) → AllByRecursion (λ (message : Message). AllByRecursion (λ copy. is_known b n copy.rep (deeds_at b J) ≡ true) message.copies) (work b n (deeds_at b J)).waiting
+
+-- where an owner answered a client by DirtyNo, whatever it sent that client with a reference to the object is settled
+pub record Denials (n : ℕ) (J : List Entry) : Type 0 where
+  pub settled : (o b x : ℕ) → has_no (gave n o b x J) ≡ true → AllByRecursion (λ one. (one.to == b) ≡ true → carries (own_ref o x) one.item ≡ true → is_settled b one.number (deeds_at o J) ≡ true) (sent (history_at o n J))
+
+-- how it stands with the copies of a reference that b acted on since it last sent a Clean for it
+pub record Copies (n : ℕ) (J : List Entry) : Type 0 where
+  -- without a surrogate on an open session there are none
+  pub none_without : (b : ℕ) (rep : WireRep) → is_peer b n rep.owner ≡ true → closed_at b rep.owner J ≡ false → is_standing (turns b n rep (deeds_at b J)) ≡ false → copies b n rep (deeds_at b J) ≡ []
+  -- while the owner's answer is awaited each waits in its message, or b has closed its session with the sender
+  pub pending_wait : (b : ℕ) (rep : WireRep) → closed_at b rep.owner J ≡ false → is_pending (turns b n rep (deeds_at b J)) ≡ true → AllByRecursion (λ copy. (is_waiting copy.0 copy.1 (work b n (deeds_at b J)).waiting || closed_at b copy.0 J) ≡ true) (copies b n rep (deeds_at b J))
+  -- where the owner refused it each is excused
+  pub refused_excused : (b : ℕ) (rep : WireRep) → is_refused (turns b n rep (deeds_at b J)) ≡ true → AllByRecursion (λ a. is_excuse b rep J a ≡ true) (sources b n rep (deeds_at b J))

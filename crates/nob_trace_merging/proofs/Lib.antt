@@ -1,4 +1,0 @@
-pub mod Places
-pub mod Heading
-pub mod Passing
-pub mod One

@@ -1,4 +1,0 @@
-pub mod Apart
-pub mod Merged
-pub mod Heads
-pub mod Laws

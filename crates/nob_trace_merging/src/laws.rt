@@ -1,8 +1,0 @@
-//! Laws over the definitions: each is the contract of a function that does nothing.
-
-ghost use Rattle.nob_trace_merging.specs.Laws.{OneMerged};
-
-/// Traces have one list of merged entries at most.
-pub fn one_merged()
-    ensures { OneMerged }
-{}

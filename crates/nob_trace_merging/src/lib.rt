@@ -1,9 +1,0 @@
-//! The entries of several traces in one order: by stamp, ties by space.
-#![tactic(auto)]
-
-pub mod laws;
-mod merging;
-mod moment;
-
-pub use merging::{copy_entry, merge};
-pub use moment::Moment;

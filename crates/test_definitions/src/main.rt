@@ -1,0 +1,98 @@
+//! The program `test_definitions`: the definitions of a space and of a journal as something one can run.
+//! It reads a script of a world, one trace, or the entries of a journal, from standard input; it
+//! answers each step by the plain program of nob_model, and says of a journal by that of
+//! nob_model_journal which promise isn't kept. It is slow on purpose.
+#![tactic(auto)]
+
+ghost use Rattle.std.specs.Prelude.{◌≡◌, true, false};
+ghost use Rattle.nob_trace.specs.Reading.{Answers};
+ghost use Rattle.nob_text.specs.Lines.{lines_of};
+ghost use Rattle.test_definitions.specs.Outputs.{BeginsAsTrace, IsOutput, IsRefused, has_equals_sign as has_equals_sign_in, has_results as has_results_of};
+
+mod entries;
+mod script;
+mod trace;
+
+use nob_text::first_line;
+use nob_trace::{TraceError, refusal_line};
+use std::alloc::Global;
+use std::io::{Read, Write};
+use std::process::ExitCode;
+use std::{env, io};
+
+fn main(rt: HostRuntime) -> ExitCode {
+    match run(&rt) {
+        Ok(()) => ExitCode::from(0),
+        Err(_) => ExitCode::from(1),
+    }
+}
+
+// Reads all of standard input and writes what it gives.
+fn run(rt: &HostRuntime) -> io::Result<()> {
+    let alloc = rt.alloc();
+    let is_copy = has_words(rt)?;
+    let mut input = Vec::new(alloc);
+    rt.stdin().read_to_end(&mut input)?;
+    match output_of(alloc, input.as_slice(), is_copy) {
+        Ok(text) => rt.stdout().write_all(text.as_slice()),
+        Err(error) => rt.stdout().write_all(refusal_line(error)),
+    }
+}
+
+// Whether the command line has words beside the program's name: then traces are written as they
+// were read.
+fn has_words(rt: &HostRuntime) -> io::Result<bool> {
+    let mut words = env::args(rt)?;
+    words.next();
+    Ok(words.next().is_some())
+}
+
+// What is written for an input: a trace is judged or written again, entries are judged, and any
+// other input is a script.
+fn output_of(alloc: Global, input: &[u8], is_copy: bool) -> Result<Vec<u8>, TraceError>
+    ensures { Answers (λ text. IsOutput is_copy input.now text.items)
+        (IsRefused is_copy input.now) result }
+{
+    if is_copy {
+        return trace::copy_of(alloc, input);
+    }
+    if begins_as_trace(input) {
+        return trace::verdict_of(alloc, input);
+    }
+    if has_results(input) {
+        return Ok(entries::verdict_of(alloc, input)?);
+    }
+    Ok(script::answers_of(alloc, input)?)
+}
+
+// Whether an input begins as a trace does.
+fn begins_as_trace(input: &[u8]) -> bool
+    ensures yes { result ≡ true → BeginsAsTrace input.now }
+    ensures no { result ≡ false → BeginsAsTrace input.now → ⊥ }
+{
+    match input {
+        [b't', b'r', b'a', b'c', b'e', b' ', ..] => true,
+        _ => false,
+    }
+}
+
+// Whether an equals sign stands in the second line of an input: a step has none, and an entry has
+// one before its result.
+fn has_results(input: &[u8]) -> bool
+    ensures { result ≡ has_results_of (lines_of input.now) }
+{
+    let Some((_, lines)) = first_line(input) else {
+        return false;
+    };
+    let Some((line, _)) = first_line(lines) else {
+        return false;
+    };
+    has_equals_sign(line)
+}
+
+// Whether an equals sign stands in a line.
+fn has_equals_sign(line: &[u8]) -> bool
+    ensures { result ≡ has_equals_sign_in line.now }
+{
+    line.iter().any(|byte| *byte == b'=')
+}
