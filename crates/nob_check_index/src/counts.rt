@@ -56,10 +56,8 @@ impl RefCounts {
         ensures { IfOk result (λ counts. counts ≡ words.with_count rep count self) }
     {
         let RefCounts { mut map } = self;
-        match map.insert(rep, count) {
-            Ok(_) => Ok(RefCounts { map }),
-            Err(_) => Err(AllocError),
-        }
+        map.insert(rep, count)?;
+        Ok(RefCounts { map })
     }
 }
 

@@ -63,10 +63,8 @@ impl Exports {
         ensures { IfOk result (λ more. more ≡ words.with_export rep self) }
     {
         let Exports { mut reps } = self;
-        match reps.insert(rep) {
-            Ok(_) => Ok(Exports { reps }),
-            Err(_) => Err(AllocError),
-        }
+        reps.insert(rep)?;
+        Ok(Exports { reps })
     }
 }
 
@@ -123,10 +121,8 @@ impl Withdrawals {
         ensures { IfOk result (λ more. more ≡ words.with_withdrawal index self) }
     {
         let Withdrawals { mut indexes } = self;
-        match indexes.insert(index) {
-            Ok(_) => Ok(Withdrawals { indexes }),
-            Err(_) => Err(AllocError),
-        }
+        indexes.insert(index)?;
+        Ok(Withdrawals { indexes })
     }
 }
 

@@ -69,10 +69,8 @@ impl Settlements {
         ensures { IfOk result (λ more. more ≡ words.with_settlement settlement self) }
     {
         let Settlements { mut set } = self;
-        match set.insert(settlement) {
-            Ok(_) => Ok(Settlements { set }),
-            Err(_) => Err(AllocError),
-        }
+        set.insert(settlement)?;
+        Ok(Settlements { set })
     }
 }
 

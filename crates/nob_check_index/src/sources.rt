@@ -60,10 +60,8 @@ impl SourceRows {
         ensures { IfOk result (λ rows. rows ≡ words.with_sources rep spaces self) }
     {
         let SourceRows { mut map } = self;
-        match map.insert(rep, spaces) {
-            Ok(_) => Ok(SourceRows { map }),
-            Err(_) => Err(AllocError),
-        }
+        map.insert(rep, spaces)?;
+        Ok(SourceRows { map })
     }
 }
 

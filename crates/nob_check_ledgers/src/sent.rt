@@ -122,10 +122,8 @@ impl SentCounts {
         ensures { IfOk result (λ more. more ≡ words.with_count peer count self) }
     {
         let SentCounts { mut map } = self;
-        match map.insert(peer, count) {
-            Ok(_) => Ok(SentCounts { map }),
-            Err(_) => Err(AllocError),
-        }
+        map.insert(peer, count)?;
+        Ok(SentCounts { map })
     }
 }
 
@@ -189,10 +187,8 @@ impl Carriers {
         ensures { IfOk result (λ rows. rows ≡ words.with_places rep places self) }
     {
         let Carriers { mut map } = self;
-        match map.insert(rep, places) {
-            Ok(_) => Ok(Carriers { map }),
-            Err(_) => Err(AllocError),
-        }
+        map.insert(rep, places)?;
+        Ok(Carriers { map })
     }
 }
 

@@ -87,9 +87,7 @@ impl Came {
             return Ok(Came { map });
         }
         let item = sessions::item_spelt(alloc, frame.payload.as_slice())?;
-        match map.insert(arrival, item) {
-            Ok(_) => Ok(Came { map }),
-            Err(_) => Err(AllocError),
-        }
+        map.insert(arrival, item)?;
+        Ok(Came { map })
     }
 }

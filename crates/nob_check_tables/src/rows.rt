@@ -62,10 +62,8 @@ impl TurnRows {
         ensures { IfOk result (λ rows. rows ≡ words.with_turns rep turns self) }
     {
         let TurnRows { mut map } = self;
-        match map.insert(rep, turns) {
-            Ok(_) => Ok(TurnRows { map }),
-            Err(_) => Err(AllocError),
-        }
+        map.insert(rep, turns)?;
+        Ok(TurnRows { map })
     }
 }
 

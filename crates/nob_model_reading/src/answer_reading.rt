@@ -81,10 +81,9 @@ fn acted_answer(alloc: Global, text: &[u8]) -> Result<Answer, Unread>
     ensures acted { (item : ℕ) → ReadsTold (97 ∷ text.now) result (Answer.Acted item) }
 {
     match text {
-        [b'c', b't', b'e', b'd', b' ', rest @ ..] => match whole_number(alloc, rest) {
-            Ok(item) => Ok(Answer::Acted(ItemNo::new(item))),
-            Err(unread) => Err(unread),
-        },
+        [b'c', b't', b'e', b'd', b' ', rest @ ..] => Ok(Answer::Acted(ItemNo::new(whole_number(
+            alloc, rest,
+        )?))),
         _ => Err(Unread::NoText),
     }
 }
@@ -97,10 +96,9 @@ fn c_answer(alloc: Global, text: &[u8]) -> Result<Answer, Unread>
     ensures cleaned { (rep : RepOf) → ReadsTold (99 ∷ text.now) result (Answer.Cleaned rep) }
 {
     match text {
-        [b'a', b'l', b'l', b' ', rest @ ..] => match whole_number(alloc, rest) {
-            Ok(call) => Ok(Answer::Called(CallNo::new(call))),
-            Err(unread) => Err(unread),
-        },
+        [b'a', b'l', b'l', b' ', rest @ ..] => Ok(Answer::Called(CallNo::new(whole_number(
+            alloc, rest,
+        )?))),
         [b'l', rest @ ..] => cl_answer(alloc, rest),
         _ => Err(Unread::NoText),
     }
@@ -114,14 +112,10 @@ fn cl_answer(alloc: Global, text: &[u8]) -> Result<Answer, Unread>
     ensures cleaned { (rep : RepOf) → ReadsTold (99 ∷ 108 ∷ text.now) result (Answer.Cleaned rep) }
 {
     match text {
-        [b'o', b's', b'e', b'd', b' ', rest @ ..] => match whole_reason(alloc, rest) {
-            Ok(reason) => Ok(Answer::Closed(reason)),
-            Err(unread) => Err(unread),
-        },
-        [b'e', b'a', b'n', b'e', b'd', b' ', rest @ ..] => match whole_rep(alloc, rest) {
-            Ok(rep) => Ok(Answer::Cleaned(rep)),
-            Err(unread) => Err(unread),
-        },
+        [b'o', b's', b'e', b'd', b' ', rest @ ..] => Ok(Answer::Closed(whole_reason(alloc, rest)?)),
+        [b'e', b'a', b'n', b'e', b'd', b' ', rest @ ..] => Ok(Answer::Cleaned(whole_rep(
+            alloc, rest,
+        )?)),
         _ => Err(Unread::NoText),
     }
 }
@@ -134,12 +128,9 @@ fn e_answer(alloc: Global, text: &[u8]) -> Result<Answer, Unread>
 {
     match text {
         b"nded" => Ok(Answer::Ended),
-        [b'x', b'p', b'o', b'r', b't', b'e', b'd', b' ', rest @ ..] => match whole_rep(
-            alloc, rest,
-        ) {
-            Ok(rep) => Ok(Answer::Exported(rep)),
-            Err(unread) => Err(unread),
-        },
+        [b'x', b'p', b'o', b'r', b't', b'e', b'd', b' ', rest @ ..] => Ok(Answer::Exported(
+            whole_rep(alloc, rest)?,
+        )),
         _ => Err(Unread::NoText),
     }
 }
@@ -185,10 +176,7 @@ fn took_answer(alloc: Global, text: &[u8]) -> Result<Answer, Unread>
     ensures took { (count : ℕ) → ReadsTold (116 ∷ text.now) result (Answer.Took count) }
 {
     match text {
-        [b'o', b'o', b'k', b' ', rest @ ..] => match whole_number(alloc, rest) {
-            Ok(count) => Ok(Answer::Took(count)),
-            Err(unread) => Err(unread),
-        },
+        [b'o', b'o', b'k', b' ', rest @ ..] => Ok(Answer::Took(whole_number(alloc, rest)?)),
         _ => Err(Unread::NoText),
     }
 }

@@ -80,10 +80,7 @@ fn act_event(alloc: Global, text: &[u8]) -> Result<Event, Unread>
     ensures act { (peer : ℕ) → ReadsSpoken (97 ∷ text.now) result (Event.Act peer) }
 {
     match text {
-        [b'c', b't', b' ', rest @ ..] => match whole_space(alloc, rest) {
-            Ok(peer) => Ok(Event::Act(peer)),
-            Err(unread) => Err(unread),
-        },
+        [b'c', b't', b' ', rest @ ..] => Ok(Event::Act(whole_space(alloc, rest)?)),
         _ => Err(Unread::NoText),
     }
 }
@@ -114,10 +111,7 @@ fn cl_event(alloc: Global, text: &[u8]) -> Result<Event, Unread>
     match text {
         b"aim" => Ok(Event::Claim),
         b"ean" => Ok(Event::Clean),
-        [b'o', b's', b'e', b' ', rest @ ..] => match whole_space(alloc, rest) {
-            Ok(peer) => Ok(Event::Close(peer)),
-            Err(unread) => Err(unread),
-        },
+        [b'o', b's', b'e', b' ', rest @ ..] => Ok(Event::Close(whole_space(alloc, rest)?)),
         _ => Err(Unread::NoText),
     }
 }
@@ -128,10 +122,7 @@ fn dup_event(alloc: Global, text: &[u8]) -> Result<Event, Unread>
     ensures dup { (rep : RepOf) → ReadsSpoken (100 ∷ text.now) result (Event.Dup rep) }
 {
     match text {
-        [b'u', b'p', b' ', rest @ ..] => match whole_rep(alloc, rest) {
-            Ok(rep) => Ok(Event::Dup(rep)),
-            Err(unread) => Err(unread),
-        },
+        [b'u', b'p', b' ', rest @ ..] => Ok(Event::Dup(whole_rep(alloc, rest)?)),
         _ => Err(Unread::NoText),
     }
 }
@@ -165,10 +156,9 @@ fn release_event(alloc: Global, text: &[u8]) -> Result<Event, Unread>
     ensures release { (rep : RepOf) → ReadsSpoken (114 ∷ text.now) result (Event.Release rep) }
 {
     match text {
-        [b'e', b'l', b'e', b'a', b's', b'e', b' ', rest @ ..] => match whole_rep(alloc, rest) {
-            Ok(rep) => Ok(Event::Release(rep)),
-            Err(unread) => Err(unread),
-        },
+        [b'e', b'l', b'e', b'a', b's', b'e', b' ', rest @ ..] => Ok(Event::Release(whole_rep(
+            alloc, rest,
+        )?)),
         _ => Err(Unread::NoText),
     }
 }
@@ -181,10 +171,7 @@ fn s_event(alloc: Global, text: &[u8]) -> Result<Event, Unread>
 {
     match text {
         b"ettle" => Ok(Event::Settle),
-        [b'e', b'n', b'd', b' ', rest @ ..] => match whole_space(alloc, rest) {
-            Ok(peer) => Ok(Event::Transmit(peer)),
-            Err(unread) => Err(unread),
-        },
+        [b'e', b'n', b'd', b' ', rest @ ..] => Ok(Event::Transmit(whole_space(alloc, rest)?)),
         _ => Err(Unread::NoText),
     }
 }
@@ -196,14 +183,10 @@ fn t_event(alloc: Global, text: &[u8]) -> Result<Event, Unread>
     ensures tick { (peer : ℕ) → ReadsSpoken (116 ∷ text.now) result (Event.Tick peer) }
 {
     match text {
-        [b'a', b'k', b'e', b' ', rest @ ..] => match whole_number(alloc, rest) {
-            Ok(call) => Ok(Event::TakeReply(CallNo::new(call))),
-            Err(unread) => Err(unread),
-        },
-        [b'i', b'c', b'k', b' ', rest @ ..] => match whole_space(alloc, rest) {
-            Ok(peer) => Ok(Event::Tick(peer)),
-            Err(unread) => Err(unread),
-        },
+        [b'a', b'k', b'e', b' ', rest @ ..] => Ok(Event::TakeReply(CallNo::new(whole_number(
+            alloc, rest,
+        )?))),
+        [b'i', b'c', b'k', b' ', rest @ ..] => Ok(Event::Tick(whole_space(alloc, rest)?)),
         _ => Err(Unread::NoText),
     }
 }
@@ -214,12 +197,9 @@ fn withdraw_event(alloc: Global, text: &[u8]) -> Result<Event, Unread>
     ensures withdraw { (index : ℕ) → ReadsSpoken (119 ∷ text.now) result (Event.Withdraw index) }
 {
     match text {
-        [b'i', b't', b'h', b'd', b'r', b'a', b'w', b' ', rest @ ..] => match whole_number(
-            alloc, rest,
-        ) {
-            Ok(index) => Ok(Event::Withdraw(index)),
-            Err(unread) => Err(unread),
-        },
+        [b'i', b't', b'h', b'd', b'r', b'a', b'w', b' ', rest @ ..] => Ok(Event::Withdraw(
+            whole_number(alloc, rest)?,
+        )),
         _ => Err(Unread::NoText),
     }
 }

@@ -118,10 +118,7 @@ fn delivery_of(alloc: Global, text: &[u8]) -> Result<WorldStep, Unread>
     ensures only { (frame : ℕ) → spec.IsStep (WorldStep.Deliver frame) → text.now ≡ decimal frame
         → Reads (λ s. s ≡ WorldStep.Deliver frame) result }
 {
-    match whole_number(alloc, text) {
-        Ok(frame) => Ok(WorldStep::Deliver(frame)),
-        Err(unread) => Err(unread),
-    }
+    Ok(WorldStep::Deliver(whole_number(alloc, text)?))
 }
 
 // The event at a space that a line spells.

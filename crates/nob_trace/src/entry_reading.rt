@@ -92,10 +92,7 @@ fn arrival_of(alloc: Global, text: &[u8]) -> Result<Event, Unread>
     ensures only { (frame : FrameOf) → IsFramed frame → text.now ≡ frame_text frame
         → Reads (λ e. e ≡ Event.Arrive frame) result }
 {
-    match whole_frame(alloc, text) {
-        Ok(frame) => Ok(Event::Arrive(frame)),
-        Err(unread) => Err(unread),
-    }
+    Ok(Event::Arrive(whole_frame(alloc, text)?))
 }
 
 // The event of a script that a text spells.
@@ -105,10 +102,7 @@ fn script_event(alloc: Global, text: &[u8]) -> Result<Event, Unread>
     ensures only { (event : EventOf) → IsSpoken event → text.now ≡ event_text [] event
         → Reads (λ e. e ≡ event) result }
 {
-    match whole_event(alloc, text) {
-        Ok(event) => Ok(event),
-        Err(unread) => Err(unread),
-    }
+    whole_event(alloc, text)
 }
 
 // The result in a trace that a text spells.
@@ -170,10 +164,7 @@ fn frames_result(alloc: Global, text: &[u8]) -> Result<Result<Answer, Refusal>, 
         → text.now ≡ result_text (Ok (Answer.Frames frames))
         → Reads (λ r. r ≡ Ok (Answer.Frames frames)) result }
 {
-    match whole_frames(alloc, text) {
-        Ok(frames) => Ok(Ok(Answer::Frames(frames))),
-        Err(unread) => Err(unread),
-    }
+    Ok(Ok(Answer::Frames(whole_frames(alloc, text)?)))
 }
 
 // The answer without frames that a text spells, as a result.
@@ -183,8 +174,5 @@ fn answer_result(alloc: Global, text: &[u8]) -> Result<Result<Answer, Refusal>, 
     ensures only { (answer : AnswerOf) → IsTold answer → text.now ≡ answer_text [] answer
         → Reads (λ r. r ≡ Ok answer) result }
 {
-    match whole_answer(alloc, text) {
-        Ok(answer) => Ok(Ok(answer)),
-        Err(unread) => Err(unread),
-    }
+    Ok(Ok(whole_answer(alloc, text)?))
 }
