@@ -87,8 +87,5 @@ pub fn check(alloc: Global, traces: &[Trace]) -> Result<Merged, CheckError>
         → WorldRun (length traces.now) limits (reverse merged)) }
     ensures safe { IfOk result (λ merged. IsSafe (length traces.now) (reverse merged)) }
 {
-    match merged_of(alloc, traces) {
-        Ok(entries) => Ok(Merged::from_vec(entries)),
-        Err(error) => Err(error),
-    }
+    Ok(Merged::from_vec(merged_of(alloc, traces)?))
 }

@@ -61,9 +61,7 @@ impl FrameSet {
     {
         let FrameSet { mut marks } = self;
         let mark = Mark::of(alloc, frame)?;
-        match marks.insert(mark) {
-            Ok(_) => Ok(FrameSet { marks }),
-            Err(_) => Err(AllocError),
-        }
+        marks.insert(mark)?;
+        Ok(FrameSet { marks })
     }
 }
