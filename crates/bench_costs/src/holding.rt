@@ -1,0 +1,112 @@
+//! What the spaces hold before rounds are made.
+
+use crate::task::{Kept, Round, Task};
+use nob_exchange::{agent_of, exchange};
+use nob_ids::WireRep;
+use nob_model::{Outcome, Refusal};
+use nob_pickle::Value;
+use nob_space::{Space, SpaceError};
+use std::alloc::{AllocError, Global};
+
+/// The method that is called.
+pub(crate) const METHOD: u16 = 1;
+
+// The greatest number of items that wait after one carriage, so that each walk ends.
+const MOST_ITEMS: usize = 64;
+
+/// Has the spaces hold what a task says: the references that the second has in hand then.
+pub(crate) fn hold(
+    alloc: Global,
+    one: &mut Space,
+    two: &mut Space,
+    three: &mut Space,
+    task: Task,
+) -> Result<Vec<WireRep>, SpaceError> {
+    let mut reps = Vec::new(alloc);
+    for _ in 0..task.held {
+        match task.kept {
+            Kept::Held => keep(&mut reps, pass(one, two)?)?,
+            Kept::Listed => {
+                let rep = pass(one, two)?;
+                one.release(&rep)?;
+                keep(&mut reps, rep)?;
+            }
+            Kept::Waiting => pass_on(one, two, three)?,
+            Kept::Ready => ask(one, two)?,
+            Kept::Answered => {
+                ask(one, two)?;
+                answer(one, two)?;
+            }
+        }
+    }
+    Ok(reps)
+}
+
+// Puts a reference to the others.
+fn keep(reps: &mut Vec<WireRep>, rep: WireRep) -> Result<(), AllocError> {
+    reps.push(rep)?;
+    Ok(())
+}
+
+/// The reference that a round is about: the first or the last that none was about before.
+pub(crate) fn rep_of(reps: &[WireRep], task: Task, number: u64) -> Option<WireRep> {
+    let place = match task.round {
+        Round::First => number,
+        Round::Last => (reps.len() as u64).checked_sub(number)?.checked_sub(1)?,
+        _ => 0,
+    };
+    reps.get(usize::try_from(place).ok()?).copied()
+}
+
+/// A reference to a new object of a space, which another has in hand then.
+pub(crate) fn pass(from: &mut Space, to: &mut Space) -> Result<WireRep, SpaceError> {
+    let rep = from.export()?;
+    let call = from.call(&agent_of(to), METHOD, &Value::Ref(rep))?;
+    exchange(from, to)?;
+    to.dup(&rep)?;
+    let job = to.claim()?;
+    to.finish(job.job, &Outcome::NoMethod)?;
+    exchange(to, from)?;
+    from.take_reply(call)?;
+    Ok(rep)
+}
+
+// A reference to a new object of the third space goes through the first to the second, which the
+// third isn't told of.
+fn pass_on(one: &mut Space, two: &mut Space, three: &mut Space) -> Result<(), SpaceError> {
+    let rep = pass(three, one)?;
+    one.call(&agent_of(two), METHOD, &Value::Ref(rep))?;
+    bring(one, two)?;
+    bring(two, one)
+}
+
+// What a space has to send is brought to another, which acts on it.
+fn bring(from: &mut Space, to: &mut Space) -> Result<(), SpaceError> {
+    let frames = from.transmit(to.id())?;
+    for frame in frames.as_slice() {
+        to.arrive(frame)?;
+    }
+    for _ in 0..MOST_ITEMS {
+        match to.act(from.id()) {
+            Ok(_) => {}
+            Err(SpaceError::Refused(Refusal::Nothing)) => return Ok(()),
+            Err(error) => return Err(error),
+        }
+    }
+    Ok(())
+}
+
+// The second space calls the agent of the first, which is told of it.
+fn ask(one: &mut Space, two: &mut Space) -> Result<(), SpaceError> {
+    two.call(&agent_of(one), METHOD, &Value::Unit)?;
+    exchange(two, one)?;
+    Ok(())
+}
+
+// The first space answers a call, and the second is told of it.
+fn answer(one: &mut Space, two: &mut Space) -> Result<(), SpaceError> {
+    let job = one.claim()?;
+    one.finish(job.job, &Outcome::NoMethod)?;
+    exchange(one, two)?;
+    Ok(())
+}

@@ -1,0 +1,85 @@
+//! What is measured.
+
+/// What the spaces hold before rounds are made.
+#[derive(Clone, Copy, Debug, PartialEq, Eq)]
+pub(crate) enum Kept {
+    /// The second space has surrogates of objects in hand, each of which the first holds too.
+    Held,
+    /// The second space has surrogates of objects in hand, which the first holds no more.
+    Listed,
+    /// The first space has passed references to objects of the third on to the second, which waits
+    /// for the third's answers.
+    Waiting,
+    /// Calls that the second space made are ready at the first, and nobody claims them.
+    Ready,
+    /// Calls that the second space made are answered, and it hasn't taken the replies.
+    Answered,
+}
+
+/// What is made again and again.
+#[derive(Clone, Copy, Debug, PartialEq, Eq)]
+pub(crate) enum Round {
+    /// A reference is taken into the hand once more, and given back.
+    Dup,
+    /// An object is exported, released and withdrawn.
+    Export,
+    /// The second space calls the agent of the first, and takes a reply.
+    Call,
+    /// The whole life of a reference to a new object.
+    Life,
+    /// Both are asked what they could do next.
+    Work,
+    /// The second space gives the held reference up, the first in order first.
+    First,
+    /// The second space gives the held reference up, the last in order first.
+    Last,
+    /// The first space closes the session with the second, and that hears of it.
+    Close,
+}
+
+/// So much is held, and then so many rounds are made.
+#[derive(Clone, Copy, Debug)]
+pub(crate) struct Task {
+    pub(crate) kept: Kept,
+    pub(crate) round: Round,
+    pub(crate) held: u64,
+    pub(crate) rounds: u64,
+}
+
+/// The task of a line: `None` where it has other words.
+pub(crate) fn task_of(line: &str) -> Option<Task> {
+    let mut words = line.split(' ');
+    Some(Task {
+        kept: kept_of(words.next()?)?,
+        round: round_of(words.next()?)?,
+        held: words.next()?.parse::<u64>().ok()?,
+        rounds: words.next()?.parse::<u64>().ok()?,
+    })
+}
+
+// What a word says that is held.
+fn kept_of(word: &str) -> Option<Kept> {
+    Some(match word {
+        "held" => Kept::Held,
+        "listed" => Kept::Listed,
+        "waiting" => Kept::Waiting,
+        "ready" => Kept::Ready,
+        "answered" => Kept::Answered,
+        _ => return None,
+    })
+}
+
+// What a word says that is made.
+fn round_of(word: &str) -> Option<Round> {
+    Some(match word {
+        "dup" => Round::Dup,
+        "export" => Round::Export,
+        "call" => Round::Call,
+        "life" => Round::Life,
+        "work" => Round::Work,
+        "first" => Round::First,
+        "last" => Round::Last,
+        "close" => Round::Close,
+        _ => return None,
+    })
+}
