@@ -1,5 +1,5 @@
 -- Counts of references, and how often one stands among others.
-use Rattle.std.proofs.Common.{◌≡◌, ℕ, ◌<◌, ◌≤◌, ◌+◌, Bool, true, false, ◌||◌, ◌-◌, ◌^◌, not, nat_lt, nat_le, true≢false, IsSome, cond, List, [], ◌∷◌, ◌++◌, length, filter, map, Option, Some, None, get_or, drop, if◌then◌else◌, refl, sym, ap, subst, ◌∙◌, arith}
+use Rattle.std.proofs.Common.{◌≡◌, ℕ, ◌<◌, ◌≤◌, ◌+◌, Bool, true, false, ◌||◌, ◌-◌, ◌^◌, not, nat_lt, nat_le, true≢false, IsSome, cond, List, [], ◌∷◌, length, filter, Option, Some, None, get_or, drop, if◌then◌else◌, refl, sym, ap, ◌∙◌, arith}
 use Rattle.std.proofs.lemmas.Bool.{and_parts}
 use Rattle.std.proofs.lemmas.Bool.Decides.{Decides-eqb, Decides-and, nat_tests}
 use Rattle.std.proofs.lemmas.List.{drop_more}

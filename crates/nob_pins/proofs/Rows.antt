@@ -1,5 +1,5 @@
 -- The bundles of all peers, one peer's after another's: where those of a peer stand, and what other bundles at a peer make of them.
-use Rattle.std.proofs.Common.{◌≡◌, ℕ, ◌<◌, ◌≤◌, ◌+◌, Bool, true, false, ◌||◌, ◌==◌, ◌&&◌, cond, not, List, [], ◌∷◌, ◌++◌, length, filter, map, get_or, nat_lt, Option, Some, None, slice_get, Result, Ok, Err, OnOk, MatchOption, refl, sym, ap, subst, ◌∙◌, arith, eqb-true, true≢false}
+use Rattle.std.proofs.Common.{◌≡◌, ℕ, ◌<◌, ◌≤◌, ◌+◌, Bool, true, false, ◌||◌, ◌==◌, cond, not, List, [], ◌∷◌, ◌++◌, length, filter, get_or, nat_lt, Option, Some, None, slice_get, Result, Ok, Err, OnOk, MatchOption, refl, sym, ap, subst, ◌∙◌, arith, eqb-true, true≢false}
 use Prim.Native.Nat.{zero, suc}
 use lib.ListN.{set}
 use Rattle.std.proofs.lemmas.Cmp.{nat_eq_equiv}
@@ -8,7 +8,7 @@ use Rattle.std.proofs.lemmas.Option.{none-some, same_Some}
 use Rattle.std.proofs.lemmas.List.Elements.{All-head, All-tail, All-nil, filter-append}
 use Rattle.std.proofs.lemmas.List.Sums.{sum_by-append}
 use Rattle.std.proofs.lemmas.List.Sorted.{IsPermutation-refl, IsPermutation-sym, IsPermutation-trans, IsPermutation-append, IsPermutation-middle, All-permutation}
-use Rattle.std.specs.List.{list_any, All}
+use Rattle.std.specs.List.{list_any}
 use Rattle.std.specs.Option.{option_map_or}
 use Rattle.std.specs.List.Sorted.{IsPermutation}
 use Rattle.nob_ids.specs.declared.wire_rep.WireRep.{WireRep}

@@ -1,10 +1,9 @@
 -- Bundles as plain data: what is in transit to which peer in which item. No word tells their order.
-use Rattle.std.specs.Prelude.{ℕ, ◌≡◌, ◌≤◌, ◌-◌, ◌^◌, ◌==◌, ◌&&◌, Bool, true, false, not, nat_lt, nat_le, List, ◌∷◌, filter, length, map, get_or}
-use Rattle.std.specs.List.{list_any, sum_by, count_by}
+use Rattle.std.specs.Prelude.{ℕ, ◌≡◌, ◌-◌, ◌^◌, ◌==◌, ◌&&◌, Bool, true, false, not, nat_lt, nat_le, List, ◌∷◌, filter, length, get_or}
+use Rattle.std.specs.List.{list_any, sum_by}
 use Rattle.std.specs.List.Sorted.{IsPermutation}
 use Rattle.nob_ids.specs.Names.{is_same}
 use Rattle.nob_ids.specs.declared.wire_rep.WireRep.{WireRep}
-use Rattle.nob_pins.specs.Evidence.{Pin, pin_of}
 
 -- these references are in transit to a peer in an item
 pub record Pinned : Type 0 where
@@ -50,17 +49,9 @@ is_of peer item bundle = bundle.peer == peer && bundle.item == item
 abbrev pub has_bundle : List Pinned → ℕ → ℕ → Bool
 has_bundle bundles peer item = list_any (is_of peer item) bundles
 
--- there is at most one bundle of each peer and item
-abbrev pub IsOnce : List Pinned → Type 0
-IsOnce bundles = (peer item : ℕ) → count_by (is_of peer item) bundles ≤ 1
-
 -- the bundle of these references
 abbrev pub bundle_of : ℕ → ℕ → List WireRep → Pinned
 bundle_of peer item reps = record { peer = peer; item = item; reps = reps }
-
--- the pins of a bundle, a pin for each of its references, in their order
-abbrev pub pins_of : Pinned → List Pin
-pins_of bundle = map (pin_of bundle.peer bundle.item) bundle.reps
 
 -- new has this bundle, and those of old
 abbrev pub Adds : List Pinned → List Pinned → Pinned → Type 0

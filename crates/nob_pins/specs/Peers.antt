@@ -1,5 +1,5 @@
 -- The bundles by peer and item number, and the counts by reference, as the table keeps them.
-use Rattle.std.specs.Prelude.{ℕ, ◌≡◌, ◌+◌, ◌-◌, ◌^◌, ◌==◌, ◌++◌, ◌<◌, Bool, List, [], ◌∷◌, Option, Some, None, length, map, nat_lt, get_or, slice_get, MatchOption}
+use Rattle.std.specs.Prelude.{ℕ, ◌≡◌, ◌-◌, ◌^◌, ◌==◌, ◌++◌, ◌<◌, Bool, List, [], ◌∷◌, Option, Some, map, nat_lt, get_or, slice_get, MatchOption}
 use Rattle.std.specs.Option.{unwrap_or, option_map_or}
 use Rattle.std.specs.List.{All, list_any, flat_map}
 use Rattle.std.specs.Map.{lookup}

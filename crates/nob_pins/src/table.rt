@@ -42,7 +42,7 @@ impl Model for PinTable {
     } };
 
     ghost invariant = { λ t. AreByPeer t.peers.items
-      × AreCounted t.counts.rows (all_pinned t.peers.items) };
+        × AreCounted t.counts.rows (all_pinned t.peers.items) };
 }
 
 // A peer's number, at which its bundles stand.
@@ -91,8 +91,8 @@ impl PinTable {
     }
 
     /// Takes a bundle of pins, all of this peer and item, of which the table has none yet. Only
-    /// memory fails it, and not where there is room: the pins come back then. Linear in the pins,
-    /// on average.
+    /// memory fails it, and not where there is room: the pins come back then. More pins on one
+    /// reference than `u64` counts are want of memory too. Linear in the pins, on average.
     #[tactic(auto, unfolding(crate::specs::Bundles::has_room))]
     pub fn put(
         &mut self,

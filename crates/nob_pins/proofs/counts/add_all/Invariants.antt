@@ -1,6 +1,5 @@
-use Rattle.std.proofs.Common.{◌≡◌, ◌+◌, ◌-◌, ◌<◌, ◌≤◌, ◌^◌, [], length, nat_lt, IsOk, OnOk, if◌then◌else◌, ℕ, ◌*◌}
+use Rattle.std.proofs.Common.{◌≡◌, ◌+◌, ◌-◌, ◌≤◌, ◌^◌, length}
 use Rattle.nob_ids.specs.declared.wire_rep.WireRep.{WireRep}
-use Rattle.nob_ids.specs.Names.{is_same}
 use Rattle.nob_pins.specs.Bundles.{times}
 use Rattle.nob_pins.specs.Evidence.{reps_of}
 use Rattle.nob_pins.specs.Peers.{count_in}

@@ -1,7 +1,7 @@
 use Rattle.std.proofs.Common.{sym, ◌∙◌}
 use Rattle.nob_pins.proofs.Rows.{none_last}
 use Rattle.nob_pins.proofs.table.end_all.Goals as goal
-use Rattle.std.proofs.Common.{◌≡◌, [], ap}
+use Rattle.std.proofs.Common.{ap}
 use Rattle.nob_pins.specs.Peers.{all_pinned}
 
 pub end-requires : goal.end-requires

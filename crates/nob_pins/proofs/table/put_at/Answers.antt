@@ -1,10 +1,10 @@
-use Rattle.std.proofs.Common.{◌≡◌, ◌<◌, ◌++◌, ◌∷◌, [], List, false, Some, slice_get, length, get_or, refl, sym, ap, subst, ◌∙◌, arith}
+use Rattle.std.proofs.Common.{◌≡◌, ◌<◌, ◌∷◌, [], List, Some, slice_get, length, refl, sym, ap, subst, ◌∙◌, arith}
 use Rattle.std.proofs.lemmas.List.Elements.{All-nil, All-cons, All-append}
 use Rattle.std.proofs.lemmas.List.Sorted.{IsPermutation-sym, IsPermutation-to_front}
 use Rattle.std.proofs.lemmas.Option.{slice_get_read}
 use Rattle.std.specs.List.Sorted.{IsPermutation}
 use Rattle.nob_pins.specs.Bundles.{Pinned}
-use Rattle.nob_pins.specs.Peers.{rooms_of, has_item, pinned_at, AreOfPeer}
+use Rattle.nob_pins.specs.Peers.{has_item, pinned_at, AreOfPeer}
 use Rattle.nob_pins.proofs.Rows.{has_at, pinned_there, added_at, by_peer_set, room_within}
 use Rattle.nob_pins.proofs.table.put_at.Goals as goal
 

@@ -1,8 +1,8 @@
-use Rattle.std.proofs.Common.{◌≡◌, ◌∷◌, ◌≤◌, List, true, false, Some, None, slice_get, length, refl, sym, ap, subst, ◌∙◌, arith}
+use Rattle.std.proofs.Common.{◌≡◌, List, Some, None, slice_get, length, refl, sym, ap, subst, ◌∙◌, arith}
 use lib.ListN.{set}
 use Rattle.std.proofs.lemmas.Option.{slice_get_read, slice_get_past}
-use Rattle.nob_pins.specs.Bundles.{Pinned, Adds, has_bundle}
-use Rattle.nob_pins.specs.Peers.{Row, all_pinned, has_item, pinned_at, AreOfPeer, AreByPeer}
+use Rattle.nob_pins.specs.Bundles.{Pinned, has_bundle}
+use Rattle.nob_pins.specs.Peers.{all_pinned, has_item, pinned_at, AreOfPeer, AreByPeer}
 use Rattle.nob_pins.proofs.Rows.{has_at, pinned_there, pinned_past, same_at, taken_at, by_peer_set, of_peer_taken, rooms_set, get_set_same, in_both, either}
 use Rattle.nob_pins.proofs.table.take_at.Goals as goal
 

@@ -1,6 +1,5 @@
-use Rattle.std.proofs.Common.{◌≡◌, ◌<◌, IsSome, Some, None, sym, ap, arith}
+use Rattle.std.proofs.Common.{◌≡◌, ◌<◌, IsSome, Some, None, sym}
 use Rattle.std.specs.Map.{lookup}
-use Rattle.std.specs.Option.{unwrap_or}
 use Rattle.nob_ids.specs.Names.{is_same}
 use Rattle.nob_pins.specs.Peers.{count_in}
 use Rattle.nob_pins.proofs.Counting.{written, some_there}

@@ -4,7 +4,7 @@ use Rattle.std.specs.List.Sorted.{IsPermutation}
 use Rattle.std.specs.Map.{lookup, values_of}
 use Rattle.std.specs.Option.{option_map}
 use Rattle.nob_pins.specs.Bundles.{Pinned}
-use Rattle.nob_pins.specs.Peers.{has_item, AreByItem}
+use Rattle.nob_pins.specs.Peers.{has_item}
 use Rattle.nob_pins.proofs.Items.{item_lookup, lookup_item, no_gap, entry_taken, its_item, left_by_item, left_values}
 use Rattle.nob_pins.proofs.peer.PeerPins.take.Goals as goal
 

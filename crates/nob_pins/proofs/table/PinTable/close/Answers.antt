@@ -1,4 +1,4 @@
-use Rattle.std.proofs.Common.{◌≡◌, ◌≤◌, List, [], Some, slice_get, length, refl, sym, ap, subst, ◌∙◌, arith}
+use Rattle.std.proofs.Common.{◌≡◌, ◌≤◌, List, length, sym, subst, ◌∙◌, arith}
 use Rattle.std.proofs.lemmas.List.Elements.{All-nil}
 use Rattle.std.proofs.lemmas.List.Sorted.{IsPermutation-refl}
 use Rattle.std.proofs.lemmas.Option.{slice_get_read}
@@ -16,9 +16,10 @@ give_up_all-requires-clause-some c = λ rep.
 pub invariant_of-self : goal.invariant_of-self
 invariant_of-self c =
     let got = slice_get_read c.self.inside.peers.items c.len.result c.number_of-at.result c.index_mut.result.now (omega (arith, c.len.ensures, c.self.inside.peers.ok.0)) c.if-at-len.true c.index_mut.ensures.value in
-    let none : AreOfPeer c.number_of-at.result c.give_up_all.new.row.pinned = subst (λ (bs : List Pinned). AreOfPeer c.number_of-at.result bs) (sym c.give_up_all.ensures.pinned) (All-nil (λ (b : Pinned). b.peer ≡ c.number_of-at.result)) in
-    (by_peer_set c.self.inside.peers.items c.number_of-at.result c.index_mut.result.now c.give_up_all.new.row c.self.invariant.0 got none,
-      λ rep. omega (arith, c.self.invariant.1 rep, c.give_up_all.ensures.count rep, emptied_count rep c.self.inside.peers.items c.number_of-at.result c.index_mut.result.now c.give_up_all.new.row got c.give_up_all.ensures.pinned))
+    let none : AreOfPeer c.number_of-at.result c.give_up_all.new.row.pinned = subst (λ (bs : List Pinned). AreOfPeer c.number_of-at.result bs) (sym c.give_up_all.ensures.pinned) (All-nil (λ (b : Pinned). b.peer ≡ c.number_of-at.result)) in (
+      by_peer_set c.self.inside.peers.items c.number_of-at.result c.index_mut.result.now c.give_up_all.new.row c.self.invariant.0 got none,
+      λ rep. omega (arith, c.self.invariant.1 rep, c.give_up_all.ensures.count rep, emptied_count rep c.self.inside.peers.items c.number_of-at.result c.index_mut.result.now c.give_up_all.new.row got c.give_up_all.ensures.pinned),
+    )
 
 pub returns-then-at-len : goal.returns-then-at-len
 returns-then-at-len c =
