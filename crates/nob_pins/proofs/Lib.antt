@@ -1,3 +1,3 @@
-pub mod Once
-pub mod Found
-pub mod Kept
+pub mod Counting
+pub mod Rows
+pub mod Items

@@ -1,10 +1,9 @@
 -- Bundles as plain data: what is in transit to which peer in which item. No word tells their order.
-use Rattle.std.specs.Prelude.{ℕ, ◌≡◌, ◌≤◌, ◌==◌, ◌&&◌, Bool, true, false, not, nat_lt, List, ◌∷◌, filter, length, map}
-use Rattle.std.specs.List.{list_any, sum_by, count_by}
+use Rattle.std.specs.Prelude.{ℕ, ◌≡◌, ◌-◌, ◌^◌, ◌==◌, ◌&&◌, Bool, true, false, not, nat_lt, nat_le, List, ◌∷◌, filter, length, get_or}
+use Rattle.std.specs.List.{list_any, sum_by}
 use Rattle.std.specs.List.Sorted.{IsPermutation}
 use Rattle.nob_ids.specs.Names.{is_same}
 use Rattle.nob_ids.specs.declared.wire_rep.WireRep.{WireRep}
-use Rattle.nob_pins.specs.Evidence.{Pin, pin_of}
 
 -- these references are in transit to a peer in an item
 pub record Pinned : Type 0 where
@@ -12,14 +11,27 @@ pub record Pinned : Type 0 where
   pub item : ℕ
   pub reps : List WireRep
 
--- the bundles, and how many more of them take no memory
+-- the bundles, how many more of them take no memory at each peer, by its number, and for how many more references there are counts
 pub record Table : Type 0 where
   pub bundles : List Pinned
-  pub room : ℕ
+  pub rooms : List ℕ
+  pub counts : ℕ
 
--- whether a bundle of these references to this peer takes no memory; in this form that room is any peer's and any references'
+-- how often the reference stands among these
+abbrev pub times : WireRep → List WireRep → ℕ
+times rep reps = length (filter (λ other. is_same other rep) reps)
+
+-- how often the reference is in transit, repeats included
+abbrev pub count_of : List Pinned → WireRep → ℕ
+count_of bundles rep = sum_by (λ bundle. times rep bundle.reps) bundles
+
+-- whether so many more pins on this reference are too many to count
+abbrev pub is_full : List Pinned → ℕ → WireRep → Bool
+is_full bundles many rep = nat_lt (2 ^ 64 - 1 - many) (count_of bundles rep)
+
+-- whether a bundle of these references to this peer takes no memory
 unfoldable pub has_room : Table → ℕ → List WireRep → Bool
-has_room table peer reps = nat_lt 0 table.room
+has_room table peer reps = nat_lt 0 (get_or table.rooms peer 0) && (nat_le (length reps) table.counts && not (list_any (is_full table.bundles (length reps)) reps))
 
 -- what had room in old has room in new
 abbrev pub KeepsRoom : Table → Table → Type 0
@@ -37,17 +49,9 @@ is_of peer item bundle = bundle.peer == peer && bundle.item == item
 abbrev pub has_bundle : List Pinned → ℕ → ℕ → Bool
 has_bundle bundles peer item = list_any (is_of peer item) bundles
 
--- there is at most one bundle of each peer and item
-abbrev pub IsOnce : List Pinned → Type 0
-IsOnce bundles = (peer item : ℕ) → count_by (is_of peer item) bundles ≤ 1
-
 -- the bundle of these references
 abbrev pub bundle_of : ℕ → ℕ → List WireRep → Pinned
 bundle_of peer item reps = record { peer = peer; item = item; reps = reps }
-
--- the pins of a bundle, a pin for each of its references, in their order
-abbrev pub pins_of : Pinned → List Pin
-pins_of bundle = map (pin_of bundle.peer bundle.item) bundle.reps
 
 -- new has this bundle, and those of old
 abbrev pub Adds : List Pinned → List Pinned → Pinned → Type 0
@@ -65,10 +69,6 @@ of_others peer bundles = filter (λ bundle. not (bundle.peer == peer)) bundles
 abbrev pub TakesOutAll : List Pinned → List Pinned → ℕ → Type 0
 TakesOutAll old new peer = IsPermutation (of_others peer old) new
 
--- how often the reference stands among these
-abbrev pub times : WireRep → List WireRep → ℕ
-times rep reps = length (filter (λ other. is_same other rep) reps)
-
--- how often the reference is in transit, repeats included
-abbrev pub count_of : List Pinned → WireRep → ℕ
-count_of bundles rep = sum_by (λ bundle. times rep bundle.reps) bundles
+-- the bundles of a peer
+abbrev pub of_peer : ℕ → List Pinned → List Pinned
+of_peer peer bundles = filter (λ bundle. bundle.peer == peer) bundles

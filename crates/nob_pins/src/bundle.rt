@@ -1,13 +1,12 @@
 //! The pins of one peer and item.
 
-ghost use Rattle.std.specs.Prelude.{◌≡◌, ◌&&◌, length, filter};
+ghost use Rattle.std.specs.Prelude.{◌≡◌};
 ghost use Rattle.nob_pins.specs.Evidence.{AreOf, reps_of};
-ghost use Rattle.nob_ids.specs.Names.{is_same};
-ghost use Rattle.nob_pins.specs.Bundles.{is_of, times, bundle_of, pins_of};
+ghost use Rattle.nob_pins.specs.Bundles.{bundle_of};
 
 use crate::evidence::Settled;
 use crate::pin::TransitPin;
-use nob_ids::{ItemNo, SpaceId, WireRep};
+use nob_ids::{ItemNo, SpaceId};
 use nob_session::Closed;
 use std::marker::Model;
 
@@ -33,43 +32,23 @@ impl Bundle {
     // The bundle of these pins.
     pub(crate) fn new(peer: SpaceId, item: ItemNo, pins: Vec<TransitPin>) -> Bundle
         requires { AreOf peer item pins.items }
-        ensures bundle { result ≡ bundle_of peer item (reps_of pins.items) }
-        ensures pins { pins_of result ≡ pins.items }
+        ensures { result ≡ bundle_of peer item (reps_of pins.items) }
     {
         Bundle { peer, item, pins }
     }
 
-    // The pins, where they can't be kept.
-    pub(crate) fn into_pins(self) -> Vec<TransitPin>
-        ensures { result.items ≡ pins_of self }
+    // The item's number.
+    pub(crate) fn item(&self) -> ItemNo
+        ensures { result ≡ self.now.item }
     {
-        let Bundle {
-            peer: _,
-            item: _,
-            pins,
-        } = self;
-        pins
+        self.item
     }
 
-    // The peer.
-    pub(crate) fn peer(&self) -> SpaceId
-        ensures { result ≡ self.now.peer }
+    // The pins.
+    pub(crate) fn pins(&self) -> &[TransitPin]
+        ensures { reps_of result.now ≡ self.now.reps }
     {
-        self.peer
-    }
-
-    // Whether it is of this peer and item.
-    pub(crate) fn is_of(&self, peer: SpaceId, item: ItemNo) -> bool
-        ensures { result ≡ is_of peer item self.now }
-    {
-        self.peer == peer && self.item == item
-    }
-
-    // How often the reference is among the pins.
-    pub(crate) fn count(&self, rep: &WireRep) -> u64
-        ensures { result ≡ times rep.now self.now.reps }
-    {
-        count_pins(&self.pins, rep) as u64
+        &self.pins
     }
 
     // Ends the pins: their peer has dealt with their item.
@@ -102,11 +81,4 @@ impl Bundle {
         }
         pins.destroy_empty();
     }
-}
-
-// How many of the pins are of the reference.
-fn count_pins(pins: &[TransitPin], rep: &WireRep) -> usize
-    ensures { result ≡ length (filter (λ pin. is_same pin.rep rep.now) pins.now) }
-{
-    pins.iter().filter(|pin| pin.rep() == *rep).count()
 }

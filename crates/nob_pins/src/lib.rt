@@ -4,8 +4,10 @@
 #![tactic(auto)]
 
 mod bundle;
+mod counts;
 mod evidence;
 mod fault;
+mod peer;
 mod pin;
 mod table;
 

@@ -1,40 +1,64 @@
 //! The table of the pins.
 
-ghost use Rattle.std.specs.Prelude.{◌≡◌, ◌≢◌, ◌<◌, ◌-◌, ◌^◌, ◌==◌, [], true, false, not, min, filter, length, vec_len, IsOk, OnOk, OnErr, IfErr, MatchOption, MatchResult, position};
-ghost use Rattle.std.specs.List.{HoldsAt, list_any, sum_by};
-ghost use Rattle.std.specs.Vec.{vec_capacity};
+ghost use Rattle.std.specs.Prelude.{◌≡◌, ◌≢◌, ◌+◌, ◌<◌, ◌≤◌, ◌-◌, ◌^◌, ◌==◌, ◌++◌, ◌∷◌, [], true, false, not, min, filter, length, vec_len, get_or, slice_get, None, Some, IsOk, OnOk, OnErr, IfErr, MatchOption, MatchResult};
+ghost use Rattle.std.specs.List.{list_any};
+ghost use Rattle.nob_ids.specs.declared.wire_rep.WireRep.{WireRep};
+ghost use Rattle.nob_ids.specs.Names.{most_spaces};
 ghost use Rattle.nob_pins.specs.Evidence.{AreOf, reps_of};
-ghost use Rattle.nob_pins.specs.Bundles.{has_room, KeepsRoom, Unchanged, is_of, has_bundle, IsOnce, bundle_of, Adds, TakesOut, TakesOutAll, of_others, times, count_of};
+ghost use Rattle.nob_pins.specs.Bundles.{has_room, KeepsRoom, Unchanged, has_bundle, bundle_of, Adds, TakesOut, TakesOutAll, of_others, of_peer, count_of};
+ghost use Rattle.nob_pins.specs.Peers.{all_pinned, rooms_of, pinned_at, is_many, count_in, AreByPeer, AreOfPeer, KeepsRooms, has_item};
 
 use crate::bundle::Bundle;
+use crate::counts::{Counts, add_all, take_all};
 use crate::evidence::Settled;
 use crate::fault::PinFault;
+use crate::peer::PeerPins;
 use crate::pin::TransitPin;
 use nob_ids::{ItemNo, SpaceId, WireRep};
 use nob_session::Closed;
 use std::alloc::{AllocError, AllocFailed, Global};
 use std::marker::Model;
 
-/// The pins of a space, at most one bundle for each peer and item. Contracts see the bundles, in no
-/// order, and for which peer and references there is room, but not why. It can't be let go while it
-/// has any.
+/// The pins of a space, at most one bundle for each peer and item: a map for each peer from item
+/// number to bundle, and a count for each reference. Contracts see the bundles, in no order, and for
+/// which peer and references there is room, but not why. It can't be let go while it has any.
 pub struct PinTable {
-    bundles: Vec<Bundle>,
+    alloc: Global,
+    // By the peer's number; they are made when room is first wanted.
+    peers: Vec<PeerPins>,
+    counts: Counts,
 }
 
 impl Model for PinTable {
-    ghost use Rattle.std.specs.Prelude.{◌-◌, vec_len};
-    ghost use Rattle.std.specs.Vec.{vec_capacity};
-    ghost use Rattle.nob_pins.specs.Bundles.{Table, IsOnce};
+    ghost use Rattle.nob_pins.specs.Bundles.{Table};
+    ghost use Rattle.nob_pins.specs.Peers.{all_pinned, rooms_of, AreByPeer, AreCounted};
 
     ghost Value = { Table };
 
     ghost view = { λ t. record {
-      bundles = t.bundles.items;
-      room = vec_capacity t.bundles - vec_len t.bundles;
+      bundles = all_pinned t.peers.items;
+      rooms = rooms_of t.peers.items;
+      counts = t.counts.room;
     } };
 
-    ghost invariant = { λ t. IsOnce t.bundles.items };
+    ghost invariant = { λ t. AreByPeer t.peers.items
+        × AreCounted t.counts.rows (all_pinned t.peers.items) };
+}
+
+// A peer's number, at which its bundles stand.
+fn number_of(peer: SpaceId) -> usize
+    ensures value { result ≡ peer }
+    ensures small { result ≤ most_spaces }
+{
+    usize::from(peer.get())
+}
+
+// The bundles of a peer, if they are made.
+fn row_of(peers: &[PeerPins], peer: SpaceId) -> Option<&PeerPins>
+    ensures { MatchOption result (slice_get peers.now peer ≡ None)
+        (λ row. slice_get peers.now peer ≡ Some row.now) }
+{
+    peers.get(number_of(peer))
 }
 
 impl PinTable {
@@ -43,13 +67,15 @@ impl PinTable {
         ensures { result.bundles ≡ [] }
     {
         PinTable {
-            bundles: Vec::new(alloc),
+            alloc,
+            peers: Vec::new(alloc),
+            counts: Counts::new(alloc),
         }
     }
 
     /// Makes room for one bundle: a `put` to this peer of pins on these references, right after it,
     /// takes no memory and succeeds. Only memory fails it, and not where there is room. What had
-    /// room before has it still, whatever the answer.
+    /// room before has it still, whatever the answer. Linear in the references, on average.
     #[tactic(auto, unfolding(crate::specs::Bundles::has_room))]
     pub fn reserve(&mut self, peer: SpaceId, reps: &[WireRep]) -> Result<(), AllocError>
         ensures bundles { self.new.bundles ≡ self.old.bundles }
@@ -57,11 +83,16 @@ impl PinTable {
         ensures there { has_room self.old peer reps.now ≡ true → IsOk result }
         ensures kept { KeepsRoom self.old self.new }
     {
-        self.bundles.reserve(1)
+        if are_many(&self.counts, reps) {
+            return Err(AllocError);
+        }
+        make_room(&mut self.peers, self.alloc, peer)?;
+        self.counts.reserve(reps.len())
     }
 
     /// Takes a bundle of pins, all of this peer and item, of which the table has none yet. Only
-    /// memory fails it, and not where there is room: the pins come back then.
+    /// memory fails it, and not where there is room: the pins come back then. More pins on one
+    /// reference than `u64` counts are want of memory too. Linear in the pins, on average.
     #[tactic(auto, unfolding(crate::specs::Bundles::has_room))]
     pub fn put(
         &mut self,
@@ -78,16 +109,24 @@ impl PinTable {
         ensures err { OnErr result (Unchanged self.old self.new) }
         ensures returned { IfErr result (λ failed. failed.value.items ≡ pins.items) }
     {
-        match add(&mut self.bundles, Bundle::new(peer, item, pins)) {
-            Ok(()) => Ok(()),
-            Err(failed) => Err(AllocFailed {
-                value: failed.value.into_pins(),
-            }),
+        if are_many_pins(&self.counts, &pins) {
+            return Err(AllocFailed { value: pins });
         }
+        let Ok(()) = make_room(&mut self.peers, self.alloc, peer) else {
+            return Err(AllocFailed { value: pins });
+        };
+        let Ok(()) = self.counts.reserve(pins.len()) else {
+            return Err(AllocFailed { value: pins });
+        };
+        add_all(&mut self.counts, &pins);
+        put_at(&mut self.peers, peer, Bundle::new(peer, item, pins));
+        Ok(())
     }
 
     /// Ends the one bundle of a peer and item that are settled: the others stay, and none of the
-    /// two is left. G1 where there is none. It takes no memory. Linear in the bundles.
+    /// two is left. G1 where there is none. It takes no memory. Linear in the bundle's pins, on
+    /// average.
+    #[tactic(auto, unfolding(crate::specs::Bundles::has_room))]
     pub fn settle(&mut self, settled: &Settled) -> Result<(), PinFault>
         ensures answer { MatchResult result
             (λ _. TakesOut self.old.bundles self.new.bundles settled.now.peer settled.now.item)
@@ -95,97 +134,180 @@ impl PinTable {
             × (has_bundle self.old.bundles settled.now.peer settled.now.item ≡ false)
             × Unchanged self.old self.new) }
     {
-        let Some(place) = find(&self.bundles, settled.peer(), settled.item()) else {
+        let Some(bundle) = take_at(&mut self.peers, settled.peer(), settled.item()) else {
             return Err(PinFault::NoBundle);
         };
-        let bundle = self.bundles.remove(place);
+        take_all(&mut self.counts, bundle.pins());
         bundle.settle(settled);
         Ok(())
     }
 
-    /// Ends the bundles of a peer whose session has closed. It takes no memory. Linear in the
-    /// bundles, for each that ends.
+    /// Ends the bundles of a peer whose session has closed. It takes no memory. Linear in the pins
+    /// to this peer, on average.
     pub fn close(&mut self, closed: &Closed)
         ensures { TakesOutAll self.old.bundles self.new.bundles closed.now.peer }
     {
-        give_up_all(&mut self.bundles, closed);
+        let at = number_of(closed.peer());
+        if at < self.peers.len() {
+            give_up_all(&mut self.peers[at], &mut self.counts, closed);
+        }
     }
 
-    /// Whether there is a bundle of a peer and item. Linear in the bundles.
+    /// Whether there is a bundle of a peer and item. One look-up.
     pub fn has(&self, peer: SpaceId, item: ItemNo) -> bool
         ensures { result ≡ has_bundle self.now.bundles peer item }
     {
-        self.bundles.iter().any(|bundle| bundle.is_of(peer, item))
+        match row_of(&self.peers, peer) {
+            Some(row) => row.has(item),
+            None => false,
+        }
+    }
+
+    /// How many bundles the peer has. Constant time.
+    pub fn bundles(&self, peer: SpaceId) -> usize
+        ensures { result ≡ length (of_peer peer self.now.bundles) }
+    {
+        match row_of(&self.peers, peer) {
+            Some(row) => row.len(),
+            None => 0,
+        }
     }
 
     /// How often the reference is in transit, repeats included; a count past `u64::MAX` is that.
-    /// Linear in the pins.
+    /// One look-up.
     pub fn count(&self, rep: WireRep) -> u64
         ensures { result ≡ min (count_of self.now.bundles rep) (2 ^ 64 - 1) }
     {
-        count_all(&self.bundles, &rep)
+        self.counts.get(rep)
     }
 
     /// Ends a table that has no bundle.
     pub fn end(self)
         requires { self.bundles ≡ [] }
     {
-        let PinTable { bundles } = self;
-        bundles.destroy_empty();
+        let PinTable {
+            alloc: _,
+            peers,
+            counts: _,
+        } = self;
+        end_all(peers);
     }
 }
 
-// Puts a bundle to the others.
-fn add(bundles: &mut Vec<Bundle>, bundle: Bundle) -> Result<(), AllocFailed<Bundle>>
-    ensures adds { OnOk result (Adds bundles.old.items bundles.new.items bundle) }
-    ensures reserved { 0 < vec_capacity bundles.old - vec_len bundles.old → IsOk result }
-    ensures err { OnErr result (bundles.new.items ≡ bundles.old.items) }
-    ensures full { OnErr result (vec_capacity bundles.old - vec_len bundles.old ≡ 0) }
-    ensures returned { IfErr result (λ failed. failed.value ≡ bundle) }
-    ensures once { IsOnce bundles.old.items
-        → has_bundle bundles.old.items bundle.peer bundle.item ≡ false → IsOnce bundles.new.items }
+// Whether so many more pins on one of these references are too many to count.
+fn are_many(counts: &Counts, reps: &[WireRep]) -> bool
+    ensures { result ≡ list_any (is_many counts.now.rows (length reps.now)) reps.now }
 {
-    bundles.push(bundle)
+    let most = u64::MAX - reps.len() as u64;
+    reps.iter().any(|rep| counts.get(*rep) > most)
 }
 
-// Where the bundle of this peer and item stands.
-fn find(bundles: &[Bundle], peer: SpaceId, item: ItemNo) -> Option<usize>
-    ensures { MatchOption result (has_bundle bundles.now peer item ≡ false)
-        (λ place. (place < length bundles.now)
-        × HoldsAt (λ bundle. is_of peer item bundle ≡ true) bundles.now place) }
+// The same of the references of these pins.
+fn are_many_pins(counts: &Counts, pins: &[TransitPin]) -> bool
+    ensures { result ≡ list_any (λ pin. is_many counts.now.rows (length pins.now) pin.rep) pins.now }
 {
-    place_of(bundles, peer, item)
+    let most = u64::MAX - pins.len() as u64;
+    pins.iter().any(|pin| counts.get(pin.rep()) > most)
 }
 
-// The same as a search.
-fn place_of(bundles: &[Bundle], peer: SpaceId, item: ItemNo) -> Option<usize>
-    ensures { result ≡ position (is_of peer item) bundles.now }
+// Puts a peer that has no bundle behind the others.
+fn push(peers: &mut Vec<PeerPins>, row: PeerPins) -> Result<(), AllocError>
+    requires { row.pinned ≡ [] }
+    ensures ok { OnOk result (peers.new.items ≡ peers.old.items ++ row ∷ []) }
+    ensures err { OnErr result (peers.new.items ≡ peers.old.items) }
 {
-    bundles.iter().position(|bundle| bundle.is_of(peer, item))
-}
-
-// Ends the bundles of the peer.
-fn give_up_all(bundles: &mut Vec<Bundle>, closed: &Closed)
-    ensures { bundles.new.items ≡ of_others closed.now.peer bundles.old.items }
-{
-    let mut at = 0;
-    while at < bundles.len() {
-        if bundles[at].peer() == closed.peer() {
-            let bundle = bundles.remove(at);
-            bundle.give_up(closed);
-        } else {
-            at += 1;
+    match peers.push(row) {
+        Ok(()) => Ok(()),
+        Err(failed) => {
+            failed.value.end();
+            Err(AllocError)
         }
     }
 }
 
-// How often the reference is in transit in these.
-fn count_all(bundles: &[Bundle], rep: &WireRep) -> u64
-    ensures { result ≡ min (count_of bundles.now rep.now) (2 ^ 64 - 1) }
+// Makes the peers that aren't made yet, up to this number.
+fn fill(peers: &mut Vec<PeerPins>, alloc: Global, number: usize) -> Result<(), AllocError>
+    ensures pinned { all_pinned peers.new.items ≡ all_pinned peers.old.items }
+    ensures peers { AreByPeer peers.old.items → AreByPeer peers.new.items }
+    ensures kept { KeepsRooms peers.old.items peers.new.items }
+    ensures made { OnOk result (number < length peers.new.items) }
+    ensures there { number < length peers.old.items → IsOk result }
 {
-    let mut total: u64 = 0;
-    for bundle in bundles {
-        total = total.saturating_add(bundle.count(rep));
+    while peers.len() <= number {
+        let Ok(()) = push(peers, PeerPins::new(alloc)) else {
+            return Err(AllocError);
+        };
     }
-    total
+    Ok(())
+}
+
+// Makes room for one bundle of this peer.
+fn make_room(peers: &mut Vec<PeerPins>, alloc: Global, peer: SpaceId) -> Result<(), AllocError>
+    ensures pinned { all_pinned peers.new.items ≡ all_pinned peers.old.items }
+    ensures peers { AreByPeer peers.old.items → AreByPeer peers.new.items }
+    ensures kept { KeepsRooms peers.old.items peers.new.items }
+    ensures room { OnOk result (0 < get_or (rooms_of peers.new.items) peer 0) }
+    ensures there { 0 < get_or (rooms_of peers.old.items) peer 0 → IsOk result }
+{
+    let at = number_of(peer);
+    fill(peers, alloc, at)?;
+    peers[at].reserve()
+}
+
+// Puts a bundle to those of its peer.
+fn put_at(peers: &mut Vec<PeerPins>, peer: SpaceId, bundle: Bundle)
+    requires room { 0 < get_or (rooms_of peers.old.items) peer 0 }
+    requires peers { AreByPeer peers.old.items }
+    requires peer { bundle.peer ≡ peer }
+    requires new { has_bundle (all_pinned peers.old.items) peer bundle.item ≡ false }
+    ensures adds { Adds (all_pinned peers.old.items) (all_pinned peers.new.items) bundle }
+    ensures peers { AreByPeer peers.new.items }
+{
+    let at = number_of(peer);
+    peers[at].put(bundle);
+}
+
+// Takes out the bundle of this peer and item.
+fn take_at(peers: &mut Vec<PeerPins>, peer: SpaceId, item: ItemNo) -> Option<Bundle>
+    requires { AreByPeer peers.old.items }
+    ensures taken { MatchOption result
+        ((has_bundle (all_pinned peers.old.items) peer item ≡ false)
+        × (all_pinned peers.new.items ≡ all_pinned peers.old.items))
+        (λ bundle. (bundle.peer ≡ peer) × (bundle.item ≡ item)
+        × Adds (all_pinned peers.new.items) (all_pinned peers.old.items) bundle
+        × (has_bundle (all_pinned peers.new.items) peer item ≡ false)) }
+    ensures peers { AreByPeer peers.new.items }
+    ensures kept { KeepsRooms peers.old.items peers.new.items }
+{
+    let at = number_of(peer);
+    if at >= peers.len() {
+        return None;
+    }
+    peers[at].take(item)
+}
+
+// Ends these bundles, all of the peer whose session has closed.
+fn give_up_all(row: &mut PeerPins, counts: &mut Counts, closed: &Closed)
+    requires peer { AreOfPeer closed.now.peer row.old.pinned }
+    requires some { (rep : WireRep)
+        → count_of row.old.pinned rep ≤ count_in counts.old.rows rep }
+    ensures pinned { row.new.pinned ≡ [] }
+    ensures count { (rep : WireRep) → count_in counts.old.rows rep
+        ≡ count_in counts.new.rows rep + count_of row.old.pinned rep }
+{
+    while let Some(bundle) = row.pop() {
+        take_all(counts, bundle.pins());
+        bundle.give_up(closed);
+    }
+}
+
+// Ends peers that have no bundle.
+fn end_all(peers: Vec<PeerPins>)
+    requires { all_pinned peers.items ≡ [] }
+{
+    let mut left = peers;
+    while let Some(row) = left.pop() {
+        row.end();
+    }
+    left.destroy_empty();
 }

@@ -1,10 +1,11 @@
-use Rattle.std.proofs.Common.{◌≡◌, ◌-◌, ◌==◌, not, vec_len}
-use Rattle.nob_pins.specs.Bundles.{Pinned, of_others}
-use Rattle.nob_pins.proofs.Kept.{rest_filtered}
+use Rattle.std.proofs.Common.{◌≡◌, ◌+◌, ◌≤◌, length}
+use Rattle.nob_ids.specs.declared.wire_rep.WireRep.{WireRep}
+use Rattle.nob_pins.specs.Bundles.{count_of}
+use Rattle.nob_pins.specs.Peers.{count_in, AreOfPeer}
 use Rattle.nob_pins.proofs.table.give_up_all.Given as goal
 
-abbrev pub invariant-loop-at : goal.invariant-loop-at
-invariant-loop-at l = rest_filtered (λ (b : Pinned). not (b.peer == l.closed.peer)) l.at l.bundles.items ≡ of_others l.closed.peer l.fn.bundles.items
+abbrev pub invariant-loop-bundle : goal.invariant-loop-bundle
+invariant-loop-bundle l = AreOfPeer l.closed.peer l.row.pinned × ((rep : WireRep) → count_in l.initial.counts.rows rep + count_of l.row.pinned rep ≡ count_in l.counts.rows rep + count_of l.initial.row.pinned rep) × ((rep : WireRep) → count_of l.row.pinned rep ≤ count_in l.counts.rows rep)
 
-abbrev pub decreases-loop-at : goal.decreases-loop-at
-decreases-loop-at l = vec_len l.bundles - l.at
+abbrev pub decreases-loop-bundle : goal.decreases-loop-bundle
+decreases-loop-bundle l = length l.row.pinned

@@ -1,17 +1,20 @@
-use Rattle.std.proofs.Common.{◌≡◌, true, sym, subst}
-use Rattle.nob_pins.specs.Bundles.{Pinned, is_of}
-use Rattle.nob_pins.proofs.Found.{taken}
-use Rattle.nob_pins.proofs.Once.{once_removed}
+use Rattle.std.proofs.Common.{◌≡◌, ◌+◌, ap, arith, ◌∙◌}
+use Rattle.nob_pins.specs.Evidence.{reps_of}
+use Rattle.nob_pins.specs.Bundles.{times}
+use Rattle.nob_pins.specs.Peers.{all_pinned, count_in}
+use Rattle.nob_pins.proofs.Counting.{counted_below, counted_less}
 use Rattle.nob_pins.proofs.table.PinTable.settle.Goals as goal
 
-pub invariant_of-self : goal.invariant_of-self
-invariant_of-self c =
-    let found = rw c.deref.ensures.value at c.in-Some.ensures in
-    rw c.remove-bundle.ensures.items (once_removed c.self.inside.bundles.items c.in-Some.place c.remove-bundle.result c.self.invariant found.0 c.remove-bundle.ensures.value)
+pub take_all-requires : goal.take_all-requires
+take_all-requires c = record {
+  some = λ rep.
+      let same : times rep (reps_of c.pins.result.now) ≡ times rep c.in-Some.bundle.reps = ap (times rep) c.pins.ensures in
+      omega (arith, same, counted_below c.self.inside.counts.rows (all_pinned c.self.inside.peers.items) (all_pinned c.take_at.new.peers.items) c.in-Some.bundle c.self.invariant.1 c.in-Some.ensures.taken.2 rep);
+}
 
-pub returns : goal.returns
-returns c =
-    let found = rw (c.deref.ensures.value, c.peer.ensures, c.item.ensures) at c.in-Some.ensures in
-    let at = c.remove-bundle.ensures.value in
-    let is = subst (λ (b : Pinned). is_of c.args.settled.now.peer c.args.settled.now.item b ≡ true) (sym at) (found.1 c.remove-bundle.result) in
-    record { answer = rw (← c.self.view_is, c.remove-bundle.ensures.items) (taken _ _ c.self.inside.bundles.items c.in-Some.place c.remove-bundle.result c.self.invariant found.0 at is) }
+pub invariant_of-self-2 : goal.invariant_of-self-2
+invariant_of-self-2 c = (
+  c.take_at.ensures.peers,
+  counted_less c.self.inside.counts.rows c.take_all.new.counts.rows (all_pinned c.self.inside.peers.items) (all_pinned c.take_at.new.peers.items) c.in-Some.bundle c.self.invariant.1 c.in-Some.ensures.taken.2
+      (λ rep. c.take_all.ensures.count rep ∙ ap (λ n. count_in c.take_all.new.counts.rows rep + n) (ap (times rep) c.pins.ensures)),
+)
