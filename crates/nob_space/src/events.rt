@@ -155,7 +155,8 @@ impl Space {
     /// The item at the front of the inbox from a peer is acted on; one with a fault closes the
     /// session instead. NoPeer, Closed, Nothing where none waits; and the item stays where a
     /// limit would be passed or a session has no number for what it asks for. Linear in the
-    /// item's bytes, the calls, the listings, the pins, and the messages that wait.
+    /// item's bytes, the calls, the messages that wait, and the pins of the item that a Settle
+    /// names, and logarithmic in the listings, save where it closes.
     #[tactic(auto, unfolding(nob_model::specs::Right::right_after))]
     pub fn act(&mut self, peer: SpaceId) -> Result<ActResult, SpaceError>
         ensures answer { StepAnswers self.old (events.Act peer) (answered act_answer result) }
@@ -188,8 +189,8 @@ impl Space {
 
     /// The first surrogate, in the order of their last Dirties, that is granted on an open
     /// session, without holds and without pins, is given up, and its owner told: its reference.
-    /// Nothing where there is none, SeqEnd where the session has no number left. It looks
-    /// through the surrogates and the pins.
+    /// Nothing where there is none, SeqEnd where the session has no number left. Linear
+    /// in the surrogates, once more for each that nothing holds but that has pins.
     #[tactic(auto, unfolding(nob_model::specs::Right::right_after))]
     pub fn clean(&mut self) -> Result<WireRep, SpaceError>
         ensures answer { StepAnswers self.old events.Clean
@@ -205,8 +206,8 @@ impl Space {
     }
 
     /// The object of an index is live no more. NoObject where none is live, StillUsed where it
-    /// is held, pinned here, listed for a client, or the agent. It takes no memory. Linear in
-    /// the pins and the listings.
+    /// is held, pinned here, listed for a client, or the agent. It takes no memory.
+    /// Constant time on average, but for a look-up logarithmic in the listings.
     #[tactic(auto, unfolding(nob_model::specs::Right::right_after))]
     pub fn withdraw(&mut self, index: u64) -> Result<(), Refusal>
         ensures answer { StepAnswers self.old (events.Withdraw index)

@@ -105,7 +105,7 @@ impl Space {
     }
 
     /// Whether a client is listed for the object of an index: it asked for it, was granted it, and
-    /// hasn't given it up. Linear in the listings.
+    /// hasn't given it up. Logarithmic in the listings.
     pub fn lists(&self, index: u64, client: SpaceId) -> bool
         ensures { (L : List Entry) → StandsFor self.now L
             → result ≡ is_listed self.now.id index client (deeds L) }
@@ -124,8 +124,9 @@ impl Space {
 
     /// What the space could do next: to ask it that would be no refusal, limits, free numbers and
     /// want of memory aside. It takes no memory. Linear in the messages that wait and their
-    /// references, the ready jobs times those that run, and, times the pins and the listings, in
-    /// the surrogates and the objects without holds.
+    /// references, the ready jobs times those that run, the objects, with a look-up logarithmic in
+    /// the listings for each that nothing holds, and the surrogates, once more for each that
+    /// nothing holds but that has pins.
     pub fn work(&self) -> Work
         ensures act { (L : List Entry) → StandsFor self.now L → (p : ℕ) → 1 ≤ p → p ≤ 32
             → slice_get result.act (p - 1)

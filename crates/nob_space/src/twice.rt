@@ -42,10 +42,9 @@ pub(crate) fn spare_of(parts: &Parts, here: &Here, event: &Event) -> Result<Spar
         (history_of here.now.space here.now.n D) event.now)) }
 {
     match event {
-        Event::TakeReply(call) => match parts.reply_value(*call) {
-            Ok(Some(value)) => Ok(Spare::Value(value)),
-            Ok(None) => Ok(Spare::Nothing),
-            Err(error) => Err(error),
+        Event::TakeReply(call) => match parts.reply_value(*call)? {
+            Some(value) => Ok(Spare::Value(value)),
+            None => Ok(Spare::Nothing),
         },
         Event::Claim => match parts.job_to_claim() {
             Ok(job) => Ok(Spare::Job(job)),

@@ -9,4 +9,4 @@ mod sending;
 
 pub use hands::{take_over, times};
 pub use returns::{end_job, find_run, give_back, give_back_message, throw_away};
-pub use sending::{counted_refs, hand, send_reserved};
+pub use sending::{hand, send_reserved};

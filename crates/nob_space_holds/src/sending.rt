@@ -1,9 +1,7 @@
 //! The one way in which an item is handed to a peer: with the pins of its references.
 
-ghost use Rattle.std.specs.Prelude.{◌≡◌, ◌+◌, ◌<◌, ◌≤◌, ℕ, List, [], ◌∷◌, Ok, false, length, filter, vec_len, IsOk, IfOk, OnOk, OnErr};
-ghost use Rattle.nob_ids.specs.Names.{is_counted};
+ghost use Rattle.std.specs.Prelude.{◌≡◌, ◌+◌, ◌<◌, ◌≤◌, ℕ, List, [], ◌∷◌, Ok, false, length, vec_len, IsOk, IfOk, OnOk, OnErr};
 ghost use Rattle.nob_ids.specs.declared.limits.Limits.{Limits as LimitsOf};
-ghost use Rattle.nob_pickle.specs.Spelling.{refs_in};
 ghost use Rattle.nob_model_session.specs.declared.entry.EndEntry.{EndEntry};
 ghost use Rattle.nob_model_session.specs.declared.entry.EndEntry.TheVariants.{Send};
 ghost use Rattle.nob_session.specs.Calls.{next_of, with_item};
@@ -15,19 +13,9 @@ ghost use Rattle.nob_space_holds.specs.Pins.{AddsPins};
 
 use nob_ids::{ItemNo, SpaceId, WireRep};
 use nob_model::Kind;
-use nob_pickle::{Value, refs_of};
 use nob_pins::{PinTable, TransitPin};
 use nob_session::Session;
 use std::alloc::{AllocError, Global};
-
-/// The counted references in a value, in reading order. Only memory fails it.
-pub fn counted_refs(alloc: Global, value: &Value) -> Result<Vec<WireRep>, AllocError>
-    ensures { IfOk result (λ reps. reps.items ≡ filter is_counted (refs_in value.now)) }
-{
-    let mut reps = refs_of(alloc, value)?;
-    reps.retain(|rep| rep.is_counted());
-    Ok(reps)
-}
 
 /// Hands an item to the peer of a session that has room for it: the number that it gets. The caller
 /// has seen by `next` that it gets one. Constant time.

@@ -4,6 +4,7 @@ pub mod Noted
 pub mod Answered
 pub mod Owners
 pub mod Chosen
+pub mod Passed
 pub mod Wanted
 pub mod Among
 pub mod Refused

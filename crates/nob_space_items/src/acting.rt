@@ -99,7 +99,8 @@ fn act_on(
 /// nothing waits; and the item stays in the inbox where a Call or a Reply would pass a limit, or a
 /// session has no number for the Dirties or the answer that it asks for. It takes memory to read a
 /// Call or a Reply, for what an item leaves here, and for what is sent; a fault of what was read
-/// takes none. Linear in the bytes, the calls, the listings, the pins, and the messages that wait.
+/// takes none. Linear in the bytes, the calls, the messages that wait, and the pins of the item that
+/// a Settle names, and logarithmic in the listings; a fault costs what `close_for` does.
 pub fn act(
     parts: &mut Parts,
     alloc: Global,
@@ -139,8 +140,6 @@ pub fn act(
         parts.close_for(here, peer, reason);
         return Ok(ActResult::Closed(reason));
     }
-    match act_on(parts, alloc, here, peer, number, item) {
-        Ok(()) => Ok(ActResult::Acted(number)),
-        Err(error) => Err(error),
-    }
+    act_on(parts, alloc, here, peer, number, item)?;
+    Ok(ActResult::Acted(number))
 }

@@ -112,7 +112,7 @@ fn fault_of_reply(
     fault_if(carries_none(parts, me, item), Reason::BadReference)
 }
 
-// The first fault of an item from a peer. Linear in the item, the calls and the pins.
+// The first fault of an item from a peer. Linear in the item and the calls.
 #[tactic(auto, unfolding(crate::specs::Judging::item_fault))]
 pub(crate) fn fault_of_item(
     parts: &Parts,

@@ -167,10 +167,8 @@ fn judge_message(parts: &Parts, here: &Here, item: &Item) -> Result<FewRefs, Ref
         (history_of here.now.space here.now.n D) ≡ Some refusal) }
 {
     let wanted = wanted_refs(parts, here, item);
-    match refuse_message(parts, wanted.as_slice()) {
-        Ok(()) => Ok(wanted),
-        Err(refusal) => Err(refusal),
-    }
+    refuse_message(parts, wanted.as_slice())?;
+    Ok(wanted)
 }
 
 /// Acts on a Call or a Reply from a peer that has no fault: its references that have no surrogate
@@ -200,19 +198,10 @@ pub(crate) fn act_on_message(
     ensures err { OnErr result (Keeps here.now.space here.now.n (state_of parts.old)
         (state_of parts.new)) }
 {
-    let wanted = match judge_message(parts, here, &item) {
-        Ok(wanted) => wanted,
-        Err(refusal) => return Err(SpaceError::Refused(refusal)),
-    };
-    let Ok(dirties) = new_dirties(alloc, wanted.as_slice()) else {
-        return Err(SpaceError::OutOfMemory);
-    };
-    let Ok(copies) = new_copies(parts, alloc, here, &item) else {
-        return Err(SpaceError::OutOfMemory);
-    };
-    let Ok(()) = grow(parts, wanted.as_slice()) else {
-        return Err(SpaceError::OutOfMemory);
-    };
+    let wanted = judge_message(parts, here, &item)?;
+    let dirties = new_dirties(alloc, wanted.as_slice())?;
+    let copies = new_copies(parts, alloc, here, &item)?;
+    grow(parts, wanted.as_slice())?;
     let message = Message {
         from: peer,
         number,

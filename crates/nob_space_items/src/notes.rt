@@ -54,7 +54,8 @@ pub(crate) fn act_on_clean(
     parts.sessions[peer.get() as usize - 1].take();
 }
 
-// Acts on a Settle: the pins of the item that it settles end. It takes no memory.
+// Acts on a Settle: the pins of the item that it settles end. It takes no memory. Linear in the
+// pins of that item.
 pub(crate) fn act_on_settle(parts: &mut Parts, here: &Here, number: ItemNo, settled: &Settled)
     requires state { IsState here.now.space here.now.n (state_of parts.old) }
     requires front { (limits : LimitsOf) (D : List Deed)
@@ -150,14 +151,10 @@ pub(crate) fn act_on_dirty(
     ensures err { OnErr result (Keeps here.now.space here.now.n (state_of parts.old)
         (state_of parts.new)) }
 {
-    if let Err(refusal) = parts.refuse_send(peer, Kind::Note) {
-        return Err(SpaceError::Refused(refusal));
-    }
+    parts.refuse_send(peer, Kind::Note)?;
     let live = is_live(parts, here.space, index);
     let session = &mut parts.sessions[peer.get() as usize - 1];
-    let Ok(()) = answer_dirty(alloc, session, &mut parts.dirty, peer, index, live) else {
-        return Err(SpaceError::OutOfMemory);
-    };
+    answer_dirty(alloc, session, &mut parts.dirty, peer, index, live)?;
     Ok(())
 }
 

@@ -182,10 +182,7 @@ fn payload_if(alloc: Global, call: Option<CallNo>) -> Result<Option<Vec<u8>>, Al
     let Some(call) = call else {
         return Ok(None);
     };
-    match payload_of_reply(alloc, call) {
-        Ok(payload) => Ok(Some(payload)),
-        Err(error) => Err(error),
-    }
+    Ok(Some(payload_of_reply(alloc, call)?))
 }
 
 // Hands a Settle to the peer of a session, and a Reply where there is one. Only memory fails it.
@@ -332,22 +329,12 @@ pub fn settle(parts: &mut Parts, alloc: Global, here: &Here) -> Result<SettledIt
     if parts.sessions[at].free_numbers() < given_count(&call) {
         return Err(SpaceError::Refused(Refusal::SeqEnd));
     }
-    let Ok(settle) = payload_of_settle(alloc, item) else {
-        return Err(SpaceError::OutOfMemory);
-    };
-    let Ok(reply) = payload_if(alloc, call) else {
-        return Err(SpaceError::OutOfMemory);
-    };
-    if parts.ready.reserve(1).is_err() {
-        return Err(SpaceError::OutOfMemory);
-    }
-    if parts.replies.reserve(1).is_err() {
-        return Err(SpaceError::OutOfMemory);
-    }
+    let settle = payload_of_settle(alloc, item)?;
+    let reply = payload_if(alloc, call)?;
+    parts.ready.reserve(1)?;
+    parts.replies.reserve(1)?;
     let session = &mut parts.sessions[at];
-    let Ok(()) = hand_notes(session, settle, reply) else {
-        return Err(SpaceError::OutOfMemory);
-    };
+    hand_notes(session, settle, reply)?;
     let message = parts.waiting.remove(place);
     put_settled(parts, alloc, here.space, message, lost);
     Ok(SettledItem { peer, item })

@@ -1,19 +1,14 @@
 -- Dup and Release: what is right is what the state tells, and what they leave stands for one deed more.
-use Rattle.std.proofs.Common.{◌≡◌, ℕ, ◌+◌, ◌-◌, ◌≤◌, Bool, true, false, not, ◌||◌, ◌==◌, nat_le, List, ◌∷◌, Option, Some, None, length, filter, cond, if◌then◌else◌, refl, sym, ap, ◌∙◌, arith}
+use Rattle.std.proofs.Common.{◌≡◌, ℕ, ◌+◌, ◌-◌, ◌≤◌, Bool, true, false, not, ◌||◌, ◌==◌, nat_le, List, ◌∷◌, Some, None, if◌then◌else◌, refl, sym, ap, ◌∙◌, arith}
 use Rattle.std.proofs.lemmas.Option.{none-some}
 use Rattle.std.proofs.lemmas.Bool.Decides.{nat_tests}
 use Rattle.nob_ids.specs.Names.{is_same}
 use Rattle.nob_ids.specs.declared.limits.Limits.{Limits}
 use Rattle.nob_ids.specs.declared.wire_rep.WireRep.{WireRep}
-use Rattle.nob_table_rows.specs.declared.counts.Counts.{Counts}
 use Rattle.nob_table_rows.specs.declared.counts.Part.TheVariants.{Hand}
-use Rattle.nob_table_rows.specs.declared.standing.Grant.TheVariants as grants
-use Rattle.nob_table_rows.specs.declared.standing.Surrogate.{Surrogate}
-use Rattle.nob_table_rows.specs.Counts as table_counts
 use Rattle.nob_table_rows.specs.Rows.{row_at}
-use Rattle.nob_table_rows.specs.Standings.{is_known, own_standing, far_standing, state_of}
+use Rattle.nob_table_rows.specs.Standings.{is_known}
 use Rattle.nob_table.specs.Table.{Table, standing, was_given, hold_fault, release_fault}
-use Rattle.nob_table_rows.proofs.Same.{same_laws}
 use Rattle.nob_model_types.specs.declared.answer.Answer.TheVariants as answers
 use Rattle.nob_model_types.specs.declared.refusal.Refusal.TheVariants as refusals
 use Rattle.nob_model_words.specs.declared.deed.Deed.{Deed}

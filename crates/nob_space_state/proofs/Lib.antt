@@ -12,6 +12,7 @@ pub mod Ends
 pub mod Hands
 pub mod Firsts
 pub mod Claiming
+pub mod Passing
 pub mod Sent
 pub mod Calling
 pub mod Replies

@@ -1,5 +1,5 @@
 -- What is answered to the events that hand an item to a peer, by the state, and what its pins make of the bundles.
-use Rattle.std.specs.Prelude.{◌≡◌, ℕ, Bool, ◌&&◌, ◌||◌, not, nat_le, List, [], ◌∷◌, length, filter, Option, Some, None}
+use Rattle.std.specs.Prelude.{ℕ, Bool, ◌&&◌, ◌||◌, not, nat_le, List, [], ◌∷◌, length, filter, Option, Some, None}
 use Rattle.nob_ids.specs.Names.{is_counted}
 use Rattle.nob_ids.specs.declared.wire_rep.WireRep.{WireRep}
 use Rattle.nob_pickle.specs.Spelling.{refs_in}
@@ -9,7 +9,6 @@ use Rattle.nob_model_session.specs.declared.entry.Kind.{Kind}
 use Rattle.nob_model_session.specs.declared.entry.Kind.TheVariants.{Limited}
 use Rattle.nob_session.specs.Calls.{next_of}
 use Rattle.nob_session.specs.Stands.{Roomy}
-use Rattle.nob_pins.specs.Bundles.{Pinned, bundle_of, Adds}
 use Rattle.nob_model_types.specs.declared.event.Outcome.{Outcome}
 use Rattle.nob_model_types.specs.declared.answer.Answer.{Answer}
 use Rattle.nob_model_types.specs.declared.answer.Answer.TheVariants as answers

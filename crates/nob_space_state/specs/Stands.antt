@@ -1,36 +1,24 @@
 -- For which lists of what a space did its state stands: one equation for each part, by the words that are read off
 -- the whole list. The newest stands FIRST.
-use Rattle.std.specs.Prelude.{◌≡◌, ℕ, ◌+◌, Bool, true, false, List, [], ◌∷◌, length, slice_get, map, Some, None, Result, Ok, Err, IsOk, if◌then◌else◌}
+use Rattle.std.specs.Prelude.{◌≡◌, ℕ, ◌+◌, List, [], ◌∷◌, length, slice_get, map, Some, Result, Ok, Err, IsOk}
 use Rattle.std.specs.List.{sum_by}
-use Rattle.nob_ids.specs.Names.{is_counted}
 use Rattle.nob_ids.specs.declared.limits.Limits.{Limits}
-use Rattle.nob_ids.specs.declared.wire_rep.WireRep.{WireRep}
 use Rattle.nob_item.specs.Kinds.{counted_in}
 use Rattle.nob_session.specs.Stands as session
 use Rattle.nob_session.specs.Stands.{Roomy}
-use Rattle.nob_table_rows.specs.declared.standing.State.{State as TableState}
-use Rattle.nob_table_rows.specs.declared.standing.State.TheVariants as states
-use Rattle.nob_table_rows.specs.Counts.{is_held}
-use Rattle.nob_table_rows.specs.Standings as standings
-use Rattle.nob_table.specs.Table.{Table, standing, place_of}
 use Rattle.nob_dirty.specs.Sets.{lists}
 use Rattle.nob_pins.specs.Bundles.{Pinned, bundle_of}
 use Rattle.nob_model_types.specs.declared.answer.Answer.{Answer}
 use Rattle.nob_model_types.specs.declared.refusal.Refusal.{Refusal}
 use Rattle.nob_model_words.specs.declared.deed.Deed.{Deed}
-use Rattle.nob_model_words.specs.declared.turns.Turns.{Turns}
-use Rattle.nob_model_words.specs.Sessions.{closed}
-use Rattle.nob_model_words.specs.Objects as objects
-use Rattle.nob_model_words.specs.Turns.{is_own, is_pending, is_granted, is_refused, turns}
 use Rattle.nob_model_work.specs.Work.{work}
 use Rattle.nob_model_history.specs.declared.history.History.{History}
 use Rattle.nob_model_history.specs.declared.transit.SentItem.{SentItem}
 use Rattle.nob_model_history.specs.Histories.{history_of}
 use Rattle.nob_model_history.specs.Ends.{calls_at}
-use Rattle.nob_model_history.specs.Holds.{times, hand, lent_in}
 use Rattle.nob_model_history.specs.Transit as transit
 use Rattle.nob_model_history.specs.Listing.{is_listed}
-use Rattle.nob_model.specs.Right.{own_ref, calls_made, jobs_made}
+use Rattle.nob_model.specs.Right.{calls_made, jobs_made}
 use Rattle.nob_model.specs.Lists.{AreRightDeeds}
 use Rattle.nob_space_holds.specs.Shows.{TableStands}
 use Rattle.nob_space_state.specs.declared.error.SpaceError.{SpaceError}

@@ -19,8 +19,9 @@ use nob_ids::{CallNo, SpaceId, WireRep};
 use nob_item::{ItemError, encode_call};
 use nob_model::right::{LAST_NUMBER, MOST_CALLS};
 use nob_model::{Here, Kind, OwnCall, Refusal, Stage};
+use nob_model_acting::sending::counted;
 use nob_pickle::Value;
-use nob_space_holds::{counted_refs, hand};
+use nob_space_holds::hand;
 use std::alloc::Global;
 
 impl Parts {
@@ -41,16 +42,11 @@ impl Parts {
         if target.index != 0 && !self.is_held(target) {
             return Err(Refusal::NotHeld);
         }
-        if let Err(refusal) = self.refuse_value(here.space, value) {
-            return Err(refusal);
-        }
+        self.refuse_value(here.space, value)?;
         if self.calls.len() >= MOST_CALLS || self.calls_made >= LAST_NUMBER {
             return Err(Refusal::Limit);
         }
-        if let Err(refusal) = self.refuse_send(target.owner, Kind::Limited) {
-            return Err(refusal);
-        }
-        Ok(())
+        self.refuse_send(target.owner, Kind::Limited)
     }
 
     /// Call: a method of the object that a reference names is called with a value, whose references
@@ -79,24 +75,18 @@ impl Parts {
         ensures err { OnErr result (Keeps here.now.space here.now.n (state_of self.old)
             (state_of self.new)) }
     {
-        if let Err(refusal) = self.refuse_call(here, target, value) {
-            return Err(SpaceError::Refused(refusal));
-        }
+        self.refuse_call(here, target, value)?;
         let call = CallNo::new(self.calls_made + 1);
         let payload = match encode_call(alloc, call, target.index, method, value) {
             Ok(payload) => payload,
             Err(ItemError::Fault(_)) => unreachable!(),
             Err(ItemError::OutOfMemory) => return Err(SpaceError::OutOfMemory),
         };
-        let Ok(reps) = counted_refs(alloc, value) else {
-            return Err(SpaceError::OutOfMemory);
-        };
-        if self.calls.reserve(1).is_err() {
-            return Err(SpaceError::OutOfMemory);
-        }
+        let reps = counted(alloc, value)?;
+        self.calls.reserve(1)?;
         let peer = target.owner;
         let session = &mut self.sessions[peer.get() as usize - 1];
-        let Ok(_) = hand(
+        hand(
             alloc,
             session,
             &mut self.pins,
@@ -104,9 +94,7 @@ impl Parts {
             payload,
             Kind::Limited,
             reps.as_slice(),
-        ) else {
-            return Err(SpaceError::OutOfMemory);
-        };
+        )?;
         let own = OwnCall {
             call,
             to: peer,

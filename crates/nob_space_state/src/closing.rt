@@ -79,8 +79,8 @@ impl Parts {
 
     /// The session with a peer closes here for a reason: an item from it has a fault, or it was
     /// asked to close. It takes no memory. Linear in the messages that wait, the ready jobs, the
-    /// calls times the ready replies, the peer's references, the listings and the pins. The
-    /// caller's condition: it is a peer, and its session is open here.
+    /// calls times the ready replies, and the peer's references, listings and pins. The caller's
+    /// condition: it is a peer, and its session is open here.
     pub fn close_for(&mut self, here: &Here, peer: SpaceId, reason: Reason)
         requires state { IsState here.now.space here.now.n (state_of self.old) }
         requires peer { is_peer here.now.space here.now.n peer ≡ true }

@@ -20,8 +20,9 @@ use crate::parts::Parts;
 use nob_ids::{JobNo, SpaceId};
 use nob_item::{Item, ItemError, encode_reply};
 use nob_model::{Here, Kind, Outcome, Refusal};
+use nob_model_acting::sending::counted;
 use nob_pickle::Value;
-use nob_space_holds::{counted_refs, end_job, find_run, hand};
+use nob_space_holds::{end_job, find_run, hand};
 use std::alloc::Global;
 
 /// What became of the reply to a job that was ended.
@@ -62,13 +63,8 @@ impl Parts {
             ≡ None) (λ refusal. reply_refusal me client (state_of self.now) value.now
             ≡ Some refusal) }
     {
-        if let Err(refusal) = self.refuse_value(me, value) {
-            return Err(refusal);
-        }
-        if let Err(refusal) = self.refuse_send(client, Kind::Limited) {
-            return Err(refusal);
-        }
-        Ok(())
+        self.refuse_value(me, value)?;
+        self.refuse_send(client, Kind::Limited)
     }
 
     /// Finish: a job that runs is ended. Its outcome goes to its client as a reply, whose
@@ -115,19 +111,15 @@ impl Parts {
         }
         let unit = Value::Unit;
         let value = value_of(outcome, &unit);
-        if let Err(refusal) = self.refuse_reply(here.space, client, value) {
-            return Err(SpaceError::Refused(refusal));
-        }
+        self.refuse_reply(here.space, client, value)?;
         let payload = match encode_reply(alloc, call, status_of(outcome), value) {
             Ok(payload) => payload,
             Err(ItemError::Fault(_)) => unreachable!(),
             Err(ItemError::OutOfMemory) => return Err(SpaceError::OutOfMemory),
         };
-        let Ok(reps) = counted_refs(alloc, value) else {
-            return Err(SpaceError::OutOfMemory);
-        };
+        let reps = counted(alloc, value)?;
         let session = &mut self.sessions[client.get() as usize - 1];
-        let Ok(_) = hand(
+        hand(
             alloc,
             session,
             &mut self.pins,
@@ -135,9 +127,7 @@ impl Parts {
             payload,
             Kind::Limited,
             reps.as_slice(),
-        ) else {
-            return Err(SpaceError::OutOfMemory);
-        };
+        )?;
         end_job(&mut self.table, &mut self.running, here.space, job);
         Ok(ReplyFate::HandedOn)
     }

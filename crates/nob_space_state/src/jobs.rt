@@ -65,10 +65,8 @@ impl Parts {
         }
         let message = &self.ready[place];
         let number = JobNo::new(self.jobs_made + 1);
-        match job_of(number, message.from, &message.item) {
-            Ok(job) => Ok((place, job)),
-            Err(error) => Err(error),
-        }
+        let job = job_of(number, message.from, &message.item)?;
+        Ok((place, job))
     }
 
     /// The job that Claim would give now; its value is copied. It is refused, or wants memory, as
@@ -79,10 +77,8 @@ impl Parts {
             → AnswersOrWants (λ job. answers.Job job) result
             (right.right_claim (history_of s n D)) }
     {
-        match self.next_job() {
-            Ok((_, job)) => Ok(job),
-            Err(error) => Err(error),
-        }
+        let (_, job) = self.next_job()?;
+        Ok(job)
     }
 
     /// Claim: the first ready job, in order of becoming ready, whose target isn't running; its
@@ -97,13 +93,8 @@ impl Parts {
         ensures err { OnErr result (Keeps here.now.space here.now.n (state_of self.old)
             (state_of self.new)) }
     {
-        let (place, job) = match self.next_job() {
-            Ok((place, job)) => (place, job),
-            Err(error) => return Err(error),
-        };
-        if self.running.reserve(1).is_err() {
-            return Err(SpaceError::OutOfMemory);
-        }
+        let (place, job) = self.next_job()?;
+        self.running.reserve(1)?;
         let message = self.ready.remove(place);
         let run = Run {
             job: job.job,
@@ -126,19 +117,14 @@ fn job_of(job: JobNo, client: SpaceId, item: &Item) -> Result<Job, SpaceError>
             target,
             method,
             value,
-        } => {
-            let Ok(value) = value.copy() else {
-                return Err(SpaceError::OutOfMemory);
-            };
-            Ok(Job {
-                job,
-                client,
-                call: *call,
-                target: *target,
-                method: *method,
-                value,
-            })
-        }
+        } => Ok(Job {
+            job,
+            client,
+            call: *call,
+            target: *target,
+            method: *method,
+            value: value.copy()?,
+        }),
         _ => Err(SpaceError::Refused(Refusal::Nothing)),
     }
 }

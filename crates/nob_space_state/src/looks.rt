@@ -54,7 +54,7 @@ impl Parts {
         rep.index != 0 && rep.owner == me && !live
     }
 
-    /// Whether a client is listed for an object of this space. Linear in the listings.
+    /// Whether a client is listed for an object of this space. Logarithmic in the listings.
     pub fn has_clients(&self, index: u64) -> bool
         ensures { result ≡ has_clients self.now.dirty index }
     {
@@ -62,7 +62,7 @@ impl Parts {
     }
 
     /// Whether a client is listed at an index: it was granted the object, and hasn't given it up.
-    /// Linear in the listings.
+    /// Logarithmic in the listings.
     pub fn lists(&self, index: u64, client: SpaceId) -> bool
         ensures { (s n : ℕ) (limits : LimitsOf) (D : List Deed)
             → Stands s n limits (state_of self.now) D → result ≡ is_listed s index client D }
@@ -70,7 +70,7 @@ impl Parts {
         self.dirty.lists(index, client)
     }
 
-    /// Whether a reference is in transit from here. Linear in the pins.
+    /// Whether a reference is in transit from here. Constant time on average.
     pub fn is_pinned(&self, rep: &WireRep) -> bool
         ensures { result ≡ not (count_of self.now.pins.bundles rep.now == 0) }
     {

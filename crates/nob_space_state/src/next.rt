@@ -75,8 +75,8 @@ impl Parts {
         self.first_free().is_some()
     }
 
-    /// The least index of a live object that Withdraw would take. Linear in the live objects
-    /// without holds, times the pins and the listings.
+    /// The least index of a live object that Withdraw would take. Linear in the objects, with a
+    /// look-up logarithmic in the listings for each that nothing holds.
     pub fn to_withdraw(&self, here: &Here) -> Option<u64>
         ensures { (limits : LimitsOf) (D : List Deed)
             → Stands here.now.space here.now.n limits (state_of self.now) D

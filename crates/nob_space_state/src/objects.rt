@@ -72,9 +72,7 @@ impl Parts {
         ensures err { OnErr result (Keeps here.now.space here.now.n (state_of self.old)
             (state_of self.new)) }
     {
-        if let Err(refusal) = self.refuse_dup(here.space, rep) {
-            return Err(refusal);
-        }
+        self.refuse_dup(here.space, rep)?;
         match self.table.hold(*rep, Part::Hand) {
             Ok(()) => Ok(()),
             Err(_) => unreachable!(),
@@ -93,9 +91,7 @@ impl Parts {
         ensures err { OnErr result (Keeps here.now.space here.now.n (state_of self.old)
             (state_of self.new)) }
     {
-        if let Err(refusal) = self.refuse_release(here.space, rep) {
-            return Err(refusal);
-        }
+        self.refuse_release(here.space, rep)?;
         match self.table.release(*rep, Part::Hand) {
             Ok(()) => Ok(()),
             Err(_) => unreachable!(),
@@ -127,8 +123,8 @@ impl Parts {
         Ok(())
     }
 
-    /// Withdraw: the object of an index is live no more. It takes no memory. Linear in the pins and
-    /// the listings.
+    /// Withdraw: the object of an index is live no more. It takes no memory. Constant time on
+    /// average, but for a look-up logarithmic in the listings.
     pub fn withdraw(&mut self, here: &Here, index: u64) -> Result<(), Refusal>
         requires { IsState here.now.space here.now.n (state_of self.old) }
         ensures answer { (limits : LimitsOf) (D : List Deed)
@@ -140,9 +136,7 @@ impl Parts {
         ensures err { OnErr result (Keeps here.now.space here.now.n (state_of self.old)
             (state_of self.new)) }
     {
-        if let Err(refusal) = self.refuse_withdraw(here.space, index) {
-            return Err(refusal);
-        }
+        self.refuse_withdraw(here.space, index)?;
         match self.table.withdraw(index) {
             Ok(()) => Ok(()),
             Err(_) => unreachable!(),

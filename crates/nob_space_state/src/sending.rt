@@ -40,9 +40,7 @@ impl Parts {
         };
         let mut number = 0;
         while let Some(rep) = nob_pickle::counted_ref(value, number) {
-            if let Err(refusal) = self.refuse_ref(me, &rep) {
-                return Err(refusal);
-            }
+            self.refuse_ref(me, &rep)?;
             number += 1;
         }
         Ok(())

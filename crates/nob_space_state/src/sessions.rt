@@ -63,10 +63,7 @@ impl Parts {
         let Some(session) = self.sessions.get(peer.get() as usize - 1) else {
             return Err(SpaceError::Refused(Refusal::NoPeer));
         };
-        match session.frames() {
-            Ok(frames) => Ok(frames),
-            Err(_) => Err(SpaceError::OutOfMemory),
-        }
+        Ok(session.frames()?)
     }
 
     /// Tick: the session with a peer counts one tick more. Where its retries are used up it closes:

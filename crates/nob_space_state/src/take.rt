@@ -119,10 +119,7 @@ impl Parts {
         let Item::Reply { value, .. } = &self.replies[place].item else {
             return Ok(None);
         };
-        match value.copy() {
-            Ok(value) => Ok(Some(value)),
-            Err(error) => Err(error),
-        }
+        Ok(Some(value.copy()?))
     }
 
     /// TakeReply of a call: its reply, whose references come into the hand, or that there will be

@@ -6,6 +6,9 @@ use Rattle.nob_item.specs.declared.fault.ItemError.{ItemError}
 use Rattle.nob_item.specs.Reading.{item_read}
 use Rattle.nob_space_items.specs.Acts.{FrontWants}
 use Rattle.nob_space_items.proofs.Chosen.{act_no_peer, act_of_closed, act_of_none, act_of_garbled, act_of_faulty, is_front, front_there, closing_is}
+use Rattle.nob_space_items.proofs.Passed.{acts_on}
+use Rattle.nob_space_state.proofs.Passing.{after_error}
+use Rattle.nob_model_types.specs.declared.answer.Answer.TheVariants as answers
 use Rattle.nob_space_items.proofs.acting.act.Goals as goal
 
 pub returns-then-not-is_peer-clause-answer : goal.returns-then-not-is_peer-clause-answer
@@ -42,3 +45,10 @@ pub act_on-requires-clause-front : goal.act_on-requires-clause-front
 act_on-requires-clause-front c limits D stands =
     is_front stands c.args.peer (sym c.is_peer.ensures ∙ c.if-not-is_peer.false) (sym c.has_closed.ensures ∙ c.if-has_closed.false) c.get.result c.get.ensures.value c.index.result.now c.index.ensures (Some (c.in-Some.front.0, c.in-Some.front.1.now)) c.in-Some.ensures.answer
     c.in-Some.front.0 c.in-Some.front.1.now refl c.in-Ok.item (ap item_of (c.in-Ok.ensures {u = tt}).exact) (sym (c.in_default-fault_of_item.ensures {u = tt}))
+
+pub returns-in_err-act_on-clause-answer : goal.returns-in_err-act_on-clause-answer
+returns-in_err-act_on-clause-answer c limits D stands =
+    acts_on (λ (x : Unit {0}). answers.Acted c.in-Some.front.0) _ c.from_residual.result _ c.in_err-act_on.field-0.0 c.from_residual.ensures.1 (c.in_err-act_on.ensures.answer limits D stands)
+
+pub returns-in_err-act_on-clause-err : goal.returns-in_err-act_on-clause-err
+returns-in_err-act_on-clause-err c = after_error _ c.from_residual.result c.in_err-act_on.ensures.err

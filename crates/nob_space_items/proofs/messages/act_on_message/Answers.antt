@@ -5,6 +5,7 @@ use Rattle.nob_model_words.specs.declared.deed.Deed.{Deed}
 use Rattle.nob_model_words.specs.declared.message.RefCopy.{RefCopy}
 use Rattle.nob_model_acting.specs.Acting.{answer_of_act}
 use Rattle.nob_space_state.specs.Parts.{state_of}
+use Rattle.nob_space_state.proofs.Passing.{refused_as, wants_as, after_error}
 use Rattle.nob_space_items.specs.Growing.{AreAmong, HaveRoom}
 use Rattle.nob_space_items.specs.Messages.{wanted_refs, message_refusal}
 use Rattle.nob_space_items.specs.Receiving.{CanReceive, Receives}
@@ -17,32 +18,36 @@ use Rattle.nob_space_items.proofs.messages.act_on_message.Goals as goal
 pub judge_message-requires : goal.judge_message-requires
 judge_message-requires c = (let front = c.requires.front c.requires.state.0 c.requires.state.1 c.requires.state.2 in record { few = item_few front.bytes c.args.item front.spelt })
 
-pub returns-in-Err-clause-answer : goal.returns-in-Err-clause-answer
-returns-in-Err-clause-answer c limits D stands =
-    message_answer c.args.here.now.space c.args.here.now.n c.args.peer c.args.number c.args.item D (c.requires.front limits D stands) c.requires.message
-    ∙ ap (answer_of_act c.args.number None) ((c.in-Err.ensures {u = tt}).answer limits D stands)
+pub returns-in_err-wanted-clause-answer : goal.returns-in_err-wanted-clause-answer
+returns-in_err-wanted-clause-answer c limits D stands =
+    refused_as _ c.from_residual.result _ c.in_err-wanted.field-0.0 c.from_residual.ensures.1
+    (message_answer c.args.here.now.space c.args.here.now.n c.args.peer c.args.number c.args.item D (c.requires.front limits D stands) c.requires.message
+    ∙ ap (answer_of_act c.args.number None) (c.in_err-wanted.ensures.answer limits D stands))
 
-pub returns-in_default-clause-answer : goal.returns-in_default-clause-answer
-returns-in_default-clause-answer c limits D stands =
-    subst IsOk (sym (message_answer c.args.here.now.space c.args.here.now.n c.args.peer c.args.number c.args.item D (c.requires.front limits D stands) c.requires.message
-    ∙ ap (answer_of_act c.args.number None) ((c.in-Ok.ensures {u = tt}).answer limits D stands))) refl
+pub returns-in_err-dirties-clause-answer : goal.returns-in_err-dirties-clause-answer
+returns-in_err-dirties-clause-answer c limits D stands =
+    wants_as _ c.from_residual-in_err-dirties.result _ c.from_residual-in_err-dirties.ensures.1
+    (subst IsOk (sym (message_answer c.args.here.now.space c.args.here.now.n c.args.peer c.args.number c.args.item D (c.requires.front limits D stands) c.requires.message
+    ∙ ap (answer_of_act c.args.number None) (c.in_ok-wanted.ensures.answer limits D stands))) refl)
 
-pub returns-in_default-new_copies-clause-answer : goal.returns-in_default-new_copies-clause-answer
-returns-in_default-new_copies-clause-answer c limits D stands =
-    subst IsOk (sym (message_answer c.args.here.now.space c.args.here.now.n c.args.peer c.args.number c.args.item D (c.requires.front limits D stands) c.requires.message
-    ∙ ap (answer_of_act c.args.number None) ((c.in-Ok.ensures {u = tt}).answer limits D stands))) refl
+pub returns-in_err-copies-clause-answer : goal.returns-in_err-copies-clause-answer
+returns-in_err-copies-clause-answer c limits D stands =
+    wants_as _ c.from_residual-in_err-copies.result _ c.from_residual-in_err-copies.ensures.1
+    (subst IsOk (sym (message_answer c.args.here.now.space c.args.here.now.n c.args.peer c.args.number c.args.item D (c.requires.front limits D stands) c.requires.message
+    ∙ ap (answer_of_act c.args.number None) (c.in_ok-wanted.ensures.answer limits D stands))) refl)
 
 pub grow-requires : goal.grow-requires
 grow-requires c =
     let D : List Deed = c.requires.state.1 in
     let stands = c.requires.state.2 in
-    subst (AreAmong (length c.args.parts.now.sessions.items)) (sym (c.as_slice-2.ensures ∙ (c.in-Ok.ensures {u = tt}).wanted))
+    subst (AreAmong (length c.args.parts.now.sessions.items)) (sym (c.as_slice-2.ensures ∙ c.in_ok-wanted.ensures.wanted))
     (owners_among stands c.args.peer c.args.number c.args.item (c.requires.front c.requires.state.0 D stands) c.requires.message (length c.args.parts.now.sessions.items) stands.ends.each)
 
-pub returns-in_default-grow-clause-answer : goal.returns-in_default-grow-clause-answer
-returns-in_default-grow-clause-answer c limits D stands =
-    subst IsOk (sym (message_answer c.args.here.now.space c.args.here.now.n c.args.peer c.args.number c.args.item D (c.requires.front limits D stands) c.requires.message
-    ∙ ap (answer_of_act c.args.number None) ((c.in-Ok.ensures {u = tt}).answer limits D stands))) refl
+pub returns-in_err-grow-clause-answer : goal.returns-in_err-grow-clause-answer
+returns-in_err-grow-clause-answer c limits D stands =
+    wants_as _ c.from_residual-in_err-grow.result _ c.from_residual-in_err-grow.ensures.1
+    (subst IsOk (sym (message_answer c.args.here.now.space c.args.here.now.n c.args.peer c.args.number c.args.item D (c.requires.front limits D stands) c.requires.message
+    ∙ ap (answer_of_act c.args.number None) (c.in_ok-wanted.ensures.answer limits D stands))) refl)
 
 pub receive-requires-clause-can : goal.receive-requires-clause-can
 receive-requires-clause-can c =
@@ -55,21 +60,21 @@ receive-requires-clause-can c =
     let fits : length c.args.parts.now.sessions.items < 18446744073709551616 = search rules in
     let each = stands.ends.each in
     let small : n < 18446744073709551616 = omega (arith, fits, each) in
-    let reps_are : c.in-Ok.wanted ≡ wanted_refs s n st (counted_in c.args.item) = (c.in-Ok.ensures {u = tt}).wanted in
+    let reps_are : c.in_ok-wanted.wanted ≡ wanted_refs s n st (counted_in c.args.item) = c.in_ok-wanted.ensures.wanted in
     let given : c.as_slice-2.result.now ≡ wanted_refs s n st (counted_in c.args.item) = c.as_slice-2.ensures ∙ reps_are in
-    let dirties_are : c.in-Ok-new_dirties.dirties.items ≡ wanted_refs s n st (counted_in c.args.item) = (c.in-Ok-new_dirties.ensures {u = tt}) ∙ c.as_slice.ensures ∙ reps_are in
+    let dirties_are : c.in_ok-dirties.dirties.items ≡ wanted_refs s n st (counted_in c.args.item) = c.in_ok-dirties.ensures ∙ c.as_slice.ensures ∙ reps_are in
     let can : CanReceive s new (message_of s n st c.args.peer c.args.number c.args.item) (wanted_refs s n st (counted_in c.args.item)) =
     can_receive stands c.args.peer c.args.number c.args.item (c.requires.front c.requires.state.0 D stands) c.requires.message
-    (subst (λ (reps : List WireRep). message_refusal st reps ≡ None) reps_are (c.in-Ok.ensures {u = tt}).free) small new c.grow.ensures.same
-    (subst (λ (reps : List WireRep). HaveRoom (length reps) new.sessions reps) given (c.in-Ok-grow.ensures {u = tt}).sessions)
-    (subst (λ (reps : List WireRep). length reps ≤ new.table.surrogate_room) given (c.in-Ok-grow.ensures {u = tt}).table) in
-    subst (λ (copies : List RefCopy). CanReceive s new (record { from = c.args.peer; number = c.args.number; item = c.args.item; copies = copies }) c.in-Ok-new_dirties.dirties.items) (sym (c.in-Ok-new_copies.ensures {u = tt}))
+    (subst (λ (reps : List WireRep). message_refusal st reps ≡ None) reps_are c.in_ok-wanted.ensures.free) small new c.grow.ensures.same
+    (subst (λ (reps : List WireRep). HaveRoom (length reps) new.sessions reps) given c.in_ok-grow.ensures.sessions)
+    (subst (λ (reps : List WireRep). length reps ≤ new.table.surrogate_room) given c.in_ok-grow.ensures.table) in
+    subst (λ (copies : List RefCopy). CanReceive s new (record { from = c.args.peer; number = c.args.number; item = c.args.item; copies = copies }) c.in_ok-dirties.dirties.items) (sym c.in_ok-copies.ensures)
     (subst (CanReceive s new (message_of s n st c.args.peer c.args.number c.args.item)) (sym dirties_are) can)
 
 pub returns-clause-answer : goal.returns-clause-answer
 returns-clause-answer c limits D stands =
     message_answer c.args.here.now.space c.args.here.now.n c.args.peer c.args.number c.args.item D (c.requires.front limits D stands) c.requires.message
-    ∙ ap (answer_of_act c.args.number None) ((c.in-Ok.ensures {u = tt}).answer limits D stands)
+    ∙ ap (answer_of_act c.args.number None) (c.in_ok-wanted.ensures.answer limits D stands)
 
 pub returns-clause-stands : goal.returns-clause-stands
 returns-clause-stands c limits D stands =
@@ -82,12 +87,15 @@ returns-clause-stands c limits D stands =
     let fits : length c.args.parts.now.sessions.items < 18446744073709551616 = search rules in
     let each = stands.ends.each in
     let small : n < 18446744073709551616 = omega (arith, fits, each) in
-    let reps_are : c.in-Ok.wanted ≡ wanted_refs s n st (counted_in c.args.item) = (c.in-Ok.ensures {u = tt}).wanted in
-    let dirties_are : c.in-Ok-new_dirties.dirties.items ≡ wanted_refs s n st (counted_in c.args.item) = (c.in-Ok-new_dirties.ensures {u = tt}) ∙ c.as_slice.ensures ∙ reps_are in
+    let reps_are : c.in_ok-wanted.wanted ≡ wanted_refs s n st (counted_in c.args.item) = c.in_ok-wanted.ensures.wanted in
+    let dirties_are : c.in_ok-dirties.dirties.items ≡ wanted_refs s n st (counted_in c.args.item) = c.in_ok-dirties.ensures ∙ c.as_slice.ensures ∙ reps_are in
     let receives : Receives s grown new (message_of s n st c.args.peer c.args.number c.args.item) (wanted_refs s n st (counted_in c.args.item)) =
     subst (Receives s grown new (message_of s n st c.args.peer c.args.number c.args.item)) dirties_are
-    (subst (λ (copies : List RefCopy). Receives s grown new (record { from = c.args.peer; number = c.args.number; item = c.args.item; copies = copies }) c.in-Ok-new_dirties.dirties.items) (c.in-Ok-new_copies.ensures {u = tt}) c.receive.ensures) in
+    (subst (λ (copies : List RefCopy). Receives s grown new (record { from = c.args.peer; number = c.args.number; item = c.args.item; copies = copies }) c.in_ok-dirties.dirties.items) c.in_ok-copies.ensures c.receive.ensures) in
     receives_stand stands c.args.peer c.args.number c.args.item front c.requires.message
     (grown_receives stands c.args.peer c.args.number c.args.item front c.requires.message
-    (subst (λ (reps : List WireRep). message_refusal st reps ≡ None) reps_are (c.in-Ok.ensures {u = tt}).free) small grown c.grow.ensures.same new receives)
+    (subst (λ (reps : List WireRep). message_refusal st reps ≡ None) reps_are c.in_ok-wanted.ensures.free) small grown c.grow.ensures.same new receives)
     (act_is s n limits D c.args.peer c.args.number (returns-clause-answer c limits D stands))
+
+pub returns-in_err-grow-clause-err : goal.returns-in_err-grow-clause-err
+returns-in_err-grow-clause-err c = after_error _ c.from_residual-in_err-grow.result (λ limits D stands. search rules)

@@ -8,6 +8,7 @@ use Rattle.nob_space_state.specs.Parts.{State, state_of}
 use Rattle.nob_space_state.specs.Stands.{Stands}
 use Rattle.nob_space_state.proofs.Calling.{peer_range}
 use Rattle.nob_space_state.proofs.Ends.{end_there, stands_kept}
+use Rattle.nob_space_state.proofs.Passing.{wants_as, after_error}
 use Rattle.nob_space_state.proofs.Firsts.{some_same}
 use Rattle.nob_session.specs.Stands.{Roomy}
 use Rattle.nob_space_settling.proofs.Spares.{apart_there, asked_there}
@@ -33,10 +34,11 @@ returns-then-free_numbers-eq0-clause-answer c limits D stands =
     clean_full stands c.in-Some.rep (c.in-Some.ensures {u = tt}) c.index.result.now (subst (λ (k : ℕ). c.index.result.now ≡ get_or c.args.parts.now.sessions.items (k - 1) c.index.result.now) c.get.ensures.value c.index.ensures)
     (sym c.free_numbers.ensures ∙ c.if-free_numbers-eq0.true)
 
-pub returns-in_default-payload_of_clean-clause-answer : goal.returns-in_default-payload_of_clean-clause-answer
-returns-in_default-payload_of_clean-clause-answer c limits D stands =
-    clean_wants stands c.in-Some.rep (c.in-Some.ensures {u = tt}) c.index.result.now (subst (λ (k : ℕ). c.index.result.now ≡ get_or c.args.parts.now.sessions.items (k - 1) c.index.result.now) c.get.ensures.value c.index.ensures)
-    (let free = c.free_numbers.ensures in let some = c.if-free_numbers-eq0.false in omega (arith, free, some))
+pub returns-in_err-payload-clause-answer : goal.returns-in_err-payload-clause-answer
+returns-in_err-payload-clause-answer c limits D stands =
+    wants_as _ c.from_residual.result _ c.from_residual.ensures.1
+    (clean_wants stands c.in-Some.rep (c.in-Some.ensures {u = tt}) c.index.result.now (subst (λ (k : ℕ). c.index.result.now ≡ get_or c.args.parts.now.sessions.items (k - 1) c.index.result.now) c.get.ensures.value c.index.ensures)
+    (let free = c.free_numbers.ensures in let some = c.if-free_numbers-eq0.false in omega (arith, free, some)))
 
 pub index_mut-session-requires : goal.index_mut-session-requires
 index_mut-session-requires c =
@@ -58,17 +60,18 @@ hand_note-requires-clause-next c =
     let some = c.if-free_numbers-eq0.false in
     clean_next c.requires.2 c.in-Some.rep (c.in-Some.ensures {u = tt}) c.index_mut-session.result.now is (subst (λ (e : Roomy). 0 < last_item - e.end.handed) same (omega (arith, free, some)))
 
-pub returns-in_default-hand_note-clause-answer : goal.returns-in_default-hand_note-clause-answer
-returns-in_default-hand_note-clause-answer c limits D stands =
-    clean_wants stands c.in-Some.rep (c.in-Some.ensures {u = tt}) c.index.result.now (subst (λ (k : ℕ). c.index.result.now ≡ get_or c.args.parts.now.sessions.items (k - 1) c.index.result.now) c.get.ensures.value c.index.ensures)
-    (let free = c.free_numbers.ensures in let some = c.if-free_numbers-eq0.false in omega (arith, free, some))
+pub returns-in_err-hand_note-clause-answer : goal.returns-in_err-hand_note-clause-answer
+returns-in_err-hand_note-clause-answer c limits D stands =
+    wants_as _ c.from_residual-in_err-hand_note.result _ c.from_residual-in_err-hand_note.ensures.1
+    (clean_wants stands c.in-Some.rep (c.in-Some.ensures {u = tt}) c.index.result.now (subst (λ (k : ℕ). c.index.result.now ≡ get_or c.args.parts.now.sessions.items (k - 1) c.index.result.now) c.get.ensures.value c.index.ensures)
+    (let free = c.free_numbers.ensures in let some = c.if-free_numbers-eq0.false in omega (arith, free, some)))
 
-pub returns-in_default-hand_note-clause-err : goal.returns-in_default-hand_note-clause-err
-returns-in_default-hand_note-clause-err c limits D stands =
+pub returns-in_err-hand_note-clause-err : goal.returns-in_err-hand_note-clause-err
+returns-in_err-hand_note-clause-err c = after_error _ c.from_residual-in_err-hand_note.result (λ limits D stands.
     let is : c.index_mut-session.result.now ≡ get_or c.args.parts.now.sessions.items (c.in-Some.rep.owner - 1) c.index_mut-session.result.now = subst (λ (k : ℕ). c.index_mut-session.result.now ≡ get_or c.args.parts.now.sessions.items (k - 1) c.index_mut-session.result.now) c.get.ensures.value c.index_mut-session.ensures.value in
     let peer = (asked_there stands c.in-Some.rep (c.in-Some.ensures {u = tt})).1 in
     subst (λ (k : ℕ). Stands c.args.here.now.space c.args.here.now.n limits (after k) D) (sym c.get.ensures.value)
-    (stands_kept stands c.in-Some.rep.owner c.index_mut-session.result.now c.hand_note.new.session peer is (c.in_default-hand_note.ensures {u = tt}).err)
+    (stands_kept stands c.in-Some.rep.owner c.index_mut-session.result.now c.hand_note.new.session peer is c.in_err-hand_note.ensures.err))
   where
     after : ℕ → State
     after k =
@@ -90,7 +93,7 @@ returns-clause-answer c limits D stands =
 pub returns-clause-stands : goal.returns-clause-stands
 returns-clause-stands c limits D stands =
     let is : c.index_mut-session.result.now ≡ get_or c.args.parts.now.sessions.items (c.in-Some.rep.owner - 1) c.index_mut-session.result.now = subst (λ (k : ℕ). c.index_mut-session.result.now ≡ get_or c.args.parts.now.sessions.items (k - 1) c.index_mut-session.result.now) c.get.ensures.value c.index_mut-session.ensures.value in
-    let sent = c.in-Ok-hand_note.ensures {u = tt} in
+    let sent = c.in_ok-hand_note.ensures in
     subst (λ (k : ℕ). Stands c.args.here.now.space c.args.here.now.n limits (record {
       sessions = set c.args.parts.now.sessions.items (k - 1) c.hand_note.new.session;
       table = c.forget.new.table;
@@ -100,7 +103,7 @@ returns-clause-stands c limits D stands =
       calls = c.args.parts.now.calls_made;
       jobs = c.args.parts.now.jobs_made;
     }) (did.Clean c.in-Some.rep ∷ D)) (sym c.get.ensures.value)
-    (clean_stands stands c.in-Some.rep (c.in-Some.ensures {u = tt}) c.index_mut-session.result.now is c.hand_note.new.session c.forget.new.table c.in-Ok.payload.items c.in-Ok-hand_note.field-0
-    (clean_is c.args.here.now.space c.args.here.now.n limits D c.in-Some.rep (returns-clause-answer c limits D stands)) (c.in-Ok.ensures {u = tt}).spelled sent.number
+    (clean_stands stands c.in-Some.rep (c.in-Some.ensures {u = tt}) c.index_mut-session.result.now is c.hand_note.new.session c.forget.new.table c.in_ok-payload.payload.items c.in_ok-hand_note.field-0
+    (clean_is c.args.here.now.space c.args.here.now.n limits D c.in-Some.rep (returns-clause-answer c limits D stands)) c.in_ok-payload.ensures.spelled sent.number
     (λ before. sent.answer c.args.here.now.space c.in-Some.rep.owner limits (calls_at c.in-Some.rep.owner (history_of c.args.here.now.space c.args.here.now.n D)) before)
     c.forget.ensures.row c.forget.ensures.place c.forget.ensures.left)

@@ -15,6 +15,7 @@ use Rattle.nob_space_state.specs.Stands.{Stands}
 use Rattle.nob_space_state.proofs.Calling.{peer_range}
 use Rattle.nob_space_state.proofs.Ends.{end_there, stands_kept}
 use Rattle.nob_model_work.proofs.Firsts.{no_place, at_place}
+use Rattle.nob_space_state.proofs.Passing.{wants_as, after_error}
 use Rattle.nob_space_state.proofs.Firsts.{some_same}
 use Rattle.nob_space_settling.specs.Settling.{is_settleable, has_lost, lost_call, given_count, loans_ended}
 use Rattle.nob_space_settling.proofs.Resolving.{message_sound, settle_none, settle_full, settle_right, settle_wants, some_given}
@@ -95,19 +96,19 @@ hand_notes-requires-clause-free c =
     let two = end_there c.args.here.now.space c.args.here.now.n c.requires.0 c.args.parts.now.sessions.items (history_of c.args.here.now.space c.args.here.now.n c.requires.1) c.index-message.result.now.from c.index_mut-session.result.now c.requires.2.ends peer is in
     let same : c.index.result.now ≡ c.index_mut-session.result.now = some_same (sym one.1 ∙ two.1) in
     let left : given_count (lost_call c.index-message.result.now.item (has_lost c.args.here.now.space c.args.here.now.n (state_of c.args.parts.now) c.index-message.result.now)) ≤ last_item - c.index_mut-session.result.now.end.handed = subst (λ (e : Roomy). given_count (lost_call c.index-message.result.now.item (has_lost c.args.here.now.space c.args.here.now.n (state_of c.args.parts.now) c.index-message.result.now)) ≤ last_item - e.end.handed) same free in
-    let replies = same_count _ _ c.in-Ok-payload_if.reply c.lost_call-call.result (c.in-Ok-payload_if.ensures {u = tt}).spelled in
+    let replies = same_count _ _ c.in_ok-reply.reply c.lost_call-call.result c.in_ok-reply.ensures.spelled in
     let all = ap given_count call in
     let some = some_given (lost_call c.index-message.result.now.item (has_lost c.args.here.now.space c.args.here.now.n (state_of c.args.parts.now) c.index-message.result.now)) in
     omega (arith, left, replies, all, some)
 
-pub returns-in_default-hand_notes-clause-err : goal.returns-in_default-hand_notes-clause-err
-returns-in_default-hand_notes-clause-err c limits D stands =
+pub returns-in_err-hand_notes-clause-err : goal.returns-in_err-hand_notes-clause-err
+returns-in_err-hand_notes-clause-err c = after_error _ c.from_residual-in_err-hand_notes.result (λ limits D stands.
     let seen = at_place (is_settleable c.args.here.now.space c.args.here.now.n (state_of c.args.parts.now)) c.args.parts.now.waiting.items c.in-Some.place c.index-message.result.now (sym (c.in-Some.ensures {u = tt})) c.index-message.ensures in
     let is : c.index_mut-session.result.now ≡ get_or c.args.parts.now.sessions.items (c.index-message.result.now.from - 1) c.index_mut-session.result.now = subst (λ (k : ℕ). c.index_mut-session.result.now ≡ get_or c.args.parts.now.sessions.items (k - 1) c.index_mut-session.result.now) c.get.ensures.value c.index_mut-session.ensures.value in
     subst (λ (k : ℕ). Stands c.args.here.now.space c.args.here.now.n limits (after k c.reserve.new.self.items c.reserve-2.new.self.items) D) (sym c.get.ensures.value)
     (subst (λ (ready : List Message). Stands c.args.here.now.space c.args.here.now.n limits (after c.index-message.result.now.from ready c.reserve-2.new.self.items) D) (sym c.reserve.ensures.items)
     (subst (λ (replies : List Message). Stands c.args.here.now.space c.args.here.now.n limits (after c.index-message.result.now.from c.args.parts.now.ready.items replies) D) (sym c.reserve-2.ensures.items)
-    (stands_kept stands c.index-message.result.now.from c.index_mut-session.result.now c.hand_notes.new.session (message_sound stands c.index-message.result.now seen.0).peer is (c.in_default-hand_notes.ensures {u = tt}).err)))
+    (stands_kept stands c.index-message.result.now.from c.index_mut-session.result.now c.hand_notes.new.session (message_sound stands c.index-message.result.now seen.0).peer is c.in_err-hand_notes.ensures.err))))
   where
     after : ℕ → List Message → List Message → State
     after k ready replies =
@@ -129,8 +130,8 @@ put_settled-requires-clause-lent c =
     let lost : c.has_lost-lost.result ≡ has_lost c.args.here.now.space c.args.here.now.n (state_of c.args.parts.now) c.remove-message.result = c.has_lost-lost.ensures ∙ ap (has_lost c.args.here.now.space c.args.here.now.n (state_of c.args.parts.now)) one in
     subst (λ b. HasLent c.args.parts.now.table (loans_ended c.args.here.now.space c.remove-message.result c.remove-message.result.item b)) (sym lost) (settle_lent c.requires.2 c.remove-message.result taken.0)
 
-pub returns-in_default-payload_of_settle-clause-answer : goal.returns-in_default-payload_of_settle-clause-answer
-returns-in_default-payload_of_settle-clause-answer c limits D stands =
+pub returns-in_err-settle-clause-answer : goal.returns-in_err-settle-clause-answer
+returns-in_err-settle-clause-answer c limits D stands =
     let seen = at_place (is_settleable c.args.here.now.space c.args.here.now.n (state_of c.args.parts.now)) c.args.parts.now.waiting.items c.in-Some.place c.index-message.result.now (sym (c.in-Some.ensures {u = tt})) c.index-message.ensures in
     let looked : c.index.result.now ≡ get_or c.args.parts.now.sessions.items (c.index-message.result.now.from - 1) c.index.result.now = subst (λ (k : ℕ). c.index.result.now ≡ get_or c.args.parts.now.sessions.items (k - 1) c.index.result.now) c.get.ensures.value c.index.ensures in
     let call : c.lost_call-call.result ≡ lost_call c.index-message.result.now.item (has_lost c.args.here.now.space c.args.here.now.n (state_of c.args.parts.now) c.index-message.result.now) = c.lost_call-call.ensures ∙ ap (lost_call c.index-message.result.now.item) c.has_lost-lost.ensures in
@@ -138,10 +139,11 @@ returns-in_default-payload_of_settle-clause-answer c limits D stands =
     let numbers = c.free_numbers.ensures in
     let few = c.if-free_numbers-given_count.false in
     let free : given_count (lost_call c.index-message.result.now.item (has_lost c.args.here.now.space c.args.here.now.n (state_of c.args.parts.now) c.index-message.result.now)) ≤ last_item - c.index.result.now.end.handed = omega (arith, count, numbers, few) in
-    settle_wants stands c.index-message.result.now seen.0 c.index.result.now looked free (some_given _)
+    wants_as _ c.from_residual.result _ c.from_residual.ensures.1
+    (settle_wants stands c.index-message.result.now seen.0 c.index.result.now looked free (some_given _))
 
-pub returns-in_default-payload_if-clause-answer : goal.returns-in_default-payload_if-clause-answer
-returns-in_default-payload_if-clause-answer c limits D stands =
+pub returns-in_err-reply-clause-answer : goal.returns-in_err-reply-clause-answer
+returns-in_err-reply-clause-answer c limits D stands =
     let seen = at_place (is_settleable c.args.here.now.space c.args.here.now.n (state_of c.args.parts.now)) c.args.parts.now.waiting.items c.in-Some.place c.index-message.result.now (sym (c.in-Some.ensures {u = tt})) c.index-message.ensures in
     let looked : c.index.result.now ≡ get_or c.args.parts.now.sessions.items (c.index-message.result.now.from - 1) c.index.result.now = subst (λ (k : ℕ). c.index.result.now ≡ get_or c.args.parts.now.sessions.items (k - 1) c.index.result.now) c.get.ensures.value c.index.ensures in
     let call : c.lost_call-call.result ≡ lost_call c.index-message.result.now.item (has_lost c.args.here.now.space c.args.here.now.n (state_of c.args.parts.now) c.index-message.result.now) = c.lost_call-call.ensures ∙ ap (lost_call c.index-message.result.now.item) c.has_lost-lost.ensures in
@@ -149,10 +151,11 @@ returns-in_default-payload_if-clause-answer c limits D stands =
     let numbers = c.free_numbers.ensures in
     let few = c.if-free_numbers-given_count.false in
     let free : given_count (lost_call c.index-message.result.now.item (has_lost c.args.here.now.space c.args.here.now.n (state_of c.args.parts.now) c.index-message.result.now)) ≤ last_item - c.index.result.now.end.handed = omega (arith, count, numbers, few) in
-    settle_wants stands c.index-message.result.now seen.0 c.index.result.now looked free (some_given _)
+    wants_as _ c.from_residual-in_err-reply.result _ c.from_residual-in_err-reply.ensures.1
+    (settle_wants stands c.index-message.result.now seen.0 c.index.result.now looked free (some_given _))
 
-pub returns-then-is_err-clause-answer : goal.returns-then-is_err-clause-answer
-returns-then-is_err-clause-answer c limits D stands =
+pub returns-in_err-reserve-clause-answer : goal.returns-in_err-reserve-clause-answer
+returns-in_err-reserve-clause-answer c limits D stands =
     let seen = at_place (is_settleable c.args.here.now.space c.args.here.now.n (state_of c.args.parts.now)) c.args.parts.now.waiting.items c.in-Some.place c.index-message.result.now (sym (c.in-Some.ensures {u = tt})) c.index-message.ensures in
     let looked : c.index.result.now ≡ get_or c.args.parts.now.sessions.items (c.index-message.result.now.from - 1) c.index.result.now = subst (λ (k : ℕ). c.index.result.now ≡ get_or c.args.parts.now.sessions.items (k - 1) c.index.result.now) c.get.ensures.value c.index.ensures in
     let call : c.lost_call-call.result ≡ lost_call c.index-message.result.now.item (has_lost c.args.here.now.space c.args.here.now.n (state_of c.args.parts.now) c.index-message.result.now) = c.lost_call-call.ensures ∙ ap (lost_call c.index-message.result.now.item) c.has_lost-lost.ensures in
@@ -160,10 +163,11 @@ returns-then-is_err-clause-answer c limits D stands =
     let numbers = c.free_numbers.ensures in
     let few = c.if-free_numbers-given_count.false in
     let free : given_count (lost_call c.index-message.result.now.item (has_lost c.args.here.now.space c.args.here.now.n (state_of c.args.parts.now) c.index-message.result.now)) ≤ last_item - c.index.result.now.end.handed = omega (arith, count, numbers, few) in
-    settle_wants stands c.index-message.result.now seen.0 c.index.result.now looked free (some_given _)
+    wants_as _ c.from_residual-in_err-reserve.result _ c.from_residual-in_err-reserve.ensures.1
+    (settle_wants stands c.index-message.result.now seen.0 c.index.result.now looked free (some_given _))
 
-pub returns-then-is_err-2-clause-answer : goal.returns-then-is_err-2-clause-answer
-returns-then-is_err-2-clause-answer c limits D stands =
+pub returns-in_err-reserve-2-clause-answer : goal.returns-in_err-reserve-2-clause-answer
+returns-in_err-reserve-2-clause-answer c limits D stands =
     let seen = at_place (is_settleable c.args.here.now.space c.args.here.now.n (state_of c.args.parts.now)) c.args.parts.now.waiting.items c.in-Some.place c.index-message.result.now (sym (c.in-Some.ensures {u = tt})) c.index-message.ensures in
     let looked : c.index.result.now ≡ get_or c.args.parts.now.sessions.items (c.index-message.result.now.from - 1) c.index.result.now = subst (λ (k : ℕ). c.index.result.now ≡ get_or c.args.parts.now.sessions.items (k - 1) c.index.result.now) c.get.ensures.value c.index.ensures in
     let call : c.lost_call-call.result ≡ lost_call c.index-message.result.now.item (has_lost c.args.here.now.space c.args.here.now.n (state_of c.args.parts.now) c.index-message.result.now) = c.lost_call-call.ensures ∙ ap (lost_call c.index-message.result.now.item) c.has_lost-lost.ensures in
@@ -171,10 +175,11 @@ returns-then-is_err-2-clause-answer c limits D stands =
     let numbers = c.free_numbers.ensures in
     let few = c.if-free_numbers-given_count.false in
     let free : given_count (lost_call c.index-message.result.now.item (has_lost c.args.here.now.space c.args.here.now.n (state_of c.args.parts.now) c.index-message.result.now)) ≤ last_item - c.index.result.now.end.handed = omega (arith, count, numbers, few) in
-    settle_wants stands c.index-message.result.now seen.0 c.index.result.now looked free (some_given _)
+    wants_as _ c.from_residual-in_err-reserve-2.result _ c.from_residual-in_err-reserve-2.ensures.1
+    (settle_wants stands c.index-message.result.now seen.0 c.index.result.now looked free (some_given _))
 
-pub returns-in_default-hand_notes-clause-answer : goal.returns-in_default-hand_notes-clause-answer
-returns-in_default-hand_notes-clause-answer c limits D stands =
+pub returns-in_err-hand_notes-clause-answer : goal.returns-in_err-hand_notes-clause-answer
+returns-in_err-hand_notes-clause-answer c limits D stands =
     let seen = at_place (is_settleable c.args.here.now.space c.args.here.now.n (state_of c.args.parts.now)) c.args.parts.now.waiting.items c.in-Some.place c.index-message.result.now (sym (c.in-Some.ensures {u = tt})) c.index-message.ensures in
     let looked : c.index.result.now ≡ get_or c.args.parts.now.sessions.items (c.index-message.result.now.from - 1) c.index.result.now = subst (λ (k : ℕ). c.index.result.now ≡ get_or c.args.parts.now.sessions.items (k - 1) c.index.result.now) c.get.ensures.value c.index.ensures in
     let call : c.lost_call-call.result ≡ lost_call c.index-message.result.now.item (has_lost c.args.here.now.space c.args.here.now.n (state_of c.args.parts.now) c.index-message.result.now) = c.lost_call-call.ensures ∙ ap (lost_call c.index-message.result.now.item) c.has_lost-lost.ensures in
@@ -182,7 +187,8 @@ returns-in_default-hand_notes-clause-answer c limits D stands =
     let numbers = c.free_numbers.ensures in
     let few = c.if-free_numbers-given_count.false in
     let free : given_count (lost_call c.index-message.result.now.item (has_lost c.args.here.now.space c.args.here.now.n (state_of c.args.parts.now) c.index-message.result.now)) ≤ last_item - c.index.result.now.end.handed = omega (arith, count, numbers, few) in
-    settle_wants stands c.index-message.result.now seen.0 c.index.result.now looked free (some_given _)
+    wants_as _ c.from_residual-in_err-hand_notes.result _ c.from_residual-in_err-hand_notes.ensures.1
+    (settle_wants stands c.index-message.result.now seen.0 c.index.result.now looked free (some_given _))
 
 pub returns-clause-answer : goal.returns-clause-answer
 returns-clause-answer c limits D stands =
@@ -212,7 +218,7 @@ returns-clause-stands c limits D stands =
     let left : given_count (lost_call c.index-message.result.now.item (has_lost c.args.here.now.space c.args.here.now.n (state_of c.args.parts.now) c.index-message.result.now)) ≤ last_item - c.index_mut-session.result.now.end.handed = subst (λ (e : Roomy). given_count (lost_call c.index-message.result.now.item (has_lost c.args.here.now.space c.args.here.now.n (state_of c.args.parts.now) c.index-message.result.now)) ≤ last_item - e.end.handed) same free in
     let taken = at_place (is_settleable c.args.here.now.space c.args.here.now.n (state_of c.args.parts.now)) c.args.parts.now.waiting.items c.in-Some.place c.remove-message.result (sym (c.in-Some.ensures {u = tt})) c.remove-message.ensures.value in
     let one : c.remove-message.result ≡ c.index-message.result.now = some_same (sym taken.0 ∙ seen.0) in
-    let reply = (c.in-Ok-payload_if.ensures {u = tt}).spelled in
+    let reply = c.in_ok-reply.ensures.spelled in
     subst (λ (after : State). Stands c.args.here.now.space c.args.here.now.n limits after (did.Settle c.index-message.result.now.from c.index-message.result.now.number ∷ D)) (sym c.put_settled.ensures.put)
     (subst (λ (k : ℕ). Stands c.args.here.now.space c.args.here.now.n limits (record {
       sessions = set c.args.parts.now.sessions.items (k - 1) c.hand_notes.new.session;
@@ -223,8 +229,8 @@ returns-clause-stands c limits D stands =
       calls = c.args.parts.now.calls_made;
       jobs = c.args.parts.now.jobs_made;
     }) (did.Settle c.index-message.result.now.from c.index-message.result.now.number ∷ D)) (sym c.get.ensures.value)
-    (settle_stands stands c.index-message.result.now seen.0 c.index_mut-session.result.now is left c.hand_notes.new.session c.put_settled.new.parts.table _ c.in-Ok.settle.items (option_map (λ payload. payload.items) c.in-Ok-payload_if.reply)
-    (c.in-Ok.ensures {u = tt}).spelled (reply ∙ ap (option_map _) call)
-    (λ before. (c.in-Ok-hand_notes.ensures {u = tt}).answer c.args.here.now.space c.index-message.result.now.from limits (calls_at c.index-message.result.now.from (history_of c.args.here.now.space c.args.here.now.n D)) before)
+    (settle_stands stands c.index-message.result.now seen.0 c.index_mut-session.result.now is left c.hand_notes.new.session c.put_settled.new.parts.table _ c.in_ok-settle.settle.items (option_map (λ payload. payload.items) c.in_ok-reply.reply)
+    c.in_ok-settle.ensures.spelled (reply ∙ ap (option_map _) call)
+    (λ before. c.in_ok-hand_notes.ensures.answer c.args.here.now.space c.index-message.result.now.from limits (calls_at c.index-message.result.now.from (history_of c.args.here.now.space c.args.here.now.n D)) before)
     (subst (GivesBack c.args.parts.now.table c.put_settled.new.parts.table) (λ i. loans_ended c.args.here.now.space (one i) (one i).item (c.has_lost-lost.ensures i)) c.put_settled.ensures.back)
     (λ i. after_settlement (one i) (one i).item (c.has_lost-lost.ensures i) (record { waiting = (c.remove-message.ensures.items ∙ seen.1) i; ready = c.reserve.ensures.items i; running = c.args.parts.now.running.items; replies = c.reserve-2.ensures.items i; calls = c.args.parts.now.calls.items }))))

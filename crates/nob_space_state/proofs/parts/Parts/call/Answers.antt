@@ -17,41 +17,44 @@ use Rattle.nob_space_holds.specs.Pins.{AddsPins}
 use Rattle.nob_space_state.specs.Parts.{State, state_of}
 use Rattle.nob_space_state.specs.Stands.{Stands}
 use Rattle.nob_space_state.proofs.Calling.{call_judged, call_right, call_ok, call_wants, call_spelled, call_stands, few_calls, peer_range, next_free, stands_unsent}
+use Rattle.nob_space_state.proofs.Passing.{refused_as, wants_as, after_error}
 use Rattle.nob_space_state.proofs.Ends.{end_there}
 use Rattle.nob_space_state.proofs.Sent.{next_unpinned}
 use Rattle.nob_space_state.proofs.Orderly.{call_is}
 use Rattle.nob_space_state.proofs.parts.Parts.call.Goals as goal
 
-pub returns-in-Err-clause-answer : goal.returns-in-Err-clause-answer
-returns-in-Err-clause-answer c limits D stands = call_right stands c.args.target.now c.args.value.now ∙ ap (λ refusal. unless refusal (answers.Called (c.args.self.now.calls_made + 1))) (c.in-Err.ensures {u = tt})
+pub returns-in_err-refuse_call-clause-answer : goal.returns-in_err-refuse_call-clause-answer
+returns-in_err-refuse_call-clause-answer c limits D stands =
+    refused_as _ c.from_residual.result _ c.in_err-refuse_call.field-0.0 c.from_residual.ensures.1
+    (call_right stands c.args.target.now c.args.value.now ∙ ap (λ refusal. unless refusal (answers.Called (c.args.self.now.calls_made + 1))) c.in_err-refuse_call.ensures)
 
 pub overflow_add-self : goal.overflow_add-self
 overflow_add-self c =
-    let few = few_calls (state_of c.args.self.now) (call_judged c.args.here.now.space c.args.here.now.n (state_of c.args.self.now) c.args.target.now c.args.value.now (c.in_default.ensures {u = tt})).more in
+    let few = few_calls (state_of c.args.self.now) (call_judged c.args.here.now.space c.args.here.now.n (state_of c.args.self.now) c.args.target.now c.args.value.now c.in_ok-refuse_call.ensures).more in
     omega (arith, few)
 
 pub unreachable-requires : goal.unreachable-requires
 unreachable-requires c =
-    let judged = call_judged c.args.here.now.space c.args.here.now.n (state_of c.args.self.now) c.args.target.now c.args.value.now (c.in_default.ensures {u = tt}) in
+    let judged = call_judged c.args.here.now.space c.args.here.now.n (state_of c.args.self.now) c.args.target.now c.args.value.now c.in_ok-refuse_call.ensures in
     call_spelled c.args.here.now.space (state_of c.args.self.now) c.args.target.now.index c.args.method c.args.value.now c.in-Err-Fault.field-0-0 judged.fits judged.more
     (subst (λ (k : ℕ). bytes_of (items.Call k c.args.target.now.index c.args.method c.args.value.now) ≡ Err c.in-Err-Fault.field-0-0) c.new-call.ensures
     (subst (λ e. Fails e (bytes_of (items.Call c.new-call.result c.args.target.now.index c.args.method c.args.value.now))) c.in-Err-Fault.field-0-is (c.in-Err-Fault.ensures {u = tt}).exact))
 
 pub returns-in-Err-OutOfMemory-clause-answer : goal.returns-in-Err-OutOfMemory-clause-answer
-returns-in-Err-OutOfMemory-clause-answer c limits D stands = call_wants stands c.args.target.now c.args.value.now (c.in_default.ensures {u = tt})
+returns-in-Err-OutOfMemory-clause-answer c limits D stands = call_wants stands c.args.target.now c.args.value.now c.in_ok-refuse_call.ensures
 
-pub returns-in_default-counted_refs-clause-answer : goal.returns-in_default-counted_refs-clause-answer
-returns-in_default-counted_refs-clause-answer c limits D stands = call_wants stands c.args.target.now c.args.value.now (c.in_default.ensures {u = tt})
+pub returns-in_err-reps-clause-answer : goal.returns-in_err-reps-clause-answer
+returns-in_err-reps-clause-answer c limits D stands = wants_as _ c.from_residual-in_err-reps.result _ c.from_residual-in_err-reps.ensures.1 (call_wants stands c.args.target.now c.args.value.now c.in_ok-refuse_call.ensures)
 
-pub returns-then-is_err-clause-answer : goal.returns-then-is_err-clause-answer
-returns-then-is_err-clause-answer c limits D stands = call_wants stands c.args.target.now c.args.value.now (c.in_default.ensures {u = tt})
+pub returns-in_err-reserve-clause-answer : goal.returns-in_err-reserve-clause-answer
+returns-in_err-reserve-clause-answer c limits D stands = wants_as _ c.from_residual-in_err-reserve.result _ c.from_residual-in_err-reserve.ensures.1 (call_wants stands c.args.target.now c.args.value.now c.in_ok-refuse_call.ensures)
 
-pub returns-in_default-hand-clause-answer : goal.returns-in_default-hand-clause-answer
-returns-in_default-hand-clause-answer c limits D stands = call_wants stands c.args.target.now c.args.value.now (c.in_default.ensures {u = tt})
+pub returns-in_err-hand-clause-answer : goal.returns-in_err-hand-clause-answer
+returns-in_err-hand-clause-answer c limits D stands = wants_as _ c.from_residual-in_err-hand.result _ c.from_residual-in_err-hand.ensures.1 (call_wants stands c.args.target.now c.args.value.now c.in_ok-refuse_call.ensures)
 
 pub index_mut-session-requires : goal.index_mut-session-requires
 index_mut-session-requires c =
-    let judged = call_judged c.args.here.now.space c.args.here.now.n (state_of c.args.self.now) c.args.target.now c.args.value.now (c.in_default.ensures {u = tt}) in
+    let judged = call_judged c.args.here.now.space c.args.here.now.n (state_of c.args.self.now) c.args.target.now c.args.value.now c.in_ok-refuse_call.ensures in
     let range = peer_range c.args.here.now.space c.args.here.now.n c.args.target.now.owner judged.peer in
     let each = c.requires.2.ends.each in
     let peer = c.get.ensures.value in
@@ -59,26 +62,26 @@ index_mut-session-requires c =
 
 pub hand-requires-clause-next : goal.hand-requires-clause-next
 hand-requires-clause-next c =
-    let judged = call_judged c.args.here.now.space c.args.here.now.n (state_of c.args.self.now) c.args.target.now c.args.value.now (c.in_default.ensures {u = tt}) in
+    let judged = call_judged c.args.here.now.space c.args.here.now.n (state_of c.args.self.now) c.args.target.now c.args.value.now c.in_ok-refuse_call.ensures in
     let is : c.index_mut-session.result.now ≡ get_or c.args.self.now.sessions.items (c.args.target.now.owner - 1) c.index_mut-session.result.now = subst (λ k. c.index_mut-session.result.now ≡ get_or c.args.self.now.sessions.items (k - 1) c.index_mut-session.result.now) c.get.ensures.value c.index_mut-session.ensures.value in
     let there = end_there c.args.here.now.space c.args.here.now.n c.requires.0 c.args.self.now.sessions.items (history_of c.args.here.now.space c.args.here.now.n c.requires.1) c.args.target.now.owner c.index_mut-session.result.now c.requires.2.ends judged.peer is in
     next_free c.args.target.now.owner Limited (state_of c.args.self.now) c.index_mut-session.result.now there.0 there.1 judged.free
 
 pub hand-requires-clause-new : goal.hand-requires-clause-new
 hand-requires-clause-new c =
-    let judged = call_judged c.args.here.now.space c.args.here.now.n (state_of c.args.self.now) c.args.target.now c.args.value.now (c.in_default.ensures {u = tt}) in
+    let judged = call_judged c.args.here.now.space c.args.here.now.n (state_of c.args.self.now) c.args.target.now c.args.value.now c.in_ok-refuse_call.ensures in
     let is : c.index_mut-session.result.now ≡ get_or c.args.self.now.sessions.items (c.args.target.now.owner - 1) c.index_mut-session.result.now = subst (λ k. c.index_mut-session.result.now ≡ get_or c.args.self.now.sessions.items (k - 1) c.index_mut-session.result.now) c.get.ensures.value c.index_mut-session.ensures.value in
     let there = end_there c.args.here.now.space c.args.here.now.n c.requires.0 c.args.self.now.sessions.items (history_of c.args.here.now.space c.args.here.now.n c.requires.1) c.args.target.now.owner c.index_mut-session.result.now c.requires.2.ends judged.peer is in
     next_unpinned c.args.target.now.owner (c.index_mut-session.result.now.end.handed + 1) c.requires.2 (ap (λ (end : End). end.handed + 1) there.2)
 
-pub returns-in_default-hand-clause-err : goal.returns-in_default-hand-clause-err
-returns-in_default-hand-clause-err c limits D stands =
-    let judged = call_judged c.args.here.now.space c.args.here.now.n (state_of c.args.self.now) c.args.target.now c.args.value.now (c.in_default.ensures {u = tt}) in
+pub returns-in_err-hand-clause-err : goal.returns-in_err-hand-clause-err
+returns-in_err-hand-clause-err c = after_error _ c.from_residual-in_err-hand.result (λ limits D stands.
+    let judged = call_judged c.args.here.now.space c.args.here.now.n (state_of c.args.self.now) c.args.target.now c.args.value.now c.in_ok-refuse_call.ensures in
     let is : c.index_mut-session.result.now ≡ get_or c.args.self.now.sessions.items (c.args.target.now.owner - 1) c.index_mut-session.result.now = subst (λ k. c.index_mut-session.result.now ≡ get_or c.args.self.now.sessions.items (k - 1) c.index_mut-session.result.now) c.get.ensures.value c.index_mut-session.ensures.value in
-    let same = (c.in_default-hand.ensures {u = tt}).err in
+    let same = c.in_err-hand.ensures.err in
     subst (λ (k : ℕ). Stands c.args.here.now.space c.args.here.now.n limits (after k c.args.self.now.calls.items) D → Stands c.args.here.now.space c.args.here.now.n limits (after c.get.result c.reserve.new.self.items) D) c.get.ensures.value
     (λ st. subst (λ (calls : List OwnCall). Stands c.args.here.now.space c.args.here.now.n limits (after c.get.result calls) D) (sym c.reserve.ensures.items) st)
-    (stands_unsent stands c.args.target.now.owner c.index_mut-session.result.now c.hand.new.session c.hand.new.pins judged.peer is same.0 same.1)
+    (stands_unsent stands c.args.target.now.owner c.index_mut-session.result.now c.hand.new.session c.hand.new.pins judged.peer is same.0 same.1))
   where
     after : ℕ → List OwnCall → State
     after k calls =
@@ -93,13 +96,13 @@ returns-in_default-hand-clause-err c limits D stands =
         }
 
 pub returns-clause-answer : goal.returns-clause-answer
-returns-clause-answer c limits D stands = call_ok stands c.args.target.now c.args.value.now (c.in_default.ensures {u = tt}) ∙ ap (λ (k : ℕ). Ok (answers.Called k)) (sym c.new-call.ensures)
+returns-clause-answer c limits D stands = call_ok stands c.args.target.now c.args.value.now c.in_ok-refuse_call.ensures ∙ ap (λ (k : ℕ). Ok (answers.Called k)) (sym c.new-call.ensures)
 
 pub returns-clause-stands : goal.returns-clause-stands
 returns-clause-stands c limits D stands =
-    let judged = call_judged c.args.here.now.space c.args.here.now.n (state_of c.args.self.now) c.args.target.now c.args.value.now (c.in_default.ensures {u = tt}) in
+    let judged = call_judged c.args.here.now.space c.args.here.now.n (state_of c.args.self.now) c.args.target.now c.args.value.now c.in_ok-refuse_call.ensures in
     let is : c.index_mut-session.result.now ≡ get_or c.args.self.now.sessions.items (c.args.target.now.owner - 1) c.index_mut-session.result.now = subst (λ k. c.index_mut-session.result.now ≡ get_or c.args.self.now.sessions.items (k - 1) c.index_mut-session.result.now) c.get.ensures.value c.index_mut-session.ensures.value in
-    let sent = c.in-Ok-hand.ensures {u = tt} in
+    let sent = c.in_ok-hand.ensures in
     subst (λ (k : ℕ). Stands c.args.here.now.space c.args.here.now.n limits (record {
       sessions = set c.args.self.now.sessions.items (k - 1) c.hand.new.session;
       table = c.args.self.now.table;
@@ -110,10 +113,10 @@ returns-clause-stands c limits D stands =
       jobs = c.args.self.now.jobs_made;
     }) (did.Call c.args.target.now c.args.method c.args.value.now c.new-call.result ∷ D)) (sym c.get.ensures.value)
     (call_stands stands c.args.target.now c.args.method c.args.value.now c.index_mut-session.result.now c.hand.new.session c.hand.new.pins
-    (λ call is_next. call_is c.args.here.now.space c.args.here.now.n limits D c.args.target.now c.args.method c.args.value.now call (call_ok stands c.args.target.now c.args.value.now (c.in_default.ensures {u = tt}) ∙ ap (λ (k : ℕ). Ok (answers.Called k)) (sym is_next)))
+    (λ call is_next. call_is c.args.here.now.space c.args.here.now.n limits D c.args.target.now c.args.method c.args.value.now call (call_ok stands c.args.target.now c.args.value.now c.in_ok-refuse_call.ensures ∙ ap (λ (k : ℕ). Ok (answers.Called k)) (sym is_next)))
     judged is
-    c.in-Ok.payload.items c.in-Ok-hand.field-0 c.new-call.result c.in-Ok-counted_refs.reps.items c.push.new.self.items
+    c.in-Ok.payload.items c.in_ok-hand.field-0 c.new-call.result c.in_ok-reps.reps.items c.push.new.self.items
     c.new-call.ensures (c.in-Ok.ensures {u = tt}).exact sent.number
     (λ before. sent.answer c.args.here.now.space c.args.target.now.owner limits (calls_at c.args.target.now.owner (history_of c.args.here.now.space c.args.here.now.n D)) before)
-    (c.in-Ok-counted_refs.ensures {u = tt}) (subst (λ (reps : List WireRep). AddsPins c.args.self.now.pins.bundles c.hand.new.pins.bundles c.args.target.now.owner (c.index_mut-session.result.now.end.handed + 1) reps) c.as_slice.ensures.value sent.pins)
+    c.in_ok-reps.ensures (subst (λ (reps : List WireRep). AddsPins c.args.self.now.pins.bundles c.hand.new.pins.bundles c.args.target.now.owner (c.index_mut-session.result.now.end.handed + 1) reps) c.as_slice.ensures.value sent.pins)
     ((c.in-Ok-push.ensures {u = tt}).items ∙ ap (λ (calls : List OwnCall). calls ++ record { call = c.new-call.result; to = c.args.target.now.owner; stage = stages.Sent } ∷ []) c.reserve.ensures.items))

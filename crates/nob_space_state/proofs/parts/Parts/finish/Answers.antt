@@ -19,6 +19,7 @@ use Rattle.nob_space_holds.specs.Pins.{AddsPins}
 use Rattle.nob_space_state.specs.Sending.{reply_refusal}
 use Rattle.nob_space_state.specs.Stands.{Stands}
 use Rattle.nob_space_state.proofs.Calling.{peer_range, next_free, stands_unsent}
+use Rattle.nob_space_state.proofs.Passing.{refused_as, wants_as, after_error}
 use Rattle.nob_space_state.proofs.Ends.{end_there}
 use Rattle.nob_space_state.proofs.Finishing.{finish_of_none, finish_of_closed, finish_of_open, finish_stands, finish_wants, drop_stands, jobs_lent, limited_status, reply_judged, reply_spelled, run_sound, runs_call, runs_number, still_open}
 use Rattle.nob_space_state.proofs.Sent.{next_unpinned}
@@ -48,18 +49,19 @@ returns-then-has_closed-clause-answer c limits D stands =
 pub returns-then-has_closed-clause-stands : goal.returns-then-has_closed-clause-stands
 returns-then-has_closed-clause-stands c limits D stands = drop_stands stands c.args.job c.end_job.new.table c.end_job.new.running.items (drop_is c.args.here.now.space c.args.here.now.n limits D c.args.job c.args.outcome.now (returns-then-has_closed-clause-answer c limits D stands)) c.end_job.ensures.back c.end_job.ensures.ended
 
-pub returns-in-Err-clause-answer : goal.returns-in-Err-clause-answer
-returns-in-Err-clause-answer c limits D stands =
+pub returns-in_err-refuse_reply-clause-answer : goal.returns-in_err-refuse_reply-clause-answer
+returns-in_err-refuse_reply-clause-answer c limits D stands =
     let found : find (is_run c.args.job) c.args.self.now.running.items ≡ Some c.in-Some.run'.now = sym (c.in-Some.ensures {u = tt}) in
     let still : has_closed c.args.self.now.sessions.items c.in-Some.run'.now.message.from ≡ false = sym c.has_closed.ensures ∙ c.if-has_closed.false in
-    finish_of_open stands c.args.job c.args.outcome.now c.in-Some.run'.now found still
-    ∙ ap (λ refusal. unless refusal answers.Finished) (ap (reply_refusal c.args.here.now.space c.in-Some.run'.now.message.from (state_of c.args.self.now)) (sym c.value_of-value.ensures) ∙ (c.in-Err.ensures {u = tt}))
+    refused_as _ c.from_residual.result _ c.in_err-refuse_reply.field-0.0 c.from_residual.ensures.1
+    (finish_of_open stands c.args.job c.args.outcome.now c.in-Some.run'.now found still
+    ∙ ap (λ refusal. unless refusal answers.Finished) (ap (reply_refusal c.args.here.now.space c.in-Some.run'.now.message.from (state_of c.args.self.now)) (sym c.value_of-value.ensures) ∙ c.in_err-refuse_reply.ensures))
 
 pub unreachable-requires-in-Err-Fault : goal.unreachable-requires-in-Err-Fault
 unreachable-requires-in-Err-Fault c =
     let found : find (is_run c.args.job) c.args.self.now.running.items ≡ Some c.in-Some.run'.now = sym (c.in-Some.ensures {u = tt}) in
     let sound = run_sound c.requires.2 c.args.job c.args.outcome.now c.in-Some.run'.now found in
-    let judged = reply_judged c.args.here.now.space c.in-Some.run'.now.message.from (state_of c.args.self.now) c.value_of-value.result.now (c.in_default-refuse_reply.ensures {u = tt}) in
+    let judged = reply_judged c.args.here.now.space c.in-Some.run'.now.message.from (state_of c.args.self.now) c.value_of-value.result.now c.in_ok-refuse_reply.ensures in
     let number = runs_number c.in-Some.run'.now.message.item c.in-Call.call c.in-Call.target c.in-Call.method c.in-Call.value sound.0.number c.in-Call.is in
     let low : nat_le c.status_of.result 2 ≡ true = ap (λ (k : ℕ). nat_le k 2) c.status_of.ensures ∙ limited_status c.args.outcome.now in
     reply_spelled c.args.here.now.space (state_of c.args.self.now) c.in-Call.call c.status_of.result c.value_of-value.result.now c.in-Err-Fault.field-0-0 number low judged.0
@@ -69,25 +71,27 @@ pub returns-in-Err-OutOfMemory-clause-answer : goal.returns-in-Err-OutOfMemory-c
 returns-in-Err-OutOfMemory-clause-answer c limits D stands =
     let found : find (is_run c.args.job) c.args.self.now.running.items ≡ Some c.in-Some.run'.now = sym (c.in-Some.ensures {u = tt}) in
     let still : has_closed c.args.self.now.sessions.items c.in-Some.run'.now.message.from ≡ false = sym c.has_closed.ensures ∙ c.if-has_closed.false in
-    subst IsOk (sym (finish_wants stands c.args.job c.args.outcome.now c.in-Some.run'.now found still c.value_of-value.result.now c.value_of-value.ensures (c.in_default-refuse_reply.ensures {u = tt}))) refl
+    subst IsOk (sym (finish_wants stands c.args.job c.args.outcome.now c.in-Some.run'.now found still c.value_of-value.result.now c.value_of-value.ensures c.in_ok-refuse_reply.ensures)) refl
 
-pub returns-in_default-counted_refs-clause-answer : goal.returns-in_default-counted_refs-clause-answer
-returns-in_default-counted_refs-clause-answer c limits D stands =
+pub returns-in_err-reps-clause-answer : goal.returns-in_err-reps-clause-answer
+returns-in_err-reps-clause-answer c limits D stands =
     let found : find (is_run c.args.job) c.args.self.now.running.items ≡ Some c.in-Some.run'.now = sym (c.in-Some.ensures {u = tt}) in
     let still : has_closed c.args.self.now.sessions.items c.in-Some.run'.now.message.from ≡ false = sym c.has_closed.ensures ∙ c.if-has_closed.false in
-    subst IsOk (sym (finish_wants stands c.args.job c.args.outcome.now c.in-Some.run'.now found still c.value_of-value.result.now c.value_of-value.ensures (c.in_default-refuse_reply.ensures {u = tt}))) refl
+    wants_as _ c.from_residual-in_err-reps.result _ c.from_residual-in_err-reps.ensures.1
+    (subst IsOk (sym (finish_wants stands c.args.job c.args.outcome.now c.in-Some.run'.now found still c.value_of-value.result.now c.value_of-value.ensures c.in_ok-refuse_reply.ensures)) refl)
 
-pub returns-in_default-hand-clause-answer : goal.returns-in_default-hand-clause-answer
-returns-in_default-hand-clause-answer c limits D stands =
+pub returns-in_err-hand-clause-answer : goal.returns-in_err-hand-clause-answer
+returns-in_err-hand-clause-answer c limits D stands =
     let found : find (is_run c.args.job) c.args.self.now.running.items ≡ Some c.in-Some.run'.now = sym (c.in-Some.ensures {u = tt}) in
     let still : has_closed c.args.self.now.sessions.items c.in-Some.run'.now.message.from ≡ false = sym c.has_closed.ensures ∙ c.if-has_closed.false in
-    subst IsOk (sym (finish_wants stands c.args.job c.args.outcome.now c.in-Some.run'.now found still c.value_of-value.result.now c.value_of-value.ensures (c.in_default-refuse_reply.ensures {u = tt}))) refl
+    wants_as _ c.from_residual-in_err-hand.result _ c.from_residual-in_err-hand.ensures.1
+    (subst IsOk (sym (finish_wants stands c.args.job c.args.outcome.now c.in-Some.run'.now found still c.value_of-value.result.now c.value_of-value.ensures c.in_ok-refuse_reply.ensures)) refl)
 
 pub returns-clause-answer : goal.returns-clause-answer
 returns-clause-answer c limits D stands =
     let found : find (is_run c.args.job) c.args.self.now.running.items ≡ Some c.in-Some.run'.now = sym (c.in-Some.ensures {u = tt}) in
     let still : has_closed c.args.self.now.sessions.items c.in-Some.run'.now.message.from ≡ false = sym c.has_closed.ensures ∙ c.if-has_closed.false in
-    finish_wants stands c.args.job c.args.outcome.now c.in-Some.run'.now found still c.value_of-value.result.now c.value_of-value.ensures (c.in_default-refuse_reply.ensures {u = tt})
+    finish_wants stands c.args.job c.args.outcome.now c.in-Some.run'.now found still c.value_of-value.result.now c.value_of-value.ensures c.in_ok-refuse_reply.ensures
 
 pub index_mut-session-requires : goal.index_mut-session-requires
 index_mut-session-requires c =
@@ -102,7 +106,7 @@ pub hand-requires-clause-next : goal.hand-requires-clause-next
 hand-requires-clause-next c =
     let found : find (is_run c.args.job) c.args.self.now.running.items ≡ Some c.in-Some.run'.now = sym (c.in-Some.ensures {u = tt}) in
     let sound = run_sound c.requires.2 c.args.job c.args.outcome.now c.in-Some.run'.now found in
-    let judged = reply_judged c.args.here.now.space c.in-Some.run'.now.message.from (state_of c.args.self.now) c.value_of-value.result.now (c.in_default-refuse_reply.ensures {u = tt}) in
+    let judged = reply_judged c.args.here.now.space c.in-Some.run'.now.message.from (state_of c.args.self.now) c.value_of-value.result.now c.in_ok-refuse_reply.ensures in
     let is : c.index_mut-session.result.now ≡ get_or c.args.self.now.sessions.items (c.in-Some.run'.now.message.from - 1) c.index_mut-session.result.now = subst (λ k. c.index_mut-session.result.now ≡ get_or c.args.self.now.sessions.items (k - 1) c.index_mut-session.result.now) c.get.ensures.value c.index_mut-session.ensures.value in
     let there = end_there c.args.here.now.space c.args.here.now.n c.requires.0 c.args.self.now.sessions.items (history_of c.args.here.now.space c.args.here.now.n c.requires.1) c.in-Some.run'.now.message.from c.index_mut-session.result.now c.requires.2.ends sound.0.peer is in
     next_free c.in-Some.run'.now.message.from Limited (state_of c.args.self.now) c.index_mut-session.result.now there.0 there.1 judged.1
@@ -115,12 +119,12 @@ hand-requires-clause-new c =
     let there = end_there c.args.here.now.space c.args.here.now.n c.requires.0 c.args.self.now.sessions.items (history_of c.args.here.now.space c.args.here.now.n c.requires.1) c.in-Some.run'.now.message.from c.index_mut-session.result.now c.requires.2.ends sound.0.peer is in
     next_unpinned c.in-Some.run'.now.message.from (c.index_mut-session.result.now.end.handed + 1) c.requires.2 (ap (λ (end : End). end.handed + 1) there.2)
 
-pub returns-in_default-hand-clause-err : goal.returns-in_default-hand-clause-err
-returns-in_default-hand-clause-err c limits D stands =
+pub returns-in_err-hand-clause-err : goal.returns-in_err-hand-clause-err
+returns-in_err-hand-clause-err c = after_error _ c.from_residual-in_err-hand.result (λ limits D stands.
     let found : find (is_run c.args.job) c.args.self.now.running.items ≡ Some c.in-Some.run'.now = sym (c.in-Some.ensures {u = tt}) in
     let sound = run_sound c.requires.2 c.args.job c.args.outcome.now c.in-Some.run'.now found in
     let is : c.index_mut-session.result.now ≡ get_or c.args.self.now.sessions.items (c.in-Some.run'.now.message.from - 1) c.index_mut-session.result.now = subst (λ k. c.index_mut-session.result.now ≡ get_or c.args.self.now.sessions.items (k - 1) c.index_mut-session.result.now) c.get.ensures.value c.index_mut-session.ensures.value in
-    let same = (c.in_default-hand.ensures {u = tt}).err in
+    let same = c.in_err-hand.ensures.err in
     subst (λ (k : ℕ). Stands c.args.here.now.space c.args.here.now.n limits (record {
       sessions = set c.args.self.now.sessions.items (k - 1) c.hand.new.session;
       table = c.args.self.now.table;
@@ -130,14 +134,14 @@ returns-in_default-hand-clause-err c limits D stands =
       calls = c.args.self.now.calls_made;
       jobs = c.args.self.now.jobs_made;
     }) D) (sym c.get.ensures.value)
-    (stands_unsent stands c.in-Some.run'.now.message.from c.index_mut-session.result.now c.hand.new.session c.hand.new.pins sound.0.peer is same.0 same.1)
+    (stands_unsent stands c.in-Some.run'.now.message.from c.index_mut-session.result.now c.hand.new.session c.hand.new.pins sound.0.peer is same.0 same.1))
 
 pub returns-clause-stands : goal.returns-clause-stands
 returns-clause-stands c limits D stands =
     let found : find (is_run c.args.job) c.args.self.now.running.items ≡ Some c.in-Some.run'.now = sym (c.in-Some.ensures {u = tt}) in
     let still : has_closed c.args.self.now.sessions.items c.in-Some.run'.now.message.from ≡ false = sym c.has_closed.ensures ∙ c.if-has_closed.false in
     let is : c.index_mut-session.result.now ≡ get_or c.args.self.now.sessions.items (c.in-Some.run'.now.message.from - 1) c.index_mut-session.result.now = subst (λ k. c.index_mut-session.result.now ≡ get_or c.args.self.now.sessions.items (k - 1) c.index_mut-session.result.now) c.get.ensures.value c.index_mut-session.ensures.value in
-    let sent = c.in-Ok-hand.ensures {u = tt} in
+    let sent = c.in_ok-hand.ensures in
     subst (λ (k : ℕ). Stands c.args.here.now.space c.args.here.now.n limits (record {
       sessions = set c.args.self.now.sessions.items (k - 1) c.hand.new.session;
       table = c.end_job-2.new.table;
@@ -149,17 +153,17 @@ returns-clause-stands c limits D stands =
     }) (did.Finish c.args.job c.args.outcome.now ∷ D)) (sym c.get.ensures.value)
     (finish_stands stands c.args.job c.args.outcome.now (finish_is c.args.here.now.space c.args.here.now.n limits D c.args.job c.args.outcome.now (returns-clause-answer c limits D stands)) c.in-Some.run'.now found still c.in-Call.call c.in-Call.target c.in-Call.method c.in-Call.value c.in-Call.is
     c.index_mut-session.result.now c.hand.new.session c.hand.new.pins is
-    c.in-Ok.payload.items c.status_of.result c.in-Ok-hand.field-0 c.value_of-value.result.now c.in-Ok-counted_refs.reps.items c.end_job-2.new.table c.end_job-2.new.running.items
+    c.in-Ok.payload.items c.status_of.result c.in_ok-hand.field-0 c.value_of-value.result.now c.in_ok-reps.reps.items c.end_job-2.new.table c.end_job-2.new.running.items
     c.status_of.ensures c.value_of-value.ensures (c.in-Ok.ensures {u = tt}).exact sent.number
     (λ before. sent.answer c.args.here.now.space c.in-Some.run'.now.message.from limits (calls_at c.in-Some.run'.now.message.from (history_of c.args.here.now.space c.args.here.now.n D)) before)
-    (c.in-Ok-counted_refs.ensures {u = tt}) (subst (λ (reps : List WireRep). AddsPins c.args.self.now.pins.bundles c.hand.new.pins.bundles c.in-Some.run'.now.message.from (c.index_mut-session.result.now.end.handed + 1) reps) c.as_slice.ensures.value sent.pins)
+    c.in_ok-reps.ensures (subst (λ (reps : List WireRep). AddsPins c.args.self.now.pins.bundles c.hand.new.pins.bundles c.in-Some.run'.now.message.from (c.index_mut-session.result.now.end.handed + 1) reps) c.as_slice.ensures.value sent.pins)
     c.end_job-2.ensures.back c.end_job-2.ensures.ended)
 
 pub returns-in_default-clause-dropped : goal.returns-in_default-clause-dropped
 returns-in_default-clause-dropped c run found cut = absurd (none-some run (c.in_default.ensures {u = tt} ∙ found))
 
-pub returns-in-Err-clause-dropped : goal.returns-in-Err-clause-dropped
-returns-in-Err-clause-dropped c run again cut =
+pub returns-in_err-refuse_reply-clause-dropped : goal.returns-in_err-refuse_reply-clause-dropped
+returns-in_err-refuse_reply-clause-dropped c run again cut =
     let found : find (is_run c.args.job) c.args.self.now.running.items ≡ Some c.in-Some.run'.now = sym (c.in-Some.ensures {u = tt}) in
     let still : has_closed c.args.self.now.sessions.items c.in-Some.run'.now.message.from ≡ false = sym c.has_closed.ensures ∙ c.if-has_closed.false in
     absurd (still_open c.args.job c.args.self.now.running.items c.args.self.now.sessions.items c.in-Some.run'.now run found still again cut)
@@ -170,14 +174,14 @@ returns-in-Err-OutOfMemory-clause-dropped c run again cut =
     let still : has_closed c.args.self.now.sessions.items c.in-Some.run'.now.message.from ≡ false = sym c.has_closed.ensures ∙ c.if-has_closed.false in
     absurd (still_open c.args.job c.args.self.now.running.items c.args.self.now.sessions.items c.in-Some.run'.now run found still again cut)
 
-pub returns-in_default-counted_refs-clause-dropped : goal.returns-in_default-counted_refs-clause-dropped
-returns-in_default-counted_refs-clause-dropped c run again cut =
+pub returns-in_err-reps-clause-dropped : goal.returns-in_err-reps-clause-dropped
+returns-in_err-reps-clause-dropped c run again cut =
     let found : find (is_run c.args.job) c.args.self.now.running.items ≡ Some c.in-Some.run'.now = sym (c.in-Some.ensures {u = tt}) in
     let still : has_closed c.args.self.now.sessions.items c.in-Some.run'.now.message.from ≡ false = sym c.has_closed.ensures ∙ c.if-has_closed.false in
     absurd (still_open c.args.job c.args.self.now.running.items c.args.self.now.sessions.items c.in-Some.run'.now run found still again cut)
 
-pub returns-in_default-hand-clause-dropped : goal.returns-in_default-hand-clause-dropped
-returns-in_default-hand-clause-dropped c run again cut =
+pub returns-in_err-hand-clause-dropped : goal.returns-in_err-hand-clause-dropped
+returns-in_err-hand-clause-dropped c run again cut =
     let found : find (is_run c.args.job) c.args.self.now.running.items ≡ Some c.in-Some.run'.now = sym (c.in-Some.ensures {u = tt}) in
     let still : has_closed c.args.self.now.sessions.items c.in-Some.run'.now.message.from ≡ false = sym c.has_closed.ensures ∙ c.if-has_closed.false in
     absurd (still_open c.args.job c.args.self.now.running.items c.args.self.now.sessions.items c.in-Some.run'.now run found still again cut)

@@ -5,17 +5,20 @@ use Rattle.nob_model_acting.specs.Sending.{unless}
 use Rattle.nob_space_state.specs.Parts.{state_of}
 use Rattle.nob_space_holds.proofs.Shows.{shows_hand_fewer}
 use Rattle.nob_space_state.proofs.Hands.{release_right, release_finds_hold, release_stands}
+use Rattle.nob_space_state.proofs.Passing.{refused_on}
 use Rattle.nob_space_state.proofs.Orderly.{release_is}
 use Rattle.nob_space_state.proofs.parts.Parts.release.Goals as goal
 
-pub returns-in-Err-clause-answer : goal.returns-in-Err-clause-answer
-returns-in-Err-clause-answer c limits D stands = release_right stands c.args.rep.now ∙ ap (λ refusal. unless refusal answers.Done) (c.in-Err.ensures {u = tt})
+pub returns-in_err-refuse_release-clause-answer : goal.returns-in_err-refuse_release-clause-answer
+returns-in_err-refuse_release-clause-answer c limits D stands =
+    refused_on _ c.from_residual.result _ c.in_err-refuse_release.field-0.0 c.from_residual.ensures.1
+    (release_right stands c.args.rep.now ∙ ap (λ refusal. unless refusal answers.Done) c.in_err-refuse_release.ensures)
 
 pub unreachable-requires : goal.unreachable-requires
-unreachable-requires c = none-some _ (sym (release_finds_hold c.args.here.now.space (state_of c.args.self.now) c.args.rep.now (c.in_default.ensures {u = tt})) ∙ (c.in-Err-release.ensures {u = tt}).answer)
+unreachable-requires c = none-some _ (sym (release_finds_hold c.args.here.now.space (state_of c.args.self.now) c.args.rep.now c.in_ok-refuse_release.ensures) ∙ (c.in-Err.ensures {u = tt}).answer)
 
 pub returns-clause-answer : goal.returns-clause-answer
-returns-clause-answer c limits D stands = release_right stands c.args.rep.now ∙ ap (λ refusal. unless refusal answers.Done) (c.in_default.ensures {u = tt})
+returns-clause-answer c limits D stands = release_right stands c.args.rep.now ∙ ap (λ refusal. unless refusal answers.Done) c.in_ok-refuse_release.ensures
 
 pub returns-clause-stands : goal.returns-clause-stands
 returns-clause-stands c limits D stands =

@@ -10,6 +10,7 @@ use Rattle.nob_space_holds.specs.TakingOver.{reps_of}
 use Rattle.nob_space_state.specs.Taking.{is_overfull, is_reply, take_answer}
 use Rattle.nob_model_work.proofs.Firsts.{no_place, at_place, place_first}
 use Rattle.nob_space_state.proofs.Firsts.{some_same}
+use Rattle.nob_space_state.proofs.Passing.{after_error}
 use Rattle.nob_space_state.proofs.Replies.{take_no_call, take_no_reply, take_reply_there, reply_is, full_answer, reply_answer, overfull_there, reply_told, refused_brings_none, stage_brings_none, brings_same}
 use Rattle.nob_space_state.proofs.parts.Parts.reply_value.Goals as goal
 
@@ -36,8 +37,8 @@ returns-in_default-item c =
     let told = reply_is c.args.call c.index-2.result.now.item (found_passes (is_reply c.args.call) c.args.self.now.replies.items c.index-2.result.now there.0) in
     absurd (c.in_default-item.not-Reply c.args.call told.0 told.1 told.2)
 
-pub returns-in-Ok-clause-value : goal.returns-in-Ok-clause-value
-returns-in-Ok-clause-value c status value is =
+pub returns-clause-value : goal.returns-clause-value
+returns-clause-value c status value is =
     let call = place_first (is_call c.args.call) c.args.self.now.calls.items c.in-Some.field-0 (sym (c.in-Some.ensures {u = tt})) in
     let seen = at_place (is_reply c.args.call) c.args.self.now.replies.items c.in-Some-reply_at.place c.index.result.now (sym (c.in-Some-reply_at.ensures {u = tt})) c.index.ensures in
     let there = at_place (is_reply c.args.call) c.args.self.now.replies.items c.in-Some-reply_at.place c.index-2.result.now (sym (c.in-Some-reply_at.ensures {u = tt})) c.index-2.ensures in
@@ -46,10 +47,10 @@ returns-in-Ok-clause-value c status value is =
     let told = reply_told c.args.call c.index-2.result.now.item (found_passes (is_reply c.args.call) c.args.self.now.replies.items c.index-2.result.now there.0) c.in-Reply.call c.in-Reply.status c.in-Reply.value c.in-Reply.is in
     let answer : take_answer c.args.call (state_of c.args.self.now) ≡ Ok (answers.Replied c.in-Reply.status c.in-Reply.value) =
     take_reply_there c.args.call (state_of c.args.self.now) call.0 c.index-2.result.now call.1 there.0 ∙ reply_answer c.args.self.now.table (reps_of c.index-2.result.now.copies) c.args.call c.in-Reply.status c.in-Reply.value c.index-2.result.now.item told room in
-    ap (λ (v : Value). Some v) ((c.in-Ok.ensures {u = tt}).same ∙ brings_same c.in-Reply.status status c.in-Reply.value value answer is)
+    ap (λ (v : Value). Some v) (c.in_ok-copy.ensures.same ∙ brings_same c.in-Reply.status status c.in-Reply.value value answer is)
 
-pub returns-in-Err-clause-memory : goal.returns-in-Err-clause-memory
-returns-in-Err-clause-memory c =
+pub returns-in_err-copy-clause-memory : goal.returns-in_err-copy-clause-memory
+returns-in_err-copy-clause-memory c =
     let call = place_first (is_call c.args.call) c.args.self.now.calls.items c.in-Some.field-0 (sym (c.in-Some.ensures {u = tt})) in
     let seen = at_place (is_reply c.args.call) c.args.self.now.replies.items c.in-Some-reply_at.place c.index.result.now (sym (c.in-Some-reply_at.ensures {u = tt})) c.index.ensures in
     let there = at_place (is_reply c.args.call) c.args.self.now.replies.items c.in-Some-reply_at.place c.index-2.result.now (sym (c.in-Some-reply_at.ensures {u = tt})) c.index-2.ensures in
@@ -58,4 +59,4 @@ returns-in-Err-clause-memory c =
     let told = reply_told c.args.call c.index-2.result.now.item (found_passes (is_reply c.args.call) c.args.self.now.replies.items c.index-2.result.now there.0) c.in-Reply.call c.in-Reply.status c.in-Reply.value c.in-Reply.is in
     let answer : take_answer c.args.call (state_of c.args.self.now) ≡ Ok (answers.Replied c.in-Reply.status c.in-Reply.value) =
     take_reply_there c.args.call (state_of c.args.self.now) call.0 c.index-2.result.now call.1 there.0 ∙ reply_answer c.args.self.now.table (reps_of c.index-2.result.now.copies) c.args.call c.in-Reply.status c.in-Reply.value c.index-2.result.now.item told room in
-    subst IsOk (sym answer) refl
+    after_error _ c.from_residual.result (subst IsOk (sym answer) refl)
