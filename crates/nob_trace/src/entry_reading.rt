@@ -102,7 +102,10 @@ fn script_event(alloc: Global, text: &[u8]) -> Result<Event, Unread>
     ensures only { (event : EventOf) → IsSpoken event → text.now ≡ event_text [] event
         → Reads (λ e. e ≡ event) result }
 {
-    whole_event(alloc, text)
+    match whole_event(alloc, text) {
+        Ok(event) => Ok(event),
+        Err(unread) => Err(unread),
+    }
 }
 
 // The result in a trace that a text spells.
@@ -174,5 +177,8 @@ fn answer_result(alloc: Global, text: &[u8]) -> Result<Result<Answer, Refusal>, 
     ensures only { (answer : AnswerOf) → IsTold answer → text.now ≡ answer_text [] answer
         → Reads (λ r. r ≡ Ok answer) result }
 {
-    Ok(Ok(whole_answer(alloc, text)?))
+    match whole_answer(alloc, text) {
+        Ok(answer) => Ok(Ok(answer)),
+        Err(unread) => Err(unread),
+    }
 }
