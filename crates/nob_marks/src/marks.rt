@@ -1,6 +1,6 @@
 //! The set.
 
-ghost use Rattle.std.specs.Prelude.{◌≡◌, ℕ, ◌<◌, ◌≤◌, ◌==◌, [], length, OnOk, MatchOption, if◌then◌else◌};
+ghost use Rattle.std.specs.Prelude.{◌≡◌, ℕ, ◌^◌, ◌<◌, ◌≤◌, ◌==◌, [], length, OnOk, MatchOption, if◌then◌else◌};
 ghost use Rattle.nob_marks.specs.Marks.{has, word_at, bound, NoneFrom, IsFirst};
 
 use crate::words::{first_summed, has_number, has_some, write_number};
@@ -47,6 +47,7 @@ impl Marks {
         ensures same { (at : ℕ) → has self.new at ≡ has self.old at }
         ensures ok { OnOk result (count ≤ bound self.new) }
         ensures bound { bound self.old ≤ bound self.new }
+        ensures small { OnOk result (bound self.new ≤ 2 ^ 62) }
     {
         let words = count / 64 + 1;
         if words > MOST_WORDS {
