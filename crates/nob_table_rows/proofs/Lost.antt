@@ -184,3 +184,20 @@ module _ (slots : List Slot) (owner : ℕ) (counted counted' : List (WireRep × 
             let closed : is_closed surrogates owner rep ≡ true = rw (own, went.1) refl in
             rw closed went.3
       ]
+
+keeps : (o : Option Counts) → IfSome o (λ counts. is_held counts ≡ true) → keep_if is_held o ≡ o
+keeps None held = refl
+keeps (Some counts) held = rw held refl
+
+-- where the references without a surrogate are held, all that the owner's held ones leave
+pub closed_all : (counted counted' : List (WireRep × Counts)) (surrogates : List (WireRep × Surrogate)) (owner : ℕ) → ((rep : WireRep) → row_at surrogates rep ≡ None → IfSome (row_at counted rep) (λ counts. is_held counts ≡ true))
+    → ((rep : WireRep) → row_at counted' rep ≡ (if is_closed surrogates owner rep then keep_if is_held (row_at counted rep) else row_at counted rep))
+    → (rep : WireRep) → row_at counted' rep ≡ (if rep.owner == owner then keep_if is_held (row_at counted rep) else row_at counted rep)
+closed_all counted counted' surrogates owner held left rep =
+    left rep ∙ elim (rep.owner == owner) as (λ b. (if b && is_some (row_at surrogates rep) then keep_if is_held (row_at counted rep) else row_at counted rep) ≡ (if b then keep_if is_held (row_at counted rep) else row_at counted rep)) [
+      | true ↦ elim (row_at surrogates rep) as (λ o. row_at surrogates rep ≡ o → (if is_some o then keep_if is_held (row_at counted rep) else row_at counted rep) ≡ keep_if is_held (row_at counted rep)) [
+        | None ↦ λ none. sym (keeps (row_at counted rep) (held rep none))
+        | Some s ↦ λ e. refl
+      ] refl
+      | false ↦ refl
+    ]

@@ -1,10 +1,10 @@
 //! The references to other spaces' objects.
 
-ghost use Rattle.std.specs.Prelude.{◌≡◌, ◌==◌, ◌+◌, ◌<◌, ◌≤◌, ◌^◌, [], length, not, filter, None, Some, IsSome, IsOk, OnOk, OnErr, MatchOption, if◌then◌else◌};
+ghost use Rattle.std.specs.Prelude.{◌≡◌, ◌==◌, ◌+◌, ◌<◌, ◌≤◌, ◌^◌, [], length, not, filter, None, Some, IsSome, IfSome, true, IsOk, OnOk, OnErr, MatchOption, if◌then◌else◌};
 ghost use Rattle.std.specs.Option.{option_map};
 ghost use Rattle.nob_ids.specs.declared.wire_rep.WireRep.{WireRep};
 ghost use Rattle.nob_table_rows.specs.Counts.{no_counts, is_held};
-ghost use Rattle.nob_table_rows.specs.Far.{NeverIdleIn, IsFirstIn, is_closed};
+ghost use Rattle.nob_table_rows.specs.Far.{NeverIdleIn, IsFirstIn};
 ghost use Rattle.nob_table_rows.specs.Rows.{row_at, reps_of, Puts, IsOnce, keep_if};
 ghost use Rattle.nob_table_rows.specs.Standings.{waiting_surrogate, with_grant};
 
@@ -256,9 +256,11 @@ impl Far {
     /// Forgets the surrogates of this space, and the counts of those that nobody holds. Linear in
     /// the surrogates of this space, save where gaps are closed.
     pub fn close(&mut self, owner: SpaceId)
+        requires held { (rep : WireRep) → row_at self.old.surrogates rep ≡ None
+            → IfSome (row_at self.old.counted rep) (λ counts. is_held counts ≡ true) }
         ensures counted { (rep : WireRep)
             → row_at self.new.counted rep
-            ≡ (if is_closed self.old.surrogates owner rep then keep_if is_held
+            ≡ (if rep.owner == owner then keep_if is_held
             (row_at self.old.counted rep) else row_at self.old.counted rep) }
         ensures surrogates { (rep : WireRep)
             → row_at self.new.surrogates rep

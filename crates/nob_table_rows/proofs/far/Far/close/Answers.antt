@@ -1,6 +1,7 @@
 use Rattle.std.proofs.Common.{◌≡◌, ◌==◌, ◌&&◌, Bool, not, true, false, Option, None, is_some, if◌then◌else◌, refl, ap, ◌∙◌, arith}
 use Rattle.nob_ids.specs.declared.wire_rep.WireRep.{WireRep}
 use Rattle.nob_table_rows.specs.declared.standing.Surrogate.{Surrogate}
+use Rattle.nob_table_rows.proofs.Lost.{closed_all}
 use Rattle.nob_table_rows.proofs.Same.{left_length}
 use Rattle.nob_table_rows.proofs.far.Far.close.Goals as goal
 
@@ -30,3 +31,7 @@ pub returns-clause-len : goal.returns-clause-len
 returns-clause-len c =
     rw (← c.self.view_is) (left_length (λ (rep : WireRep). not (rep.owner == c.args.owner)) c.self.inside.surrogates.rows c.lose_all.new.surrogates.rows c.self.invariant.once c.lose_all.ensures.once
     (λ q. ap is_some (c.lose_all.ensures.surrogates q) ∙ some_left (q.owner == c.args.owner) _))
+
+pub returns-clause-counted : goal.returns-clause-counted
+returns-clause-counted c =
+    rw (← c.self.view_is) (closed_all c.self.inside.counted.rows c.lose_all.new.counted.rows c.self.inside.surrogates.rows c.args.owner (rw (← c.self.view_is) at c.requires.held) c.lose_all.ensures.counted)
