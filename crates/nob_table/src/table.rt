@@ -11,7 +11,7 @@ ghost use Rattle.nob_table.specs.Table.{Table, standing, surrogate_total, most_o
 
 use nob_ids::{SpaceId, WireRep};
 use nob_table_rows::{
-    Counts, Grant, Objects, Part, Peers, Standing, State, TableError, TableFault,
+    Counts, Far, Grant, Objects, Part, Standing, State, TableError, TableFault,
 };
 use std::alloc::{AllocError, Global};
 use std::marker::Model;
@@ -25,9 +25,8 @@ use std::marker::Model;
 #[derive(Drop)]
 pub struct ObjectTable {
     me: SpaceId,
-    dirties: u128,
     objects: Objects,
-    peers: Peers,
+    far: Far,
 }
 
 impl Model for ObjectTable {
@@ -40,16 +39,16 @@ impl Model for ObjectTable {
     ghost view = { λ a. record {
       me = a.me;
       exported = a.objects.exported;
-      dirties = a.dirties;
+      dirties = a.far.dirties;
       objects = a.objects.rows;
-      counted = a.peers.counted;
-      surrogates = a.peers.surrogates;
+      counted = a.far.counted;
+      surrogates = a.far.surrogates;
       export_room = a.objects.room;
-      surrogate_room = a.peers.room;
+      surrogate_room = a.far.room;
     } };
 
-    ghost invariant = { λ a. IsTable a.me a.objects.exported a.dirties a.objects.rows
-        a.peers.counted a.peers.surrogates };
+    ghost invariant = { λ a. IsTable a.me a.objects.exported a.far.dirties a.objects.rows
+        a.far.counted a.far.surrogates };
 }
 
 impl ObjectTable {
@@ -72,9 +71,8 @@ impl ObjectTable {
     {
         ObjectTable {
             me,
-            dirties: 0,
             objects: Objects::new(alloc),
-            peers: Peers::new(alloc),
+            far: Far::new(alloc),
         }
     }
 
@@ -100,10 +98,10 @@ impl ObjectTable {
                 None => Standing::UNKNOWN,
             };
         }
-        let Some(counts) = self.peers.counts(rep) else {
+        let Some(counts) = self.far.counts(rep) else {
             return Standing::UNKNOWN;
         };
-        match self.peers.surrogate(rep) {
+        match self.far.surrogate(rep) {
             None => Standing {
                 state: State::Lost,
                 counts,
@@ -152,7 +150,7 @@ impl ObjectTable {
         ensures apart { (rep other : WireRep) → IsSome (place_of self.now rep)
             → place_of self.now rep ≡ place_of self.now other → IsTrue (is_same rep other) }
     {
-        self.peers.len()
+        self.far.len()
     }
 
     /// How many Dirties were sent: the place that the surrogate of the next one gets. Constant
@@ -160,7 +158,7 @@ impl ObjectTable {
     pub fn dirty_count(&self) -> u128
         ensures { result ≡ self.now.dirties }
     {
-        self.dirties
+        self.far.dirties()
     }
 
     /// One hold more on the reference, in this part: a live object's, a surrogate's, or a lost
@@ -222,7 +220,7 @@ impl ObjectTable {
             → IsOk result }
     {
         self.objects.reserve(exports)?;
-        self.peers.reserve(surrogates)
+        self.far.reserve(surrogates)
     }
 
     /// A new object: the reference to it, with the next index, live and once in hand. B3 where
@@ -298,14 +296,13 @@ impl ObjectTable {
         if rep.owner == self.me || rep.index == 0 {
             return Err(TableError::Fault(TableFault::Absent));
         }
-        if self.peers.len() >= ObjectTable::MOST_SURROGATES {
+        if self.far.len() >= ObjectTable::MOST_SURROGATES {
             return Err(TableError::Fault(TableFault::Limit));
         }
-        if self.peers.counts(rep).is_some() {
+        if self.far.counts(rep).is_some() {
             return Err(TableError::Fault(TableFault::StillUsed));
         }
-        self.peers.push(&rep, self.dirties)?;
-        self.dirties += 1;
+        self.far.push(&rep)?;
         Ok(())
     }
 
@@ -343,7 +340,7 @@ impl ObjectTable {
             (λ found. IsFirstIdle self.now place found.0 found.1) }
         ensures sent { IfSome result (λ found. found.0 < self.now.dirties) }
     {
-        self.peers.first_idle(place)
+        self.far.first_idle(place)
     }
 
     /// A Clean for the surrogate is sent: the table forgets it, and the others keep their places.
@@ -368,7 +365,7 @@ impl ObjectTable {
         if standing.counts.is_held() {
             return Err(TableFault::StillUsed);
         }
-        self.peers.remove(&rep);
+        self.far.remove(&rep);
         Ok(())
     }
 
@@ -387,7 +384,7 @@ impl ObjectTable {
             → IsOrder self.new (filter (λ rep. not (rep.owner == owner)) reps) }
         ensures left { RemovalLeaves self.old self.new }
     {
-        self.peers.close(owner);
+        self.far.close(owner);
     }
 
     // Writes the owner's answer to a pending reference.
@@ -404,7 +401,7 @@ impl ObjectTable {
         if !state.is_pending() {
             return Err(TableFault::Absent);
         }
-        self.peers.set_answer(&rep, grant);
+        self.far.set_answer(&rep, grant);
         Ok(())
     }
 
@@ -420,7 +417,7 @@ impl ObjectTable {
         if rep.owner == self.me {
             self.objects.set(rep, counts);
         } else {
-            self.peers.set_counts(rep, counts);
+            self.far.set_counts(rep, counts);
         }
     }
 
@@ -430,6 +427,6 @@ impl ObjectTable {
         ensures forgotten { Becomes self.old self.new rep unknown }
         ensures left { ChangeLeaves self.old self.new }
     {
-        self.peers.forget(&rep);
+        self.far.forget(&rep);
     }
 }

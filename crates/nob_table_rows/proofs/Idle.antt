@@ -1,86 +1,65 @@
--- The first idle surrogate: of one peer, of some peers, of all.
-use Rattle.std.proofs.Common.{◌≡◌, ℕ, ◌<◌, ◌≤◌, true, false, List, length, Option, Some, None, MatchOption, slice_get, refl, sym, ap, subst, ◌∙◌, arith}
-use Rattle.std.proofs.lemmas.Map.Entries.{lookup_from_place, place_from_lookup}
-use Rattle.std.proofs.lemmas.Option.{same_Some, none-some, slice_get-map, slice_get_within}
-use Rattle.std.specs.Option.{option_map}
+-- The first idle surrogate, by the bits of the slots.
+use Rattle.std.proofs.Common.{◌≡◌, ℕ, ◌<◌, ◌≤◌, Bool, true, false, ◌&&◌, List, Some, None, slice_get, nat_lt, refl, sym, ap, ◌∙◌, arith, true≢false}
+use Rattle.std.proofs.lemmas.Bool.Decides.{Decides-ltb, nat_tests}
 use Rattle.nob_ids.specs.declared.wire_rep.WireRep.{WireRep}
-use Rattle.nob_ids.specs.Names.{is_same}
+use Rattle.nob_marks.specs.Marks.{has, NoneFrom, IsFirst}
 use Rattle.nob_table_rows.specs.declared.counts.Counts.{Counts}
-use Rattle.nob_table_rows.specs.declared.peer.Peer.{Peer}
+use Rattle.nob_table_rows.specs.declared.order.Slot.{Slot}
 use Rattle.nob_table_rows.specs.declared.standing.Surrogate.{Surrogate}
-use Rattle.nob_table_rows.specs.Order.{place_in, IsBefore, IsRising}
-use Rattle.nob_table_rows.specs.Peers.{is_idle_in, NeverIdleIn, NoneIdleIn, IsFirstIn}
-use Rattle.nob_table_rows.specs.Rows.{row_at, reps_of, IsOnce}
-use Rattle.nob_table_rows.specs.Standings.{is_idle, far_standing}
+use Rattle.nob_table_rows.specs.Far.{is_idle_in, is_current, is_idle_slot, is_idle_at, IsOrdered, NeverIdleIn, IsFirstIn}
+use Rattle.nob_table_rows.specs.Order.{place_in}
 use Rattle.nob_table_rows.proofs.Parted.{rows_before}
-use Rattle.nob_table_rows.proofs.Rising.{rising_at}
-use Rattle.nob_table_rows.proofs.Same.{same_laws, same_is}
+use Rattle.nob_table_rows.proofs.Slotted.{placed, placed_is}
 
--- none of the rows below this place in the list is idle, from a place in the order on
-abbrev pub NoneBelow : List (WireRep × Counts) → List (WireRep × Surrogate) → ℕ → ℕ → Type 0
-NoneBelow counted rows from at = (k : ℕ) (e : WireRep × Surrogate) → k < at → slice_get rows k ≡ Some e → from ≤ e.1.place → is_idle (far_standing (Some e.1) (row_at counted e.0)) ≡ false
+both : (a b : Bool) → (a && b) ≡ true → (a ≡ true) × (b ≡ true)
+both true b h = (refl, h)
+both false b h = absurd (true≢false (sym h))
 
-some_of : (o : Option Surrogate) (place : ℕ) → option_map (λ s. s.place) o ≡ Some place → (s : Surrogate) × (o ≡ Some s) × (s.place ≡ place)
-some_of None place is = absurd (none-some place is)
-some_of (Some s) place is = (s, refl, same_Some s.place place is)
+second : (a b : Bool) → a ≡ true → (a && b) ≡ false → b ≡ false
+second true b is h = h
+second false b is h = absurd (true≢false (sym is))
 
-module _ (rows : List (WireRep × Surrogate)) (once : IsOnce rows) where
-  at_place : (i : ℕ) (e : WireRep × Surrogate) → slice_get rows i ≡ Some e → row_at rows e.0 ≡ Some e.1
-  at_place i e got = lookup_from_place same_laws rows i e.0 e.1 once got
+module _ (counted : List (WireRep × Counts)) (surrogates : List (WireRep × Surrogate)) (slots : List Slot) (before ends idle : List ℕ) (ordered : IsOrdered counted surrogates slots before ends idle)
+    (from start : ℕ) (below : (at : ℕ) (slot : Slot) → slice_get slots at ≡ Some slot → at < start → slot.place < from) where
+  -- a surrogate from the place on has its slot from the start on, and isn't idle where the slot's bit says so
+  slot_of : (rep : WireRep) (place : ℕ) → place_in surrogates rep ≡ Some place → from ≤ place → (at : ℕ) × (slice_get slots at ≡ Some (record { place = place; rep = rep })) × (start ≤ at)
+  slot_of rep place is low =
+      let found = ordered.have_slots rep place is in
+      let at : ℕ = found.0 in
+      let e : Slot = record { place = place; rep = rep } in
+      (at, found.1, elim (nat_lt at start) as (λ b. nat_lt at start ≡ b → start ≤ at) [
+        | true ↦ λ t. let less : e.place < from = below at e found.1 ((Decides-ltb at start).0 t) in absurd (omega (arith, less, low))
+        | false ↦ λ u. grind (arith, nat_tests)
+      ] refl)
 
-  place_at : (i : ℕ) (e : WireRep × Surrogate) → slice_get rows i ≡ Some e → place_in rows e.0 ≡ Some e.1.place
-  place_at i e got = ap (option_map (λ s. s.place)) (at_place i e got)
+  not_idle : (rep : WireRep) (place at : ℕ) → place_in surrogates rep ≡ Some place → slice_get slots at ≡ Some (record { place = place; rep = rep }) → has idle at ≡ false → is_idle_in counted surrogates rep ≡ false
+  not_idle rep place at is got clear =
+      let e : Slot = record { place = place; rep = rep } in
+      let slot : is_idle_slot counted surrogates e ≡ false = ap (is_idle_at counted surrogates) (sym got) ∙ sym (ordered.marked at) ∙ clear in
+      second (is_current surrogates e) (is_idle_in counted surrogates rep) (placed (place_in surrogates rep) place is) slot
 
-  module _ (rising : IsRising (place_in rows) (reps_of rows)) where
-    pub rows_rise : (i j : ℕ) (e f : WireRep × Surrogate) → i < j → slice_get rows i ≡ Some e → slice_get rows j ≡ Some f → e.1.place < f.1.place
-    rows_rise i j e f less first second =
-        let reps : (k : ℕ) (g : WireRep × Surrogate) → slice_get rows k ≡ Some g → slice_get (reps_of rows) k ≡ Some g.0 =
-        λ k g got. slice_get-map (λ (w : WireRep × Surrogate). w.0) rows k ∙ ap (option_map (λ (w : WireRep × Surrogate). w.0)) got in
-        let before : IsBefore (place_in rows e.0) (place_in rows f.0) = rising_at (place_in rows) (reps_of rows) i j e.0 f.0 rising less (reps i e first) (reps j f second) in
-        subst (λ (o : Option ℕ). IsBefore (Some e.1.place) o) (place_at j f second) (subst (λ (o : Option ℕ). IsBefore o (place_in rows f.0)) (place_at i e first) before)
+  -- no bit, no idle surrogate
+  pub never_idle : NoneFrom idle start → NeverIdleIn counted surrogates from
+  never_idle none rep place is low = let found = slot_of rep place is low in not_idle rep place found.0 is found.1 (none found.0 found.2)
 
-    module _ (counted : List (WireRep × Counts)) (from : ℕ) where
-      row_of : (rep : WireRep) (place : ℕ) → place_in rows rep ≡ Some place → (k : ℕ) × (e : WireRep × Surrogate) × (slice_get rows k ≡ Some e) × (e.0 ≡ rep) × (e.1.place ≡ place)
-      row_of rep place is =
-          let s = some_of (row_at rows rep) place is in
-          let at = place_from_lookup (is_same rep) rows s.0 s.1 in
-          (at.0, (at.1, s.0), at.2, sym (same_is rep at.1 at.3), s.2)
+  -- a bit is a slot's
+  pub bit_of_none : (at : ℕ) → has idle at ≡ true → slice_get slots at ≡ None → ⊥
+  bit_of_none at bit none = true≢false (sym bit ∙ ordered.marked at ∙ ap (is_idle_at counted surrogates) none)
 
-      idle_row : (e : WireRep × Surrogate) (k : ℕ) (rep : WireRep) → slice_get rows k ≡ Some e → e.0 ≡ rep → is_idle (far_standing (Some e.1) (row_at counted e.0)) ≡ is_idle_in counted rows rep
-      idle_row e k rep got is =
-          subst (λ (w : WireRep). is_idle (far_standing (Some e.1) (row_at counted e.0)) ≡ is_idle_in counted rows w) is
-          (ap (λ (o : Option Surrogate). is_idle (far_standing o (row_at counted e.0))) (sym (at_place k e got)))
-
-      -- the row at this place is the first idle one
-      pub first_found : (at : ℕ) (e : WireRep × Surrogate) → NoneBelow counted rows from at → slice_get rows at ≡ Some e → from ≤ e.1.place → is_idle (far_standing (Some e.1) (row_at counted e.0)) ≡ true
-          → IsFirstIn counted rows from e.1.place e.0
-      first_found at e none got low idle = (
-        low,
-        place_at at e got,
-        sym (idle_row e at e.0 got refl) ∙ idle,
-        λ rep place is from_low less.
-            let found = row_of rep place is in
+  -- the slot of the first bit
+  pub first_idle : ((at : ℕ) (slot : Slot) → slice_get slots at ≡ Some slot → start ≤ at → from ≤ slot.place) → (at : ℕ) (e : Slot) → slice_get slots at ≡ Some e → IsFirst idle start at → IsFirstIn counted surrogates from e.place e.rep
+  first_idle above at e got first =
+      let slot : is_idle_slot counted surrogates e ≡ true = ap (is_idle_at counted surrogates) (sym got) ∙ sym (ordered.marked at) ∙ first.1 in
+      let parts = both (is_current surrogates e) (is_idle_in counted surrogates e.rep) slot in (
+        above at e got first.0,
+        placed_is (place_in surrogates e.rep) e.place parts.0,
+        parts.1,
+        λ rep place is low less.
+            let found = slot_of rep place is low in
             let k : ℕ = found.0 in
-            let f : WireRep × Surrogate = found.1 in
-            let there : slice_get rows k ≡ Some f = found.2 in
-            let same : f.1.place ≡ place = found.4 in
-            sym (idle_row f k rep there found.3) ∙ none k f (rows_before (λ (w : WireRep × Surrogate). w.1.place) rows rows_rise at k e f got there (omega (arith, same))) there (omega (arith, same)),
+            let f : Slot = record { place = place; rep = rep } in
+            let there : slice_get slots k ≡ Some f = found.1 in
+            let lower : f.place < e.place = less in
+            let earlier : k < at = rows_before (λ (s : Slot). s.place) slots ordered.in_order at k e f got there lower in
+            not_idle rep place k is there (first.2 k found.2 earlier),
       )
-
-      -- no row is idle
-      pub none_found : NoneBelow counted rows from (length rows) → NeverIdleIn counted rows from
-      none_found none rep place is low =
-          let found = row_of rep place is in
-          let f : WireRep × Surrogate = found.1 in
-          let there : slice_get rows found.0 ≡ Some f = found.2 in
-          let same : f.1.place ≡ place = found.4 in
-          sym (idle_row f found.0 rep there found.3) ∙ none found.0 f (slice_get_within rows found.0 f there) there (omega (arith, same))
-
-module _ (peers : List Peer) (place : ℕ) where
-  -- what is found in the first few peers
-  abbrev pub IsFirstOf : ℕ → Option (ℕ × WireRep) → Type 0
-  IsFirstOf few first =
-      MatchOption first
-      ((k : ℕ) (p : Peer) → k < few → slice_get peers k ≡ Some p → NeverIdleIn p.counted.rows p.surrogates.rows place)
-      (λ found. ((k : ℕ) × (p : Peer) × (slice_get peers k ≡ Some p) × IsFirstIn p.counted.rows p.surrogates.rows place found.0 found.1)
-      × ((k : ℕ) (p : Peer) → k < few → slice_get peers k ≡ Some p → NoneIdleIn p.counted.rows p.surrogates.rows place found.0))

@@ -1,10 +1,10 @@
 -- Rows and their keys: where a look-up finds a row, and what stands there once one is put.
-use Rattle.std.proofs.Common.{◌≡◌, Bool, true, false, ◌||◌, cond, List, [], ◌∷◌, Option, Some, is_some, if◌then◌else◌, refl, sym, ap, ◌∙◌}
+use Rattle.std.proofs.Common.{◌≡◌, Bool, true, false, ◌||◌, cond, List, [], ◌∷◌, Option, Some, None, IsSome, is_some, true≢false, if◌then◌else◌, refl, sym, ap, ◌∙◌}
 use Rattle.std.specs.List.{list_any}
 use Rattle.std.specs.Map.{lookup, keys_of}
 use Rattle.nob_ids.specs.declared.wire_rep.WireRep.{WireRep}
 use Rattle.nob_ids.specs.Names.{is_same}
-use Rattle.nob_table_rows.specs.Rows.{row_at, Puts}
+use Rattle.nob_table_rows.specs.Rows.{row_at, Puts, keep_if}
 use Rattle.nob_table_rows.proofs.Same.{same_refl, same_is}
 
 -- a list of rows has what it has
@@ -27,3 +27,8 @@ any_key test (e ∷ es) =
       | true ↦ refl
       | false ↦ any_key test es
     ]
+
+-- what a test lets through was there
+pub kept_some : {X : Type 0} (test : X → Bool) (o : Option X) → IsSome (keep_if test o) → IsSome o
+kept_some test None has = absurd (true≢false (sym has))
+kept_some test (Some x) has = refl

@@ -38,6 +38,35 @@ module _ {E : Type 0} (number : E → ℕ) (rows : List E) (rise : Rise number r
         ] refl
       ] refl
 
+  -- a number is one row's
+  pub same_row : (i k : ℕ) (e f : E) → slice_get rows i ≡ Some e → slice_get rows k ≡ Some f → number e ≡ number f → i ≡ k
+  same_row i k e f got there same =
+      elim (nat_lt i k) as (λ b. nat_lt i k ≡ b → i ≡ k) [
+        | true ↦ λ t. let up : number e < number f = rise i k e f ((Decides-ltb i k).0 t) got there in absurd (omega (arith, up, same))
+        | false ↦ λ u. elim (nat_lt k i) as (λ b. nat_lt k i ≡ b → i ≡ k) [
+          | true ↦ λ t. let up : number f < number e = rise k i f e ((Decides-ltb k i).0 t) there got in absurd (omega (arith, up, same))
+          | false ↦ λ v. grind (arith, nat_tests)
+        ] refl
+      ] refl
+
+  -- the row with a number is the first whose number isn't below it
+  pub point_is : (n point at : ℕ) (e : E) → slice_get rows at ≡ Some e → number e ≡ n → ((k : ℕ) (f : E) → slice_get rows k ≡ Some f → k < point → number f < n) → ((k : ℕ) (f : E) → slice_get rows k ≡ Some f → point ≤ k → n ≤ number f)
+      → point ≡ at
+  point_is n point at e got is below from =
+      elim (nat_lt at point) as (λ b. nat_lt at point ≡ b → point ≡ at) [
+        | true ↦ λ t. let less : number e < n = below at e got ((Decides-ltb at point).0 t) in absurd (omega (arith, less, is))
+        | false ↦ λ u. elim (nat_lt point at) as (λ b. nat_lt point at ≡ b → point ≡ at) [
+          | true ↦ λ t.
+              let before : point < at = (Decides-ltb point at).0 t in
+              let within = slice_get_within rows at e got in
+              let f : E = get_or rows point e in
+              let there : slice_get rows point ≡ Some f = slice_get-get_or rows point e (omega (arith, before, within)) in
+              let high : n ≤ number f = from point f there (omega arith) in
+              let up : number f < number e = rise point at f e before there got in absurd (omega (arith, up, high, is))
+          | false ↦ λ v. grind (arith, nat_tests)
+        ] refl
+      ] refl
+
 -- what the partition point says of a row
 module _ {E : Type 0} (number : E → ℕ) (rows : List E) (n point at : ℕ) (e : E)
     (parted : IsPartitionPoint (λ (w : E). nat_lt (number w) n ≡ true) (λ (w : E). nat_lt (number w) n ≡ false) rows point) (got : slice_get rows at ≡ Some e) where

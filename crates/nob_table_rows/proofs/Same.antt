@@ -1,11 +1,12 @@
 -- When two references are one, and what a look-up finds in a filter of rows.
-use Rattle.std.proofs.Common.{◌≡◌, Bool, true, false, List, [], ◌∷◌, filter, Some, None, cond, if◌then◌else◌, refl, ap, ◌∙◌}
+use Rattle.std.proofs.Common.{◌≡◌, Bool, true, false, ◌&&◌, ◌||◌, Option, is_some, length, List, [], ◌∷◌, filter, Some, None, cond, if◌then◌else◌, refl, sym, ap, ◌∙◌}
 use Rattle.std.proofs.lemmas.Bool.Decides.{Decides-eqb, Decides-and}
 use Rattle.std.proofs.lemmas.Cmp.{nat_eq_equiv}
 use Rattle.std.proofs.lemmas.Map.{NonePasses}
-use Rattle.std.proofs.lemmas.Map.Entries.{none_past_head}
+use Rattle.std.proofs.lemmas.Map.Entries.{none_past_head, length-keys_of}
+use Rattle.std.proofs.lemmas.Map.Made.{length-from_same_keys, IsDistinct-keys_filter}
 use Rattle.std.specs.Cmp.{IsEquivalence}
-use Rattle.std.specs.List.{IsDistinct}
+use Rattle.std.specs.List.{IsDistinct, list_any}
 use Rattle.std.specs.Map.{lookup, keys_of}
 use Rattle.nob_ids.specs.declared.wire_rep.WireRep.{WireRep}
 use Rattle.nob_ids.specs.Names.{is_same}
@@ -68,3 +69,30 @@ keys_of-filter {K} {X} p (e ∷ es) =
       | true ↦ ap (λ ks. e.0 ∷ ks) (keys_of-filter p es)
       | false ↦ keys_of-filter p es
     ]
+
+-- a key is among the keys where a look-up finds it
+pub key_there : {K X : Type 0} (test : K → Bool) (es : List (K × X)) → list_any test (keys_of es) ≡ is_some (lookup test es)
+key_there test [] = refl
+key_there test (e ∷ es) =
+    elim (test e.0) as (λ b. (b || list_any test (keys_of es)) ≡ is_some (cond b (Some e.1) (lookup test es))) [
+      | true ↦ refl
+      | false ↦ key_there test es
+    ]
+
+some_kept : {X : Type 0} (b : Bool) (o : Option X) → is_some (keep_if (λ (x : X). b) o) ≡ (b && is_some o)
+some_kept true None = refl
+some_kept true (Some x) = refl
+some_kept false None = refl
+some_kept false (Some x) = refl
+
+-- as many rows are left as keys pass, where a look-up finds what passes
+pub left_length : {X : Type 0} (p : WireRep → Bool) (old new : List (WireRep × X)) → IsDistinct is_same (keys_of old) → IsDistinct is_same (keys_of new) → ((q : WireRep) → is_some (row_at new q) ≡ (p q && is_some (row_at old q)))
+    → length new ≡ length (filter p (keys_of old))
+left_length {X} p old new once once' left =
+    let kept : List (WireRep × X) = filter (λ e. p e.0) old in
+    let distinct : IsDistinct is_same (keys_of kept) = IsDistinct-keys_filter is_same (λ (e : WireRep × X). p e.0) old once in
+    let there : (q : WireRep) → list_any (is_same q) (keys_of new) ≡ list_any (is_same q) (keys_of kept) = λ q.
+      key_there (is_same q) new ∙ left q
+      ∙ sym (key_there (is_same q) kept ∙ ap is_some (lookup_filter same_laws q (λ (e : WireRep × X). p e.0) (λ (x : X). p q) (λ k x same. ap p (sym (same_is q k same))) old once) ∙ some_kept (p q) (lookup (is_same q) old)) in
+    let same : length (keys_of new) ≡ length (keys_of kept) = length-from_same_keys same_laws (keys_of new) (keys_of kept) once' distinct there in
+    sym (length-keys_of new) ∙ same ∙ ap length (keys_of-filter p old)

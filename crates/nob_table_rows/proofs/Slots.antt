@@ -140,6 +140,12 @@ length_filled (e ∷ es) =
     let rest = length_filled es in
     elim e.1 as (λ o. length (cond (is_some o) ((e.0, o) ∷ filled es) (filled es)) ≡ length (with_slot e.0 o (live_rows es))) [ None ↦ rest | Some counts ↦ omega (arith, rest) ]
 
+pub live_shorter : (es : Slots) → length (live_rows es) ≤ length es
+live_shorter [] = omega arith
+live_shorter (e ∷ es) =
+    let rest = live_shorter es in
+    elim e.1 as (λ o. length (with_slot e.0 o (live_rows es)) ≤ length (e ∷ es)) [ None ↦ omega (arith, rest) | Some counts ↦ omega (arith, rest) ]
+
 pub all_filled : (P : WireRep → Type 0) (es : Slots) → AllByRecursion P (reps_of es) → AllByRecursion P (reps_of (filled es))
 all_filled P [] all = tt
 all_filled P (e ∷ es) all =

@@ -1,11 +1,12 @@
 -- The live objects of a space: the slots that they stand in, and the first of them that nothing holds.
-use Rattle.std.specs.Prelude.{◌≡◌, ℕ, ◌+◌, ◌*◌, ◌<◌, ◌≤◌, Bool, true, false, not, List, [], ◌∷◌, length, Option, Some, None}
+use Rattle.std.specs.Prelude.{◌≡◌, ℕ, ◌+◌, ◌*◌, ◌<◌, ◌≤◌, Bool, true, false, not, List, [], ◌∷◌, length, slice_get, Option, Some, None}
 use Rattle.std.specs.List.{AllByRecursion}
 use Rattle.nob_ids.specs.declared.wire_rep.WireRep.{WireRep}
 use Rattle.nob_table_rows.specs.declared.counts.Counts.{Counts}
 use Rattle.nob_table_rows.specs.Counts.{is_held}
 use Rattle.nob_table_rows.specs.Order.{IsByIndex}
-use Rattle.nob_table_rows.specs.Rows.{row_at, reps_of, IsOnce}
+use Rattle.nob_table_rows.specs.Rows.{RowList, row_at, reps_of, IsOnce}
+use Rattle.nob_marks.specs.Marks.{has, bound}
 
 -- the live objects with their counts, how many indexes were given, and the room beside them
 pub record Exports : Type 0 where
@@ -31,6 +32,15 @@ abbrev pub is_unheld_slot : Option Counts → Bool
 is_unheld_slot None = false
 is_unheld_slot (Some counts) = not (is_held counts)
 
+-- the same of a slot that there may be
+abbrev pub is_unheld_at : Option (WireRep × Option Counts) → Bool
+is_unheld_at None = false
+is_unheld_at (Some slot) = is_unheld_slot slot.1
+
+-- the members are the numbers of the slots whose objects nothing holds
+abbrev pub AreUnheld : List (WireRep × Option Counts) → List ℕ → Type 0
+AreUnheld slots unheld = (at : ℕ) → has unheld at ≡ is_unheld_at (slice_get slots at)
+
 -- what is true of the slots of a space that gave so many indexes and has so many live objects
 pub record AreSlots (exported live : ℕ) (slots : List (WireRep × Option Counts)) : Type 0 where
   -- no reference has two
@@ -43,6 +53,13 @@ pub record AreSlots (exported live : ℕ) (slots : List (WireRep × Option Count
   pub count : live ≡ length (live_rows slots)
   -- of the empty ones there is at most one more than of the others
   pub few : length slots ≤ 2 * live + 1
+
+-- what holds of the slots, of the marks beside them and of the room
+pub record IsObjects (exported live : ℕ) (slots : RowList (Option Counts)) (unheld : List ℕ) (room : ℕ) : Type 0 where
+  pub slots_are : AreSlots exported live slots.rows
+  pub marked : AreUnheld slots.rows unheld
+  pub slots_room : room ≤ slots.room
+  pub unheld_room : length slots.rows + room ≤ bound unheld
 
 -- each row with an index from one on and below another is held
 abbrev pub AreHeld : List (WireRep × Counts) → ℕ → ℕ → Type 0

@@ -1,19 +1,21 @@
 //! What an object table keeps: the counts of a reference and how it stands, rows by reference, the
-//! objects of the space, and for each other space its references.
+//! objects of the space, the references to other spaces' objects, and the order of their last
+//! Dirties.
 #![tactic(auto)]
 
 mod counts;
+mod far;
 mod fault;
+mod losing;
 mod objects;
-mod peer;
-mod peers;
+mod order;
 mod rows;
 mod standing;
 
 pub use counts::{Counts, Part};
+pub use far::Far;
 pub use fault::{TableError, TableFault};
 pub use objects::Objects;
-pub use peer::Peer;
-pub use peers::Peers;
+pub use order::{Order, Slot};
 pub use rows::Rows;
 pub use standing::{Grant, Standing, State, Surrogate};

@@ -1,13 +1,17 @@
 //! The objects of the space.
 
-ghost use Rattle.std.specs.Prelude.{◌≡◌, ℕ, ◌+◌, ◌<◌, ◌≤◌, ◌^◌, ◌++◌, ◌∷◌, [], length, slice_get, Some, None, IsSome, IsOk, OnOk, MatchOption};
-ghost use Rattle.nob_table_rows.specs.Objects.{AreAllHeld, IsFirstRow, live_rows, is_unheld_slot};
+ghost use Rattle.std.specs.Prelude.{◌≡◌, ℕ, ◌+◌, ◌<◌, ◌≤◌, ◌^◌, ◌++◌, ◌∷◌, [], length, slice_get, Some, None, IsSome, IsOk, OnOk, MatchOption, false};
+ghost use Rattle.std.specs.Map.{set_value};
+ghost use Rattle.nob_ids.specs.Names.{is_same};
+ghost use Rattle.nob_marks.specs.Marks.{has, bound};
+ghost use Rattle.nob_table_rows.specs.Objects.{AreAllHeld, AreUnheld, IsFirstRow, live_rows, is_unheld_slot, is_unheld_at};
 ghost use Rattle.nob_table_rows.specs.Order.{IsByIndex};
 ghost use Rattle.nob_table_rows.specs.Rows.{row_at, reps_of, Puts, IsOnce};
 
 use crate::counts::Counts;
 use crate::rows::Rows;
 use nob_ids::{SpaceId, WireRep};
+use nob_marks::Marks;
 use std::alloc::{AllocError, Global};
 use std::marker::Model;
 
@@ -24,6 +28,10 @@ pub struct Objects {
     // How many slots aren't empty.
     live: usize,
     slots: Rows<Option<Counts>>,
+    // The numbers of the slots whose objects nothing holds.
+    unheld: Marks,
+    // How many more exports fit.
+    room: usize,
 }
 
 impl Model for Objects {
@@ -31,15 +39,15 @@ impl Model for Objects {
 
     ghost Value = { Exports };
 
-    ghost use Rattle.nob_table_rows.specs.Objects.{AreSlots, live_rows};
+    ghost use Rattle.nob_table_rows.specs.Objects.{IsObjects, live_rows};
 
     ghost view = { λ a. record {
       exported = a.exported;
       rows = live_rows a.slots.rows;
-      room = a.slots.room;
+      room = a.room;
     } };
 
-    ghost invariant = { λ a. AreSlots a.exported a.live a.slots.rows };
+    ghost invariant = { λ a. IsObjects a.exported a.live a.slots a.unheld a.room };
 }
 
 impl Objects {
@@ -52,6 +60,8 @@ impl Objects {
             exported: 0,
             live: 0,
             slots: Rows::new(alloc),
+            unheld: Marks::new(alloc),
+            room: 0,
         }
     }
 
@@ -85,7 +95,14 @@ impl Objects {
         ensures succeeds { additional ≤ self.old.room → IsOk result }
         ensures room { self.old.room ≤ self.new.room }
     {
-        self.slots.reserve(additional)
+        if additional <= self.room {
+            return Ok(());
+        }
+        self.slots.reserve(additional)?;
+        self.unheld
+            .reserve(self.slots.len().saturating_add(additional))?;
+        self.room = additional;
+        Ok(())
     }
 
     /// A new object of this space, with the next index: the reference to it.
@@ -104,8 +121,11 @@ impl Objects {
             owner: me,
             index: self.exported,
         };
+        let at = self.slots.len();
         self.slots.push(&rep, Some(counts));
+        self.unheld.write(at, is_unheld(Some(counts)));
         self.live += 1;
+        self.room -= 1;
         rep
     }
 
@@ -117,7 +137,7 @@ impl Objects {
         ensures exported { self.new.exported ≡ self.old.exported }
         ensures room { self.new.room ≡ self.old.room }
     {
-        self.slots.set(rep, Some(counts));
+        write_slot(&mut self.slots, &mut self.unheld, rep, Some(counts));
     }
 
     /// Takes a live object out: its slot is left empty, and all empty slots go once they are more
@@ -129,39 +149,89 @@ impl Objects {
         ensures exported { self.new.exported ≡ self.old.exported }
         ensures room { self.old.room ≤ self.new.room }
     {
-        self.slots.set(rep, None);
+        write_slot(&mut self.slots, &mut self.unheld, rep, None);
         self.live -= 1;
-        if self.live < self.slots.len() / 2 {
+        let all = self.slots.len();
+        if self.live < all / 2 {
             self.slots.keep_filled();
+            mark_all(&mut self.unheld, &self.slots, all);
         }
     }
 
     /// The least index from this one on of an object that nothing holds. Logarithmic in the slots,
-    /// and linear in those that it passes.
+    /// and then a few words of bits: it passes no slot.
     pub fn first_unheld(&self, index: u64) -> Option<u64>
         ensures first { MatchOption result (AreAllHeld self.now.rows index)
             (λ found. IsFirstRow self.now.rows index found) }
     {
-        first_unheld_of(&self.slots, index)
+        first_unheld_of(&self.slots, &self.unheld, index)
     }
 }
 
 // The least index from this one on of a slot that isn't empty and that nothing holds.
-fn first_unheld_of(slots: &Rows<Option<Counts>>, index: u64) -> Option<u64>
+fn first_unheld_of(slots: &Rows<Option<Counts>>, unheld: &Marks, index: u64) -> Option<u64>
     requires once { IsOnce slots.now.rows }
     requires by_index { IsByIndex (reps_of slots.now.rows) }
+    requires marked { AreUnheld slots.now.rows unheld.now }
     ensures { MatchOption result (AreAllHeld (live_rows slots.now.rows) index)
         (λ found. IsFirstRow (live_rows slots.now.rows) index found) }
 {
     let start = slots.count_below(index);
-    let end = slots.len();
-    for at in start..end {
-        let slot = slots.row(at)?;
-        if is_unheld(slot.1) {
-            return Some(slot.0.index);
-        }
+    let Some(at) = unheld.first_from(start) else {
+        return None;
+    };
+    let Some(slot) = slots.row(at) else {
+        return None;
+    };
+    Some(slot.0.index)
+}
+
+// Writes the slot of a reference that has one, and whether nothing holds its object.
+fn write_slot(
+    slots: &mut Rows<Option<Counts>>,
+    unheld: &mut Marks,
+    rep: &WireRep,
+    slot: Option<Counts>,
+)
+    requires there { IsSome (row_at slots.old.rows rep.now) }
+    requires by_index { IsByIndex (reps_of slots.old.rows) }
+    requires room { length slots.old.rows ≤ bound unheld.old }
+    ensures rows { Puts slots.old.rows slots.new.rows rep.now (Some slot) }
+    ensures written { slots.new.rows ≡ set_value (is_same rep.now) slots.old.rows slot }
+    ensures reps { reps_of slots.new.rows ≡ reps_of slots.old.rows }
+    ensures len { length slots.new.rows ≡ length slots.old.rows }
+    ensures once { IsOnce slots.new.rows }
+    ensures room { slots.new.room ≡ slots.old.room }
+    ensures marked { AreUnheld slots.old.rows unheld.old → AreUnheld slots.new.rows unheld.new }
+    ensures bound { bound unheld.new ≡ bound unheld.old }
+{
+    let at = slots.count_below(rep.index);
+    slots.set(rep, slot);
+    unheld.write(at, is_unheld(slot));
+}
+
+// Writes which of the slots have an object that nothing holds, where so many were there.
+fn mark_all(unheld: &mut Marks, slots: &Rows<Option<Counts>>, all: usize)
+    requires len { length slots.now.rows ≤ all }
+    requires room { all ≤ bound unheld.old }
+    requires past { (at : ℕ) → all ≤ at → has unheld.old at ≡ false }
+    ensures marked { AreUnheld slots.now.rows unheld.new }
+    ensures bound { bound unheld.new ≡ bound unheld.old }
+{
+    for at in 0..all {
+        let there = is_unheld_at(slots, at);
+        unheld.write(at, there);
     }
-    None
+}
+
+// Whether there is a slot of this number, with an object that nothing holds.
+fn is_unheld_at(slots: &Rows<Option<Counts>>, at: usize) -> bool
+    ensures { result ≡ is_unheld_at (slice_get slots.now.rows at) }
+{
+    match slots.row(at) {
+        Some(slot) => is_unheld(slot.1),
+        None => false,
+    }
 }
 
 // Whether the slot has an object that nothing holds.

@@ -9,7 +9,6 @@ ghost use Rattle.nob_table_rows.specs.Order.{place_in, IsRising, IsByIndex};
 ghost use Rattle.nob_table_rows.specs.Rows.{RowList, row_at, reps_of, Puts, IsOnce, without, keep_if};
 
 use crate::counts::Counts;
-use crate::standing::Surrogate;
 use indexmap::IndexMap;
 use nob_ids::WireRep;
 use std::alloc::{AllocError, Global};
@@ -116,50 +115,6 @@ impl<X: Copy + Drop> Rows<X> {
     {
         let _row = self.map.swap_remove(rep);
     }
-
-    /// Takes a row out. The others keep their order.
-    pub fn take_in_order(&mut self, rep: &WireRep)
-        ensures puts { Puts self.old.rows self.new.rows rep.now None }
-        ensures reps { reps_of self.new.rows ≡ without rep.now (reps_of self.old.rows) }
-        ensures once { IsOnce self.new.rows }
-        ensures len { length self.new.rows +
-            (if is_some (row_at self.old.rows rep.now) then 1 else 0) ≡ length self.old.rows }
-        ensures room { self.old.room ≤ self.new.room }
-    {
-        let _row = self.map.shift_remove(rep);
-    }
-
-    /// Takes all rows out. Linear in the rows and the room beside them, and constant where there is
-    /// no row.
-    pub fn clear(&mut self)
-        ensures rows { self.new.rows ≡ [] }
-        ensures once { IsOnce self.new.rows }
-        ensures room { self.old.room ≤ self.new.room }
-    {
-        if !self.map.is_empty() {
-            self.map.clear();
-        }
-    }
-}
-
-impl Rows<Counts> {
-    /// Takes out the rows of references that nobody holds. Linear in the rows and the room beside
-    /// them, and constant where there is no row.
-    pub fn keep_held(&mut self)
-        ensures rows { (rep : WireRep) → row_at self.new.rows rep
-            ≡ keep_if is_held (row_at self.old.rows rep) }
-        ensures once { IsOnce self.new.rows }
-        ensures room { self.old.room ≤ self.new.room }
-    {
-        if self.map.is_empty() {
-            return;
-        }
-        self.map.retain(
-            |_rep: &WireRep, counts: &mut Counts| -> bool
-                ensures { (result ≡ is_held counts.old) × (counts.new ≡ counts.old) }
-            { counts.is_held() },
-        );
-    }
 }
 
 impl Rows<Option<Counts>> {
@@ -190,25 +145,6 @@ impl Rows<Option<Counts>> {
             |rep: &WireRep, _slot: &Option<Counts>| -> bool
                 ensures { result ≡ nat_lt rep.now.index index }
             { rep.index < index },
-        )
-    }
-}
-
-impl Rows<Surrogate> {
-    /// How many rows have a place below this one: the first ones, where the places rise. Logarithmic
-    /// in the rows.
-    pub fn count_before(&self, place: u128) -> usize
-        requires { IsRising (place_in self.now.rows) (reps_of self.now.rows) }
-        ensures bound { result ≤ length self.now.rows }
-        ensures below { (at : ℕ) (row : WireRep × Surrogate) → slice_get self.now.rows at ≡ Some row
-            → at < result → row.1.place < place }
-        ensures from { (at : ℕ) (row : WireRep × Surrogate) → slice_get self.now.rows at ≡ Some row
-            → result ≤ at → place ≤ row.1.place }
-    {
-        self.map.partition_point(
-            |_rep: &WireRep, surrogate: &Surrogate| -> bool
-                ensures { result ≡ nat_lt surrogate.now.place place }
-            { surrogate.place < place },
         )
     }
 }

@@ -1,12 +1,10 @@
-use Rattle.std.proofs.Common.{◌≡◌, Some, slice_get, sym, ◌∙◌, arith}
-use Rattle.nob_table_rows.proofs.Slots.{first_found, none_found}
+use Rattle.std.proofs.Common.{sym, ◌∙◌}
+use Rattle.nob_table_rows.proofs.Marked.{first_marked, none_marked}
 use Rattle.nob_table_rows.proofs.objects.first_unheld_of.Goals as goal
 
-pub returns-then-is_unheld : goal.returns-then-is_unheld
-returns-then-is_unheld c =
-    let got : slice_get c.args.slots.now.rows c.loop-at.at ≡ Some c.in_ok-slot.slot = sym c.row.ensures ∙ c.in_ok-slot.was in
-    first_found c.args.slots.now.rows c.args.index c.requires.once c.requires.by_index c.loop-at.at c.in_ok-slot.slot c.loop-at.invariant got
-    (c.count_below-start.ensures.from c.loop-at.at c.in_ok-slot.slot got c.loop-at.auto.at) (sym c.if-is_unheld.ensures)
+pub returns-in_default : goal.returns-in_default
+returns-in_default c = none_marked c.args.slots.now.rows c.args.unheld.now c.args.index c.count_below-start.result c.requires.once c.requires.by_index c.requires.marked (λ k f got less. c.count_below-start.ensures.below k f got less) c.in_default.ensures
 
 pub returns : goal.returns
-returns c = none_found c.args.slots.now.rows c.args.index c.requires.once c.requires.by_index (λ at slot less. c.loop-at.invariant at slot (omega (arith, less, c.len-end.ensures.len, c.loop-at-test.false)))
+returns c = first_marked c.args.slots.now.rows c.args.unheld.now c.args.index c.count_below-start.result c.requires.once c.requires.by_index c.requires.marked (λ k f got less. c.count_below-start.ensures.below k f got less)
+    (λ k f got le. c.count_below-start.ensures.from k f got le) c.in-Some.at c.in-Some-row.slot (sym c.row.ensures ∙ c.in-Some-row.is) c.in-Some.ensures

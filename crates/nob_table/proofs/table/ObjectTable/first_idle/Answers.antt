@@ -7,11 +7,11 @@ returns-clause-first c =
     let t : Table = record {
       me = c.self.inside.me;
       exported = c.self.inside.objects.exported;
-      dirties = c.self.inside.dirties;
+      dirties = c.self.inside.far.dirties;
       objects = c.self.inside.objects.rows;
-      counted = c.self.inside.peers.counted;
-      surrogates = c.self.inside.peers.surrogates;
+      counted = c.self.inside.far.counted;
+      surrogates = c.self.inside.far.surrogates;
       export_room = c.self.inside.objects.room;
-      surrogate_room = c.self.inside.peers.room;
+      surrogate_room = c.self.inside.far.room;
     } in
     rw (← c.self.view_is) (first_of_table t c.self.invariant c.args.place c.first_idle.result c.first_idle.ensures)

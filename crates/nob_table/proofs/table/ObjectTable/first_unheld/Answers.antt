@@ -6,12 +6,12 @@ abbrev table : goal.After-first_unheld → Table
 table c = record {
   me = c.self.inside.me;
   exported = c.self.inside.objects.exported;
-  dirties = c.self.inside.dirties;
+  dirties = c.self.inside.far.dirties;
   objects = c.self.inside.objects.rows;
-  counted = c.self.inside.peers.counted;
-  surrogates = c.self.inside.peers.surrogates;
+  counted = c.self.inside.far.counted;
+  surrogates = c.self.inside.far.surrogates;
   export_room = c.self.inside.objects.room;
-  surrogate_room = c.self.inside.peers.room;
+  surrogate_room = c.self.inside.far.room;
 }
 
 pub returns-clause-first : goal.returns-clause-first

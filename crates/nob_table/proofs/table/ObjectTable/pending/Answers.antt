@@ -7,6 +7,6 @@ use Rattle.nob_table.proofs.table.ObjectTable.pending.Goals as goal
 
 pub returns-clause-order : goal.returns-clause-order
 returns-clause-order c =
-    let none = no_place _ _ _ _ c.self.inside.peers.counted c.self.inside.peers.surrogates c.self.invariant c.args.rep (ap is_some (sym c.counts.ensures) ∙ sym c.is_some.ensures ∙ c.if-is_some.false) in
-    rw (← c.self.view_is) (λ reps order. order_push (place_in c.self.inside.peers.surrogates) (place_in c.push.new.self.surrogates) reps order.0 order.1 c.args.rep c.self.inside.dirties
-    (place_puts c.self.inside.peers.surrogates c.push.new.self.surrogates c.args.rep (Some (waiting_surrogate c.self.inside.dirties)) c.in_ok-push.ensures.surrogates) none c.self.invariant.sent)
+    let none = no_place _ _ _ _ c.self.inside.far.counted c.self.inside.far.surrogates c.self.invariant c.args.rep (ap is_some (sym c.counts.ensures) ∙ sym c.is_some.ensures ∙ c.if-is_some.false) in
+    rw (← c.self.view_is) (λ reps order. order_push (place_in c.self.inside.far.surrogates) (place_in c.push.new.self.surrogates) reps order.0 order.1 c.args.rep c.self.inside.far.dirties
+    (place_puts c.self.inside.far.surrogates c.push.new.self.surrogates c.args.rep (Some (waiting_surrogate c.self.inside.far.dirties)) c.in_ok-push.ensures.surrogates) none c.self.invariant.sent)

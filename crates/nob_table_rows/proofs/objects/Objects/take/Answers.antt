@@ -1,10 +1,11 @@
-use Rattle.std.proofs.Common.{◌≡◌, ◌+◌, IsSome, is_some, ap, ◌∙◌, None, arith, length}
+use Rattle.std.proofs.Common.{◌≡◌, ◌≤◌, ◌+◌, IsSome, is_some, ap, ◌∙◌, None, arith, length}
 use Rattle.nob_ids.specs.Names.{is_same}
 use Rattle.nob_ids.specs.declared.wire_rep.WireRep.{WireRep}
-use Rattle.nob_table_rows.specs.Objects.{live_rows}
+use Rattle.nob_table_rows.specs.Objects.{live_rows, is_unheld_at}
+use Rattle.std.proofs.lemmas.Option.{slice_get_past}
 use Rattle.nob_table_rows.specs.Rows.{row_at, IsOnce}
 use Rattle.std.specs.Map.{set_value}
-use Rattle.nob_table_rows.proofs.Slots.{Slots, slot_there, live_emptied, live_filled, slots_cleared, slots_emptied, puts_live}
+use Rattle.nob_table_rows.proofs.Slots.{Slots, slot_there, live_emptied, live_filled, length_filled, live_shorter, slots_cleared, slots_emptied, puts_live}
 use Rattle.nob_table_rows.proofs.objects.Objects.take.Goals as goal
 
 -- one row less
@@ -13,34 +14,52 @@ one_less es fs rep once there written =
     let slot = slot_there es once rep there in
     ap (λ (s : Slots). length (live_rows s) + 1) written ∙ live_emptied (is_same rep) slot.0 es slot.1
 
-pub set-requires : goal.set-requires
-set-requires c = ap is_some (slot_there c.self.inside.slots.rows c.self.invariant.once c.args.rep.now (rw (← c.self.view_is) at c.requires)).1
+pub write_slot-requires-clause-there : goal.write_slot-requires-clause-there
+write_slot-requires-clause-there c = ap is_some (slot_there c.self.inside.slots.rows c.self.invariant.slots_are.once c.args.rep.now (rw (← c.self.view_is) at c.requires)).1
 
 pub invariant_of-self : goal.invariant_of-self
 invariant_of-self c =
-    slots_cleared c.self.inside.exported c.self.inside.live c.self.inside.slots.rows c.self.invariant c.set.new.self.rows c.keep_filled.new.self.rows c.set.ensures.reps
-    (one_less c.self.inside.slots.rows c.set.new.self.rows c.args.rep.now c.self.invariant.once (rw (← c.self.view_is) at c.requires) c.set.ensures.written) c.keep_filled.ensures.rows c.keep_filled.ensures.once
+    let fewer : length c.keep_filled.new.self.rows ≤ c.len-all.result = rw c.keep_filled.ensures.rows (omega (arith, c.len-all.ensures.len, length_filled c.write_slot.new.slots.rows, live_shorter c.write_slot.new.slots.rows)) in
+    record {
+      slots_are =
+          slots_cleared c.self.inside.exported c.self.inside.live c.self.inside.slots.rows c.self.invariant.slots_are c.write_slot.new.slots.rows c.keep_filled.new.self.rows c.write_slot.ensures.reps
+          (one_less c.self.inside.slots.rows c.write_slot.new.slots.rows c.args.rep.now c.self.invariant.slots_are.once (rw (← c.self.view_is) at c.requires) c.write_slot.ensures.written) c.keep_filled.ensures.rows c.keep_filled.ensures.once;
+      marked = c.mark_all.ensures.marked;
+      slots_room = omega (arith, c.write_slot.ensures.room, c.keep_filled.ensures.room, c.self.invariant.slots_room);
+      unheld_room = omega (arith, fewer, c.len-all.ensures.len, c.write_slot.ensures.len, c.mark_all.ensures.bound, c.write_slot.ensures.bound, c.self.invariant.unheld_room);
+    }
 
-pub invariant_of-self-else-self-len : goal.invariant_of-self-else-self-len
-invariant_of-self-else-self-len c =
-    slots_emptied c.self.inside.exported c.self.inside.live c.self.inside.slots.rows c.self.invariant c.set.new.self.rows c.set.ensures.reps
-    (one_less c.self.inside.slots.rows c.set.new.self.rows c.args.rep.now c.self.invariant.once (rw (← c.self.view_is) at c.requires) c.set.ensures.written) c.set.ensures.once
-    (omega (arith, c.len.ensures.len, c.if-self-len.false))
+pub invariant_of-self-else-self-all : goal.invariant_of-self-else-self-all
+invariant_of-self-else-self-all c = record {
+  slots_are =
+      slots_emptied c.self.inside.exported c.self.inside.live c.self.inside.slots.rows c.self.invariant.slots_are c.write_slot.new.slots.rows c.write_slot.ensures.reps
+      (one_less c.self.inside.slots.rows c.write_slot.new.slots.rows c.args.rep.now c.self.invariant.slots_are.once (rw (← c.self.view_is) at c.requires) c.write_slot.ensures.written) c.write_slot.ensures.once
+      (omega (arith, c.len-all.ensures.len, c.if-self-all.false));
+  marked = c.write_slot.ensures.marked c.self.invariant.marked;
+  slots_room = omega (arith, c.write_slot.ensures.room, c.self.invariant.slots_room);
+  unheld_room = omega (arith, c.write_slot.ensures.len, c.write_slot.ensures.bound, c.self.invariant.unheld_room);
+}
 
-pub returns-then-self-len-clause-puts : goal.returns-then-self-len-clause-puts
-returns-then-self-len-clause-puts c =
+pub returns-then-self-all-clause-puts : goal.returns-then-self-all-clause-puts
+returns-then-self-all-clause-puts c =
     rw (← c.self.view_is) (λ other.
-    ap (λ (s : Slots). row_at (live_rows s) other) c.keep_filled.ensures.rows ∙ ap (λ rows. row_at rows other) (live_filled c.set.new.self.rows)
-    ∙ puts_live c.self.inside.slots.rows c.set.new.self.rows c.args.rep.now None c.self.invariant.once c.set.ensures.once c.set.ensures.rows other)
+    ap (λ (s : Slots). row_at (live_rows s) other) c.keep_filled.ensures.rows ∙ ap (λ rows. row_at rows other) (live_filled c.write_slot.new.slots.rows)
+    ∙ puts_live c.self.inside.slots.rows c.write_slot.new.slots.rows c.args.rep.now None c.self.invariant.slots_are.once c.write_slot.ensures.once c.write_slot.ensures.rows other)
 
-pub returns-then-self-len-clause-len : goal.returns-then-self-len-clause-len
-returns-then-self-len-clause-len c =
-    rw (← c.self.view_is) (ap (λ (s : Slots). length (live_rows s) + 1) c.keep_filled.ensures.rows ∙ ap (λ rows. length rows + 1) (live_filled c.set.new.self.rows)
-    ∙ one_less c.self.inside.slots.rows c.set.new.self.rows c.args.rep.now c.self.invariant.once (rw (← c.self.view_is) at c.requires) c.set.ensures.written)
+pub returns-then-self-all-clause-len : goal.returns-then-self-all-clause-len
+returns-then-self-all-clause-len c =
+    rw (← c.self.view_is) (ap (λ (s : Slots). length (live_rows s) + 1) c.keep_filled.ensures.rows ∙ ap (λ rows. length rows + 1) (live_filled c.write_slot.new.slots.rows)
+    ∙ one_less c.self.inside.slots.rows c.write_slot.new.slots.rows c.args.rep.now c.self.invariant.slots_are.once (rw (← c.self.view_is) at c.requires) c.write_slot.ensures.written)
 
-pub returns-else-self-len-clause-puts : goal.returns-else-self-len-clause-puts
-returns-else-self-len-clause-puts c = rw (← c.self.view_is) (puts_live c.self.inside.slots.rows c.set.new.self.rows c.args.rep.now None c.self.invariant.once c.set.ensures.once c.set.ensures.rows)
+pub returns-else-self-all-clause-puts : goal.returns-else-self-all-clause-puts
+returns-else-self-all-clause-puts c = rw (← c.self.view_is) (puts_live c.self.inside.slots.rows c.write_slot.new.slots.rows c.args.rep.now None c.self.invariant.slots_are.once c.write_slot.ensures.once c.write_slot.ensures.rows)
 
-pub returns-else-self-len-clause-len : goal.returns-else-self-len-clause-len
-returns-else-self-len-clause-len c =
-    rw (← c.self.view_is) (one_less c.self.inside.slots.rows c.set.new.self.rows c.args.rep.now c.self.invariant.once (rw (← c.self.view_is) at c.requires) c.set.ensures.written)
+pub returns-else-self-all-clause-len : goal.returns-else-self-all-clause-len
+returns-else-self-all-clause-len c =
+    rw (← c.self.view_is) (one_less c.self.inside.slots.rows c.write_slot.new.slots.rows c.args.rep.now c.self.invariant.slots_are.once (rw (← c.self.view_is) at c.requires) c.write_slot.ensures.written)
+
+pub mark_all-requires-clause-len : goal.mark_all-requires-clause-len
+mark_all-requires-clause-len c = rw c.keep_filled.ensures.rows (omega (arith, c.len-all.ensures.len, length_filled c.write_slot.new.slots.rows, live_shorter c.write_slot.new.slots.rows))
+
+pub mark_all-requires-clause-past : goal.mark_all-requires-clause-past
+mark_all-requires-clause-past c = λ at past. c.write_slot.ensures.marked c.self.invariant.marked at ∙ ap is_unheld_at (slice_get_past c.write_slot.new.slots.rows at (omega (arith, c.len-all.ensures.len, past)))

@@ -1,0 +1,9 @@
+use Rattle.nob_table_rows.specs.Far.{is_current}
+use Rattle.nob_table_rows.proofs.Gaps.{sent_filter, filter_shorter}
+use Rattle.nob_table_rows.proofs.order.Order.tidy.Goals as goal
+
+pub returns-then-len-clause-sent : goal.returns-then-len-clause-sent
+returns-then-len-clause-sent c = λ dirties sent. rw c.close_gaps.ensures.slots (sent_filter (is_current c.args.surrogates.now.rows) c.args.self.now.slots.items dirties sent)
+
+pub returns-then-len-clause-len : goal.returns-then-len-clause-len
+returns-then-len-clause-len c = rw c.close_gaps.ensures.slots (filter_shorter (is_current c.args.surrogates.now.rows) c.args.self.now.slots.items)
