@@ -10,9 +10,7 @@ ghost use Rattle.nob_table_rows.specs.Standings.{unknown, is_known, is_live, is_
 ghost use Rattle.nob_table.specs.Table.{Table, standing, surrogate_total, most_objects, most_surrogates, most_index, surrogate_reps, place_of, IsOrder, live, live_reps, own, export_fault, hold_fault, release_fault, pending_fault, answer_fault, remove_fault, withdraw_fault, Becomes, SameObjects, ExportLeaves, WithdrawalLeaves, ChangeLeaves, RemovalLeaves, Stays, Places, IsRefusal, NoneIdle, IsFirstIdle, NeverUnheld, IsFirstUnheld, is_of};
 
 use nob_ids::{SpaceId, WireRep};
-use nob_table_rows::{
-    Counts, Far, Grant, Objects, Part, Standing, State, TableError, TableFault,
-};
+use nob_table_rows::{Counts, Far, Grant, Objects, Part, Standing, State, TableError, TableFault};
 use std::alloc::{AllocError, Global};
 use std::marker::Model;
 

@@ -51,12 +51,12 @@ module _ (es : Slots) (by_index : IsByIndex (reps_of es)) (rep : WireRep) (old :
   unheld_set at slot unheld unheld' got marked written k =
       let e : WireRep × Option Counts = (rep, old) in
       let apart : (j : ℕ) (f : WireRep × Option Counts) → j < at → slice_get es j ≡ Some f → is_same rep f.0 ≡ false = λ j f less has'.
-        elim (is_same rep f.0) as (λ b. is_same rep f.0 ≡ b → b ≡ false) [
-          | true ↦ λ t.
-              let up : f.0.index < rep.index = slots_rise es by_index j at f e less has' got in
-              let same : rep.index ≡ f.0.index = ap (λ (w : WireRep). w.index) (same_is rep f.0 t) in absurd (omega (arith, up, same))
-          | false ↦ λ u. refl
-        ] refl in
+      elim (is_same rep f.0) as (λ b. is_same rep f.0 ≡ b → b ≡ false) [
+        | true ↦ λ t.
+            let up : f.0.index < rep.index = slots_rise es by_index j at f e less has' got in
+            let same : rep.index ≡ f.0.index = ap (λ (w : WireRep). w.index) (same_is rep f.0 t) in absurd (omega (arith, up, same))
+        | false ↦ λ u. refl
+      ] refl in
       let is : set_value (is_same rep) es slot ≡ set es at (rep, slot) = set_value_at (is_same rep) es at e slot got (same_refl rep) apart in
       elim (k == at) as (λ b. (k == at) ≡ b → has unheld' k ≡ is_unheld_at (slice_get (set_value (is_same rep) es slot) k)) [
         | true ↦ λ t.

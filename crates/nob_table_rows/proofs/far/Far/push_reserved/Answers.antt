@@ -24,8 +24,8 @@ invariant_of-self c =
     let counts : Puts counted c.push.new.self.rows rep (Some no_counts) = c.push.ensures.puts in
     let puts : Puts surrogates c.push-2.new.self.rows rep (Some (waiting_surrogate n)) = rw c.waiting_surrogate.ensures at c.push-2.ensures.puts in
     let tied = c.push-3.ensures.linked c.push-2.new.self.rows
-      (linked_pushed counted c.push.new.self.rows surrogates c.push-2.new.self.rows slots rep n far.sent none counts puts c.self.inside.order.before.items far.ordered.linked)
-      (ends_pushed counted c.push.new.self.rows surrogates c.push-2.new.self.rows slots rep n far.sent none counts puts c.self.inside.order.ends far.ordered.ended) in
+    (linked_pushed counted c.push.new.self.rows surrogates c.push-2.new.self.rows slots rep n far.sent none counts puts c.self.inside.order.before.items far.ordered.linked)
+    (ends_pushed counted c.push.new.self.rows surrogates c.push-2.new.self.rows slots rep n far.sent none counts puts c.self.inside.order.ends far.ordered.ended) in
     let longer : length c.push-3.new.self.slots.items ≡ length slots + 1 = rw c.push-3.ensures.slots (omega (arith, length_push slots slot)) in
     record {
       ordered = record {
