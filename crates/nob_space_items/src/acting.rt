@@ -99,8 +99,8 @@ fn act_on(
 /// nothing waits; and the item stays in the inbox where a Call or a Reply would pass a limit, or a
 /// session has no number for the Dirties or the answer that it asks for. It takes memory to read a
 /// Call or a Reply, for what an item leaves here, and for what is sent; a fault of what was read
-/// takes none. Linear in the bytes, the calls, the messages that wait, and the pins of the item that
-/// a Settle names, and logarithmic in the listings; a fault costs what `close_for` does.
+/// takes none. Linear in the bytes, the calls, the messages that wait, and the pins of the item
+/// that a Settle names, and logarithmic in the listings; a fault costs what `close_for` does.
 pub fn act(
     parts: &mut Parts,
     alloc: Global,
