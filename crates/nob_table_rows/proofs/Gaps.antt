@@ -1,7 +1,13 @@
 -- Slots whose gaps are closed.
-use Rattle.std.proofs.Common.{◌≡◌, ℕ, ◌<◌, ◌≤◌, Bool, true, false, cond, List, [], ◌∷◌, length, filter, Some, slice_get, refl, sym, ap, subst, ◌∙◌, arith}
+use Rattle.std.proofs.Common.{◌≡◌, ℕ, ◌<◌, ◌≤◌, Bool, true, false, ◌||◌, cond, map, Option, None, is_some, List, [], ◌∷◌, length, filter, Some, slice_get, refl, sym, ap, subst, ◌∙◌, arith, true≢false}
 use Prim.Native.Nat.{zero, suc}
 use Rattle.std.proofs.lemmas.Option.{none-some, same_Some}
+use Rattle.std.proofs.lemmas.List.{length-map}
+use Rattle.std.proofs.lemmas.Map.Entries.{length-keys_of}
+use Rattle.std.proofs.lemmas.Map.Made.{length-le_from_is_member}
+use Rattle.std.specs.List.{list_any, AllByRecursion, IsDistinct}
+use Rattle.std.specs.Option.{option_map}
+use Rattle.nob_ids.specs.Names.{is_same}
 use Rattle.nob_ids.specs.declared.wire_rep.WireRep.{WireRep}
 use Rattle.nob_table_rows.specs.declared.counts.Counts.{Counts}
 use Rattle.nob_table_rows.specs.declared.order.Slot.{Slot}
@@ -9,7 +15,9 @@ use Rattle.nob_table_rows.specs.declared.standing.Surrogate.{Surrogate}
 use Rattle.nob_table_rows.specs.Far.{is_current, AreInOrder, AreSent, AreMarked, AreLinked, AreEnds, IsOrdered}
 use Rattle.nob_table_rows.specs.Order.{place_in}
 use Rattle.nob_table_rows.proofs.Flat.{filter_had, filter_has}
-use Rattle.nob_table_rows.proofs.Slotted.{placed}
+use Rattle.nob_table_rows.specs.Rows.{row_at, reps_of}
+use Rattle.nob_table_rows.proofs.Same.{same_is, same_laws, key_there}
+use Rattle.nob_table_rows.proofs.Slotted.{placed, placed_is}
 
 module _ (test : Slot → Bool) where
   in_order_cons : (x : Slot) (xs : List Slot) → ((k : ℕ) (f : Slot) → slice_get xs k ≡ Some f → x.place < f.place) → AreInOrder xs → AreInOrder (x ∷ xs)
@@ -49,3 +57,55 @@ ordered_closed counted surrogates slots before ends idle ordered slots' before' 
   ended = ended;
   same = same;
 }
+
+module _ (surrogates : List (WireRep × Surrogate)) where
+  -- the references of slots
+  abbrev slot_reps : List Slot → List WireRep
+  slot_reps xs = map (λ (s : Slot). s.rep) xs
+
+  other_reps : (rep : WireRep) (xs : List Slot) → ((k : ℕ) (f : Slot) → slice_get xs k ≡ Some f → is_same rep f.rep ≡ false) → AllByRecursion (λ y. is_same rep y ≡ false) (slot_reps xs)
+  other_reps rep [] apart = tt
+  other_reps rep (x ∷ xs) apart = (apart 0 x refl, other_reps rep xs (λ k f got. apart (suc k) f got))
+
+  -- slots of surrogates that are there are of different ones
+  distinct_slots : (xs : List Slot) → AreInOrder xs → ((k : ℕ) (f : Slot) → slice_get xs k ≡ Some f → is_current surrogates f ≡ true) → IsDistinct is_same (slot_reps xs)
+  unfolding IsDistinct
+  distinct_slots [] rise current = tt
+  distinct_slots (x ∷ xs) rise current =
+      let apart : (k : ℕ) (f : Slot) → slice_get xs k ≡ Some f → is_same x.rep f.rep ≡ false = λ k f got.
+        elim (is_same x.rep f.rep) as (λ b. is_same x.rep f.rep ≡ b → b ≡ false) [
+          | true ↦ λ t.
+              let first : place_in surrogates x.rep ≡ Some x.place = placed_is (place_in surrogates x.rep) x.place (current 0 x refl) in
+              let later : place_in surrogates f.rep ≡ Some f.place = placed_is (place_in surrogates f.rep) f.place (current (suc k) f got) in
+              let same : x.place ≡ f.place = same_Some x.place f.place (sym first ∙ ap (λ (w : WireRep). place_in surrogates w) (same_is x.rep f.rep t) ∙ later) in
+              let up : x.place < f.place = rise 0 (suc k) x f (omega arith) refl got in
+              absurd (omega (arith, same, up))
+          | false ↦ λ u. refl
+        ] refl in (
+        other_reps x.rep xs apart,
+        distinct_slots xs (λ i j e f less got there. rise (suc i) (suc j) e f (omega (arith, less)) got there) (λ k f got. current (suc k) f got),
+      )
+
+  some_row : (o : Option Surrogate) (n : ℕ) → option_map (λ (s : Surrogate). s.place) o ≡ Some n → is_some o ≡ true
+  some_row None n is = absurd (none-some n is)
+  some_row (Some s) n is = refl
+
+  slot_members : (xs : List Slot) → ((k : ℕ) (f : Slot) → slice_get xs k ≡ Some f → is_current surrogates f ≡ true) → (q : WireRep) → list_any (is_same q) (slot_reps xs) ≡ true → list_any (is_same q) (reps_of surrogates) ≡ true
+  slot_members [] current q there = absurd (true≢false (sym there))
+  slot_members (x ∷ xs) current q there =
+      elim (is_same q x.rep) as (λ b. is_same q x.rep ≡ b → (b || list_any (is_same q) (slot_reps xs)) ≡ true → list_any (is_same q) (reps_of surrogates) ≡ true) [
+        | true ↦ λ t h.
+            let place : place_in surrogates x.rep ≡ Some x.place = placed_is (place_in surrogates x.rep) x.place (current 0 x refl) in
+            let its : place_in surrogates q ≡ Some x.place = ap (λ (w : WireRep). place_in surrogates w) (same_is q x.rep t) ∙ place in
+            key_there (is_same q) surrogates ∙ some_row (row_at surrogates q) x.place its
+        | false ↦ λ u h. slot_members xs (λ k f got. current (suc k) f got) q h
+      ] refl there
+
+  -- no more slots are left than there are surrogates
+  pub slots_left : (slots : List Slot) → AreInOrder slots → length (filter (is_current surrogates) slots) ≤ length surrogates
+  slots_left slots rise =
+      let left : List Slot = filter (is_current surrogates) slots in
+      let current : (k : ℕ) (f : Slot) → slice_get left k ≡ Some f → is_current surrogates f ≡ true = λ k f got. (filter_had (is_current surrogates) slots k f got).2 in
+      let fewer : length (slot_reps left) ≤ length (reps_of surrogates) =
+      length-le_from_is_member same_laws (slot_reps left) (reps_of surrogates) (distinct_slots left (in_order_filter (is_current surrogates) slots rise) current) (slot_members left current) in
+      omega (arith, fewer, length-map left (λ (s : Slot). s.rep), length-keys_of surrogates)

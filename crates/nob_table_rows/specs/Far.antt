@@ -1,5 +1,5 @@
 -- The references to other spaces' objects: rows by reference, and the surrogates once more in slots, in the order of their last Dirties.
-use Rattle.std.specs.Prelude.{◌≡◌, ℕ, ◌+◌, ◌-◌, ◌<◌, ◌≤◌, ◌==◌, ◌&&◌, Bool, true, false, List, length, slice_get, Option, Some, None, is_some}
+use Rattle.std.specs.Prelude.{◌≡◌, ℕ, ◌+◌, ◌-◌, ◌*◌, ◌<◌, ◌≤◌, ◌==◌, ◌&&◌, Bool, true, false, List, length, slice_get, Option, Some, None, is_some}
 use Rattle.std.specs.Vec.{vec_capacity}
 use Rattle.nob_ids.specs.Names.{most_spaces}
 use Rattle.nob_ids.specs.declared.wire_rep.WireRep.{WireRep}
@@ -118,3 +118,8 @@ pub record IsFar (counted : RowList Counts) (surrogates : RowList Surrogate) (di
   pub slots_room : length order.slots.items + room ≤ vec_capacity order.slots
   pub before_room : length order.before.items + room ≤ vec_capacity order.before
   pub idle_room : length order.slots.items + room ≤ bound order.idle
+
+-- the same, and of the slots at most one more than half are gaps
+pub record IsTidyFar (counted : RowList Counts) (surrogates : RowList Surrogate) (dirties : ℕ) (order : Order) (room : ℕ) : Type 0 where
+  pub far : IsFar counted surrogates dirties order room
+  pub few : length order.slots.items ≤ 2 * length surrogates.rows + 1

@@ -48,9 +48,9 @@ impl Model for Far {
     ghost use Rattle.std.specs.Prelude.{length};
     ghost use Rattle.std.specs.Vec.{vec_capacity};
     ghost use Rattle.nob_marks.specs.Marks.{bound};
-    ghost use Rattle.nob_table_rows.specs.Far.{IsFar};
+    ghost use Rattle.nob_table_rows.specs.Far.{IsTidyFar};
 
-    ghost invariant = { λ a. IsFar a.counted a.surrogates a.dirties a.order a.room };
+    ghost invariant = { λ a. IsTidyFar a.counted a.surrogates a.dirties a.order a.room };
 }
 
 impl Far {

@@ -201,6 +201,7 @@ impl Order {
         ensures sent { (dirties : ℕ) → AreSent self.old.slots.items dirties
             → AreSent self.new.slots.items dirties }
         ensures len { length self.new.slots.items ≤ length self.old.slots.items }
+        ensures few { length self.new.slots.items ≤ 2 * length surrogates.now.rows + 1 }
         ensures slots_kept { vec_capacity self.new.slots ≡ vec_capacity self.old.slots }
         ensures before_kept { vec_capacity self.new.before ≡ vec_capacity self.old.before }
         ensures idle_kept { bound self.new.idle ≡ bound self.old.idle }

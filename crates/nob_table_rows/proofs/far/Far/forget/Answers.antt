@@ -6,11 +6,14 @@ use Rattle.nob_table_rows.proofs.Slotted.{same_elsewhere, marked_without}
 use Rattle.nob_table_rows.proofs.far.Far.forget.Goals as goal
 
 pub invariant_of-self : goal.invariant_of-self
-invariant_of-self c =
-    let rep : WireRep = c.args.rep.now in
-    let far = c.self.invariant in
-    let none : row_at c.self.inside.surrogates.rows rep ≡ None = rw (← c.self.view_is) at c.requires in
-    far_marked c.self.inside.counted c.self.inside.surrogates c.self.inside.dirties c.self.inside.order c.self.inside.room far c.take.new.self c.self.inside.surrogates c.self.inside.order far.once
-    (omega (arith, c.take.ensures.room, far.counted_room)) far.surrogates_room refl refl refl refl (λ other place at. at)
-    (marked_without c.self.inside.counted.rows c.take.new.self.rows c.self.inside.surrogates.rows c.self.inside.order.slots.items c.self.inside.order.idle rep none
-    (same_elsewhere rep c.self.inside.counted.rows c.take.new.self.rows None c.take.ensures.puts) far.ordered.marked)
+invariant_of-self c = record {
+  far =
+      let rep : WireRep = c.args.rep.now in
+      let far = c.self.invariant.far in
+      let none : row_at c.self.inside.surrogates.rows rep ≡ None = rw (← c.self.view_is) at c.requires in
+      far_marked c.self.inside.counted c.self.inside.surrogates c.self.inside.dirties c.self.inside.order c.self.inside.room far c.take.new.self c.self.inside.surrogates c.self.inside.order far.once
+      (omega (arith, c.take.ensures.room, far.counted_room)) far.surrogates_room refl refl refl refl (λ other place at. at)
+      (marked_without c.self.inside.counted.rows c.take.new.self.rows c.self.inside.surrogates.rows c.self.inside.order.slots.items c.self.inside.order.idle rep none
+      (same_elsewhere rep c.self.inside.counted.rows c.take.new.self.rows None c.take.ensures.puts) far.ordered.marked);
+  few = c.self.invariant.few;
+}

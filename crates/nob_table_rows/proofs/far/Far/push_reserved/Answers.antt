@@ -18,7 +18,7 @@ invariant_of-self c =
     let rep : WireRep = c.args.rep.now in
     let n : ℕ = c.self.inside.dirties in
     let slot : Slot = record { place = n; rep = rep } in
-    let far = c.self.invariant in
+    let far = c.self.invariant.far in
     let some : 0 < c.self.inside.room = rw (← c.self.view_is) at c.requires.room in
     let none : row_at surrogates rep ≡ None = rw (← c.self.view_is) at c.requires.sent in
     let counts : Puts counted c.push.new.self.rows rep (Some no_counts) = c.push.ensures.puts in
@@ -27,7 +27,8 @@ invariant_of-self c =
     (linked_pushed counted c.push.new.self.rows surrogates c.push-2.new.self.rows slots rep n far.sent none counts puts c.self.inside.order.before.items far.ordered.linked)
     (ends_pushed counted c.push.new.self.rows surrogates c.push-2.new.self.rows slots rep n far.sent none counts puts c.self.inside.order.ends far.ordered.ended) in
     let longer : length c.push-3.new.self.slots.items ≡ length slots + 1 = rw c.push-3.ensures.slots (omega (arith, length_push slots slot)) in
-    record {
+    let more : length c.push-2.new.self.rows ≡ length surrogates + 1 = rw c.push-2.ensures.rows (omega (arith, length_push surrogates (rep, c.waiting_surrogate.result))) in
+    record { far = record {
       ordered = record {
         in_order = rw c.push-3.ensures.slots (in_order_pushed counted c.push.new.self.rows surrogates c.push-2.new.self.rows slots rep n far.sent none counts puts far.ordered.in_order);
         have_slots = rw c.push-3.ensures.slots (have_pushed counted c.push.new.self.rows surrogates c.push-2.new.self.rows slots rep n far.sent none counts puts far.ordered.have_slots);
@@ -43,4 +44,4 @@ invariant_of-self c =
       slots_room = omega (arith, longer, c.push-3.ensures.slots_kept, far.slots_room, some);
       before_room = omega (arith, c.push-3.ensures.len, c.push-3.ensures.before_kept, far.before_room, some);
       idle_room = rw c.push-3.ensures.idle (omega (arith, longer, far.idle_room, some));
-    }
+    }; few = omega (arith, longer, more, c.self.invariant.few) }
