@@ -10,5 +10,5 @@ pub mod Parted
 pub mod Pushed
 pub mod Rising
 pub mod Same
-pub mod Slots
+pub mod LiveRows
 pub mod Slotted

@@ -4,7 +4,7 @@ use Prim.Native.Nat.{zero, suc}
 use lib.ListN.{set}
 use Rattle.std.proofs.lemmas.Bool.Decides.{Decides-ltb, nat_tests}
 use Rattle.std.proofs.lemmas.Cmp.{nat_eq_equiv}
-use Rattle.std.proofs.lemmas.Map.Entries.{place_from_lookup}
+use Rattle.std.proofs.lemmas.Map.Entries.{place_from_lookup, lookup_from_place}
 use Rattle.std.proofs.lemmas.Option.{none-some, same_Some, slice_get_within}
 use Rattle.std.specs.Map.{set_value}
 use Rattle.nob_ids.specs.Names.{is_same}
@@ -16,8 +16,8 @@ use Rattle.nob_table_rows.specs.Order.{IsByIndex}
 use Rattle.nob_table_rows.specs.Rows.{row_at, reps_of, IsOnce}
 use Rattle.nob_table_rows.proofs.Flat.{get_set_same, get_set_other, get_push_here, get_push_other}
 use Rattle.nob_table_rows.proofs.Parted.{point_is}
-use Rattle.nob_table_rows.proofs.Same.{same_is, same_refl}
-use Rattle.nob_table_rows.proofs.Slots.{Slots, slots_rise, first_found, none_found, ArePassed}
+use Rattle.nob_table_rows.proofs.Same.{same_is, same_refl, same_laws}
+use Rattle.nob_table_rows.proofs.LiveRows.{Slots, slots_rise, first_found, none_found, ArePassed, once_by_index}
 
 -- a value written by key stands at the key's place
 set_value_at : (test : WireRep → Bool) (es : Slots) (at : ℕ) (e : WireRep × Option Counts) (v : Option Counts) → slice_get es at ≡ Some e → test e.0 ≡ true
@@ -45,11 +45,11 @@ module _ (es : Slots) (by_index : IsByIndex (reps_of es)) (rep : WireRep) (old :
       let got : slice_get es point ≡ Some (rep, old) = ap (λ (j : ℕ). slice_get es j) is ∙ place.1 in
       (slice_get_within es point (rep, old) got, got)
 
-  -- another slot written, and its mark
-  pub unheld_set : (at : ℕ) (slot : Option Counts) (unheld unheld' : List ℕ) → slice_get es at ≡ Some (rep, old) → AreUnheld es unheld → ((other : ℕ) → has unheld' other ≡ (if other == at then is_unheld_slot slot else has unheld other))
-      → AreUnheld (set_value (is_same rep) es slot) unheld'
-  unheld_set at slot unheld unheld' got marked written k =
+  -- the slot at the number is the reference's, if it has one
+  pub written_at : (at : ℕ) (slot : Option Counts) → slice_get es at ≡ Some (rep, old) → set_value (is_same rep) es slot ≡ set es at (rep, slot)
+  written_at at slot got =
       let e : WireRep × Option Counts = (rep, old) in
+<<<<<<< HEAD
       let apart : (j : ℕ) (f : WireRep × Option Counts) → j < at → slice_get es j ≡ Some f → is_same rep f.0 ≡ false = λ j f less has'.
       elim (is_same rep f.0) as (λ b. is_same rep f.0 ≡ b → b ≡ false) [
         | true ↦ λ t.
@@ -58,6 +58,22 @@ module _ (es : Slots) (by_index : IsByIndex (reps_of es)) (rep : WireRep) (old :
         | false ↦ λ u. refl
       ] refl in
       let is : set_value (is_same rep) es slot ≡ set es at (rep, slot) = set_value_at (is_same rep) es at e slot got (same_refl rep) apart in
+=======
+      set_value_at (is_same rep) es at e slot got (same_refl rep) (λ j f less has'.
+        elim (is_same rep f.0) as (λ b. is_same rep f.0 ≡ b → b ≡ false) [
+          | true ↦ λ t.
+              let up : f.0.index < rep.index = slots_rise es by_index j at f e less has' got in
+              let same : rep.index ≡ f.0.index = ap (λ (w : WireRep). w.index) (same_is rep f.0 t) in absurd (omega (arith, up, same))
+          | false ↦ λ u. refl
+        ] refl)
+
+  -- another slot written, and its mark
+  pub unheld_set : (at : ℕ) (slot : Option Counts) (unheld unheld' : List ℕ) → slice_get es at ≡ Some (rep, old) → AreUnheld es unheld → ((other : ℕ) → has unheld' other ≡ (if other == at then is_unheld_slot slot else has unheld other))
+      → AreUnheld (set_value (is_same rep) es slot) unheld'
+  unheld_set at slot unheld unheld' got marked written k =
+      let e : WireRep × Option Counts = (rep, old) in
+      let is : set_value (is_same rep) es slot ≡ set es at (rep, slot) = written_at at slot got in
+>>>>>>> 9d4089d038923f2ce47cfc1eab759cacbe434fe2
       elim (k == at) as (λ b. (k == at) ≡ b → has unheld' k ≡ is_unheld_at (slice_get (set_value (is_same rep) es slot) k)) [
         | true ↦ λ t.
             let here : k ≡ at = eqb-true k at t in
@@ -107,3 +123,33 @@ some_row es rep there =
       | None ↦ λ e h. absurd (true≢false (sym h))
       | Some old ↦ λ e h. (old, e)
     ] refl there
+
+module _ (es : Slots) (by_index : IsByIndex (reps_of es)) (rep : WireRep) (point : ℕ) (below : (k : ℕ) (f : WireRep × Option Counts) → slice_get es k ≡ Some f → k < point → f.0.index < rep.index)
+    (from : (k : ℕ) (f : WireRep × Option Counts) → slice_get es k ≡ Some f → point ≤ k → rep.index ≤ f.0.index) where
+  -- a reference that has a slot has it at the number
+  pub there_or_none : ((old : Option Counts) → slice_get es point ≡ Some (rep, old) → ⊥) → row_at es rep ≡ None
+  there_or_none never =
+      elim (row_at es rep) as (λ o. row_at es rep ≡ o → o ≡ None) [
+        | None ↦ λ e. refl
+        | Some old ↦ λ e. absurd (never old (point_there es by_index rep old e point below from).1)
+      ] refl
+
+  pub none_there : slice_get es point ≡ None → row_at es rep ≡ None
+  none_there none = there_or_none (λ old got. none-some (rep, old) (sym none ∙ got))
+
+  pub other_there : (row : WireRep × Option Counts) → slice_get es point ≡ Some row → is_same rep row.0 ≡ false → row_at es rep ≡ None
+  other_there row got apart = there_or_none (λ old here.
+    let same : row ≡ (rep, old) = same_Some row (rep, old) (sym got ∙ here) in
+    true≢false (sym (same_refl rep) ∙ ap (λ (w : WireRep × Option Counts). is_same rep w.0) (sym same) ∙ apart))
+
+  pub row_there : (row : WireRep × Option Counts) → slice_get es point ≡ Some row → is_same rep row.0 ≡ true → row_at es rep ≡ Some row.1
+  row_there row got same = lookup_from_place same_laws es point rep row.1 (once_by_index es by_index) (subst (λ (w : WireRep). slice_get es point ≡ Some (w, row.1)) (sym (same_is rep row.0 same)) got)
+
+-- the slot of a reference that has one stands at the number, and a write there is one by key
+pub set_slot : (es fs : Slots) → fs ≡ es → IsByIndex (reps_of es) → (rep : WireRep) (slot : Option Counts) → IsSome (row_at es rep) → (point : ℕ)
+    → ((k : ℕ) (f : WireRep × Option Counts) → slice_get fs k ≡ Some f → k < point → f.0.index < rep.index) → ((k : ℕ) (f : WireRep × Option Counts) → slice_get fs k ≡ Some f → point ≤ k → rep.index ≤ f.0.index)
+    → (point < length es) × (set es point (rep, slot) ≡ set_value (is_same rep) es slot)
+set_slot es fs same by_index rep slot there point below from =
+    let old = some_row es rep there in
+    let at = point_there es by_index rep old.0 old.1 point (λ k f got. below k f (ap (λ (xs : Slots). slice_get xs k) same ∙ got)) (λ k f got. from k f (ap (λ (xs : Slots). slice_get xs k) same ∙ got)) in
+    (at.0, sym (written_at es by_index rep old.0 old.1 point slot at.1))

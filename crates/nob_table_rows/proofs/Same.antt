@@ -96,3 +96,7 @@ left_length {X} p old new once once' left =
     ∙ sym (key_there (is_same q) kept ∙ ap is_some (lookup_filter same_laws q (λ (e : WireRep × X). p e.0) (λ (x : X). p q) (λ k x same. ap p (sym (same_is q k same))) old once) ∙ some_kept (p q) (lookup (is_same q) old)) in
     let same : length (keys_of new) ≡ length (keys_of kept) = length-from_same_keys same_laws (keys_of new) (keys_of kept) once' distinct there in
     sym (length-keys_of new) ∙ same ∙ ap length (keys_of-filter p old)
+
+-- a reference that is one with another is one with what the other is one with
+pub same_congr : (rep : WireRep) (x y : WireRep) → is_same rep x ≡ true → is_same rep y ≡ is_same x y
+same_congr rep x y same = ap (λ (w : WireRep). is_same w y) (same_is rep x same)

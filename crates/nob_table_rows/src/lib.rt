@@ -10,6 +10,7 @@ mod losing;
 mod objects;
 mod order;
 mod rows;
+mod slots;
 mod standing;
 
 pub use counts::{Counts, Part};
@@ -18,4 +19,5 @@ pub use fault::{TableError, TableFault};
 pub use objects::Objects;
 pub use order::{Order, Slot};
 pub use rows::Rows;
+pub use slots::Slots;
 pub use standing::{Grant, Standing, State, Surrogate};

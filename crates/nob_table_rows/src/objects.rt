@@ -9,7 +9,7 @@ ghost use Rattle.nob_table_rows.specs.Order.{IsByIndex};
 ghost use Rattle.nob_table_rows.specs.Rows.{row_at, reps_of, Puts, IsOnce};
 
 use crate::counts::Counts;
-use crate::rows::Rows;
+use crate::slots::Slots;
 use nob_ids::{SpaceId, WireRep};
 use nob_marks::Marks;
 use std::alloc::{AllocError, Global};
@@ -27,7 +27,7 @@ pub struct Objects {
     exported: u64,
     // How many slots aren't empty.
     live: usize,
-    slots: Rows<Option<Counts>>,
+    slots: Slots,
     // The numbers of the slots whose objects nothing holds.
     unheld: Marks,
     // How many more exports fit.
@@ -59,7 +59,7 @@ impl Objects {
         Objects {
             exported: 0,
             live: 0,
-            slots: Rows::new(alloc),
+            slots: Slots::new(alloc),
             unheld: Marks::new(alloc),
             room: 0,
         }
@@ -169,8 +169,7 @@ impl Objects {
 }
 
 // The least index from this one on of a slot that isn't empty and that nothing holds.
-fn first_unheld_of(slots: &Rows<Option<Counts>>, unheld: &Marks, index: u64) -> Option<u64>
-    requires once { IsOnce slots.now.rows }
+fn first_unheld_of(slots: &Slots, unheld: &Marks, index: u64) -> Option<u64>
     requires by_index { IsByIndex (reps_of slots.now.rows) }
     requires marked { AreUnheld slots.now.rows unheld.now }
     ensures { MatchOption result (AreAllHeld (live_rows slots.now.rows) index)
@@ -187,12 +186,7 @@ fn first_unheld_of(slots: &Rows<Option<Counts>>, unheld: &Marks, index: u64) -> 
 }
 
 // Writes the slot of a reference that has one, and whether nothing holds its object.
-fn write_slot(
-    slots: &mut Rows<Option<Counts>>,
-    unheld: &mut Marks,
-    rep: &WireRep,
-    slot: Option<Counts>,
-)
+fn write_slot(slots: &mut Slots, unheld: &mut Marks, rep: &WireRep, slot: Option<Counts>)
     requires there { IsSome (row_at slots.old.rows rep.now) }
     requires by_index { IsByIndex (reps_of slots.old.rows) }
     requires room { length slots.old.rows ≤ bound unheld.old }
@@ -211,7 +205,7 @@ fn write_slot(
 }
 
 // Writes which of the slots have an object that nothing holds, where so many were there.
-fn mark_all(unheld: &mut Marks, slots: &Rows<Option<Counts>>, all: usize)
+fn mark_all(unheld: &mut Marks, slots: &Slots, all: usize)
     requires len { length slots.now.rows ≤ all }
     requires room { all ≤ bound unheld.old }
     requires past { (at : ℕ) → all ≤ at → has unheld.old at ≡ false }
@@ -225,13 +219,13 @@ fn mark_all(unheld: &mut Marks, slots: &Rows<Option<Counts>>, all: usize)
 }
 
 // Whether there is a slot of this number, with an object that nothing holds.
-fn is_unheld_at(slots: &Rows<Option<Counts>>, at: usize) -> bool
+fn is_unheld_at(slots: &Slots, at: usize) -> bool
     ensures { result ≡ is_unheld_at (slice_get slots.now.rows at) }
 {
-    match slots.row(at) {
-        Some(slot) => is_unheld(slot.1),
-        None => false,
-    }
+    let Some(slot) = slots.row(at) else {
+        return false;
+    };
+    is_unheld(slot.1)
 }
 
 // Whether the slot has an object that nothing holds.

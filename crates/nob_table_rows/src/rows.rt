@@ -1,20 +1,17 @@
 //! Rows by reference.
 
-ghost use Rattle.std.specs.Prelude.{◌≡◌, ℕ, ◌^◌, ◌+◌, ◌<◌, ◌≤◌, ◌++◌, ◌∷◌, [], length, nat_lt, IsSome, None, Some, OnOk, IsOk, slice_get, if◌then◌else◌, is_some, filter, Option};
+ghost use Rattle.std.specs.Prelude.{◌≡◌, ℕ, ◌^◌, ◌+◌, ◌<◌, ◌≤◌, ◌++◌, ◌∷◌, [], length, IsSome, None, Some, OnOk, IsOk, if◌then◌else◌, is_some};
 ghost use Rattle.std.specs.Map.{set_value};
 ghost use Rattle.nob_ids.specs.Names.{is_same};
 ghost use Rattle.nob_ids.specs.declared.wire_rep.WireRep.{WireRep};
-ghost use Rattle.nob_table_rows.specs.Counts.{is_held};
-ghost use Rattle.nob_table_rows.specs.Order.{place_in, IsRising, IsByIndex};
-ghost use Rattle.nob_table_rows.specs.Rows.{RowList, row_at, reps_of, Puts, IsOnce, without, keep_if};
+ghost use Rattle.nob_table_rows.specs.Rows.{RowList, row_at, reps_of, Puts, IsOnce};
 
-use crate::counts::Counts;
 use indexmap::IndexMap;
 use nob_ids::WireRep;
 use std::alloc::{AllocError, Global};
 use std::marker::Model;
 
-/// Rows by reference, in the order in which they were put in as long as none is taken out of turn.
+/// Rows by reference, in no order.
 #[derive(Drop)]
 pub struct Rows<X> {
     map: IndexMap<WireRep, X>,
@@ -58,14 +55,6 @@ impl<X: Copy + Drop> Rows<X> {
         ensures { result ≡ row_at self.now.rows rep }
     {
         self.map.get(&rep).copied()
-    }
-
-    /// The row that so many others stand before.
-    pub fn row(&self, at: usize) -> Option<(WireRep, X)>
-        ensures { result ≡ slice_get self.now.rows at }
-    {
-        let (rep, row) = self.map.get_index(at)?;
-        Some((*rep, *row))
     }
 
     /// Writes what stands at a reference that has a row.
@@ -114,37 +103,5 @@ impl<X: Copy + Drop> Rows<X> {
         ensures room { self.old.room ≤ self.new.room }
     {
         let _row = self.map.swap_remove(rep);
-    }
-}
-
-impl Rows<Option<Counts>> {
-    /// Takes out the rows that are empty. Linear in the rows and the room beside them.
-    pub fn keep_filled(&mut self)
-        ensures rows { self.new.rows ≡ filter (λ row. is_some row.1) self.old.rows }
-        ensures once { IsOnce self.new.rows }
-        ensures room { self.old.room ≤ self.new.room }
-    {
-        self.map.retain(
-            |_rep: &WireRep, slot: &mut Option<Counts>| -> bool
-                ensures { (result ≡ is_some slot.old) × (slot.new ≡ slot.old) }
-            { slot.is_some() },
-        );
-    }
-
-    /// How many rows have an index below this one: the first ones, where the indexes rise.
-    /// Logarithmic in the rows.
-    pub fn count_below(&self, index: u64) -> usize
-        requires { IsByIndex (reps_of self.now.rows) }
-        ensures bound { result ≤ length self.now.rows }
-        ensures below { (at : ℕ) (row : WireRep × Option Counts)
-            → slice_get self.now.rows at ≡ Some row → at < result → row.0.index < index }
-        ensures from { (at : ℕ) (row : WireRep × Option Counts)
-            → slice_get self.now.rows at ≡ Some row → result ≤ at → index ≤ row.0.index }
-    {
-        self.map.partition_point(
-            |rep: &WireRep, _slot: &Option<Counts>| -> bool
-                ensures { result ≡ nat_lt rep.now.index index }
-            { rep.index < index },
-        )
     }
 }

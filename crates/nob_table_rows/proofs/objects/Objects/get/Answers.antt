@@ -1,6 +1,6 @@
 use Rattle.std.proofs.Common.{sym, ap, ◌∙◌}
 use Rattle.std.specs.Option.{option_flatten}
-use Rattle.nob_table_rows.proofs.Slots.{row_of_slot}
+use Rattle.nob_table_rows.proofs.LiveRows.{row_of_slot}
 use Rattle.nob_table_rows.proofs.objects.Objects.get.Goals as goal
 
 pub returns-in_err-get : goal.returns-in_err-get

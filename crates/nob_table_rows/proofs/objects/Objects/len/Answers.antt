@@ -1,4 +1,4 @@
-use Rattle.nob_table_rows.proofs.Slots.{once_live}
+use Rattle.nob_table_rows.proofs.LiveRows.{once_live}
 use Rattle.nob_table_rows.proofs.objects.Objects.len.Goals as goal
 
 pub returns-clause-once : goal.returns-clause-once

@@ -2,12 +2,13 @@ use Rattle.std.proofs.Common.{◌≡◌, ◌<◌, ◌+◌, ap, ◌∙◌, refl, 
 use Rattle.nob_ids.specs.declared.wire_rep.WireRep.{WireRep}
 use Rattle.nob_table_rows.specs.declared.counts.Counts.{Counts}
 use Rattle.nob_table_rows.specs.Objects.{live_rows}
-use Rattle.nob_table_rows.proofs.Slots.{no_slot, slots_pushed, puts_live, live_push, length_one}
+use Rattle.nob_table_rows.specs.Rows.{reps_of}
+use Rattle.nob_table_rows.proofs.LiveRows.{no_slot, all_before, row_push, slots_pushed, puts_live, live_push, length_one}
 use Rattle.nob_table_rows.proofs.Marked.{unheld_push}
 use Rattle.nob_table_rows.proofs.objects.Objects.push.Goals as goal
 
-pub push-requires-clause-new : goal.push-requires-clause-new
-push-requires-clause-new c = no_slot c.self.inside.slots.rows c.self.inside.exported (record { owner = c.args.me; index = c.self.inside.exported + 1 }) c.self.invariant.slots_are.low (omega arith)
+pub push-requires-clause-last : goal.push-requires-clause-last
+push-requires-clause-last c = all_before c.self.inside.exported (record { owner = c.args.me; index = c.self.inside.exported + 1 }) (reps_of c.self.inside.slots.rows) (omega arith) c.self.invariant.slots_are.low
 
 pub overflow_add-self-2 : goal.overflow_add-self-2
 overflow_add-self-2 c = let few = rw (← c.self.view_is) at c.requires.few in omega (arith, few, c.self.invariant.slots_are.count)
@@ -26,7 +27,7 @@ invariant_of-self c =
 
 pub returns-clause-puts : goal.returns-clause-puts
 returns-clause-puts c =
-    rw (← c.self.view_is) (puts_live c.self.inside.slots.rows c.push.new.self.rows (record { owner = c.args.me; index = c.self.inside.exported + 1 }) (Some c.args.counts) c.self.invariant.slots_are.once c.push.ensures.once c.push.ensures.puts)
+    rw (← c.self.view_is) (puts_live c.self.inside.slots.rows c.push.new.self.rows (record { owner = c.args.me; index = c.self.inside.exported + 1 }) (Some c.args.counts) c.self.invariant.slots_are.once c.push.ensures.once (rw c.push.ensures.rows (row_push c.self.inside.slots.rows (record { owner = c.args.me; index = c.self.inside.exported + 1 }) (Some c.args.counts) (no_slot c.self.inside.slots.rows c.self.inside.exported (record { owner = c.args.me; index = c.self.inside.exported + 1 }) c.self.invariant.slots_are.low (omega arith)))))
 
 pub returns-clause-len : goal.returns-clause-len
 returns-clause-len c =

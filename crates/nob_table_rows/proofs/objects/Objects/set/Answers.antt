@@ -5,7 +5,7 @@ use Rattle.nob_table_rows.specs.declared.counts.Counts.{Counts}
 use Rattle.nob_table_rows.specs.Objects.{live_rows}
 use Rattle.nob_table_rows.specs.Rows.{row_at, IsOnce}
 use Rattle.std.specs.Map.{set_value}
-use Rattle.nob_table_rows.proofs.Slots.{Slots, slot_there, live_set, slots_set, puts_live}
+use Rattle.nob_table_rows.proofs.LiveRows.{Slots, slot_there, live_set, slots_set, puts_live}
 use Rattle.nob_table_rows.proofs.objects.Objects.set.Goals as goal
 
 -- as many rows

@@ -5,7 +5,7 @@ use Rattle.nob_table_rows.specs.Objects.{live_rows, is_unheld_at}
 use Rattle.std.proofs.lemmas.Option.{slice_get_past}
 use Rattle.nob_table_rows.specs.Rows.{row_at, IsOnce}
 use Rattle.std.specs.Map.{set_value}
-use Rattle.nob_table_rows.proofs.Slots.{Slots, slot_there, live_emptied, live_filled, length_filled, live_shorter, slots_cleared, slots_emptied, puts_live}
+use Rattle.nob_table_rows.proofs.LiveRows.{Slots, slot_there, live_emptied, live_filled, length_filled, live_shorter, slots_cleared, slots_emptied, puts_live}
 use Rattle.nob_table_rows.proofs.objects.Objects.take.Goals as goal
 
 -- one row less

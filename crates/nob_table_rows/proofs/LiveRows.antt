@@ -64,6 +64,46 @@ once_live (e ∷ es) once =
       | Some counts ↦ (all_live (λ y. is_same e.0 y ≡ false) es once.0, once_live es once.1)
     ]
 
+-- references in the order of their indexes are different ones
+apart_all : (rep : WireRep) (reps : List WireRep) → AllByRecursion (λ other. IsBefore (index_of rep) (index_of other)) reps → AllByRecursion (λ y. is_same rep y ≡ false) reps
+apart_all rep [] all = tt
+apart_all rep (other ∷ reps) all = (
+  elim (is_same rep other) as (λ b. is_same rep other ≡ b → b ≡ false) [
+    | true ↦ λ t. let same : rep.index ≡ other.index = ap (λ (w : WireRep). w.index) (same_is rep other t) in let up : rep.index < other.index = all.0 in absurd (omega (arith, same, up))
+    | false ↦ λ u. refl
+  ] refl,
+  apart_all rep reps all.1,
+)
+
+once_reps : (reps : List WireRep) → IsByIndex reps → IsDistinct is_same reps
+unfolding IsDistinct
+once_reps [] rising = tt
+once_reps (rep ∷ reps) rising = (apart_all rep reps rising.0, once_reps reps rising.1)
+
+pub once_by_index : (es : Slots) → IsByIndex (reps_of es) → IsOnce es
+once_by_index es by_index = once_reps (reps_of es) by_index
+
+-- a slot behind the last
+pub row_push : (es : Slots) (rep : WireRep) (slot : Option Counts) → row_at es rep ≡ None → Puts es (es ++ (rep, slot) ∷ []) rep (Some slot)
+row_push [] rep slot none other = rw (same_laws.symm rep other) refl
+row_push (e ∷ es) rep slot none other =
+    elim (is_same rep e.0) as (λ b. is_same rep e.0 ≡ b → row_at (e ∷ es ++ (rep, slot) ∷ []) other ≡ (if is_same rep other then Some slot else row_at (e ∷ es) other)) [
+      | true ↦ λ t. absurd (none-some e.1 (sym none ∙ rw t refl))
+      | false ↦ λ u.
+          let rest : row_at es rep ≡ None = sym (rw u refl) ∙ none in
+          let later = row_push es rep slot rest other in
+          elim (is_same other e.0) as (λ b. is_same other e.0 ≡ b → cond b (Some e.1) (row_at (es ++ (rep, slot) ∷ []) other) ≡ (if is_same rep other then Some slot else cond b (Some e.1) (row_at es other))) [
+            | true ↦ λ t.
+                let apart : is_same rep other ≡ false =
+                elim (is_same rep other) as (λ b. is_same rep other ≡ b → b ≡ false) [
+                  | true ↦ λ s. absurd (true≢false (sym t ∙ ap (λ (w : WireRep). is_same w e.0) (sym (same_is rep other s)) ∙ u))
+                  | false ↦ λ v. refl
+                ] refl in
+                rw apart refl
+            | false ↦ λ v. later
+          ] refl
+    ] refl
+
 -- what is put into the slots is put into the rows
 pub puts_live : (es fs : Slots) (rep : WireRep) (slot : Option Counts) → IsOnce es → IsOnce fs → Puts es fs rep (Some slot) → Puts (live_rows es) (live_rows fs) rep slot
 puts_live es fs rep slot once once' puts other =
@@ -165,7 +205,7 @@ all_up : (n : ℕ) (reps : List WireRep) → AllByRecursion (λ (rep : WireRep).
 all_up n [] low = tt
 all_up n (rep ∷ reps) low = (omega (arith, low.0), all_up n reps low.1)
 
-all_before : (n : ℕ) (last : WireRep) (reps : List WireRep) → n < last.index → AllByRecursion (λ (rep : WireRep). rep.index ≤ n) reps → AllByRecursion (λ (rep : WireRep). IsBefore (index_of rep) (index_of last)) reps
+pub all_before : (n : ℕ) (last : WireRep) (reps : List WireRep) → n < last.index → AllByRecursion (λ (rep : WireRep). rep.index ≤ n) reps → AllByRecursion (λ (rep : WireRep). IsBefore (index_of rep) (index_of last)) reps
 all_before n last [] above low = tt
 all_before n last (rep ∷ reps) above low = (omega (arith, above, low.0), all_before n last reps above low.1)
 
@@ -173,7 +213,7 @@ all_one_more : (n : ℕ) (last : WireRep) (reps : List WireRep) → last.index �
 all_one_more n last [] here low = (omega (arith, here), tt)
 all_one_more n last (rep ∷ reps) here low = (low.0, all_one_more n last reps here low.1)
 
-reps_more : (es : Slots) (rep : WireRep) (slot : Option Counts) → reps_of (es ++ (rep, slot) ∷ []) ≡ reps_of es ++ rep ∷ []
+pub reps_more : (es : Slots) (rep : WireRep) (slot : Option Counts) → reps_of (es ++ (rep, slot) ∷ []) ≡ reps_of es ++ rep ∷ []
 reps_more [] rep slot = refl
 reps_more (e ∷ es) rep slot = ap (λ (reps : List WireRep). e.0 ∷ reps) (reps_more es rep slot)
 
