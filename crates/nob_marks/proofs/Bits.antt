@@ -113,9 +113,12 @@ module _ (words upper : List ℕ) (sums : Sums words upper) (from : ℕ) (none :
       let zero : word_at words word ≡ 0 = empty refl in
       absurd (true≢false (sym first.1 ∙ sums word ∙ ap (λ (n : ℕ). not (n == 0)) zero))
   first_then word first (Some at) in_word empty =
-      let low : word * 64 + 0 ≤ at = in_word.1.0 in
-      (omega (arith, first.0), in_word.1.1, λ other above less.
-        elim (nat_lt other (word * 64)) as (λ b. nat_lt other (word * 64) ≡ b → has words other ≡ false) [
-          | true ↦ λ t. none_up word first.2 other above ((Decides-ltb other (word * 64)).0 t)
-          | false ↦ λ u. in_word.1.2 other (grind (arith, nat_tests)) less
-        ] refl)
+      let low : word * 64 + 0 ≤ at = in_word.1.0 in (
+        omega (arith, first.0),
+        in_word.1.1,
+        λ other above less.
+            elim (nat_lt other (word * 64)) as (λ b. nat_lt other (word * 64) ≡ b → has words other ≡ false) [
+              | true ↦ λ t. none_up word first.2 other above ((Decides-ltb other (word * 64)).0 t)
+              | false ↦ λ u. in_word.1.2 other (grind (arith, nat_tests)) less
+            ] refl,
+      )

@@ -10,9 +10,7 @@ ghost use Rattle.nob_table_rows.specs.Standings.{unknown, is_known, is_live, is_
 ghost use Rattle.nob_table.specs.Table.{Table, standing, surrogate_total, most_objects, most_surrogates, most_index, surrogate_reps, place_of, IsOrder, live, live_reps, own, export_fault, hold_fault, release_fault, pending_fault, answer_fault, remove_fault, withdraw_fault, Becomes, SameObjects, ExportLeaves, WithdrawalLeaves, ChangeLeaves, RemovalLeaves, Stays, Places, IsRefusal, NoneIdle, IsFirstIdle, NeverUnheld, IsFirstUnheld, is_of};
 
 use nob_ids::{SpaceId, WireRep};
-use nob_table_rows::{
-    Counts, Far, Grant, Objects, Part, Standing, State, TableError, TableFault,
-};
+use nob_table_rows::{Counts, Far, Grant, Objects, Part, Standing, State, TableError, TableFault};
 use std::alloc::{AllocError, Global};
 use std::marker::Model;
 
@@ -76,7 +74,8 @@ impl ObjectTable {
         }
     }
 
-    /// How the reference stands. Constant time on average.
+    /// How the reference stands. Constant time on average, and logarithmic in the live objects for
+    /// one of the space's own.
     pub fn state(&self, rep: WireRep) -> Standing
         ensures stands { result ≡ standing self.now rep }
         ensures given { IsTrue (is_live result.state) → (1 ≤ rep.index)
@@ -125,10 +124,7 @@ impl ObjectTable {
     }
 
     /// The least index from this one on of a live object that nothing holds. Logarithmic in the
-    /// live objects, and linear in the slots that it passes between this index and the one found:
-    /// of held objects, and of withdrawn ones that aren't cleared yet, of which the table never has
-    /// more than live objects and one. So a walk over all such objects, each time from the index
-    /// behind the last one found, passes each slot once.
+    /// live objects, and then a few words of bits: it passes no object, held or withdrawn.
     pub fn first_unheld(&self, index: u64) -> Option<u64>
         ensures first { MatchOption result (NeverUnheld self.now index)
             (λ found. IsFirstUnheld self.now index found) }
@@ -163,7 +159,7 @@ impl ObjectTable {
 
     /// One hold more on the reference, in this part: a live object's, a surrogate's, or a lost
     /// reference's that is held already. B1 where it is none of these, B3 where the part is full.
-    /// Constant time on average.
+    /// Logarithmic.
     pub fn hold(&mut self, rep: WireRep, part: Part) -> Result<(), TableFault>
         ensures answer { MatchResult result (λ _. hold_fault self.old rep part ≡ None)
             (λ fault. hold_fault self.old rep part ≡ Some fault) }
@@ -184,8 +180,7 @@ impl ObjectTable {
     }
 
     /// One hold less on the reference, in this part. A lost reference is forgotten with its last
-    /// hold. B1 where the table has no counts of it, B2 where the part is 0. Constant time on
-    /// average.
+    /// hold. B1 where the table has no counts of it, B2 where the part is 0. Logarithmic.
     pub fn release(&mut self, rep: WireRep, part: Part) -> Result<(), TableFault>
         ensures answer { MatchResult result (λ _. release_fault self.old rep part ≡ None)
             (λ fault. release_fault self.old rep part ≡ Some fault) }
@@ -306,8 +301,7 @@ impl ObjectTable {
         Ok(())
     }
 
-    /// The owner has granted the pending reference. B1 where it isn't pending. Constant time on
-    /// average.
+    /// The owner has granted the pending reference. B1 where it isn't pending. Logarithmic.
     pub fn grant(&mut self, rep: WireRep) -> Result<(), TableFault>
         ensures answer { MatchResult result (λ _. answer_fault self.old rep ≡ None)
             (λ fault. answer_fault self.old rep ≡ Some fault) }
@@ -319,8 +313,7 @@ impl ObjectTable {
         self.answer(rep, Grant::Granted)
     }
 
-    /// The owner has refused the pending reference. B1 where it isn't pending. Constant time on
-    /// average.
+    /// The owner has refused the pending reference. B1 where it isn't pending. Logarithmic.
     pub fn refuse(&mut self, rep: WireRep) -> Result<(), TableFault>
         ensures answer { MatchResult result (λ _. answer_fault self.old rep ≡ None)
             (λ fault. answer_fault self.old rep ≡ Some fault) }
@@ -333,8 +326,8 @@ impl ObjectTable {
     }
 
     /// The first surrogate in the order of the last Dirties, from this place on, that is granted
-    /// and without holds, with its place. Linear in the surrogates that it passes: of each owner
-    /// those from the place on, up to the first such one.
+    /// and without holds, with its place. Logarithmic in the surrogates, and then a few words of
+    /// bits: it passes no surrogate.
     pub fn first_idle(&self, place: u128) -> Option<(u128, WireRep)>
         ensures first { MatchOption result (NoneIdle self.now place self.now.dirties)
             (λ found. IsFirstIdle self.now place found.0 found.1) }
@@ -344,8 +337,8 @@ impl ObjectTable {
     }
 
     /// A Clean for the surrogate is sent: the table forgets it, and the others keep their places.
-    /// B1 where it isn't granted, B4 where it is held. Linear in the surrogates of the same owner
-    /// behind it.
+    /// B1 where it isn't granted, B4 where it is held. Logarithmic over all calls: it leaves a gap
+    /// in the order, and one that leaves fewer surrogates than gaps closes these, linear in both.
     pub fn remove(&mut self, rep: WireRep) -> Result<(), TableFault>
         ensures answer { MatchResult result (λ _. remove_fault self.old rep ≡ None)
             (λ fault. remove_fault self.old rep ≡ Some fault) }
@@ -370,8 +363,9 @@ impl ObjectTable {
     }
 
     /// The session with the owner has closed: each of its surrogates is lost, and forgotten where
-    /// nothing holds it. The others keep their places. Linear in the references of this owner (and
-    /// in the room made for them).
+    /// nothing holds it. The others keep their places. Linear in this owner's surrogates and in the
+    /// gaps that others of its have left; as with `remove`, gaps are closed once they are more than
+    /// the surrogates.
     pub fn close(&mut self, owner: SpaceId)
         ensures closed { (rep : WireRep)
             → standing self.new rep ≡ (if is_of self.old owner rep then after_close

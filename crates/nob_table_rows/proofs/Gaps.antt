@@ -73,15 +73,15 @@ module _ (surrogates : List (WireRep × Surrogate)) where
   distinct_slots [] rise current = tt
   distinct_slots (x ∷ xs) rise current =
       let apart : (k : ℕ) (f : Slot) → slice_get xs k ≡ Some f → is_same x.rep f.rep ≡ false = λ k f got.
-        elim (is_same x.rep f.rep) as (λ b. is_same x.rep f.rep ≡ b → b ≡ false) [
-          | true ↦ λ t.
-              let first : place_in surrogates x.rep ≡ Some x.place = placed_is (place_in surrogates x.rep) x.place (current 0 x refl) in
-              let later : place_in surrogates f.rep ≡ Some f.place = placed_is (place_in surrogates f.rep) f.place (current (suc k) f got) in
-              let same : x.place ≡ f.place = same_Some x.place f.place (sym first ∙ ap (λ (w : WireRep). place_in surrogates w) (same_is x.rep f.rep t) ∙ later) in
-              let up : x.place < f.place = rise 0 (suc k) x f (omega arith) refl got in
-              absurd (omega (arith, same, up))
-          | false ↦ λ u. refl
-        ] refl in (
+      elim (is_same x.rep f.rep) as (λ b. is_same x.rep f.rep ≡ b → b ≡ false) [
+        | true ↦ λ t.
+            let first : place_in surrogates x.rep ≡ Some x.place = placed_is (place_in surrogates x.rep) x.place (current 0 x refl) in
+            let later : place_in surrogates f.rep ≡ Some f.place = placed_is (place_in surrogates f.rep) f.place (current (suc k) f got) in
+            let same : x.place ≡ f.place = same_Some x.place f.place (sym first ∙ ap (λ (w : WireRep). place_in surrogates w) (same_is x.rep f.rep t) ∙ later) in
+            let up : x.place < f.place = rise 0 (suc k) x f (omega arith) refl got in
+            absurd (omega (arith, same, up))
+        | false ↦ λ u. refl
+      ] refl in (
         other_reps x.rep xs apart,
         distinct_slots xs (λ i j e f less got there. rise (suc i) (suc j) e f (omega (arith, less)) got there) (λ k f got. current (suc k) f got),
       )

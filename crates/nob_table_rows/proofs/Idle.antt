@@ -26,11 +26,14 @@ module _ (counted : List (WireRep × Counts)) (surrogates : List (WireRep × Sur
   slot_of rep place is low =
       let found = ordered.have_slots rep place is in
       let at : ℕ = found.0 in
-      let e : Slot = record { place = place; rep = rep } in
-      (at, found.1, elim (nat_lt at start) as (λ b. nat_lt at start ≡ b → start ≤ at) [
-        | true ↦ λ t. let less : e.place < from = below at e found.1 ((Decides-ltb at start).0 t) in absurd (omega (arith, less, low))
-        | false ↦ λ u. grind (arith, nat_tests)
-      ] refl)
+      let e : Slot = record { place = place; rep = rep } in (
+        at,
+        found.1,
+        elim (nat_lt at start) as (λ b. nat_lt at start ≡ b → start ≤ at) [
+          | true ↦ λ t. let less : e.place < from = below at e found.1 ((Decides-ltb at start).0 t) in absurd (omega (arith, less, low))
+          | false ↦ λ u. grind (arith, nat_tests)
+        ] refl,
+      )
 
   not_idle : (rep : WireRep) (place at : ℕ) → place_in surrogates rep ≡ Some place → slice_get slots at ≡ Some (record { place = place; rep = rep }) → has idle at ≡ false → is_idle_in counted surrogates rep ≡ false
   not_idle rep place at is got clear =

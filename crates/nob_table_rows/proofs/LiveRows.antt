@@ -67,11 +67,13 @@ once_live (e ∷ es) once =
 -- references in the order of their indexes are different ones
 apart_all : (rep : WireRep) (reps : List WireRep) → AllByRecursion (λ other. IsBefore (index_of rep) (index_of other)) reps → AllByRecursion (λ y. is_same rep y ≡ false) reps
 apart_all rep [] all = tt
-apart_all rep (other ∷ reps) all =
-    (elim (is_same rep other) as (λ b. is_same rep other ≡ b → b ≡ false) [
-      | true ↦ λ t. let same : rep.index ≡ other.index = ap (λ (w : WireRep). w.index) (same_is rep other t) in let up : rep.index < other.index = all.0 in absurd (omega (arith, same, up))
-      | false ↦ λ u. refl
-    ] refl, apart_all rep reps all.1)
+apart_all rep (other ∷ reps) all = (
+  elim (is_same rep other) as (λ b. is_same rep other ≡ b → b ≡ false) [
+    | true ↦ λ t. let same : rep.index ≡ other.index = ap (λ (w : WireRep). w.index) (same_is rep other t) in let up : rep.index < other.index = all.0 in absurd (omega (arith, same, up))
+    | false ↦ λ u. refl
+  ] refl,
+  apart_all rep reps all.1,
+)
 
 once_reps : (reps : List WireRep) → IsByIndex reps → IsDistinct is_same reps
 unfolding IsDistinct

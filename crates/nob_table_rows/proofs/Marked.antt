@@ -50,12 +50,12 @@ module _ (es : Slots) (by_index : IsByIndex (reps_of es)) (rep : WireRep) (old :
   written_at at slot got =
       let e : WireRep × Option Counts = (rep, old) in
       set_value_at (is_same rep) es at e slot got (same_refl rep) (λ j f less has'.
-        elim (is_same rep f.0) as (λ b. is_same rep f.0 ≡ b → b ≡ false) [
-          | true ↦ λ t.
-              let up : f.0.index < rep.index = slots_rise es by_index j at f e less has' got in
-              let same : rep.index ≡ f.0.index = ap (λ (w : WireRep). w.index) (same_is rep f.0 t) in absurd (omega (arith, up, same))
-          | false ↦ λ u. refl
-        ] refl)
+      elim (is_same rep f.0) as (λ b. is_same rep f.0 ≡ b → b ≡ false) [
+        | true ↦ λ t.
+            let up : f.0.index < rep.index = slots_rise es by_index j at f e less has' got in
+            let same : rep.index ≡ f.0.index = ap (λ (w : WireRep). w.index) (same_is rep f.0 t) in absurd (omega (arith, up, same))
+        | false ↦ λ u. refl
+      ] refl)
 
   -- another slot written, and its mark
   pub unheld_set : (at : ℕ) (slot : Option Counts) (unheld unheld' : List ℕ) → slice_get es at ≡ Some (rep, old) → AreUnheld es unheld → ((other : ℕ) → has unheld' other ≡ (if other == at then is_unheld_slot slot else has unheld other))
@@ -128,8 +128,8 @@ module _ (es : Slots) (by_index : IsByIndex (reps_of es)) (rep : WireRep) (point
 
   pub other_there : (row : WireRep × Option Counts) → slice_get es point ≡ Some row → is_same rep row.0 ≡ false → row_at es rep ≡ None
   other_there row got apart = there_or_none (λ old here.
-    let same : row ≡ (rep, old) = same_Some row (rep, old) (sym got ∙ here) in
-    true≢false (sym (same_refl rep) ∙ ap (λ (w : WireRep × Option Counts). is_same rep w.0) (sym same) ∙ apart))
+      let same : row ≡ (rep, old) = same_Some row (rep, old) (sym got ∙ here) in
+      true≢false (sym (same_refl rep) ∙ ap (λ (w : WireRep × Option Counts). is_same rep w.0) (sym same) ∙ apart))
 
   pub row_there : (row : WireRep × Option Counts) → slice_get es point ≡ Some row → is_same rep row.0 ≡ true → row_at es rep ≡ Some row.1
   row_there row got same = lookup_from_place same_laws es point rep row.1 (once_by_index es by_index) (subst (λ (w : WireRep). slice_get es point ≡ Some (w, row.1)) (sym (same_is rep row.0 same)) got)

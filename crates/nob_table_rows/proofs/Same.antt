@@ -92,8 +92,8 @@ left_length {X} p old new once once' left =
     let kept : List (WireRep × X) = filter (λ e. p e.0) old in
     let distinct : IsDistinct is_same (keys_of kept) = IsDistinct-keys_filter is_same (λ (e : WireRep × X). p e.0) old once in
     let there : (q : WireRep) → list_any (is_same q) (keys_of new) ≡ list_any (is_same q) (keys_of kept) = λ q.
-      key_there (is_same q) new ∙ left q
-      ∙ sym (key_there (is_same q) kept ∙ ap is_some (lookup_filter same_laws q (λ (e : WireRep × X). p e.0) (λ (x : X). p q) (λ k x same. ap p (sym (same_is q k same))) old once) ∙ some_kept (p q) (lookup (is_same q) old)) in
+    key_there (is_same q) new ∙ left q
+    ∙ sym (key_there (is_same q) kept ∙ ap is_some (lookup_filter same_laws q (λ (e : WireRep × X). p e.0) (λ (x : X). p q) (λ k x same. ap p (sym (same_is q k same))) old once) ∙ some_kept (p q) (lookup (is_same q) old)) in
     let same : length (keys_of new) ≡ length (keys_of kept) = length-from_same_keys same_laws (keys_of new) (keys_of kept) once' distinct there in
     sym (length-keys_of new) ∙ same ∙ ap length (keys_of-filter p old)
 

@@ -186,12 +186,7 @@ fn first_unheld_of(slots: &Slots, unheld: &Marks, index: u64) -> Option<u64>
 }
 
 // Writes the slot of a reference that has one, and whether nothing holds its object.
-fn write_slot(
-    slots: &mut Slots,
-    unheld: &mut Marks,
-    rep: &WireRep,
-    slot: Option<Counts>,
-)
+fn write_slot(slots: &mut Slots, unheld: &mut Marks, rep: &WireRep, slot: Option<Counts>)
     requires there { IsSome (row_at slots.old.rows rep.now) }
     requires by_index { IsByIndex (reps_of slots.old.rows) }
     requires room { length slots.old.rows ≤ bound unheld.old }

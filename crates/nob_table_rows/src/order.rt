@@ -109,7 +109,8 @@ impl Order {
     {
         self.slots.reserve(additional)?;
         self.before.reserve(additional)?;
-        self.idle.reserve(self.slots.len().saturating_add(additional))
+        self.idle
+            .reserve(self.slots.len().saturating_add(additional))
     }
 
     /// How many slots have a place below this one: the first ones. Logarithmic in the slots.

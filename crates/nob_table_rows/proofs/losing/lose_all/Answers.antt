@@ -59,7 +59,13 @@ loop-ahead-preserved-then-is_current c =
     let is : slice_get before (ahead - 1) ≡ Some few = slice_get_read before (length before) (ahead - 1) few refl (omega (arith, low, some, inv.7.same)) (rw inv.1 at c.index-ahead.ensures) in
     let current : is_current surrogates e ≡ true = sym c.is_current.ensures ∙ c.if-is_current.true in
     let after = c.lose.ensures in (
-      inv.0, inv.1, inv.2, after.bound ∙ inv.3, omega (arith, inv.4, after.counted_room), omega (arith, inv.5, after.surrogates_room), after.once,
+      inv.0,
+      inv.1,
+      inv.2,
+      after.bound ∙ inv.3,
+      omega (arith, inv.4, after.counted_room),
+      omega (arith, inv.5, after.surrogates_room),
+      after.once,
       ordered_lost slots owner surrogates before ends counted idle inv.7 ahead few some inv.8 e got is current c.lose.new.counted.rows c.lose.new.surrogates.rows c.lose.new.idle after.surrogates after.counted after.idle,
       covers_lost slots owner surrogates before ends counted idle inv.7 ahead few some inv.8 e got is current c.lose.new.counted.rows c.lose.new.surrogates.rows c.lose.new.idle after.surrogates after.counted after.idle,
       lost_more slots owner surrogates before ends counted idle inv.7 ahead few some inv.8 e got is current c.lose.new.counted.rows c.lose.new.surrogates.rows c.lose.new.idle after.surrogates after.counted after.idle

@@ -24,24 +24,27 @@ invariant_of-self c =
     let counts : Puts counted c.push.new.self.rows rep (Some no_counts) = c.push.ensures.puts in
     let puts : Puts surrogates c.push-2.new.self.rows rep (Some (waiting_surrogate n)) = rw c.waiting_surrogate.ensures at c.push-2.ensures.puts in
     let tied = c.push-3.ensures.linked c.push-2.new.self.rows
-      (linked_pushed counted c.push.new.self.rows surrogates c.push-2.new.self.rows slots rep n far.sent none counts puts c.self.inside.order.before.items far.ordered.linked)
-      (ends_pushed counted c.push.new.self.rows surrogates c.push-2.new.self.rows slots rep n far.sent none counts puts c.self.inside.order.ends far.ordered.ended) in
+    (linked_pushed counted c.push.new.self.rows surrogates c.push-2.new.self.rows slots rep n far.sent none counts puts c.self.inside.order.before.items far.ordered.linked)
+    (ends_pushed counted c.push.new.self.rows surrogates c.push-2.new.self.rows slots rep n far.sent none counts puts c.self.inside.order.ends far.ordered.ended) in
     let longer : length c.push-3.new.self.slots.items ≡ length slots + 1 = rw c.push-3.ensures.slots (omega (arith, length_push slots slot)) in
     let more : length c.push-2.new.self.rows ≡ length surrogates + 1 = rw c.push-2.ensures.rows (omega (arith, length_push surrogates (rep, c.waiting_surrogate.result))) in
-    record { far = record {
-      ordered = record {
-        in_order = rw c.push-3.ensures.slots (in_order_pushed counted c.push.new.self.rows surrogates c.push-2.new.self.rows slots rep n far.sent none counts puts far.ordered.in_order);
-        have_slots = rw c.push-3.ensures.slots (have_pushed counted c.push.new.self.rows surrogates c.push-2.new.self.rows slots rep n far.sent none counts puts far.ordered.have_slots);
-        marked = rw (c.push-3.ensures.slots, c.push-3.ensures.idle) (marked_pushed counted c.push.new.self.rows surrogates c.push-2.new.self.rows slots rep n far.sent none counts puts c.self.inside.order.idle far.ordered.marked);
-        linked = tied.0;
-        ended = tied.1;
-        same = omega (arith, c.push-3.ensures.len, longer, far.ordered.same);
+    record {
+      far = record {
+        ordered = record {
+          in_order = rw c.push-3.ensures.slots (in_order_pushed counted c.push.new.self.rows surrogates c.push-2.new.self.rows slots rep n far.sent none counts puts far.ordered.in_order);
+          have_slots = rw c.push-3.ensures.slots (have_pushed counted c.push.new.self.rows surrogates c.push-2.new.self.rows slots rep n far.sent none counts puts far.ordered.have_slots);
+          marked = rw (c.push-3.ensures.slots, c.push-3.ensures.idle) (marked_pushed counted c.push.new.self.rows surrogates c.push-2.new.self.rows slots rep n far.sent none counts puts c.self.inside.order.idle far.ordered.marked);
+          linked = tied.0;
+          ended = tied.1;
+          same = omega (arith, c.push-3.ensures.len, longer, far.ordered.same);
+        };
+        once = c.push-2.ensures.once;
+        sent = rw c.push-3.ensures.slots (sent_pushed counted c.push.new.self.rows surrogates c.push-2.new.self.rows slots rep n far.sent none counts puts);
+        counted_room = omega (arith, c.push.ensures.room, far.counted_room, some);
+        surrogates_room = omega (arith, c.push-2.ensures.room, far.surrogates_room, some);
+        slots_room = omega (arith, longer, c.push-3.ensures.slots_kept, far.slots_room, some);
+        before_room = omega (arith, c.push-3.ensures.len, c.push-3.ensures.before_kept, far.before_room, some);
+        idle_room = rw c.push-3.ensures.idle (omega (arith, longer, far.idle_room, some));
       };
-      once = c.push-2.ensures.once;
-      sent = rw c.push-3.ensures.slots (sent_pushed counted c.push.new.self.rows surrogates c.push-2.new.self.rows slots rep n far.sent none counts puts);
-      counted_room = omega (arith, c.push.ensures.room, far.counted_room, some);
-      surrogates_room = omega (arith, c.push-2.ensures.room, far.surrogates_room, some);
-      slots_room = omega (arith, longer, c.push-3.ensures.slots_kept, far.slots_room, some);
-      before_room = omega (arith, c.push-3.ensures.len, c.push-3.ensures.before_kept, far.before_room, some);
-      idle_room = rw c.push-3.ensures.idle (omega (arith, longer, far.idle_room, some));
-    }; few = omega (arith, longer, more, c.self.invariant.few) }
+      few = omega (arith, longer, more, c.self.invariant.few);
+    }

@@ -12,6 +12,7 @@ returns-clause-linked c = λ surrogates linked ended.
     let got : slice_get slots c.args.at ≡ Some e = slice_get_read slots (length slots) c.args.at e refl c.requires.at c.index.ensures in
     let is : c.number_of-owner.result ≡ e.rep.owner = c.number_of-owner.ensures.value in
     let few : ℕ = slice_index_or ends c.number_of-owner.result 0 in
-    let end : slice_get ends e.rep.owner ≡ Some few = ap (λ (j : ℕ). slice_get ends j) (sym is) ∙ slice_get-get_or ends c.number_of-owner.result 0 (omega (arith, c.number_of-owner.ensures.small)) in
-    (linked_step slots surrogates c.args.self.now.before.items ends c.args.at e got ended few linked end,
-      rw is (ends_step slots surrogates c.args.self.now.before.items ends c.args.at e got ended))
+    let end : slice_get ends e.rep.owner ≡ Some few = ap (λ (j : ℕ). slice_get ends j) (sym is) ∙ slice_get-get_or ends c.number_of-owner.result 0 (omega (arith, c.number_of-owner.ensures.small)) in (
+      linked_step slots surrogates c.args.self.now.before.items ends c.args.at e got ended few linked end,
+      rw is (ends_step slots surrogates c.args.self.now.before.items ends c.args.at e got ended),
+    )
