@@ -87,5 +87,8 @@ pub fn check(alloc: Global, traces: &[Trace]) -> Result<Merged, CheckError>
         → WorldRun (length traces.now) limits (reverse merged)) }
     ensures safe { IfOk result (λ merged. IsSafe (length traces.now) (reverse merged)) }
 {
-    Ok(Merged::from_vec(merged_of(alloc, traces)?))
+    match merged_of(alloc, traces) {
+        Ok(entries) => Ok(Merged::from_vec(entries)),
+        Err(error) => Err(error),
+    }
 }

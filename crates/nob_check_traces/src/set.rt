@@ -61,7 +61,9 @@ impl FrameSet {
     {
         let FrameSet { mut marks } = self;
         let mark = Mark::of(alloc, frame)?;
-        marks.insert(mark)?;
-        Ok(FrameSet { marks })
+        match marks.insert(mark) {
+            Ok(_) => Ok(FrameSet { marks }),
+            Err(_) => Err(AllocError),
+        }
     }
 }
