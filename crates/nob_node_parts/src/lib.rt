@@ -6,8 +6,10 @@ mod idlers;
 mod lookout;
 mod object;
 mod outbox;
+mod pace;
 
 pub use idlers::Idlers;
 pub use lookout::Lookout;
 pub use object::{Kept, Left};
 pub use outbox::{Outbox, Pulse};
+pub use pace::Pace;

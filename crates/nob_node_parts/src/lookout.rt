@@ -7,6 +7,9 @@ use std::time::Duration;
 /// So many microseconds the thread of a link rests at most while others look at the links.
 const REST: u64 = 100;
 
+/// So many where they come to look all the time.
+const LONG_REST: u64 = 500;
+
 /// Threads without work that look at the links while they wait. The thread of a link rests meanwhile: it
 /// takes what comes over the link again once nobody looked for a rest, or the last one who looked goes to
 /// sleep.
@@ -61,9 +64,11 @@ impl Lookout {
         self.bell.load(Ordering::SeqCst)
     }
 
-    /// Rests, where nobody who looked went to sleep since the bell was read. Nobody has to wake it.
-    pub fn rest<R: Wait>(&self, rt: &R, bell: u64) {
+    /// Rests, for longer where that is said, where nobody who looked went to sleep since the bell was
+    /// read. Nobody has to wake it.
+    pub fn rest<R: Wait>(&self, rt: &R, bell: u64, is_long: bool) {
+        let rest = if is_long { LONG_REST } else { REST };
         self.bell
-            .park_timeout(rt, (bell % (1 << 32)) as u32, Duration::from_micros(REST));
+            .park_timeout(rt, (bell % (1 << 32)) as u32, Duration::from_micros(rest));
     }
 }

@@ -27,11 +27,27 @@ const LONGEST_NOTE: usize = 9;
 /// So long it leaves the processor alone between two looks.
 const SPINS: u32 = 30;
 
-/// So many microseconds the thread rests at a time that transmits again what is out.
-const REST: u64 = 100;
+/// For how long the thread rests that transmits again what is out.
+#[derive(Clone, Copy, Debug, PartialEq, Eq)]
+pub enum Rest {
+    /// What is out may be lost.
+    Short,
+    /// It is out for a moment.
+    Usual,
+    /// So much happens that what is out is answered before the thread could look.
+    Long,
+}
 
-/// So many it rests where what is out may be lost.
-const SHORT_REST: u64 = 5;
+impl Rest {
+    // How many microseconds.
+    fn micros(self) -> u64 {
+        match self {
+            Rest::Short => 5,
+            Rest::Usual => 100,
+            Rest::Long => 1_000,
+        }
+    }
+}
 
 /// What a thread looks for that has nothing to do.
 #[derive(Clone, Copy, Debug)]
@@ -248,11 +264,10 @@ impl<B: Object> Site<B> {
         Pulse::Quiet
     }
 
-    /// Leaves the processor to others for a while, a shorter one where that is said. Nobody has to
-    /// wake it.
-    pub fn rest<R: Wait>(&self, rt: &R, is_short: bool) {
-        let rest = if is_short { SHORT_REST } else { REST };
-        self.pulse.park_timeout(rt, 0, Duration::from_micros(rest));
+    /// Leaves the processor to others for a while. Nobody has to wake it.
+    pub fn rest<R: Wait>(&self, rt: &R, rest: Rest) {
+        self.pulse
+            .park_timeout(rt, 0, Duration::from_micros(rest.micros()));
     }
 
     /// How many links there are.
@@ -374,7 +389,7 @@ impl<B: Object> Site<B> {
             if self.has_ended.load(Ordering::SeqCst) {
                 return;
             }
-            self.rest(rt, false);
+            self.rest(rt, Rest::Usual);
         }
     }
 

@@ -1,11 +1,11 @@
 //! What each thread of a node does.
 
 use crate::inbox::Taken;
-use crate::site::Site;
+use crate::site::{Rest, Site};
 use nob_dispatch::{Gate, Hand, carry_out};
 use nob_dispatch_objects::Object;
 use nob_keeper::{Wake, WorkKind};
-use nob_node_parts::{Kept, Pulse};
+use nob_node_parts::{Kept, Pace, Pulse};
 use std::sync::Wait;
 use std::thread;
 
@@ -13,18 +13,28 @@ use std::thread;
 /// happens.
 const SHORT_RESTS: u32 = 64;
 
+/// So many entries since the turn before say that what is out is answered, and so many after a long
+/// rest.
+const MANY_ENTRIES: (u64, u64) = (24, 200);
+
+/// So many who came to look since the turn before say that others come soon, and so many after a long
+/// rest.
+const MANY_COMES: (u64, u64) = (2, 8);
+
 /// Takes what comes over the link of a place, until nothing comes any more. It sleeps in the link, and
 /// rests while others look at the links.
 pub fn take<B: Object, R: Wait>(rt: &R, site: &Site<B>, place: usize) {
     let lookout = site.lookout();
     let mut comes = lookout.comes();
+    let mut pace = Pace::new(MANY_COMES.0, MANY_COMES.1);
     for _ in rt.forever() {
         let bell = lookout.bell();
         if !take_turns(rt, site, place, comes) {
             return;
         }
         comes = lookout.comes();
-        lookout.rest(rt, bell);
+        let is_long = pace.is_much_at(comes);
+        lookout.rest(rt, bell, is_long);
     }
 }
 
@@ -76,6 +86,7 @@ pub fn serve<B: Object, R: Wait, G: Gate>(
 pub fn send<B: Object, R: Wait>(rt: &R, site: &Site<B>, is_whole: bool) {
     site.start(rt, is_whole);
     let mut standstill = Standstill::new();
+    let mut pace = Pace::new(MANY_ENTRIES.0, MANY_ENTRIES.1);
     for _ in rt.forever() {
         if site.is_sealed() || site.has_failed() {
             return;
@@ -84,11 +95,23 @@ pub fn send<B: Object, R: Wait>(rt: &R, site: &Site<B>, is_whole: bool) {
         let pulse = site.repeat(rt, &dues);
         site.attend_left(rt);
         let is_short = standstill.is_short_after(dues.place, pulse);
+        let is_long = pace.is_much_at(dues.place);
         if pulse != Pulse::Done {
-            site.rest(rt, is_short);
+            site.rest(rt, rest_of(is_short, is_long));
         } else if !is_woken(rt, site, dues.place) {
             return;
         }
+    }
+}
+
+// For how long the thread rests that transmits again.
+fn rest_of(is_short: bool, is_long: bool) -> Rest {
+    if is_long {
+        Rest::Long
+    } else if is_short {
+        Rest::Short
+    } else {
+        Rest::Usual
     }
 }
 
