@@ -1,6 +1,6 @@
 //! How much happens without a thread that looks from time to time.
 
-ghost use Rattle.std.specs.Prelude.{◌≡◌, ◌-◌, nat_le, if◌then◌else◌};
+ghost use Rattle.std.specs.Prelude.{◌≡◌, ◌-◌, false, nat_le, if◌then◌else◌};
 
 /// How much happens between two looks of a thread. While it is much the thread may rest for longer;
 /// after a longer rest more has to have happened for that.
@@ -16,7 +16,14 @@ pub struct Pace {
 
 impl Pace {
     /// Nothing has happened; so much is much, and so much after a longer rest.
-    pub fn new(much: u64, much_in_long: u64) -> Pace {
+    pub fn new(much: u64, much_in_long: u64) -> Pace
+        ensures { result ≡ record {
+          much = much;
+          much_in_long = much_in_long;
+          count = 0;
+          is_long = false;
+        } }
+    {
         Pace {
             much,
             much_in_long,
@@ -27,9 +34,15 @@ impl Pace {
 
     /// A look, at which so much has happened in all: whether it was much since the look before.
     pub fn is_much_at(&mut self, count: u64) -> bool
-        ensures { result ≡ nat_le
+        ensures much { result ≡ nat_le
             (if self.old.is_long then self.old.much_in_long else self.old.much)
             (count - self.old.count) }
+        ensures look { self.new ≡ record {
+          much = self.old.much;
+          much_in_long = self.old.much_in_long;
+          count = count;
+          is_long = result;
+        } }
     {
         let much = if self.is_long {
             self.much_in_long
