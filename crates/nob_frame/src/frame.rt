@@ -66,7 +66,7 @@ impl FrameKind {
 }
 
 /// A frame, whatever stands in its fields: `encode` says whether it has a spelling.
-#[derive(Debug, Drop)]
+#[derive(Debug)]
 pub struct Frame {
     /// What it is for.
     pub kind: FrameKind,
@@ -82,8 +82,22 @@ pub struct Frame {
     pub payload: Bytes,
 }
 
+impl Drop for Frame {
+    fn drop(self) {
+        let Frame {
+            kind: _,
+            from: _,
+            to: _,
+            seq: _,
+            ack: _,
+            payload,
+        } = self;
+        drop(payload);
+    }
+}
+
 impl Frame {
-    /// An equal frame. Only memory fails it, and a frame that carries nothing takes none.
+    /// An equal frame, which shares the payload where that is shared. Only memory fails it, and a frame that carries nothing takes none.
     pub fn copy(&self) -> Result<Frame, AllocError>
         ensures same { IfOk result (λ frame. frame ≡ self.now) }
         ensures memory { OnErr result (0 < length self.now.payload) }

@@ -54,12 +54,13 @@ pub(crate) fn front_from(bytes: &[u8]) -> Result<Header, FrameFault>
     Ok(header)
 }
 
-/// The frame of a header and a payload. Only memory fails it, and no payload takes none.
+/// The frame of a header and a payload, which its copies share. Only memory fails it, and no payload takes none.
 pub(crate) fn frame_of(alloc: Global, header: Header, payload: &[u8]) -> Result<Frame, AllocError>
     ensures frame { IfOk result (λ frame. frame ≡ frame_of header payload.now) }
     ensures memory { OnErr result (0 < length payload.now) }
 {
-    let payload = Bytes::from_slice(alloc, payload)?;
+    let mut payload = Bytes::from_slice(alloc, payload)?;
+    payload.share()?;
     Ok(Frame {
         kind: header.kind,
         from: header.from,

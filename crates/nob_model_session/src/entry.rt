@@ -48,7 +48,7 @@ pub enum Arrived {
 }
 
 /// Frames in order. Contracts see the list.
-#[derive(Debug, Drop)]
+#[derive(Debug)]
 pub struct Frames {
     items: Vec<Frame>,
 }
@@ -60,6 +60,13 @@ impl Model for Frames {
     ghost Value = { List Frame };
 
     ghost view = { λ frames. frames.items.items };
+}
+
+impl Drop for Frames {
+    fn drop(self) {
+        let Frames { items } = self;
+        drop(items);
+    }
 }
 
 impl Frames {

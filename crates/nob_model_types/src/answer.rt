@@ -8,7 +8,7 @@ use nob_pickle::Value;
 use std::alloc::AllocError;
 
 /// A call that its owner is to carry out.
-#[derive(Debug, Drop)]
+#[derive(Debug)]
 pub struct Job {
     /// The number of the job at this space.
     pub job: JobNo,
@@ -22,6 +22,20 @@ pub struct Job {
     pub method: u16,
     /// The argument.
     pub value: Value,
+}
+
+impl Drop for Job {
+    fn drop(self) {
+        let Job {
+            job: _,
+            client: _,
+            call: _,
+            target: _,
+            method: _,
+            value,
+        } = self;
+        drop(value);
+    }
 }
 
 impl Job {
@@ -41,7 +55,7 @@ impl Job {
 }
 
 /// What a space answers to an event that it doesn't refuse.
-#[derive(Debug, Drop)]
+#[derive(Debug)]
 pub enum Answer {
     /// Of Export: the new object's reference.
     Exported(WireRep),
@@ -73,6 +87,28 @@ pub enum Answer {
     Frames(Frames),
     /// Of Arrive: so many items were accepted.
     Took(u64),
+}
+
+impl Drop for Answer {
+    fn drop(self) {
+        match self {
+            Answer::Replied(_, value) => drop(value),
+            Answer::Job(job) => drop(job),
+            Answer::Frames(frames) => drop(frames),
+            Answer::Exported(_)
+            | Answer::Done
+            | Answer::Called(_)
+            | Answer::Ended
+            | Answer::Finished
+            | Answer::Dropped
+            | Answer::Acted(_)
+            | Answer::Closed(_)
+            | Answer::Settled(_, _)
+            | Answer::Cleaned(_)
+            | Answer::Withdrawn
+            | Answer::Took(_) => {}
+        }
+    }
 }
 
 impl Answer {

@@ -10,7 +10,7 @@ use std::alloc::AllocError;
 
 /// One event at one space with its result: an answer, or a refusal that changed nothing. A step
 /// that was refused for want of memory makes no entry.
-#[derive(Debug, Drop)]
+#[derive(Debug)]
 pub struct Entry {
     /// The space.
     pub space: SpaceId,
@@ -18,6 +18,18 @@ pub struct Entry {
     pub event: Event,
     /// What it answered.
     pub result: Result<Answer, Refusal>,
+}
+
+impl Drop for Entry {
+    fn drop(self) {
+        let Entry {
+            space: _,
+            event,
+            result,
+        } = self;
+        drop(event);
+        drop(result);
+    }
 }
 
 impl Entry {

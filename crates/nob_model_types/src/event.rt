@@ -8,7 +8,7 @@ use nob_pickle::Value;
 use std::alloc::AllocError;
 
 /// What a job's method made of its call.
-#[derive(Debug, Drop)]
+#[derive(Debug)]
 pub enum Outcome {
     /// It answered this value.
     Answer(Value),
@@ -16,6 +16,15 @@ pub enum Outcome {
     Fault(Value),
     /// There is no such method.
     NoMethod,
+}
+
+impl Drop for Outcome {
+    fn drop(self) {
+        match self {
+            Outcome::Answer(value) | Outcome::Fault(value) => drop(value),
+            Outcome::NoMethod => {}
+        }
+    }
 }
 
 impl Outcome {
@@ -32,7 +41,7 @@ impl Outcome {
 }
 
 /// What a space is asked to do. Nothing more than this ever changes it.
-#[derive(Debug, Drop)]
+#[derive(Debug)]
 pub enum Event {
     /// Makes a new object known under the next index and holds it once.
     Export,
@@ -71,6 +80,32 @@ pub enum Event {
     Tick(SpaceId),
     /// Closes the session with a peer.
     Close(SpaceId),
+}
+
+impl Drop for Event {
+    fn drop(self) {
+        match self {
+            Event::Call {
+                target: _,
+                method: _,
+                value,
+            } => drop(value),
+            Event::Finish(_, outcome) => drop(outcome),
+            Event::Arrive(frame) => drop(frame),
+            Event::Export
+            | Event::Dup(_)
+            | Event::Release(_)
+            | Event::TakeReply(_)
+            | Event::Claim
+            | Event::Act(_)
+            | Event::Settle
+            | Event::Clean
+            | Event::Withdraw(_)
+            | Event::Transmit(_)
+            | Event::Tick(_)
+            | Event::Close(_) => {}
+        }
+    }
 }
 
 impl Event {
