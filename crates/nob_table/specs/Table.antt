@@ -13,6 +13,7 @@ use Rattle.nob_table_rows.specs.declared.fault.TableError.TheVariants.{Fault, Ou
 use Rattle.nob_table_rows.specs.Counts as counts
 use Rattle.nob_table_rows.specs.Counts.{is_held}
 use Rattle.nob_ids.specs.Names.{is_same}
+use Rattle.nob_table_rows.specs.Objects.{is_marked}
 use Rattle.nob_table_rows.specs.Order.{place_in, IsRising}
 use Rattle.nob_table_rows.specs.Rows.{row_at, reps_of}
 use Rattle.nob_table_rows.specs.Standings.{is_known, is_unknown, is_live, is_pending, is_granted, is_idle, is_unheld, own_standing, far_standing}
@@ -27,6 +28,8 @@ pub record Table : Type 0 where
   pub dirties : ℕ
   -- the space's live objects, with their counts
   pub objects : List (WireRep × Counts)
+  -- for each of them whether it is kept from outside
+  pub kept : List (WireRep × Bool)
   -- the counts of other spaces' references: of surrogates, and of lost references, in no order
   pub counted : List (WireRep × Counts)
   -- the surrogates on open sessions with their owners' answers and their places, in no order
@@ -91,7 +94,15 @@ live_reps t = reps_of t.objects
 abbrev pub own : Table → ℕ → WireRep
 own t index = record { owner = t.me; index = index }
 
--- both have the same items
+-- whether the live object of this index is kept from outside
+abbrev pub is_kept : Table → ℕ → Bool
+is_kept t index = is_marked (row_at t.kept (own t index))
+
+-- the same objects are kept from outside in both
+abbrev pub SameKept : Table → Table → Type 0
+SameKept old new = (index : ℕ) → is_kept new index ≡ is_kept old index
+
+-- both have the same items, but for what is kept from outside
 pub record Unchanged (old new : Table) : Type 0 where
   pub me : new.me ≡ old.me
   pub exported : new.exported ≡ old.exported
@@ -111,16 +122,18 @@ pub record SameSurrogates (old new : Table) : Type 0 where
   pub dirties : new.dirties ≡ old.dirties
   pub room : old.surrogate_room ≤ new.surrogate_room
 
--- new is the table of the same space, with the same indexes given, as many live objects, and as much room for exports at least
+-- new has the same space, indexes given and objects kept from outside, as many live objects, and as much room for exports at least
 pub record SameObjects (old new : Table) : Type 0 where
   pub me : new.me ≡ old.me
   pub exported : new.exported ≡ old.exported
   pub live : live new ≡ live old
+  pub kept : SameKept old new
   pub room : old.export_room ≤ new.export_room
 
--- what an export leaves: the space, and all of the surrogates
+-- what an export leaves: the space, the objects that are kept from outside, and all of the surrogates
 pub record ExportLeaves (old new : Table) : Type 0 where
   pub me : new.me ≡ old.me
+  pub kept : SameKept old new
   pub surrogates : SameSurrogates old new
 
 -- what a withdrawal leaves: the space, the indexes given, the room, and all of the surrogates
@@ -141,11 +154,22 @@ pub record RemovalLeaves (old new : Table) : Type 0 where
   pub dirties : new.dirties ≡ old.dirties
   pub room : old.surrogate_room ≤ new.surrogate_room
 
--- nothing has changed, and there is as much room at least
-pub record Stays (old new : Table) : Type 0 where
+-- nothing has changed but which objects are kept from outside, and there is as much room at least
+pub record Marked (old new : Table) : Type 0 where
   pub items : Unchanged old new
   pub export_room : old.export_room ≤ new.export_room
   pub surrogate_room : old.surrogate_room ≤ new.surrogate_room
+
+-- nothing has changed, and there is as much room at least
+pub record Stays (old new : Table) : Type 0 where
+  pub items : Unchanged old new
+  pub kept : SameKept old new
+  pub export_room : old.export_room ≤ new.export_room
+  pub surrogate_room : old.surrogate_room ≤ new.surrogate_room
+
+-- in new the object of this index is kept from outside or not, as said, and every other one as in old
+abbrev pub Keeps : Table → Table → ℕ → Bool → Type 0
+Keeps old new index kept = (other : ℕ) → is_kept new other ≡ (if other == index then kept else is_kept old other)
 
 -- this reference has this place in new, and every other one the place that it has in old
 abbrev pub Places : Table → Table → WireRep → Option ℕ → Type 0
@@ -206,6 +230,18 @@ NeverUnheld t from = (index : ℕ) → from ≤ index → is_unheld (standing t 
 -- the object of this index is live and without holds, and is the first such from the other index on
 abbrev pub IsFirstUnheld : Table → ℕ → ℕ → Type 0
 IsFirstUnheld t from index = (from ≤ index) × (is_unheld (standing t (own t index)) ≡ true) × ((other : ℕ) → from ≤ other → other < index → is_unheld (standing t (own t other)) ≡ false)
+
+-- whether the object of this index is live and without holds, and isn't kept from outside
+abbrev pub is_spare_at : Table → ℕ → Bool
+is_spare_at t index = is_unheld (standing t (own t index)) && not (is_kept t index)
+
+-- no object with an index from this one on is live, without holds and not kept from outside
+abbrev pub NeverSpare : Table → ℕ → Type 0
+NeverSpare t from = (index : ℕ) → from ≤ index → is_spare_at t index ≡ false
+
+-- the object of this index is live, without holds and not kept from outside, and is the first such from the other index on
+abbrev pub IsFirstSpare : Table → ℕ → ℕ → Type 0
+IsFirstSpare t from index = (from ≤ index) × (is_spare_at t index ≡ true) × ((other : ℕ) → from ≤ other → other < index → is_spare_at t other ≡ false)
 
 -- whether the reference is to an object of this owner, another space
 abbrev pub is_of : Table → ℕ → WireRep → Bool

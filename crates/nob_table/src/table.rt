@@ -1,13 +1,13 @@
 //! The table itself.
 
-ghost use Rattle.std.specs.Prelude.{◌≡◌, List, is_some, ◌+◌, ◌^◌, ◌<◌, ◌≤◌, ◌==◌, ◌++◌, ◌∷◌, [], filter, not, length, slice_get, None, Some, IsSome, IfSome, IsTrue, IsOk, OnOk, OnErr, IfOk, IfErr, MatchOption, MatchResult, if◌then◌else◌};
+ghost use Rattle.std.specs.Prelude.{◌≡◌, List, is_some, ◌+◌, ◌^◌, ℕ, ◌<◌, ◌≤◌, ◌==◌, false, ◌++◌, ◌∷◌, [], filter, not, length, slice_get, None, Some, IsSome, IfSome, IsTrue, IsOk, OnOk, OnErr, IfOk, IfErr, MatchOption, MatchResult, if◌then◌else◌};
 ghost use Rattle.nob_ids.specs.declared.wire_rep.WireRep.{WireRep};
 ghost use Rattle.nob_table_rows.specs.Counts.{is_held};
 ghost use Rattle.nob_ids.specs.Names.{is_same};
 ghost use Rattle.nob_table_rows.specs.Rows.{IsOnce};
 ghost use Rattle.std.specs.List.{list_any};
 ghost use Rattle.nob_table_rows.specs.Standings.{unknown, is_known, is_live, is_lost, is_surrogate, state_of, withdrawn, exported_standing, pending_standing, with_counts, in_state, after_hold, after_release, after_close};
-ghost use Rattle.nob_table.specs.Table.{Table, standing, surrogate_total, most_objects, most_surrogates, most_index, surrogate_reps, place_of, IsOrder, live, live_reps, own, export_fault, hold_fault, release_fault, pending_fault, answer_fault, remove_fault, withdraw_fault, Becomes, SameObjects, ExportLeaves, WithdrawalLeaves, ChangeLeaves, RemovalLeaves, Stays, Places, IsRefusal, NoneIdle, IsFirstIdle, NeverUnheld, IsFirstUnheld, is_of};
+ghost use Rattle.nob_table.specs.Table.{Table, standing, surrogate_total, most_objects, most_surrogates, most_index, surrogate_reps, place_of, IsOrder, live, live_reps, own, export_fault, hold_fault, release_fault, pending_fault, answer_fault, remove_fault, withdraw_fault, Becomes, Keeps, Marked, is_kept, SameObjects, ExportLeaves, WithdrawalLeaves, ChangeLeaves, RemovalLeaves, Stays, Places, IsRefusal, NoneIdle, IsFirstIdle, NeverUnheld, IsFirstUnheld, NeverSpare, IsFirstSpare, is_of};
 
 use nob_ids::{SpaceId, WireRep};
 use nob_table_rows::{Counts, Far, Grant, Objects, Part, Standing, State, TableError, TableFault};
@@ -39,6 +39,7 @@ impl Model for ObjectTable {
       exported = a.objects.exported;
       dirties = a.far.dirties;
       objects = a.objects.rows;
+      kept = a.objects.kept;
       counted = a.far.counted;
       surrogates = a.far.surrogates;
       export_room = a.objects.room;
@@ -66,6 +67,7 @@ impl ObjectTable {
         ensures surrogates { surrogate_total result ≡ 0 }
         ensures order { IsOrder result [] }
         ensures nothing { (rep : WireRep) → standing result rep ≡ unknown }
+        ensures kept { (index : ℕ) → is_kept result index ≡ false }
     {
         ObjectTable {
             me,
@@ -119,8 +121,37 @@ impl ObjectTable {
         ensures once { IsOnce self.now.objects }
         ensures live { (rep : WireRep) → list_any (is_same rep) (live_reps self.now)
             ≡ is_live (standing self.now rep).state }
+        ensures kept { (index : ℕ) → IsTrue (is_kept self.now index)
+            → IsTrue (is_live (standing self.now (own self.now index)).state) }
     {
         self.objects.len()
+    }
+
+    /// Marks a live object as kept from outside; nothing where no live object has the index. It
+    /// takes no memory. Logarithmic.
+    pub fn keep(&mut self, index: u64)
+        ensures kept { Keeps self.old self.new index
+            (is_live (standing self.old (own self.old index)).state) }
+        ensures left { Marked self.old self.new }
+    {
+        let rep = WireRep {
+            owner: self.me,
+            index,
+        };
+        self.objects.mark(&rep, true);
+    }
+
+    /// Takes the mark off: the object of this index isn't kept from outside. It takes no memory.
+    /// Logarithmic.
+    pub fn let_go(&mut self, index: u64)
+        ensures kept { Keeps self.old self.new index false }
+        ensures left { Marked self.old self.new }
+    {
+        let rep = WireRep {
+            owner: self.me,
+            index,
+        };
+        self.objects.mark(&rep, false);
     }
 
     /// The least index from this one on of a live object that nothing holds. Logarithmic in the
@@ -132,6 +163,18 @@ impl ObjectTable {
         ensures low { IfSome result (λ found. found ≤ most_index) }
     {
         self.objects.first_unheld(index)
+    }
+
+    /// The least index from this one on of a live object that nothing holds and that isn't kept
+    /// from outside. Logarithmic in the live objects, and then a few words of bits: it passes no
+    /// object, held, kept or withdrawn.
+    pub fn first_spare(&self, index: u64) -> Option<u64>
+        ensures first { MatchOption result (NeverSpare self.now index)
+            (λ found. IsFirstSpare self.now index found) }
+        ensures given { IfSome result (λ found. (1 ≤ found) × (found ≤ self.now.exported)) }
+        ensures low { IfSome result (λ found. found ≤ most_index) }
+    {
+        self.objects.first_spare(index)
     }
 
     /// How many surrogates there are on open sessions. Constant time.
@@ -250,6 +293,7 @@ impl ObjectTable {
             (λ fault. withdraw_fault self.old index ≡ Some fault) }
         ensures withdrawn { OnOk result (Becomes self.old self.new (own self.old index) withdrawn) }
         ensures live { OnOk result (live self.new + 1 ≡ live self.old) }
+        ensures unkept { OnOk result (Keeps self.old self.new index false) }
         ensures left { WithdrawalLeaves self.old self.new }
         ensures err { OnErr result (Stays self.old self.new) }
     {

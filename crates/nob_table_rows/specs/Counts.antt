@@ -3,6 +3,7 @@ use Rattle.std.specs.Prelude.{ℕ, ◌+◌, ◌-◌, ◌==◌, ◌&&◌, Bool, n
 use Rattle.nob_table_rows.specs.declared.counts.Counts.{Counts}
 use Rattle.nob_table_rows.specs.declared.counts.Part.{Part}
 use Rattle.nob_table_rows.specs.declared.counts.Part.TheVariants.{Hand, Lent}
+use Rattle.nob_table_rows.specs.declared.object.Object.{Object}
 use Rattle.nob_table_rows.specs.declared.fault.TableFault.{TableFault}
 use Rattle.nob_table_rows.specs.declared.fault.TableFault.TheVariants.{Limit, NotHeld}
 
@@ -13,6 +14,14 @@ no_counts = record { hand = 0; lent = 0 }
 -- whether anything holds the reference
 abbrev pub is_held : Counts → Bool
 is_held counts = not (counts.hand == 0 && counts.lent == 0)
+
+-- whether nothing holds the object
+abbrev pub is_unheld_object : Object → Bool
+is_unheld_object object = not (is_held object.counts)
+
+-- whether nothing holds the object, and it isn't kept from outside
+abbrev pub is_spare_object : Object → Bool
+is_spare_object object = not (is_held object.counts) && not object.kept
 
 -- the count of one part
 abbrev pub count_of : Part → Counts → ℕ

@@ -5,11 +5,11 @@ ghost use Rattle.std.specs.List.{AllByRecursion};
 ghost use Rattle.std.specs.Map.{set_value};
 ghost use Rattle.nob_ids.specs.Names.{is_same};
 ghost use Rattle.nob_ids.specs.declared.wire_rep.WireRep.{WireRep};
-ghost use Rattle.nob_table_rows.specs.declared.counts.Counts.{Counts};
+ghost use Rattle.nob_table_rows.specs.declared.object.Object.{Object};
 ghost use Rattle.nob_table_rows.specs.Order.{IsBefore, IsByIndex, index_of};
 ghost use Rattle.nob_table_rows.specs.Rows.{row_at, reps_of, Puts, IsOnce};
 
-use crate::counts::Counts;
+use crate::object::Object;
 use nob_ids::WireRep;
 use std::alloc::{AllocError, Global};
 use std::marker::Model;
@@ -17,17 +17,17 @@ use std::marker::Model;
 /// Slots by reference, in the order of the indexes. A slot is empty where its object is withdrawn.
 #[derive(Drop)]
 pub struct Slots {
-    rows: Vec<(WireRep, Option<Counts>)>,
+    rows: Vec<(WireRep, Option<Object>)>,
 }
 
 impl Model for Slots {
     ghost use Rattle.std.specs.Prelude.{Option, ◌-◌, length};
     ghost use Rattle.std.specs.Vec.{vec_capacity};
-    ghost use Rattle.nob_table_rows.specs.declared.counts.Counts.{Counts};
+    ghost use Rattle.nob_table_rows.specs.declared.object.Object.{Object};
     ghost use Rattle.nob_table_rows.specs.Order.{IsByIndex};
     ghost use Rattle.nob_table_rows.specs.Rows.{RowList, reps_of};
 
-    ghost Value = { RowList (Option Counts) };
+    ghost Value = { RowList (Option Object) };
 
     ghost view = { λ a. record {
       rows = a.rows.items;
@@ -58,30 +58,30 @@ impl Slots {
     /// How many slots have an index below this one: the first ones. Logarithmic in the slots.
     pub fn count_below(&self, index: u64) -> usize
         ensures bound { result ≤ length self.now.rows }
-        ensures below { (at : ℕ) (row : WireRep × Option Counts)
+        ensures below { (at : ℕ) (row : WireRep × Option Object)
             → slice_get self.now.rows at ≡ Some row → at < result → row.0.index < index }
-        ensures from { (at : ℕ) (row : WireRep × Option Counts)
+        ensures from { (at : ℕ) (row : WireRep × Option Object)
             → slice_get self.now.rows at ≡ Some row → result ≤ at → index ≤ row.0.index }
     {
         count_below(&self.rows, index)
     }
 
     /// The slot of a reference. Logarithmic in the slots.
-    pub fn get(&self, rep: WireRep) -> Option<Option<Counts>>
+    pub fn get(&self, rep: WireRep) -> Option<Option<Object>>
         ensures { result ≡ row_at self.now.rows rep }
     {
         slot_of(&self.rows, &rep)
     }
 
     /// The slot that so many others stand before.
-    pub fn row(&self, at: usize) -> Option<(WireRep, Option<Counts>)>
+    pub fn row(&self, at: usize) -> Option<(WireRep, Option<Object>)>
         ensures { result ≡ slice_get self.now.rows at }
     {
         row_of(&self.rows, at)
     }
 
     /// Writes the slot of a reference that has one.
-    pub fn set(&mut self, rep: &WireRep, slot: Option<Counts>)
+    pub fn set(&mut self, rep: &WireRep, slot: Option<Object>)
         requires { IsSome (row_at self.old.rows rep.now) }
         ensures rows { Puts self.old.rows self.new.rows rep.now (Some slot) }
         ensures written { self.new.rows ≡ set_value (is_same rep.now) self.old.rows slot }
@@ -104,7 +104,7 @@ impl Slots {
     }
 
     /// Puts a slot at the end, with an index above all.
-    pub fn push(&mut self, rep: &WireRep, slot: Option<Counts>)
+    pub fn push(&mut self, rep: &WireRep, slot: Option<Object>)
         requires last { AllByRecursion (λ other. IsBefore (index_of other) (index_of rep.now))
             (reps_of self.old.rows) }
         requires room { 0 < self.old.room }
@@ -122,7 +122,7 @@ impl Slots {
         ensures room { self.old.room ≤ self.new.room }
     {
         self.rows.retain(
-            |row: &(WireRep, Option<Counts>)| -> bool
+            |row: &(WireRep, Option<Object>)| -> bool
                 ensures { result ≡ is_some row.now.1 }
             { row.1.is_some() },
         );
@@ -130,23 +130,23 @@ impl Slots {
 }
 
 // How many slots have an index below this one.
-fn count_below(rows: &[(WireRep, Option<Counts>)], index: u64) -> usize
+fn count_below(rows: &[(WireRep, Option<Object>)], index: u64) -> usize
     requires { IsByIndex (reps_of rows.now) }
     ensures bound { result ≤ length rows.now }
-    ensures below { (at : ℕ) (row : WireRep × Option Counts)
+    ensures below { (at : ℕ) (row : WireRep × Option Object)
         → slice_get rows.now at ≡ Some row → at < result → row.0.index < index }
-    ensures from { (at : ℕ) (row : WireRep × Option Counts)
+    ensures from { (at : ℕ) (row : WireRep × Option Object)
         → slice_get rows.now at ≡ Some row → result ≤ at → index ≤ row.0.index }
 {
     rows.partition_point(
-        |row: &(WireRep, Option<Counts>)| -> bool
+        |row: &(WireRep, Option<Object>)| -> bool
             ensures { result ≡ nat_lt row.now.0.index index }
         { row.0.index < index },
     )
 }
 
 // The slot that so many others stand before.
-fn row_of(rows: &[(WireRep, Option<Counts>)], at: usize) -> Option<(WireRep, Option<Counts>)>
+fn row_of(rows: &[(WireRep, Option<Object>)], at: usize) -> Option<(WireRep, Option<Object>)>
     ensures { result ≡ slice_get rows.now at }
 {
     let (rep, slot) = rows.get(at)?;
@@ -154,7 +154,7 @@ fn row_of(rows: &[(WireRep, Option<Counts>)], at: usize) -> Option<(WireRep, Opt
 }
 
 // The slot of a reference.
-fn slot_of(rows: &[(WireRep, Option<Counts>)], rep: &WireRep) -> Option<Option<Counts>>
+fn slot_of(rows: &[(WireRep, Option<Object>)], rep: &WireRep) -> Option<Option<Object>>
     requires { IsByIndex (reps_of rows.now) }
     ensures { result ≡ row_at rows.now rep.now }
 {
