@@ -5,6 +5,7 @@ pub mod Kept
 pub mod Keys
 pub mod Linked
 pub mod Lost
+pub mod Made
 pub mod Marked
 pub mod Parted
 pub mod Pushed

@@ -8,9 +8,8 @@ use Rattle.std.specs.Map.{lookup, keys_of, set_value}
 use Rattle.std.specs.Option.{option_flatten, option_map}
 use Rattle.nob_ids.specs.Names.{is_same}
 use Rattle.nob_ids.specs.declared.wire_rep.WireRep.{WireRep}
-use Rattle.nob_table_rows.specs.declared.counts.Counts.{Counts}
-use Rattle.nob_table_rows.specs.Counts.{is_held}
-use Rattle.nob_table_rows.specs.Objects.{with_slot, live_rows, is_unheld_slot, AreSlots, AreAllHeld, IsFirstRow}
+use Rattle.nob_table_rows.specs.declared.object.Object.{Object}
+use Rattle.nob_table_rows.specs.Objects.{with_slot, live_rows, passes_slot, AreSlots, NonePassing, IsFirstPassing}
 use Rattle.nob_table_rows.specs.Order.{IsBefore, IsRising, IsByIndex, index_of}
 use Rattle.nob_table_rows.specs.Rows.{row_at, reps_of, Puts, IsOnce}
 use Rattle.nob_table_rows.proofs.Parted.{Rise, rows_before}
@@ -18,7 +17,7 @@ use Rattle.nob_table_rows.proofs.Rising.{rising_at, rising_push}
 use Rattle.nob_table_rows.proofs.Same.{same_is, same_laws}
 
 abbrev pub Slots : Type 0
-Slots = List (WireRep × Option Counts)
+Slots = List (WireRep × Option Object)
 
 -- ---- look-ups
 
@@ -28,7 +27,7 @@ none_live test [] none = refl
 none_live test (e ∷ es) none =
     elim e.1 as (λ o. lookup test (with_slot e.0 o (live_rows es)) ≡ None) [
       | None ↦ none_live test es none.1
-      | Some counts ↦ rw none.0 (none_live test es none.1)
+      | Some object ↦ rw none.0 (none_live test es none.1)
     ]
 
 -- a row is what its slot has
@@ -39,11 +38,11 @@ row_of_slot (e ∷ es) once q =
     elim (is_same q e.0) as (λ b. is_same q e.0 ≡ b → row_at (with_slot e.0 e.1 (live_rows es)) q ≡ option_flatten (cond b (Some e.1) (row_at es q))) [
       | true ↦ λ t. elim e.1 as (λ o. row_at (with_slot e.0 o (live_rows es)) q ≡ o) [
         | None ↦ none_live (is_same q) es (none_past_head same_laws q e es once t)
-        | Some counts ↦ rw t refl
+        | Some object ↦ rw t refl
       ]
       | false ↦ λ u. elim e.1 as (λ o. row_at (with_slot e.0 o (live_rows es)) q ≡ option_flatten (row_at es q)) [
         | None ↦ row_of_slot es once.1 q
-        | Some counts ↦ rw u (row_of_slot es once.1 q)
+        | Some object ↦ rw u (row_of_slot es once.1 q)
       ]
     ] refl
 
@@ -52,7 +51,7 @@ all_live P [] all = tt
 all_live P (e ∷ es) all =
     elim e.1 as (λ o. AllByRecursion P (keys_of (with_slot e.0 o (live_rows es)))) [
       | None ↦ all_live P es all.1
-      | Some counts ↦ (all.0, all_live P es all.1)
+      | Some object ↦ (all.0, all_live P es all.1)
     ]
 
 pub once_live : (es : Slots) → IsOnce es → IsOnce (live_rows es)
@@ -61,7 +60,7 @@ once_live [] once = tt
 once_live (e ∷ es) once =
     elim e.1 as (λ o. IsDistinct is_same (keys_of (with_slot e.0 o (live_rows es)))) [
       | None ↦ once_live es once.1
-      | Some counts ↦ (all_live (λ y. is_same e.0 y ≡ false) es once.0, once_live es once.1)
+      | Some object ↦ (all_live (λ y. is_same e.0 y ≡ false) es once.0, once_live es once.1)
     ]
 
 -- references in the order of their indexes are different ones
@@ -84,7 +83,7 @@ pub once_by_index : (es : Slots) → IsByIndex (reps_of es) → IsOnce es
 once_by_index es by_index = once_reps (reps_of es) by_index
 
 -- a slot behind the last
-pub row_push : (es : Slots) (rep : WireRep) (slot : Option Counts) → row_at es rep ≡ None → Puts es (es ++ (rep, slot) ∷ []) rep (Some slot)
+pub row_push : (es : Slots) (rep : WireRep) (slot : Option Object) → row_at es rep ≡ None → Puts es (es ++ (rep, slot) ∷ []) rep (Some slot)
 row_push [] rep slot none other = rw (same_laws.symm rep other) refl
 row_push (e ∷ es) rep slot none other =
     elim (is_same rep e.0) as (λ b. is_same rep e.0 ≡ b → row_at (e ∷ es ++ (rep, slot) ∷ []) other ≡ (if is_same rep other then Some slot else row_at (e ∷ es) other)) [
@@ -105,48 +104,48 @@ row_push (e ∷ es) rep slot none other =
     ] refl
 
 -- what is put into the slots is put into the rows
-pub puts_live : (es fs : Slots) (rep : WireRep) (slot : Option Counts) → IsOnce es → IsOnce fs → Puts es fs rep (Some slot) → Puts (live_rows es) (live_rows fs) rep slot
+pub puts_live : (es fs : Slots) (rep : WireRep) (slot : Option Object) → IsOnce es → IsOnce fs → Puts es fs rep (Some slot) → Puts (live_rows es) (live_rows fs) rep slot
 puts_live es fs rep slot once once' puts other =
     row_of_slot fs once' other ∙ ap option_flatten (puts other)
     ∙ elim (is_same rep other) as (λ b. option_flatten (if b then Some slot else row_at es other) ≡ (if b then slot else row_at (live_rows es) other)) [ true ↦ refl | false ↦ sym (row_of_slot es once other) ]
 
-flat_some : (o : Option (Option Counts)) (counts : Counts) → option_flatten o ≡ Some counts → o ≡ Some (Some counts)
-flat_some None counts e = absurd (none-some counts e)
-flat_some (Some o) counts e = ap (λ (p : Option Counts). Some p) e
+flat_some : (o : Option (Option Object)) (object : Object) → option_flatten o ≡ Some object → o ≡ Some (Some object)
+flat_some None object e = absurd (none-some object e)
+flat_some (Some o) object e = ap (λ (p : Option Object). Some p) e
 
 -- a row's slot
-pub slot_of_row : (es : Slots) → IsOnce es → (rep : WireRep) (counts : Counts) → row_at (live_rows es) rep ≡ Some counts → row_at es rep ≡ Some (Some counts)
-slot_of_row es once rep counts there = flat_some (row_at es rep) counts (sym (row_of_slot es once rep) ∙ there)
+pub slot_of_row : (es : Slots) → IsOnce es → (rep : WireRep) (object : Object) → row_at (live_rows es) rep ≡ Some object → row_at es rep ≡ Some (Some object)
+slot_of_row es once rep object there = flat_some (row_at es rep) object (sym (row_of_slot es once rep) ∙ there)
 
 -- the slot of a live object
-pub slot_there : (es : Slots) → IsOnce es → (rep : WireRep) → IsSome (row_at (live_rows es) rep) → (old : Counts) × (row_at es rep ≡ Some (Some old))
+pub slot_there : (es : Slots) → IsOnce es → (rep : WireRep) → IsSome (row_at (live_rows es) rep) → (old : Object) × (row_at es rep ≡ Some (Some old))
 slot_there es once rep there =
-    elim (row_at (live_rows es) rep) as (λ o. row_at (live_rows es) rep ≡ o → IsSome o → (old : Counts) × (row_at es rep ≡ Some (Some old))) [
+    elim (row_at (live_rows es) rep) as (λ o. row_at (live_rows es) rep ≡ o → IsSome o → (old : Object) × (row_at es rep ≡ Some (Some old))) [
       | None ↦ λ e h. absurd (true≢false (sym h))
       | Some old ↦ λ e h. (old, slot_of_row es once rep old e)
     ] refl there
 
 -- ---- one slot more, and another value in one
 
-pub live_push : (es : Slots) (rep : WireRep) (counts : Counts) → live_rows (es ++ (rep, Some counts) ∷ []) ≡ live_rows es ++ (rep, counts) ∷ []
-live_push [] rep counts = refl
-live_push (e ∷ es) rep counts =
-    elim e.1 as (λ o. with_slot e.0 o (live_rows (es ++ (rep, Some counts) ∷ [])) ≡ with_slot e.0 o (live_rows es) ++ (rep, counts) ∷ []) [
-      | None ↦ live_push es rep counts
-      | Some other ↦ ap (λ (rows : List (WireRep × Counts)). (e.0, other) ∷ rows) (live_push es rep counts)
+pub live_push : (es : Slots) (rep : WireRep) (object : Object) → live_rows (es ++ (rep, Some object) ∷ []) ≡ live_rows es ++ (rep, object) ∷ []
+live_push [] rep object = refl
+live_push (e ∷ es) rep object =
+    elim e.1 as (λ o. with_slot e.0 o (live_rows (es ++ (rep, Some object) ∷ [])) ≡ with_slot e.0 o (live_rows es) ++ (rep, object) ∷ []) [
+      | None ↦ live_push es rep object
+      | Some other ↦ ap (λ (rows : List (WireRep × Object)). (e.0, other) ∷ rows) (live_push es rep object)
     ]
 
-module _ (test : WireRep → Bool) (old : Counts) where
-  -- other counts in a slot
-  pub live_set : (es : Slots) (counts : Counts) → lookup test es ≡ Some (Some old) → length (live_rows (set_value test es (Some counts))) ≡ length (live_rows es)
-  live_set [] counts has = absurd (none-some (Some old) has)
-  live_set (e ∷ es) counts has =
+module _ (test : WireRep → Bool) (old : Object) where
+  -- other object in a slot
+  pub live_set : (es : Slots) (object : Object) → lookup test es ≡ Some (Some old) → length (live_rows (set_value test es (Some object))) ≡ length (live_rows es)
+  live_set [] object has = absurd (none-some (Some old) has)
+  live_set (e ∷ es) object has =
       elim (test e.0) as (λ b. cond b (Some e.1) (lookup test es) ≡ Some (Some old)
-      → length (live_rows (cond b ((e.0, Some counts) ∷ es) (e ∷ set_value test es (Some counts)))) ≡ length (with_slot e.0 e.1 (live_rows es))) [
+      → length (live_rows (cond b ((e.0, Some object) ∷ es) (e ∷ set_value test es (Some object)))) ≡ length (with_slot e.0 e.1 (live_rows es))) [
         | true ↦ λ h. let is : e.1 ≡ Some old = same_Some e.1 (Some old) h in rw is refl
         | false ↦ λ h.
-            let rest = live_set es counts h in
-            elim e.1 as (λ o. length (with_slot e.0 o (live_rows (set_value test es (Some counts)))) ≡ length (with_slot e.0 o (live_rows es))) [ None ↦ rest | Some other ↦ omega (arith, rest) ]
+            let rest = live_set es object h in
+            elim e.1 as (λ o. length (with_slot e.0 o (live_rows (set_value test es (Some object)))) ≡ length (with_slot e.0 o (live_rows es))) [ None ↦ rest | Some other ↦ omega (arith, rest) ]
       ] has
 
   -- a slot that is left empty
@@ -171,32 +170,32 @@ live_filled [] = refl
 live_filled (e ∷ es) =
     elim e.1 as (λ o. live_rows (cond (is_some o) ((e.0, o) ∷ filled es) (filled es)) ≡ with_slot e.0 o (live_rows es)) [
       | None ↦ live_filled es
-      | Some counts ↦ ap (λ (rows : List (WireRep × Counts)). (e.0, counts) ∷ rows) (live_filled es)
+      | Some object ↦ ap (λ (rows : List (WireRep × Object)). (e.0, object) ∷ rows) (live_filled es)
     ]
 
 pub length_filled : (es : Slots) → length (filled es) ≡ length (live_rows es)
 length_filled [] = refl
 length_filled (e ∷ es) =
     let rest = length_filled es in
-    elim e.1 as (λ o. length (cond (is_some o) ((e.0, o) ∷ filled es) (filled es)) ≡ length (with_slot e.0 o (live_rows es))) [ None ↦ rest | Some counts ↦ omega (arith, rest) ]
+    elim e.1 as (λ o. length (cond (is_some o) ((e.0, o) ∷ filled es) (filled es)) ≡ length (with_slot e.0 o (live_rows es))) [ None ↦ rest | Some object ↦ omega (arith, rest) ]
 
 pub live_shorter : (es : Slots) → length (live_rows es) ≤ length es
 live_shorter [] = omega arith
 live_shorter (e ∷ es) =
     let rest = live_shorter es in
-    elim e.1 as (λ o. length (with_slot e.0 o (live_rows es)) ≤ length (e ∷ es)) [ None ↦ omega (arith, rest) | Some counts ↦ omega (arith, rest) ]
+    elim e.1 as (λ o. length (with_slot e.0 o (live_rows es)) ≤ length (e ∷ es)) [ None ↦ omega (arith, rest) | Some object ↦ omega (arith, rest) ]
 
 pub all_filled : (P : WireRep → Type 0) (es : Slots) → AllByRecursion P (reps_of es) → AllByRecursion P (reps_of (filled es))
 all_filled P [] all = tt
 all_filled P (e ∷ es) all =
-    elim e.1 as (λ o. AllByRecursion P (reps_of (cond (is_some o) ((e.0, o) ∷ filled es) (filled es)))) [ None ↦ all_filled P es all.1 | Some counts ↦ (all.0, all_filled P es all.1) ]
+    elim e.1 as (λ o. AllByRecursion P (reps_of (cond (is_some o) ((e.0, o) ∷ filled es) (filled es)))) [ None ↦ all_filled P es all.1 | Some object ↦ (all.0, all_filled P es all.1) ]
 
 pub rising_filled : (has : WireRep → Option ℕ) (es : Slots) → IsRising has (reps_of es) → IsRising has (reps_of (filled es))
 rising_filled has [] rising = tt
 rising_filled has (e ∷ es) rising =
     elim e.1 as (λ o. IsRising has (reps_of (cond (is_some o) ((e.0, o) ∷ filled es) (filled es)))) [
       | None ↦ rising_filled has es rising.1
-      | Some counts ↦ (all_filled (λ o. IsBefore (has e.0) (has o)) es rising.0, rising_filled has es rising.1)
+      | Some object ↦ (all_filled (λ o. IsBefore (has e.0) (has o)) es rising.0, rising_filled has es rising.1)
     ]
 
 -- ---- indexes
@@ -213,7 +212,7 @@ all_one_more : (n : ℕ) (last : WireRep) (reps : List WireRep) → last.index �
 all_one_more n last [] here low = (omega (arith, here), tt)
 all_one_more n last (rep ∷ reps) here low = (low.0, all_one_more n last reps here low.1)
 
-pub reps_more : (es : Slots) (rep : WireRep) (slot : Option Counts) → reps_of (es ++ (rep, slot) ∷ []) ≡ reps_of es ++ rep ∷ []
+pub reps_more : (es : Slots) (rep : WireRep) (slot : Option Object) → reps_of (es ++ (rep, slot) ∷ []) ≡ reps_of es ++ rep ∷ []
 reps_more [] rep slot = refl
 reps_more (e ∷ es) rep slot = ap (λ (reps : List WireRep). e.0 ∷ reps) (reps_more es rep slot)
 
@@ -232,12 +231,12 @@ no_slot (e ∷ es) n rep low above =
 
 module _ (exported live : ℕ) (es : Slots) (are : AreSlots exported live es) where
   -- one object more
-  pub slots_pushed : (fs : Slots) (rep : WireRep) (counts : Counts) → rep.index ≡ exported + 1 → fs ≡ es ++ (rep, Some counts) ∷ [] → IsOnce fs → AreSlots (exported + 1) (live + 1) fs
-  slots_pushed fs rep counts next is once =
-      let reps : reps_of fs ≡ reps_of es ++ rep ∷ [] = ap (λ (s : Slots). reps_of s) is ∙ reps_more es rep (Some counts) in
-      let rows : live_rows fs ≡ live_rows es ++ (rep, counts) ∷ [] = ap live_rows is ∙ live_push es rep counts in
-      let more : length (live_rows fs) ≡ length (live_rows es) + 1 = ap length rows ∙ length_one (live_rows es) (rep, counts) in
-      let longer : length fs ≡ length es + 1 = ap length is ∙ length_one es (rep, Some counts) in
+  pub slots_pushed : (fs : Slots) (rep : WireRep) (object : Object) → rep.index ≡ exported + 1 → fs ≡ es ++ (rep, Some object) ∷ [] → IsOnce fs → AreSlots (exported + 1) (live + 1) fs
+  slots_pushed fs rep object next is once =
+      let reps : reps_of fs ≡ reps_of es ++ rep ∷ [] = ap (λ (s : Slots). reps_of s) is ∙ reps_more es rep (Some object) in
+      let rows : live_rows fs ≡ live_rows es ++ (rep, object) ∷ [] = ap live_rows is ∙ live_push es rep object in
+      let more : length (live_rows fs) ≡ length (live_rows es) + 1 = ap length rows ∙ length_one (live_rows es) (rep, object) in
+      let longer : length fs ≡ length es + 1 = ap length is ∙ length_one es (rep, Some object) in
       record {
         once = once;
         by_index = subst IsByIndex (sym reps) (rising_push index_of (reps_of es) rep are.by_index (all_before exported rep (reps_of es) (omega (arith, next)) are.low));
@@ -246,7 +245,7 @@ module _ (exported live : ℕ) (es : Slots) (are : AreSlots exported live es) wh
         few = omega (arith, are.few, longer);
       }
 
-  -- other counts of an object
+  -- other object of an object
   pub slots_set : (fs : Slots) → reps_of fs ≡ reps_of es → length fs ≡ length es → length (live_rows fs) ≡ length (live_rows es) → IsOnce fs → AreSlots exported live fs
   slots_set fs reps len rows once = record {
     once = once;
@@ -281,55 +280,47 @@ module _ (exported live : ℕ) (es : Slots) (are : AreSlots exported live es) wh
         few = omega (arith, are.count, rows, len);
       }
 
--- ---- the first that nothing holds
+-- ---- the first that passes a test
 
 -- slots in the order of their indexes rise by them
-pub slots_rise : (es : Slots) → IsByIndex (reps_of es) → Rise (λ (e : WireRep × Option Counts). e.0.index) es
+pub slots_rise : (es : Slots) → IsByIndex (reps_of es) → Rise (λ (e : WireRep × Option Object). e.0.index) es
 slots_rise es by_index i j e f less first second =
-    let reps : (k : ℕ) (g : WireRep × Option Counts) → slice_get es k ≡ Some g → slice_get (reps_of es) k ≡ Some g.0 =
-    λ k g got. slice_get-map (λ (w : WireRep × Option Counts). w.0) es k ∙ ap (option_map (λ (w : WireRep × Option Counts). w.0)) got in
+    let reps : (k : ℕ) (g : WireRep × Option Object) → slice_get es k ≡ Some g → slice_get (reps_of es) k ≡ Some g.0 =
+    λ k g got. slice_get-map (λ (w : WireRep × Option Object). w.0) es k ∙ ap (option_map (λ (w : WireRep × Option Object). w.0)) got in
     rising_at index_of (reps_of es) i j e.0 f.0 by_index less (reps i e first) (reps j f second)
 
--- each of the slots so far with an index from this one on is empty or held
-abbrev pub ArePassed : Slots → ℕ → ℕ → Type 0
-ArePassed es from few = (at : ℕ) (slot : WireRep × Option Counts) → at < few → slice_get es at ≡ Some slot → from ≤ slot.0.index → is_unheld_slot slot.1 ≡ false
+-- each of the slots so far with an index from this one on is empty, or its object doesn't pass
+abbrev pub ArePassed : (Object → Bool) → Slots → ℕ → ℕ → Type 0
+ArePassed test es from few = (at : ℕ) (slot : WireRep × Option Object) → at < few → slice_get es at ≡ Some slot → from ≤ slot.0.index → passes_slot test slot.1 ≡ false
 
-not_false : (b : Bool) → not b ≡ false → b ≡ true
-not_false true e = refl
-not_false false e = absurd (true≢false e)
-
-not_true : (b : Bool) → not b ≡ true → b ≡ false
-not_true true e = absurd (true≢false (sym e))
-not_true false e = refl
-
-module _ (es : Slots) (from : ℕ) (once : IsOnce es) (by_index : IsByIndex (reps_of es)) where
+module _ (test : Object → Bool) (es : Slots) (from : ℕ) (once : IsOnce es) (by_index : IsByIndex (reps_of es)) where
   -- the place of a row's slot
-  place : (rep : WireRep) (counts : Counts) → row_at (live_rows es) rep ≡ Some counts → (at : ℕ) × (slice_get es at ≡ Some (rep, Some counts))
-  place rep counts there =
-      let p = place_from_lookup (is_same rep) es (Some counts) (slot_of_row es once rep counts there) in
-      (p.0, subst (λ (w : WireRep). slice_get es p.0 ≡ Some (w, Some counts)) (sym (same_is rep p.1 p.3)) p.2)
+  place : (rep : WireRep) (object : Object) → row_at (live_rows es) rep ≡ Some object → (at : ℕ) × (slice_get es at ≡ Some (rep, Some object))
+  place rep object there =
+      let p = place_from_lookup (is_same rep) es (Some object) (slot_of_row es once rep object there) in
+      (p.0, subst (λ (w : WireRep). slice_get es p.0 ≡ Some (w, Some object)) (sym (same_is rep p.1 p.3)) p.2)
 
-  -- the next slot is the first that isn't empty and that nothing holds
-  pub first_found : (at : ℕ) (slot : WireRep × Option Counts) → ArePassed es from at → slice_get es at ≡ Some slot → from ≤ slot.0.index → is_unheld_slot slot.1 ≡ true → IsFirstRow (live_rows es) from slot.0.index
-  first_found at slot passed got low unheld =
-      elim slot.1 as (λ o. slot.1 ≡ o → is_unheld_slot o ≡ true → IsFirstRow (live_rows es) from slot.0.index) [
+  -- the next slot is the first that isn't empty and whose object passes
+  pub first_found : (at : ℕ) (slot : WireRep × Option Object) → ArePassed test es from at → slice_get es at ≡ Some slot → from ≤ slot.0.index → passes_slot test slot.1 ≡ true → IsFirstPassing test (live_rows es) from slot.0.index
+  first_found at slot passed got low passes =
+      elim slot.1 as (λ o. slot.1 ≡ o → passes_slot test o ≡ true → IsFirstPassing test (live_rows es) from slot.0.index) [
         | None ↦ λ e h. absurd (true≢false (sym h))
-        | Some counts ↦ λ e h. record {
+        | Some object ↦ λ e h. record {
           rep = slot.0;
-          counts = counts;
+          object = object;
           there = row_of_slot es once slot.0 ∙ ap option_flatten (lookup_from_place same_laws es at slot.0 slot.1 once got) ∙ e;
           has = refl;
-          unheld = not_true (is_held counts) h;
+          passes = h;
           low = low;
           none_before = λ rep other there from_low less.
               let p = place rep other there in
-              let before : p.0 < at = rows_before (λ (w : WireRep × Option Counts). w.0.index) es (slots_rise es by_index) at p.0 slot (rep, Some other) got p.1 less in
-              not_false (is_held other) (passed p.0 (rep, Some other) before p.1 from_low);
+              let before : p.0 < at = rows_before (λ (w : WireRep × Option Object). w.0.index) es (slots_rise es by_index) at p.0 slot (rep, Some other) got p.1 less in
+              passed p.0 (rep, Some other) before p.1 from_low;
         }
-      ] refl unheld
+      ] refl passes
 
-  -- all rows are held
-  pub none_found : ArePassed es from (length es) → AreAllHeld (live_rows es) from
-  none_found passed rep counts there low =
-      let p = place rep counts there in
-      not_false (is_held counts) (passed p.0 (rep, Some counts) (slice_get_within es p.0 (rep, Some counts) p.1) p.1 low)
+  -- no object passes
+  pub none_found : ArePassed test es from (length es) → NonePassing test (live_rows es) from
+  none_found passed rep object there low =
+      let p = place rep object there in
+      passed p.0 (rep, Some object) (slice_get_within es p.0 (rep, Some object) p.1) p.1 low

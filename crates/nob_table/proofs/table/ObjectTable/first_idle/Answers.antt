@@ -9,6 +9,7 @@ returns-clause-first c =
       exported = c.self.inside.objects.exported;
       dirties = c.self.inside.far.dirties;
       objects = c.self.inside.objects.rows;
+      kept = c.self.inside.objects.kept;
       counted = c.self.inside.far.counted;
       surrogates = c.self.inside.far.surrogates;
       export_room = c.self.inside.objects.room;

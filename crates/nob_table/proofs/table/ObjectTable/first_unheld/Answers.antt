@@ -8,6 +8,7 @@ table c = record {
   exported = c.self.inside.objects.exported;
   dirties = c.self.inside.far.dirties;
   objects = c.self.inside.objects.rows;
+  kept = c.self.inside.objects.kept;
   counted = c.self.inside.far.counted;
   surrogates = c.self.inside.far.surrogates;
   export_room = c.self.inside.objects.room;

@@ -1,0 +1,51 @@
+use Rattle.std.proofs.Common.{◌≡◌, IsSome, is_some, ap, sym, ◌∙◌, Some, true, ◌&&◌, refl, length, arith}
+use Rattle.nob_ids.specs.Names.{is_same}
+use Rattle.nob_ids.specs.declared.wire_rep.WireRep.{WireRep}
+use Rattle.nob_table_rows.specs.declared.object.Object.{Object}
+use Rattle.nob_table_rows.specs.Objects.{live_rows, counts_in}
+use Rattle.nob_table_rows.specs.Rows.{row_at, Puts}
+use Rattle.nob_table_rows.proofs.LiveRows.{slot_of_row, live_set, slots_set, puts_live}
+use Rattle.nob_table_rows.proofs.Made.{marks_none, marks_put, counts_same, some_each}
+use Rattle.nob_table_rows.proofs.objects.Objects.mark.Goals as goal
+
+pub returns-in_default-clause-kept : goal.returns-in_default-clause-kept
+returns-in_default-clause-kept c = rw (← c.self.view_is) (marks_none (live_rows c.self.inside.slots.rows) c.args.rep.now c.args.kept (sym c.object_of.ensures ∙ c.in_default.is))
+
+pub write_slot-requires-clause-there : goal.write_slot-requires-clause-there
+write_slot-requires-clause-there c = ap is_some (slot_of_row c.self.inside.slots.rows c.self.invariant.slots_are.once c.args.rep.now c.in-Some.object (sym c.object_of.ensures ∙ c.in-Some.is))
+
+-- the object that is written
+abbrev object : goal.After-write_slot → Object
+object c = record { counts = c.in-Some.object.counts; kept = c.args.kept }
+
+-- as many objects
+as_many : (c : goal.After-write_slot) → length (live_rows c.write_slot.new.slots.rows) ≡ length (live_rows c.self.inside.slots.rows)
+as_many c =
+    let slot = slot_of_row c.self.inside.slots.rows c.self.invariant.slots_are.once c.args.rep.now c.in-Some.object (sym c.object_of.ensures ∙ c.in-Some.is) in
+    rw c.write_slot.ensures.written (live_set (is_same c.args.rep.now) c.in-Some.object c.self.inside.slots.rows (object c) slot)
+
+-- it stands at its reference
+put : (c : goal.After-write_slot) → Puts (live_rows c.self.inside.slots.rows) (live_rows c.write_slot.new.slots.rows) c.args.rep.now (Some (object c))
+put c = puts_live c.self.inside.slots.rows c.write_slot.new.slots.rows c.args.rep.now (Some (object c)) c.self.invariant.slots_are.once c.write_slot.ensures.once c.write_slot.ensures.rows
+
+pub invariant_of-self : goal.invariant_of-self
+invariant_of-self c = record {
+  slots_are =
+      slots_set c.self.inside.exported c.self.inside.live c.self.inside.slots.rows c.self.invariant.slots_are c.write_slot.new.slots.rows c.write_slot.ensures.reps c.write_slot.ensures.len (as_many c) c.write_slot.ensures.once;
+  unheld_are = c.write_slot.ensures.unheld c.self.invariant.unheld_are;
+  spare_are = c.write_slot.ensures.spare c.self.invariant.spare_are;
+  slots_room = omega (arith, c.write_slot.ensures.room, c.self.invariant.slots_room);
+  unheld_room = omega (arith, c.write_slot.ensures.len, c.write_slot.ensures.unheld_bound, c.self.invariant.unheld_room);
+  spare_room = omega (arith, c.write_slot.ensures.len, c.write_slot.ensures.spare_bound, c.self.invariant.spare_room);
+}
+
+pub returns-clause-rows : goal.returns-clause-rows
+returns-clause-rows c =
+    let slot = slot_of_row c.self.inside.slots.rows c.self.invariant.slots_are.once c.args.rep.now c.in-Some.object (sym c.object_of.ensures ∙ c.in-Some.is) in
+    rw (← c.self.view_is, c.write_slot.ensures.written) (counts_same (is_same c.args.rep.now) c.in-Some.object (object c) refl c.self.inside.slots.rows slot)
+
+pub returns-clause-kept : goal.returns-clause-kept
+returns-clause-kept c =
+    let there : is_some (row_at (counts_in (live_rows c.self.inside.slots.rows)) c.args.rep.now) ≡ true =
+    some_each (λ (o : Object). o.counts) (live_rows c.self.inside.slots.rows) c.args.rep.now ∙ ap is_some (sym c.object_of.ensures ∙ c.in-Some.is) in
+    rw (← c.self.view_is, there) (marks_put (live_rows c.self.inside.slots.rows) (live_rows c.write_slot.new.slots.rows) c.args.rep.now (object c) (put c))
