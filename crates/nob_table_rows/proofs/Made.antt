@@ -121,12 +121,11 @@ module _ (objects : List (WireRep × Object)) where
   -- whether a row is spare is whether its object is
   spare_at : (rep : WireRep) (counts : Counts) → row_at (counts_in objects) rep ≡ Some counts → (object : Object) × (row_at objects rep ≡ Some object) × (is_spare_row counts (row_at (kept_in objects) rep) ≡ is_spare_object object)
   spare_at rep counts there =
-      let m = row_made (λ (o : Object). o.counts) objects rep counts there in
-      (
+      let m = row_made (λ (o : Object). o.counts) objects rep counts there in (
         m.0,
         m.1,
         ap (λ (c : Counts). is_spare_row c (row_at (kept_in objects) rep)) (sym m.2)
-        ∙ ap (λ (o : Option Bool). is_spare_row m.0.counts o) (row_each (λ (o : Object). o.kept) objects rep ∙ ap (option_map (λ (o : Object). o.kept)) m.1),
+            ∙ ap (λ (o : Option Bool). is_spare_row m.0.counts o) (row_each (λ (o : Object). o.kept) objects rep ∙ ap (option_map (λ (o : Object). o.kept)) m.1),
       )
 
   pub first_unheld : (from : ℕ) (found : Option ℕ) → MatchOption found (NonePassing is_unheld_object objects from) (λ index. IsFirstPassing is_unheld_object objects from index)

@@ -1,6 +1,6 @@
 //! The objects of the space.
 
-ghost use Rattle.std.specs.Prelude.{◌≡◌, ℕ, ◌&&◌, if◌then◌else◌, ◌+◌, ◌<◌, ◌≤◌, ◌^◌, ◌++◌, ◌∷◌, [], length, slice_get, Bool, Some, None, IsSome, is_some, IsOk, OnOk, MatchOption, false};
+ghost use Rattle.std.specs.Prelude.{◌≡◌, ℕ, ◌&&◌, if◌then◌else◌, ◌==◌, ◌+◌, ◌<◌, ◌≤◌, ◌^◌, ◌++◌, ◌∷◌, [], length, slice_get, Bool, Some, None, IsSome, is_some, IsOk, OnOk, MatchOption, false};
 ghost use Rattle.std.specs.Map.{set_value};
 ghost use Rattle.std.specs.Option.{option_map};
 ghost use Rattle.nob_ids.specs.Names.{is_same};
@@ -143,8 +143,7 @@ impl Objects {
         };
         let at = self.slots.len();
         self.slots.push(&rep, Some(object));
-        self.unheld.write(at, object.is_unheld());
-        self.spare.write(at, object.is_spare());
+        write_marks(&mut self.unheld, &mut self.spare, at, Some(object));
         self.live += 1;
         self.room -= 1;
         rep
@@ -298,8 +297,7 @@ fn write_slot(
 {
     let at = slots.count_below(rep.index);
     slots.set(rep, slot);
-    unheld.write(at, is_unheld(slot));
-    spare.write(at, is_spare(slot));
+    write_marks(unheld, spare, at, slot);
 }
 
 // Writes which of the slots have objects that are unheld and spare, where so many were there.
@@ -316,8 +314,7 @@ fn mark_all(unheld: &mut Marks, spare: &mut Marks, slots: &Slots, all: usize)
 {
     for at in 0..all {
         let slot = slot_at(slots, at);
-        unheld.write(at, is_unheld(slot));
-        spare.write(at, is_spare(slot));
+        write_marks(unheld, spare, at, slot);
     }
 }
 
@@ -332,22 +329,29 @@ fn slot_at(slots: &Slots, at: usize) -> Option<Object>
     slot.1
 }
 
-// Whether the slot has an object that nothing holds.
-fn is_unheld(slot: Option<Object>) -> bool
-    ensures { result ≡ passes_slot is_unheld_object slot }
+// Writes whether the object of the slot of this number is unheld and spare.
+fn write_marks(unheld: &mut Marks, spare: &mut Marks, at: usize, slot: Option<Object>)
+    requires unheld_room { at < bound unheld.old }
+    requires spare_room { at < bound spare.old }
+    ensures unheld { (other : ℕ) → has unheld.new other
+        ≡ (if other == at then passes_slot is_unheld_object slot else has unheld.old other) }
+    ensures spare { (other : ℕ) → has spare.new other
+        ≡ (if other == at then passes_slot is_spare_object slot else has spare.old other) }
+    ensures unheld_bound { bound unheld.new ≡ bound unheld.old }
+    ensures spare_bound { bound spare.new ≡ bound spare.old }
 {
-    match slot {
-        Some(object) => object.is_unheld(),
-        None => false,
-    }
+    let (is_unheld, is_spare) = marks_of(slot);
+    unheld.write(at, is_unheld);
+    spare.write(at, is_spare);
 }
 
-// Whether the slot has an object that nothing holds and that isn't kept from outside.
-fn is_spare(slot: Option<Object>) -> bool
-    ensures { result ≡ passes_slot is_spare_object slot }
+// Whether the slot has an object that nothing holds, and whether it has a spare one.
+fn marks_of(slot: Option<Object>) -> (bool, bool)
+    ensures unheld { result.0 ≡ passes_slot is_unheld_object slot }
+    ensures spare { result.1 ≡ passes_slot is_spare_object slot }
 {
     match slot {
-        Some(object) => object.is_spare(),
-        None => false,
+        Some(object) => (object.is_unheld(), object.is_spare()),
+        None => (false, false),
     }
 }

@@ -27,11 +27,11 @@ invariant_of-self c =
     let longer : length c.push.new.self.rows ≡ length c.self.inside.slots.rows + 1 = rw c.push.ensures.rows (length_one c.self.inside.slots.rows (rep, Some object)) in
     record {
       slots_are = slots_pushed c.self.inside.exported c.self.inside.live c.self.inside.slots.rows c.self.invariant.slots_are c.push.new.self.rows rep object refl c.push.ensures.rows c.push.ensures.once;
-      unheld_are = rw c.push.ensures.rows (passing_push is_unheld_object c.self.inside.slots.rows rep (Some object) c.self.inside.unheld c.write.new.self c.self.invariant.unheld_are (rw (c.len-at.ensures.len, c.is_unheld.ensures) at c.write.ensures.written));
-      spare_are = rw c.push.ensures.rows (passing_push is_spare_object c.self.inside.slots.rows rep (Some object) c.self.inside.spare c.write-2.new.self c.self.invariant.spare_are (rw (c.len-at.ensures.len, c.is_spare.ensures) at c.write-2.ensures.written));
+      unheld_are = rw c.push.ensures.rows (passing_push is_unheld_object c.self.inside.slots.rows rep (Some object) c.self.inside.unheld c.write_marks.new.unheld c.self.invariant.unheld_are (rw c.len-at.ensures.len at c.write_marks.ensures.unheld));
+      spare_are = rw c.push.ensures.rows (passing_push is_spare_object c.self.inside.slots.rows rep (Some object) c.self.inside.spare c.write_marks.new.spare c.self.invariant.spare_are (rw c.len-at.ensures.len at c.write_marks.ensures.spare));
       slots_room = omega (arith, c.push.ensures.room, c.self.invariant.slots_room, some);
-      unheld_room = omega (arith, longer, c.write.ensures.bound, c.self.invariant.unheld_room, some);
-      spare_room = omega (arith, longer, c.write-2.ensures.bound, c.self.invariant.spare_room, some);
+      unheld_room = omega (arith, longer, c.write_marks.ensures.unheld_bound, c.self.invariant.unheld_room, some);
+      spare_room = omega (arith, longer, c.write_marks.ensures.spare_bound, c.self.invariant.spare_room, some);
     }
 
 -- the object stands at its reference, which had none
