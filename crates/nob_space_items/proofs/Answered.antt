@@ -210,7 +210,7 @@ module _ {s n p k : ℕ} {limits : Limits} {st : State} {D : List Deed} (stands 
       (subst (λ b. session.Stands s p limits new.end (ends.Take ∷ ends.Send (payload_of (dirty_answer b index)) Note (Ok (old.end.handed + 1)) ∷ calls_at p (history_of s n D))) live_is (answer s p limits (calls_at p (history_of s n D)) end.2))) in
       subst (λ q. Stands s n limits (record { sessions = set st.sessions (q - 1) new; table = t; dirty = dirty; pins = st.pins; work = st.work; calls = st.calls; jobs = st.jobs }) (Act p k ∷ D)) (sym at)
       (note_stands s n p k (items.Dirty index) D there refl (λ rep. ap (λ found. turns_after s n p rep found D (turns s n rep D)) there)
-      (set st.sessions (p - 1) new) dirty st.pins t stands same (entered_have st.table t st.dirty dirty index p live keeps enters (clients_there st.dirty D stands.listed st.table stands.table.kept))
+      (set st.sessions (p - 1) new) dirty st.pins t stands same (entered_have st.table t st.dirty dirty index p live keeps enters (clients_there s st.dirty D stands.listed st.table stands.table.kept))
       (ends_changed s n limits st.sessions (history_of s n D) (history_of s n (Act p k ∷ D)) p new stands.ends end.0 after (λ q other. sym (calls_elsewhere front there q (nat_eq_equiv.symm p q ∙ other))))
       (listed_answered stands index front there dirty live (sym live_is) enters)
       (λ f. stands.pins f ∙ ap (λ sent_items. sum_by f (map bundle sent_items)) (sym (bundles_answered front there)))

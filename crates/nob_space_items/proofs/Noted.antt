@@ -95,7 +95,7 @@ module _ {s n p k : ℕ} {limits : Limits} {st : State} {D : List Deed} (stands 
       let none = gives_none s n p k (items.Clean index) D there refl in
       subst (λ q. Stands s n limits (record { sessions = set st.sessions (q - 1) new; table = t; dirty = dirty; pins = st.pins; work = st.work; calls = st.calls; jobs = st.jobs }) (Act p k ∷ D)) (sym at)
       (note_stands s n p k (items.Clean index) D there refl (λ rep. ap (λ found. turns_after s n p rep found D (turns s n rep D)) there)
-      (set st.sessions (p - 1) new) dirty st.pins t stands same (have (clients_there st.dirty D stands.listed st.table stands.table.kept))
+      (set st.sessions (p - 1) new) dirty st.pins t stands same (have (clients_there s st.dirty D stands.listed st.table stands.table.kept))
       (ends_taken s n p k D limits st.sessions old new none stands.ends front.peer (subst (λ q. old ≡ get_or st.sessions (q - 1) old) at is) (λ before. take s p limits (calls_at p (history_of s n D)) before))
       (λ i c. leaves i c ∙ ap (λ b. not (index == i && p == c) && b) (stands.listed i c) ∙ unlisted (index == i) (p == c) (closed c D) (is_entered s i c D) ∙ sym (listed_is s n p k (items.Clean index) D there i c))
       (λ f. stands.pins f ∙ ap (λ sent_items. sum_by f (map bundle sent_items)) (sym (bundles_stay s n p k (items.Clean index) D there (λ j. refl) none)))
@@ -157,7 +157,7 @@ module _ {s n p k : ℕ} {limits : Limits} {st : State} {D : List Deed} (stands 
       let listed : (b : Bool) (client index : ℕ) → is_entered s index client D ≡ (if b then is_entered s index client D else is_entered s index client D) = λ b client index. elim b as (λ b. is_entered s index client D ≡ (if b then is_entered s index client D else is_entered s index client D)) [ true ↦ refl | false ↦ refl ] in
       subst (λ q. Stands s n limits (record { sessions = set st.sessions (q - 1) new; table = st.table; dirty = st.dirty; pins = table_of_pins; work = st.work; calls = st.calls; jobs = st.jobs }) (Act p k ∷ D)) (sym at)
       (note_stands s n p k (items.Settle number) D there refl (λ rep. ap (λ found. turns_after s n p rep found D (turns s n rep D)) there)
-      (set st.sessions (p - 1) new) st.dirty table_of_pins st.table stands (unchanged st.table) (clients_there st.dirty D stands.listed st.table stands.table.kept)
+      (set st.sessions (p - 1) new) st.dirty table_of_pins st.table stands (unchanged st.table) (clients_there s st.dirty D stands.listed st.table stands.table.kept)
       (ends_taken s n p k D limits st.sessions old new none stands.ends front.peer (subst (λ q. old ≡ get_or st.sessions (q - 1) old) at is) (λ before. take s p limits (calls_at p (history_of s n D)) before))
       (λ i c. stands.listed i c ∙ ap (λ b. not (closed c D) && b) (listed (p == c) c i) ∙ sym (listed_is s n p k (items.Settle number) D there i c))
       (λ f. sym (sum_left p number f st.pins.bundles table_of_pins.bundles takes_out) ∙ stands.pins (without p number f) ∙ sum_others p number f (transit.bundles (history_of s n D)) ∙ ap (λ sent_items. sum_by f (map bundle sent_items)) (sym (bundles_settled s n p k number D there)))

@@ -179,7 +179,7 @@ module _ (s n p k : ℕ) (item : Item) (D : List Deed) (there : item_at p k D �
         → Stands s n limits (record { sessions = sessions; table = t; dirty = dirty; pins = table_of_pins; work = st.work; calls = st.calls; jobs = st.jobs }) (Act p k ∷ D)
     note_stands {limits} {st} sessions dirty table_of_pins t stands same have ends_stand listed pins_stand its = record {
       ends = ends_stand;
-      table = shows_marked same (listed_clients dirty (Act p k ∷ D) listed t have) (note_shows (shows_unmarked stands.table) (λ index kept. absurd (none_kept st.table index kept)));
+      table = shows_marked same (listed_clients s dirty (Act p k ∷ D) listed t have) (note_shows (shows_unmarked stands.table) (λ index kept. absurd (none_kept st.table index kept)));
       listed = listed;
       pins = pins_stand;
       work = stands.work ∙ sym note_work;

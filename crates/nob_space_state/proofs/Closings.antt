@@ -285,11 +285,11 @@ module _ {s n : ℕ} {limits : Limits} {st : State} {D : List Deed} (stands : St
   closing_listed reason cause dirty leaves index client = leaves index client ∙ ap (λ b. not (p == client) && b) (stands.listed index client) ∙ listed_less (p == client) (closed client D) (is_entered s index client D)
 
   -- the table after the closing
-  closing_table : (reason : Reason) (cause : Cause) (after : State) → is_peer s n p ≡ true → TableLoses s p st after → LeavesAll st.dirty after.dirty p → TableStands s n after.table (history_of s n (Closing p reason cause ∷ D))
+  closing_table : (reason : Reason) (cause : Cause) (after : State) → is_peer s n p ≡ true → TableLoses s p st.table st.dirty st.work after.table after.dirty → LeavesAll st.dirty after.dirty p → TableStands s n after.table (history_of s n (Closing p reason cause ∷ D))
   closing_table reason cause after peer table leaves =
       let before = table.gives.shows s n (history_of s n D) (λ rep. hand rep D) (λ rep. times rep (lent_in s (work s n D))) stands.table in
-      let have : HaveClients table.back st.dirty = clients_there st.dirty D stands.listed table.back before.kept in
-      let kept : AreListed s after.table (Closing p reason cause ∷ D) = listed_clients after.dirty (Closing p reason cause ∷ D) (closing_listed reason cause after.dirty leaves) after.table (table.kept have) in
+      let have : HaveClients table.back st.dirty = clients_there s st.dirty D stands.listed table.back before.kept in
+      let kept : AreListed s after.table (Closing p reason cause ∷ D) = listed_clients s after.dirty (Closing p reason cause ∷ D) (closing_listed reason cause after.dirty leaves) after.table (table.kept have) in
       let shows = lost_shows s n p reason cause D (λ rep. hand rep D) (λ rep. times rep (lent_in s (work s n D)) - times rep (lent_in_vain s p st.work)) table.back after.table peer before table.loses kept in
       subst (λ (lent : WireRep → ℕ). TableShows s n after.table (history_of s n (Closing p reason cause ∷ D)) (λ rep. hand rep D) lent)
       (λ i rep. less (times rep (lent_in s (work s n D))) (times rep (lent_in_vain s p st.work)) (times rep (lent_in s (work s n (Closing p reason cause ∷ D))))

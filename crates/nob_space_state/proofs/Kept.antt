@@ -1,15 +1,15 @@
 -- Objects that are kept from outside have clients: by the sets, and by what was done.
-use Rattle.std.proofs.Common.{◌≡◌, ℕ, Bool, true, false, ◌&&◌, ◌||◌, ◌==◌, List, [], ◌∷◌, refl, sym, ◌∙◌}
+use Rattle.std.proofs.Common.{◌≡◌, ℕ, true, false, ◌||◌, ◌==◌, List, [], ◌∷◌, refl, sym, ◌∙◌}
 use Rattle.std.proofs.lemmas.Cmp.{nat_eq_equiv}
 use Rattle.nob_dirty.specs.declared.sets.Listing.{Listing}
-use Rattle.nob_dirty.specs.Sets.{lists, has_index, is_of}
-use Rattle.nob_table.specs.Table.{Table, is_kept}
+use Rattle.nob_dirty.specs.Sets.{lists}
+use Rattle.nob_table.specs.Table.{Table}
 use Rattle.nob_model_words.specs.declared.deed.Deed.{Deed}
 use Rattle.nob_model_history.specs.Listing.{is_listed}
 use Rattle.nob_space_holds.specs.Shows.{AreListed}
 use Rattle.nob_space_state.specs.Looks.{has_clients, HaveClients}
 
-module _ {s : ℕ} (dirty : List Listing) (D : List Deed) (same : (index client : ℕ) → lists dirty index client ≡ is_listed s index client D) (t : Table) where
+module _ (s : ℕ) (dirty : List Listing) (D : List Deed) (same : (index client : ℕ) → lists dirty index client ≡ is_listed s index client D) (t : Table) where
   -- who is listed is in the sets
   pub clients_there : AreListed s t D → HaveClients t dirty
   clients_there kept index is = (let it = kept index is in (it.0, same index it.0 ∙ it.1))

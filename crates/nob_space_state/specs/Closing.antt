@@ -3,6 +3,7 @@ use Rattle.std.specs.Prelude.{◌≡◌, ℕ, ◌<◌, true, ◌==◌, List, ◌
 use Rattle.nob_ids.specs.declared.limits.Limits.{Limits}
 use Rattle.nob_ids.specs.declared.reason.Reason.{Reason}
 use Rattle.nob_ids.specs.declared.wire_rep.WireRep.{WireRep}
+use Rattle.nob_dirty.specs.declared.sets.Listing.{Listing}
 use Rattle.nob_dirty.specs.Sets.{LeavesAll}
 use Rattle.nob_pins.specs.Bundles.{TakesOutAll}
 use Rattle.nob_table_rows.specs.Standings.{after_close}
@@ -39,16 +40,16 @@ pub record LosesOwner (old new : Table) (owner : ℕ) : Type 0 where
   pub dirties : new.dirties ≡ old.dirties
 
 -- the table of a space whose session with p closes: what was lent in vain is given back, the references to p's objects are lost, and what only p was listed for is let go
-pub record TableLoses (s p : ℕ) (old new : State) : Type 0 where
+pub record TableLoses (s p : ℕ) (old : Table) (listed : List Listing) (W : InHand) (new : Table) (left : List Listing) : Type 0 where
   pub back : Table
-  pub gives : GivesBack old.table back (lent_in_vain s p old.work)
-  pub loses : LosesOwner back new.table p
-  pub kept : HaveClients back old.dirty → HaveClients new.table new.dirty
+  pub gives : GivesBack old back (lent_in_vain s p W)
+  pub loses : LosesOwner back new p
+  pub kept : HaveClients back listed → HaveClients new left
 
 -- what the closing of the session with p leaves of the parts, the end itself aside
 pub record ClosesDown (s p : ℕ) (old new : State) : Type 0 where
   pub sessions : new.sessions ≡ old.sessions
-  pub table : TableLoses s p old new
+  pub table : TableLoses s p old.table old.dirty old.work new.table new.dirty
   pub listed : LeavesAll old.dirty new.dirty p
   pub pins : TakesOutAll old.pins.bundles new.pins.bundles p
   pub work : new.work ≡ work.after_close p old.work

@@ -44,8 +44,8 @@ fn let_all_go(table: &mut ObjectTable, dirty: &DirtySets, indexes: &BTreeSet<u64
     ensures table { Marked table.old table.new }
     ensures kept { LetAllGo table.old table.new dirty.now indexes.now.keys }
 {
-    for index in indexes.iter() {
-        let_go_of(table, dirty, *index);
+    for index in indexes.iter().copied() {
+        let_go_of(table, dirty, index);
     }
 }
 
