@@ -1,0 +1,11 @@
+//! Items under rising numbers: each is found by its number and taken out at low cost, and the marked
+//! ones are found without passing the others.
+#![tactic(auto)]
+
+mod kept;
+mod place;
+mod slots;
+mod tidy;
+mod write;
+
+pub use slots::Slots;

@@ -1,0 +1,185 @@
+//! The list.
+
+ghost use Rattle.std.specs.Prelude.{◌≡◌, ◌<◌, ◌≤◌, ◌+◌, ◌++◌, ◌∷◌, ◌==◌, [], ℕ, length, Some, None, IsSome, IsOk, OnOk, MatchOption, false, option_copied, if◌then◌else◌};
+ghost use Rattle.std.specs.Map.{remove_entry, set_value};
+ghost use Rattle.nob_slots.specs.Slots.{item_at, IsAbove, is_number, PutsMark, is_marked, NoneMarked, IsFirstMarked};
+
+use crate::kept::Kept;
+use crate::place::{find, first_marked_of, place_of};
+use crate::tidy::{clear_empty, drop_last_empty};
+use crate::write::{empty_slot, write_item, write_mark};
+use nob_marks::Marks;
+use std::alloc::{AllocError, Global};
+use std::marker::Model;
+
+/// Items under rising numbers, some of them marked. Contracts see the items with their numbers, the
+/// numbers of the marked ones, and for how many more there is room.
+///
+/// Each item has a slot, in the order of the numbers. The slot of an item that was taken out is
+/// empty; once more than half of the slots are, all empty ones are cleared in place. So to take one
+/// out needs no memory, and over all calls constant time on average beside the look for its place.
+#[derive(Drop)]
+pub struct Slots<T> {
+    // How many slots aren't empty.
+    live: usize,
+    slots: Vec<(u64, Option<Kept<T>>)>,
+    // The places of the slots with a marked item.
+    marks: Marks,
+    // How many more items fit.
+    room: usize,
+}
+
+impl<T> Model for Slots<T> {
+    ghost use Rattle.nob_slots.specs.Slots.{SlotList, slot_list_code};
+
+    ghost Value = { SlotList T };
+
+    ghost coded = { slot_list_code T.code };
+
+    ghost use Rattle.std.specs.Vec.{vec_capacity};
+    ghost use Rattle.nob_slots.specs.Places.{AreSlots, live_rows, marked_numbers};
+
+    ghost view = { λ a. record {
+      rows = live_rows a.slots.items;
+      marked = marked_numbers a.slots.items;
+      room = a.room;
+    } };
+
+    ghost invariant = { λ a. AreSlots a.live a.slots.items (vec_capacity a.slots) a.marks a.room };
+}
+
+impl<T> Slots<T> {
+    /// A list of nothing. It takes no memory before the first item.
+    pub fn new(alloc: Global) -> Slots<T>
+        ensures rows { result.rows ≡ [] }
+        ensures marked { result.marked ≡ [] }
+    {
+        Slots {
+            live: 0,
+            slots: Vec::new(alloc),
+            marks: Marks::new(alloc),
+            room: 0,
+        }
+    }
+
+    /// How many items there are. Constant time.
+    pub fn len(&self) -> usize
+        ensures { result ≡ length self.now.rows }
+    {
+        self.live
+    }
+
+    /// Whether there are none. Constant time.
+    pub fn is_empty(&self) -> bool
+        ensures { result ≡ (length self.now.rows == 0) }
+    {
+        self.live == 0
+    }
+
+    /// Makes room for so many more items. Only memory fails it, and the items and marks are the
+    /// same in any case. Constant time on average; an item moves only where the slots grow.
+    pub fn reserve(&mut self, additional: usize) -> Result<(), AllocError>
+        ensures rows { self.new.rows ≡ self.old.rows }
+        ensures marked { self.new.marked ≡ self.old.marked }
+        ensures ok { OnOk result (additional ≤ self.new.room) }
+        ensures succeeds { additional ≤ self.old.room → IsOk result }
+        ensures room { self.old.room ≤ self.new.room }
+    {
+        if additional <= self.room {
+            return Ok(());
+        }
+        self.slots.reserve(additional)?;
+        self.marks
+            .reserve(self.slots.len().saturating_add(additional))?;
+        self.room = additional;
+        Ok(())
+    }
+
+    /// Puts an item behind all others, unmarked, where there is room for it and its number is above
+    /// all. It takes no memory. Constant time on average.
+    pub fn push(&mut self, number: u64, item: T)
+    where
+        T: Drop,
+        requires room { 0 < self.old.room }
+        requires above { IsAbove self.old.rows number }
+        ensures rows { self.new.rows ≡ self.old.rows ++ (number, item) ∷ [] }
+        ensures marked { self.new.marked ≡ self.old.marked }
+        ensures room { self.new.room + 1 ≡ self.old.room }
+    {
+        drop_last_empty(&mut self.slots);
+        let kept = Kept {
+            item,
+            marked: false,
+        };
+        self.slots.push_reserved((number, Some(kept)));
+        self.live += 1;
+        self.room -= 1;
+    }
+
+    /// The item of this number. Logarithmic in the items.
+    pub fn get(&self, number: u64) -> Option<&T>
+        ensures { option_copied result ≡ item_at self.now.rows number }
+    {
+        find(&self.slots, number)
+    }
+
+    /// Writes the item of a number that is there, and gives the one that was. Logarithmic in the
+    /// items.
+    pub fn set(&mut self, number: u64, item: T) -> Option<T>
+        requires { IsSome (item_at self.old.rows number) }
+        ensures item { result ≡ item_at self.old.rows number }
+        ensures rows { self.new.rows ≡ set_value (is_number number) self.old.rows item }
+        ensures marked { self.new.marked ≡ self.old.marked }
+        ensures room { self.new.room ≡ self.old.room }
+    {
+        let Some(place) = place_of(&self.slots, number) else {
+            return Some(item);
+        };
+        write_item(&mut self.slots, place, item)
+    }
+
+    /// Takes the item of this number out, and its mark. It takes no memory. Logarithmic in the
+    /// items, and on average constant time beside that.
+    pub fn take(&mut self, number: u64) -> Option<T>
+    where
+        T: Drop,
+        ensures item { result ≡ item_at self.old.rows number }
+        ensures rows { self.new.rows ≡ remove_entry (is_number number) self.old.rows }
+        ensures marked { PutsMark self.old.marked self.new.marked number false }
+        ensures room { self.new.room ≡ self.old.room }
+    {
+        let Some(place) = place_of(&self.slots, number) else {
+            return None;
+        };
+        let item = empty_slot(&mut self.slots, place);
+        self.marks.write(place, false);
+        self.live -= 1;
+        if self.live < self.slots.len() / 2 {
+            clear_empty(&mut self.slots, &mut self.marks);
+        }
+        item
+    }
+
+    /// Marks the item of a number that is there, or takes its mark away. Logarithmic in the items.
+    pub fn mark(&mut self, number: u64, on: bool)
+        requires { IsSome (item_at self.old.rows number) }
+        ensures rows { self.new.rows ≡ self.old.rows }
+        ensures marked { PutsMark self.old.marked self.new.marked number on }
+        ensures room { self.new.room ≡ self.old.room }
+    {
+        let Some(place) = place_of(&self.slots, number) else {
+            return;
+        };
+        write_mark(&mut self.slots, place, on);
+        self.marks.write(place, on);
+    }
+
+    /// The least number from this one on that is marked. Logarithmic in the items, and then a few
+    /// words of bits: it passes no item.
+    pub fn first_marked(&self, from: u64) -> Option<u64>
+        ensures { MatchOption result (NoneMarked self.now.marked from)
+            (λ number. IsFirstMarked self.now.marked from number) }
+    {
+        first_marked_of(&self.slots, &self.marks, from)
+    }
+}
