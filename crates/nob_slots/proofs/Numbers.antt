@@ -5,8 +5,9 @@ use lib.ListN.{set}
 use Rattle.std.proofs.lemmas.Cmp.{nat_eq_equiv}
 use Rattle.std.proofs.lemmas.Option.{none-some, same_Some}
 use Rattle.std.specs.List.{AllByRecursion}
-use Rattle.nob_slots.specs.Slots.{is_number, is_marked, IsRising, PutsMark}
-use Rattle.nob_slots.specs.Places.{is_marked_slot, marked_numbers}
+use Rattle.std.specs.Map.{remove_entry}
+use Rattle.nob_slots.specs.Slots.{item_at, is_number, is_marked, IsRising, PutsMark}
+use Rattle.nob_slots.specs.Places.{with_slot, live_rows, is_marked_slot, marked_numbers}
 use Rattle.nob_slots.specs.declared.kept.Kept.{Kept}
 use Rattle.nob_slots.proofs.Live.{filled}
 
@@ -132,3 +133,34 @@ module _ {T : Type 0} where
   pub puts_mark : (number : ℕ) (old new : Option (Kept T)) (es : List (ℕ × Option (Kept T))) (at : ℕ) → slice_get es at ≡ Some (number, old) → IsRising es
       → ((k : ℕ) (f : ℕ × Option (Kept T)) → k < at → slice_get es k ≡ Some f → f.0 < number) → PutsMark (marked_numbers es) (marked_numbers (set es at (number, new))) number (is_marked_slot new)
   puts_mark number old new es at got rising before other = puts_other number new other old es at got rising before
+
+  -- ---- a number without an item
+  pub unmarked_absent : (number : ℕ) (es : List (ℕ × Option (Kept T))) → item_at (live_rows es) number ≡ None → is_marked (marked_numbers es) number ≡ false
+  unmarked_absent number [] absent = refl
+  unmarked_absent number (e ∷ es) absent =
+      elim e.1 as (λ o. item_at (with_slot e.0 o (live_rows es)) number ≡ None → is_marked (cond (is_marked_slot o) (e.0 ∷ marked_numbers es) (marked_numbers es)) number ≡ false) [
+        | None ↦ λ h. unmarked_absent number es h
+        | Some kept ↦ λ h.
+            elim (is_number number e.0) as (λ b. is_number number e.0 ≡ b → cond b (Some kept.item) (item_at (live_rows es) number) ≡ None → is_marked (cond kept.marked (e.0 ∷ marked_numbers es) (marked_numbers es)) number ≡ false) [
+              | true ↦ λ t there. absurd (none-some kept.item (sym there))
+              | false ↦ λ u there.
+                  let rest : is_marked (marked_numbers es) number ≡ false = unmarked_absent number es there in
+                  elim kept.marked as (λ b. is_marked (cond b (e.0 ∷ marked_numbers es) (marked_numbers es)) number ≡ false) [ true ↦ rw u rest | false ↦ rest ]
+            ] refl h
+      ] absent
+
+  pub absent_mark : (number : ℕ) (es : List (ℕ × Option (Kept T))) → item_at (live_rows es) number ≡ None → PutsMark (marked_numbers es) (marked_numbers es) number false
+  absent_mark number es absent other =
+      elim (is_number number other) as (λ b. is_number number other ≡ b → is_marked (marked_numbers es) other ≡ (if b then false else is_marked (marked_numbers es) other)) [
+        | true ↦ λ t. subst (λ (n : ℕ). is_marked (marked_numbers es) n ≡ false) (eqb-true number other t) (unmarked_absent number es absent)
+        | false ↦ λ u. refl
+      ] refl
+
+-- what isn't there can't go
+pub absent_entry : {X : Type 0} (number : ℕ) (rows : List (ℕ × X)) → item_at rows number ≡ None → rows ≡ remove_entry (is_number number) rows
+absent_entry number [] absent = refl
+absent_entry number (e ∷ rows) absent =
+    elim (is_number number e.0) as (λ b. cond b (Some e.1) (item_at rows number) ≡ None → e ∷ rows ≡ cond b rows (e ∷ remove_entry (is_number number) rows)) [
+      | true ↦ λ h. absurd (none-some e.1 (sym h))
+      | false ↦ λ h. ap (λ rs. e ∷ rs) (absent_entry number rows h)
+    ] absent

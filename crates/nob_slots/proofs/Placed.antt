@@ -1,9 +1,9 @@
 -- The places of numbers, and the marks of places.
-use Rattle.std.proofs.Common.{◌≡◌, ℕ, ◌<◌, ◌≤◌, true, false, ◌==◌, List, [], ◌∷◌, ◌++◌, length, Option, Some, None, slice_get, get_or, is_some, nat_lt, refl, sym, ap, ◌∙◌, arith, if◌then◌else◌, eqb-true, true≢false}
+use Rattle.std.proofs.Common.{◌≡◌, ℕ, ◌<◌, ◌≤◌, true, false, ◌==◌, List, [], ◌∷◌, ◌++◌, length, Option, Some, None, slice_get, get_or, is_some, nat_lt, refl, sym, ap, subst, ◌∙◌, arith, if◌then◌else◌, eqb-true, true≢false}
 use lib.ListN.{set}
 use Rattle.std.proofs.lemmas.Bool.Decides.{Decides-ltb, nat_tests}
 use Rattle.std.proofs.lemmas.Cmp.{nat_eq_equiv}
-use Rattle.std.proofs.lemmas.Option.{none-some, same_Some, slice_get_past, get_or_from_slice_get}
+use Rattle.std.proofs.lemmas.Option.{none-some, same_Some, slice_get_past, slice_get_within, get_or_from_slice_get}
 use Rattle.nob_marks.specs.Marks.{has, NoneFrom, IsFirst}
 use Rattle.nob_slots.specs.Slots.{item_at, is_number, is_marked, IsRising, NoneMarked, IsFirstMarked}
 use Rattle.nob_slots.specs.Places.{is_marked_at, is_marked_slot, marked_numbers, live_rows, AreMarked, IsPoint, IsPlace}
@@ -122,3 +122,30 @@ module _ {T : Type 0} where
         | None ↦ λ is h. absurd (true≢false (sym h))
         | Some kept ↦ λ is h. record { kept = kept; there = got ∙ (λ i. Some (same i, is i)) }
       ] refl some
+
+  -- the marks of places, where a slot is written and keeps its mark
+  pub marks_kept : (es : List (ℕ × Option (Kept T))) (at : ℕ) (e new : ℕ × Option (Kept T)) → slice_get es at ≡ Some e → is_marked_slot new.1 ≡ is_marked_slot e.1 → (k : ℕ) → is_marked_at (slice_get (set es at new) k) ≡ is_marked_at (slice_get es k)
+  marks_kept es at e new got same k =
+      elim (k == at) as (λ b. (k == at) ≡ b → is_marked_at (slice_get (set es at new) k) ≡ is_marked_at (slice_get es k)) [
+        | true ↦ λ t.
+            let here : k ≡ at = eqb-true k at t in
+            rw (here, get_set_same es at e new got, got) same
+        | false ↦ λ u.
+            let other : k ≡ at → ⊥ = λ x. true≢false (sym (rw x (nat_eq_equiv.refl at)) ∙ u) in
+            ap is_marked_at (get_set_other es at k new other)
+      ] refl
+
+  -- a place in the same slots
+  pub place_in : (fs es : List (ℕ × Option (Kept T))) (number at : ℕ) → fs ≡ es → IsPlace fs number at → IsPlace es number at
+  place_in fs es number at same is = subst (λ (s : List (ℕ × Option (Kept T))). IsPlace s number at) same is
+
+  pub place_within : (es : List (ℕ × Option (Kept T))) (number at : ℕ) → IsPlace es number at → at < length es
+  place_within es number at is = slice_get_within es at (number, Some is.kept) is.there
+
+  pub marked_written : (es fs : List (ℕ × Option (Kept T))) (at : ℕ) (e new : ℕ × Option (Kept T)) (marks marks' : List ℕ) → slice_get es at ≡ Some e → AreMarked es marks → fs ≡ set es at new
+      → ((other : ℕ) → has marks' other ≡ (if other == at then is_marked_slot new.1 else has marks other)) → AreMarked fs marks'
+  marked_written es fs at e new marks marks' got marked is written = subst (λ (s : List (ℕ × Option (Kept T))). AreMarked s marks') (sym is) (marked_set es at e new marks marks' got marked written)
+
+  pub marked_as_before : (es fs : List (ℕ × Option (Kept T))) (at : ℕ) (e new : ℕ × Option (Kept T)) (marks : List ℕ) → slice_get es at ≡ Some e → AreMarked es marks → fs ≡ set es at new → is_marked_slot new.1 ≡ is_marked_slot e.1 → AreMarked fs marks
+  marked_as_before es fs at e new marks got marked is same =
+      subst (λ (s : List (ℕ × Option (Kept T))). AreMarked s marks) (sym is) (λ k. marked k ∙ sym (marks_kept es at e new got same k))
