@@ -2,10 +2,12 @@
 //! ones are found without passing the others.
 #![tactic(auto)]
 
+mod iter;
 mod kept;
 mod place;
 mod slots;
 mod tidy;
 mod write;
 
+pub use iter::Iter;
 pub use slots::Slots;

@@ -1,9 +1,10 @@
 //! The list.
 
-ghost use Rattle.std.specs.Prelude.{◌≡◌, ◌<◌, ◌≤◌, ◌+◌, ◌++◌, ◌∷◌, ◌==◌, [], ℕ, length, Some, None, IsSome, IsOk, OnOk, MatchOption, false, option_copied, if◌then◌else◌};
+ghost use Rattle.std.specs.Prelude.{◌≡◌, ◌<◌, ◌≤◌, ◌+◌, ◌++◌, ◌^◌, ◌∷◌, ◌==◌, [], ℕ, length, Some, None, IsSome, IsOk, OnOk, MatchOption, false, option_copied, if◌then◌else◌};
 ghost use Rattle.std.specs.Map.{remove_entry, set_value};
 ghost use Rattle.nob_slots.specs.Slots.{item_at, IsAbove, is_number, PutsMark, is_marked, NoneMarked, IsFirstMarked};
 
+use crate::iter::Iter;
 use crate::kept::Kept;
 use crate::place::{find, first_marked_of, place_of};
 use crate::tidy::{clear_empty, drop_last_empty};
@@ -181,5 +182,14 @@ impl<T> Slots<T> {
             (λ number. IsFirstMarked self.now.marked from number) }
     {
         first_marked_of(&self.slots, &self.marks, from)
+    }
+    /// The items with their numbers, one after the other. Linear in all of them.
+    pub fn iter(&self) -> Iter<'_, T>
+        ensures items { result ≡ self.now.rows }
+        ensures fits { length result < 2 ^ 64 }
+    {
+        Iter {
+            slots: self.slots.as_slice(),
+        }
     }
 }
