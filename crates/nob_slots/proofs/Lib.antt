@@ -6,4 +6,6 @@ pub mod Numbers
 pub mod Parted
 pub mod Placed
 pub mod Rising
+pub mod Swept
+pub mod Thinned
 pub mod Trimmed

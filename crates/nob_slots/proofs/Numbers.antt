@@ -79,7 +79,7 @@ module _ {T : Type 0} where
       let rest = numbers_same number old new same es at got in
       ap (λ (ns : List ℕ). cond (is_marked_slot x.1) (x.0 ∷ ns) ns) rest
 
-  above_unmarked : (number : ℕ) (es : List (ℕ × Option (Kept T))) → AllByRecursion (λ e. number < e.0) es → is_marked (marked_numbers es) number ≡ false
+  pub above_unmarked : (number : ℕ) (es : List (ℕ × Option (Kept T))) → AllByRecursion (λ e. number < e.0) es → is_marked (marked_numbers es) number ≡ false
   above_unmarked number [] all = refl
   above_unmarked number (e ∷ es) all =
       let rest : is_marked (marked_numbers es) number ≡ false = above_unmarked number es all.1 in

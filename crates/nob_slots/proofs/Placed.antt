@@ -149,3 +149,7 @@ module _ {T : Type 0} where
   pub marked_as_before : (es fs : List (ℕ × Option (Kept T))) (at : ℕ) (e new : ℕ × Option (Kept T)) (marks : List ℕ) → slice_get es at ≡ Some e → AreMarked es marks → fs ≡ set es at new → is_marked_slot new.1 ≡ is_marked_slot e.1 → AreMarked fs marks
   marked_as_before es fs at e new marks got marked is same =
       subst (λ (s : List (ℕ × Option (Kept T))). AreMarked s marks) (sym is) (λ k. marked k ∙ sym (marks_kept es at e new got same k))
+
+  -- no marks behind the last slot
+  pub marked_past : (es : List (ℕ × Option (Kept T))) (marks : List ℕ) → AreMarked es marks → (at : ℕ) → length es ≤ at → has marks at ≡ false
+  marked_past es marks marked at past = marked at ∙ ap is_marked_at (slice_get_past es at past)

@@ -1,5 +1,6 @@
 -- The slots that items stand in: each has a number, and is empty once its item is taken out. No public clause cites this module.
-use Rattle.std.specs.Prelude.{◌≡◌, ℕ, ◌+◌, ◌*◌, ◌^◌, ◌<◌, ◌≤◌, Bool, false, if◌then◌else◌, List, [], ◌∷◌, length, slice_get, is_none, ◌-◌, Option, Some, None}
+use Rattle.std.specs.Prelude.{◌≡◌, ℕ, ◌+◌, ◌*◌, ◌^◌, ◌<◌, ◌≤◌, ◌⊎◌, Bool, false, not, if◌then◌else◌, List, [], ◌∷◌, length, slice_get, is_none, ◌-◌, Option, Some, None}
+use Prim.Native.Nat.{zero, suc}
 use Rattle.nob_marks.specs.Marks.{has, bound}
 use Rattle.nob_slots.specs.Slots.{IsRising}
 use Rattle.nob_slots.specs.declared.kept.Kept.{Kept}
@@ -61,6 +62,33 @@ module _ {T : Type 0} where
     pub marks : (at : ℕ) → is_marked_at (slice_get new at) ≡ is_marked_at (slice_get old at)
     pub rising : IsRising old → IsRising new
     pub fewer : length new ≤ length old
+
+  -- the same slots, of which some were left empty
+  abbrev pub Thins : List (ℕ × Option (Kept T)) → List (ℕ × Option (Kept T)) → Type 0
+  Thins [] [] = Unit {0}
+  Thins [] (f ∷ fs) = ⊥
+  Thins (e ∷ es) [] = ⊥
+  Thins (e ∷ es) (f ∷ fs) = ((f ≡ e) ⊎ (f ≡ (e.0, None))) × Thins es fs
+
+  -- whether a slot has an item that fails a test
+  abbrev pub fails_slot : (T → Bool) → Option (Kept T) → Bool
+  fails_slot keeps None = false
+  fails_slot keeps (Some kept) = not (keeps kept.item)
+
+  -- the same of a slot that there may be
+  abbrev pub fails_at : (T → Bool) → Option (ℕ × Option (Kept T)) → Bool
+  fails_at keeps None = false
+  fails_at keeps (Some slot) = fails_slot keeps slot.1
+
+  -- a slot, empty where its item fails a test
+  abbrev pub swept_slot : (T → Bool) → ℕ × Option (Kept T) → ℕ × Option (Kept T)
+  swept_slot keeps slot = (slot.0, if fails_slot keeps slot.1 then None else slot.1)
+
+  -- the slots, of which the first so many are empty where their items fail a test
+  abbrev pub swept : (T → Bool) → ℕ → List (ℕ × Option (Kept T)) → List (ℕ × Option (Kept T))
+  swept keeps zero slots = slots
+  swept keeps (suc count) [] = []
+  swept keeps (suc count) (slot ∷ slots) = swept_slot keeps slot ∷ swept keeps count slots
 
   -- what holds of the slots, of the marks beside them and of the room
   pub record AreSlots (live : ℕ) (slots : List (ℕ × Option (Kept T))) (fits : ℕ) (marks : List ℕ) (room : ℕ) : Type 0 where

@@ -6,6 +6,7 @@ mod iter;
 mod kept;
 mod place;
 mod slots;
+mod sweep;
 mod tidy;
 mod write;
 

@@ -20,8 +20,8 @@ pub fn count_below<T>(slots: &[(u64, Option<Kept<T>>)], number: u64) -> usize
     )
 }
 
-// The slot at a place.
-fn slot_at<T>(slots: &[(u64, Option<Kept<T>>)], at: usize) -> Option<&(u64, Option<Kept<T>>)>
+/// The slot at a place.
+pub fn slot_at<T>(slots: &[(u64, Option<Kept<T>>)], at: usize) -> Option<&(u64, Option<Kept<T>>)>
     ensures { option_copied result ≡ slice_get slots.now at }
 {
     slots.get(at)

@@ -1,12 +1,14 @@
 //! The list.
 
-ghost use Rattle.std.specs.Prelude.{◌≡◌, ◌<◌, ◌≤◌, ◌+◌, ◌++◌, ◌^◌, ◌∷◌, ◌==◌, [], ℕ, length, Some, None, IsSome, IsOk, OnOk, MatchOption, false, option_copied, if◌then◌else◌};
+ghost use Rattle.std.specs.Prelude.{◌≡◌, ◌<◌, ◌≤◌, ◌+◌, ◌++◌, ◌^◌, ◌∷◌, ◌==◌, [], ◌&&◌, ℕ, Bool, length, filter, is_some, Some, None, IsSome, IsOk, OnOk, MatchOption, false, option_copied, if◌then◌else◌};
+ghost use Rattle.std.specs.Fn.{ComputesKey};
 ghost use Rattle.std.specs.Map.{remove_entry, set_value};
 ghost use Rattle.nob_slots.specs.Slots.{item_at, IsAbove, is_number, PutsMark, is_marked, NoneMarked, IsFirstMarked};
 
 use crate::iter::Iter;
 use crate::kept::Kept;
 use crate::place::{find, first_marked_of, place_of};
+use crate::sweep::empty_failing;
 use crate::tidy::{clear_empty, drop_last_empty};
 use crate::write::{empty_slot, write_item, write_mark};
 use nob_marks::Marks;
@@ -159,6 +161,23 @@ impl<T> Slots<T> {
             clear_empty(&mut self.slots, &mut self.marks);
         }
         item
+    }
+
+    /// Keeps the items at which a test answers `true`, with their marks, and drops the others. It
+    /// takes no memory. Linear in the items, and in what dropping costs.
+    pub fn retain<F: FnMut(&T) -> bool>(&mut self, test: F)
+    where
+        T: Drop,
+        requires { F.IsAlwaysCallable test }
+        ensures rows { (keeps : T → Bool) → ComputesKey F.FnMut keeps test
+            → self.new.rows ≡ filter (λ row. keeps row.1) self.old.rows }
+        ensures marked { (number : ℕ) → is_marked self.new.marked number
+            ≡ (is_marked self.old.marked number && is_some (item_at self.new.rows number)) }
+        ensures room { self.new.room ≡ self.old.room }
+    {
+        empty_failing(&mut self.slots, test);
+        clear_empty(&mut self.slots, &mut self.marks);
+        self.live = self.slots.len();
     }
 
     /// Marks the item of a number that is there, or takes its mark away. Logarithmic in the items.

@@ -60,7 +60,7 @@ fn mark_all<T>(marks: &mut Marks, slots: &[(u64, Option<Kept<T>>)], all: usize)
 
 /// Takes out the slots that are empty, and the marks move with the others. Linear in the slots.
 pub fn clear_empty<T: Drop>(slots: &mut Vec<(u64, Option<Kept<T>>)>, marks: &mut Marks)
-    requires marked { AreMarked slots.old.items marks.old }
+    requires past { (at : ℕ) → length slots.old.items ≤ at → has marks.old at ≡ false }
     requires room { length slots.old.items ≤ bound marks.old }
     ensures kept { slots.new.items ≡ filter (λ slot. is_some slot.1) slots.old.items }
     ensures marked { AreMarked slots.new.items marks.new }

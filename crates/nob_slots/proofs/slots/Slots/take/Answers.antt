@@ -5,7 +5,7 @@ use Rattle.nob_slots.specs.Places.{live_rows, marked_numbers}
 use Rattle.nob_slots.proofs.Held.{held_emptied, held_cleared}
 use Rattle.nob_slots.proofs.Live.{live_emptied, live_filled, one_less}
 use Rattle.nob_slots.proofs.Numbers.{puts_mark, numbers_filled, absent_mark, absent_entry}
-use Rattle.nob_slots.proofs.Placed.{place_in, place_within, item_is, not_before, lower_before, marked_written}
+use Rattle.nob_slots.proofs.Placed.{place_in, place_within, item_is, not_before, lower_before, marked_written, marked_past}
 use Rattle.nob_slots.proofs.slots.Slots.take.Goals as goal
 
 pub returns-in_default-clause-rows : goal.returns-in_default-clause-rows
@@ -33,11 +33,11 @@ overflow_sub-self g c =
     let is = place_in c.deref.result.now c.self.inside.slots.items c.args.number c.in-Some.place c.deref.ensures.value c.in-Some.ensures in
     omega (arith, one_less c.args.number is.kept c.self.inside.slots.items c.in-Some.place is.there, c.self.invariant.count)
 
-pub clear_empty-requires-clause-marked : goal.clear_empty-requires-clause-marked
-clear_empty-requires-clause-marked g c =
+pub clear_empty-requires-clause-past : goal.clear_empty-requires-clause-past
+clear_empty-requires-clause-past g c =
     let is = place_in c.deref.result.now c.self.inside.slots.items c.args.number c.in-Some.place c.deref.ensures.value c.in-Some.ensures in
     let w = c.empty_slot-item.ensures.written c.args.number is.kept is.there in
-    marked_written c.self.inside.slots.items c.empty_slot-item.new.slots.items c.in-Some.place (c.args.number, Some is.kept) (c.args.number, None) c.self.inside.marks c.write.new.self is.there c.self.invariant.marked w.0 c.write.ensures.written
+    marked_past c.empty_slot-item.new.slots.items c.write.new.self (marked_written c.self.inside.slots.items c.empty_slot-item.new.slots.items c.in-Some.place (c.args.number, Some is.kept) (c.args.number, None) c.self.inside.marks c.write.new.self is.there c.self.invariant.marked w.0 c.write.ensures.written)
 
 pub invariant_of-self : goal.invariant_of-self
 invariant_of-self g c =
