@@ -1,15 +1,16 @@
 -- What holds of the slots after a call.
-use Rattle.std.proofs.Common.{◌≡◌, ℕ, ◌+◌, ◌-◌, ◌*◌, ◌<◌, ◌≤◌, ◌==◌, false, List, [], ◌∷◌, ◌++◌, length, Option, Some, None, is_some, slice_get, refl, sym, ap, subst, ◌∙◌, arith, if◌then◌else◌}
+use Rattle.std.proofs.Common.{◌≡◌, ℕ, ◌+◌, ◌-◌, ◌*◌, ◌<◌, ◌≤◌, false, List, [], ◌∷◌, ◌++◌, length, Option, Some, None, is_some, slice_get, refl, sym, ap, subst, ◌∙◌, arith}
 use lib.ListN.{set}
 use Rattle.std.proofs.Math.ListN.{length-set}
-use Rattle.nob_marks.specs.Marks.{has, bound}
+use Rattle.nob_marks.specs.Marks.{bound}
 use Rattle.nob_slots.specs.Slots.{IsAbove, IsRising}
-use Rattle.nob_slots.specs.Places.{live_rows, is_marked_at, is_marked_slot, AreMarked, IsPlace, is_last_empty, Trims, AreSlots}
+use Rattle.nob_slots.specs.Places.{live_rows, is_marked_at, AreMarked, IsPlace, is_last_empty, Trims, Thins, AreSlots}
 use Rattle.nob_slots.specs.declared.kept.Kept.{Kept}
 use Rattle.nob_slots.proofs.Flat.{length_push}
 use Rattle.nob_slots.proofs.Live.{filled, live_push, live_filled, length_filled, one_less, as_many, live_shorter}
 use Rattle.nob_slots.proofs.Placed.{mark_push}
 use Rattle.nob_slots.proofs.Rising.{rising_push, rising_filter, rising_set}
+use Rattle.nob_slots.proofs.Thinned.{thins_long, thins_rising}
 use Rattle.nob_slots.proofs.Trimmed.{above_slots}
 
 module _ {T : Type 0} (live : ℕ) (es : List (ℕ × Option (Kept T))) (fits : ℕ) (marks : List ℕ) (room : ℕ) (are : AreSlots live es fits marks room) where
@@ -83,3 +84,20 @@ module _ {T : Type 0} (live : ℕ) (es : List (ℕ × Option (Kept T))) (fits : 
           marks_room = omega (arith, are.marks_room, len, less, short, bounds);
           small = omega (arith, are.small, len, less, short);
         }
+
+  -- the slots of the items that are left
+  pub held_swept : (fs gs : List (ℕ × Option (Kept T))) (live' fits' : ℕ) (marks' : List ℕ) → Thins es fs → gs ≡ filled fs → live' ≡ length gs → fits' ≡ fits → AreMarked gs marks' → bound marks' ≡ bound marks → AreSlots live' gs fits' marks' room
+  held_swept fs gs live' fits' marks' thins cleared count same marked bounds =
+      let rows : length (live_rows gs) ≡ length (live_rows fs) = ap (λ (s : List (ℕ × Option (Kept T))). length (live_rows s)) cleared ∙ ap length (live_filled fs) in
+      let len : length gs ≡ length (live_rows fs) = ap length cleared ∙ length_filled fs in
+      let short : length (live_rows fs) ≤ length fs = live_shorter fs in
+      let long : length fs ≡ length es = thins_long es fs thins in
+      record {
+        rising = subst IsRising (sym cleared) (rising_filter (λ e. is_some e.1) fs (thins_rising es fs thins are.rising));
+        count = omega (arith, count, len, rows);
+        few = omega (arith, count);
+        marked = marked;
+        slots_room = omega (arith, are.slots_room, len, short, long, same);
+        marks_room = omega (arith, are.marks_room, len, short, long, bounds);
+        small = omega (arith, are.small, len, short, long);
+      }

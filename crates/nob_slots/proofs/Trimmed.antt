@@ -1,7 +1,6 @@
 -- The empty slots behind the last that isn't empty.
-use Rattle.std.proofs.Common.{◌≡◌, ℕ, ◌+◌, ◌-◌, ◌<◌, ◌≤◌, Bool, true, false, List, [], ◌∷◌, ◌++◌, length, Option, Some, None, is_none, option_to_list, slice_get, refl, sym, ap, subst, ◌∙◌, arith, true≢false}
+use Rattle.std.proofs.Common.{◌≡◌, ℕ, ◌-◌, true, false, List, [], ◌∷◌, ◌++◌, length, Option, Some, None, is_none, option_to_list, slice_get, refl, sym, ap, subst, ◌∙◌, arith, true≢false}
 use Prim.Native.Nat.{suc}
-use Rattle.std.specs.List.{AllByRecursion}
 use Rattle.nob_slots.specs.Slots.{IsAbove, IsRising}
 use Rattle.nob_slots.specs.Places.{with_slot, live_rows, marked_numbers, is_marked_at, is_empty_at, is_last_empty, Trims}
 use Rattle.nob_slots.specs.declared.kept.Kept.{Kept}

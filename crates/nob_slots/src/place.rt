@@ -75,11 +75,7 @@ pub fn find<T>(slots: &[(u64, Option<Kept<T>>)], number: u64) -> Option<&T>
 
 /// The least number from this one on of a slot with a marked item. Logarithmic in the slots, and
 /// then a few words of bits.
-pub fn first_marked_of<T>(
-    slots: &[(u64, Option<Kept<T>>)],
-    marks: &Marks,
-    from: u64,
-) -> Option<u64>
+pub fn first_marked_of<T>(slots: &[(u64, Option<Kept<T>>)], marks: &Marks, from: u64) -> Option<u64>
     requires rising { IsRising slots.now }
     requires marked { AreMarked slots.now marks.now }
     ensures { MatchOption result (NoneMarked (marked_numbers slots.now) from)

@@ -23,17 +23,13 @@ pub fn empty_slot<T>(slots: &mut Vec<(u64, Option<Kept<T>>)>, place: usize) -> O
 }
 
 /// Writes the item of a slot, and gives the one that stood there.
-pub fn write_item<T>(
-    slots: &mut Vec<(u64, Option<Kept<T>>)>,
-    place: usize,
-    item: T,
-) -> Option<T>
+pub fn write_item<T>(slots: &mut Vec<(u64, Option<Kept<T>>)>, place: usize, item: T) -> Option<T>
     requires { (number : ℕ) × (kept : Kept T)
         × (slice_get slots.old.items place ≡ Some (number, Some kept)) }
     ensures written { (number : ℕ) (kept : Kept T)
         → slice_get slots.old.items place ≡ Some (number, Some kept)
         → (slots.new.items ≡ slice_set slots.old.items place
-            (number, Some (record { item = item; marked = kept.marked })))
+        (number, Some (record { item = item; marked = kept.marked })))
         × (result ≡ Some kept.item) }
     ensures capacity { vec_capacity slots.new ≡ vec_capacity slots.old }
 {
@@ -50,7 +46,7 @@ pub fn write_mark<T>(slots: &mut Vec<(u64, Option<Kept<T>>)>, place: usize, on: 
     ensures written { (number : ℕ) (kept : Kept T)
         → slice_get slots.old.items place ≡ Some (number, Some kept)
         → slots.new.items ≡ slice_set slots.old.items place
-            (number, Some (record { item = kept.item; marked = on })) }
+        (number, Some (record { item = kept.item; marked = on })) }
     ensures capacity { vec_capacity slots.new ≡ vec_capacity slots.old }
 {
     if let Some(kept) = &mut slots[place].1 {

@@ -1,4 +1,4 @@
-use Rattle.std.proofs.Common.{option_copied, rules, sym, ap, ◌∙◌}
+use Rattle.std.proofs.Common.{option_copied, sym, ap, ◌∙◌}
 use Rattle.nob_slots.proofs.Placed.{none_left, bit_of_slot, first_left}
 use Rattle.nob_slots.proofs.place.first_marked_of.Goals as goal
 

@@ -1,4 +1,4 @@
-use Rattle.std.proofs.Common.{◌≡◌, ℕ, Bool, length}
+use Rattle.std.proofs.Common.{◌≡◌, Bool}
 use Rattle.std.specs.Fn.{ComputesKey}
 use Rattle.std.specs.Vec.{vec_capacity}
 use Rattle.nob_slots.specs.Places.{Thins, swept}

@@ -1,4 +1,4 @@
-use Rattle.std.proofs.Common.{◌≡◌, ℕ, Bool, not, Option, Some, option_copied, slice_get, sym, ap, ◌∙◌, of_calls}
+use Rattle.std.proofs.Common.{◌≡◌, not, Option, Some, option_copied, slice_get, sym, ap, ◌∙◌, of_calls}
 use Rattle.nob_slots.specs.Places.{fails_at}
 use Rattle.nob_slots.specs.declared.kept.Kept.{Kept}
 use Rattle.nob_slots.proofs.Swept.{answers}

@@ -1,4 +1,4 @@
-use Rattle.std.proofs.Common.{◌≡◌, Bool, true, ◌∙◌, sym, ap, arith, length}
+use Rattle.std.proofs.Common.{◌∙◌, sym, ap, arith, length}
 use Rattle.nob_slots.specs.Places.{is_last_empty}
 use Rattle.nob_slots.proofs.Trimmed.{trims_more}
 use Rattle.nob_slots.proofs.tidy.drop_last_empty.Goals as goal

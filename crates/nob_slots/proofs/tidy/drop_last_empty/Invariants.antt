@@ -1,4 +1,4 @@
-use Rattle.std.proofs.Common.{◌≡◌, ℕ, length}
+use Rattle.std.proofs.Common.{◌≡◌, length}
 use Rattle.std.specs.Vec.{vec_capacity}
 use Rattle.nob_slots.specs.Places.{Trims}
 use Rattle.nob_slots.proofs.tidy.drop_last_empty.Given as goal

@@ -1,5 +1,4 @@
-use Rattle.std.proofs.Common.{length, ap, arith}
-use Rattle.nob_slots.specs.Places.{live_rows}
+use Rattle.std.proofs.Common.{arith}
 use Rattle.nob_slots.proofs.Live.{live_shorter}
 use Rattle.nob_slots.proofs.slots.Slots.iter.Goals as goal
 

@@ -1,7 +1,6 @@
-use Rattle.std.proofs.Common.{◌≡◌, ℕ, List, Option, Some, None, true, false, ap, sym, refl, ◌∙◌, arith}
+use Rattle.std.proofs.Common.{Some, ap, refl, ◌∙◌, arith}
 use Rattle.std.specs.Vec.{vec_capacity}
-use Rattle.nob_slots.specs.Places.{live_rows, marked_numbers, IsPlace}
-use Rattle.nob_slots.specs.declared.kept.Kept.{Kept}
+use Rattle.nob_slots.specs.Places.{live_rows}
 use Rattle.nob_slots.proofs.Held.{held_written}
 use Rattle.nob_slots.proofs.Live.{live_same}
 use Rattle.nob_slots.proofs.Numbers.{puts_mark}

@@ -1,7 +1,6 @@
 use Rattle.std.proofs.Common.{◌++◌, ◌∷◌, [], ℕ, List, Some, false, ap, refl, ◌∙◌, arith}
 use Rattle.std.specs.Vec.{vec_capacity}
 use Rattle.nob_slots.specs.Places.{live_rows, marked_numbers}
-use Rattle.nob_slots.specs.declared.kept.Kept.{Kept}
 use Rattle.nob_slots.proofs.Held.{held_pushed}
 use Rattle.nob_slots.proofs.Live.{live_push, live_shorter}
 use Rattle.nob_slots.proofs.Numbers.{numbers_push}

@@ -1,7 +1,6 @@
-use Rattle.std.proofs.Common.{ℕ, Some, None, ap, sym, subst, ◌∙◌, arith}
+use Rattle.std.proofs.Common.{Some, None, ap, sym, ◌∙◌, arith}
 use Rattle.std.specs.Vec.{vec_capacity}
-use Rattle.nob_slots.specs.Slots.{item_at}
-use Rattle.nob_slots.specs.Places.{live_rows, marked_numbers}
+use Rattle.nob_slots.specs.Places.{live_rows}
 use Rattle.nob_slots.proofs.Held.{held_emptied, held_cleared}
 use Rattle.nob_slots.proofs.Live.{live_emptied, live_filled, one_less}
 use Rattle.nob_slots.proofs.Numbers.{puts_mark, numbers_filled, absent_mark, absent_entry}
