@@ -97,6 +97,8 @@ module _ {T : Type 0} where
     pub count : live ≡ length (live_rows slots)
     -- of the empty ones there is at most one more than of the others
     pub few : length slots ≤ 2 * live + 1
+    -- the last one is among the others
+    pub last : is_last_empty slots ≡ false
     pub marked : AreMarked slots marks
     pub slots_room : length slots + room ≤ fits
     pub marks_room : length slots + room ≤ bound marks

@@ -1,5 +1,5 @@
 -- Items under rising numbers, as a contract sees them.
-use Rattle.std.specs.Prelude.{◌≡◌, ℕ, ◌<◌, ◌≤◌, ◌==◌, Bool, true, false, if◌then◌else◌, List, [], ◌∷◌, Option, refl}
+use Rattle.std.specs.Prelude.{◌≡◌, ℕ, ◌<◌, ◌≤◌, ◌==◌, Bool, true, false, if◌then◌else◌, List, [], ◌∷◌, Option, None, IsSome, refl}
 use Rattle.std.specs.Coded.{Coded, code_by, coded×, coded_ℕ, coded_list}
 use Rattle.std.specs.List.{AllByRecursion, list_any}
 use Rattle.std.specs.Map.{lookup}
@@ -32,6 +32,10 @@ module _ {X : Type 0} where
   -- a number stands above all of the rows'
   abbrev pub IsAbove : List (ℕ × X) → ℕ → Type 0
   IsAbove rows number = AllByRecursion (λ row. row.0 < number) rows
+
+  -- a number has an item, and no greater one has
+  abbrev pub IsGreatest : List (ℕ × X) → ℕ → Type 0
+  IsGreatest rows number = IsSome (item_at rows number) × ((other : ℕ) → number < other → item_at rows other ≡ None)
 
   -- each number is below those behind it
   abbrev pub IsRising : List (ℕ × X) → Type 0

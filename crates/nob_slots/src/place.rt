@@ -1,9 +1,9 @@
 //! Where the slots of a number stand.
 
-ghost use Rattle.std.specs.Prelude.{◌≡◌, ◌<◌, ◌≤◌, ℕ, None, Some, Option, MatchOption, nat_lt, option_copied, slice_get};
+ghost use Rattle.std.specs.Prelude.{◌≡◌, [], false, ◌<◌, ◌≤◌, ℕ, None, Some, Option, MatchOption, nat_lt, option_copied, slice_get};
 ghost use Rattle.nob_marks.specs.Marks.{has};
-ghost use Rattle.nob_slots.specs.Slots.{item_at, IsRising, NoneMarked, IsFirstMarked};
-ghost use Rattle.nob_slots.specs.Places.{IsPoint, IsPlace, AreMarked, live_rows, marked_numbers, is_marked_at};
+ghost use Rattle.nob_slots.specs.Slots.{item_at, IsRising, IsGreatest, NoneMarked, IsFirstMarked};
+ghost use Rattle.nob_slots.specs.Places.{IsPoint, IsPlace, AreMarked, live_rows, marked_numbers, is_marked_at, is_last_empty};
 
 use crate::kept::Kept;
 use nob_marks::Marks;
@@ -86,6 +86,19 @@ pub fn first_marked_of<T>(slots: &[(u64, Option<Kept<T>>)], marks: &Marks, from:
         return None;
     };
     let Some(slot) = slot_at(slots, at) else {
+        return None;
+    };
+    Some(slot.0)
+}
+
+/// The number of the last slot. Constant time.
+pub fn last_number<T>(slots: &[(u64, Option<Kept<T>>)]) -> Option<u64>
+    requires rising { IsRising slots.now }
+    requires last { is_last_empty slots.now ≡ false }
+    ensures { MatchOption result (live_rows slots.now ≡ [])
+        (λ number. IsGreatest (live_rows slots.now) number) }
+{
+    let Some(slot) = slots.last() else {
         return None;
     };
     Some(slot.0)

@@ -3,11 +3,11 @@
 ghost use Rattle.std.specs.Prelude.{◌≡◌, ◌<◌, ◌≤◌, ◌+◌, ◌++◌, ◌^◌, ◌∷◌, ◌==◌, [], ◌&&◌, ℕ, Bool, length, filter, is_some, Some, None, IsSome, IsOk, OnOk, MatchOption, false, option_copied, if◌then◌else◌};
 ghost use Rattle.std.specs.Fn.{ComputesKey};
 ghost use Rattle.std.specs.Map.{remove_entry, set_value};
-ghost use Rattle.nob_slots.specs.Slots.{item_at, IsAbove, is_number, PutsMark, is_marked, NoneMarked, IsFirstMarked};
+ghost use Rattle.nob_slots.specs.Slots.{item_at, IsAbove, IsGreatest, is_number, PutsMark, is_marked, NoneMarked, IsFirstMarked};
 
 use crate::iter::Iter;
 use crate::kept::Kept;
-use crate::place::{find, first_marked_of, place_of};
+use crate::place::{find, first_marked_of, last_number, place_of};
 use crate::sweep::empty_failing;
 use crate::tidy::{clear_empty, drop_last_empty};
 use crate::write::{empty_slot, write_item, write_mark};
@@ -19,8 +19,9 @@ use std::marker::Model;
 /// numbers of the marked ones, and for how many more there is room.
 ///
 /// Each item has a slot, in the order of the numbers. The slot of an item that was taken out is
-/// empty; once more than half of the slots are, all empty ones are cleared in place. So to take one
-/// out needs no memory, and over all calls constant time on average beside the look for its place.
+/// empty; those at the end go at once, and all once more than half of the slots are empty. So to
+/// take one out needs no memory, and over all calls constant time on average beside the look for
+/// its place.
 #[derive(Drop)]
 pub struct Slots<T> {
     // How many slots aren't empty.
@@ -99,17 +100,14 @@ impl<T> Slots<T> {
     }
 
     /// Puts an item behind all others, unmarked, where there is room for it and its number is above
-    /// all. It takes no memory. Constant time on average.
+    /// all. It takes no memory. Constant time.
     pub fn push(&mut self, number: u64, item: T)
-    where
-        T: Drop,
         requires room { 0 < self.old.room }
         requires above { IsAbove self.old.rows number }
         ensures rows { self.new.rows ≡ self.old.rows ++ (number, item) ∷ [] }
         ensures marked { self.new.marked ≡ self.old.marked }
         ensures room { self.new.room + 1 ≡ self.old.room }
     {
-        drop_last_empty(&mut self.slots);
         let kept = Kept {
             item,
             marked: false,
@@ -157,6 +155,7 @@ impl<T> Slots<T> {
         let item = empty_slot(&mut self.slots, place);
         self.marks.write(place, false);
         self.live -= 1;
+        drop_last_empty(&mut self.slots);
         if self.live < self.slots.len() / 2 {
             clear_empty(&mut self.slots, &mut self.marks);
         }
@@ -202,6 +201,14 @@ impl<T> Slots<T> {
     {
         first_marked_of(&self.slots, &self.marks, from)
     }
+    /// The greatest number that has an item. Constant time.
+    pub fn last(&self) -> Option<u64>
+        ensures { MatchOption result (self.now.rows ≡ [])
+            (λ number. IsGreatest self.now.rows number) }
+    {
+        last_number(&self.slots)
+    }
+
     /// The items with their numbers, one after the other. Linear in all of them.
     pub fn iter(&self) -> Iter<'_, T>
         ensures items { result ≡ self.now.rows }

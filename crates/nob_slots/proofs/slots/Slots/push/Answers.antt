@@ -13,14 +13,13 @@ overflow_add-self g c =
 
 pub invariant_of-self : goal.invariant_of-self
 invariant_of-self g c =
-    held_pushed c.self.inside.live c.self.inside.slots.items (vec_capacity c.self.inside.slots) c.self.inside.marks c.self.inside.room c.self.invariant c.drop_last_empty.new.slots.items c.push_reserved.new.self.items (vec_capacity c.push_reserved.new.self) c.args.number c.args.item
-    c.drop_last_empty.ensures.trims c.drop_last_empty.ensures.last (rw (← c.self.view_is) at c.requires.above) c.push_reserved.ensures.items (c.push_reserved.ensures.capacity ∙ c.drop_last_empty.ensures.capacity) (rw (← c.self.view_is) at c.requires.room)
+    held_pushed c.self.inside.live c.self.inside.slots.items (vec_capacity c.self.inside.slots) c.self.inside.marks c.self.inside.room c.self.invariant c.push_reserved.new.self.items (vec_capacity c.push_reserved.new.self) c.args.number c.args.item
+    (rw (← c.self.view_is) at c.requires.above) c.push_reserved.ensures.items c.push_reserved.ensures.capacity (rw (← c.self.view_is) at c.requires.room)
 
 pub returns-clause-rows : goal.returns-clause-rows
 returns-clause-rows g c =
-    rw (← c.self.view_is) (ap live_rows c.push_reserved.ensures.items ∙ live_push c.drop_last_empty.new.slots.items c.args.number (record { item = c.args.item; marked = false })
-    ∙ ap (λ (r : List (ℕ × g.row.T.Denot)). r ++ (c.args.number, c.args.item) ∷ []) c.drop_last_empty.ensures.trims.rows)
+    rw (← c.self.view_is) (ap live_rows c.push_reserved.ensures.items ∙ live_push c.self.inside.slots.items c.args.number (record { item = c.args.item; marked = false }))
 
 pub returns-clause-marked : goal.returns-clause-marked
 returns-clause-marked g c =
-    rw (← c.self.view_is) (ap marked_numbers c.push_reserved.ensures.items ∙ numbers_push c.drop_last_empty.new.slots.items c.args.number (Some (record { item = c.args.item; marked = false })) refl ∙ c.drop_last_empty.ensures.trims.numbers)
+    rw (← c.self.view_is) (ap marked_numbers c.push_reserved.ensures.items ∙ numbers_push c.self.inside.slots.items c.args.number (Some (record { item = c.args.item; marked = false })) refl)
