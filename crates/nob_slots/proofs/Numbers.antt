@@ -1,12 +1,12 @@
 -- The numbers of the marked items.
-use Rattle.std.proofs.Common.{◌≡◌, ℕ, ◌<◌, Bool, true, false, ◌||◌, cond, List, [], ◌∷◌, ◌++◌, Option, Some, None, is_some, slice_get, refl, sym, ap, subst, ◌∙◌, arith, if◌then◌else◌, eqb-true, true≢false}
+use Rattle.std.proofs.Common.{◌≡◌, ℕ, ◌<◌, Bool, true, false, ◌||◌, cond, List, [], ◌∷◌, ◌++◌, Option, Some, None, IsSome, IfSome, MatchOption, is_some, slice_get, refl, sym, ap, subst, ◌∙◌, arith, if◌then◌else◌, eqb-true, true≢false}
 use Prim.Native.Nat.{zero, suc}
 use lib.ListN.{set}
 use Rattle.std.proofs.lemmas.Cmp.{nat_eq_equiv}
 use Rattle.std.proofs.lemmas.Option.{none-some, same_Some}
 use Rattle.std.specs.List.{AllByRecursion}
 use Rattle.std.specs.Map.{remove_entry}
-use Rattle.nob_slots.specs.Slots.{item_at, is_number, is_marked, IsRising, PutsMark}
+use Rattle.nob_slots.specs.Slots.{item_at, is_number, is_marked, IsRising, PutsMark, NoneMarked, IsFirstMarked}
 use Rattle.nob_slots.specs.Places.{with_slot, live_rows, is_marked_slot, marked_numbers}
 use Rattle.nob_slots.specs.declared.kept.Kept.{Kept}
 use Rattle.nob_slots.proofs.Live.{filled}
@@ -148,6 +148,27 @@ module _ {T : Type 0} where
                   elim kept.marked as (λ b. is_marked (cond b (e.0 ∷ marked_numbers es) (marked_numbers es)) number ≡ false) [ true ↦ rw u rest | false ↦ rest ]
             ] refl h
       ] absent
+
+  pub marked_there : (es : List (ℕ × Option (Kept T))) (number : ℕ) → is_marked (marked_numbers es) number ≡ true → IsSome (item_at (live_rows es) number)
+  marked_there es number is =
+      elim (item_at (live_rows es) number) as (λ o. item_at (live_rows es) number ≡ o → IsSome o) [
+        | None ↦ λ none. absurd (true≢false (sym is ∙ unmarked_absent number es none))
+        | Some item ↦ λ some. refl
+      ] refl
+
+  pub found_there : (es : List (ℕ × Option (Kept T))) (from : ℕ) (found : Option ℕ) → MatchOption found (NoneMarked (marked_numbers es) from) (λ number. IsFirstMarked (marked_numbers es) from number) → IfSome found (λ number. IsSome (item_at (live_rows es) number))
+  found_there es from None first = tt
+  found_there es from (Some number) first = marked_there es number first.1
+
+  all_live : (n : ℕ) (es : List (ℕ × Option (Kept T))) → AllByRecursion (λ e. n < e.0) es → AllByRecursion (λ row. n < row.0) (live_rows es)
+  all_live n [] all = tt
+  all_live n (e ∷ es) all =
+      elim e.1 as (λ o. AllByRecursion (λ row. n < row.0) (with_slot e.0 o (live_rows es))) [ None ↦ all_live n es all.1 | Some kept ↦ (all.0, all_live n es all.1) ]
+
+  pub rising_live : (es : List (ℕ × Option (Kept T))) → IsRising es → IsRising (live_rows es)
+  rising_live [] rising = tt
+  rising_live (e ∷ es) rising =
+      elim e.1 as (λ o. IsRising (with_slot e.0 o (live_rows es))) [ None ↦ rising_live es rising.1 | Some kept ↦ (all_live e.0 es rising.0, rising_live es rising.1) ]
 
   pub absent_mark : (number : ℕ) (es : List (ℕ × Option (Kept T))) → item_at (live_rows es) number ≡ None → PutsMark (marked_numbers es) (marked_numbers es) number false
   absent_mark number es absent other =

@@ -1,5 +1,5 @@
-//! Items under rising numbers: each is found by its number and taken out at low cost, and the marked
-//! ones are found without passing the others.
+//! Items under rising numbers: each is found by its number and taken out at low cost, and the
+//! marked ones are found without passing the others.
 #![tactic(auto)]
 
 mod iter;

@@ -1,9 +1,9 @@
 //! The list.
 
-ghost use Rattle.std.specs.Prelude.{◌≡◌, ◌<◌, ◌≤◌, ◌+◌, ◌++◌, ◌^◌, ◌∷◌, ◌==◌, [], ◌&&◌, ℕ, Bool, length, filter, is_some, Some, None, IsSome, IsOk, OnOk, MatchOption, false, option_copied, if◌then◌else◌};
+ghost use Rattle.std.specs.Prelude.{◌≡◌, ◌<◌, ◌≤◌, ◌+◌, ◌++◌, ◌^◌, ◌∷◌, ◌==◌, [], ◌&&◌, ℕ, Bool, length, filter, is_some, Some, None, IsSome, IfSome, true, IsOk, OnOk, MatchOption, false, option_copied, if◌then◌else◌};
 ghost use Rattle.std.specs.Fn.{ComputesKey};
 ghost use Rattle.std.specs.Map.{remove_entry, set_value};
-ghost use Rattle.nob_slots.specs.Slots.{item_at, IsAbove, IsGreatest, is_number, PutsMark, is_marked, NoneMarked, IsFirstMarked};
+ghost use Rattle.nob_slots.specs.Slots.{item_at, IsAbove, IsRising, IsGreatest, is_number, PutsMark, is_marked, NoneMarked, IsFirstMarked};
 
 use crate::iter::Iter;
 use crate::kept::Kept;
@@ -68,7 +68,10 @@ impl<T> Slots<T> {
 
     /// How many items there are. Constant time.
     pub fn len(&self) -> usize
-        ensures { result ≡ length self.now.rows }
+        ensures count { result ≡ length self.now.rows }
+        ensures rising { IsRising self.now.rows }
+        ensures there { (number : ℕ) → is_marked self.now.marked number ≡ true
+            → IsSome (item_at self.now.rows number) }
     {
         self.live
     }
@@ -196,8 +199,9 @@ impl<T> Slots<T> {
     /// The least number from this one on that is marked. Logarithmic in the items, and then a few
     /// words of bits: it passes no item.
     pub fn first_marked(&self, from: u64) -> Option<u64>
-        ensures { MatchOption result (NoneMarked self.now.marked from)
+        ensures first { MatchOption result (NoneMarked self.now.marked from)
             (λ number. IsFirstMarked self.now.marked from number) }
+        ensures there { IfSome result (λ number. IsSome (item_at self.now.rows number)) }
     {
         first_marked_of(&self.slots, &self.marks, from)
     }

@@ -1,4 +1,4 @@
-use Rattle.std.proofs.Common.{◌++◌, ◌∷◌, [], ℕ, List, Some, false, ap, refl, ◌∙◌, arith}
+use Rattle.std.proofs.Common.{Some, false, ap, refl, ◌∙◌, arith}
 use Rattle.std.specs.Vec.{vec_capacity}
 use Rattle.nob_slots.specs.Places.{live_rows, marked_numbers}
 use Rattle.nob_slots.proofs.Held.{held_pushed}
