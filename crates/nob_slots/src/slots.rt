@@ -205,6 +205,7 @@ impl<T> Slots<T> {
     {
         first_marked_of(&self.slots, &self.marks, from)
     }
+
     /// The greatest number that has an item. Constant time.
     pub fn last(&self) -> Option<u64>
         ensures { MatchOption result (self.now.rows ≡ [])
