@@ -10,10 +10,11 @@ use crate::numbers::{DONE, OUT_OF_RANGE, WANTED, error_number};
 use crate::told::Told;
 use crate::waiting::Waiting;
 use nob_ids::{Limits, SpaceId};
-use nob_model::{Answer, Event, Job};
+use nob_model::{Answer, Event};
 use nob_pickle::{Bytes, Value};
 use nob_space::Space;
 use std::alloc::Global;
+use std::mem;
 
 /// A space with what it keeps for a program in another language.
 pub struct Host {
@@ -46,19 +47,10 @@ impl Drop for Host {
 fn value_of(answer: Answer, before: Option<Value>) -> Option<Value>
     ensures { result ≡ value_with answer before }
 {
-    match answer {
-        Answer::Replied(_, value) => Some(value),
-        Answer::Job(job) => {
-            let Job {
-                job: _,
-                client: _,
-                call: _,
-                target: _,
-                method: _,
-                value,
-            } = job;
-            Some(value)
-        }
+    let mut answer = answer;
+    match &mut answer {
+        Answer::Replied(_, value) => Some(mem::replace(value, Value::Unit)),
+        Answer::Job(job) => Some(mem::replace(&mut job.value, Value::Unit)),
         _ => before,
     }
 }

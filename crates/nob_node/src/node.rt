@@ -21,7 +21,7 @@ use nob_pickle::Value;
 use std::alloc::Global;
 use std::marker::Model;
 use std::sync::Wait;
-use std::thread;
+use std::{mem, thread};
 
 /// A node, as its application sees it. Contracts see the receipts of its calls, the newest first.
 #[derive(Drop)]
@@ -343,8 +343,9 @@ impl<'x, B: Object> Node<'x, B> {
 fn value_in(event: Event) -> Value
     ensures { result ≡ calls.value_of event }
 {
-    match event {
-        Event::Call { value, .. } => value,
+    let mut event = event;
+    match &mut event {
+        Event::Call { value, .. } => mem::replace(value, Value::Unit),
         _ => Value::Unit,
     }
 }
