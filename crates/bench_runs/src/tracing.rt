@@ -3,7 +3,7 @@
 use crate::lives::{SPACES, space_at};
 use nob_check_traces::{CheckError, check};
 use nob_ids::{Limits, SpaceId};
-use nob_model::Entry;
+use nob_model::{Answer, Entry, Refusal};
 use nob_trace::{Entries, Stamped, Trace};
 use std::alloc::{AllocError, Global};
 
@@ -50,12 +50,8 @@ fn trace_of(alloc: Global, space: SpaceId, all: &[Entry]) -> Result<Trace, Alloc
 
 // Entries with one more, if its stamp is above the last.
 fn with_entry(mut entries: Entries, stamp: u64, entry: &Entry) -> Result<Entries, AllocError> {
-    let copy = entry.copy()?;
-    let Entry {
-        space: _,
-        event,
-        result,
-    } = copy;
+    let event = entry.event.copy()?;
+    let result = copy_of(&entry.result)?;
     if entries.last_stamp() < stamp {
         entries.push(Stamped {
             stamp,
@@ -64,4 +60,12 @@ fn with_entry(mut entries: Entries, stamp: u64, entry: &Entry) -> Result<Entries
         })?;
     }
     Ok(entries)
+}
+
+// The same result.
+fn copy_of(result: &Result<Answer, Refusal>) -> Result<Result<Answer, Refusal>, AllocError> {
+    match result {
+        Ok(answer) => Ok(Ok(answer.copy()?)),
+        Err(refusal) => Ok(Err(*refusal)),
+    }
 }

@@ -3,7 +3,7 @@
 use crate::script::Script;
 use nob_check_traces::{CheckError, check};
 use nob_ids::SpaceId;
-use nob_model::{Answer, Entry, WorldStep};
+use nob_model::{Answer, Entry, Refusal, WorldStep};
 use nob_trace::{Entries, Stamped, Trace};
 use nob_world::{World, WorldError};
 use std::alloc::{AllocError, Global};
@@ -135,12 +135,8 @@ fn trace_of(
 
 // Entries with one more, if its stamp is above the last.
 fn with_entry(mut entries: Entries, stamp: u64, entry: &Entry) -> Result<Entries, AllocError> {
-    let copy = entry.copy()?;
-    let Entry {
-        space: _,
-        event,
-        result,
-    } = copy;
+    let event = entry.event.copy()?;
+    let result = copy_of(&entry.result)?;
     if entries.last_stamp() < stamp {
         entries.push(Stamped {
             stamp,
@@ -149,4 +145,12 @@ fn with_entry(mut entries: Entries, stamp: u64, entry: &Entry) -> Result<Entries
         })?;
     }
     Ok(entries)
+}
+
+// The same result.
+fn copy_of(result: &Result<Answer, Refusal>) -> Result<Result<Answer, Refusal>, AllocError> {
+    match result {
+        Ok(answer) => Ok(Ok(answer.copy()?)),
+        Err(refusal) => Ok(Err(*refusal)),
+    }
 }
