@@ -5,6 +5,7 @@ use denote.Param.Send.{IsSend, sendable, recorded_send, struct_send, view_send}
 use denote.Struct.Declared.{shape}
 use denote.Struct.Struct.{Struct}
 use Rattle.std.proofs.Crossing.{crosses, Vec-send}
+use Rattle.nob_bytes.proofs.owned.Bytes.TheSendSync as bytes
 use Rattle.nob_keeper.proofs.Crossing.{seat_send}
 use Rattle.nob_fault.proofs.shim.Shim.TheSendSync as shim
 use Rattle.nob_link.specs.contracts.parcel.Parcel as Parcel
@@ -23,7 +24,7 @@ use Rattle.nob_agents.specs.contracts.way.Way as Way
 use Rattle.nob_agents.specs.contracts.way.Way.TheInside as WayInside
 
 event_send : IsSend (Event.the_field).row
-event_send = search (crosses, values.crosses, sendable) depth 60 fits 20000
+event_send = search (bytes.the_send, crosses, values.crosses, sendable) depth 60 fits 20000
 
 asking_field_send : IsSend (Asking.the_field).row
 asking_field_send = struct_send (shape Asking.the_type) (search sendable, (event_send, tt))
@@ -32,7 +33,7 @@ asking_send : IsSend Asking.the_row
 asking_send = let T = Asking.the_type in recorded_send (Struct (shape T)) T.D T.to T.to_one asking_field_send
 
 parcel_send : IsSend Parcel.the_row
-parcel_send = search (crosses, sendable) depth 60 fits 20000
+parcel_send = search (bytes.the_send, crosses, sendable) depth 60 fits 20000
 
 pace_send : IsSend (Pace.the_field).row
 pace_send = search (crosses, sendable) depth 60 fits 20000

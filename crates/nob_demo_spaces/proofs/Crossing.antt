@@ -4,6 +4,7 @@ use denote.Struct.Declared.{shape}
 use denote.Struct.Struct.{Struct}
 use Rattle.std.proofs.Crossing.{crosses, Vec-send}
 use Rattle.std.specs.contracts.result.Result as Result
+use Rattle.nob_bytes.proofs.owned.Bytes.TheSendSync as bytes
 use Rattle.nob_demo_spaces.proofs.places.Part.TheSendSync as part
 use Rattle.nob_demo_spaces.specs.contracts.places.Place as Place
 use Rattle.nob_demo_spaces.specs.contracts.places.Played as Played
@@ -18,10 +19,10 @@ use Rattle.nob_trace.specs.contracts.trace.Entries.TheInside as EntriesInside
 use Rattle.nob_trace.specs.contracts.trace.Trace as Trace
 
 event_send : IsSend (Event.the_field).row
-event_send = search (crosses, values.crosses, sendable) depth 60 fits 20000
+event_send = search (bytes.the_send, crosses, values.crosses, sendable) depth 60 fits 20000
 
 answer_send : IsSend Answer.the_row
-answer_send = search (frames.the_send, crosses, values.crosses, sendable) depth 60 fits 20000
+answer_send = search (frames.the_send, bytes.the_send, crosses, values.crosses, sendable) depth 60 fits 20000
 
 result_send : IsSend (Result.the_field Answer.the_row Refusal.the_row).row
 result_send = search (answer_send, sendable) depth 60 fits 20000

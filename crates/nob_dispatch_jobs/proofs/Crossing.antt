@@ -4,6 +4,7 @@ use denote.Param.Send.{IsSend, sendable, recorded_send, struct_send, view_send}
 use denote.Struct.Declared.{shape}
 use denote.Struct.Struct.{Struct}
 use Rattle.std.proofs.Crossing.{crosses, Vec-send}
+use Rattle.nob_bytes.proofs.owned.Bytes.TheSendSync as bytes
 use Rattle.nob_dispatch_objects.specs.declared.object.Object as Object
 use Rattle.nob_keeper.proofs.Crossing.{seat_send}
 use Rattle.nob_model_types.specs.contracts.answer.Job as Job
@@ -22,16 +23,16 @@ use Rattle.nob_dispatch_jobs.specs.contracts.worker.Worker as Worker
 use Rattle.nob_dispatch_jobs.specs.contracts.worker.Worker.TheInside as WorkerInside
 
 pub job_send : IsSend Job.the_row
-job_send = search (crosses, values.crosses, sendable) depth 60 fits 20000
+job_send = search (bytes.the_send, crosses, values.crosses, sendable) depth 60 fits 20000
 
 job_field_send : IsSend (Job.the_field).row
-job_field_send = search (crosses, values.crosses, sendable) depth 60 fits 20000
+job_field_send = search (bytes.the_send, crosses, values.crosses, sendable) depth 60 fits 20000
 
 event_send : IsSend (Event.the_field).row
-event_send = search (crosses, values.crosses, sendable) depth 60 fits 20000
+event_send = search (bytes.the_send, crosses, values.crosses, sendable) depth 60 fits 20000
 
 ending_send : IsSend (Ending.the_field).row
-ending_send = search (crosses, values.crosses, sendable) depth 60 fits 20000
+ending_send = search (bytes.the_send, crosses, values.crosses, sendable) depth 60 fits 20000
 
 request_send : IsSend (Request.the_field).row
 request_send = struct_send (shape Request.the_type) (event_send, tt)

@@ -7,6 +7,7 @@ use denote.Struct.Struct.{Struct}
 use Rattle.std.proofs.Crossing.{crosses, Vec-send, Vec-sync}
 use Rattle.std.specs.contracts.result.Result as Result
 use Rattle.std.specs.contracts.sync.Condvar as Condvar
+use Rattle.nob_bytes.proofs.owned.Bytes.TheSendSync as bytes
 use Rattle.nob_dirty.proofs.sets.DirtySets.TheSendSync as dirty
 use Rattle.nob_keeper.specs.contracts.held.Held as Held
 use Rattle.nob_keeper.specs.contracts.keeper.Keeper as Keeper
@@ -38,12 +39,12 @@ use Rattle.nob_trace.specs.contracts.stamped.Stamped as Stamped
 
 messages_send : IsSend (SlabList.the_row Message.the_row)
 messages_send =
-    let message : IsSend Message.the_row = search (copies.the_send, crosses, values.crosses, sendable) depth 60 fits 20000 in
+    let message : IsSend Message.the_row = search (copies.the_send, bytes.the_send, crosses, values.crosses, sendable) depth 60 fits 20000 in
     lists.the_send Message.the_row message
 
 runs_send : IsSend (SlabList.the_row Run.the_row)
 runs_send =
-    let run : IsSend Run.the_row = search (copies.the_send, crosses, values.crosses, sendable) depth 60 fits 20000 in
+    let run : IsSend Run.the_row = search (copies.the_send, bytes.the_send, crosses, values.crosses, sendable) depth 60 fits 20000 in
     lists.the_send Run.the_row run
 
 parts_send : IsSend (Struct (shape Parts.the_type))
@@ -64,10 +65,10 @@ pub space_send : IsSend Space.the_row
 space_send = view_send SpaceInside.the_row _ _ _ _ space_inside_send
 
 event_send : IsSend (Event.the_field).row
-event_send = search (crosses, values.crosses, sendable) depth 60 fits 20000
+event_send = search (bytes.the_send, crosses, values.crosses, sendable) depth 60 fits 20000
 
 answer_send : IsSend Answer.the_row
-answer_send = search (frames.the_send, crosses, values.crosses, sendable) depth 60 fits 20000
+answer_send = search (frames.the_send, bytes.the_send, crosses, values.crosses, sendable) depth 60 fits 20000
 
 result_send : IsSend (Result.the_field Answer.the_row Refusal.the_row).row
 result_send = search (answer_send, sendable) depth 60 fits 20000
