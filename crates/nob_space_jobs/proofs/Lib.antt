@@ -1,0 +1,4 @@
+pub mod Flat
+pub mod Targets
+pub mod Started
+pub mod Linked

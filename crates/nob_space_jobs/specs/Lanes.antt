@@ -1,6 +1,7 @@
 -- A lane for each target: how many jobs of it run, and which of its ready jobs come first and last. No public clause cites this module.
 use Rattle.std.specs.Prelude.{◌≡◌, ℕ, ◌==◌, Bool, false, not, ◌||◌, List, Option, Some, None, is_some, if◌then◌else◌}
-use Rattle.std.specs.Map.{lookup}
+use Rattle.std.specs.List.{IsDistinct}
+use Rattle.std.specs.Map.{keys_of, lookup}
 use Rattle.nob_space_jobs.specs.declared.lanes.Lane.{Lane}
 
 -- the lanes by target, and how many more fit without memory
@@ -16,14 +17,17 @@ is_target target other = target == other
 abbrev pub lane_at : List (ℕ × Lane) → ℕ → Option Lane
 lane_at rows target = lookup (is_target target) rows
 
+-- no target has two lanes
+abbrev pub AreApart : List (ℕ × Lane) → Type 0
+AreApart rows = IsDistinct is_target (keys_of rows)
+
 -- new has this lane at the target, and at every other one what old has
 abbrev pub PutsLane : List (ℕ × Lane) → List (ℕ × Lane) → ℕ → Option Lane → Type 0
 PutsLane old new target lane = (other : ℕ) → lane_at new other ≡ (if is_target target other then lane else lane_at old other)
 
 -- the lane with no ready jobs
-abbrev pub without_ready : Option Lane → Option Lane
-without_ready None = None
-without_ready (Some lane) = Some (record { runs = lane.runs; first = None; last = lane.last })
+abbrev pub without_ready : Lane → Lane
+without_ready lane = record { runs = lane.runs; first = None; last = lane.last }
 
 -- whether a job of the lane runs or is ready
 abbrev pub is_used : Lane → Bool

@@ -1,6 +1,7 @@
 //! A lane for each target.
 
 ghost use Rattle.std.specs.Prelude.{◌≡◌, ℕ, ◌+◌, ◌<◌, ◌≤◌, [], IsSome, None, Some, OnOk};
+ghost use Rattle.std.specs.Option.{option_map};
 ghost use Rattle.nob_space_jobs.specs.Lanes.{lane_at, PutsLane, without_ready, if_used};
 
 use indexmap::IndexMap;
@@ -32,6 +33,10 @@ impl Model for Lanes {
     ghost use Rattle.indexmap.specs.IndexMap.{spare};
 
     ghost view = { λ a. record { rows = a.map.entries; room = spare a.map } };
+
+    ghost use Rattle.nob_space_jobs.specs.Lanes.{AreApart};
+
+    ghost invariant = { λ a. AreApart a.map.entries };
 }
 
 impl Lanes {
@@ -92,12 +97,13 @@ impl Lanes {
     /// Leaves no lane a ready job. Linear in the lanes.
     pub fn forget_ready(&mut self)
         ensures lanes { (target : ℕ) → lane_at self.new.rows target
-            ≡ without_ready (lane_at self.old.rows target) }
-        ensures room { self.new.room ≡ self.old.room }
+            ≡ option_map without_ready (lane_at self.old.rows target) }
+        ensures room { self.old.room ≤ self.new.room }
     {
-        for lane in self.map.values_mut() {
+        self.map.retain(|_, lane| {
             lane.first = None;
-        }
+            true
+        });
     }
 
     /// Takes the lanes out of which no job runs or is ready. Linear in the lanes.

@@ -1,9 +1,10 @@
 //! The ready jobs of each target in line.
 
-ghost use Rattle.std.specs.Prelude.{◌≡◌, ℕ, ◌==◌, ◌+◌, ◌<◌, ◌≤◌, ◌^◌, [], length, IsSome, None, Some, Option, OnOk, if◌then◌else◌, false};
+ghost use Rattle.std.specs.Prelude.{◌≡◌, ℕ, ◌==◌, ◌&&◌, is_none, ◌+◌, ◌<◌, ◌≤◌, ◌^◌, [], length, IsSome, None, Some, Option, OnOk, if◌then◌else◌, false};
 ghost use Rattle.std.specs.Vec.{vec_capacity};
 ghost use Rattle.nob_marks.specs.Marks.{has, bound};
 ghost use Rattle.nob_space_jobs.specs.declared.lanes.Lane.{Lane as LaneOf};
+ghost use Rattle.std.specs.Option.{option_map};
 ghost use Rattle.nob_space_jobs.specs.Lanes.{lane_at, is_target, runs_in, without_ready, if_runs, PutsLane};
 ghost use Rattle.nob_space_jobs.specs.Lines.{AreLines, with_target, next_at, next_after, first_or};
 
@@ -108,7 +109,7 @@ impl Lines {
         let runs = lane.runs;
         let last = place;
         self.lanes.set(target, Lane { runs, first, last });
-        self.heads.write(place, lane.first.is_none() && runs == 0);
+        self.heads.write(place, is_clear(&lane));
     }
 
     /// The first job of a target, at this place, is claimed: it isn't ready any more, and runs.
@@ -189,9 +190,9 @@ impl Lines {
         ensures lines { AreLines (λ at. None) self.new.nexts.items self.new.lanes.rows
             self.new.heads }
         ensures lanes { (target : ℕ) → lane_at self.new.lanes.rows target
-            ≡ without_ready (lane_at self.old.lanes.rows target) }
+            ≡ option_map without_ready (lane_at self.old.lanes.rows target) }
         ensures nexts { self.new.nexts ≡ self.old.nexts }
-        ensures lanes_room { self.new.lanes.room ≡ self.old.lanes.room }
+        ensures lanes_room { self.old.lanes.room ≤ self.new.lanes.room }
         ensures heads_bound { bound self.new.heads ≡ bound self.old.heads }
     {
         self.lanes.forget_ready();
@@ -224,4 +225,11 @@ fn tie(nexts: &mut Vec<Option<usize>>, lane: &Lane, place: usize)
         nexts[lane.last] = Some(place);
     }
     nexts[place] = None;
+}
+
+// Whether no job of a lane runs or is ready.
+fn is_clear(lane: &Lane) -> bool
+    ensures { result ≡ (is_none lane.now.first && lane.now.runs == 0) }
+{
+    lane.first.is_none() && lane.runs == 0
 }
