@@ -196,9 +196,7 @@ impl Lines {
         ensures heads_bound { bound self.new.heads ≡ bound self.old.heads }
     {
         self.lanes.forget_ready();
-        for at in 0..all {
-            self.heads.write(at, false);
-        }
+        unmark_all(&mut self.heads, all);
     }
 }
 
@@ -232,4 +230,16 @@ fn is_clear(lane: &Lane) -> bool
     ensures { result ≡ (is_none lane.now.first && lane.now.runs == 0) }
 {
     lane.first.is_none() && lane.runs == 0
+}
+
+// Takes all marks away, before this place.
+fn unmark_all(heads: &mut Marks, all: usize)
+    requires bound { all ≤ bound heads.old }
+    requires past { (at : ℕ) → all ≤ at → has heads.old at ≡ false }
+    ensures none { (at : ℕ) → has heads.new at ≡ false }
+    ensures bound { bound heads.new ≡ bound heads.old }
+{
+    for at in 0..all {
+        heads.write(at, false);
+    }
 }
