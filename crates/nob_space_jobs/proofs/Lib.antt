@@ -4,5 +4,6 @@ pub mod Started
 pub mod Linked
 pub mod Heads
 pub mod Low
+pub mod Used
 pub mod Filled
 pub mod Counted

@@ -94,6 +94,8 @@ impl Lines {
             → ((at : ℕ) → place ≤ at → targets at ≡ None)
             → AreLines (with_target targets place (Some target)) self.new.nexts.items
             self.new.lanes.rows self.new.heads }
+        ensures lanes { (other : ℕ) → IsSome (lane_at self.old.lanes.rows other)
+            → IsSome (lane_at self.new.lanes.rows other) }
         ensures runs { (other : ℕ) → runs_in (lane_at self.new.lanes.rows other)
             ≡ runs_in (lane_at self.old.lanes.rows other) }
         ensures len { length self.new.nexts.items ≡ length self.old.nexts.items }

@@ -1,4 +1,4 @@
-use Rattle.std.proofs.Common.{◌≡◌, ℕ, length, Some, Option, is_some, sym, ap, subst, ◌∙◌, arith}
+use Rattle.std.proofs.Common.{◌≡◌, Some, sym, ◌∙◌}
 use Rattle.nob_space_jobs.specs.Lines.{before, target_at}
 use Rattle.nob_space_jobs.proofs.Filled.{before_had, before_past, lines_before_more}
 use Rattle.nob_space_jobs.proofs.Low.{last_low}
@@ -10,4 +10,4 @@ returns-clause-lines c =
     lines_before_more (target_at c.args.slots.now) c.args.at c.in-Some.target here (c.link.ensures.lines (before (target_at c.args.slots.now) c.args.at) c.requires.lines (λ k past. before_past (target_at c.args.slots.now) c.args.at k past))
 
 pub returns-clause-lanes : goal.returns-clause-lanes
-returns-clause-lanes c = ?
+returns-clause-lanes c at target e = c.link.ensures.lanes target (c.requires.lanes at target e)
