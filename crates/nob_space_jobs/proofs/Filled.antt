@@ -61,6 +61,11 @@ messages_few [] = omega arith
 messages_few (None ∷ slots) = let rest = messages_few slots in omega (arith, rest)
 messages_few (Some m ∷ slots) = let rest = messages_few slots in omega (arith, rest)
 
+pub filled_fewer : (old new : List (Option Message)) → new ≡ filter (λ slot. is_some slot) old → length new ≤ length old
+filled_fewer old new kept =
+    let few = messages_few old in
+    let filled = length_filled old in rw kept (omega (arith, few, filled))
+
 pub are_filled : (slots : List (Option Message)) → AreFilled (filter (λ slot. is_some slot) slots)
 are_filled [] at less = absurd (omega (arith, less))
 are_filled (None ∷ slots) at less = are_filled slots at less

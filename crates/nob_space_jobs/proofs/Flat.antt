@@ -1,5 +1,5 @@
 -- Lists: another element at a place, and one more behind the last.
-use Rattle.std.proofs.Common.{◌≡◌, ℕ, ◌<◌, List, [], ◌∷◌, ◌++◌, length, Some, slice_get, refl, ap, arith}
+use Rattle.std.proofs.Common.{◌≡◌, ℕ, ◌+◌, ◌<◌, List, [], ◌∷◌, ◌++◌, length, Some, slice_get, refl, ap, arith}
 use Prim.Native.Nat.{zero, suc}
 use lib.ListN.{set}
 use Rattle.std.proofs.lemmas.Option.{none-some}
@@ -18,9 +18,9 @@ get_set_other (a ∷ xs) (suc i) zero y other = refl
 get_set_other (a ∷ xs) (suc i) (suc j) y other = get_set_other xs i j y (λ e. other (ap suc e))
 
 -- ---- one more behind the last
-pub length_push : {A : Type 0} (xs : List A) (y : A) → length (xs ++ y ∷ []) ≡ suc (length xs)
-length_push [] y = refl
-length_push (x ∷ xs) y = ap suc (length_push xs y)
+pub length_push : {A : Type 0} (xs : List A) (y : A) → length (xs ++ y ∷ []) ≡ length xs + 1
+length_push [] y = omega arith
+length_push (x ∷ xs) y = let rest = length_push xs y in omega (arith, rest)
 
 pub get_push_here : {A : Type 0} (xs : List A) (y : A) → slice_get (xs ++ y ∷ []) (length xs) ≡ Some y
 get_push_here [] y = refl

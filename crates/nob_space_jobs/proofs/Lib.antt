@@ -5,5 +5,6 @@ pub mod Linked
 pub mod Heads
 pub mod Low
 pub mod Used
+pub mod Ends
 pub mod Filled
 pub mod Counted

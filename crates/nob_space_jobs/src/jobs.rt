@@ -200,6 +200,8 @@ impl Jobs {
         let Some(place) = self.lines.heads.first_from(0) else {
             unreachable!();
         };
+        // A target has no more jobs that run than there are.
+        let _runs = self.running.len();
         let Some(message) = start_at(&mut self.slots, &mut self.lines, place) else {
             unreachable!();
         };
