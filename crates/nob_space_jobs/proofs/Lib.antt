@@ -6,5 +6,6 @@ pub mod Heads
 pub mod Low
 pub mod Used
 pub mod Ends
+pub mod Passed
 pub mod Filled
 pub mod Counted

@@ -22,7 +22,7 @@ unreachable-requires c =
 pub start_at-requires-clause-few : goal.start_at-requires-clause-few
 start_at-requires-clause-few c target =
     let few = runs_few c.self.inside.running.items target in
-    let is = c.self.invariant.counted target in omega (arith, few, is, c.len-_runs.ensures.count, c.len-_runs.ensures.fits)
+    let is = c.self.invariant.counted target in omega (arith, few, is, c.len-runs.ensures.count, c.len-runs.ensures.fits)
 
 pub invariant_of-self : goal.invariant_of-self
 invariant_of-self c =
