@@ -26,6 +26,17 @@ target_emptied slots at k t e = elim (cases_eq at k) as (λ _. target_at slots k
   | inr ne ↦ ap (λ o. option_map (λ (n : Message). target_of n.item) (option_flatten o)) (sym (get_set_other slots at k None (λ x. ne (sym x)))) ∙ e
 ]
 
+-- what a message's slot holds
+pub slot_some : (slots : List (Option Message)) (place : ℕ) (m : Message) → message_at slots place ≡ Some m → Some m ≡ get_or slots place (Some m)
+slot_some [] place m e = absurd (none-some m e)
+slot_some (slot ∷ slots) zero m e = sym e
+slot_some (slot ∷ slots) (suc place) m e = slot_some slots place m e
+
+pub slot_none : (slots : List (Option Message)) (place : ℕ) → place < length slots → message_at slots place ≡ None → None ≡ get_or slots place None
+slot_none [] place under e = absurd (omega (arith, under))
+slot_none (slot ∷ slots) zero under e = sym e
+slot_none (slot ∷ slots) (suc place) under e = slot_none slots place (omega (arith, under)) e
+
 module _ {F : Type 0} (R : F → Message → Bool → F → Type 0) where
   -- a test that is called at one item more, the first
   filtered_more : (f next : F) (x : Message) (xs later : List Message) (keep : Bool) → R f x keep next → IsFiltered R next xs later → IsFiltered R f (x ∷ xs) (cond keep (x ∷ later) later)

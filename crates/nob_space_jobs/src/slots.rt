@@ -90,6 +90,15 @@ fn keep_filled(slots: &mut Vec<Option<Message>>)
     );
 }
 
+// Leaves a slot empty.
+fn empty_at(slots: &mut Vec<Option<Message>>, at: usize)
+    requires { at < length slots.old.items }
+    ensures slots { slots.new.items ≡ slice_set slots.old.items at None }
+    ensures capacity { vec_capacity slots.new ≡ vec_capacity slots.old }
+{
+    slots[at] = None;
+}
+
 /// Leaves the slots empty whose messages fail a test. Linear in the slots.
 pub fn drop_failing<F: FnMut(&Message) -> bool>(slots: &mut Vec<Option<Message>>, mut test: F)
     requires callable { F.IsAlwaysCallable test }
@@ -101,11 +110,11 @@ pub fn drop_failing<F: FnMut(&Message) -> bool>(slots: &mut Vec<Option<Message>>
     ensures capacity { vec_capacity slots.new ≡ vec_capacity slots.old }
 {
     for at in 0..slots.len() {
-        let Some(message) = &slots[at] else {
+        let Some(message) = message_at(slots, at) else {
             continue;
         };
         if !test(message) {
-            slots[at] = None;
+            empty_at(slots, at);
         }
     }
 }
