@@ -1,16 +1,16 @@
 -- The slots of ready jobs: their messages and targets after a change.
-use Rattle.std.proofs.Common.{◌≡◌, ℕ, zero, suc, ◌+◌, ◌-◌, ◌<◌, ◌≤◌, Bool, true, false, cond, List, [], ◌∷◌, ◌++◌, length, filter, find, slice_get, nat_lt, Option, Some, None, IsSome, is_some, inl, inr, refl, sym, ap, subst, ◌∙◌, arith, if◌then◌else◌}
+use Rattle.std.proofs.Common.{◌≡◌, ℕ, zero, suc, ◌+◌, ◌<◌, ◌≤◌, Bool, true, false, List, [], ◌∷◌, ◌++◌, length, filter, find, nat_lt, Option, Some, None, is_some, inl, inr, refl, sym, ap, subst, ◌∙◌, arith}
 use lib.ListN.{set}
 use Rattle.std.proofs.lemmas.Bool.{cases_eq, cases_lt, lt-ltb, le-ltb}
 use Rattle.std.proofs.lemmas.List.Elements.{filter_map-append}
-use Rattle.std.proofs.lemmas.Option.{none-some, same_Some, slice_get_past, slice_get_within}
+use Rattle.std.proofs.lemmas.Option.{none-some, same_Some, slice_get_past}
 use Rattle.std.specs.Option.{option_flatten, option_map}
 use Rattle.nob_model_words.specs.declared.message.Message.{Message}
 use Rattle.nob_model_work.specs.Work.{without_first}
 use Rattle.nob_model_acting.specs.Candidates.{target_of}
 use Rattle.nob_space_jobs.specs.declared.lanes.Lane.{Lane}
 use Rattle.nob_space_jobs.specs.Lines.{AreFilled, AreLines, IsNext, before, message_at, messages_in, next_at, target_at, with_target}
-use Rattle.nob_space_jobs.proofs.Flat.{get_push_here, get_push_other, get_set_other, get_set_same}
+use Rattle.nob_space_jobs.proofs.Flat.{get_push_here, get_push_other, get_set_other}
 use Rattle.nob_space_jobs.proofs.Targets.{wrote_here, wrote_other}
 
 -- ---- the first message that passes a test

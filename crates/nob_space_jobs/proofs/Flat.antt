@@ -1,5 +1,5 @@
 -- Lists: another element at a place, and one more behind the last.
-use Rattle.std.proofs.Common.{◌≡◌, ℕ, ◌+◌, ◌<◌, List, [], ◌∷◌, ◌++◌, length, Some, slice_get, refl, ap, arith}
+use Rattle.std.proofs.Common.{◌≡◌, ℕ, ◌+◌, List, [], ◌∷◌, ◌++◌, length, Some, slice_get, refl, ap, arith}
 use Prim.Native.Nat.{zero, suc}
 use lib.ListN.{set}
 use Rattle.std.proofs.lemmas.Option.{none-some}

@@ -1,9 +1,8 @@
 -- The first job that is marked is the first that may be claimed.
-use Rattle.std.proofs.Common.{◌≡◌, ℕ, ◌+◌, ◌<◌, ◌≤◌, ◌==◌, ◌&&◌, Bool, true, false, not, List, [], ◌∷◌, find, Option, Some, None, IsSome, inl, inr, refl, sym, ap, subst, ◌∙◌, arith, true≢false, eqb-true}
+use Rattle.std.proofs.Common.{◌≡◌, ℕ, ◌<◌, ◌≤◌, ◌==◌, Bool, true, false, not, List, find, Option, Some, None, inl, inr, refl, sym, ap, ◌∙◌, arith, true≢false, eqb-true}
 use lib.ListN.{set}
 use Rattle.std.proofs.lemmas.Bool.{and_parts, cases_lt, eq-eqb}
 use Rattle.std.proofs.lemmas.Cmp.{nat_eq_equiv}
-use Rattle.std.proofs.lemmas.Option.{none-some, same_Some}
 use Rattle.nob_marks.specs.Marks.{has, NoneFrom, NoneIn, IsFirst}
 use Rattle.nob_model_words.specs.declared.message.Message.{Message}
 use Rattle.nob_model_work.specs.declared.work.Run.{Run}
@@ -12,7 +11,7 @@ use Rattle.nob_model_acting.specs.Candidates.{target_of}
 use Rattle.nob_space_jobs.specs.declared.lanes.Lane.{Lane}
 use Rattle.nob_space_jobs.specs.Jobs.{is_free_of}
 use Rattle.nob_space_jobs.specs.Lanes.{lane_at, runs_in}
-use Rattle.nob_space_jobs.specs.Lines.{AreCounted, AreLines, IsLane, IsNext, has_target, is_head, is_head_of, is_place, message_at, messages_in, runs_of, target_at}
+use Rattle.nob_space_jobs.specs.Lines.{AreCounted, AreLines, IsLane, IsNext, is_head, is_head_of, is_place, message_at, messages_in, runs_of, target_at}
 use Rattle.nob_space_jobs.proofs.Counted.{running_runs}
 use Rattle.nob_space_jobs.proofs.Filled.{find_here, find_none, message_target, taken_here, target_message}
 use Rattle.nob_space_jobs.proofs.Targets.{clash}
@@ -84,8 +83,7 @@ module _ (slots : List (Option Message)) (running : List Run) {nexts : List (Opt
   -- the first marked job is the first that is free
   pub first_marked : (at : ℕ) → IsFirst heads 0 at → (m : Message) × (message_at slots at ≡ Some m) × (find (is_free_of running) (messages_in slots) ≡ Some m) × (messages_in (set slots at None) ≡ without_first (is_free_of running) (messages_in slots))
   first_marked at first =
-      let head = head_free at first.1 in
-      (
+      let head = head_free at first.1 in (
         head.0,
         head.1,
         find_here (is_free_of running) slots at head.0 head.1 head.2 (not_before at first.2),

@@ -1,5 +1,5 @@
 -- One ready job more, behind all others.
-use Rattle.std.proofs.Common.{◌≡◌, ℕ, ◌+◌, ◌<◌, ◌≤◌, ◌==◌, ◌&&◌, Bool, true, false, List, Option, Some, None, IsSome, is_some, ◌⊎◌, inl, inr, refl, sym, ap, subst, ◌∙◌, arith, if◌then◌else◌, eqb-true}
+use Rattle.std.proofs.Common.{◌≡◌, ℕ, ◌+◌, ◌<◌, ◌≤◌, ◌==◌, ◌&&◌, Bool, true, false, List, Option, Some, None, is_some, ◌⊎◌, inl, inr, refl, sym, ap, subst, ◌∙◌, arith, if◌then◌else◌, eqb-true}
 use Rattle.std.proofs.lemmas.Bool.{cases_eq, cases_lt, ne_eqb, eq-eqb, and_parts, and_right, eqb-false}
 use Rattle.std.proofs.lemmas.Cmp.{nat_eq_equiv}
 use Rattle.std.proofs.lemmas.Option.{none-some, same_Some}
@@ -87,8 +87,7 @@ module _ (T : ℕ → Option ℕ) (nexts tied : List (Option ℕ)) (lanes new : 
       let here : lane.last ≡ at = eqb-true lane.last at parts.1 in
       let l : IsLast T target lane.last = lane_is.1 parts.0 in
       let same : target ≡ t = same_Some target t (sym l.0 ∙ ap T here ∙ was) in
-      let less : at < place = low T place target above t at was in
-      (
+      let less : at < place = low T place target above t at was in (
         omega (arith, less),
         wrote_here T place (Some target) ∙ ap Some same,
         λ k le under. kept T place target above t k (λ e. omega (arith, under, e)) (subst (λ u. has_target u (T k) ≡ false) same (l.1 k (omega (arith, le, here)))),

@@ -1,5 +1,5 @@
 -- Lanes that aren't used go.
-use Rattle.std.proofs.Common.{◌≡◌, ℕ, ◌==◌, ◌&&◌, ◌||◌, Bool, true, false, not, List, Option, Some, None, IsSome, is_some, refl, sym, ap, subst, ◌∙◌, arith, if◌then◌else◌, true≢false}
+use Rattle.std.proofs.Common.{◌≡◌, ℕ, ◌==◌, ◌||◌, Bool, true, false, not, List, Option, Some, None, IsSome, is_some, refl, sym, ap, subst, ◌∙◌, arith, if◌then◌else◌, true≢false}
 use Rattle.std.proofs.lemmas.Bool.{and_right}
 use Rattle.std.specs.Option.{option_map}
 use Rattle.nob_space_jobs.specs.declared.lanes.Lane.{Lane}

@@ -36,8 +36,7 @@ fn write_tally(rt: &HostRuntime, targets: u64, tally: &Tally) -> io::Result<()> 
         retained,
         most,
     } = *tally;
-    println!(
-        rt;
+    println!(rt;
         "{targets} targets: {same} of {steps} steps the same; {pushed} pushed, {claimed} claimed, {ended} ended, {retained} closes, at most {most} ready"
     )
 }

@@ -11,8 +11,7 @@ use Rattle.nob_space_jobs.proofs.slots.drop_failing.Goals as goal
 pub loop-at-preserved-in_default : goal.loop-at-preserved-in_default
 loop-at-preserved-in_default g c =
     let under : c.loop-at.at < length c.loop-at.slots.items = omega (arith, c.loop-at-test.true, c.loop-at.invariant.3, c.len-at-end.ensures) in
-    let none : message_at c.loop-at.slots.items c.loop-at.at ≡ None = ap (λ slots. message_at slots c.loop-at.at) (sym c.deref.ensures.value) ∙ sym c.message_at.ensures ∙ ap option_copied c.in_default.is in
-    (
+    let none : message_at c.loop-at.slots.items c.loop-at.at ≡ None = ap (λ slots. message_at slots c.loop-at.at) (sym c.deref.ensures.value) ∙ sym c.message_at.ensures ∙ ap option_copied c.in_default.is in (
       c.loop-at.invariant.0,
       passed_empty (CalledAt g.F.FnMut) c.args.test c.loop-at.test (messages_in c.args.slots.now.items) c.loop-at.slots.items c.loop-at.at under (slot_none c.loop-at.slots.items c.loop-at.at under none) c.loop-at.invariant.1,
       c.loop-at.invariant.2,

@@ -1,7 +1,6 @@
 use Rattle.std.proofs.Common.{◌≡◌, Some, sym, ◌∙◌}
 use Rattle.nob_space_jobs.specs.Lines.{before, target_at}
-use Rattle.nob_space_jobs.proofs.Filled.{before_had, before_past, lines_before_more}
-use Rattle.nob_space_jobs.proofs.Low.{last_low}
+use Rattle.nob_space_jobs.proofs.Filled.{before_past, lines_before_more}
 use Rattle.nob_space_jobs.proofs.slots.link_at.Goals as goal
 
 pub returns-clause-lines : goal.returns-clause-lines

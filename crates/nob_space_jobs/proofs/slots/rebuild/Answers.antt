@@ -1,4 +1,4 @@
-use Rattle.std.proofs.Common.{◌≡◌, length, filter, refl, is_some, IsSome, Some, sym, ap, subst, ◌∙◌, arith}
+use Rattle.std.proofs.Common.{◌≡◌, length, filter, refl, is_some, IsSome, sym, ap, subst, ◌∙◌, arith}
 use Rattle.nob_space_jobs.specs.Lanes.{lane_at, without_ready}
 use Rattle.nob_space_jobs.specs.Lines.{AreFilled, AreLines, target_at}
 use Rattle.nob_space_jobs.proofs.Filled.{are_filled, filled_fewer, filled_had}

@@ -2,7 +2,6 @@ use Rattle.std.proofs.Common.{◌≡◌, ◌+◌, ◌∷◌, ℕ, IsSome, None, 
 use Rattle.std.proofs.lemmas.List.{length-set}
 use Rattle.std.proofs.lemmas.Option.{same_Some}
 use Rattle.std.specs.Vec.{vec_capacity}
-use Rattle.nob_marks.specs.Marks.{bound}
 use Rattle.nob_model_words.specs.declared.message.Message.{Message}
 use Rattle.nob_model_acting.specs.Candidates.{target_of}
 use Rattle.nob_space_jobs.specs.Jobs.{is_free_of}

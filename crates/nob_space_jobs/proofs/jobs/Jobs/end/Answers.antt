@@ -1,4 +1,4 @@
-use Rattle.std.proofs.Common.{◌≡◌, filter, not, sym, ap, ◌∙◌}
+use Rattle.std.proofs.Common.{filter, not, sym, ap, ◌∙◌}
 use Rattle.nob_model_work.specs.Work.{is_run}
 use Rattle.nob_space_jobs.proofs.Ends.{none_ends, one_ends}
 use Rattle.nob_space_jobs.proofs.jobs.Jobs.end.Goals as goal

@@ -1,4 +1,4 @@
-use Rattle.std.proofs.Common.{◌≡◌, ◌+◌, ◌<◌, ℕ, length, remove, refl, sym, ap, subst, ◌∙◌, arith, if◌then◌else◌}
+use Rattle.std.proofs.Common.{◌≡◌, ◌+◌, ◌<◌, ℕ, length, remove, refl, sym, ap, ◌∙◌, arith, if◌then◌else◌}
 use Rattle.std.specs.Vec.{vec_capacity}
 use Rattle.nob_model_acting.specs.Candidates.{target_of}
 use Rattle.nob_space_jobs.specs.Lanes.{is_target, lane_at, runs_in}

@@ -1,8 +1,7 @@
-use Rattle.std.proofs.Common.{◌≡◌, ◌≤◌, ◌+◌, ℕ, length, Some, None, sym, ap, subst, ◌∙◌, arith}
+use Rattle.std.proofs.Common.{◌≡◌, ◌+◌, length, Some, None, ap, ◌∙◌, arith}
 use Rattle.std.specs.Vec.{vec_capacity}
 use Rattle.nob_marks.specs.Marks.{bound}
-use Rattle.nob_model_acting.specs.Candidates.{target_of}
-use Rattle.nob_space_jobs.specs.Lines.{AreLines, messages_in, target_at, with_target}
+use Rattle.nob_space_jobs.specs.Lines.{AreLines, messages_in, target_at}
 use Rattle.nob_space_jobs.proofs.Filled.{lines_pushed, lines_widened, messages_few, messages_push, target_low, target_past}
 use Rattle.nob_space_jobs.proofs.Flat.{length_push}
 use Rattle.nob_space_jobs.proofs.Low.{last_low}

@@ -1,4 +1,4 @@
-use Rattle.std.proofs.Common.{◌≡◌, ℕ, ◌==◌, ◌&&◌, Bool, true, false, Some, Option, IsSome, refl, sym, subst, ◌∙◌, if◌then◌else◌}
+use Rattle.std.proofs.Common.{◌≡◌, ℕ, ◌==◌, Bool, true, false, Some, Option, IsSome, refl, sym, subst, ◌∙◌, if◌then◌else◌}
 use Rattle.nob_marks.specs.Marks.{has}
 use Rattle.nob_space_jobs.specs.declared.lanes.Lane.{Lane}
 use Rattle.nob_space_jobs.specs.Lanes.{is_target, lane_at, PutsLane}
