@@ -1,0 +1,11 @@
+pub mod Flat
+pub mod Targets
+pub mod Started
+pub mod Linked
+pub mod Heads
+pub mod Low
+pub mod Used
+pub mod Ends
+pub mod Passed
+pub mod Filled
+pub mod Counted

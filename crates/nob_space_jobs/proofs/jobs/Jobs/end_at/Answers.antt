@@ -1,0 +1,39 @@
+use Rattle.std.proofs.Common.{◌≡◌, ◌+◌, ◌<◌, ℕ, length, remove, refl, sym, ap, ◌∙◌, arith, if◌then◌else◌}
+use Rattle.std.specs.Vec.{vec_capacity}
+use Rattle.nob_model_acting.specs.Candidates.{target_of}
+use Rattle.nob_space_jobs.specs.Lanes.{is_target, lane_at, runs_in}
+use Rattle.nob_space_jobs.specs.Lines.{runs_of, target_at}
+use Rattle.nob_space_jobs.proofs.Counted.{counted_less, runs_removed, runs_some}
+use Rattle.nob_space_jobs.proofs.Filled.{target_low}
+use Rattle.nob_space_jobs.proofs.Low.{first_low}
+use Rattle.nob_space_jobs.proofs.jobs.Jobs.end_at.Goals as goal
+
+pub end-requires-clause-runs : goal.end-requires-clause-runs
+end-requires-clause-runs c =
+    let under : c.args.place < length c.self.inside.running.items = rw (← c.self.view_is) at c.requires in
+    let some : 0 < runs_of c.self.inside.running.items (target_of c.remove-run.result.message.item) = runs_some c.self.inside.running.items c.args.place c.remove-run.result under c.remove-run.ensures.value in
+    rw (c.target_of.ensures, c.self.invariant.counted (target_of c.remove-run.result.message.item)) some
+
+pub end-requires-clause-first : goal.end-requires-clause-first
+end-requires-clause-first c other place lane its first =
+    let under = first_low c.self.invariant.lines (length c.self.inside.slots.items) (target_low c.self.inside.slots.items) other lane its place first in
+    omega (arith, under, c.self.invariant.heads_room)
+
+pub invariant_of-self : goal.invariant_of-self
+invariant_of-self c =
+    let under : c.args.place < length c.self.inside.running.items = rw (← c.self.view_is) at c.requires in
+    let ends : (t : ℕ) → runs_in (lane_at c.self.inside.lines.lanes.rows t) ≡ (if is_target (target_of c.remove-run.result.message.item) t then 1 + runs_in (lane_at c.end.new.self.lanes.rows t) else runs_in (lane_at c.end.new.self.lanes.rows t)) =
+    rw c.target_of.ensures at c.end.ensures.runs in
+    let same : length c.end.new.self.nexts.items ≡ length c.self.inside.lines.nexts.items = rw c.end.ensures.nexts refl in
+    let caps : vec_capacity c.end.new.self.nexts ≡ vec_capacity c.self.inside.lines.nexts = ap vec_capacity c.end.ensures.nexts in
+    record {
+      lines = c.end.ensures.lines (target_at c.self.inside.slots.items) c.self.invariant.lines;
+      counted = λ t. rw c.remove-run.ensures.items (counted_less (is_target (target_of c.remove-run.result.message.item) t) (runs_in (lane_at c.end.new.self.lanes.rows t)) (runs_of (remove c.self.inside.running.items c.args.place) t)
+          (sym (ends t) ∙ c.self.invariant.counted t ∙ runs_removed c.self.inside.running.items c.args.place c.remove-run.result t under c.remove-run.ensures.value));
+      beside = same ∙ c.self.invariant.beside;
+      count = c.self.invariant.count;
+      slots_room = c.self.invariant.slots_room;
+      nexts_room = omega (arith, caps, c.self.invariant.nexts_room);
+      lanes_room = omega (arith, c.end.ensures.lanes_room, c.self.invariant.lanes_room);
+      heads_room = omega (arith, c.end.ensures.heads_bound, c.self.invariant.heads_room);
+    }

@@ -1,0 +1,275 @@
+//! The jobs of a space.
+
+ghost use Rattle.std.specs.Prelude.{◌≡◌, ◌+◌, ◌^◌, ◌<◌, ◌≤◌, [], ◌∷◌, ◌++◌, length, filter, find, not, IsSome, Some, OnOk, remove};
+ghost use Rattle.std.specs.Fn.{CalledAt};
+ghost use Rattle.std.specs.List.{position};
+ghost use Rattle.std.specs.List.Retain.{IsFiltered};
+ghost use Rattle.std.specs.Option.{option_map};
+ghost use Rattle.nob_model_words.specs.declared.message.Message.{Message as MessageOf};
+ghost use Rattle.nob_model_work.specs.Work.{is_run, without_first};
+ghost use Rattle.nob_space_jobs.specs.Jobs.{is_free_of};
+
+use crate::lines::Lines;
+use crate::ready::ReadyIter;
+use crate::slots::{drop_failing, message_at, rebuild, start_at};
+use nob_ids::JobNo;
+use nob_model_acting::candidates::target_of;
+use nob_model_words::Message;
+use nob_model_work::Run;
+use nob_space_list::SlabList;
+use std::alloc::{AllocError, Global};
+use std::marker::Model;
+
+/// The ready jobs, in order of becoming ready, and the jobs that run, the newest first. Contracts
+/// see both lists, and for how many more of each there is room.
+///
+/// Each ready job has a slot, in their order. The slot of a job that was claimed is empty; once more
+/// than half of the slots are, all empty ones are cleared in place. The ready jobs of one target
+/// stand in line: the first of them is marked while no job of the target runs, so the first that is
+/// marked is the first that may be claimed.
+pub struct Jobs {
+    slots: Vec<Option<Message>>,
+    lines: Lines,
+    // How many slots aren't empty.
+    live: usize,
+    // How many more ready jobs fit.
+    room: usize,
+    running: SlabList<Run>,
+}
+
+// By hand, so that the lists are taken apart here alone and not at each end of each caller.
+impl Drop for Jobs {
+    fn drop(self) {
+        let Jobs {
+            slots: _,
+            lines: _,
+            live: _,
+            room: _,
+            running: _,
+        } = self;
+    }
+}
+
+impl Model for Jobs {
+    ghost use Rattle.nob_space_jobs.specs.Jobs.{JobLists};
+
+    ghost Value = { JobLists };
+
+    ghost use Rattle.std.specs.Coded.{codes};
+    ghost use Rattle.nob_pickle.specs.Marks.{trees_code};
+
+    ghost coded = { Prim.hlevel (codes, trees_code) };
+
+    ghost use Rattle.std.specs.Vec.{vec_capacity};
+    ghost use Rattle.nob_space_jobs.specs.Lines.{AreJobs, messages_in};
+
+    ghost view = { λ a. record {
+      ready = messages_in a.slots.items;
+      running = a.running.items;
+      ready_room = a.room;
+      running_room = a.running.room;
+    } };
+
+    ghost invariant = { λ a. AreJobs a.slots.items (vec_capacity a.slots) a.lines.nexts.items
+        (vec_capacity a.lines.nexts) a.lines.lanes a.lines.heads a.live a.room a.running.items };
+}
+
+// Whether a job has this number.
+fn is_run(job: JobNo, run: &Run) -> bool
+    ensures { result ≡ is_run job run.now }
+{
+    run.job == job
+}
+
+impl Jobs {
+    /// No jobs. It takes no memory before the first.
+    pub fn new(alloc: Global) -> Jobs
+        ensures ready { result.ready ≡ [] }
+        ensures running { result.running ≡ [] }
+    {
+        Jobs {
+            slots: Vec::new(alloc),
+            lines: Lines::new(alloc),
+            live: 0,
+            room: 0,
+            running: SlabList::new(alloc),
+        }
+    }
+
+    /// How many jobs are ready. Constant time.
+    pub fn ready_len(&self) -> usize
+        ensures { result ≡ length self.now.ready }
+    {
+        self.live
+    }
+
+    /// How many jobs run. Constant time.
+    pub fn running_len(&self) -> usize
+        ensures { result ≡ length self.now.running }
+    {
+        self.running.len()
+    }
+
+    /// The ready jobs, one after the other.
+    pub fn ready(&self) -> ReadyIter<'_>
+        ensures items { result ≡ self.now.ready }
+        ensures fits { length result < 2 ^ 64 }
+    {
+        ReadyIter { slots: &self.slots }
+    }
+
+    /// The jobs that run.
+    pub fn running(&self) -> &SlabList<Run>
+        ensures { result.now.items ≡ self.now.running }
+    {
+        &self.running
+    }
+
+    /// Makes room for so many more ready jobs. Only memory fails it, and the jobs are the same in
+    /// any case. Constant time on average.
+    pub fn reserve_ready(&mut self, additional: usize) -> Result<(), AllocError>
+        ensures ready { self.new.ready ≡ self.old.ready }
+        ensures running { self.new.running ≡ self.old.running }
+        ensures ready_room { self.old.ready_room ≤ self.new.ready_room }
+        ensures running_room { self.new.running_room ≡ self.old.running_room }
+        ensures ok { OnOk result (additional ≤ self.new.ready_room) }
+    {
+        if additional <= self.room {
+            return Ok(());
+        }
+        self.slots.reserve(additional)?;
+        self.lines.reserve(additional)?;
+        self.room = additional;
+        Ok(())
+    }
+
+    /// Makes room for so many more jobs that run. Only memory fails it, and the jobs are the same
+    /// in any case. Constant time on average.
+    pub fn reserve_running(&mut self, additional: usize) -> Result<(), AllocError>
+        ensures ready { self.new.ready ≡ self.old.ready }
+        ensures running { self.new.running ≡ self.old.running }
+        ensures ready_room { self.new.ready_room ≡ self.old.ready_room }
+        ensures ok { OnOk result (additional ≤ self.new.running_room) }
+    {
+        self.running.reserve(additional)
+    }
+
+    /// One job more is ready, where there is room for it. It takes no memory. A few look-ups.
+    pub fn push(&mut self, message: Message)
+        requires { 0 < self.old.ready_room }
+        ensures ready { self.new.ready ≡ self.old.ready ++ message ∷ [] }
+        ensures running { self.new.running ≡ self.old.running }
+        ensures ready_room { self.new.ready_room + 1 ≡ self.old.ready_room }
+        ensures running_room { self.new.running_room ≡ self.old.running_room }
+    {
+        let target = target_of(&message.item);
+        let place = self.slots.len();
+        self.slots.push_reserved(Some(message));
+        self.lines.nexts.push_reserved(None);
+        self.lines.open(target);
+        self.lines.link(place, target);
+        self.live += 1;
+        self.room -= 1;
+    }
+
+    /// The first ready job whose target isn't running. It looks at a few words of bits, and passes
+    /// no job.
+    pub fn first_free(&self) -> Option<&Message>
+        ensures { option_map (λ message. message.now) result
+            ≡ find (is_free_of self.now.running) self.now.ready }
+    {
+        let Some(place) = self.lines.heads.first_from(0) else {
+            return None;
+        };
+        message_at(&self.slots, place)
+    }
+
+    /// The first ready job whose target isn't running is claimed: it runs under this number. It
+    /// takes no memory. Constant time on average, and linear in the jobs that run, of which only
+    /// keys move.
+    pub fn claim(&mut self, job: JobNo)
+        requires free { IsSome (find (is_free_of self.old.running) self.old.ready) }
+        requires room { 0 < self.old.running_room }
+        ensures ready { self.new.ready
+            ≡ without_first (is_free_of self.old.running) self.old.ready }
+        ensures running { (message : MessageOf)
+            → find (is_free_of self.old.running) self.old.ready ≡ Some message
+            → self.new.running ≡ record { job = job; message = message } ∷ self.old.running }
+        ensures ready_room { self.new.ready_room ≡ self.old.ready_room }
+    {
+        let Some(place) = self.lines.heads.first_from(0) else {
+            unreachable!();
+        };
+        // A target has no more jobs that run than there are.
+        let _runs = self.running.len();
+        let Some(message) = start_at(&mut self.slots, &mut self.lines, place) else {
+            unreachable!();
+        };
+        self.live -= 1;
+        self.running.push_front(Run { job, message });
+        self.tidy();
+    }
+
+    // Clears the empty slots once they are more than half.
+    fn tidy(&mut self)
+        ensures ready { self.new.ready ≡ self.old.ready }
+        ensures running { self.new.running ≡ self.old.running }
+        ensures ready_room { self.new.ready_room ≡ self.old.ready_room }
+        ensures running_room { self.new.running_room ≡ self.old.running_room }
+    {
+        if self.live < self.slots.len() / 2 {
+            rebuild(&mut self.slots, &mut self.lines);
+        }
+    }
+
+    /// The job that runs under this number. Linear in the jobs that run.
+    pub fn find_run(&self, job: JobNo) -> Option<&Run>
+        ensures { option_map (λ run. run.now) result ≡ find (is_run job) self.now.running }
+    {
+        self.running.iter().find(|run| is_run(job, run))
+    }
+
+    /// Ends the jobs of this number. It takes no memory. Linear in the jobs that run.
+    pub fn end(&mut self, job: JobNo)
+        ensures ready { self.new.ready ≡ self.old.ready }
+        ensures running { self.new.running
+            ≡ filter (λ run. not (is_run job run)) self.old.running }
+        ensures ready_room { self.new.ready_room ≡ self.old.ready_room }
+    {
+        while let Some(place) = self.place_of(job) {
+            self.end_at(place);
+        }
+    }
+
+    // The place of the first job of this number.
+    fn place_of(&self, job: JobNo) -> Option<usize>
+        ensures { result ≡ position (is_run job) self.now.running }
+    {
+        self.running.iter().position(|run| is_run(job, run))
+    }
+
+    // Ends the job at a place.
+    fn end_at(&mut self, place: usize)
+        requires { place < length self.old.running }
+        ensures ready { self.new.ready ≡ self.old.ready }
+        ensures running { self.new.running ≡ remove self.old.running place }
+        ensures ready_room { self.new.ready_room ≡ self.old.ready_room }
+    {
+        let run = self.running.remove(place);
+        self.lines.end(target_of(&run.message.item));
+    }
+
+    /// Keeps the ready jobs at which a test answers `true`, in their order, and drops the others. It
+    /// takes no memory. Linear in the ready jobs and the targets, and in what dropping costs.
+    pub fn retain_ready<F: FnMut(&Message) -> bool>(&mut self, test: F)
+        requires { F.IsAlwaysCallable test }
+        ensures ready { IsFiltered (CalledAt F.FnMut) test self.old.ready self.new.ready }
+        ensures running { self.new.running ≡ self.old.running }
+        ensures ready_room { self.new.ready_room ≡ self.old.ready_room }
+        ensures running_room { self.new.running_room ≡ self.old.running_room }
+    {
+        drop_failing(&mut self.slots, test);
+        rebuild(&mut self.slots, &mut self.lines);
+        self.live = self.slots.len();
+    }
+}
