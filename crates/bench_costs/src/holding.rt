@@ -18,7 +18,7 @@ const MOST_ITEMS: usize = 64;
 // How many bytes the argument of a call has.
 const SMALL: usize = 8;
 
-const LARGE: usize = 16_000;
+const LARGE: usize = 8_000;
 
 /// Has the spaces hold what a task says: the references that the second has in hand then.
 pub(crate) fn hold(

@@ -16,7 +16,7 @@ pub(crate) enum Kept {
     Answered,
     /// The first space has sent items of a few bytes, of which the second knows nothing.
     Small,
-    /// The first space has sent items of some 16,000 bytes, of which the second knows nothing.
+    /// The first space has sent items of some 8,000 bytes, of which the second knows nothing.
     Large,
 }
 
