@@ -123,9 +123,11 @@ fn one_call(owner: &mut Space, client: &mut Space) -> Result<(), SpaceError> {
 // The whole life of a reference: exported, sent in a call, asked for and granted, settled, given up
 // and withdrawn.
 fn one_life(owner: &mut Space, client: &mut Space) -> Result<(), SpaceError> {
-    let Answer::Exported(rep) = owner.step(&Event::Export)? else {
+    let exported = owner.step(&Event::Export)?;
+    let Answer::Exported(rep) = &exported else {
         return Ok(());
     };
+    let rep = *rep;
     let call = call_with(owner, client.id(), &rep)?;
     carry(owner, client)?;
     carry(client, owner)?;
@@ -156,8 +158,8 @@ fn call_with(space: &mut Space, other: SpaceId, rep: &WireRep) -> Result<CallNo,
         method: METHOD,
         value: Value::Ref(*rep),
     };
-    match space.step(&event)? {
-        Answer::Called(call) => Ok(call),
+    match &space.step(&event)? {
+        Answer::Called(call) => Ok(*call),
         _ => Err(SpaceError::Refused(Refusal::NoCall)),
     }
 }
@@ -171,7 +173,7 @@ fn withdraw(space: &mut Space, rep: &WireRep) -> Result<(), SpaceError> {
 
 // Claims a job.
 fn claim(space: &mut Space) -> Result<JobNo, SpaceError> {
-    match space.step(&Event::Claim)? {
+    match &space.step(&Event::Claim)? {
         Answer::Job(job) => Ok(job.job),
         _ => Err(SpaceError::Refused(Refusal::NoJob)),
     }
