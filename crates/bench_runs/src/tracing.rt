@@ -63,8 +63,8 @@ fn with_entry(mut entries: Entries, stamp: u64, entry: &Entry) -> Result<Entries
 }
 
 // The same result.
-fn copy_of(result: &Result<Answer, Refusal>) -> Result<Result<Answer, Refusal>, AllocError> {
-    match result {
+fn copy_of(told: &Result<Answer, Refusal>) -> Result<Result<Answer, Refusal>, AllocError> {
+    match told {
         Ok(answer) => Ok(Ok(answer.copy()?)),
         Err(refusal) => Ok(Err(*refusal)),
     }
