@@ -1,7 +1,6 @@
 -- How the calls and the ready replies are kept. No public clause cites this module.
 use Rattle.std.specs.Prelude.{◌≡◌, ℕ, ◌+◌, ◌^◌, ◌<◌, ◌≤◌, Bool, true, false, List, [], ◌∷◌, map, length, slice_get, Option, Some, None, if◌then◌else◌}
 use Rattle.std.specs.List.{AllByRecursion}
-use Rattle.std.specs.Map.{remove_entry}
 use Rattle.std.specs.Option.{option_map}
 use Rattle.nob_item.specs.declared.item.Item.{Item}
 use Rattle.nob_model_words.specs.declared.message.Message.{Message}
@@ -71,17 +70,22 @@ abbrev pub next_first : Option ℕ → Option First
 next_first None = None
 next_first (Some stamp) = Some (record { stamp = stamp; alone = false })
 
+-- how many replies to a call there are
+abbrev pub reply_count : ℕ → List (ℕ × Message) → ℕ
+reply_count k [] = 0
+reply_count k (row ∷ rows) = (if is_reply k row.1 then 1 else 0) + reply_count k rows
+
 -- each call that has ready replies has the stamp of the first, and where it says alone there are no others
 pub record AreFirsts (rows : List (ℕ × Message)) (firsts : List (ℕ × First)) : Type 0 where
   pub stamps : (k : ℕ) → option_map (λ first. first.stamp) (item_at firsts k) ≡ first_stamp k rows
-  pub alone : (k : ℕ) (first : First) → item_at firsts k ≡ Some first → first.alone ≡ true → first_stamp k (remove_entry (is_number first.stamp) rows) ≡ None
+  pub alone : (k : ℕ) (first : First) → item_at firsts k ≡ Some first → first.alone ≡ true → reply_count k rows ≤ 1
 
 -- what holds of the replies under stamps, of the entries by call number, of the next stamp and of the room
 pub record AreReady (next room : ℕ) (rows : List (ℕ × Message)) (rows_room : ℕ) (firsts : List (ℕ × First)) (firsts_room : ℕ) : Type 0 where
   pub rising : IsRising rows
   pub below : slots.IsAbove rows next
-  pub firsts : AreFirsts rows firsts
-  pub rows_room : room ≤ rows_room
-  pub firsts_room : room ≤ firsts_room
+  pub stamped : AreFirsts rows firsts
+  pub fits_rows : room ≤ rows_room
+  pub fits_firsts : room ≤ firsts_room
   -- the stamps can be counted
   pub small : next + room < 2 ^ 64

@@ -1,9 +1,9 @@
 //! The calls.
 
-ghost use Rattle.std.specs.Prelude.{◌≡◌, ◌+◌, ◌<◌, ◌≤◌, ◌++◌, ◌∷◌, [], None, not, length, filter, find, map, nat_lt, vec_capacity, MatchOption, IsOk, OnOk};
+ghost use Rattle.std.specs.Prelude.{◌≡◌, ◌+◌, ◌<◌, ◌≤◌, ◌++◌, ◌∷◌, [], None, not, length, filter, find, map, nat_lt, vec_capacity, option_copied, slice_get, MatchOption, IsOk, OnOk};
 ghost use Rattle.std.specs.List.{list_any};
 ghost use Rattle.nob_model_work.specs.Work.{is_call, stage_after_reply, call_after_reply, call_after_close};
-ghost use Rattle.nob_model_acting.specs.Acting.{awaits_reply};
+ghost use Rattle.nob_model_acting.specs.Acting.{awaits_reply, is_sent};
 ghost use Rattle.nob_space_calls.specs.Calls.{IsAbove};
 ghost use Rattle.nob_space_calls.specs.Rows.{AreRising, IsPoint, IsPlace};
 
@@ -45,6 +45,13 @@ fn count_below(calls: &[OwnCall], call: CallNo) -> usize
     )
 }
 
+// The call at a place.
+fn own_at(calls: &[OwnCall], at: usize) -> Option<&OwnCall>
+    ensures { option_copied result ≡ slice_get calls.now at }
+{
+    calls.get(at)
+}
+
 // The place of the call of this number. Logarithmic in the calls.
 fn place_of(calls: &[OwnCall], call: CallNo) -> Option<usize>
     requires { AreRising calls.now }
@@ -52,13 +59,50 @@ fn place_of(calls: &[OwnCall], call: CallNo) -> Option<usize>
         (λ place. IsPlace calls.now call place) }
 {
     let at = count_below(calls, call);
-    let Some(own) = calls.get(at) else {
+    let Some(own) = own_at(calls, at) else {
         return None;
     };
     if own.call != call {
         return None;
     }
     Some(at)
+}
+
+// The call of this number. Logarithmic in the calls.
+fn find_call(calls: &[OwnCall], call: CallNo) -> Option<OwnCall>
+    requires { AreRising calls.now }
+    ensures { result ≡ find (is_call call) calls.now }
+{
+    let Some(place) = place_of(calls, call) else {
+        return None;
+    };
+    Some(calls[place])
+}
+
+// Whether no Reply to a call was acted on, and it hasn't ended.
+fn is_sent(stage: Stage) -> bool
+    ensures { result ≡ is_sent stage }
+{
+    matches!(stage, Stage::Sent)
+}
+
+// Whether a call was made to a space and waits for its Reply.
+fn awaits_reply(peer: SpaceId, call: CallNo, own: &OwnCall) -> bool
+    ensures { result ≡ awaits_reply peer call own.now }
+{
+    own.call == call && own.to == peer && is_sent(own.stage)
+}
+
+// Whether the call of this number was made to a space and waits for its Reply. Logarithmic in the
+// calls.
+fn is_awaited(calls: &[OwnCall], peer: SpaceId, call: CallNo) -> bool
+    requires { AreRising calls.now }
+    ensures { result ≡ list_any (awaits_reply peer call) calls.now }
+{
+    let Some(place) = place_of(calls, call) else {
+        return false;
+    };
+    awaits_reply(peer, call, &calls[place])
 }
 
 // The stage of a call after a Reply, by whether it answers the call.
@@ -157,8 +201,7 @@ impl Rows {
     pub(crate) fn get(&self, call: CallNo) -> Option<OwnCall>
         ensures { result ≡ find (is_call call) self.now.calls }
     {
-        let place = place_of(&self.calls, call)?;
-        Some(self.calls[place])
+        find_call(&self.calls, call)
     }
 
     // Takes the call of this number out.
@@ -176,10 +219,7 @@ impl Rows {
     pub(crate) fn awaits(&self, peer: SpaceId, call: CallNo) -> bool
         ensures { result ≡ list_any (awaits_reply peer call) self.now.calls }
     {
-        match self.get(call) {
-            Some(own) => own.to == peer && own.stage == Stage::Sent,
-            None => false,
-        }
+        is_awaited(&self.calls, peer, call)
     }
 
     // A Reply from a space answers the call of this number.

@@ -1,0 +1,1 @@
+-- Replies under stamps, and the stamps of the first ones.
