@@ -113,7 +113,9 @@ impl Ready {
     pub(crate) fn get(&self, call: CallNo) -> Option<&Message>
         ensures { option_copied result ≡ find (is_reply call) self.now.replies }
     {
-        let first = self.firsts.get(call)?;
+        let Some(first) = self.firsts.get(call) else {
+            return None;
+        };
         self.messages.get(first.stamp)
     }
 
@@ -123,7 +125,9 @@ impl Ready {
         ensures replies { self.new.replies ≡ without_first (is_reply call) self.old.replies }
         ensures room { self.new.room ≡ self.old.room }
     {
-        let first = self.firsts.get(call)?;
+        let Some(first) = self.firsts.get(call) else {
+            return None;
+        };
         let message = self.messages.take(first.stamp);
         let next = stamp_if(&self.messages, call, first.alone);
         renew(&mut self.firsts, call, next);
@@ -137,12 +141,12 @@ impl Ready {
         let Some(first) = self.firsts.get(call) else {
             return false;
         };
-        if first.alone {
-            return match self.messages.get(first.stamp) {
-                Some(message) => message.from == peer,
-                None => false,
-            };
+        if !first.alone {
+            return is_any_from(&self.messages, peer, call);
         }
-        is_any_from(&self.messages, peer, call)
+        let Some(message) = self.messages.get(first.stamp) else {
+            return false;
+        };
+        message.from == peer
     }
 }
