@@ -1,5 +1,5 @@
 -- Replies under stamps, and the stamps of the first ones.
-use Rattle.std.proofs.Common.{◌≡◌, ℕ, ◌+◌, ◌^◌, ◌<◌, ◌≤◌, Bool, true, false, ◌&&◌, ◌||◌, ◌==◌, cond, List, [], ◌∷◌, ◌++◌, find, length, Option, Some, None, IsSome, refl, sym, ap, subst, ◌∙◌, arith, eqb-true, true≢false, if◌then◌else◌}
+use Rattle.std.proofs.Common.{◌≡◌, ℕ, ◌+◌, ◌^◌, ◌<◌, ◌≤◌, Bool, true, false, not, ◌&&◌, ◌||◌, ◌==◌, cond, List, [], ◌∷◌, ◌++◌, find, length, Option, Some, None, IsSome, refl, sym, ap, subst, ◌∙◌, arith, eqb-true, true≢false, if◌then◌else◌}
 use Rattle.std.proofs.lemmas.Cmp.{nat_eq_equiv}
 use Rattle.std.proofs.lemmas.Option.{none-some, same_Some}
 use Rattle.std.specs.List.{AllByRecursion, list_any}
@@ -139,6 +139,10 @@ module _ (k s : ℕ) where
       plain false = refl
 
 -- ---- what a test of rows says of the replies
+pub not_false : (b : Bool) → not b ≡ false → b ≡ true
+not_false true is = refl
+not_false false is = absurd (true≢false is)
+
 pub any_in : (test : Message → Bool) (rows : List Row) → list_any (λ row. test row.1) rows ≡ list_any test (replies_in rows)
 any_in test [] = refl
 any_in test (row ∷ rows) = ap (λ (b : Bool). test row.1 || b) (any_in test rows)

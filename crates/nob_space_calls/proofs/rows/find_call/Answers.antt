@@ -7,4 +7,4 @@ pub bounds-calls-place : goal.bounds-calls-place
 bounds-calls-place c = slice_get_within c.args.calls.now c.in-Some.place c.in-Some.ensures.own c.in-Some.ensures.there
 
 pub returns : goal.returns
-returns c = found_at c.args.calls.now c.args.call c.in-Some.place c.requires c.in-Some.ensures c.index-calls-place.result c.index-calls-place.ensures
+returns c = found_at c.args.calls.now c.args.call c.in-Some.place c.requires c.in-Some.ensures c.index-calls-place.result c.index-calls-place.is
