@@ -41,6 +41,26 @@ rising_removed s (row ∷ rows) rise = elim (is_number s row.0) as (λ b. IsRisi
   | false ↦ (all_removed (λ other. row.0 < other.0) s rows rise.0, rising_removed s rows rise.1)
 ]
 
+-- there are no more of them than numbers below another
+pub length_below : (next low : ℕ) (rows : List Row) → IsRising rows → AllByRecursion (λ row. row.0 < next) rows → AllByRecursion (λ row. low ≤ row.0) rows → low ≤ next → length rows + low ≤ next
+length_below next low [] rise below above within = omega (arith, within)
+length_below next low (row ∷ rows) rise below above within =
+    let start : low ≤ row.0 = above.0 in
+    let less : row.0 < next = below.0 in
+    let rest : length rows + (row.0 + 1) ≤ next = length_below next (row.0 + 1) rows rise.1 below.1 (weaker rows rise.0) (omega (arith, less)) in
+    omega (arith, rest, start)
+  where
+    weaker : (rs : List Row) → AllByRecursion (λ other. row.0 < other.0) rs → AllByRecursion (λ other. row.0 + 1 ≤ other.0) rs
+    weaker [] all = tt
+    weaker (r ∷ rs) all = let more : row.0 < r.0 = all.0 in (omega (arith, more), weaker rs all.1)
+
+any_above : (rows : List Row) → AllByRecursion (λ row. 0 ≤ row.0) rows
+any_above [] = tt
+any_above (row ∷ rows) = (omega arith, any_above rows)
+
+pub few_replies : (next : ℕ) (rows : List Row) → IsRising rows → slots.IsAbove rows next → length rows ≤ next
+few_replies next rows rise below = let few : length rows + 0 ≤ next = length_below next 0 rows rise below (any_above rows) (omega arith) in omega (arith, few)
+
 -- ---- the first reply to a call
 pub find_none : (k : ℕ) (rows : List Row) → first_stamp k rows ≡ None → find (is_reply k) (replies_in rows) ≡ None
 find_none k [] is = refl
@@ -291,7 +311,7 @@ ready_less next room rows rows_room firsts firsts_room are k s rows' rows_room' 
     }
 
 pub ready_more : (next room : ℕ) (rows : List Row) (rows_room : ℕ) (firsts : List (ℕ × First)) (firsts_room : ℕ) → AreReady next room rows rows_room firsts firsts_room
-    → (rows' : List Row) (rows_room' : ℕ) (firsts' : List (ℕ × First)) (firsts_room' room' : ℕ) → rows' ≡ rows → firsts' ≡ firsts → room' ≤ rows_room' → room' ≤ firsts_room' → next + room' < 2 ^ 64
+    → (rows' : List Row) (rows_room' : ℕ) (firsts' : List (ℕ × First)) (firsts_room' room' : ℕ) → rows' ≡ rows → firsts' ≡ firsts → room' ≤ rows_room' → room' ≤ firsts_room' → next + room' < 2 ^ 60
     → AreReady next room' rows' rows_room' firsts' firsts_room'
 ready_more next room rows rows_room firsts firsts_room are rows' rows_room' firsts' firsts_room' room' rows_is firsts_is fits_rows fits_firsts small =
     record {

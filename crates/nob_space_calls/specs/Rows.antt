@@ -87,5 +87,5 @@ pub record AreReady (next room : ℕ) (rows : List (ℕ × Message)) (rows_room 
   pub stamped : AreFirsts rows firsts
   pub fits_rows : room ≤ rows_room
   pub fits_firsts : room ≤ firsts_room
-  -- the stamps can be counted
-  pub small : next + room < 2 ^ 64
+  -- the stamps, and so the replies, can be counted
+  pub small : next + room < 2 ^ 60

@@ -1,6 +1,6 @@
 //! The calls and the replies.
 
-ghost use Rattle.std.specs.Prelude.{◌≡◌, ◌+◌, ◌<◌, ◌≤◌, ◌++◌, ◌∷◌, [], not, length, filter, find, map, option_copied, IsOk, OnOk};
+ghost use Rattle.std.specs.Prelude.{◌≡◌, ◌+◌, ◌<◌, ◌≤◌, ◌^◌, ◌++◌, ◌∷◌, [], not, length, filter, find, map, option_copied, IsOk, OnOk};
 ghost use Rattle.std.specs.List.{list_any};
 ghost use Rattle.nob_model_work.specs.Work.{is_call, call_after_reply, call_after_close, without_first};
 ghost use Rattle.nob_model_acting.specs.Acting.{awaits_reply};
@@ -63,7 +63,8 @@ impl Calls {
 
     /// How many replies are ready. Constant time.
     pub fn replies_len(&self) -> usize
-        ensures { result ≡ length self.now.replies }
+        ensures count { result ≡ length self.now.replies }
+        ensures fits { result < 2 ^ 60 }
     {
         self.ready.len()
     }
@@ -81,9 +82,9 @@ impl Calls {
         self.calls.reserve(additional)
     }
 
-    /// Makes room for so many more replies. Only memory fails it, and not where there is room; more
-    /// replies over all time than `u64` counts are want of memory too. The calls and the replies
-    /// are the same in any case, and what had room before has it still. Constant time on average.
+    /// Makes room for so many more replies. Only memory fails it, and not where there is room; 2^60
+    /// replies over all time are want of memory too. The calls and the replies are the same in any
+    /// case, and what had room before has it still. Constant time on average.
     pub fn reserve_replies(&mut self, additional: usize) -> Result<(), AllocError>
         ensures calls { self.new.calls ≡ self.old.calls }
         ensures replies { self.new.replies ≡ self.old.replies }

@@ -1,6 +1,6 @@
 //! The ready replies.
 
-ghost use Rattle.std.specs.Prelude.{◌≡◌, ◌+◌, ◌<◌, ◌≤◌, ◌++◌, ◌∷◌, [], length, find, option_copied, IsOk, OnOk};
+ghost use Rattle.std.specs.Prelude.{◌≡◌, ◌+◌, ◌<◌, ◌≤◌, ◌^◌, ◌++◌, ◌∷◌, [], length, find, option_copied, IsOk, OnOk};
 ghost use Rattle.std.specs.List.{list_any};
 ghost use Rattle.nob_model_work.specs.Work.{is_reply_from, without_first};
 ghost use Rattle.nob_space_calls.specs.Calls.{is_reply};
@@ -13,6 +13,9 @@ use nob_model_words::message::replies_to;
 use nob_slots::Slots;
 use std::alloc::{AllocError, Global};
 use std::marker::Model;
+
+// The last stamp.
+const LAST_STAMP: u64 = (1 << 60) - 1;
 
 // The ready replies, in order of becoming ready: each under a stamp that rises, and for each call
 // the stamp of the first. Contracts see the replies, and for how many more there is room.
@@ -72,13 +75,14 @@ impl Ready {
 
     // How many replies there are.
     pub(crate) fn len(&self) -> usize
-        ensures { result ≡ length self.now.replies }
+        ensures count { result ≡ length self.now.replies }
+        ensures fits { result < 2 ^ 60 }
     {
         self.messages.len()
     }
 
-    // Makes room for so many more replies. More than `u64` counts, over all time, are want of
-    // memory too.
+    // Makes room for so many more replies. More than there are stamps for, over all time, are want
+    // of memory too.
     pub(crate) fn reserve(&mut self, additional: usize) -> Result<(), AllocError>
         ensures replies { self.new.replies ≡ self.old.replies }
         ensures ok { OnOk result (additional ≤ self.new.room) }
@@ -88,7 +92,7 @@ impl Ready {
         if additional <= self.room {
             return Ok(());
         }
-        if u64::MAX - self.next < additional as u64 {
+        if LAST_STAMP - self.next < additional as u64 {
             return Err(AllocError);
         }
         self.messages.reserve(additional)?;
