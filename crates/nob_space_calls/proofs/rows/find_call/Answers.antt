@@ -1,5 +1,4 @@
 use Rattle.std.proofs.lemmas.Option.{slice_get_within}
-use Rattle.std.proofs.Common.{Some}
 use Rattle.nob_space_calls.proofs.Rising.{found_at}
 use Rattle.nob_space_calls.proofs.rows.find_call.Goals as goal
 

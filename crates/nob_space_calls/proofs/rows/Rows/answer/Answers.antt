@@ -1,9 +1,9 @@
-use Rattle.std.proofs.Common.{◌≡◌, List, map, find, length, sym, ap, subst, ◌∙◌, arith}
+use Rattle.std.proofs.Common.{◌≡◌, List, map, find, sym, ap, subst, ◌∙◌, arith}
 use lib.ListN.{set}
 use Rattle.std.proofs.lemmas.Option.{slice_get_within}
 use Rattle.nob_model_work.specs.declared.work.OwnCall.{OwnCall}
 use Rattle.nob_model_work.specs.Work.{is_call, call_after_reply}
-use Rattle.nob_space_calls.specs.Rows.{AreRising, IsPlace}
+use Rattle.nob_space_calls.specs.Rows.{AreRising}
 use Rattle.nob_space_calls.proofs.Rising.{place_in, none_answered, answered_at, rising_answered}
 use Rattle.nob_space_calls.proofs.rows.Rows.answer.Goals as goal
 
