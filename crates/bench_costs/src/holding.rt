@@ -1,6 +1,7 @@
 //! What the spaces hold before rounds are made.
 
 use crate::task::{Kept, Round, Task};
+use nob_bytes::Bytes;
 use nob_exchange::{agent_of, exchange};
 use nob_ids::WireRep;
 use nob_model::{Outcome, Refusal};
@@ -13,6 +14,11 @@ pub(crate) const METHOD: u16 = 1;
 
 // The greatest number of items that wait after one carriage, so that each walk ends.
 const MOST_ITEMS: usize = 64;
+
+// How many bytes the argument of a call has.
+const SMALL: usize = 8;
+
+const LARGE: usize = 16_000;
 
 /// Has the spaces hold what a task says: the references that the second has in hand then.
 pub(crate) fn hold(
@@ -37,6 +43,8 @@ pub(crate) fn hold(
                 ask(one, two)?;
                 answer(one, two)?;
             }
+            Kept::Small => send(alloc, one, two, SMALL)?,
+            Kept::Large => send(alloc, one, two, LARGE)?,
         }
     }
     Ok(reps)
@@ -93,6 +101,18 @@ fn bring(from: &mut Space, to: &mut Space) -> Result<(), SpaceError> {
             Err(error) => return Err(error),
         }
     }
+    Ok(())
+}
+
+// The first space calls the agent of the second with so many bytes, and doesn't transmit that.
+fn send(alloc: Global, one: &mut Space, two: &Space, len: usize) -> Result<(), SpaceError> {
+    let mut bytes = Vec::with_capacity(alloc, len)?;
+    bytes.resize(len, 0)?;
+    one.call(
+        &agent_of(two),
+        METHOD,
+        &Value::Bytes(Bytes::from_vec(bytes)),
+    )?;
     Ok(())
 }
 

@@ -8,7 +8,7 @@ mod task;
 
 use crate::holding::{hold, rep_of};
 use crate::rounds::make_round;
-use crate::task::{Task, task_of};
+use crate::task::{Round, Task, task_of};
 use nob_exchange::with_three;
 use nob_ids::Limits;
 use nob_space::{Space, SpaceError};
@@ -41,7 +41,8 @@ fn run(rt: &HostRuntime) -> io::Result<()> {
 
 // A task at three new spaces.
 fn do_task(alloc: Global, task: Task) -> Result<(), SpaceError> {
-    with_three(alloc, Limits::default(), |one, two, three| {
+    let limits = limits_of(task.round);
+    with_three(alloc, limits, |one, two, three| {
         play(alloc, one, two, three, task)
     })
 }
@@ -59,4 +60,12 @@ fn play(
         make_round(one, two, task.round, rep_of(held.as_slice(), task, number))?;
     }
     Ok(())
+}
+
+// The limits of the sessions: the widest window, where it is transmitted.
+fn limits_of(round: Round) -> Limits {
+    match round {
+        Round::Transmit => Limits::new(64, 16).unwrap_or_default(),
+        _ => Limits::default(),
+    }
 }

@@ -24,6 +24,7 @@ pub(crate) fn make_round(
         Round::First => give_up(one, two, rep),
         Round::Last => give_up(one, two, rep),
         Round::Close => close(one, two),
+        Round::Transmit => transmit(one, two),
     }
 }
 
@@ -97,5 +98,11 @@ fn give_up(one: &mut Space, two: &mut Space, rep: Option<WireRep>) -> Result<(),
 fn close(one: &mut Space, two: &mut Space) -> Result<(), SpaceError> {
     one.close(two.id())?;
     exchange(one, two)?;
+    Ok(())
+}
+
+// The first space transmits what it has sent, and the frames are lost.
+fn transmit(one: &mut Space, two: &Space) -> Result<(), SpaceError> {
+    let _lost = one.transmit(two.id())?;
     Ok(())
 }

@@ -14,6 +14,10 @@ pub(crate) enum Kept {
     Ready,
     /// Calls that the second space made are answered, and it hasn't taken the replies.
     Answered,
+    /// The first space has sent items of a few bytes, of which the second knows nothing.
+    Small,
+    /// The first space has sent items of some 16,000 bytes, of which the second knows nothing.
+    Large,
 }
 
 /// What is made again and again.
@@ -35,6 +39,8 @@ pub(crate) enum Round {
     Last,
     /// The first space closes the session with the second, and that hears of it.
     Close,
+    /// The first space transmits what it has sent, and the frames are lost.
+    Transmit,
 }
 
 /// So much is held, and then so many rounds are made.
@@ -65,6 +71,8 @@ fn kept_of(word: &str) -> Option<Kept> {
         "waiting" => Kept::Waiting,
         "ready" => Kept::Ready,
         "answered" => Kept::Answered,
+        "small" => Kept::Small,
+        "large" => Kept::Large,
         _ => return None,
     })
 }
@@ -80,6 +88,7 @@ fn round_of(word: &str) -> Option<Round> {
         "first" => Round::First,
         "last" => Round::Last,
         "close" => Round::Close,
+        "transmit" => Round::Transmit,
         _ => return None,
     })
 }

@@ -27,6 +27,7 @@ use std::alloc::{AllocError, Global};
 
 // Hands an item, and keeps it for the frames that will carry it.
 pub fn put(
+    alloc: Global,
     session: &mut Session,
     frames: &mut FrameLog,
     side: Side,
@@ -44,13 +45,14 @@ pub fn put(
         OnErr result (IsTrue (call_takes_memory (Call.Put item) L)) }
 {
     match session.next(Kind::Limited) {
-        Ok(_) => hand(session, frames, side, item),
+        Ok(_) => hand(alloc, session, frames, side, item),
         Err(refusal) => Ok(Answer::Refused(refusal)),
     }
 }
 
 // Hands an item that the end will take, and keeps it. All growth comes first.
 fn hand(
+    alloc: Global,
     session: &mut Session,
     frames: &mut FrameLog,
     side: Side,
@@ -68,8 +70,9 @@ fn hand(
     let Ok(()) = session.reserve(1) else {
         return Err(AllocError);
     };
-    frames.add_item(side, &item)?;
-    match session.send(item.into_vec(), Kind::Limited) {
+    let payload = Vec::from_slice(alloc, item.as_slice())?;
+    frames.add_item(side, item)?;
+    match session.send(payload, Kind::Limited) {
         Ok(number) => Ok(Answer::Item(number)),
         Err(SessionError::Refused(_)) => unreachable!(),
         Err(SessionError::OutOfMemory) => unreachable!(),

@@ -63,17 +63,16 @@ impl FrameLog {
     }
 
     /// Keeps the next item of an end, for the frames that will carry it. Only memory fails it.
-    pub fn add_item(&mut self, side: Side, item: &Bytes) -> Result<(), AllocError>
+    pub fn add_item(&mut self, side: Side, item: Bytes) -> Result<(), AllocError>
         ensures { self.new.frames ≡ self.old.frames }
     {
-        let copy = item.copy()?;
         match side {
             Side::First => {
-                self.first.push(copy)?;
+                self.first.push(item)?;
                 Ok(())
             }
             Side::Second => {
-                self.second.push(copy)?;
+                self.second.push(item)?;
                 Ok(())
             }
         }

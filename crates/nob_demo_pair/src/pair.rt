@@ -176,7 +176,7 @@ fn call_at(
         → AllByRecursion Fits frames.old.frames → AllByRecursion Fits frames.new.frames }
 {
     match call {
-        Call::Put(item) => ends::put(session, frames, side, item),
+        Call::Put(item) => ends::put(alloc, session, frames, side, item),
         Call::Send => ends::send(session, frames),
         Call::Get => ends::get(alloc, session),
         Call::Tick => Ok(ends::tick(session)),

@@ -11,7 +11,7 @@ use Rattle.std.proofs.lemmas.Option.{none-some, slice_get-get_or}
 use Rattle.std.proofs.lemmas.List.Folds.{list_any-append}
 use Rattle.std.proofs.lemmas.List.Quantifiers.{position-Some}
 use Rattle.std.proofs.lemmas.Map.Keys.{IsDistinct-cons}
-use Rattle.std.proofs.lemmas.Map.Views.{any-filter_same, Contains-from_any, list_any-from_Contains}
+use Rattle.std.proofs.lemmas.Map.Views.{Contains-from_any, list_any-from_Contains}
 use Rattle.nob_dirty.specs.declared.rows.Row.{Row}
 use Rattle.nob_dirty.specs.Rows.{has, is_row, is_at_row, is_listed, AreApart, listings_of, all_listings, Changes, Begins}
 use Rattle.nob_dirty.specs.Sets.{is_of, has_index, lists, IsEmptyAt, AreClients, AreIndexes, LeavesAll, Enters, Leaves}
@@ -246,14 +246,23 @@ pub apart_begun : (old new : List Row) (index client : ℕ) → position (is_row
 apart_begun old new index client none apart begins =
     subst AreApart (sym begins.3) (apart_pushed old begins.0 apart (subst (λ c. list_any (is_row c) old ≡ false) (sym begins.1) (no_row (is_row client) old none)))
 
-pub closed : (client : ℕ) (rows : List Row) → LeavesAll (all_listings rows) (all_listings (filter (λ (row : Row). not (row.client == client)) rows)) client
-closed client rows i c =
-    flat i c (filter (λ (row : Row). not (row.client == client)) rows)
-    ∙ any-filter_same (is_listed i c) (λ (row : Row). not (row.client == client)) (not (client == c))
-    (λ row is.
-    let same : row.client ≡ c = (Decides-eqb row.client c).0 (first_true (row.client == c) (has i row.indexes) is) in
-    rw (same, nat_eq_equiv.symm c client) refl) rows
-    ∙ rw (flat i c rows) refl
+-- the client of a row that a search found
+pub row_is : (client : ℕ) (row : Row) → is_row client row ≡ true → row.client ≡ client
+row_is client row found = (Decides-eqb row.client client).0 found
+
+pub emptied : (old new : List Row) (at client : ℕ) → position (is_row client) old ≡ Some at → AreApart old → Changes (λ i had. false) old new at → LeavesAll (all_listings old) (all_listings new) client
+emptied old new at client place apart changes i c =
+    let found = row_there (is_row client) old at place in
+    let is : found.0.client ≡ client = row_is client found.0 found.3 in
+    changed (λ j had. false) old new at found.0 i c found.2 apart changes
+    ∙ rw is (elim (client == c) as (λ b. cond b false (lists (all_listings old) i c) ≡ (not b && lists (all_listings old) i c)) [ true ↦ refl | false ↦ refl ])
+
+pub emptied_none : (old : List Row) (client : ℕ) → position (is_row client) old ≡ None → LeavesAll (all_listings old) (all_listings old) client
+emptied_none old client none i c =
+    elim (client == c) as (λ b. (client == c) ≡ b → lists (all_listings old) i c ≡ (not b && lists (all_listings old) i c)) [
+      | true ↦ λ is. subst (λ d. lists (all_listings old) i d ≡ false) ((Decides-eqb client c).0 is) (unlisted old client i none)
+      | false ↦ λ _. refl
+    ] refl
 
 -- ---- what is found
 

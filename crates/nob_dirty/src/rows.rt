@@ -1,8 +1,9 @@
 //! The sets by client: a row for each client, with the indexes at which it is listed.
 
-ghost use Rattle.std.specs.Prelude.{◌≡◌, ◌<◌, ◌==◌, ◌&&◌, ◌||◌, ℕ, not, [], length, map, filter, position, IsOk, IfOk, OnOk, OnErr};
+ghost use Rattle.std.specs.Prelude.{◌≡◌, ◌<◌, ◌==◌, ◌&&◌, ◌||◌, ℕ, false, not, [], length, map, filter, position, slice_get, Some, IsOk, IfOk, OnOk, OnErr};
 ghost use Rattle.std.specs.List.{list_any};
 ghost use Rattle.std.specs.List.Sorted.{IsStrictlyIncreasing};
+ghost use Rattle.nob_dirty.specs.declared.rows.Row.{Row as RowOf};
 ghost use Rattle.nob_dirty.specs.Rows.{has, is_row, is_at_row, is_listed, Changes, Begins};
 
 use crate::sets::Listing;
@@ -10,6 +11,7 @@ use nob_ids::SpaceId;
 use std::alloc::{AllocError, Global};
 use std::collections::BTreeSet;
 use std::marker::Model;
+use std::mem;
 
 // A set of indexes. Contracts see the indexes, rising.
 #[derive(Debug, Drop)]
@@ -150,6 +152,18 @@ pub(crate) fn leave_at(rows: &mut Vec<Row>, place: usize, index: u64)
     ensures leaves { Changes (λ i had. not (index == i) && had) rows.old.items rows.new.items place }
 {
     rows[place].indexes.leave(index);
+}
+
+// Takes all indexes from the row at the place.
+pub(crate) fn empty_at(rows: &mut Vec<Row>, place: usize) -> BTreeSet<u64>
+    requires place { place < length rows.old.items }
+    ensures leaves { Changes (λ i had. false) rows.old.items rows.new.items place }
+    ensures indexes { (row : RowOf) → slice_get rows.old.items place ≡ Some row
+        → result.keys ≡ row.indexes }
+{
+    let none = Indexes::new(*rows.allocator());
+    let Indexes { keys } = mem::replace(&mut rows[place].indexes, none);
+    keys
 }
 
 // Puts a row behind the others, of the client with this one index.

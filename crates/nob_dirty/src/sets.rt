@@ -4,9 +4,12 @@ ghost use Rattle.std.specs.Prelude.{◌≡◌, ◌↔◌, ℕ, true, false, IsOk
 ghost use Rattle.std.specs.List.Sorted.{IsStrictlyIncreasing};
 ghost use Rattle.nob_dirty.specs.Sets.{lists, ListsNothing, IsEmptyAt, ListsSame, Enters, Leaves, LeavesAll, AreClients, AreIndexes};
 
-use crate::rows::{Row, begin, clients_at, enter_at, has_clients, leave_at, lists, place_of};
+use crate::rows::{
+    Row, begin, clients_at, empty_at, enter_at, has_clients, leave_at, lists, place_of,
+};
 use nob_ids::SpaceId;
 use std::alloc::{AllocError, Global};
+use std::collections::BTreeSet;
 use std::marker::Model;
 
 /// A client at an index: what contracts see of the sets is a list of these.
@@ -128,6 +131,19 @@ impl DirtySets {
     pub fn close(&mut self, client: SpaceId)
         ensures leaves { LeavesAll self.old self.new client }
     {
-        self.rows.retain(|row| row.client != client);
+        let _indexes = self.take_indexes(client);
+    }
+
+    /// Lists the client nowhere any longer, as `close`: the indexes at which it was listed. Constant
+    /// time; to drop them is linear in them.
+    pub fn take_indexes(&mut self, client: SpaceId) -> BTreeSet<u64>
+        ensures leaves { LeavesAll self.old self.new client }
+        ensures indexes { AreIndexes self.old client result.keys }
+    {
+        let alloc = *self.rows.allocator();
+        let Some(place) = place_of(&self.rows, client) else {
+            return BTreeSet::new(alloc);
+        };
+        empty_at(&mut self.rows, place)
     }
 }

@@ -3,7 +3,7 @@
 use nob_model_types::{Answer, Event, Refusal};
 
 /// What one call was told: its entry's place in the trace, stamp, event and result.
-#[derive(Debug, Drop)]
+#[derive(Debug)]
 pub struct Receipt {
     /// The place of the entry in the trace, counted from 1.
     pub place: u64,
@@ -13,4 +13,17 @@ pub struct Receipt {
     pub event: Event,
     /// What it answered, or why it refused.
     pub result: Result<Answer, Refusal>,
+}
+
+impl Drop for Receipt {
+    fn drop(self) {
+        let Receipt {
+            place: _,
+            stamp: _,
+            event,
+            result,
+        } = self;
+        drop(event);
+        drop(result);
+    }
 }

@@ -14,7 +14,7 @@ use std::marker::Model;
 
 /// The place of one caller at a keeper: all receipts that its calls were given. Contracts see the
 /// list, the newest receipt first. What is let go of it is missed by `close_with`.
-#[derive(Debug, Drop)]
+#[derive(Debug)]
 pub struct Seat {
     // The first first.
     receipts: Vec<Receipt>,
@@ -35,6 +35,13 @@ impl Model for Seat {
     ghost view = { λ seat. reverse seat.receipts.items };
 
     ghost invariant = { λ seat. PlacesRise (reverse seat.receipts.items) };
+}
+
+impl Drop for Seat {
+    fn drop(self) {
+        let Seat { receipts } = self;
+        drop(receipts);
+    }
 }
 
 impl Seat {

@@ -1,5 +1,5 @@
 -- The frames that a transmit gives have spellings.
-use Rattle.std.proofs.Common.{◌≡◌, ◌≢◌, ℕ, ◌+◌, ◌^◌, ◌≤◌, List, [], ◌∷◌, length, arith, refl}
+use Rattle.std.proofs.Common.{◌≢◌, ℕ, ◌+◌, ◌^◌, ◌≤◌, List, [], ◌∷◌, length, arith, refl}
 use Rattle.std.specs.List.{AllByRecursion}
 use Rattle.nob_ids.specs.Names.{IsSpace}
 use Rattle.nob_frame.specs.declared.frame.FrameKind.TheVariants.{Close}

@@ -179,7 +179,7 @@ impl Session {
         ensures err_room { OnErr result (self.old.room ≤ self.new.room) }
     {
         let number = self.next(kind)?;
-        self.unacknowledged.push_back(Bytes::from_vec(payload))?;
+        self.unacknowledged.push_back(shared(payload))?;
         self.handed += 1;
         Ok(number)
     }
@@ -222,7 +222,7 @@ impl Session {
     /// Gives the frames to be sent now. An open end gives its unacknowledged items again, from the
     /// lowest on and at most a window of them, or else an Ack if a Data frame arrived since the
     /// last transmit; a closed end gives the Close that it owes, once. The frames share their
-    /// payloads with this end: no byte is copied. Only memory fails it.
+    /// payloads with this end. Only memory fails it.
     pub fn transmit(&mut self) -> Result<Vec<Frame>, SessionError>
         ensures answer { (me peer : ℕ) (limits : LimitsOf) (L : List EndEntry)
             → Stands me peer limits self.old.end L →
@@ -240,7 +240,6 @@ impl Session {
         ensures memory_last { OnErr result (frames_of self.old.end ≢ []) }
         ensures room { self.old.room ≤ self.new.room }
     {
-        self.share_given()?;
         let frames = self.frames()?;
         self.transmitted = self.highest();
         self.data_arrived = false;
@@ -260,19 +259,6 @@ impl Session {
     {
         let window = self.limits.window as usize;
         window.min(self.unacknowledged.len())
-    }
-
-    // Has the payloads shared that a transmit gives.
-    fn share_given(&mut self) -> Result<(), AllocError>
-        ensures same { self.new.end ≡ self.old.end }
-        ensures room { self.new.room ≡ self.old.room }
-        ensures memory { OnErr result (frames_of self.old.end ≢ []) }
-    {
-        if self.ending.is_some() {
-            return Ok(());
-        }
-        let given = self.given();
-        share_first(&mut self.unacknowledged, given)
     }
 
     // The highest number that is transmitted after a transmit.
@@ -517,6 +503,16 @@ impl Session {
     }
 }
 
+// The payload, which each frame that carries it shares. Where there is no memory for the count of
+// those who share it, each of them copies it.
+fn shared(payload: Vec<u8>) -> Bytes
+    ensures { result ≡ payload.items }
+{
+    let mut bytes = Bytes::from_vec(payload);
+    let _shared = bytes.share();
+    bytes
+}
+
 // Drops so many payloads from the front of a queue, which keeps its room.
 fn give_up(payloads: &mut VecDeque<Bytes>, count: usize)
     ensures items { payloads.new.items ≡ drop count payloads.old.items }
@@ -526,20 +522,6 @@ fn give_up(payloads: &mut VecDeque<Bytes>, count: usize)
     for _i in 0..count {
         let _acknowledged = payloads.pop_front();
     }
-}
-
-// Has the first `count` of these payloads shared.
-fn share_first(payloads: &mut VecDeque<Bytes>, count: usize) -> Result<(), AllocError>
-    requires there { count ≤ length payloads.old.items }
-    ensures items { payloads.new.items ≡ payloads.old.items }
-    ensures len { deque_len payloads.new ≡ deque_len payloads.old }
-    ensures capacity { deque_capacity payloads.new ≡ deque_capacity payloads.old }
-    ensures memory { OnErr result (0 < count) }
-{
-    for i in 0..count {
-        payloads[i].share()?;
-    }
-    Ok(())
 }
 
 // A Data frame for each of the first `count` of these payloads, numbered from `first`.

@@ -239,7 +239,7 @@ impl Space {
 
     /// A frame came for this space: how many items it brought, or that it closed the session
     /// with its sender. NoPeer where it isn't for this space or from none of its peers. Linear
-    /// in the payload and in what the frame acknowledges, save where it closes.
+    /// in what the frame acknowledges, and in a payload that isn't shared, save where it closes.
     #[tactic(auto, unfolding(nob_model::specs::Right::right_after))]
     pub fn arrive(&mut self, frame: &Frame) -> Result<Arrived, SpaceError>
         ensures answer { StepAnswers self.old (events.Arrive frame.now)

@@ -124,9 +124,8 @@ impl Space {
 
     /// What the space could do next: to ask it that would be no refusal, limits, free numbers and
     /// want of memory aside. It takes no memory. Linear in the messages that wait and their
-    /// references, the ready jobs times those that run, the objects, with a look-up logarithmic in
-    /// the listings for each that nothing holds, and the surrogates, once more for each that
-    /// nothing holds but that has pins.
+    /// references, and in the ready jobs times those that run; else a few look-ups, and one for each
+    /// object or surrogate that nothing holds, nor keeps, but that is pinned.
     pub fn work(&self) -> Work
         ensures act { (L : List Entry) → StandsFor self.now L → (p : ℕ) → 1 ≤ p → p ≤ 32
             → slice_get result.act (p - 1)

@@ -2,3 +2,4 @@ pub mod Counted
 pub mod Shows
 pub mod Returned
 pub mod Taking
+pub mod Marked

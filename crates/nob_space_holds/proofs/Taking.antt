@@ -109,6 +109,7 @@ shows_same {s} {n} {t} {h} {H} {L} H' L' hands lents shows = record {
   loans = λ rep counted. shows.loans rep counted ∙ lents rep;
   dirties = shows.dirties;
   places = shows.places;
+  kept = shows.kept;
 }
 
 -- none more

@@ -1,18 +1,20 @@
 -- What a table shows of the history of its space: the objects, the surrogates and the holds.
-use Rattle.std.specs.Prelude.{◌≡◌, ℕ, Bool, true, false, length, None, if◌then◌else◌}
+use Rattle.std.specs.Prelude.{◌≡◌, ℕ, Bool, true, false, List, length, None, if◌then◌else◌}
 use Rattle.nob_ids.specs.Names.{is_counted}
 use Rattle.nob_ids.specs.declared.wire_rep.WireRep.{WireRep}
 use Rattle.nob_table_rows.specs.declared.standing.State.{State as TableState}
 use Rattle.nob_table_rows.specs.declared.standing.State.TheVariants as states
 use Rattle.nob_table_rows.specs.Counts.{is_held}
 use Rattle.nob_table_rows.specs.Standings as standings
-use Rattle.nob_table.specs.Table.{Table, standing, place_of}
+use Rattle.nob_table.specs.Table.{Table, standing, place_of, is_kept}
+use Rattle.nob_model_words.specs.declared.deed.Deed.{Deed}
 use Rattle.nob_model_words.specs.declared.turns.Turns.{Turns}
 use Rattle.nob_model_words.specs.Sessions.{closed}
 use Rattle.nob_model_words.specs.Objects as objects
 use Rattle.nob_model_words.specs.Turns.{is_own, is_pending, is_granted, is_refused, turns}
 use Rattle.nob_model_history.specs.declared.history.History.{History}
 use Rattle.nob_model_history.specs.Holds.{times, hand, lent_in}
+use Rattle.nob_model_history.specs.Listing.{is_listed}
 use Rattle.nob_model_history.specs.Transit as transit
 use Rattle.nob_model.specs.Right.{own_ref}
 
@@ -20,6 +22,14 @@ use Rattle.nob_model.specs.Right.{own_ref}
 abbrev pub far_state : (has_closed has_holds : Bool) → Turns → TableState
 far_state true has_holds t = if has_holds then states.Lost else states.Unknown
 far_state false has_holds t = if is_pending t then states.Pending else if is_granted t then states.Granted else if is_refused t then states.Refused else states.Unknown
+
+-- a client is listed for an index
+abbrev pub IsListed : (s index : ℕ) → List Deed → Type 0
+IsListed s index D = (client : ℕ) × (is_listed s index client D ≡ true)
+
+-- for each object that the table keeps from outside a client is listed
+abbrev pub AreListed : (s : ℕ) → Table → List Deed → Type 0
+AreListed s t D = (index : ℕ) → is_kept t index ≡ true → IsListed s index D
 
 -- the table has the objects and the surrogates of a history, in the order of their Dirties, and these holds: so many in hand and so many lent
 pub record TableShows (s n : ℕ) (t : Table) (h : History) (in_hand on_loan : WireRep → ℕ) : Type 0 where
@@ -32,6 +42,7 @@ pub record TableShows (s n : ℕ) (t : Table) (h : History) (in_hand on_loan : W
   pub loans : (rep : WireRep) → is_counted rep ≡ true → (standing t rep).counts.lent ≡ on_loan rep
   pub dirties : t.dirties ≡ length (transit.dirties h)
   pub places : (rep : WireRep) → place_of t rep ≡ (if standings.is_surrogate (standing t rep).state then transit.place rep h else None)
+  pub kept : AreListed s t h.deeds
 
 -- the table stands for a history: its holds are those of the history
 abbrev pub TableStands : (s n : ℕ) → Table → History → Type 0

@@ -33,7 +33,7 @@ use Rattle.nob_model_work.specs.Gifts.{gifts_of_act}
 use Rattle.nob_model_history.specs.Histories.{history_of}
 use Rattle.nob_model_history.specs.Ends.{calls_at}
 use Rattle.nob_model_history.specs.Holds.{hand, times, lent_in}
-use Rattle.nob_model_history.specs.Listing.{is_entered, is_entered_after}
+use Rattle.nob_model_history.specs.Listing.{is_entered, is_entered_after, is_listed}
 use Rattle.nob_model_history.specs.Transit as transit
 use Rattle.nob_model_history.proofs.Turning.{after_answer, named_ref}
 use Rattle.nob_model_history.proofs.Turning as turning
@@ -118,6 +118,16 @@ not_first : (b c : Bool) → (not b && c) ≡ true → (b ≡ false) × (c ≡ t
 not_first true c e = absurd (cc)
 not_first false c e = (refl, e)
 
+-- an owner's answer lists nobody
+module _ {s n p k : ℕ} {D : List Deed} (granted : Bool) (index : ℕ) (front : IsFront s n p k (answer_note granted index) D) (there : item_at p k D ≡ Some (answer_note granted index)) where
+  entered : (b own : Bool) (i c : ℕ) → (if own then is_entered_after s i (Some (answer_note b index)) D (is_entered s i c D) else is_entered s i c D) ≡ is_entered s i c D
+  entered true true i c = refl
+  entered false true i c = refl
+  entered b false i c = refl
+
+  pub answer_listed : (i c : ℕ) → is_listed s i c (Act p k ∷ D) ≡ is_listed s i c D
+  answer_listed i c = listed_is s n p k (answer_note granted index) D there i c ∙ ap (λ b. not (closed c D) && b) (entered granted (p == c) i c)
+
 module _ {s n p k : ℕ} {limits : Limits} {st : State} {D : List Deed} (stands : Stands s n limits st D) (granted : Bool) (index : ℕ) (front : IsFront s n p k (answer_note granted index) D) where
   -- the table has the reference pending
   pub pending_known : (not (index == 0) ≡ true) × (standings.is_pending (standing st.table (own_ref p index)).state ≡ true)
@@ -151,6 +161,7 @@ module _ {s n p k : ℕ} {limits : Limits} {st : State} {D : List Deed} (stands 
         places = λ other. leaves.surrogates.places other ∙ stands.table.places other
             ∙ ap (λ b. if b then transit.place other (history_of s n D) else None) (sym (one_row (λ w it. standings.is_surrogate it.state ≡ standings.is_surrogate (standing st.table w).state) (own_ref p index) (standing st.table) (standing u) after becomes (is.1 ∙ sym was.1) (λ w differs. refl) other))
             ∙ ap (λ reps. if standings.is_surrogate (standing u other).state then transit.last_place other reps else None) (sym dirties);
+        kept = λ i kept. (let it = stands.table.kept i (sym (leaves.objects.kept i) ∙ kept) in (it.0, answer_listed granted index front there i it.0 ∙ it.1));
       }
     where
       same_self : (rep : WireRep) → is_same rep rep ≡ true
@@ -174,18 +185,13 @@ module _ {s n p k : ℕ} {limits : Limits} {st : State} {D : List Deed} (stands 
       record {
         ends = ends_taken s n p k D limits st.sessions old new none stands.ends front.peer (subst (λ q. old ≡ get_or st.sessions (q - 1) old) at is) (λ before. take s p limits (calls_at p (history_of s n D)) before);
         table = subst (λ V. TableShows s n t (history_of s n (Act p k ∷ D)) (λ rep. hand rep D) (λ rep. times rep (lent_in s V))) in_hand shows;
-        listed = λ i c. stands.listed i c ∙ ap (λ b. not (closed c D) && b) (entered granted (p == c) i c) ∙ sym (listed_is s n p k (answer_note granted index) D there i c);
+        listed = λ i c. stands.listed i c ∙ sym (answer_listed granted index front there i c);
         pins = λ f. stands.pins f ∙ ap (λ sent_items. sum_by f (map bundle sent_items)) (sym (bundles_stay s n p k (answer_note granted index) D there settles none));
         work = in_hand;
         calls = stands.calls;
         jobs = stands.jobs;
         right = (act_is front limits free, stands.right);
       }
-    where
-      entered : (b own : Bool) (i c : ℕ) → is_entered s i c D ≡ (if own then is_entered_after s i (Some (answer_note b index)) D (is_entered s i c D) else is_entered s i c D)
-      entered true true i c = refl
-      entered false true i c = refl
-      entered b false i c = refl
 
 -- ---- a refusal
 

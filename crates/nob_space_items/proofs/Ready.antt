@@ -351,6 +351,7 @@ module _ {s n : ℕ} {limits : Limits} {st : State} {D : List Deed} (stands : St
         me = receives.asks.objects.me ∙ grows.table.items.me;
         exported = receives.asks.objects.exported ∙ grows.table.items.exported;
         live = receives.asks.objects.live ∙ ap length grows.table.items.objects;
+        kept = λ index. receives.asks.objects.kept index ∙ grows.table.kept index;
         room = (let one = receives.asks.objects.room in let other = grows.table.export_room in omega (arith, one, other));
       };
     };

@@ -16,7 +16,7 @@ use Rattle.nob_session.specs.Stands as session
 use Rattle.nob_session.specs.Stands.{End, Roomy}
 use Rattle.nob_table_rows.specs.Counts.{is_held}
 use Rattle.nob_table_rows.specs.Standings as standings
-use Rattle.nob_table.specs.Table.{Table, standing}
+use Rattle.nob_table.specs.Table.{Table, standing, Unchanged}
 use Rattle.nob_pins.specs.Bundles as pins
 use Rattle.nob_model_types.specs.declared.answer.Answer.TheVariants as answers
 use Rattle.nob_model_types.specs.declared.event.Event.TheVariants as events
@@ -45,9 +45,12 @@ use Rattle.nob_model.specs.Lists.{IsRightDeed, AreRightDeeds}
 use Rattle.nob_model.proofs.Made.{loans_made}
 use Rattle.nob_model.proofs.Premises.{front_item, in_turn}
 use Rattle.nob_space_state.specs.Parts.{State}
-use Rattle.nob_space_holds.specs.Shows.{TableStands, far_state}
+use Rattle.nob_space_holds.specs.Shows.{TableStands, far_state, AreListed}
 use Rattle.nob_space_state.specs.Stands.{Stands, EndsStand, PinsStand}
 use Rattle.nob_space_state.proofs.Ends.{end_there, ends_changed}
+use Rattle.nob_space_state.specs.Looks.{HaveClients}
+use Rattle.nob_space_holds.proofs.Marked.{none_kept, shows_unmarked, shows_marked}
+use Rattle.nob_space_state.proofs.Kept.{listed_clients}
 use Rattle.nob_space_items.specs.Fronts.{IsFront}
 
 -- ---- the answer
@@ -157,8 +160,8 @@ module _ (s n p k : ℕ) (item : Item) (D : List Deed) (there : item_at p k D �
     note_work = note_loans ∙ loans_same ∙ loans_made s n D
 
     -- the table shows what it did
-    pub note_shows : {t : Table} → TableStands s n t (history_of s n D) → TableStands s n t (history_of s n (Act p k ∷ D))
-    note_shows {t} shows = record {
+    note_shows : {t : Table} → TableStands s n t (history_of s n D) → AreListed s t (Act p k ∷ D) → TableStands s n t (history_of s n (Act p k ∷ D))
+    note_shows {t} shows kept = record {
       me = shows.me;
       exported = shows.exported;
       live = shows.live;
@@ -167,15 +170,16 @@ module _ (s n p k : ℕ) (item : Item) (D : List Deed) (there : item_at p k D �
       loans = λ rep counted. shows.loans rep counted ∙ ap (λ W. times rep (lent_in s W)) (sym note_work);
       dirties = shows.dirties ∙ ap length (sym note_dirties);
       places = λ rep. shows.places rep ∙ ap (λ reps. if standings.is_surrogate (standing t rep).state then transit.last_place rep reps else None) (sym note_dirties);
+      kept = kept;
     }
 
-    -- the state with other ends, listings and pins
-    pub note_stands : {limits : Limits} {st : State} (sessions : List Roomy) (dirty : List Listing) (table_of_pins : pins.Table) → Stands s n limits st D
+    -- the state with other ends, listings and pins, and other marks in the table
+    pub note_stands : {limits : Limits} {st : State} (sessions : List Roomy) (dirty : List Listing) (table_of_pins : pins.Table) (t : Table) → Stands s n limits st D → Unchanged st.table t → HaveClients t dirty
         → EndsStand s n limits sessions (history_of s n (Act p k ∷ D)) → ((index client : ℕ) → lists dirty index client ≡ is_listed s index client (Act p k ∷ D)) → PinsStand table_of_pins.bundles (history_of s n (Act p k ∷ D)) → IsRightDeed s n limits (Act p k) D
-        → Stands s n limits (record { sessions = sessions; table = st.table; dirty = dirty; pins = table_of_pins; work = st.work; calls = st.calls; jobs = st.jobs }) (Act p k ∷ D)
-    note_stands {limits} {st} sessions dirty table_of_pins stands ends_stand listed pins_stand its = record {
+        → Stands s n limits (record { sessions = sessions; table = t; dirty = dirty; pins = table_of_pins; work = st.work; calls = st.calls; jobs = st.jobs }) (Act p k ∷ D)
+    note_stands {limits} {st} sessions dirty table_of_pins t stands same have ends_stand listed pins_stand its = record {
       ends = ends_stand;
-      table = note_shows stands.table;
+      table = shows_marked same (listed_clients s dirty (Act p k ∷ D) listed t have) (note_shows (shows_unmarked stands.table) (λ index kept. absurd (none_kept st.table index kept)));
       listed = listed;
       pins = pins_stand;
       work = stands.work ∙ sym note_work;

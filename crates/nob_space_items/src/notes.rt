@@ -31,7 +31,7 @@ use nob_model::{Here, Kind};
 use nob_pins::Settled;
 use nob_session::Session;
 use nob_space_holds::send_reserved;
-use nob_space_state::{Parts, SpaceError};
+use nob_space_state::{Parts, SpaceError, unlist};
 use nob_table::State;
 use std::alloc::{AllocError, Global};
 
@@ -50,7 +50,7 @@ pub(crate) fn act_on_clean(
     ensures stands { Did here.now.space here.now.n (state_of parts.old) (state_of parts.new)
         (did.Act peer number) }
 {
-    parts.dirty.clean(index, peer);
+    unlist(&mut parts.table, &mut parts.dirty, index, peer);
     parts.sessions[peer.get() as usize - 1].take();
 }
 
@@ -155,6 +155,7 @@ pub(crate) fn act_on_dirty(
     let live = is_live(parts, here.space, index);
     let session = &mut parts.sessions[peer.get() as usize - 1];
     answer_dirty(alloc, session, &mut parts.dirty, peer, index, live)?;
+    parts.table.keep(index);
     Ok(())
 }
 

@@ -158,6 +158,7 @@ module _ {s n : ℕ} {limits : Limits} {st : State} {D : List Deed} (stands : St
             ∙ ap (λ (it : Standing). if standings.is_surrogate it.state then transit.place other (history_of s n D) else None) (sym row)
             ∙ ap (λ reps. if standings.is_surrogate (standing u other).state then transit.last_place other reps else None) (sym (same_dirties clean_notes))
       ] refl;
+      kept = λ index kept. (let it = stands.table.kept index (sym (leaves.objects.kept index) ∙ kept) in (it.0, clean_notes.listed index it.0 ∙ it.1));
     }
       where
         idle_parts : (state : TableState) (counts : Counts) → standings.is_idle (record { state = state; counts = counts }) ≡ true → (counts ≡ no_counts) × (standings.is_live state ≡ false)

@@ -130,6 +130,7 @@ module _ {s n p : ℕ} {items : List Item} {deed : Deed} {D : List Deed} (notes 
     loans = λ rep counted. shows.loans rep counted ∙ on_loan rep counted;
     dirties = shows.dirties ∙ ap length (sym same_dirties);
     places = λ rep. shows.places rep ∙ ap (λ reps. if standings.is_surrogate (standing t rep).state then transit.last_place rep reps else None) (sym same_dirties);
+    kept = λ index kept. (let it = shows.kept index kept in (it.0, notes.listed index it.0 ∙ it.1));
   }
 
   -- the state with another end, table and work in hand

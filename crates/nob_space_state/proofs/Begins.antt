@@ -1,5 +1,5 @@
 -- The state of a space that has done nothing.
-use Rattle.std.proofs.Common.{◌≡◌, ℕ, ◌+◌, false, List, [], ◌∷◌, ◌++◌, length, ◌&&◌, nat_le, slice_get, Some, None, refl, ap, subst, ◌∙◌, arith}
+use Rattle.std.proofs.Common.{◌≡◌, ℕ, ◌+◌, true, false, List, [], ◌∷◌, ◌++◌, length, ◌&&◌, nat_le, slice_get, Some, None, refl, sym, ap, subst, ◌∙◌, arith}
 use Rattle.std.proofs.lemmas.Option.{none-some}
 use Prim.Native.Nat.{zero, suc}
 use Rattle.nob_ids.specs.declared.limits.Limits.{Limits}
@@ -14,7 +14,7 @@ use Rattle.nob_dirty.specs.Sets.{ListsNothing}
 use Rattle.nob_table_rows.specs.declared.standing.Standing.{Standing}
 use Rattle.nob_table_rows.specs.Order.{place_in}
 use Rattle.nob_table_rows.specs.Standings.{is_live, unknown}
-use Rattle.nob_table.specs.Table.{Table, standing, place_of, surrogate_total}
+use Rattle.nob_table.specs.Table.{Table, standing, place_of, surrogate_total, is_kept}
 use Rattle.nob_model_work.specs.Work.{no_work}
 use Rattle.nob_space_state.specs.Parts.{State}
 use Rattle.nob_space_state.specs.Stands.{AreOpened, Stands}
@@ -46,9 +46,9 @@ nobody_twice = tt
 
 -- such a state stands for the empty list
 pub begins_stands : (s n : ℕ) (limits : Limits) (st : State) → length st.sessions ≡ n → AreOpened s 1 limits st.sessions
-    → st.table.me ≡ s → st.table.exported ≡ 0 → st.table.dirties ≡ 0 → surrogate_total st.table ≡ 0 → ((rep : WireRep) → standing st.table rep ≡ unknown)
+    → st.table.me ≡ s → st.table.exported ≡ 0 → st.table.dirties ≡ 0 → surrogate_total st.table ≡ 0 → ((rep : WireRep) → standing st.table rep ≡ unknown) → ((index : ℕ) → is_kept st.table index ≡ false)
     → ListsNothing st.dirty → st.pins.bundles ≡ [] → st.work ≡ no_work → st.calls ≡ 0 → st.jobs ≡ 0 → Stands s n limits st []
-begins_stands s n limits st each opened me exported dirties surrogates nothing listed pins work calls jobs = record {
+begins_stands s n limits st each opened me exported dirties surrogates nothing unkept listed pins work calls jobs = record {
   ends = record {
     each = each;
     ends = λ place end there. subst (λ w. session.Stands s w limits end.end []) (omega arith) (opened_at s 1 limits st.sessions place end opened there);
@@ -62,6 +62,7 @@ begins_stands s n limits st each opened me exported dirties surrogates nothing l
     loans = λ rep counted. rw (nothing rep) refl;
     dirties = dirties;
     places = λ rep. no_place st.table rep surrogates ∙ rw (nothing rep) refl;
+    kept = λ index kept. absurd (let bad : true ≡ false = sym kept ∙ unkept index in cc);
   };
   listed = λ index client. listed index client;
   pins = λ f. ap (λ bundles. sum_by f bundles) pins;

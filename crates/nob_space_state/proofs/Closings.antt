@@ -12,6 +12,8 @@ use Rattle.nob_ids.specs.declared.limits.Limits.{Limits}
 use Rattle.nob_ids.specs.declared.reason.Reason.{Reason}
 use Rattle.nob_ids.specs.declared.reason.Reason.TheVariants.{Asked}
 use Rattle.nob_ids.specs.declared.wire_rep.WireRep.{WireRep}
+use Rattle.nob_dirty.specs.declared.sets.Listing.{Listing}
+use Rattle.nob_dirty.specs.Sets.{lists, LeavesAll}
 use Rattle.nob_pins.specs.Bundles.{Pinned, of_others, TakesOutAll}
 use Rattle.nob_session.specs.Stands as session
 use Rattle.nob_session.specs.Stands.{End, Roomy}
@@ -45,7 +47,7 @@ use Rattle.nob_model_history.specs.declared.history.History.{History}
 use Rattle.nob_model_history.specs.Ends.{calls_at, call_of_closing}
 use Rattle.nob_model_history.specs.Histories.{history_of}
 use Rattle.nob_model_history.specs.Holds.{hand, times, loans_of, lent_in}
-use Rattle.nob_model_history.specs.Listing.{is_entered}
+use Rattle.nob_model_history.specs.Listing.{is_entered, is_listed}
 use Rattle.nob_model_history.specs.Transit as transit
 use Rattle.nob_model_history.specs.declared.transit.SentItem.{SentItem}
 use Rattle.nob_model_history.proofs.Pinning.{bundles_closed}
@@ -55,11 +57,12 @@ use Rattle.nob_model.specs.Lists.{IsRightDeed}
 use Rattle.nob_model.specs.Right.{own_ref, right_closing}
 use Rattle.nob_space_holds.specs.Returns.{is_from, lent_from}
 use Rattle.nob_space_state.specs.Closing.{lent_in_vain, LosesOwner, TableLoses, ClosesDown}
-use Rattle.nob_space_state.specs.Looks.{has_closed}
+use Rattle.nob_space_state.specs.Looks.{has_closed, HaveClients}
 use Rattle.nob_space_state.specs.Parts.{State, with_sessions}
 use Rattle.nob_space_holds.specs.Returns.{HasLent}
-use Rattle.nob_space_holds.specs.Shows.{TableShows, TableStands, far_state}
+use Rattle.nob_space_holds.specs.Shows.{TableShows, TableStands, AreListed, far_state}
 use Rattle.nob_space_state.specs.Stands.{Stands, EndsStand, PinsStand, bundle}
+use Rattle.nob_space_state.proofs.Kept.{clients_there, listed_clients}
 use Rattle.nob_space_state.proofs.Claiming.{times_lent}
 use Rattle.nob_space_state.proofs.Ends.{end_there, ends_changed}
 use Rattle.nob_space_state.proofs.Finishing.{none_of, counted_append, counted_copies, counted_target, state_sound}
@@ -137,15 +140,15 @@ module _ (t u : Table) (p : ℕ) (loses : LosesOwner t u p) where
   ] refl
 
 -- what the table shows once the session with p has closed
-lost_shows : (s n p : ℕ) (reason : Reason) (cause : Cause) (D : List Deed) (H L : WireRep → ℕ) (t u : Table) → is_peer s n p ≡ true → TableShows s n t (history_of s n D) H L → LosesOwner t u p
+lost_shows : (s n p : ℕ) (reason : Reason) (cause : Cause) (D : List Deed) (H L : WireRep → ℕ) (t u : Table) → is_peer s n p ≡ true → TableShows s n t (history_of s n D) H L → LosesOwner t u p → AreListed s u (Closing p reason cause ∷ D)
     → TableShows s n u (history_of s n (Closing p reason cause ∷ D)) H L
 unfolding gifts gifts_of
-lost_shows s n p reason cause D H L t u peer shows loses =
+lost_shows s n p reason cause D H L t u peer shows loses kept =
     let not_me : p == t.me ≡ false = subst (λ me. p == me ≡ false) (sym shows.me) (grind (arith, nat_tests, peer)) in
     let not_own : s == p ≡ false = grind (arith, nat_tests, peer) in
     record {
-      me = loses.left.objects.me ∙ shows.me;
-      exported = loses.left.objects.exported ∙ shows.exported;
+      me = loses.me ∙ shows.me;
+      exported = loses.exported ∙ shows.exported;
       live = λ index. ap (λ (it : Standing). is_live it.state) (row_kept t u p loses (own_ref s index) not_own) ∙ shows.live index;
       far = λ rep counted own. elim (rep.owner == p) as (λ b. rep.owner == p ≡ b → (standing u rep).state ≡ far_state (closed rep.owner (Closing p reason cause ∷ D)) (is_held (standing u rep).counts) (turns s n rep D)) [
         | true ↦ λ its.
@@ -157,11 +160,12 @@ lost_shows s n p reason cause D H L t u peer shows loses =
       ] refl;
       hands = λ rep counted. ap (λ (c : Counts). c.hand) (counts_kept t u p loses rep not_me) ∙ shows.hands rep counted;
       loans = λ rep counted. ap (λ (c : Counts). c.lent) (counts_kept t u p loses rep not_me) ∙ shows.loans rep counted;
-      dirties = loses.left.dirties ∙ shows.dirties;
+      dirties = loses.dirties ∙ shows.dirties;
       places = λ rep. elim (rep.owner == p) as (λ b. rep.owner == p ≡ b → place_of u rep ≡ (if is_surrogate (standing u rep).state then transit.place rep (history_of s n D) else None)) [
         | true ↦ λ its. loses.places rep ∙ rw (its, row_lost t u p loses rep its not_me, lost_no_surrogate (standing t rep)) refl
         | false ↦ λ differs. loses.places rep ∙ rw (differs, row_kept t u p loses rep differs) (shows.places rep)
       ] refl;
+      kept = kept;
     }
 
 -- ---- the work in hand
@@ -276,12 +280,18 @@ module _ {s n : ℕ} {limits : Limits} {st : State} {D : List Deed} (stands : St
         omega (arith, none)
   ] refl
 
+  -- who is listed after the closing
+  closing_listed : (reason : Reason) (cause : Cause) (dirty : List Listing) → LeavesAll st.dirty dirty p → (index client : ℕ) → lists dirty index client ≡ is_listed s index client (Closing p reason cause ∷ D)
+  closing_listed reason cause dirty leaves index client = leaves index client ∙ ap (λ b. not (p == client) && b) (stands.listed index client) ∙ listed_less (p == client) (closed client D) (is_entered s index client D)
+
   -- the table after the closing
-  closing_table : (reason : Reason) (cause : Cause) (u : Table) → is_peer s n p ≡ true → TableLoses s p st u → TableStands s n u (history_of s n (Closing p reason cause ∷ D))
-  closing_table reason cause u peer loses =
-      let shows = lost_shows s n p reason cause D (λ rep. hand rep D) (λ rep. times rep (lent_in s (work s n D)) - times rep (lent_in_vain s p st.work)) loses.0 u peer
-      (loses.1.shows s n (history_of s n D) (λ rep. hand rep D) (λ rep. times rep (lent_in s (work s n D))) stands.table) loses.2 in
-      subst (λ (lent : WireRep → ℕ). TableShows s n u (history_of s n (Closing p reason cause ∷ D)) (λ rep. hand rep D) lent)
+  closing_table : (reason : Reason) (cause : Cause) (after : State) → is_peer s n p ≡ true → TableLoses s p st.table st.dirty st.work after.table after.dirty → LeavesAll st.dirty after.dirty p → TableStands s n after.table (history_of s n (Closing p reason cause ∷ D))
+  closing_table reason cause after peer table leaves =
+      let before = table.gives.shows s n (history_of s n D) (λ rep. hand rep D) (λ rep. times rep (lent_in s (work s n D))) stands.table in
+      let have : HaveClients table.back st.dirty = clients_there s st.dirty D stands.listed table.back before.kept in
+      let kept : AreListed s after.table (Closing p reason cause ∷ D) = listed_clients s after.dirty (Closing p reason cause ∷ D) (closing_listed reason cause after.dirty leaves) after.table (table.kept have) in
+      let shows = lost_shows s n p reason cause D (λ rep. hand rep D) (λ rep. times rep (lent_in s (work s n D)) - times rep (lent_in_vain s p st.work)) table.back after.table peer before table.loses kept in
+      subst (λ (lent : WireRep → ℕ). TableShows s n after.table (history_of s n (Closing p reason cause ∷ D)) (λ rep. hand rep D) lent)
       (λ i rep. less (times rep (lent_in s (work s n D))) (times rep (lent_in_vain s p st.work)) (times rep (lent_in s (work s n (Closing p reason cause ∷ D))))
       (ap (λ W. times rep (lent_in s W)) (sym stands.work) ∙ lent_less s p rep st.work ∙ ap (λ W. times rep (lent_in_vain s p st.work) + times rep (lent_in s W)) (ap (work.after_close p) stands.work ∙ sym (closed_work s n p reason cause D))) i)
       shows
@@ -300,8 +310,8 @@ module _ {s n : ℕ} {limits : Limits} {st : State} {D : List Deed} (stands : St
             (ends_changed s n limits st.sessions (history_of s n D) (history_of s n (Closing p reason cause ∷ D)) p end stands.ends there.0
             (subst (λ calls. session.Stands s p limits end.end calls) (sym here) stands_closed)
             (λ q other. sym (closing_calls s n p q reason cause D ∙ rw (nat_eq_equiv.symm p q, other) refl)));
-        table = closing_table reason cause after.table peer down.table;
-        listed = λ index client. down.listed index client ∙ ap (λ b. not (p == client) && b) (stands.listed index client) ∙ listed_less (p == client) (closed client D) (is_entered s index client D);
+        table = closing_table reason cause after peer down.table down.listed;
+        listed = closing_listed reason cause after.dirty down.listed;
         pins = closing_pins s n p reason cause D st.pins.bundles after.pins.bundles stands.pins down.pins;
         work = down.work ∙ ap (work.after_close p) stands.work ∙ sym (closed_work s n p reason cause D);
         calls = down.calls ∙ stands.calls;

@@ -20,7 +20,7 @@ use Rattle.nob_table_rows.specs.Counts as table_counts
 use Rattle.nob_table_rows.specs.Rows.{IsOnce}
 use Rattle.nob_table_rows.specs.Standings.{is_live, withdrawn, exported_standing}
 use Rattle.nob_table.specs.Table as table
-use Rattle.nob_table.specs.Table.{Table, standing, live_reps, own, withdraw_fault, export_fault, IsRefusal, Becomes, ExportLeaves, WithdrawalLeaves, SameSurrogates}
+use Rattle.nob_table.specs.Table.{Table, standing, live_reps, own, withdraw_fault, export_fault, IsRefusal, Becomes, Keeps, is_kept, ExportLeaves, WithdrawalLeaves, SameSurrogates}
 use Rattle.nob_table_rows.proofs.Same.{same_laws, same_is, same_refl}
 use Rattle.nob_model_types.specs.declared.answer.Answer.TheVariants as answers
 use Rattle.nob_model_types.specs.declared.refusal.Refusal.TheVariants as refusals
@@ -95,13 +95,18 @@ module _ {s n : ℕ} {limits : Limits} {st : State} {D : List Deed} (stands : St
   ] refl
 
 -- what a chain that ends in no refusal has passed
-pub withdraw_passes : (agent here held pinned listed : Bool) → (if agent then Some (refusals.StillUsed uses.Agent) else if not agent && (true && not here) then Some refusals.NoObject else if held then Some (refusals.StillUsed uses.Held) else if pinned then Some (refusals.StillUsed uses.InTransit) else if listed then Some (refusals.StillUsed uses.Listed) else None) ≡ None → (here ≡ true) × (held ≡ false)
+pub withdraw_passes : (agent here held pinned listed : Bool) → (if agent then Some (refusals.StillUsed uses.Agent) else if not agent && (true && not here) then Some refusals.NoObject else if held then Some (refusals.StillUsed uses.Held) else if pinned then Some (refusals.StillUsed uses.InTransit) else if listed then Some (refusals.StillUsed uses.Listed) else None) ≡ None → (here ≡ true) × (held ≡ false) × (listed ≡ false)
 withdraw_passes true here held pinned listed e = absurd (none-some _ (sym e))
 withdraw_passes false false held pinned listed e = absurd (none-some _ (sym e))
 withdraw_passes false true true pinned listed e = absurd (none-some _ (sym e))
 withdraw_passes false true false true listed e = absurd (none-some _ (sym e))
 withdraw_passes false true false false true e = absurd (none-some _ (sym e))
-withdraw_passes false true false false false e = (refl, refl)
+withdraw_passes false true false false false e = (refl, refl, refl)
+
+-- what is kept where one object's mark went was kept before
+kept_before : (here before : Bool) → (if here then false else before) ≡ true → before ≡ true
+kept_before true before kept = absurd (cc)
+kept_before false before kept = kept
 
 or_false : (b : Bool) → (b || false) ≡ b
 or_false true = refl
@@ -130,7 +135,7 @@ live_exported s D index alive = elim (objects.is_exported s index D) as (λ b. (
 pub withdraw_finds : {s n : ℕ} {limits : Limits} {st : State} {D : List Deed} → Stands s n limits st D → (index : ℕ) → withdraw_refusal s st index ≡ None → (objects.is_live s index D ≡ true) × (has_holds st.table (own_ref s index) ≡ false)
 unfolding withdraw_refusal
 withdraw_finds {s} {n} {limits} {st} {D} stands index free =
-    let passes : (is_live (standing st.table (own_ref s index)).state ≡ true) × (has_holds st.table (own_ref s index) ≡ false) =
+    let passes : (is_live (standing st.table (own_ref s index)).state ≡ true) × (has_holds st.table (own_ref s index) ≡ false) × (has_clients st.dirty index ≡ false) =
     withdraw_passes (index == 0) (is_live (standing st.table (own_ref s index)).state) (has_holds st.table (own_ref s index)) (not (count_of st.pins.bundles (own_ref s index) == 0)) (has_clients st.dirty index)
     (sym (rw (nat_eq_equiv.refl s) refl) ∙ free) in
     (sym (stands.table.live index) ∙ passes.0, passes.1)
@@ -190,12 +195,13 @@ module _ {s n : ℕ} {limits : Limits} {st : State} {D : List Deed} (stands : St
       (λ _. omega (arith, empty, low, more_hand))
       (λ _. sym (ap (λ (c : Counts). c.lent) next_unheld) ∙ stands.table.loans rep counted ∙ ap (λ w. times rep (lent_in s w)) (sym quiet.work))
       (λ other _ differs. ap (λ j. j - times other (releases D)) (sym (times_more rep other (gains D) ∙ rw differs refl)))
-      (λ other _ differs. ap (λ w. times other (lent_in s w)) (sym quiet.work)))
+      (λ other _ differs. ap (λ w. times other (lent_in s w)) (sym quiet.work))
+      (λ other kept. let it = stands.table.kept other (sym (leaves.kept other) ∙ kept) in (it.0, quiet.listed other it.0 ∙ it.1)))
       its
 
   -- after a Withdraw
-  pub withdraw_stands : (index : ℕ) → IsRightDeed s n limits (Withdraw index) D → WithdrawalLeaves st.table u → Becomes st.table u (own_ref s index) withdrawn → withdraw_refusal s st index ≡ None → Stands s n limits (with_table u st) (Withdraw index ∷ D)
-  withdraw_stands index its leaves becomes free =
+  pub withdraw_stands : (index : ℕ) → IsRightDeed s n limits (Withdraw index) D → WithdrawalLeaves st.table u → Keeps st.table u index false → Becomes st.table u (own_ref s index) withdrawn → withdraw_refusal s st index ≡ None → Stands s n limits (with_table u st) (Withdraw index ∷ D)
+  withdraw_stands index its leaves unkept becomes free =
       let rep : WireRep = own_ref s index in
       let quiet : IsQuiet s n (Withdraw index) D = withdraw_is_quiet s n index D in
       let passes : (objects.is_live s index D ≡ true) × (has_holds st.table rep ≡ false) = withdraw_finds stands index free in
@@ -210,7 +216,8 @@ module _ {s n : ℕ} {limits : Limits} {st : State} {D : List Deed} (stands : St
       (λ counted. sym (ap (λ (c : Counts). c.hand) bare) ∙ stands.table.hands rep counted)
       (λ counted. sym (ap (λ (c : Counts). c.lent) bare) ∙ stands.table.loans rep counted ∙ ap (λ w. times rep (lent_in s w)) (sym quiet.work))
       (λ other _ differs. refl)
-      (λ other _ differs. ap (λ w. times other (lent_in s w)) (sym quiet.work)))
+      (λ other _ differs. ap (λ w. times other (lent_in s w)) (sym quiet.work))
+      (λ other kept. let it = stands.table.kept other (kept_before (other == index) (is_kept st.table other) (sym (unkept other) ∙ kept)) in (it.0, quiet.listed other it.0 ∙ it.1)))
       its
 
 -- the table's refusal of an Export is the space's

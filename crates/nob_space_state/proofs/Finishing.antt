@@ -265,6 +265,7 @@ module _ {s n : ℕ} {limits : Limits} {st : State} {D : List Deed} (stands : St
           loans = λ rep counted. shows.loans rep counted ∙ ap (λ V. times rep (lent_in s V)) (sym after ∙ in_hand);
           dirties = shows.dirties;
           places = shows.places;
+          kept = shows.kept;
         };
         listed = stands.listed;
         pins = stands.pins;

@@ -5,6 +5,8 @@ pub mod Quiet
 pub mod Rows
 pub mod Stood
 pub mod Listed
+pub mod Kept
+pub mod Letting
 pub mod Pinned
 pub mod Exported
 pub mod Begins

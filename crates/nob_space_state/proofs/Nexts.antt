@@ -1,5 +1,5 @@
 -- What could be done next, by the state.
-use Rattle.std.proofs.Common.{◌≡◌, ℕ, ◌+◌, ◌<◌, ◌≤◌, ◌==◌, not, nat_lt, Bool, true, false, List, find, Option, Some, None, Ok, is_some, option_map, refl, sym, ap, subst, ◌∙◌, arith}
+use Rattle.std.proofs.Common.{◌≡◌, ℕ, ◌+◌, ◌<◌, ◌≤◌, ◌==◌, ◌&&◌, not, nat_lt, Bool, true, false, List, find, Option, Some, None, Ok, is_some, option_map, refl, sym, ap, subst, ◌∙◌, arith}
 use Rattle.std.specs.Prelude.{◌≢◌, MatchOption}
 use Rattle.std.specs.List.{position}
 use Rattle.std.proofs.lemmas.Bool.Decides.{nat_tests, Decides-eqb}
@@ -7,7 +7,7 @@ use Rattle.std.proofs.lemmas.Cmp.{nat_eq_equiv}
 use Rattle.std.proofs.lemmas.Option.{none-some}
 use Rattle.nob_pins.specs.Bundles.{count_of}
 use Rattle.nob_table_rows.specs.Standings.{is_live, is_unheld}
-use Rattle.nob_table.specs.Table.{standing, own, NeverUnheld, IsFirstUnheld}
+use Rattle.nob_table.specs.Table.{standing, own, is_kept, is_spare_at, NeverSpare, IsFirstSpare}
 use Rattle.nob_model_types.specs.declared.answer.Answer.TheVariants as answers
 use Rattle.nob_model_types.specs.declared.refusal.Refusal.{Refusal}
 use Rattle.nob_ids.specs.declared.limits.Limits.{Limits}
@@ -32,7 +32,8 @@ use Rattle.nob_space_state.specs.Dues.{due}
 use Rattle.nob_space_state.specs.Parts.{State}
 use Rattle.nob_space_state.specs.Stands.{Stands}
 use Rattle.nob_model_work.proofs.Firsts.{no_place, place_first}
-use Rattle.nob_space_state.proofs.Exported.{withdraw_passes, withdraw_right}
+use Rattle.nob_space_state.proofs.Listed.{somebody_listed}
+use Rattle.nob_space_state.proofs.Exported.{listed_there, withdraw_passes, withdraw_right}
 use Rattle.nob_space_state.proofs.Rows.{differ}
 use Rattle.nob_space_state.proofs.Told.{closed_there}
 
@@ -66,27 +67,35 @@ claim_there {s} {n} {limits} {st} {D} stands = place_found (is_free st.work) st.
 
 -- ---- the object to withdraw
 
--- an object that may be withdrawn is live and without holds
-pub unheld_where : (s : ℕ) (st : State) (index : ℕ) → st.table.me ≡ s → withdraw_refusal s st index ≡ None → is_unheld (standing st.table (own st.table index)) ≡ true
+-- for what is kept from outside there are clients
+abbrev pub KeptAreListed : State → Type 0
+KeptAreListed st = (index : ℕ) → is_kept st.table index ≡ true → has_clients st.dirty index ≡ true
+
+-- an object that may be withdrawn is live, without holds and not kept from outside
+pub spare_where : (s : ℕ) (st : State) (index : ℕ) → st.table.me ≡ s → KeptAreListed st → withdraw_refusal s st index ≡ None → is_spare_at st.table index ≡ true
 unfolding withdraw_refusal
-unheld_where s st index me free =
-    let passes : (is_live (standing st.table (own_ref s index)).state ≡ true) × (has_holds st.table (own_ref s index) ≡ false) =
+spare_where s st index me kept free =
+    let passes : (is_live (standing st.table (own_ref s index)).state ≡ true) × (has_holds st.table (own_ref s index) ≡ false) × (has_clients st.dirty index ≡ false) =
     withdraw_passes (index == 0) (is_live (standing st.table (own_ref s index)).state) (has_holds st.table (own_ref s index)) (not (count_of st.pins.bundles (own_ref s index) == 0)) (has_clients st.dirty index)
     (sym (rw (nat_eq_equiv.refl s) refl) ∙ free) in
-    subst (λ (k : ℕ). is_unheld (standing st.table (own_ref k index)) ≡ true) (sym me) (rw (passes.0, passes.1) refl)
+    let unheld : is_unheld (standing st.table (own st.table index)) ≡ true = subst (λ (k : ℕ). is_unheld (standing st.table (own_ref k index)) ≡ true) (sym me) (rw (passes.0, passes.1) refl) in
+    elim (is_kept st.table index) as (λ b. is_kept st.table index ≡ b → (is_unheld (standing st.table (own st.table index)) && not b) ≡ true) [
+      | true ↦ λ is. absurd (differ (kept index is) passes.2)
+      | false ↦ λ _. rw (unheld) refl
+    ] refl
 
 -- every index below one is refused
 abbrev pub AreRefusedBelow : (s : ℕ) → State → ℕ → Type 0
-AreRefusedBelow s st from = st.table.me ≡ s → (index : ℕ) → index < from → withdraw_refusal s st index ≡ None → ⊥
+AreRefusedBelow s st from = st.table.me ≡ s → KeptAreListed st → (index : ℕ) → index < from → withdraw_refusal s st index ≡ None → ⊥
 
 -- one step further: the indexes that were passed are refused, and so is the one that was found
-pub refused_more : (s : ℕ) (st : State) (from index : ℕ) (refusal : Refusal) → IsFirstUnheld st.table from index → withdraw_refusal s st index ≡ Some refusal → AreRefusedBelow s st from → AreRefusedBelow s st (index + 1)
-refused_more s st from index refusal first refused below = λ me other low free.
+pub refused_more : (s : ℕ) (st : State) (from index : ℕ) (refusal : Refusal) → IsFirstSpare st.table from index → withdraw_refusal s st index ≡ Some refusal → AreRefusedBelow s st from → AreRefusedBelow s st (index + 1)
+refused_more s st from index refusal first refused below = λ me kept other low free.
     elim (other == index) as (λ b. other == index ≡ b → ⊥) [
       | true ↦ λ same. let is : other ≡ index = (Decides-eqb other index).0 same in none-some refusal (sym (subst (λ k. withdraw_refusal s st k ≡ None) is free) ∙ refused)
       | false ↦ λ differs. elim (nat_lt other from) as (λ b. nat_lt other from ≡ b → ⊥) [
-        | true ↦ λ lower. below me other (grind (arith, nat_tests, lower)) free
-        | false ↦ λ higher. differ (unheld_where s st other me free) (first.2 other (grind (arith, nat_tests, higher)) (grind (arith, nat_tests, low, differs)))
+        | true ↦ λ lower. below me kept other (grind (arith, nat_tests, lower)) free
+        | false ↦ λ higher. differ (spare_where s st other me kept free) (first.2 other (grind (arith, nat_tests, higher)) (grind (arith, nat_tests, low, differs)))
       ] refl
     ] refl
 
@@ -99,15 +108,18 @@ module _ {s n : ℕ} {limits : Limits} {st : State} {D : List Deed} (stands : St
   taken_free : (index : ℕ) → right_withdraw s index (history_of s n D) ≡ Ok answers.Withdrawn → withdraw_refusal s st index ≡ None
   taken_free index is = none_unless (withdraw_refusal s st index) (sym (withdraw_right stands index) ∙ is)
 
+  kept_there : KeptAreListed st
+  kept_there index kept = (let it = stands.table.kept index kept in listed_there stands index ∙ somebody_listed s index D it.0 it.1)
+
   -- the first one that isn't refused
-  pub least_there : (from index : ℕ) → IsFirstUnheld st.table from index → withdraw_refusal s st index ≡ None → AreRefusedBelow s st from → to_withdraw s (history_of s n D) ≡ Some index
+  pub least_there : (from index : ℕ) → IsFirstSpare st.table from index → withdraw_refusal s st index ≡ None → AreRefusedBelow s st from → to_withdraw s (history_of s n D) ≡ Some index
   least_there from index first free below =
       let it : right_withdraw s index (history_of s n D) ≡ Ok answers.Withdrawn = withdraw_right stands index ∙ ap (λ r. unless r answers.Withdrawn) free in
       let least : (other : ℕ) → right_withdraw s other (history_of s n D) ≡ Ok answers.Withdrawn → index ≤ other = λ other is.
       elim (nat_lt other index) as (λ b. nat_lt other index ≡ b → index ≤ other) [
         | true ↦ λ lower. absurd (elim (nat_lt other from) as (λ b. nat_lt other from ≡ b → ⊥) [
-          | true ↦ λ low. below stands.table.me other (grind (arith, nat_tests, low)) (taken_free other is)
-          | false ↦ λ higher. differ (unheld_where s st other stands.table.me (taken_free other is)) (first.2 other (grind (arith, nat_tests, higher)) (grind (arith, nat_tests, lower)))
+          | true ↦ λ low. below stands.table.me kept_there other (grind (arith, nat_tests, low)) (taken_free other is)
+          | false ↦ λ higher. differ (spare_where s st other stands.table.me kept_there (taken_free other is)) (first.2 other (grind (arith, nat_tests, higher)) (grind (arith, nat_tests, lower)))
         ] refl)
         | false ↦ λ higher. grind (arith, nat_tests, higher)
       ] refl in
@@ -117,12 +129,12 @@ module _ {s n : ℕ} {limits : Limits} {st : State} {D : List Deed} (stands : St
       ] (least_law s (history_of s n D))
 
   -- none that isn't refused
-  pub none_there : (from : ℕ) → NeverUnheld st.table from → AreRefusedBelow s st from → to_withdraw s (history_of s n D) ≡ None
+  pub none_there : (from : ℕ) → NeverSpare st.table from → AreRefusedBelow s st from → to_withdraw s (history_of s n D) ≡ None
   none_there from never below =
       elim (to_withdraw s (history_of s n D)) as (λ found. MatchOption found ((other : ℕ) → right_withdraw s other (history_of s n D) ≢ Ok answers.Withdrawn) (λ i. (right_withdraw s i (history_of s n D) ≡ Ok answers.Withdrawn) × ((other : ℕ) → right_withdraw s other (history_of s n D) ≡ Ok answers.Withdrawn → i ≤ other)) → found ≡ None) [
         | None ↦ λ _. refl
         | Some i ↦ λ found. absurd (elim (nat_lt i from) as (λ b. nat_lt i from ≡ b → ⊥) [
-          | true ↦ λ low. below stands.table.me i (grind (arith, nat_tests, low)) (taken_free i found.0)
-          | false ↦ λ higher. differ (unheld_where s st i stands.table.me (taken_free i found.0)) (never i (grind (arith, nat_tests, higher)))
+          | true ↦ λ low. below stands.table.me kept_there i (grind (arith, nat_tests, low)) (taken_free i found.0)
+          | false ↦ λ higher. differ (spare_where s st i stands.table.me kept_there (taken_free i found.0)) (never i (grind (arith, nat_tests, higher)))
         ] refl)
       ] (least_law s (history_of s n D))

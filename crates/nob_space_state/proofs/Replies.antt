@@ -314,6 +314,7 @@ module _ {s n : ℕ} {limits : Limits} {st : State} {D : List Deed} (stands : St
             loans = λ rep counted. shows.loans rep counted ∙ take_loans rep;
             dirties = shows.dirties;
             places = shows.places;
+            kept = shows.kept;
           };
           listed = stands.listed;
           pins = stands.pins;
@@ -354,6 +355,7 @@ module _ {s n : ℕ} {limits : Limits} {st : State} {D : List Deed} (stands : St
           loans = λ rep counted. stands.table.loans rep counted ∙ ap (λ (w : InHand). times rep (lent_in s w)) (sym end_work);
           dirties = stands.table.dirties;
           places = stands.table.places;
+          kept = stands.table.kept;
         };
         listed = stands.listed;
         pins = stands.pins;

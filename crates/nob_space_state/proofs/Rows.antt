@@ -21,7 +21,7 @@ use Rattle.nob_model_history.specs.declared.history.History.{History}
 use Rattle.nob_model_history.specs.Transit as transit
 use Rattle.nob_model.specs.Right.{own_ref}
 use Rattle.nob_table_rows.specs.Counts as counts
-use Rattle.nob_space_holds.specs.Shows.{TableShows, far_state}
+use Rattle.nob_space_holds.specs.Shows.{TableShows, AreListed, far_state}
 use Rattle.nob_space_holds.proofs.Shows.{one_row}
 use Rattle.nob_space_state.proofs.Told.{own_is}
 
@@ -96,8 +96,8 @@ module _ (s n : ℕ) (h h' : History) (H L H' L' : WireRep → ℕ) (t u : Table
       → ((index : ℕ) → is_same rep (own_ref s index) ≡ false → objects.is_live s index h.deeds ≡ objects.is_live s index h'.deeds)
       → (is_counted rep ≡ true → after.counts.hand ≡ H' rep) → (is_counted rep ≡ true → after.counts.lent ≡ L' rep)
       → ((other : WireRep) → is_counted other ≡ true → is_same rep other ≡ false → H other ≡ H' other) → ((other : WireRep) → is_counted other ≡ true → is_same rep other ≡ false → L other ≡ L' other)
-      → TableShows s n u h' H' L'
-  own_row after becomes me exported surrogate live_here live_else hand lent hands loans =
+      → AreListed s u h'.deeds → TableShows s n u h' H' L'
+  own_row after becomes me exported surrogate live_here live_else hand lent hands loans kept =
       let before : is_surrogate (standing t rep).state ≡ false = (own_there t rep (subst (λ m. rep.owner == m ≡ true) (sym shows.me) own)).0 in
       record {
         me = me ∙ shows.me;
@@ -117,4 +117,5 @@ module _ (s n : ℕ) (h h' : History) (H L H' L' : WireRep → ℕ) (t u : Table
         places = λ other. surrogates.places other ∙ shows.places other
             ∙ ap (λ b. if b then transit.place other h else None) (sym (one_row (λ w it. is_surrogate it.state ≡ is_surrogate (standing t w).state) rep (standing t) (standing u) after becomes (surrogate ∙ sym before) (λ w differs. refl) other))
             ∙ ap (λ reps. if is_surrogate (standing u other).state then transit.last_place other reps else None) dirties;
+        kept = kept;
       }

@@ -141,6 +141,7 @@ module _ {s n p : ℕ} {item : Item} {deed : Deed} {D : List Deed} (hands : Hand
     loans = λ rep counted. shows.loans rep counted ∙ on_loan rep counted;
     dirties = shows.dirties ∙ ap length (sym dirties_then);
     places = λ rep. shows.places rep ∙ ap (λ reps. if standings.is_surrogate (standing t rep).state then transit.last_place rep reps else None) (sym dirties_then);
+    kept = λ index kept. (let it = shows.kept index kept in (it.0, hands.listed index it.0 ∙ it.1));
   }
 
   -- the state with other ends, holds, pins and work in hand

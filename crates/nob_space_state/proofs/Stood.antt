@@ -37,6 +37,7 @@ module _ {s n : ℕ} {deed : Deed} {D : List Deed} (quiet : IsQuiet s n deed D) 
     loans = λ rep counted. shows.loans rep counted ∙ loans rep counted;
     dirties = shows.dirties ∙ ap length (sym quiet.dirties);
     places = λ rep. shows.places rep ∙ ap (λ reps. if standings.is_surrogate (standing t rep).state then transit.last_place rep reps else None) (sym quiet.dirties);
+    kept = λ index kept. (let it = shows.kept index kept in (it.0, quiet.listed index it.0 ∙ it.1));
   }
 
   -- a state with another table

@@ -3,10 +3,11 @@ use Rattle.std.specs.Prelude.{◌≡◌, ℕ, ◌<◌, true, ◌==◌, List, ◌
 use Rattle.nob_ids.specs.declared.limits.Limits.{Limits}
 use Rattle.nob_ids.specs.declared.reason.Reason.{Reason}
 use Rattle.nob_ids.specs.declared.wire_rep.WireRep.{WireRep}
+use Rattle.nob_dirty.specs.declared.sets.Listing.{Listing}
 use Rattle.nob_dirty.specs.Sets.{LeavesAll}
 use Rattle.nob_pins.specs.Bundles.{TakesOutAll}
 use Rattle.nob_table_rows.specs.Standings.{after_close}
-use Rattle.nob_table.specs.Table.{Table, standing, place_of, is_of, RemovalLeaves}
+use Rattle.nob_table.specs.Table.{Table, standing, place_of, is_of}
 use Rattle.nob_frame.specs.declared.frame.Frame.{Frame}
 use Rattle.nob_model_session.specs.declared.entry.Arrived.{Arrived}
 use Rattle.nob_model_session.specs.declared.entry.Arrived.TheVariants as arrived
@@ -21,6 +22,7 @@ use Rattle.nob_model_words.specs.Sessions.{is_peer, closed}
 use Rattle.nob_model_work.specs.declared.work.InHand.{InHand}
 use Rattle.nob_model_work.specs.Work as work
 use Rattle.nob_model.specs.Lists.{IsRightDeed}
+use Rattle.nob_space_state.specs.Looks.{HaveClients}
 use Rattle.nob_space_state.specs.Parts.{State}
 use Rattle.nob_space_holds.specs.Returns.{GivesBack, lent_from}
 use Rattle.nob_space_state.specs.Stands.{Stands}
@@ -33,16 +35,21 @@ lent_in_vain s p W = lent_from s p W.waiting ++ lent_from s p W.ready
 pub record LosesOwner (old new : Table) (owner : ℕ) : Type 0 where
   pub closed : (rep : WireRep) → standing new rep ≡ (if is_of old owner rep then after_close (standing old rep) else standing old rep)
   pub places : (rep : WireRep) → place_of new rep ≡ (if rep.owner == owner then None else place_of old rep)
-  pub left : RemovalLeaves old new
+  pub me : new.me ≡ old.me
+  pub exported : new.exported ≡ old.exported
+  pub dirties : new.dirties ≡ old.dirties
 
--- the table of a space whose session with p closes: what was lent in vain is given back, and then the references to p's objects are lost
-abbrev pub TableLoses : (s p : ℕ) → State → Table → Type 0
-TableLoses s p old new = (back : Table) × GivesBack old.table back (lent_in_vain s p old.work) × LosesOwner back new p
+-- the table of a space whose session with p closes: what was lent in vain is given back, the references to p's objects are lost, and what only p was listed for is let go
+pub record TableLoses (s p : ℕ) (old : Table) (listed : List Listing) (W : InHand) (new : Table) (left : List Listing) : Type 0 where
+  pub back : Table
+  pub gives : GivesBack old back (lent_in_vain s p W)
+  pub loses : LosesOwner back new p
+  pub kept : HaveClients back listed → HaveClients new left
 
 -- what the closing of the session with p leaves of the parts, the end itself aside
 pub record ClosesDown (s p : ℕ) (old new : State) : Type 0 where
   pub sessions : new.sessions ≡ old.sessions
-  pub table : TableLoses s p old new.table
+  pub table : TableLoses s p old.table old.dirty old.work new.table new.dirty
   pub listed : LeavesAll old.dirty new.dirty p
   pub pins : TakesOutAll old.pins.bundles new.pins.bundles p
   pub work : new.work ≡ work.after_close p old.work

@@ -1,12 +1,12 @@
 -- What the state tells of sessions and references.
-use Rattle.std.specs.Prelude.{ℕ, ◌-◌, Bool, false, ◌&&◌, ◌==◌, not, List, slice_get, Option, Some, None, if◌then◌else◌}
+use Rattle.std.specs.Prelude.{◌≡◌, ℕ, ◌-◌, Bool, true, false, ◌&&◌, ◌==◌, not, List, slice_get, Option, Some, None, if◌then◌else◌}
 use Rattle.nob_ids.specs.declared.wire_rep.WireRep.{WireRep}
-use Rattle.std.specs.List.{list_any}
+use Rattle.std.specs.List.{list_any, Contains}
 use Rattle.nob_dirty.specs.declared.sets.Listing.{Listing}
-use Rattle.nob_dirty.specs.Sets.{has_index}
+use Rattle.nob_dirty.specs.Sets.{lists, has_index}
 use Rattle.nob_session.specs.Stands.{Roomy, is_open_end}
 use Rattle.nob_table_rows.specs.Standings.{is_live}
-use Rattle.nob_table.specs.Table.{Table, standing}
+use Rattle.nob_table.specs.Table.{Table, standing, is_kept}
 use Rattle.nob_table_rows.specs.Counts as counts
 
 -- whether an end, where there is one, has closed
@@ -37,3 +37,15 @@ is_cut s sessions rep = not (rep.owner == s) && has_closed sessions rep.owner
 -- whether a client is listed at an index
 abbrev pub has_clients : List Listing → ℕ → Bool
 has_clients dirty index = list_any (has_index index) dirty
+
+-- each object that the table keeps from outside has a client that the sets list for it
+abbrev pub HaveClients : Table → List Listing → Type 0
+HaveClients t dirty = (index : ℕ) → is_kept t index ≡ true → (client : ℕ) × (lists dirty index client ≡ true)
+
+-- what new keeps from outside old keeps too, and at this index only where the sets have a client
+abbrev pub LetsGo : (old new : Table) → List Listing → ℕ → Type 0
+LetsGo old new dirty at = (index : ℕ) → is_kept new index ≡ true → (is_kept old index ≡ true) × (index ≡ at → has_clients dirty index ≡ true)
+
+-- what new keeps from outside old keeps too, and at these indexes only where the sets have a client
+abbrev pub LetAllGo : (old new : Table) → List Listing → List ℕ → Type 0
+LetAllGo old new dirty indexes = (index : ℕ) → is_kept new index ≡ true → (is_kept old index ≡ true) × (Contains indexes index → has_clients dirty index ≡ true)

@@ -17,6 +17,7 @@ ghost use Rattle.nob_space_state.specs.Parts.{state_of};
 ghost use Rattle.nob_space_holds.specs.Returns.{HasLent};
 ghost use Rattle.nob_space_state.specs.Stands.{Stands, IsState, Keeps, Did, Answers};
 
+use crate::listings::unlist_all;
 use crate::parts::Parts;
 use nob_ids::{CallNo, Reason, SpaceId};
 use nob_model::{Here, Message, OwnCall, Refusal, Stage};
@@ -72,7 +73,7 @@ impl Parts {
         throw_away(&mut self.table, &mut self.waiting, me, peer);
         throw_away(&mut self.table, &mut self.ready, me, peer);
         self.table.close(peer);
-        self.dirty.close(peer);
+        unlist_all(&mut self.table, &mut self.dirty, peer);
         self.pins.close(closed);
         end_calls(peer, &self.replies, &mut self.calls);
     }

@@ -7,6 +7,7 @@ mod closing;
 mod error;
 mod finish;
 mod jobs;
+mod listings;
 mod looks;
 mod next;
 mod objects;
@@ -18,5 +19,6 @@ mod take;
 
 pub use error::SpaceError;
 pub use finish::ReplyFate;
+pub use listings::unlist;
 pub use parts::Parts;
 pub use take::CallResult;

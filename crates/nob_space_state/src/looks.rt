@@ -11,6 +11,7 @@ ghost use Rattle.nob_table.specs.Table.{standing};
 ghost use Rattle.nob_space_state.specs.Looks.{has_closed, has_holds, is_gone, is_cut, has_clients};
 ghost use Rattle.nob_pins.specs.Bundles.{count_of};
 
+use crate::listings::has_clients;
 use crate::parts::Parts;
 use nob_ids::{SpaceId, WireRep};
 use nob_table::State;
@@ -58,7 +59,7 @@ impl Parts {
     pub fn has_clients(&self, index: u64) -> bool
         ensures { result ≡ has_clients self.now.dirty index }
     {
-        !self.dirty.is_empty(index)
+        has_clients(&self.dirty, index)
     }
 
     /// Whether a client is listed at an index: it was granted the object, and hasn't given it up.

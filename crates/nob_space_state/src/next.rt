@@ -75,15 +75,15 @@ impl Parts {
         self.first_free().is_some()
     }
 
-    /// The least index of a live object that Withdraw would take. Linear in the objects, with a
-    /// look-up logarithmic in the listings for each that nothing holds.
+    /// The least index of a live object that Withdraw would take. A look-up, and one more for each
+    /// object before it that nothing holds and no client is listed for, but that is pinned.
     pub fn to_withdraw(&self, here: &Here) -> Option<u64>
         ensures { (limits : LimitsOf) (D : List Deed)
             → Stands here.now.space here.now.n limits (state_of self.now) D
             → result ≡ next.to_withdraw here.now.space (history_of here.now.space here.now.n D) }
     {
         let mut from = 0;
-        while let Some(index) = self.table.first_unheld(from) {
+        while let Some(index) = self.table.first_spare(from) {
             match self.refuse_withdraw(here.space, index) {
                 Ok(()) => return Some(index),
                 Err(_) => from = index + 1,

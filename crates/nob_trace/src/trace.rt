@@ -9,7 +9,7 @@ use std::alloc::{AllocError, Global};
 use std::marker::Model;
 
 /// Entries whose stamps are at least 1 and rise. Contracts see the list, the first entry first.
-#[derive(Debug, Drop)]
+#[derive(Debug)]
 pub struct Entries {
     entries: Vec<Stamped>,
 }
@@ -29,6 +29,13 @@ impl Model for Entries {
     ghost view = { λ entries. entries.entries.items };
 
     ghost invariant = { λ entries. Rise 0 entries.entries.items };
+}
+
+impl Drop for Entries {
+    fn drop(self) {
+        let Entries { entries } = self;
+        drop(entries);
+    }
 }
 
 impl Entries {

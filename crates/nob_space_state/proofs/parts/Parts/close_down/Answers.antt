@@ -1,9 +1,11 @@
-use Rattle.std.proofs.Common.{ℕ, refl, sym, subst}
+use Rattle.std.proofs.Common.{ℕ, refl, sym, subst, ◌∙◌}
 use Rattle.nob_pins.specs.Bundles.{TakesOutAll}
 use Rattle.nob_space_holds.specs.Returns.{lent_from}
 use Rattle.nob_space_state.specs.Closing.{ClosesDown}
 use Rattle.nob_space_state.specs.Parts.{state_of}
 use Rattle.nob_space_state.proofs.Closings.{thrown_work}
+use Rattle.nob_table_rows.specs.Order.{place_in}
+use Rattle.nob_space_holds.proofs.Marked.{same_standing}
 use Rattle.nob_space_holds.proofs.Returned.{back_then}
 use Rattle.nob_space_state.proofs.parts.Parts.close_down.Goals as goal
 
@@ -11,9 +13,9 @@ pub returns : goal.returns
 returns c =
     subst (λ (p : ℕ). ClosesDown c.args.me p (state_of c.args.self.now) (state_of record {
       sessions = c.args.self.now.sessions;
-      table = c.close.new.self;
-      dirty = c.close-2.new.self;
-      pins = c.close-3.new.self;
+      table = c.unlist_all.new.table;
+      dirty = c.unlist_all.new.dirty;
+      pins = c.close-2.new.self;
       waiting = c.throw_away.new.messages;
       ready = c.throw_away-2.new.messages;
       running = c.args.self.now.running;
@@ -23,13 +25,20 @@ returns c =
       jobs_made = c.args.self.now.jobs_made;
     })) c.peer-peer.ensures record {
       sessions = refl;
-      table = (
-        c.throw_away-2.new.table,
-        back_then c.args.self.now.table c.throw_away.new.table c.throw_away-2.new.table (lent_from c.args.me c.peer-peer.result c.args.self.now.waiting.items) (lent_from c.args.me c.peer-peer.result c.args.self.now.ready.items) c.throw_away.ensures.back c.throw_away-2.ensures.back,
-        record { closed = c.close.ensures.closed; places = c.close.ensures.places; left = c.close.ensures.left },
-      );
-      listed = c.close-2.ensures.leaves;
-      pins = subst (λ (p : ℕ). TakesOutAll c.args.self.now.pins.bundles c.close-3.new.self.bundles p) (sym c.peer-peer.ensures) c.close-3.ensures;
+      table = record {
+        back = c.throw_away-2.new.table;
+        gives = back_then c.args.self.now.table c.throw_away.new.table c.throw_away-2.new.table (lent_from c.args.me c.peer-peer.result c.args.self.now.waiting.items) (lent_from c.args.me c.peer-peer.result c.args.self.now.ready.items) c.throw_away.ensures.back c.throw_away-2.ensures.back;
+        loses = record {
+          closed = λ rep. same_standing c.unlist_all.ensures.table.items rep ∙ c.close.ensures.closed rep;
+          places = λ rep. (λ i. place_in (c.unlist_all.ensures.table.items.surrogates i) rep) ∙ c.close.ensures.places rep;
+          me = c.unlist_all.ensures.table.items.me ∙ c.close.ensures.left.objects.me;
+          exported = c.unlist_all.ensures.table.items.exported ∙ c.close.ensures.left.objects.exported;
+          dirties = c.unlist_all.ensures.table.items.dirties ∙ c.close.ensures.left.dirties;
+        };
+        kept = λ have. c.unlist_all.ensures.kept (λ index kept. have index (sym (c.close.ensures.left.objects.kept index) ∙ kept));
+      };
+      listed = c.unlist_all.ensures.listed;
+      pins = subst (λ (p : ℕ). TakesOutAll c.args.self.now.pins.bundles c.close-2.new.self.bundles p) (sym c.peer-peer.ensures) c.close-2.ensures;
       work = thrown_work c.peer-peer.result (state_of c.args.self.now).work c.throw_away.new.messages.items c.throw_away-2.new.messages.items c.end_calls.new.calls.items c.throw_away.ensures.left c.throw_away-2.ensures.left c.end_calls.ensures;
       calls = refl;
       jobs = refl;

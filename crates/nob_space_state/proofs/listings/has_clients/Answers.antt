@@ -1,6 +1,6 @@
 use Rattle.std.proofs.Common.{◌≡◌, ◌↔◌, Bool, true, false, not, refl}
 use Rattle.nob_dirty.proofs.Membership.{empty_there}
-use Rattle.nob_space_state.proofs.parts.Parts.has_clients.Goals as goal
+use Rattle.nob_space_state.proofs.listings.has_clients.Goals as goal
 
 -- two tests of one fact
 same_test : {P : Type 0} (a b : Bool) → ((a ≡ true) ↔ P) → ((not b ≡ true) ↔ P) → not a ≡ b
@@ -10,4 +10,4 @@ same_test false true one other = refl
 same_test false false one other = let bad : false ≡ true = one.1 (other.0 refl) in absurd (cc)
 
 pub returns : goal.returns
-returns c = same_test _ _ c.is_empty.ensures (empty_there c.args.index c.args.self.now.dirty)
+returns c = same_test _ _ c.is_empty.ensures (empty_there c.args.index c.args.dirty.now)

@@ -1,0 +1,11 @@
+pub mod Flat
+pub mod Held
+pub mod Live
+pub mod Marking
+pub mod Numbers
+pub mod Parted
+pub mod Placed
+pub mod Rising
+pub mod Swept
+pub mod Thinned
+pub mod Trimmed

@@ -1,0 +1,8 @@
+use Rattle.nob_slots.proofs.Numbers.{marked_there, rising_live}
+use Rattle.nob_slots.proofs.slots.Slots.len.Goals as goal
+
+pub returns-clause-rising : goal.returns-clause-rising
+returns-clause-rising g c = rw (← c.self.view_is) (rising_live c.self.inside.slots.items c.self.invariant.rising)
+
+pub returns-clause-there : goal.returns-clause-there
+returns-clause-there g c = rw (← c.self.view_is) (λ number is. marked_there c.self.inside.slots.items number is)
