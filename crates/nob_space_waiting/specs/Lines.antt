@@ -57,25 +57,29 @@ items_of rows = map (λ row. row.1.message) rows
 abbrev pub open_in : (WireRep → Bool) → Message → ℕ
 open_in test message = length (filter (is_due_where test) message.copies)
 
--- an entry with so many less to wait for
-abbrev pub lowered_row : (ℕ → ℕ) → ℕ × Entry → ℕ × Entry
-lowered_row less row = (row.0, record { message = row.1.message; waits = row.1.waits - less row.0 })
+-- the entries, each changed by its stamp
+abbrev pub changed : (ℕ → Entry → Entry) → List (ℕ × Entry) → List (ℕ × Entry)
+changed change rows = map (λ row. (row.0, change row.0 row.1)) rows
 
--- entries with so many less to wait for
+-- an entry with so many less to wait for
+abbrev pub lowered_entry : ℕ → Entry → Entry
+lowered_entry less entry = record { message = entry.message; waits = entry.waits - less }
+
+-- entries with so many less to wait for, by stamp
 abbrev pub lowered : (ℕ → ℕ) → List (ℕ × Entry) → List (ℕ × Entry)
-lowered less rows = map (lowered_row less) rows
+lowered less rows = changed (λ stamp entry. lowered_entry (less stamp) entry) rows
 
 -- an entry once a reference is granted
-abbrev pub lent_row : WireRep → ℕ × Entry → ℕ × Entry
-lent_row rep row = (row.0, record { message = granted_message rep row.1.message; waits = row.1.waits - due_to rep row.1.message })
+abbrev pub lent_entry : WireRep → Entry → Entry
+lent_entry rep entry = record { message = granted_message rep entry.message; waits = entry.waits - due_to rep entry.message }
 
--- an entry once a reference is granted, if it passes a test
-abbrev pub lent_row_where : WireRep → (ℕ → Bool) → ℕ × Entry → ℕ × Entry
-lent_row_where rep test row = if test row.0 then lent_row rep row else row
-
--- entries of which some are as they are once a reference is granted
+-- entries of which some, by stamp, are as they are once a reference is granted
 abbrev pub lent_where : WireRep → (ℕ → Bool) → List (ℕ × Entry) → List (ℕ × Entry)
-lent_where rep test rows = map (lent_row_where rep test) rows
+lent_where rep test rows = changed (λ stamp entry. if test stamp then lent_entry rep entry else entry) rows
+
+-- the entries once a reference is granted
+abbrev pub all_lent : WireRep → List (ℕ × Entry) → List (ℕ × Entry)
+all_lent rep rows = changed (λ stamp entry. lent_entry rep entry) rows
 
 -- the loans of a reference that are due to an entry
 abbrev pub due_at : WireRep → Option Entry → ℕ

@@ -1,6 +1,6 @@
 //! What waits under a stamp.
 
-ghost use Rattle.std.specs.Prelude.{◌≡◌, ◌==◌, IsSome};
+ghost use Rattle.std.specs.Prelude.{◌≡◌, ◌==◌, IsSome, MatchOption};
 ghost use Rattle.std.specs.Map.{set_value};
 ghost use Rattle.nob_slots.specs.Slots.{item_at, is_number, PutsMark};
 ghost use Rattle.nob_space_waiting.specs.declared.entry.Entry.{Entry as EntryOf};
@@ -22,7 +22,8 @@ pub struct Entry {
 /// entries.
 pub fn lift(slots: &mut Slots<Entry>, alloc: Global, stamp: u64) -> Option<Entry>
     ensures entry { result ≡ item_at slots.old.rows stamp }
-    ensures there { IsSome result → IsSome (item_at slots.new.rows stamp) }
+    ensures left { MatchOption result (slots.new.rows ≡ slots.old.rows)
+        (λ entry. IsSome (item_at slots.new.rows stamp)) }
     ensures rows { (other : EntryOf) → set_value (is_number stamp) slots.new.rows other
         ≡ set_value (is_number stamp) slots.old.rows other }
     ensures marked { slots.new.marked ≡ slots.old.marked }

@@ -1,9 +1,9 @@
 //! The loans that are made once a reference is granted.
 
-ghost use Rattle.std.specs.Prelude.{◌≡◌, ◌<◌, ◌^◌, map};
+ghost use Rattle.std.specs.Prelude.{◌≡◌, ◌<◌, ◌^◌};
 ghost use Rattle.nob_slots.specs.Slots.{IsRising, is_number, item_at};
 ghost use Rattle.nob_space_waiting.specs.Waiting as words;
-ghost use Rattle.nob_space_waiting.specs.Lines.{AreMarked, IsLined, due_at, items_of, lent_row, lent_where};
+ghost use Rattle.nob_space_waiting.specs.Lines.{AreMarked, IsLined, all_lent, due_at, items_of, lent_where};
 
 use crate::entry::{Entry, lift, put_back};
 use crate::lines::Lines;
@@ -79,7 +79,7 @@ pub fn lend_line(slots: &mut Slots<Entry>, alloc: Global, lines: &Lines, rep: &W
     requires marked { AreMarked slots.old.rows slots.old.marked }
     requires lined { IsLined lines.now slots.old.rows rep.now }
     requires count { words.due_to_all rep.now (items_of slots.old.rows) < 2 ^ 64 }
-    ensures rows { slots.new.rows ≡ map (lent_row rep.now) slots.old.rows }
+    ensures rows { slots.new.rows ≡ all_lent rep.now slots.old.rows }
     ensures count { result ≡ words.due_to_all rep.now (items_of slots.old.rows) }
     ensures marked { AreMarked slots.new.rows slots.new.marked }
     ensures room { slots.new.room ≡ slots.old.room }
