@@ -1,2 +1,5 @@
 pub mod Granting
 pub mod Rows
+pub mod Counting
+pub mod Granted
+pub mod Lent

@@ -170,7 +170,7 @@ set_twice n (row ∷ rows) a b =
 pub lift_left : (n : ℕ) (o : Option Entry) (rows new : List (ℕ × Entry)) (e : Entry) → o ≡ item_at rows n → IsSome (item_at rows n) → new ≡ set_value (is_number n) rows e → MatchOption o (new ≡ rows) (λ _. IsSome (item_at new n))
 lift_left n o rows new e is some set =
     elim o as (λ o. o ≡ item_at rows n → MatchOption o (new ≡ rows) (λ _. IsSome (item_at new n))) [
-      | None ↦ λ h. let none : IsSome None = subst IsSome (sym h) some in absurd (true≢false (sym none))
+      | None ↦ λ h. let none : IsSome {T = Entry} None = subst (λ x. IsSome {T = Entry} x) (sym h) some in absurd (true≢false (sym none))
       | Some x ↦ λ h. some_set n rows new e some set
     ] is
 

@@ -36,6 +36,10 @@ abbrev pub is_stamp : ℕ → Option ℕ → Bool
 is_stamp stamp None = false
 is_stamp stamp (Some other) = other == stamp
 
+-- whether a stamp is the one that stands there
+abbrev pub is_standing : Option ℕ → ℕ → Bool
+is_standing standing stamp = is_stamp stamp standing
+
 -- one for the stamp that stands there, if there is any
 abbrev pub once : Option ℕ → ℕ → ℕ
 once standing stamp = if is_stamp stamp standing then 1 else 0
@@ -113,10 +117,6 @@ times_of lines owner (rep ∷ reps) stamp = (if rep.owner == owner then times_in
 -- no reference has two lines
 abbrev pub AreApart : List (WireRep × ℕ) → Type 0
 AreApart counts = IsDistinct is_same (keys_of counts)
-
--- nobody stands twice at one place
-abbrev pub AreLinksApart : List (Link × ℕ) → Type 0
-AreLinksApart links = IsDistinct is_link (keys_of links)
 
 -- what holds of the entries, of the marks, of the lines, of the next stamp and of the room
 pub record AreWaiting (rows : List (ℕ × Entry)) (marked : List ℕ) (entries_room : ℕ) (lines : LineList) (next room : ℕ) : Type 0 where

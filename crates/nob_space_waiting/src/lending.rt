@@ -1,9 +1,9 @@
 //! The loans that are made once a reference is granted.
 
-ghost use Rattle.std.specs.Prelude.{◌≡◌, ◌<◌, ◌^◌};
-ghost use Rattle.nob_slots.specs.Slots.{IsRising, is_number, item_at};
+ghost use Rattle.std.specs.Prelude.{◌≡◌, ◌+◌, ◌<◌, ◌^◌, true};
+ghost use Rattle.nob_slots.specs.Slots.{IsRising, is_number};
 ghost use Rattle.nob_space_waiting.specs.Waiting as words;
-ghost use Rattle.nob_space_waiting.specs.Lines.{AreMarked, IsLined, all_lent, due_at, items_of, lent_where};
+ghost use Rattle.nob_space_waiting.specs.Lines.{AreMarked, IsLined, all_lent, is_standing, items_of, lent_where};
 
 use crate::entry::{Entry, lift, put_back};
 use crate::lines::Lines;
@@ -59,7 +59,8 @@ fn lend_at(slots: &mut Slots<Entry>, alloc: Global, rep: &WireRep, stamp: u64) -
     requires rising { IsRising slots.old.rows }
     requires marked { AreMarked slots.old.rows slots.old.marked }
     ensures rows { slots.new.rows ≡ lent_where rep.now (is_number stamp) slots.old.rows }
-    ensures count { result ≡ due_at rep.now (item_at slots.old.rows stamp) }
+    ensures count { result + words.due_to_all rep.now (items_of slots.new.rows)
+        ≡ words.due_to_all rep.now (items_of slots.old.rows) }
     ensures marked { AreMarked slots.new.rows slots.new.marked }
     ensures room { slots.new.room ≡ slots.old.room }
 {
@@ -70,6 +71,46 @@ fn lend_at(slots: &mut Slots<Entry>, alloc: Global, rep: &WireRep, stamp: u64) -
     entry.waits = entry.waits.saturating_sub(lent);
     put_back(slots, stamp, entry);
     lent
+}
+
+// Whether the same stamp stands at two places.
+fn is_same(standing: Option<u64>, last: Option<u64>) -> bool
+    ensures { result ≡ true → standing ≡ last }
+{
+    let Some(stamp) = standing else {
+        return false;
+    };
+    let Some(other) = last else {
+        return false;
+    };
+    stamp == other
+}
+
+// The same of the stamp that stands at a place, if there is any, and it isn't the last, to which
+// they are made already.
+fn lend_unless(
+    slots: &mut Slots<Entry>,
+    alloc: Global,
+    rep: &WireRep,
+    standing: Option<u64>,
+    last: Option<u64>,
+) -> u64
+    requires rising { IsRising slots.old.rows }
+    requires marked { AreMarked slots.old.rows slots.old.marked }
+    requires last { slots.old.rows ≡ lent_where rep.now (is_standing last) slots.old.rows }
+    ensures rows { slots.new.rows ≡ lent_where rep.now (is_standing standing) slots.old.rows }
+    ensures count { result + words.due_to_all rep.now (items_of slots.new.rows)
+        ≡ words.due_to_all rep.now (items_of slots.old.rows) }
+    ensures marked { AreMarked slots.new.rows slots.new.marked }
+    ensures room { slots.new.room ≡ slots.old.room }
+{
+    if is_same(standing, last) {
+        return 0;
+    }
+    let Some(stamp) = standing else {
+        return 0;
+    };
+    lend_at(slots, alloc, rep, stamp)
 }
 
 /// Makes the loans of a reference that are due to the entries in its line: how many. Linear in the
@@ -87,12 +128,9 @@ pub fn lend_line(slots: &mut Slots<Entry>, alloc: Global, lines: &Lines, rep: &W
     let mut lent = 0;
     let mut last = None;
     for place in 0..lines.count(rep) {
-        if let Some(stamp) = lines.link(rep, place) {
-            if last != Some(stamp) {
-                lent += lend_at(slots, alloc, rep, stamp);
-                last = Some(stamp);
-            }
-        }
+        let standing = lines.link(rep, place);
+        lent += lend_unless(slots, alloc, rep, standing, last);
+        last = standing;
     }
     lent
 }

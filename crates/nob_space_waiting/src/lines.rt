@@ -41,9 +41,9 @@ impl Model for Lines {
       room = min (spare lines.counts) (spare lines.links);
     } };
 
-    ghost use Rattle.nob_space_waiting.specs.Lines.{AreApart, AreLinksApart};
+    ghost use Rattle.nob_space_waiting.specs.Lines.{AreApart};
 
-    ghost invariant = { λ lines. AreApart lines.counts.entries × AreLinksApart lines.links.entries };
+    ghost invariant = { λ lines. AreApart lines.counts.entries };
 }
 
 impl Lines {
@@ -67,11 +67,14 @@ impl Lines {
     }
 
     /// The reference whose line is at a place among the lines.
-    pub fn rep_at(&self, at: usize) -> Option<WireRep>
-        ensures { result ≡ slice_get (keys_of self.now.counts) at }
+    pub fn rep_at(&self, at: usize) -> WireRep
+        requires { at < length self.now.counts }
+        ensures { slice_get (keys_of self.now.counts) at ≡ Some result }
     {
-        let (rep, _count) = self.counts.get_index(at)?;
-        Some(*rep)
+        let Some((rep, _count)) = self.counts.get_index(at) else {
+            unreachable!();
+        };
+        *rep
     }
 
     /// How many places the line of a reference has. One look-up.

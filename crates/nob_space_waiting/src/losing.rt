@@ -26,6 +26,20 @@ fn lower_at(slots: &mut Slots<Entry>, alloc: Global, stamp: u64)
     put_back(slots, stamp, entry);
 }
 
+// The same of the stamp that stands at a place, if there is any.
+fn lower_standing(slots: &mut Slots<Entry>, alloc: Global, standing: Option<u64>)
+    requires rising { IsRising slots.old.rows }
+    requires marked { AreMarked slots.old.rows slots.old.marked }
+    ensures rows { slots.new.rows ≡ lowered (once standing) slots.old.rows }
+    ensures marked { AreMarked slots.new.rows slots.new.marked }
+    ensures room { slots.new.room ≡ slots.old.room }
+{
+    let Some(stamp) = standing else {
+        return;
+    };
+    lower_at(slots, alloc, stamp);
+}
+
 /// Each entry in the line of a reference waits for one copy less, for each place that it has
 /// there. Linear in those places, each with a look for its entry.
 pub fn lower_line(slots: &mut Slots<Entry>, alloc: Global, lines: &Lines, rep: &WireRep)
@@ -36,13 +50,12 @@ pub fn lower_line(slots: &mut Slots<Entry>, alloc: Global, lines: &Lines, rep: &
     ensures room { slots.new.room ≡ slots.old.room }
 {
     for place in 0..lines.count(rep) {
-        if let Some(stamp) = lines.link(rep, place) {
-            lower_at(slots, alloc, stamp);
-        }
+        let standing = lines.link(rep, place);
+        lower_standing(slots, alloc, standing);
     }
 }
 
-// The same of the line at a place among all, if it is of this owner.
+// The same of the line of a reference, if it is of this owner.
 fn lower_if(slots: &mut Slots<Entry>, alloc: Global, lines: &Lines, owner: SpaceId, rep: &WireRep)
     requires rising { IsRising slots.old.rows }
     requires marked { AreMarked slots.old.rows slots.old.marked }
@@ -67,8 +80,7 @@ pub fn lower_all(slots: &mut Slots<Entry>, alloc: Global, lines: &Lines, owner: 
     ensures room { slots.new.room ≡ slots.old.room }
 {
     for at in 0..lines.len() {
-        if let Some(rep) = lines.rep_at(at) {
-            lower_if(slots, alloc, lines, owner, &rep);
-        }
+        let rep = lines.rep_at(at);
+        lower_if(slots, alloc, lines, owner, &rep);
     }
 }
