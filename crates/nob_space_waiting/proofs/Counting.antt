@@ -2,6 +2,7 @@
 use Rattle.std.proofs.Common.{◌≡◌, ℕ, ◌<◌, ◌≤◌, ◌+◌, ◌==◌, ◌&&◌, add-one, Bool, true, false, not, nat_lt, cond, List, [], ◌∷◌, ◌++◌, length, filter, take, Option, Some, None, get_or, slice_get, if◌then◌else◌, refl, sym, ap, subst, ◌∙◌, arith}
 use Prim.Native.Nat.{zero, suc}
 use Rattle.std.proofs.lemmas.Bool.Decides.{Decides-eqb, Decides-and, nat_tests}
+use Rattle.std.proofs.lemmas.Cmp.{nat_eq_equiv}
 use Rattle.std.proofs.lemmas.List.{take_more}
 use Rattle.std.proofs.lemmas.Map.Entries.{lookup-filter-keys}
 use Rattle.std.proofs.lemmas.Option.{get_or_from_slice_get, slice_get_within}
@@ -13,7 +14,7 @@ use Rattle.nob_space_waiting.specs.declared.entry.Entry.{Entry}
 use Rattle.nob_space_waiting.specs.declared.lines.Link.{Link}
 use Rattle.nob_space_waiting.specs.Waiting.{places_for}
 use Rattle.nob_space_waiting.specs.Lines.{LineList, is_link, link_at, link_of, lowered, once, stands, times_in, times_of}
-use Rattle.nob_space_waiting.proofs.Rows.{lowered_both}
+use Rattle.nob_space_waiting.proofs.Rows.{lower_unlike, lowered_both}
 
 pub same_is : (rep other : WireRep) → is_same rep other ≡ true → rep ≡ other
 same_is rep other same =
@@ -85,3 +86,33 @@ times_next lines owner at rep rows0 rows new got was now =
 
 pub times_none : (lines : LineList) (owner : ℕ) (rep : WireRep) (s : ℕ) → (rep.owner == owner) ≡ false → times_of lines owner (rep ∷ []) s ≡ 0
 times_none lines owner rep s differs = rw differs (omega arith)
+
+pub stands_below : (old new : List (Link × ℕ)) (rep : WireRep) (count s : ℕ) → ((place : ℕ) → place < count → link_at new (link_of rep place) ≡ link_at old (link_of rep place)) → stands new rep count s ≡ stands old rep count s
+stands_below old new rep zero s same = refl
+stands_below old new rep (suc count) s same =
+    let rest = stands_below old new rep count s (λ place less. same place (omega (arith, less))) in
+    let one : once (link_at new (link_of rep count)) s ≡ once (link_at old (link_of rep count)) s = ap (λ o. once o s) (same count (omega arith)) in
+    omega (arith, one, rest)
+
+-- a stamp behind the others of a line
+pub times_push : (old new : LineList) (rep : WireRep) (stamp : ℕ)
+    → ((other : WireRep) → places_for new.counts other ≡ (if is_same rep other then 1 else 0) + places_for old.counts other)
+    → ((other : WireRep) (place : ℕ) → link_at new.links (link_of other place) ≡ (if is_link (link_of rep (places_for old.counts rep)) (link_of other place) then Some stamp else link_at old.links (link_of other place)))
+    → (other : WireRep) (s : ℕ) → times_in new other s ≡ times_in old other s + (if stamp == s then (if is_same rep other then 1 else 0) else 0)
+times_push old new rep stamp counts links other s =
+    elim (is_same rep other) as (λ b. is_same rep other ≡ b → places_for new.counts other ≡ (if b then 1 else 0) + places_for old.counts other → times_in new other s ≡ times_in old other s + (if stamp == s then (if b then 1 else 0) else 0)) [
+      | true ↦ λ t e.
+          let n : ℕ = places_for old.counts other in
+          let at : places_for old.counts rep ≡ n = ap (λ (r : WireRep). places_for old.counts r) (same_is rep other t) in
+          let more : places_for new.counts other ≡ suc n = omega (arith, e) in
+          let test : (place : ℕ) (b : Bool) → (n == place) ≡ b → is_link (link_of rep (places_for old.counts rep)) (link_of other place) ≡ b = λ place b h. (λ i. t i && (at i == place)) ∙ h in
+          let top : link_at new.links (link_of other n) ≡ Some stamp = links other n ∙ ap (λ b. if b then Some stamp else link_at old.links (link_of other n)) (test n true (nat_eq_equiv.refl n)) in
+          let below = stands_below old.links new.links other n s (λ place less. links other place ∙ ap (λ b. if b then Some stamp else link_at old.links (link_of other place)) (test place false (nat_eq_equiv.symm n place ∙ lower_unlike place n less))) in
+          let first : once (link_at new.links (link_of other n)) s ≡ (if stamp == s then 1 else 0) = ap (λ o. once o s) top in
+          ap (λ k. stands new.links other k s) more ∙ omega (arith, first, below)
+      | false ↦ λ u e.
+          let same : places_for new.counts other ≡ places_for old.counts other = omega (arith, e) in
+          let kept = stands_below old.links new.links other (places_for old.counts other) s (λ place less. links other place ∙ rw u refl) in
+          let none : (if stamp == s then 0 else 0) ≡ 0 = elim (stamp == s) as (λ b. (if b then 0 else 0) ≡ 0) [ true ↦ refl | false ↦ refl ] in
+          ap (λ k. stands new.links other k s) same ∙ omega (arith, kept, none)
+    ] refl (counts other)

@@ -1,5 +1,5 @@
 -- Messages once a reference is granted, and how many of their copies are due.
-use Rattle.std.proofs.Common.{◌≡◌, ℕ, ◌<◌, ◌≤◌, ◌+◌, ◌-◌, ◌==◌, ◌&&◌, ◌||◌, Bool, true, false, not, nat_lt, cond, List, [], ◌∷◌, length, filter, map, Option, Some, None, if◌then◌else◌, refl, sym, ap, subst, ◌∙◌, arith}
+use Rattle.std.proofs.Common.{◌≡◌, ℕ, ◌<◌, ◌≤◌, ◌+◌, ◌-◌, ◌==◌, ◌&&◌, ◌||◌, Bool, true, false, not, nat_lt, cond, List, [], ◌∷◌, length, filter, map, Option, Some, None, if◌then◌else◌, refl, sym, ap, subst, ◌∙◌, arith, true≢false}
 use Rattle.nob_ids.specs.declared.wire_rep.WireRep.{WireRep}
 use Rattle.nob_ids.specs.Names.{is_same}
 use Rattle.nob_model_words.specs.declared.message.Loan.{Loan}
@@ -13,7 +13,7 @@ use Rattle.nob_space_waiting.proofs.Counting.{same_is}
 use Rattle.nob_space_waiting.proofs.Granting.{else_granted}
 
 -- ---- counts
-count_cons : {A : Type 0} (p : A → Bool) (x : A) (xs : List A) → length (filter p (x ∷ xs)) ≡ (if p x then 1 else 0) + length (filter p xs)
+pub count_cons : {A : Type 0} (p : A → Bool) (x : A) (xs : List A) → length (filter p (x ∷ xs)) ≡ (if p x then 1 else 0) + length (filter p xs)
 count_cons p x xs = elim (p x) as (λ b. length (cond b (x ∷ filter p xs) (filter p xs)) ≡ (if b then 1 else 0) + length (filter p xs)) [ true ↦ omega arith | false ↦ omega arith ]
 
 pub count_map : {A : Type 0} (p q : A → Bool) (f : A → A) (xs : List A) → ((x : A) → p (f x) ≡ q x) → length (filter p (map f xs)) ≡ length (filter q xs)
@@ -62,7 +62,11 @@ copies_twice rep (c ∷ copies) =
 
 no_copy_due : (rep : WireRep) (copies : List RefCopy) → length (filter (waits_for rep) (map (granted_copy rep) copies)) ≡ 0
 no_copy_due rep [] = refl
-no_copy_due rep (c ∷ copies) = count_cons (waits_for rep) (granted_copy rep c) (map (granted_copy rep) copies) ∙ rw (loan_gone (is_same rep c.rep) c.loan) (no_copy_due rep copies)
+no_copy_due rep (c ∷ copies) =
+    let all = count_cons (waits_for rep) (granted_copy rep c) (map (granted_copy rep) copies) in
+    let none : (if waits_for rep (granted_copy rep c) then 1 else 0) ≡ 0 = ap (λ b. if b then 1 else 0) (loan_gone (is_same rep c.rep) c.loan) in
+    let rest = no_copy_due rep copies in
+    omega (arith, all, none, rest)
 
 copies_still : (rep : WireRep) (copies : List RefCopy) → length (filter (waits_for rep) copies) ≡ 0 → map (granted_copy rep) copies ≡ copies
 copies_still rep [] none = refl
@@ -113,7 +117,7 @@ due_other rep other m differs = count_map (waits_for other) (waits_for other) (g
 
 one_open : (s d t : Bool) → (s ≡ true → t ≡ true) → (if d && t then 1 else 0) ≡ (if d && (t && not s) then 1 else 0) + (if s && d then 1 else 0)
 one_open true true true h = omega arith
-one_open true true false h = absurd (cc)
+one_open true true false h = absurd (true≢false (sym (h refl)))
 one_open true false t h = omega arith
 one_open false true true h = omega arith
 one_open false true false h = omega arith

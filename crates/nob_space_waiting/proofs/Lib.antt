@@ -3,3 +3,5 @@ pub mod Rows
 pub mod Counting
 pub mod Granted
 pub mod Lent
+pub mod Ended
+pub mod Owners

@@ -3,7 +3,7 @@
 ghost use Rattle.std.specs.Prelude.{◌≡◌, ◌∷◌, [], Some};
 ghost use Rattle.std.specs.Map.{keys_of};
 ghost use Rattle.nob_slots.specs.Slots.{IsRising};
-ghost use Rattle.nob_space_waiting.specs.Lines.{AreMarked, lowered, once, times_in, times_of};
+ghost use Rattle.nob_space_waiting.specs.Lines.{AreApart, AreMarked, lowered, once, times_in, times_of};
 
 use crate::entry::{Entry, lift, put_back};
 use crate::lines::Lines;
@@ -77,6 +77,7 @@ pub fn lower_all(slots: &mut Slots<Entry>, alloc: Global, lines: &Lines, owner: 
     ensures rows { slots.new.rows
         ≡ lowered (times_of lines.now owner (keys_of lines.now.counts)) slots.old.rows }
     ensures marked { AreMarked slots.new.rows slots.new.marked }
+    ensures apart { AreApart lines.now.counts }
     ensures room { slots.new.room ≡ slots.old.room }
 {
     for at in 0..lines.len() {

@@ -1,6 +1,6 @@
 //! The list.
 
-ghost use Rattle.std.specs.Prelude.{◌≡◌, ℕ, ◌+◌, ◌<◌, ◌≤◌, ◌^◌, ◌==◌, ◌&&◌, ◌||◌, if◌then◌else◌, ◌++◌, ◌∷◌, [], true, false, not, length, map, filter, find, option_copied, OnOk};
+ghost use Rattle.std.specs.Prelude.{◌≡◌, ℕ, ◌+◌, ◌-◌, ◌<◌, ◌≤◌, ◌^◌, ◌==◌, ◌&&◌, ◌||◌, if◌then◌else◌, ◌++◌, ◌∷◌, [], true, false, not, length, map, filter, find, option_copied, OnOk};
 ghost use Rattle.nob_ids.specs.Names.{is_same};
 ghost use Rattle.nob_ids.specs.declared.wire_rep.WireRep.{WireRep as WireRepOf};
 ghost use Rattle.nob_model_words.specs.Messages.{is_not_from};
@@ -73,6 +73,26 @@ impl Model for Waiting {
 // The most stamps and copies that there can be.
 const MOST: u64 = 1 << 61;
 
+// Puts a stamp in the line of a copy's reference, if its loan is due: how many places that are. A
+// few look-ups.
+fn line_one(lines: &mut Lines, copy: &RefCopy, stamp: u64) -> u64
+    requires room { 0 < lines.old.room }
+    requires small { places_for lines.old.counts copy.now.rep < 2 ^ 64 - 1 }
+    ensures count { result ≡ (if is_due copy.now.loan then 1 else 0) }
+    ensures counts { (rep : WireRepOf) → places_for lines.new.counts rep
+        ≡ places_for lines.old.counts rep + (if waits_for rep copy.now then 1 else 0) }
+    ensures times { (rep : WireRepOf) (other : ℕ) → times_in lines.new rep other
+        ≡ times_in lines.old rep other
+        + (if stamp == other then (if waits_for rep copy.now then 1 else 0) else 0) }
+    ensures room { lines.old.room ≤ lines.new.room + 1 }
+{
+    if !is_due(copy.loan) {
+        return 0;
+    }
+    lines.push(&copy.rep, stamp);
+    1
+}
+
 // Puts a stamp in the line of each reference of which a copy is due, for each such copy: how many.
 fn line_up(lines: &mut Lines, copies: &[RefCopy], stamp: u64) -> u64
     requires room { length copies.now ≤ lines.old.room }
@@ -87,10 +107,7 @@ fn line_up(lines: &mut Lines, copies: &[RefCopy], stamp: u64) -> u64
 {
     let mut waits = 0;
     for copy in copies {
-        if is_due(copy.loan) {
-            lines.push(&copy.rep, stamp);
-            waits += 1;
-        }
+        waits += line_one(lines, copy, stamp);
     }
     waits
 }
