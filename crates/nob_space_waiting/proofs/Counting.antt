@@ -21,6 +21,12 @@ same_is rep other same =
     let parts : (rep.owner ≡ other.owner) × (rep.index ≡ other.index) = (Decides-and _ _ (Decides-eqb rep.owner other.owner) (Decides-eqb rep.index other.index)).0 same in
     λ i. record { owner = parts.0 i; index = parts.1 i }
 
+pub same_turned : (rep other : WireRep) → is_same rep other ≡ is_same other rep
+same_turned rep other =
+    let owners = nat_eq_equiv.symm rep.owner other.owner in
+    let indices = nat_eq_equiv.symm rep.index other.index in
+    λ i. owners i && indices i
+
 -- old has at every reference but one what new has
 abbrev pub Writes : List (WireRep × ℕ) → List (WireRep × ℕ) → WireRep → Option ℕ → Type 0
 Writes old new rep w = (other : WireRep) → lookup (is_same other) new ≡ cond (is_same rep other) w (lookup (is_same other) old)
@@ -113,6 +119,6 @@ times_push old new rep stamp counts links other s =
       | false ↦ λ u e.
           let same : places_for new.counts other ≡ places_for old.counts other = omega (arith, e) in
           let kept = stands_below old.links new.links other (places_for old.counts other) s (λ place less. links other place ∙ rw u refl) in
-          let none : (if stamp == s then 0 else 0) ≡ 0 = elim (stamp == s) as (λ b. (if b then 0 else 0) ≡ 0) [ true ↦ refl | false ↦ refl ] in
+          let none : ◌≡◌ {A = ℕ} (if stamp == s then 0 else 0) 0 = elim (stamp == s) as (λ b. ◌≡◌ {A = ℕ} (if b then 0 else 0) 0) [ true ↦ refl | false ↦ refl ] in
           ap (λ k. stands new.links other k s) same ∙ omega (arith, kept, none)
     ] refl (counts other)

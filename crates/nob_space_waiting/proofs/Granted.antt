@@ -64,7 +64,7 @@ no_copy_due : (rep : WireRep) (copies : List RefCopy) → length (filter (waits_
 no_copy_due rep [] = refl
 no_copy_due rep (c ∷ copies) =
     let all = count_cons (waits_for rep) (granted_copy rep c) (map (granted_copy rep) copies) in
-    let none : (if waits_for rep (granted_copy rep c) then 1 else 0) ≡ 0 = ap (λ b. if b then 1 else 0) (loan_gone (is_same rep c.rep) c.loan) in
+    let none : ◌≡◌ {A = ℕ} (if waits_for rep (granted_copy rep c) then 1 else 0) 0 = ap (λ b. if b then 1 else 0) (loan_gone (is_same rep c.rep) c.loan) in
     let rest = no_copy_due rep copies in
     omega (arith, all, none, rest)
 

@@ -5,3 +5,5 @@ pub mod Granted
 pub mod Lent
 pub mod Ended
 pub mod Owners
+pub mod Found
+pub mod Pushed

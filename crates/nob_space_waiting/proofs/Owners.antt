@@ -1,6 +1,5 @@
 -- The lines of an owner's references, one after the other.
 use Rattle.std.proofs.Common.{◌≡◌, ℕ, ◌<◌, ◌≤◌, ◌+◌, ◌-◌, ◌==◌, ◌&&◌, ◌||◌, Bool, true, false, not, nat_lt, cond, List, [], ◌∷◌, Option, Some, None, if◌then◌else◌, refl, sym, ap, subst, ◌∙◌, arith, true≢false}
-use Rattle.std.proofs.lemmas.Cmp.{nat_eq_equiv}
 use Rattle.std.specs.List.{AllByRecursion, IsDistinct, list_any}
 use Rattle.std.specs.Map.{keys_of, lookup}
 use Rattle.std.specs.Option.{unwrap_or}
@@ -11,15 +10,9 @@ use Rattle.nob_slots.specs.Slots.{item_at}
 use Rattle.nob_space_waiting.specs.declared.entry.Entry.{Entry}
 use Rattle.nob_space_waiting.specs.Waiting.{due_to, is_awaited}
 use Rattle.nob_space_waiting.specs.Lines.{LineList, AreApart, AreWaiting, is_of_owner, open_in, times_in, times_of}
-use Rattle.nob_space_waiting.proofs.Counting.{same_is}
+use Rattle.nob_space_waiting.proofs.Counting.{same_is, same_turned}
 use Rattle.nob_space_waiting.proofs.Ended.{times_none_awaited}
 use Rattle.nob_space_waiting.proofs.Granted.{but, open_less, open_same}
-
-same_turned : (rep other : WireRep) → is_same rep other ≡ is_same other rep
-same_turned rep other =
-    let owners = nat_eq_equiv.symm rep.owner other.owner in
-    let indices = nat_eq_equiv.symm rep.index other.index in
-    λ i. owners i && indices i
 
 without_one : (s t o a : Bool) → (s ≡ true → o ≡ true) → ((t && not (o && a)) && not s) ≡ (t && not (o && (s || a)))
 without_one true true true a h = elim a as (λ a. ((true && not (true && a)) && false) ≡ false) [ true ↦ refl | false ↦ refl ]

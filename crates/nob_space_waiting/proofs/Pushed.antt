@@ -61,12 +61,12 @@ open_where test other (c ∷ copies) same =
     elim (is_due c.loan) as (λ d. is_due c.loan ≡ d → (d && test c.rep) ≡ (d && other c.rep)) [
       | true ↦ λ t.
           let on : waits_for c.rep c ≡ true = (λ i. nat_eq_equiv.refl c.rep.owner i && nat_eq_equiv.refl c.rep.index i && t i) in
-          let first : (if waits_for c.rep c then 1 else 0) ≡ 1 = ap (λ b. if b then 1 else 0) on in
+          let first : ◌≡◌ {A = ℕ} (if waits_for c.rep c then 1 else 0) 1 = ap (λ b. if b then 1 else 0) on in
           let all = count_cons (waits_for c.rep) c copies in
           same c.rep (omega (arith, all, first))
       | false ↦ λ u. refl
     ] refl in
-    let here : (if is_due_where test c then 1 else 0) ≡ (if is_due_where other c then 1 else 0) = ap (λ b. if b then 1 else 0) one in
+    let here : ◌≡◌ {A = ℕ} (if is_due_where test c then 1 else 0) (if is_due_where other c then 1 else 0) = ap (λ b. if b then 1 else 0) one in
     let left = count_cons (is_due_where test) c copies in
     let right = count_cons (is_due_where other) c copies in
     omega (arith, rest, here, left, right)
@@ -150,13 +150,12 @@ module _ {rows : List (ℕ × Entry)} {marked : List ℕ} {entries next room : �
       → PutsMark marked marked' next (waits == 0) → next' ≡ next + 1 + length message.copies → length message.copies < room → AreWaiting rows' marked' entries' new next' 0
   pushed rows' marked' entries' next' waits is count puts more fits' =
       let e : Entry = record { message = message; waits = waits } in
-      let split : {Q : Type 0} (s : ℕ) (x : Entry) → (item_at rows s ≡ Some x → Q) → (next ≡ s → e ≡ x → Q) → item_at rows' s ≡ Some x → Q = λ s x old new found. push_found next e rows s x old new (sym (ap (λ rs. item_at rs s) is) ∙ found) in
       record {
         rising = subst IsRising (sym is) (push_rising next e rows are.rising are.above);
         above = subst (λ rs. IsAbove rs next') (sym is) (push_below next next' e rows (omega (arith, more)) are.above);
-        marks = λ s x found. split s x (λ old. marks_old s x old) (λ at same. marks_new s x at same) found;
-        waits = λ s x found. split s x (λ old. waits_old s x old) (λ at same. waits_new x same) found;
-        lined = λ r on s x found. split s x (λ old. others r s (differs s x old) ∙ lined_old r s x old on) (λ at same. lined_new r s x at same) found;
+        marks = λ s x found. push_found next e rows s x (λ old. marks_old s x old) (λ at same. marks_new s x at same) (sym (ap (λ rs. item_at rs s) is) ∙ found);
+        waits = λ s x found. push_found next e rows s x (λ old. waits_old s x old) (λ at same. waits_new x same) (sym (ap (λ rs. item_at rs s) is) ∙ found);
+        lined = λ r on s x found. push_found next e rows s x (λ old. others r s (differs s x old) ∙ lined_old r s x old on) (λ at same. lined_new r s x at same) (sym (ap (λ rs. item_at rs s) is) ∙ found);
         fresh = λ r s past. others r s (λ at. omega (arith, at, past, more)) ∙ are.fresh r s (omega (arith, past, more));
         few = λ r. let its = counts r in let few = are.few r in let fewer = due_few_copies r message.copies in omega (arith, its, few, fewer, more);
         entry_room = λ some. absurd (omega (arith, some));
