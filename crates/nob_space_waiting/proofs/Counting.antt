@@ -87,7 +87,7 @@ times_next lines owner at rep rows0 rows new got was now =
     let more : take (at + 1) keys ≡ take at keys ++ rep ∷ [] = take_more keys at rep (slice_get_within keys at rep got) ∙ ap (λ (r : WireRep). take at keys ++ r ∷ []) (get_or_from_slice_get keys at rep rep got) in
     now ∙ ap (lowered (times_of lines owner (rep ∷ []))) was
     ∙ lowered_both (times_of lines owner (take at keys)) (times_of lines owner (rep ∷ [])) (times_of lines owner (take at keys ++ rep ∷ [])) rows0
-      (λ s. let sums = times_append lines owner (take at keys) (rep ∷ []) s in omega (arith, sums))
+    (λ s. let sums = times_append lines owner (take at keys) (rep ∷ []) s in omega (arith, sums))
     ∙ ap (λ (reps : List WireRep). lowered (times_of lines owner reps) rows0) (sym more)
 
 pub times_none : (lines : LineList) (owner : ℕ) (rep : WireRep) (s : ℕ) → (rep.owner == owner) ≡ false → times_of lines owner (rep ∷ []) s ≡ 0

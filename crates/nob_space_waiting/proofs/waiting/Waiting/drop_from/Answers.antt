@@ -21,9 +21,10 @@ invariant_of-self c =
     fewer c.self.invariant c.retain.new.self.rows c.retain.new.self.marked c.retain.new.self.room
     (subst IsRising (sym (rows_kept c)) (kept_rising keeps rows c.self.invariant.rising))
     (subst (λ rs. IsAbove rs c.self.inside.next) (sym (rows_kept c)) (kept_below keeps c.self.inside.next rows c.self.invariant.above))
-    (λ s x found.
-      (kept_found keeps rows c.self.invariant.rising s x (sym (ap (λ rs. item_at rs s) (rows_kept c)) ∙ found),
-      c.retain.ensures.marked s ∙ ap (λ o. is_marked c.self.inside.slots.marked s && is_some o) found ∙ and_true (is_marked c.self.inside.slots.marked s)))
+    (λ s x found. (
+      kept_found keeps rows c.self.invariant.rising s x (sym (ap (λ rs. item_at rs s) (rows_kept c)) ∙ found),
+      c.retain.ensures.marked s ∙ ap (λ o. is_marked c.self.inside.slots.marked s && is_some o) found ∙ and_true (is_marked c.self.inside.slots.marked s),
+    ))
     c.retain.ensures.room
 
 pub returns-clause-items : goal.returns-clause-items

@@ -22,8 +22,8 @@ invariant_of-self-2 c =
     (subst IsRising (sym c.take.ensures.rows) (removed_rising n rows c.self.invariant.rising))
     (subst (λ rs. IsAbove rs c.self.inside.next) (sym c.take.ensures.rows) (removed_below n c.self.inside.next rows c.self.invariant.above))
     (λ s x found.
-      let had = removed_found n rows c.self.invariant.rising s x (sym (ap (λ rs. item_at rs s) c.take.ensures.rows) ∙ found) in
-      (had.0, c.take.ensures.marked s ∙ ap (λ b. if b then false else is_marked c.self.inside.slots.marked s) had.1))
+    let had = removed_found n rows c.self.invariant.rising s x (sym (ap (λ rs. item_at rs s) c.take.ensures.rows) ∙ found) in
+    (had.0, c.take.ensures.marked s ∙ ap (λ b. if b then false else is_marked c.self.inside.slots.marked s) had.1))
     c.take.ensures.room
 
 pub returns-clause-message : goal.returns-clause-message
