@@ -2,6 +2,7 @@
 
 ghost use Rattle.std.specs.Prelude.{◌≡◌, ℕ, ◌&&◌, if◌then◌else◌, ◌==◌, ◌+◌, ◌<◌, ◌≤◌, ◌^◌, ◌++◌, ◌∷◌, [], length, slice_get, Bool, Some, None, IsSome, is_some, IsOk, OnOk, MatchOption, false};
 ghost use Rattle.std.specs.Map.{set_value};
+ghost use Rattle.std.specs.Option.{option_map};
 ghost use Rattle.nob_ids.specs.Names.{is_same};
 ghost use Rattle.nob_ids.specs.declared.wire_rep.WireRep.{WireRep};
 ghost use Rattle.nob_marks.specs.Marks.{has, bound};

@@ -1,5 +1,6 @@
-use Rattle.std.proofs.Common.{◌≡◌, is_some, ap, sym, ◌∙◌, Some, true, refl, length, arith}
+use Rattle.std.proofs.Common.{◌≡◌, IsSome, is_some, ap, sym, ◌∙◌, Some, true, ◌&&◌, refl, length, arith}
 use Rattle.nob_ids.specs.Names.{is_same}
+use Rattle.nob_ids.specs.declared.wire_rep.WireRep.{WireRep}
 use Rattle.nob_table_rows.specs.declared.object.Object.{Object}
 use Rattle.nob_table_rows.specs.Objects.{live_rows, counts_in}
 use Rattle.nob_table_rows.specs.Rows.{row_at, Puts}
