@@ -1,0 +1,134 @@
+-- A line for each reference that messages wait for, and how many such copies each has. No public clause cites this module.
+use Rattle.std.specs.Prelude.{◌≡◌, ℕ, ◌+◌, ◌-◌, ◌^◌, ◌<◌, ◌≤◌, ◌==◌, nat_lt, Bool, true, false, ◌&&◌, List, [], ◌∷◌, length, map, filter, Option, Some, None, if◌then◌else◌}
+use Prim.Native.Nat.{zero, suc}
+use Rattle.std.specs.List.{list_any, IsDistinct}
+use Rattle.std.specs.Map.{lookup, keys_of}
+use Rattle.std.specs.Option.{unwrap_or, option_map_or}
+use Rattle.nob_ids.specs.Names.{is_same}
+use Rattle.nob_ids.specs.declared.wire_rep.WireRep.{WireRep}
+use Rattle.nob_model_words.specs.declared.message.Message.{Message}
+use Rattle.nob_model_words.specs.declared.message.RefCopy.{RefCopy}
+use Rattle.nob_slots.specs.Slots.{item_at, IsAbove, IsRising, is_marked}
+use Rattle.nob_space_waiting.specs.declared.entry.Entry.{Entry}
+use Rattle.nob_space_waiting.specs.declared.lines.Link.{Link}
+use Rattle.nob_space_waiting.specs.Waiting.{due_to, granted_message, is_awaited, is_due, is_due_where, places_for}
+
+-- how many places each line has, who stands at each place, and for how many more places there is room
+pub record LineList : Type 0 where
+  pub counts : List (WireRep × ℕ)
+  pub links : List (Link × ℕ)
+  pub room : ℕ
+
+-- whether two places are one
+abbrev pub is_link : Link → Link → Bool
+is_link link other = is_same link.rep other.rep && link.place == other.place
+
+-- the place in the line of a reference
+abbrev pub link_of : WireRep → ℕ → Link
+link_of rep place = record { rep = rep; place = place }
+
+-- who stands at a place in line
+abbrev pub link_at : List (Link × ℕ) → Link → Option ℕ
+link_at links link = lookup (is_link link) links
+
+-- whether it is the one with this stamp
+abbrev pub is_stamp : ℕ → Option ℕ → Bool
+is_stamp stamp None = false
+is_stamp stamp (Some other) = other == stamp
+
+-- whether a stamp is the one that stands there
+abbrev pub is_standing : Option ℕ → ℕ → Bool
+is_standing standing stamp = is_stamp stamp standing
+
+-- one for the stamp that stands there, if there is any
+abbrev pub once : Option ℕ → ℕ → ℕ
+once standing stamp = if is_stamp stamp standing then 1 else 0
+
+-- how often a stamp stands among the first so many places in the line of a reference
+abbrev pub stands : List (Link × ℕ) → WireRep → ℕ → ℕ → ℕ
+stands links rep zero stamp = 0
+stands links rep (suc count) stamp = once (link_at links (link_of rep count)) stamp + stands links rep count stamp
+
+-- how often a stamp stands in the line of a reference
+abbrev pub times_in : LineList → WireRep → ℕ → ℕ
+times_in lines rep stamp = stands lines.links rep (places_for lines.counts rep) stamp
+
+-- the messages of the entries
+abbrev pub items_of : List (ℕ × Entry) → List Message
+items_of rows = map (λ row. row.1.message) rows
+
+-- how many copies of a message are due and of a reference that passes a test
+abbrev pub open_in : (WireRep → Bool) → Message → ℕ
+open_in test message = length (filter (is_due_where test) message.copies)
+
+-- the entries, each changed by its stamp
+abbrev pub changed : (ℕ → Entry → Entry) → List (ℕ × Entry) → List (ℕ × Entry)
+changed change rows = map (λ row. (row.0, change row.0 row.1)) rows
+
+-- an entry with so many less to wait for
+abbrev pub lowered_entry : ℕ → Entry → Entry
+lowered_entry less entry = record { message = entry.message; waits = entry.waits - less }
+
+-- entries with so many less to wait for, by stamp
+abbrev pub lowered : (ℕ → ℕ) → List (ℕ × Entry) → List (ℕ × Entry)
+lowered less rows = changed (λ stamp entry. lowered_entry (less stamp) entry) rows
+
+-- an entry once a reference is granted
+abbrev pub lent_entry : WireRep → Entry → Entry
+lent_entry rep entry = record { message = granted_message rep entry.message; waits = entry.waits - due_to rep entry.message }
+
+-- entries of which some, by stamp, are as they are once a reference is granted
+abbrev pub lent_where : WireRep → (ℕ → Bool) → List (ℕ × Entry) → List (ℕ × Entry)
+lent_where rep test rows = changed (λ stamp entry. if test stamp then lent_entry rep entry else entry) rows
+
+-- the entries once a reference is granted
+abbrev pub all_lent : WireRep → List (ℕ × Entry) → List (ℕ × Entry)
+all_lent rep rows = changed (λ stamp entry. lent_entry rep entry) rows
+
+-- the loans of a reference that are due to an entry
+abbrev pub due_at : WireRep → Option Entry → ℕ
+due_at rep entry = option_map_or (λ e. due_to rep e.message) entry 0
+
+-- an entry is marked while it waits for nothing
+abbrev pub AreMarked : List (ℕ × Entry) → List ℕ → Type 0
+AreMarked rows marked = (stamp : ℕ) (entry : Entry) → item_at rows stamp ≡ Some entry → is_marked marked stamp ≡ (entry.waits == 0)
+
+-- each entry waits for as many copies as are due and of a reference that passes a test
+abbrev pub AreOpen : (WireRep → Bool) → List (ℕ × Entry) → Type 0
+AreOpen test rows = (stamp : ℕ) (entry : Entry) → item_at rows stamp ≡ Some entry → entry.waits ≡ open_in test entry.message
+
+-- each entry stands in the line of a reference as often as it waits for it
+abbrev pub IsLined : LineList → List (ℕ × Entry) → WireRep → Type 0
+IsLined lines rows rep = (stamp : ℕ) (entry : Entry) → item_at rows stamp ≡ Some entry → times_in lines rep stamp ≡ due_to rep entry.message
+
+-- the same of each reference that is awaited
+abbrev pub AreLined : LineList → List (ℕ × Entry) → Type 0
+AreLined lines rows = (rep : WireRep) → is_awaited lines.counts rep ≡ true → IsLined lines rows rep
+
+-- whether a reference is of this owner, and one of these
+abbrev pub is_of_owner : ℕ → List WireRep → WireRep → Bool
+is_of_owner owner reps rep = rep.owner == owner && list_any (is_same rep) reps
+
+-- how often a stamp stands in the lines of the references of an owner among these
+abbrev pub times_of : LineList → ℕ → List WireRep → ℕ → ℕ
+times_of lines owner [] stamp = 0
+times_of lines owner (rep ∷ reps) stamp = (if rep.owner == owner then times_in lines rep stamp else 0) + times_of lines owner reps stamp
+
+-- no reference has two lines
+abbrev pub AreApart : List (WireRep × ℕ) → Type 0
+AreApart counts = IsDistinct is_same (keys_of counts)
+
+-- what holds of the entries, of the marks, of the lines, of the next stamp and of the room
+pub record AreWaiting (rows : List (ℕ × Entry)) (marked : List ℕ) (entries_room : ℕ) (lines : LineList) (next room : ℕ) : Type 0 where
+  pub rising : IsRising rows
+  pub above : IsAbove rows next
+  pub marks : AreMarked rows marked
+  pub waits : AreOpen (is_awaited lines.counts) rows
+  pub lined : AreLined lines rows
+  -- stamps that are to come stand in no line
+  pub fresh : (rep : WireRep) (stamp : ℕ) → next ≤ stamp → times_in lines rep stamp ≡ 0
+  -- no line is longer than what came
+  pub few : (rep : WireRep) → places_for lines.counts rep ≤ next
+  pub entry_room : 0 < room → 0 < entries_room
+  pub line_room : room ≤ lines.room + 1
+  pub small : next + room ≤ 2 ^ 62

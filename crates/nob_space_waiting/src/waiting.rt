@@ -1,0 +1,264 @@
+//! The list.
+
+ghost use Rattle.std.specs.Prelude.{◌≡◌, ℕ, ◌+◌, ◌-◌, ◌<◌, ◌≤◌, ◌^◌, ◌==◌, ◌&&◌, ◌||◌, if◌then◌else◌, ◌++◌, ◌∷◌, [], true, false, not, length, map, filter, find, option_copied, OnOk};
+ghost use Rattle.nob_ids.specs.Names.{is_same};
+ghost use Rattle.nob_ids.specs.declared.wire_rep.WireRep.{WireRep as WireRepOf};
+ghost use Rattle.nob_model_words.specs.Messages.{is_not_from};
+ghost use Rattle.nob_model_work.specs.Work.{without_first};
+ghost use Rattle.nob_space_waiting.specs.Waiting.{due_to_all, granted_message, is_awaited, is_due_in, is_marked_lost, is_settleable_in, IsNew, places_for, waits_for, is_due};
+ghost use Rattle.nob_space_waiting.specs.Lines.{times_in, LineList};
+
+use crate::entry::Entry;
+use crate::iter::Iter;
+use crate::lending::{is_due, lend_line};
+use crate::lines::Lines;
+use crate::losing::{lower_all, lower_line};
+use nob_ids::{SpaceId, WireRep};
+use nob_model_words::Message;
+use nob_model_words::message::RefCopy;
+use nob_slots::Slots;
+use std::alloc::{AllocError, Global};
+use std::marker::Model;
+
+/// Messages that wait for their references, in order. Contracts see them, which of the references
+/// that they wait for are awaited, and for how many copies there is room.
+///
+/// Each message has a stamp, and a place in the line of each reference that is awaited, for each of
+/// its copies whose loan is due. It is marked once it has no place left. An owner's answer ends the
+/// line of its reference; a message that is dropped leaves its places in lines to that answer.
+pub struct Waiting {
+    alloc: Global,
+    slots: Slots<Entry>,
+    lines: Lines,
+    // The stamp of the next message, above all in use.
+    next: u64,
+    // A message of fewer copies than this fits.
+    room: usize,
+}
+
+// By hand, so that the list is taken apart here alone and not at each end of each caller.
+impl Drop for Waiting {
+    fn drop(self) {
+        let Waiting {
+            alloc: _,
+            slots: _,
+            lines: _,
+            next: _,
+            room: _,
+        } = self;
+    }
+}
+
+impl Model for Waiting {
+    ghost use Rattle.nob_space_waiting.specs.Waiting.{WaitingList};
+
+    ghost Value = { WaitingList };
+
+    ghost use Rattle.std.specs.Coded.{codes};
+    ghost use Rattle.nob_pickle.specs.Marks.{trees_code};
+
+    ghost coded = { Prim.hlevel (codes, trees_code) };
+
+    ghost use Rattle.nob_space_waiting.specs.Lines.{AreWaiting, items_of};
+
+    ghost view = { λ w. record {
+      items = items_of w.slots.rows;
+      awaited = w.lines.counts;
+      room = w.room;
+    } };
+
+    ghost invariant = { λ w. AreWaiting w.slots.rows w.slots.marked w.slots.room w.lines w.next w.room };
+}
+
+// The most stamps and copies that there can be.
+const MOST: u64 = 1 << 61;
+
+// Puts a stamp in the line of a copy's reference, if its loan is due: how many places that are. A
+// few look-ups.
+fn line_one(lines: &mut Lines, copy: &RefCopy, stamp: u64) -> u64
+    requires room { 0 < lines.old.room }
+    requires small { places_for lines.old.counts copy.now.rep < 2 ^ 64 - 1 }
+    ensures count { result ≡ (if is_due copy.now.loan then 1 else 0) }
+    ensures counts { (rep : WireRepOf) → places_for lines.new.counts rep
+        ≡ places_for lines.old.counts rep + (if waits_for rep copy.now then 1 else 0) }
+    ensures times { (rep : WireRepOf) (other : ℕ) → times_in lines.new rep other
+        ≡ times_in lines.old rep other
+        + (if stamp == other then (if waits_for rep copy.now then 1 else 0) else 0) }
+    ensures room { lines.old.room ≤ lines.new.room + 1 }
+{
+    if !is_due(copy.loan) {
+        return 0;
+    }
+    lines.push(&copy.rep, stamp);
+    1
+}
+
+// Puts a stamp in the line of each reference of which a copy is due, for each such copy: how many.
+fn line_up(lines: &mut Lines, copies: &[RefCopy], stamp: u64) -> u64
+    requires room { length copies.now ≤ lines.old.room }
+    requires small { (rep : WireRepOf)
+        → places_for lines.old.counts rep + length copies.now < 2 ^ 64 }
+    ensures count { result ≡ length (filter (λ copy. is_due copy.loan) copies.now) }
+    ensures counts { (rep : WireRepOf) → places_for lines.new.counts rep
+        ≡ places_for lines.old.counts rep + length (filter (waits_for rep) copies.now) }
+    ensures times { (rep : WireRepOf) (other : ℕ) → times_in lines.new rep other
+        ≡ times_in lines.old rep other
+        + (if stamp == other then length (filter (waits_for rep) copies.now) else 0) }
+{
+    let mut waits = 0;
+    for copy in copies {
+        waits += line_one(lines, copy, stamp);
+    }
+    waits
+}
+
+impl Waiting {
+    /// No messages. It takes no memory before the first.
+    pub fn new(alloc: Global) -> Waiting
+        ensures items { result.items ≡ [] }
+    {
+        Waiting {
+            alloc,
+            slots: Slots::new(alloc),
+            lines: Lines::new(alloc),
+            next: 0,
+            room: 0,
+        }
+    }
+
+    /// How many messages wait. Constant time.
+    pub fn len(&self) -> usize
+        ensures { result ≡ length self.now.items }
+    {
+        self.slots.len()
+    }
+
+    /// The messages, one after the other. Linear in all of them.
+    pub fn iter(&self) -> Iter<'_>
+        ensures items { result ≡ self.now.items }
+        ensures fits { length result < 2 ^ 64 }
+    {
+        Iter {
+            entries: self.slots.iter(),
+        }
+    }
+
+    /// Makes room for one message of so many copies. Only memory fails it, or that more came in all
+    /// than can be counted; the messages and marks are the same in any case. Constant time on
+    /// average.
+    pub fn reserve(&mut self, copies: usize) -> Result<(), AllocError>
+        ensures items { self.new.items ≡ self.old.items }
+        ensures awaited { self.new.awaited ≡ self.old.awaited }
+        ensures ok { OnOk result (copies < self.new.room) }
+    {
+        if copies < self.room {
+            return Ok(());
+        }
+        if self.next > MOST || copies as u64 >= MOST {
+            return Err(AllocError);
+        }
+        self.slots.reserve(1)?;
+        self.lines.reserve(copies)?;
+        self.room = copies + 1;
+        Ok(())
+    }
+
+    /// Puts a message behind all others, where there is room for it. It takes no memory. Linear in
+    /// its copies. The caller's condition: none of its copies is due of a reference that others wait
+    /// for and that is marked lost.
+    pub fn push(&mut self, message: Message)
+        requires room { length message.copies < self.old.room }
+        requires new { IsNew self.old message }
+        ensures items { self.new.items ≡ self.old.items ++ message ∷ [] }
+        ensures awaited { (rep : WireRepOf) → is_awaited self.new.awaited rep
+            ≡ (is_awaited self.old.awaited rep || is_due_in (message ∷ []) rep) }
+    {
+        let stamp = self.next;
+        let copies = message.copies.as_slice();
+        let waits = line_up(&mut self.lines, copies, stamp);
+        self.next = stamp + 1 + copies.len() as u64;
+        self.room = 0;
+        self.slots.push(stamp, Entry { message, waits });
+        self.slots.mark(stamp, waits == 0);
+    }
+
+    /// Marks a reference lost: nothing is to come for it. It takes no memory. Linear in the copies
+    /// of it that are due, each with a look for its message.
+    pub fn lose(&mut self, rep: &WireRep)
+        ensures items { self.new.items ≡ self.old.items }
+        ensures awaited { (other : WireRepOf) → is_awaited self.new.awaited other
+            ≡ (not (is_same rep.now other) && is_awaited self.old.awaited other) }
+        ensures room { self.new.room ≡ self.old.room }
+    {
+        lower_line(&mut self.slots, self.alloc, &self.lines, rep);
+        self.lines.clear(rep);
+    }
+
+    /// Marks all references of an owner lost. It takes no memory. Linear in the copies that are due
+    /// of references that are awaited; a look for its message for each of those of this owner.
+    pub fn lose_of(&mut self, owner: SpaceId)
+        ensures items { self.new.items ≡ self.old.items }
+        ensures awaited { (other : WireRepOf) → is_awaited self.new.awaited other
+            ≡ (not (other.owner == owner) && is_awaited self.old.awaited other) }
+        ensures room { self.new.room ≡ self.old.room }
+    {
+        lower_all(&mut self.slots, self.alloc, &self.lines, owner);
+        self.lines.clear_of(owner);
+    }
+
+    /// Makes the loans of a reference that are due: how many. It takes no memory. Linear in the
+    /// copies of the messages that wait for it. The caller's conditions: it isn't marked lost where
+    /// messages wait for it, and their number can be counted in 64 bits.
+    pub fn lend(&mut self, rep: &WireRep) -> u64
+        requires open { is_due_in self.old.items rep.now ≡ true
+            → is_marked_lost self.old rep.now ≡ false }
+        requires count { due_to_all rep.now self.old.items < 2 ^ 64 }
+        ensures items { self.new.items ≡ map (granted_message rep.now) self.old.items }
+        ensures count { result ≡ due_to_all rep.now self.old.items }
+        ensures awaited { (other : WireRepOf) → is_awaited self.new.awaited other
+            ≡ (not (is_same rep.now other) && is_awaited self.old.awaited other) }
+        ensures room { self.new.room ≡ self.old.room }
+    {
+        let lent = lend_line(&mut self.slots, self.alloc, &self.lines, rep);
+        self.lines.clear(rep);
+        lent
+    }
+
+    /// The first message that may be settled: each of its copies that is due is of a reference that
+    /// is marked lost. A few words of bits, and a look for its message.
+    pub fn first_settleable(&self) -> Option<&Message>
+        ensures { option_copied result ≡ find (is_settleable_in self.now) self.now.items }
+    {
+        let stamp = self.slots.first_marked(0)?;
+        let entry = self.slots.get(stamp)?;
+        Some(&entry.message)
+    }
+
+    /// Takes the first message out that may be settled. It takes no memory. As `first_settleable`,
+    /// and constant time on average beside that.
+    pub fn take_settleable(&mut self) -> Option<Message>
+        ensures message { result ≡ find (is_settleable_in self.old) self.old.items }
+        ensures items { self.new.items
+            ≡ without_first (is_settleable_in self.old) self.old.items }
+        ensures awaited { self.new.awaited ≡ self.old.awaited }
+        ensures room { self.new.room ≡ self.old.room }
+    {
+        let stamp = self.slots.first_marked(0)?;
+        let Entry { message, .. } = self.slots.take(stamp)?;
+        Some(message)
+    }
+
+    /// Drops the messages from a space, whose session has closed. It takes no memory. Linear in the
+    /// messages.
+    pub fn drop_from(&mut self, peer: SpaceId)
+        ensures items { self.new.items ≡ filter (is_not_from peer) self.old.items }
+        ensures awaited { self.new.awaited ≡ self.old.awaited }
+        ensures room { self.new.room ≡ self.old.room }
+    {
+        self.slots.retain(
+            |entry: &Entry| -> bool
+                ensures { result ≡ is_not_from peer entry.now.message }
+            { entry.message.from != peer },
+        );
+    }
+}
