@@ -136,7 +136,7 @@ fn trace_of(
 // Entries with one more, if its stamp is above the last.
 fn with_entry(mut entries: Entries, stamp: u64, entry: &Entry) -> Result<Entries, AllocError> {
     let event = entry.event.copy()?;
-    let result = copy_of(&entry.result)?;
+    let result = copy_of_result(&entry.result)?;
     if entries.last_stamp() < stamp {
         entries.push(Stamped {
             stamp,
@@ -148,7 +148,7 @@ fn with_entry(mut entries: Entries, stamp: u64, entry: &Entry) -> Result<Entries
 }
 
 // The same result.
-fn copy_of(told: &Result<Answer, Refusal>) -> Result<Result<Answer, Refusal>, AllocError> {
+fn copy_of_result(told: &Result<Answer, Refusal>) -> Result<Result<Answer, Refusal>, AllocError> {
     match told {
         Ok(answer) => Ok(Ok(answer.copy()?)),
         Err(refusal) => Ok(Err(*refusal)),
