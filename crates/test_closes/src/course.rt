@@ -81,7 +81,7 @@ impl Course {
         }
         for _ in 0..MOST_REPEATS {
             let answer = self.make(world, &WorldStep::Do(to, Event::Act(from)))?;
-            if !matches!(answer, Some(Answer::Acted(_))) {
+            if !matches!(&answer, Some(Answer::Acted(_))) {
                 return Ok(());
             }
         }
