@@ -8,5 +8,5 @@ mod returns;
 mod sending;
 
 pub use hands::{take_over, times};
-pub use returns::{end_job, find_run, give_back, give_back_message, throw_away};
+pub use returns::{end_job, give_back, give_back_message, throw_ready_away, throw_waiting_away};
 pub use sending::{hand, send_reserved};

@@ -1,6 +1,6 @@
 //! What messages and jobs have lent is given back.
 
-ghost use Rattle.std.specs.Prelude.{◌≡◌, ◌<◌, [], ◌∷◌, filter, flat_map, find, not, option_map};
+ghost use Rattle.std.specs.Prelude.{◌≡◌, ◌<◌, [], ◌∷◌, filter, flat_map, not};
 ghost use Rattle.nob_model_words.specs.Messages.{is_not_from};
 ghost use Rattle.nob_model_work.specs.Work.{is_run};
 ghost use Rattle.nob_model_history.specs.Holds.{copies_lent, target_lent, loans_of, is_lent};
@@ -10,7 +10,9 @@ ghost use Rattle.nob_space_holds.specs.Returns.{HasLent, GivesBack, is_from, len
 use nob_ids::{JobNo, SpaceId, WireRep};
 use nob_item::Item;
 use nob_model::{Loan, Message, RefCopy, Run};
+use nob_space_jobs::Jobs;
 use nob_space_list::SlabList;
+use nob_space_waiting::Waiting;
 use nob_table::{ObjectTable, Part};
 
 /// Gives back one loan of a reference. Constant time on average.
@@ -97,23 +99,18 @@ fn give_back_job(table: &mut ObjectTable, me: SpaceId, job: JobNo, runs: &SlabLi
     }
 }
 
-/// Ends the jobs of this number: what they have lent is given back.
-pub fn end_job(table: &mut ObjectTable, running: &mut SlabList<Run>, me: SpaceId, job: JobNo)
+/// Ends the jobs of this number: what they have lent is given back. Linear in the jobs that run and
+/// in what they have lent.
+pub fn end_job(table: &mut ObjectTable, jobs: &mut Jobs, me: SpaceId, job: JobNo)
     requires { HasLent table.old (flat_map (λ run. loans_of me run.message)
-        (filter (is_run job) running.old.items)) }
+        (filter (is_run job) jobs.old.running)) }
     ensures back { GivesBack table.old table.new
-        (flat_map (λ run. loans_of me run.message) (filter (is_run job) running.old.items)) }
-    ensures ended { running.new.items ≡ filter (λ run. not (is_run job run)) running.old.items }
+        (flat_map (λ run. loans_of me run.message) (filter (is_run job) jobs.old.running)) }
+    ensures ended { jobs.new.running ≡ filter (λ run. not (is_run job run)) jobs.old.running }
+    ensures ready { jobs.new.ready ≡ jobs.old.ready }
 {
-    give_back_job(table, me, job, running);
-    running.retain(|run| !is_run(job, run));
-}
-
-/// The job that runs under this number.
-pub fn find_run(job: JobNo, runs: &SlabList<Run>) -> Option<&Run>
-    ensures { option_map (λ run. run.now) result ≡ find (is_run job) runs.now.items }
-{
-    runs.iter().find(|run| is_run(job, run))
+    give_back_job(table, me, job, jobs.running());
+    jobs.end(job);
 }
 
 // Whether a message came from a space.
@@ -123,30 +120,61 @@ fn is_from(peer: SpaceId, message: &Message) -> bool
     message.from == peer
 }
 
-// Gives back what the messages from a space have lent.
-fn give_back_from(table: &mut ObjectTable, me: SpaceId, peer: SpaceId, messages: &SlabList<Message>)
-    requires { HasLent table.old (lent_from me peer messages.now.items) }
-    ensures { GivesBack table.old table.new (lent_from me peer messages.now.items) }
+// Gives back what a message has lent, if it came from a space.
+fn give_back_from(table: &mut ObjectTable, me: SpaceId, peer: SpaceId, message: &Message)
+    requires { HasLent table.old (lent_from me peer (message.now ∷ [])) }
+    ensures { GivesBack table.old table.new (lent_from me peer (message.now ∷ [])) }
 {
-    for place in 0..messages.len() {
-        let message = &messages[place];
-        if is_from(peer, message) {
-            give_back_message(table, me, message);
-        }
+    if is_from(peer, message) {
+        give_back_message(table, me, message);
     }
 }
 
-/// Throws the messages from a space away: what they have lent is given back.
-pub fn throw_away(
+// Gives back what the messages that wait from a space have lent.
+fn give_back_waiting(table: &mut ObjectTable, me: SpaceId, peer: SpaceId, waiting: &Waiting)
+    requires { HasLent table.old (lent_from me peer waiting.now.items) }
+    ensures { GivesBack table.old table.new (lent_from me peer waiting.now.items) }
+{
+    for message in waiting.iter() {
+        give_back_from(table, me, peer, message);
+    }
+}
+
+// Gives back what the ready jobs of a space have lent.
+fn give_back_ready(table: &mut ObjectTable, me: SpaceId, peer: SpaceId, jobs: &Jobs)
+    requires { HasLent table.old (lent_from me peer jobs.now.ready) }
+    ensures { GivesBack table.old table.new (lent_from me peer jobs.now.ready) }
+{
+    for message in jobs.ready() {
+        give_back_from(table, me, peer, message);
+    }
+}
+
+/// Throws the messages that wait from a space away: what they have lent is given back. Linear in
+/// the messages that wait.
+pub fn throw_waiting_away(
     table: &mut ObjectTable,
-    messages: &mut SlabList<Message>,
+    waiting: &mut Waiting,
     me: SpaceId,
     peer: SpaceId,
 )
-    requires { HasLent table.old (lent_from me peer messages.old.items) }
-    ensures back { GivesBack table.old table.new (lent_from me peer messages.old.items) }
-    ensures left { messages.new.items ≡ filter (is_not_from peer) messages.old.items }
+    requires { HasLent table.old (lent_from me peer waiting.old.items) }
+    ensures back { GivesBack table.old table.new (lent_from me peer waiting.old.items) }
+    ensures left { waiting.new.items ≡ filter (is_not_from peer) waiting.old.items }
+    ensures awaited { waiting.new.awaited ≡ waiting.old.awaited }
 {
-    give_back_from(table, me, peer, messages);
-    messages.retain(|message| !is_from(peer, message));
+    give_back_waiting(table, me, peer, waiting);
+    waiting.drop_from(peer);
+}
+
+/// Throws the ready jobs of a space away: what they have lent is given back. Linear in the ready
+/// jobs.
+pub fn throw_ready_away(table: &mut ObjectTable, jobs: &mut Jobs, me: SpaceId, peer: SpaceId)
+    requires { HasLent table.old (lent_from me peer jobs.old.ready) }
+    ensures back { GivesBack table.old table.new (lent_from me peer jobs.old.ready) }
+    ensures left { jobs.new.ready ≡ filter (is_not_from peer) jobs.old.ready }
+    ensures running { jobs.new.running ≡ jobs.old.running }
+{
+    give_back_ready(table, me, peer, jobs);
+    jobs.retain_ready(|message| !is_from(peer, message));
 }

@@ -1,5 +1,5 @@
 -- What the closing of a session makes of the state.
-use Rattle.std.specs.Prelude.{◌≡◌, ℕ, ◌<◌, true, ◌==◌, List, ◌∷◌, ◌++◌, Option, Some, None, if◌then◌else◌}
+use Rattle.std.specs.Prelude.{◌≡◌, ℕ, ◌<◌, true, not, ◌&&◌, ◌==◌, List, ◌∷◌, ◌++◌, Option, Some, None, if◌then◌else◌}
 use Rattle.nob_ids.specs.declared.limits.Limits.{Limits}
 use Rattle.nob_ids.specs.declared.reason.Reason.{Reason}
 use Rattle.nob_ids.specs.declared.wire_rep.WireRep.{WireRep}
@@ -22,6 +22,7 @@ use Rattle.nob_model_words.specs.Sessions.{is_peer, closed}
 use Rattle.nob_model_work.specs.declared.work.InHand.{InHand}
 use Rattle.nob_model_work.specs.Work as work
 use Rattle.nob_model.specs.Lists.{IsRightDeed}
+use Rattle.nob_space_waiting.specs.Waiting.{is_awaited}
 use Rattle.nob_space_state.specs.Looks.{HaveClients}
 use Rattle.nob_space_state.specs.Parts.{State}
 use Rattle.nob_space_holds.specs.Returns.{GivesBack, lent_from}
@@ -53,6 +54,7 @@ pub record ClosesDown (s p : ℕ) (old new : State) : Type 0 where
   pub listed : LeavesAll old.dirty new.dirty p
   pub pins : TakesOutAll old.pins.bundles new.pins.bundles p
   pub work : new.work ≡ work.after_close p old.work
+  pub awaited : (rep : WireRep) → is_awaited new.awaited rep ≡ (not (rep.owner == p) && is_awaited old.awaited rep)
   pub calls : new.calls ≡ old.calls
   pub jobs : new.jobs ≡ old.jobs
 

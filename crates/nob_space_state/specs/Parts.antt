@@ -2,18 +2,20 @@
 use Rattle.std.specs.Prelude.{ℕ, List}
 use Rattle.nob_session.specs.Stands.{Roomy}
 use Rattle.nob_table.specs.Table.{Table}
+use Rattle.nob_ids.specs.declared.wire_rep.WireRep.{WireRep}
 use Rattle.nob_dirty.specs.declared.sets.Listing.{Listing}
 use Rattle.nob_pins.specs.Bundles as pins
 use Rattle.nob_model_work.specs.declared.work.InHand.{InHand}
 use Rattle.nob_space_state.specs.declared.parts.Parts.{Parts}
 
--- what a space keeps: sessions, the one with space p at place p - 1; objects and surrogates; clients; pins; work in hand; how many calls and jobs
+-- what a space keeps: sessions, the one with space p at place p - 1; objects and surrogates; clients; pins; work in hand; how many wait for each reference whose answer is to come; how many calls and jobs
 pub record State : Type 0 where
   pub sessions : List Roomy
   pub table : Table
   pub dirty : List Listing
   pub pins : pins.Table
   pub work : InHand
+  pub awaited : List (WireRep × ℕ)
   pub calls : ℕ
   pub jobs : ℕ
 
@@ -25,7 +27,8 @@ state_of parts =
       table = parts.table;
       dirty = parts.dirty;
       pins = parts.pins;
-      work = record { waiting = parts.waiting.items; ready = parts.ready.items; running = parts.running.items; replies = parts.replies.items; calls = parts.calls.items };
+      work = record { waiting = parts.waiting.items; ready = parts.jobs.ready; running = parts.jobs.running; replies = parts.calls.replies; calls = parts.calls.calls };
+      awaited = parts.waiting.awaited;
       calls = parts.calls_made;
       jobs = parts.jobs_made;
     }
@@ -39,6 +42,7 @@ with_table t st =
       dirty = st.dirty;
       pins = st.pins;
       work = st.work;
+      awaited = st.awaited;
       calls = st.calls;
       jobs = st.jobs;
     }
@@ -52,6 +56,7 @@ with_sessions sessions st =
       dirty = st.dirty;
       pins = st.pins;
       work = st.work;
+      awaited = st.awaited;
       calls = st.calls;
       jobs = st.jobs;
     }
@@ -65,6 +70,21 @@ with_work work calls jobs st =
       dirty = st.dirty;
       pins = st.pins;
       work = work;
+      awaited = st.awaited;
       calls = calls;
       jobs = jobs;
+    }
+
+-- the state with so many waiting for each reference whose answer is to come
+abbrev pub with_awaited : List (WireRep × ℕ) → State → State
+with_awaited awaited st =
+    record {
+      sessions = st.sessions;
+      table = st.table;
+      dirty = st.dirty;
+      pins = st.pins;
+      work = st.work;
+      awaited = awaited;
+      calls = st.calls;
+      jobs = st.jobs;
     }

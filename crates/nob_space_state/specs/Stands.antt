@@ -1,8 +1,9 @@
 -- For which lists of what a space did its state stands: one equation for each part, by the words that are read off
 -- the whole list. The newest stands FIRST.
-use Rattle.std.specs.Prelude.{◌≡◌, ℕ, ◌+◌, List, [], ◌∷◌, length, slice_get, map, Some, Result, Ok, Err, IsOk}
+use Rattle.std.specs.Prelude.{◌≡◌, ℕ, ◌+◌, true, not, List, [], ◌∷◌, length, slice_get, map, Some, Result, Ok, Err, IsOk}
 use Rattle.std.specs.List.{sum_by}
 use Rattle.nob_ids.specs.declared.limits.Limits.{Limits}
+use Rattle.nob_ids.specs.declared.wire_rep.WireRep.{WireRep}
 use Rattle.nob_item.specs.Kinds.{counted_in}
 use Rattle.nob_session.specs.Stands as session
 use Rattle.nob_session.specs.Stands.{Roomy}
@@ -11,6 +12,8 @@ use Rattle.nob_pins.specs.Bundles.{Pinned, bundle_of}
 use Rattle.nob_model_types.specs.declared.answer.Answer.{Answer}
 use Rattle.nob_model_types.specs.declared.refusal.Refusal.{Refusal}
 use Rattle.nob_model_words.specs.declared.deed.Deed.{Deed}
+use Rattle.nob_model_words.specs.declared.message.Message.{Message}
+use Rattle.nob_model_words.specs.Turns.{is_lost}
 use Rattle.nob_model_work.specs.Work.{work}
 use Rattle.nob_model_history.specs.declared.history.History.{History}
 use Rattle.nob_model_history.specs.declared.transit.SentItem.{SentItem}
@@ -20,6 +23,7 @@ use Rattle.nob_model_history.specs.Transit as transit
 use Rattle.nob_model_history.specs.Listing.{is_listed}
 use Rattle.nob_model.specs.Right.{calls_made, jobs_made}
 use Rattle.nob_model.specs.Lists.{AreRightDeeds}
+use Rattle.nob_space_waiting.specs.Waiting.{is_awaited, is_due_in}
 use Rattle.nob_space_holds.specs.Shows.{TableStands}
 use Rattle.nob_space_state.specs.declared.error.SpaceError.{SpaceError}
 use Rattle.nob_space_state.specs.declared.error.SpaceError.TheVariants as errors
@@ -38,6 +42,10 @@ bundle item = bundle_of item.to item.number (counted_in item.item)
 abbrev pub PinsStand : List Pinned → History → Type 0
 PinsStand bundles h = (f : Pinned → ℕ) → sum_by f bundles ≡ sum_by f (map bundle (transit.bundles h))
 
+-- of the references that are due to messages that wait, those are awaited that aren't lost
+abbrev pub AreAwaited : (s n : ℕ) → List (WireRep × ℕ) → List Message → List Deed → Type 0
+AreAwaited s n awaited waiting D = (rep : WireRep) → is_due_in waiting rep ≡ true → is_awaited awaited rep ≡ not (is_lost s n rep D)
+
 -- a state of space s among n, with these limits, stands for a list of what the space did: each deed was right after those before
 pub record Stands (s n : ℕ) (limits : Limits) (state : State) (D : List Deed) : Type 0 where
   pub ends : EndsStand s n limits state.sessions (history_of s n D)
@@ -45,6 +53,7 @@ pub record Stands (s n : ℕ) (limits : Limits) (state : State) (D : List Deed) 
   pub listed : (index client : ℕ) → lists state.dirty index client ≡ is_listed s index client D
   pub pins : PinsStand state.pins.bundles (history_of s n D)
   pub work : state.work ≡ work s n D
+  pub awaited : AreAwaited s n state.awaited state.work.waiting D
   pub calls : state.calls ≡ calls_made D
   pub jobs : state.jobs ≡ jobs_made D
   pub right : AreRightDeeds s n limits D

@@ -12,12 +12,12 @@ use Rattle.nob_model_types.specs.declared.refusal.Refusal.TheVariants as refusal
 use Rattle.nob_model_words.specs.declared.deed.Deed.{Deed}
 use Rattle.nob_model_words.specs.declared.deed.Deed.TheVariants as did
 use Rattle.nob_model_words.specs.declared.message.Message.{Message}
-use Rattle.nob_model_words.specs.Messages.{replies_to}
 use Rattle.nob_model_work.specs.declared.work.OwnCall.{OwnCall}
 use Rattle.nob_model_work.specs.Work.{is_call}
 use Rattle.nob_model_history.specs.Holds.{times}
 use Rattle.nob_model_acting.specs.Sending.{refuse_if, unless}
 use Rattle.nob_model.specs.Right.{most_in_hand, answer_of_stage}
+use Rattle.nob_space_calls.specs.Calls.{is_reply}
 use Rattle.nob_space_holds.specs.TakingOver.{reps_of}
 use Rattle.nob_space_state.specs.declared.take.CallResult.{CallResult}
 use Rattle.nob_space_state.specs.declared.take.CallResult.TheVariants as results
@@ -30,10 +30,6 @@ is_full t reps rep = nat_lt most_in_hand ((standing t rep).counts.hand + times r
 -- whether one of their hands would
 abbrev pub is_overfull : Table → List WireRep → Bool
 is_overfull t reps = list_any (is_full t reps) reps
-
--- whether a message is the Reply to a call
-abbrev pub is_reply : ℕ → Message → Bool
-is_reply k message = replies_to k message.item
 
 -- what is answered where this item, that carries these references, is the ready reply
 abbrev pub answer_of_item : Table → List WireRep → Item → Result Answer Refusal

@@ -43,7 +43,7 @@ impl Parts {
             return Err(Refusal::NotHeld);
         }
         self.refuse_value(here.space, value)?;
-        if self.calls.len() >= MOST_CALLS || self.calls_made >= LAST_NUMBER {
+        if self.calls.calls_len() >= MOST_CALLS || self.calls_made >= LAST_NUMBER {
             return Err(Refusal::Limit);
         }
         self.refuse_send(target.owner, Kind::Limited)
@@ -83,7 +83,7 @@ impl Parts {
             Err(ItemError::OutOfMemory) => return Err(SpaceError::OutOfMemory),
         };
         let reps = counted(alloc, value)?;
-        self.calls.reserve(1)?;
+        self.calls.reserve_calls(1)?;
         let peer = target.owner;
         let session = &mut self.sessions[peer.get() as usize - 1];
         hand(
@@ -100,9 +100,7 @@ impl Parts {
             to: peer,
             stage: Stage::Sent,
         };
-        let Ok(()) = self.calls.push(own) else {
-            unreachable!();
-        };
+        self.calls.push(own);
         self.calls_made += 1;
         Ok(call)
     }

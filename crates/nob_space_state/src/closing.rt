@@ -1,14 +1,12 @@
 //! The closing of a session, by whichever event. It takes no memory.
 
-ghost use Rattle.std.specs.Prelude.{◌≡◌, List, true, false, map, OnErr, IfOk};
-ghost use Rattle.std.specs.List.{list_any};
+ghost use Rattle.std.specs.Prelude.{◌≡◌, List, true, false, OnErr, IfOk};
 ghost use Rattle.nob_ids.specs.declared.limits.Limits.{Limits as LimitsOf};
 ghost use Rattle.nob_model_types.specs.declared.answer.Answer.TheVariants as answers;
 ghost use Rattle.nob_model_words.specs.declared.deed.Deed.{Deed};
 ghost use Rattle.nob_model_words.specs.declared.deed.Deed.TheVariants as did;
 ghost use Rattle.nob_model_words.specs.declared.deed.Cause.TheVariants as causes;
 ghost use Rattle.nob_model_words.specs.Sessions.{is_peer};
-ghost use Rattle.nob_model_work.specs.Work as words;
 ghost use Rattle.nob_model_history.specs.Histories.{history_of};
 ghost use Rattle.nob_model.specs.Right as right;
 ghost use Rattle.nob_space_state.specs.Closing.{lent_in_vain, ClosesDown, Closes};
@@ -19,45 +17,10 @@ ghost use Rattle.nob_space_state.specs.Stands.{Stands, IsState, Keeps, Did, Answ
 
 use crate::listings::unlist_all;
 use crate::parts::Parts;
-use nob_ids::{CallNo, Reason, SpaceId};
-use nob_model::{Here, Message, OwnCall, Refusal, Stage};
-use nob_model_words::message::replies_to;
+use nob_ids::{Reason, SpaceId};
+use nob_model::{Here, Refusal};
 use nob_session::Closed;
-use nob_space_holds::throw_away;
-use nob_space_list::SlabList;
-
-// Whether a Reply from a space to a call is ready.
-fn is_replied(peer: SpaceId, call: CallNo, replies: &SlabList<Message>) -> bool
-    ensures { result ≡ list_any (words.is_reply_from peer call) replies.now.items }
-{
-    replies.iter().any(|message| message.from == peer && replies_to(call, &message.item))
-}
-
-// A call after the closing: it ends if it was made to the space and has no ready reply.
-#[tactic(auto, unfolding(nob_model_work::specs::Work::call_after_close))]
-fn call_after_close(peer: SpaceId, replies: &SlabList<Message>, own: &OwnCall) -> OwnCall
-    ensures { result ≡ words.call_after_close peer replies.now.items own.now }
-{
-    if own.to == peer && !is_replied(peer, own.call, replies) {
-        let stage = Stage::Ended;
-        return OwnCall {
-            call: own.call,
-            to: own.to,
-            stage,
-        };
-    }
-    *own
-}
-
-// Ends the calls to a space that have no ready reply.
-fn end_calls(peer: SpaceId, replies: &SlabList<Message>, calls: &mut Vec<OwnCall>)
-    ensures { calls.new.items ≡ map (words.call_after_close peer replies.now.items)
-        calls.old.items }
-{
-    for place in 0..calls.len() {
-        calls[place] = call_after_close(peer, replies, &calls[place]);
-    }
-}
+use nob_space_holds::{throw_ready_away, throw_waiting_away};
 
 impl Parts {
     // What the closing of a session leaves of the parts: messages that wait and ready jobs from the
@@ -70,17 +33,18 @@ impl Parts {
         ensures { ClosesDown me closed.now.peer (state_of self.old) (state_of self.new) }
     {
         let peer = closed.peer();
-        throw_away(&mut self.table, &mut self.waiting, me, peer);
-        throw_away(&mut self.table, &mut self.ready, me, peer);
+        throw_waiting_away(&mut self.table, &mut self.waiting, me, peer);
+        self.waiting.lose_of(peer);
+        throw_ready_away(&mut self.table, &mut self.jobs, me, peer);
         self.table.close(peer);
         unlist_all(&mut self.table, &mut self.dirty, peer);
         self.pins.close(closed);
-        end_calls(peer, &self.replies, &mut self.calls);
+        self.calls.close(peer);
     }
 
     /// The session with a peer closes here for a reason: an item from it has a fault, or it was
     /// asked to close. It takes no memory. Linear in the messages that wait, the ready jobs, the
-    /// calls times the ready replies, and the peer's references, listings and pins. The caller's
+    /// calls, and the peer's references, listings and pins. The caller's
     /// condition: it is a peer, and its session is open here.
     pub fn close_for(&mut self, here: &Here, peer: SpaceId, reason: Reason)
         requires state { IsState here.now.space here.now.n (state_of self.old) }

@@ -22,7 +22,7 @@ use nob_item::{Item, ItemError, encode_reply};
 use nob_model::{Here, Kind, Outcome, Refusal};
 use nob_model_acting::sending::counted;
 use nob_pickle::Value;
-use nob_space_holds::{end_job, find_run, hand};
+use nob_space_holds::{end_job, hand};
 use std::alloc::Global;
 
 /// What became of the reply to a job that was ended.
@@ -91,13 +91,13 @@ impl Parts {
         ensures fits { IfOk result (λ fate. fate ≡ ReplyFate.HandedOn
             → Fits (words.value_of outcome.now)) }
         // A reply is dropped without memory.
-        ensures dropped { (run : RunOf) → find (is_run job) self.old.running.items ≡ Some run
+        ensures dropped { (run : RunOf) → find (is_run job) self.old.jobs.running ≡ Some run
             → has_closed self.old.sessions.items run.message.from ≡ true
             → result ≡ Ok ReplyFate.Dropped }
         ensures err { OnErr result (Keeps here.now.space here.now.n (state_of self.old)
             (state_of self.new)) }
     {
-        let Some(run) = find_run(job, &self.running) else {
+        let Some(run) = self.jobs.find_run(job) else {
             return Err(SpaceError::Refused(Refusal::NoJob));
         };
         let client = run.message.from;
@@ -106,7 +106,7 @@ impl Parts {
             _ => unreachable!(),
         };
         if self.has_closed(client) {
-            end_job(&mut self.table, &mut self.running, here.space, job);
+            end_job(&mut self.table, &mut self.jobs, here.space, job);
             return Ok(ReplyFate::Dropped);
         }
         let unit = Value::Unit;
@@ -128,7 +128,7 @@ impl Parts {
             Kind::Limited,
             reps.as_slice(),
         )?;
-        end_job(&mut self.table, &mut self.running, here.space, job);
+        end_job(&mut self.table, &mut self.jobs, here.space, job);
         Ok(ReplyFate::HandedOn)
     }
 }

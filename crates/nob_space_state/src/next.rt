@@ -67,12 +67,12 @@ impl Parts {
         }
     }
 
-    /// Whether there is a job to claim. Linear in the ready jobs times those that run.
+    /// Whether there is a job to claim. A few words of bits.
     pub fn can_claim(&self) -> bool
         ensures { (s n : ℕ) (limits : LimitsOf) (D : List Deed)
             → Stands s n limits (state_of self.now) D → result ≡ next.can_claim (history_of s n D) }
     {
-        self.first_free().is_some()
+        self.jobs.first_free().is_some()
     }
 
     /// The least index of a live object that Withdraw would take. A look-up, and one more for each

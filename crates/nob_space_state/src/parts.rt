@@ -6,10 +6,12 @@ ghost use Rattle.nob_space_state.specs.Stands.{AreOpened, Stands};
 
 use nob_dirty::DirtySets;
 use nob_ids::{Limits, SpaceId};
-use nob_model::{Here, Message, OwnCall, Run};
+use nob_model::Here;
 use nob_pins::PinTable;
 use nob_session::Session;
-use nob_space_list::SlabList;
+use nob_space_calls::Calls;
+use nob_space_jobs::Jobs;
+use nob_space_waiting::Waiting;
 use nob_table::ObjectTable;
 use std::alloc::{AllocError, Global};
 
@@ -26,15 +28,11 @@ pub struct Parts {
     /// The pins of what was sent.
     pub pins: PinTable,
     /// The messages that wait for their references, in order of acting.
-    pub waiting: SlabList<Message>,
-    /// The ready jobs, in order of becoming ready.
-    pub ready: SlabList<Message>,
-    /// The jobs that run, the newest first.
-    pub running: SlabList<Run>,
-    /// The ready replies, in order of becoming ready.
-    pub replies: SlabList<Message>,
-    /// The calls whose replies aren't taken, the first made first.
-    pub calls: Vec<OwnCall>,
+    pub waiting: Waiting,
+    /// The ready jobs, in order of becoming ready, and the jobs that run.
+    pub jobs: Jobs,
+    /// The calls whose replies aren't taken, and the ready replies.
+    pub calls: Calls,
     /// How many calls were made.
     pub calls_made: u64,
     /// How many jobs were given out.
@@ -55,11 +53,9 @@ impl Parts {
             table: ObjectTable::new(alloc, here.space),
             dirty: DirtySets::new(alloc),
             pins: PinTable::new(alloc),
-            waiting: SlabList::new(alloc),
-            ready: SlabList::new(alloc),
-            running: SlabList::new(alloc),
-            replies: SlabList::new(alloc),
-            calls: Vec::new(alloc),
+            waiting: Waiting::new(alloc),
+            jobs: Jobs::new(alloc),
+            calls: Calls::new(alloc),
             calls_made: 0,
             jobs_made: 0,
         })

@@ -1,25 +1,23 @@
 //! TakeReply: what a call brought.
 
 ghost use Rattle.std.specs.Prelude.{◌≡◌, ℕ, ◌+◌, ◌<◌, List, not, Some, None, Ok, IsOk, OnErr, IfOk};
-ghost use Rattle.std.specs.List.{list_any, position};
+ghost use Rattle.std.specs.List.{list_any};
 ghost use Rattle.nob_ids.specs.declared.limits.Limits.{Limits as LimitsOf};
 ghost use Rattle.nob_pickle.specs.declared.value.Value.{Value as ValueOf};
 ghost use Rattle.nob_model_types.specs.declared.answer.Answer.TheVariants as answers;
 ghost use Rattle.nob_model_words.specs.declared.deed.Deed.{Deed};
-ghost use Rattle.nob_model_work.specs.Work.{is_call};
 ghost use Rattle.nob_model_history.specs.Histories.{history_of};
 ghost use Rattle.nob_model.specs.Right as right;
 ghost use Rattle.nob_model.specs.Next.{reply_ready};
 ghost use Rattle.nob_space_state.specs.Parts.{state_of};
 ghost use Rattle.nob_space_state.specs.Stands.{Stands, IsState, Keeps, Did, Answers};
 ghost use Rattle.nob_space_holds.specs.TakingOver.{reps_of};
-ghost use Rattle.nob_space_state.specs.Taking.{is_full, is_reply, take_answer, answer_of, deed_of};
+ghost use Rattle.nob_space_state.specs.Taking.{is_full, take_answer, answer_of, deed_of};
 
 use crate::parts::Parts;
 use nob_ids::{CallNo, WireRep};
 use nob_item::Item;
 use nob_model::{Here, Message, RefCopy, Refusal, Stage};
-use nob_model_words::message::replies_to;
 use nob_pickle::Value;
 use nob_space_holds::{take_over, times};
 use std::alloc::AllocError;
@@ -43,22 +41,6 @@ pub enum CallResult {
 }
 
 impl Parts {
-    // The place of a call.
-    fn call_at(&self, call: CallNo) -> Option<usize>
-        ensures { result ≡ position (is_call call) self.now.calls.items }
-    {
-        self.calls.iter().position(|own| own.call == call)
-    }
-
-    // The place of the ready reply to a call.
-    fn reply_at(&self, call: CallNo) -> Option<usize>
-        ensures { result ≡ position (is_reply call) self.now.replies.items }
-    {
-        self.replies
-            .iter()
-            .position(|message| replies_to(call, &message.item))
-    }
-
     // Whether the hand of a reference would pass its limit by the references of copies.
     fn is_full(&self, rep: &WireRep, copies: &[RefCopy]) -> bool
         ensures { result ≡ is_full self.now.table (reps_of copies.now) rep.now }
@@ -77,21 +59,21 @@ impl Parts {
     }
 
     /// Whether TakeReply of a call would say anything but that the reply isn't ready: of a call
-    /// that was never made, or is taken, too. It takes no memory. Linear in the calls and the ready
-    /// replies.
+    /// that was never made, or is taken, too. It takes no memory. Logarithmic in the calls and the
+    /// ready replies.
     pub fn reply_ready(&self, call: CallNo) -> bool
         ensures { (s n : ℕ) (limits : LimitsOf) (D : List Deed)
             → Stands s n limits (state_of self.now) D
             → result ≡ reply_ready call (history_of s n D) }
     {
-        let Some(at) = self.call_at(call) else {
+        let Some(own) = self.calls.call(call) else {
             return true;
         };
-        match self.reply_at(call) {
+        match self.calls.reply(call) {
             Some(_) => return true,
             None => {}
         }
-        match self.calls[at].stage {
+        match own.stage {
             Stage::Sent => false,
             Stage::Answered => false,
             Stage::Ended => true,
@@ -99,31 +81,32 @@ impl Parts {
     }
 
     /// The value that TakeReply of a call would bring, copied: `None` where it would bring none.
-    /// Only memory fails it, and not where TakeReply is refused. Linear in the calls, the ready
-    /// replies and the value.
+    /// Only memory fails it, and not where TakeReply is refused. Logarithmic in the calls and the
+    /// ready replies, and linear in the value.
     pub fn reply_value(&self, call: CallNo) -> Result<Option<Value>, AllocError>
         ensures value { IfOk result (λ copy. (status : ℕ) (value : ValueOf)
             → take_answer call (state_of self.now) ≡ Ok (answers.Replied status value)
             → copy ≡ Some value) }
         ensures memory { OnErr result (IsOk (take_answer call (state_of self.now))) }
     {
-        let Some(_) = self.call_at(call) else {
+        let Some(_) = self.calls.call(call) else {
             return Ok(None);
         };
-        let Some(place) = self.reply_at(call) else {
+        let Some(message) = self.calls.reply(call) else {
             return Ok(None);
         };
-        if self.is_overfull(self.replies[place].copies.as_slice()) {
+        if self.is_overfull(message.copies.as_slice()) {
             return Ok(None);
         }
-        let Item::Reply { value, .. } = &self.replies[place].item else {
+        let Item::Reply { value, .. } = &message.item else {
             return Ok(None);
         };
         Ok(Some(value.copy()?))
     }
 
     /// TakeReply of a call: its reply, whose references come into the hand, or that there will be
-    /// none. It takes no memory. Linear in the calls and the ready replies.
+    /// none. It takes no memory. Logarithmic in the calls and the ready replies, and the calls made
+    /// after it move by one.
     pub fn take_reply(&mut self, here: &Here, call: CallNo) -> Result<CallResult, Refusal>
         requires { IsState here.now.space here.now.n (state_of self.old) }
         ensures answer { (limits : LimitsOf) (D : List Deed)
@@ -136,24 +119,26 @@ impl Parts {
         ensures err { OnErr result (Keeps here.now.space here.now.n (state_of self.old)
             (state_of self.new)) }
     {
-        let Some(at) = self.call_at(call) else {
+        let Some(own) = self.calls.call(call) else {
             return Err(Refusal::NoCall);
         };
-        let Some(place) = self.reply_at(call) else {
-            match self.calls[at].stage {
+        let Some(ready) = self.calls.reply(call) else {
+            match own.stage {
                 Stage::Sent => return Err(Refusal::NotReady),
                 Stage::Answered => return Err(Refusal::NotReady),
                 Stage::Ended => {}
             }
-            self.calls.retain(|own| own.call != call);
+            self.calls.remove(call);
             return Ok(CallResult::Ended);
         };
-        if self.is_overfull(self.replies[place].copies.as_slice()) {
+        if self.is_overfull(ready.copies.as_slice()) {
             return Err(Refusal::Limit);
         }
-        let Message { item, copies, .. } = self.replies.remove(place);
+        let Some(Message { item, copies, .. }) = self.calls.take_reply(call) else {
+            unreachable!();
+        };
         take_over(&mut self.table, copies.as_slice());
-        self.calls.retain(|own| own.call != call);
+        self.calls.remove(call);
         match item {
             Item::Reply { status, value, .. } => Ok(CallResult::Replied { status, value }),
             _ => unreachable!(),

@@ -1,0 +1,5 @@
+use Rattle.nob_space_holds.specs.Returns.{lent_from, GivesBack}
+use Rattle.nob_space_holds.proofs.returns.give_back_ready.Given as goal
+
+abbrev pub invariant-loop-message : goal.invariant-loop-message
+invariant-loop-message l = GivesBack l.fn.table l.table (lent_from l.me l.peer l.yielded)
