@@ -100,8 +100,8 @@ impl Space {
 
     /// What a call brought: its reply, whose references come into the hand, or that there will
     /// be none. NoCall where there is no such call, NotReady while there is no reply, Limit
-    /// where a hand would be too full. It takes no memory. Linear in the calls and the ready
-    /// replies.
+    /// where a hand would be too full. It takes no memory. Logarithmic in the calls and the
+    /// ready replies; the calls made after it move by one place.
     #[tactic(auto, unfolding(nob_model::specs::Right::right_after))]
     pub fn take_reply(&mut self, call: CallNo) -> Result<CallResult, Refusal>
         ensures answer { StepAnswers self.old (events.TakeReply call)
@@ -116,8 +116,8 @@ impl Space {
     }
 
     /// The first ready job, in order of becoming ready, whose target isn't running. Nothing
-    /// where there is none, Limit where the numbers are used up. Linear in the ready jobs times
-    /// those that run, and in the job's value.
+    /// where there is none, Limit where the numbers are used up. A look-up, linear in the job's
+    /// value, and in the jobs that run, of which only keys move.
     #[tactic(auto, unfolding(nob_model::specs::Right::right_after))]
     pub fn claim(&mut self) -> Result<Job, SpaceError>
         ensures answer { StepAnswers self.old events.Claim
@@ -155,8 +155,9 @@ impl Space {
     /// The item at the front of the inbox from a peer is acted on; one with a fault closes the
     /// session instead. NoPeer, Closed, Nothing where none waits; and the item stays where a
     /// limit would be passed or a session has no number for what it asks for. Linear in the
-    /// item's bytes, the calls, the messages that wait, and the pins of the item that a Settle
-    /// names, and logarithmic in the listings, save where it closes.
+    /// item's bytes, the copies that wait for the reference of an answer, and the pins of the
+    /// item that a Settle names, and logarithmic in the calls and the listings, save where it
+    /// closes.
     #[tactic(auto, unfolding(nob_model::specs::Right::right_after))]
     pub fn act(&mut self, peer: SpaceId) -> Result<ActResult, SpaceError>
         ensures answer { StepAnswers self.old (events.Act peer) (answered act_answer result) }
@@ -172,7 +173,7 @@ impl Space {
 
     /// The first message, in order of acting, whose references are all resolved is settled, and
     /// its sender told: whose item that was. Nothing where there is none, SeqEnd where a
-    /// session has no number left. Linear in the messages that wait and their references.
+    /// session has no number left. A look-up, and linear in the message's references.
     #[tactic(auto, unfolding(nob_model::specs::Right::right_after))]
     pub fn settle(&mut self) -> Result<SettledItem, SpaceError>
         ensures answer { StepAnswers self.old events.Settle

@@ -113,8 +113,8 @@ impl Space {
         self.parts.lists(index, client)
     }
 
-    /// Whether TakeReply of a call would say anything but that the reply isn't ready. Linear in the
-    /// calls and the ready replies.
+    /// Whether TakeReply of a call would say anything but that the reply isn't ready. Logarithmic in
+    /// the calls and the ready replies.
     pub fn reply_ready(&self, call: CallNo) -> bool
         ensures { (L : List Entry) → StandsFor self.now L
             → result ≡ next.reply_ready call (history self.now.id self.now.n L) }
@@ -123,9 +123,8 @@ impl Space {
     }
 
     /// What the space could do next: to ask it that would be no refusal, limits, free numbers and
-    /// want of memory aside. It takes no memory. Linear in the messages that wait and their
-    /// references, and in the ready jobs times those that run; else a few look-ups, and one for each
-    /// object or surrogate that nothing holds, nor keeps, but that is pinned.
+    /// want of memory aside. It takes no memory. A few look-ups, and one for each object or
+    /// surrogate that nothing holds, nor keeps, but that is pinned.
     pub fn work(&self) -> Work
         ensures act { (L : List Entry) → StandsFor self.now L → (p : ℕ) → 1 ≤ p → p ≤ 32
             → slice_get result.act (p - 1)
