@@ -192,4 +192,4 @@ module _ {s n : ℕ} {limits : Limits} {st : State} {D : List Deed} (stands : St
     clean_stands new u payload number its spelled next answer becomes places leaves =
         stands_noted clean_notes end new u st.work stands (asked_there stands rep first).1 is
         (λ before. sent_next s rep.owner limits end.end new.end (calls_at rep.owner (history_of s n D)) (items.Clean rep.index) payload Note number before answer spelled refl next)
-        (clean_shows u becomes places leaves) (stands.work ∙ sym clean_work) (still_awaited (Clean rep ∷ D) stands.awaited clean_lost) its
+        (clean_shows u becomes places leaves) (stands.work ∙ sym clean_work) (still_awaited s n st.awaited st.work.waiting D (Clean rep ∷ D) stands.awaited clean_lost) its

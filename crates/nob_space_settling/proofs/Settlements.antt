@@ -198,7 +198,7 @@ module _ {s n : ℕ} {limits : Limits} {st : State} {D : List Deed} (stands : St
         ∙ ap (λ V. after_settlement m m.item (has_lost s n st m) (without_waiting m.from m.number V)) stands.work
         ∙ sym settle_work)
         (subst (λ (ms : List Message). AreAwaited s n st.awaited ms D) (sym (ap (λ (V : InHand). V.waiting) put ∙ settled_waits m m.item (has_lost s n st m) (record { waiting = without_first (is_settleable st) st.work.waiting; ready = st.work.ready; running = st.work.running; replies = st.work.replies; calls = st.work.calls })))
-        (without_awaited (is_settleable st) st.work.waiting stands.awaited))
+        (without_awaited s n st.awaited D (is_settleable st) st.work.waiting stands.awaited))
         its
 
 -- there is a payload where there is a call
