@@ -1,5 +1,5 @@
 -- Clean: what is right is what the state tells, and what it leaves.
-use Rattle.std.proofs.Common.{◌≡◌, ℕ, ◌+◌, ◌-◌, ◌<◌, true, false, not, ◌&&◌, nat_le, List, [], ◌∷◌, length, get_or, None, Ok, Err, IsOk, if◌then◌else◌, refl, sym, ap, subst, ◌∙◌, arith}
+use Rattle.std.proofs.Common.{◌≡◌, ℕ, ◌+◌, ◌-◌, ◌<◌, Bool, true, false, not, ◌&&◌, ◌||◌, nat_le, List, [], ◌∷◌, length, get_or, None, Ok, Err, IsOk, if◌then◌else◌, refl, sym, ap, subst, ◌∙◌, arith}
 use lib.ListN.{set}
 use Rattle.std.proofs.lemmas.Bool.Decides.{nat_tests}
 use Rattle.std.proofs.lemmas.Bool.{and_parts, not-true}
@@ -29,15 +29,16 @@ use Rattle.nob_model_types.specs.declared.refusal.Refusal.TheVariants as refusal
 use Rattle.nob_model_words.specs.Deeds.{deed_by}
 use Rattle.nob_model_words.specs.declared.deed.Deed.{Deed}
 use Rattle.nob_model_words.specs.declared.deed.Deed.TheVariants.{Clean}
-use Rattle.nob_model_words.specs.Sessions.{closed}
-use Rattle.nob_model_words.specs.Turns.{turns, is_own, is_usable, is_granted, with_clean}
+use Rattle.nob_model_words.specs.declared.turns.Turns.{Turns}
+use Rattle.nob_model_words.specs.Sessions.{closed, is_peer}
+use Rattle.nob_model_words.specs.Turns.{turns, is_own, is_usable, is_granted, is_refused, is_lost, with_clean}
 use Rattle.nob_model_work.specs.Work.{work, work_after}
 use Rattle.nob_model_work.specs.Gifts.{gifts, gifts_of}
 use Rattle.nob_model_history.specs.Histories.{history_of}
 use Rattle.nob_model_history.specs.Ends.{calls_at, payload_of}
 use Rattle.nob_model_history.specs.Holds.{hand, times, lent_in}
 use Rattle.nob_model_history.specs.Transit as transit
-use Rattle.nob_model_history.proofs.Turning.{granted_answered}
+use Rattle.nob_model_history.proofs.Turning.{granted_answered, same_ref}
 use Rattle.nob_model.proofs.Made.{work_fixed, fixed_stays}
 use Rattle.nob_space_settling.proofs.Fixing.{still_fixed}
 use Rattle.nob_model.specs.Lists.{IsRightDeed}
@@ -45,10 +46,12 @@ use Rattle.nob_model.specs.Right.{right_after, right_clean, clean_of, own_ref}
 use Rattle.nob_space_state.specs.Parts.{State}
 use Rattle.nob_space_holds.specs.Shows.{TableStands, far_state}
 use Rattle.nob_space_state.specs.Stands.{Stands}
+use Rattle.nob_space_state.proofs.Awaited.{still_awaited}
 use Rattle.nob_space_state.proofs.Ends.{end_there}
 use Rattle.nob_space_holds.proofs.Shows.{one_row, no_holds}
 use Rattle.nob_space_settling.specs.Cleaning.{NoneSpareBelow, IsFirstSpare}
 use Rattle.nob_space_settling.proofs.Noting.{GivesNotes, same_dirties, sent_next, stands_noted, open_there}
+use Rattle.nob_space_settling.proofs.Resolving.{granted_kept}
 use Rattle.nob_space_settling.proofs.Spares.{asked_there, idle_there, first_there, none_there}
 
 -- ---- what is right
@@ -130,6 +133,16 @@ module _ {s n : ℕ} {limits : Limits} {st : State} {D : List Deed} (stands : St
           | false ↦ λ e. e
         ]
 
+    -- what is given up isn't lost, and wasn't
+    clean_lost : (other : WireRep) → is_lost s n other (Clean rep ∷ D) ≡ is_lost s n other D
+    clean_lost other = elim (is_same other rep) as (λ b. is_same other rep ≡ b → lost_by (if b then with_clean (turns s n other D) else turns s n other D) ≡ lost_by (turns s n other D)) [
+      | true ↦ λ same. let kept = granted_kept (turns s n other D) (subst (λ (r : WireRep). is_granted (turns s n r D) ≡ true) (sym (same_ref other rep same)) granted_there.0) in λ i. not (is_own s other) && (not (is_peer s n other.owner) || closed other.owner D || sym kept i)
+      | false ↦ λ differs. refl
+    ] refl
+      where
+        lost_by : Turns → Bool
+        lost_by t = not (is_own s other) && (not (is_peer s n other.owner) || closed other.owner D || is_refused t)
+
     -- the table without the surrogate
     clean_shows : (u : Table) → Becomes st.table u rep unknown → Places st.table u rep None → RemovalLeaves st.table u → TableStands s n u (history_of s n (Clean rep ∷ D))
     clean_shows u becomes places leaves = record {
@@ -175,8 +188,8 @@ module _ {s n : ℕ} {limits : Limits} {st : State} {D : List Deed} (stands : St
     pub clean_stands : (new : Roomy) (u : Table) (payload : List ℕ) (number : ℕ) → IsRightDeed s n limits (Clean rep) D → payload ≡ payload_of (items.Clean rep.index) → number ≡ end.end.handed + 1
         → (session.Stands s rep.owner limits end.end (calls_at rep.owner (history_of s n D)) → session.Stands s rep.owner limits new.end (ends.Send payload Note (Ok number) ∷ calls_at rep.owner (history_of s n D)))
         → Becomes st.table u rep unknown → Places st.table u rep None → RemovalLeaves st.table u
-        → Stands s n limits (record { sessions = set st.sessions (rep.owner - 1) new; table = u; dirty = st.dirty; pins = st.pins; work = st.work; calls = st.calls; jobs = st.jobs }) (Clean rep ∷ D)
+        → Stands s n limits (record { sessions = set st.sessions (rep.owner - 1) new; table = u; dirty = st.dirty; pins = st.pins; work = st.work; awaited = st.awaited; calls = st.calls; jobs = st.jobs }) (Clean rep ∷ D)
     clean_stands new u payload number its spelled next answer becomes places leaves =
         stands_noted clean_notes end new u st.work stands (asked_there stands rep first).1 is
         (λ before. sent_next s rep.owner limits end.end new.end (calls_at rep.owner (history_of s n D)) (items.Clean rep.index) payload Note number before answer spelled refl next)
-        (clean_shows u becomes places leaves) (stands.work ∙ sym clean_work) its
+        (clean_shows u becomes places leaves) (stands.work ∙ sym clean_work) (still_awaited s n st.awaited st.work.waiting D (Clean rep ∷ D) stands.awaited clean_lost) its

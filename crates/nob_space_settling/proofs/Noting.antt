@@ -42,7 +42,7 @@ use Rattle.nob_model.specs.Lists.{IsRightDeed}
 use Rattle.nob_model.specs.Right.{own_ref, calls_made, jobs_made}
 use Rattle.nob_space_state.specs.Parts.{State}
 use Rattle.nob_space_holds.specs.Shows.{TableShows, TableStands, far_state}
-use Rattle.nob_space_state.specs.Stands.{Stands, bundle}
+use Rattle.nob_space_state.specs.Stands.{Stands, AreAwaited, bundle}
 use Rattle.nob_space_state.proofs.Ends.{end_there, ends_changed}
 use Rattle.nob_space_state.proofs.Sent.{gift_to}
 use Rattle.nob_space_state.proofs.Told.{ended_there}
@@ -136,9 +136,9 @@ module _ {s n p : ℕ} {items : List Item} {deed : Deed} {D : List Deed} (notes 
   -- the state with another end, table and work in hand
   pub stands_noted : {limits : Limits} {st : State} (old new : Roomy) (t : Table) (W : InHand) → Stands s n limits st D → is_peer s n p ≡ true → old ≡ get_or st.sessions (p - 1) old
       → (session.Stands s p limits old.end (calls_at p (history_of s n D)) → session.Stands s p limits new.end (with_sends items (calls_at p (history_of s n D))))
-      → TableStands s n t (history_of s n (deed ∷ D)) → W ≡ work s n (deed ∷ D) → IsRightDeed s n limits deed D
-      → Stands s n limits (record { sessions = set st.sessions (p - 1) new; table = t; dirty = st.dirty; pins = st.pins; work = W; calls = st.calls; jobs = st.jobs }) (deed ∷ D)
-  stands_noted {limits} {st} old new t W stands peer is answer table in_hand its =
+      → TableStands s n t (history_of s n (deed ∷ D)) → W ≡ work s n (deed ∷ D) → AreAwaited s n st.awaited W.waiting (deed ∷ D) → IsRightDeed s n limits deed D
+      → Stands s n limits (record { sessions = set st.sessions (p - 1) new; table = t; dirty = st.dirty; pins = st.pins; work = W; awaited = st.awaited; calls = st.calls; jobs = st.jobs }) (deed ∷ D)
+  stands_noted {limits} {st} old new t W stands peer is answer table in_hand awaited its =
       let there = end_there s n limits st.sessions (history_of s n D) p old stands.ends peer is in
       record {
         ends = ends_changed s n limits st.sessions (history_of s n D) (history_of s n (deed ∷ D)) p new stands.ends there.0
@@ -148,6 +148,7 @@ module _ {s n p : ℕ} {items : List Item} {deed : Deed} {D : List Deed} (notes 
         listed = λ index client. stands.listed index client ∙ sym (notes.listed index client);
         pins = λ f. stands.pins f ∙ ap (λ (all : List SentItem). sum_by f (map bundle all)) (sym same_bundles);
         work = in_hand;
+        awaited = awaited;
         calls = stands.calls ∙ sym notes.calls;
         jobs = stands.jobs ∙ sym notes.jobs;
         right = (its, stands.right);

@@ -10,6 +10,7 @@ use Rattle.nob_model_words.specs.declared.message.Message.{Message}
 use Rattle.nob_model_words.specs.declared.deed.Deed.{Deed}
 use Rattle.nob_model_words.specs.Messages.{is_of, message_after}
 use Rattle.nob_model_work.specs.declared.work.InHand.{InHand}
+use Rattle.nob_model_work.specs.declared.work.OwnCall.{OwnCall}
 use Rattle.nob_model_work.specs.declared.work.Run.{Run}
 use Rattle.nob_model_work.specs.Work.{after_settlement, lost_reply, without_first, without_waiting, make_ready, make_reply}
 use Rattle.nob_model_history.specs.Holds.{times, loans_of, lent_in}
@@ -20,18 +21,18 @@ use Rattle.nob_space_holds.proofs.Counted.{times_both}
 use Rattle.nob_space_settling.specs.Settling.{loans_ended}
 
 -- a Call that is settled is ready, or over
-pub call_put : (m : Message) (call target method : ℕ) (value : Value) (lost : Bool) (W : InHand) (ready : List Message) → m.item ≡ items.Call call target method value → ready ≡ (if lost then W.ready else W.ready ++ m ∷ [])
-    → record { waiting = W.waiting; ready = ready; running = W.running; replies = W.replies; calls = W.calls } ≡ after_settlement m m.item lost W
+pub call_put : (m : Message) (call target method : ℕ) (value : Value) (lost : Bool) (W : InHand) (ready : List Message) (running : List Run) → m.item ≡ items.Call call target method value → ready ≡ (if lost then W.ready else W.ready ++ m ∷ []) → running ≡ W.running
+    → record { waiting = W.waiting; ready = ready; running = running; replies = W.replies; calls = W.calls } ≡ after_settlement m m.item lost W
 unfolding after_settlement
-call_put m call target method value true W ready item is = ap (λ (ms : List Message). record { waiting = W.waiting; ready = ms; running = W.running; replies = W.replies; calls = W.calls }) is ∙ ap (λ (i : Item). after_settlement m i true W) (sym item)
-call_put m call target method value false W ready item is = ap (λ (ms : List Message). record { waiting = W.waiting; ready = ms; running = W.running; replies = W.replies; calls = W.calls }) is ∙ ap (λ (i : Item). after_settlement m i false W) (sym item)
+call_put m call target method value true W ready running item is same = (λ i. record { waiting = W.waiting; ready = is i; running = same i; replies = W.replies; calls = W.calls }) ∙ ap (λ (x : Item). after_settlement m x true W) (sym item)
+call_put m call target method value false W ready running item is same = (λ i. record { waiting = W.waiting; ready = is i; running = same i; replies = W.replies; calls = W.calls }) ∙ ap (λ (x : Item). after_settlement m x false W) (sym item)
 
 -- a Reply that is settled is ready, as one of status 3 where it is lost
-pub reply_put : (m : Message) (call status : ℕ) (value : Value) (lost : Bool) (W : InHand) (replies : List Message) → m.item ≡ items.Reply call status value → replies ≡ W.replies ++ (if lost then lost_reply m call else m) ∷ []
-    → record { waiting = W.waiting; ready = W.ready; running = W.running; replies = replies; calls = W.calls } ≡ after_settlement m m.item lost W
+pub reply_put : (m : Message) (call status : ℕ) (value : Value) (lost : Bool) (W : InHand) (replies : List Message) (calls : List OwnCall) → m.item ≡ items.Reply call status value → replies ≡ W.replies ++ (if lost then lost_reply m call else m) ∷ [] → calls ≡ W.calls
+    → record { waiting = W.waiting; ready = W.ready; running = W.running; replies = replies; calls = calls } ≡ after_settlement m m.item lost W
 unfolding after_settlement
-reply_put m call status value true W replies item is = ap (λ (ms : List Message). record { waiting = W.waiting; ready = W.ready; running = W.running; replies = ms; calls = W.calls }) is ∙ ap (λ (i : Item). after_settlement m i true W) (sym item)
-reply_put m call status value false W replies item is = ap (λ (ms : List Message). record { waiting = W.waiting; ready = W.ready; running = W.running; replies = ms; calls = W.calls }) is ∙ ap (λ (i : Item). after_settlement m i false W) (sym item)
+reply_put m call status value true W replies calls item is same = (λ i. record { waiting = W.waiting; ready = W.ready; running = W.running; replies = is i; calls = same i }) ∙ ap (λ (x : Item). after_settlement m x true W) (sym item)
+reply_put m call status value false W replies calls item is same = (λ i. record { waiting = W.waiting; ready = W.ready; running = W.running; replies = is i; calls = same i }) ∙ ap (λ (x : Item). after_settlement m x false W) (sym item)
 
 -- anything else is over
 pub other_put : (s : ℕ) (m : Message) (item : Item) (lost : Bool) (W : InHand) → ((call target method : ℕ) (value : Value) → item ≡ items.Call call target method value → ⊥) → ((call status : ℕ) (value : Value) → item ≡ items.Reply call status value → ⊥)

@@ -1,6 +1,6 @@
 -- Settle: which message it takes, by the state and by the list.
-use Rattle.std.proofs.Common.{◌≡◌, ℕ, ◌+◌, ◌-◌, ◌≤◌, ◌<◌, Bool, true, false, not, cond, nat_le, ◌&&◌, ◌||◌, ◌==◌, List, [], ◌∷◌, length, find, Option, Some, None, Ok, Err, IsOk, get_or, if◌then◌else◌, refl, sym, ap, subst, ◌∙◌, arith}
-use Rattle.std.specs.List.{AllByRecursion, list_any, list_all}
+use Rattle.std.proofs.Common.{◌≡◌, ℕ, ◌+◌, ◌-◌, ◌≤◌, ◌<◌, Bool, true, false, not, nat_le, ◌&&◌, ◌||◌, ◌==◌, List, [], ◌∷◌, length, find, Option, Some, None, Ok, Err, IsOk, get_or, if◌then◌else◌, refl, sym, ap, subst, ◌∙◌, arith}
+use Rattle.std.specs.List.{AllByRecursion, list_any}
 use Rattle.std.proofs.lemmas.Bool.{and_parts, and_right}
 use Rattle.std.proofs.lemmas.Bool.Decides.{nat_tests}
 use Rattle.nob_ids.specs.Names.{is_counted}
@@ -13,7 +13,6 @@ use Rattle.nob_model_session.specs.Right.{last_item}
 use Rattle.nob_session.specs.Stands.{End, Roomy}
 use Rattle.nob_table_rows.specs.Counts.{is_held}
 use Rattle.nob_table_rows.specs.declared.standing.State.TheVariants as states
-use Rattle.nob_table_rows.specs.Standings as standings
 use Rattle.nob_table.specs.Table.{standing}
 use Rattle.nob_model_types.specs.declared.answer.Answer.TheVariants as answers
 use Rattle.nob_model_types.specs.declared.event.Event.TheVariants as events
@@ -28,12 +27,10 @@ use Rattle.nob_model_words.specs.declared.turns.OwnerAnswer.TheVariants as said
 use Rattle.nob_model_words.specs.declared.turns.Turns.{Turns}
 use Rattle.nob_model_words.specs.Messages.{is_lost_message}
 use Rattle.nob_model_words.specs.Sessions.{is_peer, closed}
-use Rattle.nob_model_words.specs.Turns.{turns, is_usable, is_lost, is_resolved, is_pending, is_granted, is_refused, is_yes, is_no}
-use Rattle.nob_model_work.specs.declared.work.InHand.{InHand}
+use Rattle.nob_model_words.specs.Turns.{turns, is_lost, is_pending, is_granted, is_refused, is_yes, is_no}
 use Rattle.nob_model_history.specs.Histories.{history_of}
 use Rattle.nob_model_history.specs.Ends.{calls_at}
 use Rattle.nob_model_history.proofs.Turning.{pending_waits, waiting_stands}
-use Rattle.nob_model_acting.specs.Candidates.{is_all_resolved, to_settle}
 use Rattle.nob_model.specs.Lists.{IsRightDeed}
 use Rattle.nob_model.specs.Right.{right_after, right_settle, settle_of, settle_count}
 use Rattle.nob_space_state.specs.Parts.{State}
@@ -44,13 +41,13 @@ use Rattle.nob_space_state.proofs.Ends.{end_there}
 use Rattle.nob_space_state.proofs.Finishing.{state_sound}
 use Rattle.nob_space_state.proofs.Running.{IsSound, all_found}
 use Rattle.nob_space_state.proofs.Told.{closed_there}
-use Rattle.nob_space_settling.specs.Settling.{is_denied, is_lost_here, is_resolved_here, is_settleable, has_lost, lost_call, given_count}
-use Rattle.nob_space_settling.proofs.Spares.{usable_there}
+use Rattle.nob_space_settling.specs.Settling.{is_denied, is_lost_here, has_lost, lost_call, given_count}
+use Rattle.nob_space_settling.proofs.Settleable.{is_settleable, to_settle_there}
 
 -- ---- what is refused
 
 -- what is granted isn't refused
-granted_kept : (t : Turns) → is_granted t ≡ true → is_refused t ≡ false
+pub granted_kept : (t : Turns) → is_granted t ≡ true → is_refused t ≡ false
 granted_kept t granted = and_right (t.asks && t.answers == t.dirties) (is_no t.last) (one_answer t.last (and_parts _ _ granted).1)
   where
     one_answer : (last : OwnerAnswer) → is_yes last ≡ true → is_no last ≡ false
@@ -82,37 +79,18 @@ module _ {s n : ℕ} {limits : Limits} {st : State} {D : List Deed} (stands : St
         ] state
   ] refl
 
-  -- and so resolved
-  resolved_there : (rep : WireRep) → is_counted rep ≡ true → is_resolved_here s n st rep ≡ is_resolved s n rep D
-  resolved_there rep counted = elim (rep.owner == s) as (λ b. rep.owner == s ≡ b → (b || standings.is_granted (standing st.table rep).state || is_lost_here s n st rep) ≡ (b || is_usable s n rep D || is_lost s n rep D)) [
-    | true ↦ λ own. refl
-    | false ↦ λ far. λ i. usable_there stands rep counted far i || lost_there rep counted i
-  ] refl
-
-  copies_resolved : (copies : List RefCopy) → AllByRecursion (λ (copy : RefCopy). is_counted copy.rep ≡ true) copies → list_all (λ (copy : RefCopy). is_resolved_here s n st copy.rep) copies ≡ list_all (λ (copy : RefCopy). is_resolved s n copy.rep D) copies
-  copies_resolved [] all = refl
-  copies_resolved (copy ∷ copies) all = λ i. resolved_there copy.rep all.0 i && copies_resolved copies all.1 i
-
   copies_lost : (copies : List RefCopy) → AllByRecursion (λ (copy : RefCopy). is_counted copy.rep ≡ true) copies → list_any (λ (copy : RefCopy). is_lost_here s n st copy.rep) copies ≡ list_any (λ (copy : RefCopy). is_lost s n copy.rep D) copies
   copies_lost [] all = refl
   copies_lost (copy ∷ copies) all = λ i. lost_there copy.rep all.0 i || copies_lost copies all.1 i
 
-  first_found : (messages : List Message) → AllByRecursion (IsSound s n) messages → find (is_settleable s n st) messages ≡ find (is_all_resolved s n (history_of s n D)) messages
-  first_found [] all = refl
-  first_found (message ∷ messages) all = λ i. cond (copies_resolved message.copies all.0.counted i) (Some message) (first_found messages all.1 i)
-
-  -- the first message whose references are resolved
-  pub to_settle_there : to_settle s n (history_of s n D) ≡ find (is_settleable s n st) st.work.waiting
-  to_settle_there = ap (λ (W : InHand). find (is_all_resolved s n (history_of s n D)) W.waiting) (sym stands.work) ∙ sym (first_found st.work.waiting (state_sound stands 0).waiting)
-
   -- nothing is to be settled
-  pub settle_none : find (is_settleable s n st) st.work.waiting ≡ None → right_settle s n (history_of s n D) ≡ Err refusals.Nothing
+  pub settle_none : find (is_settleable st) st.work.waiting ≡ None → right_settle s n (history_of s n D) ≡ Err refusals.Nothing
   unfolding right_settle settle_of
-  settle_none none = ap (λ found. settle_of s n found (history_of s n D)) (to_settle_there ∙ none)
+  settle_none none = ap (λ found. settle_of s n found (history_of s n D)) (to_settle_there stands ∙ none)
 
-  module _ (m : Message) (found : find (is_settleable s n st) st.work.waiting ≡ Some m) where
+  module _ (m : Message) (found : find (is_settleable st) st.work.waiting ≡ Some m) where
     pub message_sound : IsSound s n m
-    message_sound = (all_found (IsSound s n) (is_settleable s n st) st.work.waiting m (state_sound stands 0).waiting found).0
+    message_sound = (all_found (IsSound s n) (is_settleable st) st.work.waiting m (state_sound stands 0).waiting found).0
 
     -- it is lost by the state where it is by the list
     pub has_lost_there : has_lost s n st m ≡ is_lost_message s n D m
@@ -134,7 +112,7 @@ module _ {s n : ℕ} {limits : Limits} {st : State} {D : List Deed} (stands : St
       settle_by : (b : Bool) → nat_le (length (handed (calls_at m.from (history_of s n D))) + given_count (lost_call m.item (has_lost s n st m))) last_item ≡ b → right_settle s n (history_of s n D) ≡ (if b then Ok (answers.Settled m.from m.number) else Err refusals.SeqEnd)
       unfolding right_settle settle_of
       settle_by b free =
-          ap (λ one. settle_of s n one (history_of s n D)) (to_settle_there ∙ found)
+          ap (λ one. settle_of s n one (history_of s n D)) (to_settle_there stands ∙ found)
           ∙ ap (λ c. if nat_le (length (handed (calls_at m.from (history_of s n D))) + c) last_item then Ok (answers.Settled m.from m.number) else Err refusals.SeqEnd) (count_of m.item)
           ∙ ap (λ (f : Bool). if f then Ok (answers.Settled m.from m.number) else Err refusals.SeqEnd) free
 

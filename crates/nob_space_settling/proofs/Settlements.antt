@@ -38,17 +38,19 @@ use Rattle.nob_model.proofs.Waiting.{settled_message}
 use Rattle.nob_space_state.specs.Parts.{State}
 use Rattle.nob_space_holds.specs.Returns.{HasLent, GivesBack}
 use Rattle.nob_space_holds.specs.Shows.{TableStands}
-use Rattle.nob_space_state.specs.Stands.{Stands}
+use Rattle.nob_space_state.specs.Stands.{Stands, AreAwaited}
+use Rattle.nob_space_state.proofs.Awaited.{without_awaited}
 use Rattle.nob_space_state.proofs.Finishing.{none_of, counted_append, counted_copies, counted_target}
 use Rattle.nob_space_state.proofs.Firsts.{some_same}
 use Rattle.nob_space_state.proofs.Rows.{differ}
 use Rattle.nob_space_state.proofs.Running.{HasCallNumber}
 use Rattle.nob_space_state.proofs.Sent.{gift_to}
-use Rattle.nob_space_settling.specs.Settling.{is_settleable, has_lost, lost_call, reply_to_lost, items_given, given_count, with_note, loans_ended}
+use Rattle.nob_space_settling.specs.Settling.{has_lost, lost_call, reply_to_lost, items_given, given_count, with_note, loans_ended}
 use Rattle.nob_space_settling.proofs.Fixing.{still_fixed}
 use Rattle.nob_space_settling.proofs.Noting.{GivesNotes, shows_noted, stands_noted, open_there}
 use Rattle.nob_space_settling.proofs.Placed.{settled_lends, settled_fixed, waiting_lends, ended_lent}
-use Rattle.nob_space_settling.proofs.Resolving.{to_settle_there, message_sound, has_lost_there, settle_right, settle_is, some_given}
+use Rattle.nob_space_settling.proofs.Settleable.{is_settleable, to_settle_there}
+use Rattle.nob_space_settling.proofs.Resolving.{message_sound, has_lost_there, settle_right, settle_is, some_given}
 
 -- two tests that find one element find it in one place
 same_first : {X : Type 0} (a b : X → Bool) (xs : List X) (m : X) → find a xs ≡ Some m → find b xs ≡ Some m → a m ≡ true → b m ≡ true → without_first a xs ≡ without_first b xs
@@ -82,18 +84,31 @@ notes_sent k h (Some call) settle reply calls spelled some count =
     let next : h + 2 ≡ length (handed calls ++ payload_of (items.Settle k) ∷ []) + 1 = omega (arith, count, more) in
     λ i. with_note (next i) (some i) (Send (spelled i) Note (Ok (count i + 1)) ∷ calls)
 
+-- a message that is settled leaves those that wait
+settled_waits : (m : Message) (item : Item) (lost : Bool) (W : InHand) → (after_settlement m item lost W).waiting ≡ W.waiting
+unfolding after_settlement
+settled_waits m (items.Call call target method value) true W = refl
+settled_waits m (items.Call call target method value) false W = refl
+settled_waits m (items.Reply call status value) true W = refl
+settled_waits m (items.Reply call status value) false W = refl
+settled_waits m (items.Settle item) lost W = refl
+settled_waits m (items.Dirty index) lost W = refl
+settled_waits m (items.DirtyOk index) lost W = refl
+settled_waits m (items.DirtyNo index) lost W = refl
+settled_waits m (items.Clean index) lost W = refl
+
 -- notes carry no references
 no_refs : (k : ℕ) (call : Option ℕ) → AllByRecursion (λ (item : Item). counted_in item ≡ []) (items_given k call)
 no_refs k None = (refl, tt)
 no_refs k (Some call) = (refl, (refl, tt))
 
-module _ {s n : ℕ} {limits : Limits} {st : State} {D : List Deed} (stands : Stands s n limits st D) (m : Message) (found : find (is_settleable s n st) st.work.waiting ≡ Some m) where
+module _ {s n : ℕ} {limits : Limits} {st : State} {D : List Deed} (stands : Stands s n limits st D) (m : Message) (found : find (is_settleable st) st.work.waiting ≡ Some m) where
   -- what the message lends is lent
   pub settle_lent : HasLent st.table (loans_ended s m m.item (has_lost s n st m))
   settle_lent = λ rep. elim (is_counted rep) as (λ b. is_counted rep ≡ b → times rep (loans_ended s m m.item (has_lost s n st m)) ≤ (standing st.table rep).counts.lent) [
     | true ↦ λ counted.
         let loans : (standing st.table rep).counts.lent ≡ times rep (lent_in s st.work) = stands.table.loans rep counted ∙ ap (λ W. times rep (lent_in s W)) (sym stands.work) in
-        let all = waiting_lends s rep (is_settleable s n st) m st.work found in
+        let all = waiting_lends s rep (is_settleable st) m st.work found in
         let low = ended_lent s rep m m.item (has_lost s n st m) in
         omega (arith, loans, all, low)
     | false ↦ λ uncounted.
@@ -123,8 +138,8 @@ module _ {s n : ℕ} {limits : Limits} {st : State} {D : List Deed} (stands : St
     taken_here = ap (λ (W : InHand). find (is_of m.from m.number) W.waiting) stands.work ∙ taken.0
 
     -- without it
-    waiting_left : without_first (is_settleable s n st) st.work.waiting ≡ without_first (is_of m.from m.number) st.work.waiting
-    waiting_left = same_first (is_settleable s n st) (is_of m.from m.number) st.work.waiting m found taken_here (found_passes (is_settleable s n st) st.work.waiting m found) (found_passes (is_of m.from m.number) st.work.waiting m taken_here)
+    waiting_left : without_first (is_settleable st) st.work.waiting ≡ without_first (is_of m.from m.number) st.work.waiting
+    waiting_left = same_first (is_settleable st) (is_of m.from m.number) st.work.waiting m found taken_here (found_passes (is_settleable st) st.work.waiting m found) (found_passes (is_of m.from m.number) st.work.waiting m taken_here)
 
     -- a Settle gives its sender notes
     settle_notes : GivesNotes s n (Settle m.from m.number) D m.from (items_given m.number (lost_call m.item (has_lost s n st m)))
@@ -172,8 +187,8 @@ module _ {s n : ℕ} {limits : Limits} {st : State} {D : List Deed} (stands : St
     pub settle_stands : (new : Roomy) (u : Table) (W : InHand) (settle : List ℕ) (reply : Option (List ℕ)) → settle ≡ payload_of (items.Settle m.number) → reply ≡ option_map (λ c. payload_of (reply_to_lost c)) (lost_call m.item (has_lost s n st m))
         → (session.Stands s m.from limits end.end (calls_at m.from (history_of s n D)) → session.Stands s m.from limits new.end (with_note (end.end.handed + 2) reply (Send settle Note (Ok (end.end.handed + 1)) ∷ calls_at m.from (history_of s n D))))
         → GivesBack st.table u (loans_ended s m m.item (has_lost s n st m))
-        → W ≡ after_settlement m m.item (has_lost s n st m) (record { waiting = without_first (is_settleable s n st) st.work.waiting; ready = st.work.ready; running = st.work.running; replies = st.work.replies; calls = st.work.calls })
-        → Stands s n limits (record { sessions = set st.sessions (m.from - 1) new; table = u; dirty = st.dirty; pins = st.pins; work = W; calls = st.calls; jobs = st.jobs }) (Settle m.from m.number ∷ D)
+        → W ≡ after_settlement m m.item (has_lost s n st m) (record { waiting = without_first (is_settleable st) st.work.waiting; ready = st.work.ready; running = st.work.running; replies = st.work.replies; calls = st.work.calls })
+        → Stands s n limits (record { sessions = set st.sessions (m.from - 1) new; table = u; dirty = st.dirty; pins = st.pins; work = W; awaited = st.awaited; calls = st.calls; jobs = st.jobs }) (Settle m.from m.number ∷ D)
     settle_stands new u W settle reply spelled replied answer back put =
         stands_noted settle_notes end new u W stands peer is
         (λ before. subst (λ calls. session.Stands s m.from limits new.end calls) (notes_sent m.number end.end.handed (lost_call m.item (has_lost s n st m)) settle reply (calls_at m.from (history_of s n D)) spelled replied (ap (λ (e : End). e.handed) before)) (answer before))
@@ -182,6 +197,8 @@ module _ {s n : ℕ} {limits : Limits} {st : State} {D : List Deed} (stands : St
         ∙ ap (λ ws. after_settlement m m.item (has_lost s n st m) (record { waiting = ws; ready = st.work.ready; running = st.work.running; replies = st.work.replies; calls = st.work.calls })) waiting_left
         ∙ ap (λ V. after_settlement m m.item (has_lost s n st m) (without_waiting m.from m.number V)) stands.work
         ∙ sym settle_work)
+        (subst (λ (ms : List Message). AreAwaited s n st.awaited ms D) (sym (ap (λ (V : InHand). V.waiting) put ∙ settled_waits m m.item (has_lost s n st m) (record { waiting = without_first (is_settleable st) st.work.waiting; ready = st.work.ready; running = st.work.running; replies = st.work.replies; calls = st.work.calls })))
+        (without_awaited s n st.awaited D (is_settleable st) st.work.waiting stands.awaited))
         its
 
 -- there is a payload where there is a call

@@ -1,6 +1,6 @@
 -- Which message is settled, and what that gives and gives back, by the state.
 use Rattle.std.specs.Prelude.{ℕ, Bool, true, false, ◌&&◌, ◌||◌, ◌==◌, not, List, [], ◌∷◌, Option, Some, None, Ok, if◌then◌else◌}
-use Rattle.std.specs.List.{list_any, list_all}
+use Rattle.std.specs.List.{list_any}
 use Rattle.nob_ids.specs.declared.wire_rep.WireRep.{WireRep}
 use Rattle.nob_item.specs.declared.item.Item.{Item}
 use Rattle.nob_item.specs.declared.item.Item.TheVariants as items
@@ -10,7 +10,6 @@ use Rattle.nob_model_session.specs.declared.entry.EndEntry.TheVariants.{Send}
 use Rattle.nob_model_session.specs.declared.entry.Kind.TheVariants.{Note}
 use Rattle.nob_table_rows.specs.declared.standing.State.{State as TableState}
 use Rattle.nob_table_rows.specs.declared.standing.State.TheVariants as states
-use Rattle.nob_table_rows.specs.Standings.{is_granted}
 use Rattle.nob_table.specs.Table.{standing}
 use Rattle.nob_model_words.specs.declared.message.Message.{Message}
 use Rattle.nob_model_words.specs.Sessions.{is_peer}
@@ -26,14 +25,6 @@ is_denied _ = false
 -- whether a reference is lost: another space's that is no peer, whose session has closed here, or that refused it
 abbrev pub is_lost_here : (s n : ℕ) → State → WireRep → Bool
 is_lost_here s n st rep = not (rep.owner == s) && (not (is_peer s n rep.owner) || has_closed st.sessions rep.owner || is_denied (standing st.table rep).state)
-
--- whether a reference is resolved: own, granted or lost
-abbrev pub is_resolved_here : (s n : ℕ) → State → WireRep → Bool
-is_resolved_here s n st rep = rep.owner == s || is_granted (standing st.table rep).state || is_lost_here s n st rep
-
--- whether all references of a message are resolved
-abbrev pub is_settleable : (s n : ℕ) → State → Message → Bool
-is_settleable s n st message = list_all (λ copy. is_resolved_here s n st copy.rep) message.copies
 
 -- whether a message carries a reference that is lost
 abbrev pub has_lost : (s n : ℕ) → State → Message → Bool

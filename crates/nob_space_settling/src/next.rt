@@ -9,18 +9,17 @@ ghost use Rattle.nob_space_state.specs.Parts.{state_of};
 ghost use Rattle.nob_space_state.specs.Stands.{Stands, IsState};
 
 use crate::cleaning::first_spare;
-use crate::settling::first_settleable;
 use nob_model::Here;
 use nob_space_state::Parts;
 
-/// Whether there is a message to settle. Linear in the messages that wait and their references.
+/// Whether there is a message to settle. A few words of bits and a look for it, however many wait.
 pub fn can_settle(parts: &Parts, here: &Here) -> bool
     ensures { (limits : LimitsOf) (D : List Deed)
         → Stands here.now.space here.now.n limits (state_of parts.now) D
         → result ≡ next.can_settle here.now.space here.now.n
         (history_of here.now.space here.now.n D) }
 {
-    first_settleable(parts, here).is_some()
+    parts.waiting.first_settleable().is_some()
 }
 
 /// Whether there is a surrogate to give up. Linear in the surrogates, once more for each that

@@ -1,7 +1,7 @@
 //! Settling the messages that wait for their references: Settle.
 
 ghost use Rattle.std.specs.Prelude.{◌≡◌, ◌<◌, ◌≤◌, ℕ, ◌+◌, List, [], ◌∷◌, ◌++◌, if◌then◌else◌, true, None, Some, Ok, vec_len, is_some, option_map, IfOk, IfSome, OnOk, OnErr, MatchResult};
-ghost use Rattle.std.specs.List.{list_all, list_any, position};
+ghost use Rattle.std.specs.List.{list_any};
 ghost use Rattle.nob_ids.specs.declared.limits.Limits.{Limits as LimitsOf};
 ghost use Rattle.nob_item.specs.Judging.{is_call_number, is_item_number};
 ghost use Rattle.nob_item.specs.declared.item.Item.TheVariants as items;
@@ -21,7 +21,7 @@ ghost use Rattle.nob_session.specs.Stands.{is_open_end};
 ghost use Rattle.nob_space_state.specs.Parts.{state_of, with_table, with_work};
 ghost use Rattle.nob_space_holds.specs.Returns.{HasLent, GivesBack};
 ghost use Rattle.nob_space_state.specs.Stands.{Stands, IsState, Keeps, Did, AnswersOrWants};
-ghost use Rattle.nob_space_settling.specs.Settling.{is_denied, is_lost_here, is_resolved_here, is_settleable, has_lost, lost_call, reply_to_lost, items_given, given_count, with_note, loans_ended};
+ghost use Rattle.nob_space_settling.specs.Settling.{is_denied, is_lost_here, has_lost, lost_call, reply_to_lost, items_given, given_count, with_note, loans_ended};
 
 use nob_ids::{CallNo, ItemNo, SpaceId, WireRep};
 use nob_item::{Item, ItemError, encode, encode_reply};
@@ -29,8 +29,9 @@ use nob_model::{Here, Kind, Message, RefCopy, Refusal};
 use nob_model_words::message::RefCopies;
 use nob_pickle::Value;
 use nob_session::Session;
+use nob_space_calls::Calls;
 use nob_space_holds::{give_back_message, send_reserved};
-use nob_space_list::SlabList;
+use nob_space_jobs::Jobs;
 use nob_space_state::{Parts, SpaceError};
 use nob_table::{ObjectTable, State};
 use std::alloc::{AllocError, Global};
@@ -72,32 +73,6 @@ pub fn is_lost(parts: &Parts, here: &Here, rep: &WireRep) -> bool
     is_denied(standing.state)
 }
 
-// Whether a reference is resolved.
-fn is_resolved(parts: &Parts, here: &Here, rep: &WireRep) -> bool
-    ensures { result ≡ is_resolved_here here.now.space here.now.n (state_of parts.now) rep.now }
-{
-    if rep.owner == here.space {
-        return true;
-    }
-    let standing = parts.table.state(*rep);
-    let state = standing.state;
-    if state.is_granted() {
-        return true;
-    }
-    is_lost(parts, here, rep)
-}
-
-// Whether all references of a message are resolved.
-fn is_settleable(parts: &Parts, here: &Here, message: &Message) -> bool
-    ensures { result ≡ is_settleable here.now.space here.now.n (state_of parts.now) message.now }
-{
-    message
-        .copies
-        .as_slice()
-        .iter()
-        .all(|copy| is_resolved(parts, here, &copy.rep))
-}
-
 // Whether a message carries a reference that is lost.
 fn has_lost(parts: &Parts, here: &Here, message: &Message) -> bool
     ensures { result ≡ has_lost here.now.space here.now.n (state_of parts.now) message.now }
@@ -107,17 +82,6 @@ fn has_lost(parts: &Parts, here: &Here, message: &Message) -> bool
         .as_slice()
         .iter()
         .any(|copy| is_lost(parts, here, &copy.rep))
-}
-
-// The place of the first message that waits whose references are all resolved.
-pub(crate) fn first_settleable(parts: &Parts, here: &Here) -> Option<usize>
-    ensures { result ≡ position (is_settleable here.now.space here.now.n (state_of parts.now))
-        parts.now.waiting.items }
-{
-    parts
-        .waiting
-        .iter()
-        .position(|message| is_settleable(parts, here, message))
 }
 
 // The number of a Call with a lost reference.
@@ -217,22 +181,23 @@ fn hand_notes(
 // what it lent is given back.
 fn put_call(
     table: &mut ObjectTable,
-    ready: &mut SlabList<Message>,
+    jobs: &mut Jobs,
     me: SpaceId,
     message: Message,
     lost: bool,
 )
     requires lent { lost ≡ true → HasLent table.old (loans_of me message) }
-    requires room { 0 < ready.old.room }
+    requires room { 0 < jobs.old.ready_room }
     ensures back { GivesBack table.old table.new (if lost then loans_of me message else []) }
-    ensures put { ready.new.items ≡ (if lost then ready.old.items else ready.old.items ++ message ∷
+    ensures ready { jobs.new.ready ≡ (if lost then jobs.old.ready else jobs.old.ready ++ message ∷
         []) }
+    ensures running { jobs.new.running ≡ jobs.old.running }
 {
     if lost {
         give_back_message(table, me, &message);
         return;
     }
-    ready.push(message);
+    jobs.push(message);
 }
 
 // Puts a Reply that is settled to the ready replies, or one of status 3 where a reference of it is
@@ -240,20 +205,21 @@ fn put_call(
 fn put_reply(
     alloc: Global,
     table: &mut ObjectTable,
-    replies: &mut SlabList<Message>,
+    calls: &mut Calls,
     me: SpaceId,
     message: Message,
     call: CallNo,
     lost: bool,
 )
     requires lent { lost ≡ true → HasLent table.old (loans_of me message) }
-    requires room { 0 < replies.old.room }
+    requires room { 0 < calls.old.replies_room }
     ensures back { GivesBack table.old table.new (if lost then loans_of me message else []) }
-    ensures put { replies.new.items ≡ replies.old.items ++
+    ensures replies { calls.new.replies ≡ calls.old.replies ++
         (if lost then lost_reply message call else message) ∷ [] }
+    ensures calls { calls.new.calls ≡ calls.old.calls }
 {
     if !lost {
-        replies.push(message);
+        calls.push_reply(message);
         return;
     }
     give_back_message(table, me, &message);
@@ -267,14 +233,14 @@ fn put_reply(
         },
         copies: RefCopies::from_vec(Vec::new(alloc)),
     };
-    replies.push(reply);
+    calls.push_reply(reply);
 }
 
 // Puts a message that is settled where it goes.
 fn put_settled(parts: &mut Parts, alloc: Global, me: SpaceId, message: Message, lost: bool)
     requires lent { HasLent parts.old.table (loans_ended me message message.item lost) }
-    requires ready { 0 < parts.old.ready.room }
-    requires replies { 0 < parts.old.replies.room }
+    requires ready { 0 < parts.old.jobs.ready_room }
+    requires replies { 0 < parts.old.calls.replies_room }
     ensures back { GivesBack parts.old.table parts.new.table
         (loans_ended me message message.item lost) }
     ensures put { state_of parts.new ≡ with_work
@@ -282,13 +248,13 @@ fn put_settled(parts: &mut Parts, alloc: Global, me: SpaceId, message: Message, 
         parts.old.jobs_made (with_table parts.new.table (state_of parts.old)) }
 {
     match &message.item {
-        Item::Call { .. } => put_call(&mut parts.table, &mut parts.ready, me, message, lost),
+        Item::Call { .. } => put_call(&mut parts.table, &mut parts.jobs, me, message, lost),
         Item::Reply { call, .. } => {
             let call = *call;
             put_reply(
                 alloc,
                 &mut parts.table,
-                &mut parts.replies,
+                &mut parts.calls,
                 me,
                 message,
                 call,
@@ -303,8 +269,8 @@ fn put_settled(parts: &mut Parts, alloc: Global, me: SpaceId, message: Message, 
 /// granted on an open session, or lost, is settled: its sender is told so by an item. A Call
 /// becomes a ready job and a Reply a ready reply; where a reference is lost a Call is answered by a
 /// Reply of status 3 and is over, a Reply becomes one of status 3, and what they lent is given
-/// back. Nothing where there is none, SeqEnd where the session has too few numbers left. Linear in
-/// the messages that wait and their references.
+/// back. Nothing where there is none, SeqEnd where the session has too few numbers left. A few words
+/// of bits and a look for the message, however many wait, and linear in its references.
 pub fn settle(parts: &mut Parts, alloc: Global, here: &Here) -> Result<SettledItem, SpaceError>
     requires { IsState here.now.space here.now.n (state_of parts.old) }
     ensures answer { (limits : LimitsOf) (D : List Deed)
@@ -317,10 +283,9 @@ pub fn settle(parts: &mut Parts, alloc: Global, here: &Here) -> Result<SettledIt
     ensures err { OnErr result (Keeps here.now.space here.now.n (state_of parts.old)
         (state_of parts.new)) }
 {
-    let Some(place) = first_settleable(parts, here) else {
+    let Some(message) = parts.waiting.first_settleable() else {
         return Err(SpaceError::Refused(Refusal::Nothing));
     };
-    let message = &parts.waiting[place];
     let peer = message.from;
     let item = message.number;
     let lost = has_lost(parts, here, message);
@@ -331,11 +296,13 @@ pub fn settle(parts: &mut Parts, alloc: Global, here: &Here) -> Result<SettledIt
     }
     let settle = payload_of_settle(alloc, item)?;
     let reply = payload_if(alloc, call)?;
-    parts.ready.reserve(1)?;
-    parts.replies.reserve(1)?;
+    parts.jobs.reserve_ready(1)?;
+    parts.calls.reserve_replies(1)?;
     let session = &mut parts.sessions[at];
     hand_notes(session, settle, reply)?;
-    let message = parts.waiting.remove(place);
+    let Some(message) = parts.waiting.take_settleable() else {
+        unreachable!();
+    };
     put_settled(parts, alloc, here.space, message, lost);
     Ok(SettledItem { peer, item })
 }

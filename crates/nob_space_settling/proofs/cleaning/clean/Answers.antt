@@ -81,6 +81,7 @@ returns-in_err-hand_note-clause-err c = after_error _ c.from_residual-in_err-han
           dirty = c.args.parts.now.dirty;
           pins = c.args.parts.now.pins;
           work = (state_of c.args.parts.now).work;
+          awaited = c.args.parts.now.waiting.awaited;
           calls = c.args.parts.now.calls_made;
           jobs = c.args.parts.now.jobs_made;
         }
@@ -100,6 +101,7 @@ returns-clause-stands c limits D stands =
       dirty = c.args.parts.now.dirty;
       pins = c.args.parts.now.pins;
       work = (state_of c.args.parts.now).work;
+      awaited = c.args.parts.now.waiting.awaited;
       calls = c.args.parts.now.calls_made;
       jobs = c.args.parts.now.jobs_made;
     }) (did.Clean c.in-Some.rep ∷ D)) (sym c.get.ensures.value)

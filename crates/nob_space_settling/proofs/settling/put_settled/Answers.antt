@@ -7,12 +7,12 @@ use Rattle.nob_space_settling.proofs.settling.put_settled.Goals as goal
 pub returns-in-Call-clause-put : goal.returns-in-Call-clause-put
 returns-in-Call-clause-put c =
     ap (λ W. with_work W c.args.parts.now.calls_made c.args.parts.now.jobs_made (with_table c.put_call.new.table (state_of c.args.parts.now)))
-    (call_put c.args.message c.in-Call.call c.in-Call.target c.in-Call.method c.in-Call.value c.args.lost (state_of c.args.parts.now).work c.put_call.new.ready.items c.in-Call.is c.put_call.ensures.put)
+    (call_put c.args.message c.in-Call.call c.in-Call.target c.in-Call.method c.in-Call.value c.args.lost (state_of c.args.parts.now).work c.put_call.new.jobs.ready c.put_call.new.jobs.running c.in-Call.is c.put_call.ensures.ready c.put_call.ensures.running)
 
 pub returns-in-Reply-clause-put : goal.returns-in-Reply-clause-put
 returns-in-Reply-clause-put c =
     ap (λ W. with_work W c.args.parts.now.calls_made c.args.parts.now.jobs_made (with_table c.put_reply.new.table (state_of c.args.parts.now)))
-    (reply_put c.args.message c.in-Reply.call c.in-Reply.status c.in-Reply.value c.args.lost (state_of c.args.parts.now).work c.put_reply.new.replies.items c.in-Reply.is c.put_reply.ensures.put)
+    (reply_put c.args.message c.in-Reply.call c.in-Reply.status c.in-Reply.value c.args.lost (state_of c.args.parts.now).work c.put_reply.new.calls.replies c.put_reply.new.calls.calls c.in-Reply.is c.put_reply.ensures.replies c.put_reply.ensures.calls)
 
 pub returns-in_default : goal.returns-in_default
 returns-in_default c =
