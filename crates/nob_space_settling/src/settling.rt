@@ -179,13 +179,7 @@ fn hand_notes(
 
 // Puts a Call that is settled to the ready jobs, or ends it where a reference of it is lost: then
 // what it lent is given back.
-fn put_call(
-    table: &mut ObjectTable,
-    jobs: &mut Jobs,
-    me: SpaceId,
-    message: Message,
-    lost: bool,
-)
+fn put_call(table: &mut ObjectTable, jobs: &mut Jobs, me: SpaceId, message: Message, lost: bool)
     requires lent { lost ≡ true → HasLent table.old (loans_of me message) }
     requires room { 0 < jobs.old.ready_room }
     ensures back { GivesBack table.old table.new (if lost then loans_of me message else []) }
