@@ -38,7 +38,7 @@ use Rattle.nob_space_items.specs.Fronts.{IsFront}
 use Rattle.nob_space_items.specs.Messages.{is_wanted, wanted_refs}
 use Rattle.nob_space_items.specs.Placing.{IsMessage}
 use Rattle.nob_space_items.proofs.Among.{any_of, filter_passes}
-use Rattle.nob_space_settling.proofs.Spares.{CanBeAsked, all_once}
+use Rattle.nob_space_items.proofs.Far.{CanBeAsked, all_once}
 use Rattle.nob_model.proofs.Waiting.{all_filter}
 use Rattle.nob_space_items.proofs.Message.{all_peers, act_turns, wanted_turns, asked_turns, act_dirties, far_by, act_listed}
 

@@ -53,7 +53,7 @@ use Rattle.nob_space_state.proofs.Rows.{distinct_filtered}
 use Rattle.nob_space_state.proofs.Told.{closed_there}
 use Rattle.nob_space_items.specs.Messages.{is_wanted, wanted_refs, owner_count, has_free, has_numbers_for, message_refusal}
 use Rattle.nob_space_items.proofs.Among.{any_of, any_last, last_distinct, filter_passes}
-use Rattle.nob_space_settling.proofs.Spares.{CanBeAsked, all_asked as dirties_asked, all_once}
+use Rattle.nob_space_items.proofs.Far.{CanBeAsked, all_asked as dirties_asked, all_once}
 
 -- ---- numbers
 

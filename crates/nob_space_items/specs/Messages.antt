@@ -1,8 +1,10 @@
 -- Acting on a Call or a Reply, by the state: which of its references get Dirties, and why it stays in the inbox.
-use Rattle.std.specs.Prelude.{◌≡◌, ℕ, ◌+◌, ◌-◌, Bool, false, ◌&&◌, ◌||◌, ◌==◌, not, nat_le, nat_lt, List, length, map, filter, Option, Some, None, is_some, if◌then◌else◌}
+use Rattle.std.specs.Prelude.{◌≡◌, ℕ, ◌+◌, ◌-◌, Bool, true, false, ◌&&◌, ◌||◌, ◌==◌, not, nat_le, nat_lt, List, length, map, filter, Option, Some, None, is_some, if◌then◌else◌}
 use Rattle.std.specs.List.{list_all}
 use Rattle.nob_ids.specs.declared.wire_rep.WireRep.{WireRep}
 use Rattle.nob_session.specs.Stands.{Roomy}
+use Rattle.nob_table_rows.specs.declared.standing.State.{State as TableState}
+use Rattle.nob_table_rows.specs.declared.standing.State.TheVariants as states
 use Rattle.nob_table_rows.specs.Standings.{is_surrogate, is_granted}
 use Rattle.nob_table_rows.specs.Rows.{IsOnce}
 use Rattle.nob_table.specs.Table.{Table, standing, surrogate_total, place_of}
@@ -17,7 +19,6 @@ use Rattle.nob_model_work.specs.Gifts.{once}
 use Rattle.nob_model_acting.specs.Acting.{messages, most_messages, most_surrogates}
 use Rattle.nob_space_state.specs.Parts.{State}
 use Rattle.nob_space_state.specs.Looks.{end_with, has_closed}
-use Rattle.nob_space_settling.specs.Settling.{is_lost_here}
 
 -- whether a reference gets a Dirty: its owner is a peer whose session is open here, and it has no surrogate
 abbrev pub is_wanted : (s n : ℕ) → State → WireRep → Bool
@@ -51,6 +52,15 @@ message_refusal st reps = if is_too_much st reps then Some refusals.Limit else i
 -- whether a reference is own or usable
 abbrev pub is_at_hand : (s : ℕ) → State → WireRep → Bool
 is_at_hand s st rep = rep.owner == s || is_granted (standing st.table rep).state
+
+-- whether it is the standing of a surrogate that its owner has refused
+abbrev pub is_denied : TableState → Bool
+is_denied states.Refused = true
+is_denied _ = false
+
+-- whether a reference is lost: another space's that is no peer, whose session has closed here, or that refused it
+abbrev pub is_lost_here : (s n : ℕ) → State → WireRep → Bool
+is_lost_here s n st rep = not (rep.owner == s) && (not (is_peer s n rep.owner) || has_closed st.sessions rep.owner || is_denied (standing st.table rep).state)
 
 -- the loan of a reference as it comes in a message: never where it is lost, made at once where it is own or usable, and else due
 abbrev pub new_loan : (s n : ℕ) → State → WireRep → Loan

@@ -10,7 +10,6 @@ use nob_ids::WireRep;
 use nob_item::{Item, counted_refs};
 use nob_model::{Here, Loan, RefCopy};
 use nob_model_words::message::RefCopies;
-use nob_space_settling::is_lost;
 use nob_space_state::Parts;
 use nob_table::State;
 use std::alloc::{AllocError, Global};
@@ -28,6 +27,39 @@ fn is_granted(state: State) -> bool
         | State::Refused
         | State::Lost => false,
     }
+}
+
+// Whether it is that of a surrogate that its owner has refused.
+fn is_denied(state: State) -> bool
+    ensures { result ≡ specs.is_denied state }
+{
+    match state {
+        State::Refused => true,
+        State::Unknown
+        | State::Live
+        | State::Withdrawn
+        | State::Pending
+        | State::Granted
+        | State::Lost => false,
+    }
+}
+
+// Whether a reference is lost: it is of another owner, and that is none of the spaces, or their
+// session has closed, or the owner has refused it.
+fn is_lost(parts: &Parts, here: &Here, rep: &WireRep) -> bool
+    ensures { result ≡ specs.is_lost_here here.now.space here.now.n (state_of parts.now) rep.now }
+{
+    if rep.owner == here.space {
+        return false;
+    }
+    if !here.is_peer(rep.owner) {
+        return true;
+    }
+    if parts.has_closed(rep.owner) {
+        return true;
+    }
+    let standing = parts.table.state(*rep);
+    is_denied(standing.state)
 }
 
 // Whether a reference is own or usable.
