@@ -16,44 +16,29 @@ use Rattle.nob_keeper.specs.contracts.kept.Kept.TheInside as KeptInside
 use Rattle.nob_keeper.specs.contracts.receipt.Receipt as Receipt
 use Rattle.nob_keeper.specs.contracts.seat.Seat as Seat
 use Rattle.nob_keeper.specs.contracts.seat.Seat.TheInside as SeatInside
-use Rattle.nob_model.specs.contracts.Message as Message
-use Rattle.nob_model.specs.contracts.OwnCall as OwnCall
-use Rattle.nob_model.specs.contracts.Run as Run
-use Rattle.nob_model.proofs.OwnCall.TheSendSync as own_call
 use Rattle.nob_model_session.proofs.entry.Frames.TheSendSync as frames
 use Rattle.nob_model_types.specs.contracts.answer.Answer as Answer
 use Rattle.nob_model_types.specs.contracts.event.Event as Event
 use Rattle.nob_model_types.specs.contracts.refusal.Refusal as Refusal
-use Rattle.nob_model_words.proofs.message.RefCopies.TheSendSync as copies
 use Rattle.nob_pickle.proofs.value.Values.TheLaws.TheKnot as values
 use Rattle.nob_pins.proofs.table.PinTable.TheSendSync as pins
 use Rattle.nob_session.proofs.session.Session.TheSendSync as session
 use Rattle.nob_session.specs.contracts.session.Session as Session
 use Rattle.nob_space.specs.contracts.space.Space as Space
 use Rattle.nob_space.specs.contracts.space.Space.TheInside as SpaceInside
-use Rattle.nob_space_list.proofs.list.SlabList.TheSendSync as lists
-use Rattle.nob_space_list.specs.contracts.list.SlabList as SlabList
+use Rattle.nob_space_calls.proofs.calls.Calls.TheSendSync as calls
+use Rattle.nob_space_jobs.proofs.jobs.Jobs.TheSendSync as jobs
 use Rattle.nob_space_state.specs.contracts.parts.Parts as Parts
+use Rattle.nob_space_waiting.proofs.waiting.Waiting.TheSendSync as waiting
 use Rattle.nob_table.proofs.table.ObjectTable.TheSendSync as table
 use Rattle.nob_trace.specs.contracts.stamped.Stamped as Stamped
-
-messages_send : IsSend (SlabList.the_row Message.the_row)
-messages_send =
-    let message : IsSend Message.the_row = search (copies.the_send, bytes.the_send, crosses, values.crosses, sendable) depth 60 fits 20000 in
-    lists.the_send Message.the_row message
-
-runs_send : IsSend (SlabList.the_row Run.the_row)
-runs_send =
-    let run : IsSend Run.the_row = search (copies.the_send, bytes.the_send, crosses, values.crosses, sendable) depth 60 fits 20000 in
-    lists.the_send Run.the_row run
 
 parts_send : IsSend (Struct (shape Parts.the_type))
 parts_send =
     let sessions = Vec-send Session.the_row session.the_send in
-    let calls = Vec-send OwnCall.the_row own_call.the_send in
     let numbers : AllSend (u64-field.row ∷ u64-field.row ∷ []) = search sendable in
     struct_send (shape Parts.the_type)
-    (sessions, (table.the_send, (dirty.the_send, (pins.the_send, (messages_send, (messages_send, (runs_send, (messages_send, (calls, numbers)))))))))
+    (sessions, (table.the_send, (dirty.the_send, (pins.the_send, (waiting.the_send, (jobs.the_send, (calls.the_send, numbers)))))))
 
 space_inside_send : IsSend SpaceInside.the_row
 space_inside_send =

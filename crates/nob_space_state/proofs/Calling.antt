@@ -3,7 +3,7 @@ use Rattle.std.proofs.Common.{◌≡◌, ℕ, ◌+◌, ◌-◌, ◌≤◌, ◌<�
 use Prim.Native.Nat.{zero, suc}
 use lib.ListN.{set}
 use lib.Seq.{drop-nil}
-use Rattle.std.specs.List.{sum_by}
+use Rattle.std.specs.List.{AllByRecursion, sum_by}
 use Rattle.std.proofs.lemmas.Bool.Decides.{nat_tests}
 use Rattle.std.proofs.lemmas.Bool.{and_parts}
 use Rattle.std.proofs.lemmas.List.Sums.{length-filter, count_by-le-length}
@@ -53,6 +53,9 @@ use Rattle.nob_model_history.specs.Ends.{bytes_if, calls_at, kind_of, payload_of
 use Rattle.nob_model_history.specs.Holds.{hand, is_held, times, lent_in}
 use Rattle.nob_model.specs.Right.{right_call, is_last_call, calls_made, last_number, most_calls}
 use Rattle.nob_model_acting.specs.Sending.{◌or_else◌, refuse_if, unless, is_own_and_not_live, is_faulty, ref_refused, refs_refused, value_refused, send_refused, refusal_in}
+use Rattle.nob_model.proofs.Replying.{answered_once}
+use Rattle.nob_model.proofs.Waiting.{all_weaker}
+use Rattle.nob_space_calls.specs.Calls.{IsAbove}
 use Rattle.nob_space_state.specs.Parts.{State}
 use Rattle.nob_space_state.specs.Looks.{end_with, has_closed, has_holds, is_gone}
 use Rattle.nob_space_holds.specs.Pins.{AddsPins}
@@ -286,7 +289,7 @@ call_spelled s st index method value fault fits more e =
 module _ {s n : ℕ} {limits : Limits} {st : State} {D : List Deed} (stands : Stands s n limits st D) (p : ℕ) (old new : Roomy) (table_of_pins : pins.Table) (peer : is_peer s n p ≡ true) (is : old ≡ get_or st.sessions (p - 1) old) where
   -- nothing is sent: the end and the bundles are what they were
   pub stands_unsent : new.end ≡ old.end → table_of_pins.bundles ≡ st.pins.bundles
-      → Stands s n limits (record { sessions = set st.sessions (p - 1) new; table = st.table; dirty = st.dirty; pins = table_of_pins; work = st.work; calls = st.calls; jobs = st.jobs }) D
+      → Stands s n limits (record { sessions = set st.sessions (p - 1) new; table = st.table; dirty = st.dirty; pins = table_of_pins; work = st.work; awaited = st.awaited; calls = st.calls; jobs = st.jobs }) D
   stands_unsent same bundles =
       let there = end_there s n limits st.sessions (history_of s n D) p old stands.ends peer is in
       record {
@@ -295,6 +298,7 @@ module _ {s n : ℕ} {limits : Limits} {st : State} {D : List Deed} (stands : St
         listed = stands.listed;
         pins = λ f. ap (sum_by f) bundles ∙ stands.pins f;
         work = stands.work;
+        awaited = stands.awaited;
         calls = stands.calls;
         jobs = stands.jobs;
         right = stands.right;
@@ -305,9 +309,9 @@ module _ {s n : ℕ} {limits : Limits} {st : State} {D : List Deed} (stands : St
       → payload ≡ payload_of item → kind ≡ kind_of item → number ≡ old.end.handed + 1
       → (session.Stands s p limits old.end (calls_at p (history_of s n D)) → session.Stands s p limits new.end (ends.Send payload kind (Ok number) ∷ calls_at p (history_of s n D)))
       → AddsPins st.pins.bundles table_of_pins.bundles p (old.end.handed + 1) (counted_in item)
-      → TableStands s n t (history_of s n (deed ∷ D)) → W ≡ work s n (deed ∷ D) → made ≡ calls_made (deed ∷ D) → IsRightDeed s n limits deed D
-      → Stands s n limits (record { sessions = set st.sessions (p - 1) new; table = t; dirty = st.dirty; pins = table_of_pins; work = W; calls = made; jobs = st.jobs }) (deed ∷ D)
-  stands_sent {deed} {item} payload kind number W t made hands still spelled limited next answer adds table in_hand calls its =
+      → TableStands s n t (history_of s n (deed ∷ D)) → W ≡ work s n (deed ∷ D) → W.waiting ≡ st.work.waiting → made ≡ calls_made (deed ∷ D) → IsRightDeed s n limits deed D
+      → Stands s n limits (record { sessions = set st.sessions (p - 1) new; table = t; dirty = st.dirty; pins = table_of_pins; work = W; awaited = st.awaited; calls = made; jobs = st.jobs }) (deed ∷ D)
+  stands_sent {deed} {item} payload kind number W t made hands still spelled limited next answer adds table in_hand waits calls its =
       let there = end_there s n limits st.sessions (history_of s n D) p old stands.ends peer is in
       let count : old.end.handed ≡ length (handed (calls_at p (history_of s n D))) = ap (λ (end : End). end.handed) there.2 in
       let after : session.Stands s p limits new.end (calls_at p (history_of s n (deed ∷ D))) =
@@ -320,7 +324,13 @@ module _ {s n : ℕ} {limits : Limits} {st : State} {D : List Deed} (stands : St
       (ends_changed s n limits st.sessions (history_of s n D) (history_of s n (deed ∷ D)) p new stands.ends there.0 after (λ q other. sym (calls_elsewhere hands q (nat_eq_equiv.symm p q ∙ other))))
       table
       (pins_then hands st.pins.bundles table_of_pins.bundles (orderly stands).settles still stands.pins (subst (λ k. AddsPins st.pins.bundles table_of_pins.bundles p (k + 1) (counted_in item)) count adds))
-      in_hand calls its
+      in_hand waits calls its
+
+-- the number of one call more is above those of all calls
+pub calls_below : {s n : ℕ} {limits : Limits} {st : State} {D : List Deed} → Stands s n limits st D → (number : ℕ) → number ≡ st.calls + 1 → IsAbove st.work.calls number
+calls_below {s} {n} {limits} {st} {D} stands number next =
+    all_weaker (λ (own : OwnCall). own.call ≤ calls_made D) (λ (own : OwnCall). own.call < number) (λ own low. let made = stands.calls in omega (arith, low, next, made)) st.work.calls
+    (subst (λ (W : InHand). AllByRecursion (λ (own : OwnCall). own.call ≤ calls_made D) W.calls) (sym stands.work) (answered_once s n limits D stands.right).made_before)
 
 -- after a Call
 pub call_stands : {s n : ℕ} {limits : Limits} {st : State} {D : List Deed} → Stands s n limits st D → (target : WireRep) (method : ℕ) (value : Value) (old new : Roomy) (table_of_pins : pins.Table) → ((call : ℕ) → call ≡ st.calls + 1 → IsRightDeed s n limits (Call target method value call) D) → IsJudged s n st target value → old ≡ get_or st.sessions (target.owner - 1) old
@@ -329,7 +339,7 @@ pub call_stands : {s n : ℕ} {limits : Limits} {st : State} {D : List Deed} →
     → (session.Stands s target.owner limits old.end (calls_at target.owner (history_of s n D)) → session.Stands s target.owner limits new.end (ends.Send payload Limited (Ok number) ∷ calls_at target.owner (history_of s n D)))
     → reps ≡ filter is_counted (refs_in value) → AddsPins st.pins.bundles table_of_pins.bundles target.owner (old.end.handed + 1) reps
     → calls ≡ st.work.calls ++ record { call = call; to = target.owner; stage = stages.Sent } ∷ []
-    → Stands s n limits (record { sessions = set st.sessions (target.owner - 1) new; table = st.table; dirty = st.dirty; pins = table_of_pins; work = record { waiting = st.work.waiting; ready = st.work.ready; running = st.work.running; replies = st.work.replies; calls = calls }; calls = st.calls + 1; jobs = st.jobs }) (Call target method value call ∷ D)
+    → Stands s n limits (record { sessions = set st.sessions (target.owner - 1) new; table = st.table; dirty = st.dirty; pins = table_of_pins; work = record { waiting = st.work.waiting; ready = st.work.ready; running = st.work.running; replies = st.work.replies; calls = calls }; awaited = st.awaited; calls = st.calls + 1; jobs = st.jobs }) (Call target method value call ∷ D)
 unfolding after_call
 call_stands {s} {n} {limits} {st} {D} stands target method value old new table_of_pins its judged is payload number call reps calls call_is spelled next answer refs adds more =
     let W : InHand = record { waiting = st.work.waiting; ready = st.work.ready; running = st.work.running; replies = st.work.replies; calls = calls } in
@@ -339,4 +349,5 @@ call_stands {s} {n} {limits} {st} {D} stands target method value old new table_o
     (sym (ap bytes_if spelled)) refl next answer (subst (λ rs. AddsPins st.pins.bundles table_of_pins.bundles target.owner (old.end.handed + 1) rs) refs adds)
     (call_shows stands target method value call judged.peer)
     (in_hand ∙ ap (after_call target.owner call) stands.work ∙ sym (call_work s n target method value call D))
+    refl
     (ap (λ k. k + 1) stands.calls) (its call call_is)

@@ -1,5 +1,5 @@
 -- Claim: what it takes, and what it leaves stands for one deed more.
-use Rattle.std.proofs.Common.{◌≡◌, ℕ, ◌+◌, ◌≤◌, ◌<◌, Bool, true, false, not, ◌&&◌, ◌==◌, nat_le, List, ◌∷◌, ◌++◌, find, flat_map, Some, None, Result, Ok, Err, IsOk, if◌then◌else◌, refl, sym, ap, subst, ◌∙◌, arith}
+use Rattle.std.proofs.Common.{◌≡◌, ℕ, ◌+◌, ◌≤◌, ◌<◌, Bool, true, false, not, ◌&&◌, ◌==◌, nat_le, List, ◌∷◌, ◌++◌, find, flat_map, Option, Some, None, Result, Ok, Err, IsOk, if◌then◌else◌, refl, sym, ap, subst, ◌∙◌, arith}
 use Rattle.std.specs.List.{list_any}
 use Rattle.std.proofs.lemmas.Bool.Decides.{nat_tests}
 use Rattle.std.proofs.lemmas.Cmp.{nat_eq_equiv, int_eq_equiv}
@@ -171,6 +171,7 @@ module _ (s n : ℕ) (D : List Deed) (m : Message) (job : Job) (j : ℕ) (found 
         listed = stands.listed;
         pins = stands.pins;
         work = ap (claimed job.job m) stands.work ∙ sym after;
+        awaited = stands.awaited;
         calls = stands.calls;
         jobs = ap (λ k. k + 1) stands.jobs;
         right = (its, stands.right);
@@ -225,3 +226,9 @@ wants_same answer again one other errors.OutOfMemory same is = subst IsOk same i
 pub claimed_is : (made : ℕ) (message : Message) (job : Job) → claim_of made (Some message) ≡ Ok (answers.Job job) → job_of (made + 1) message.from message.item ≡ Ok (answers.Job job)
 unfolding claim_of
 claimed_is made message job = elim (nat_le last_number made) as (λ b. (if b then Err refusals.Limit else job_of (made + 1) message.from message.item) ≡ Ok (answers.Job job) → job_of (made + 1) message.from message.item ≡ Ok (answers.Job job)) [ true ↦ λ e. absurd (cc) | false ↦ λ e. e ]
+
+-- a job that may be claimed is that of a message that was found
+pub claim_found : (made : ℕ) (found : Option Message) (job : Job) → claim_of made found ≡ Ok (answers.Job job) → (message : Message) × (found ≡ Some message)
+unfolding claim_of
+claim_found made None job is = absurd (let bad : Err refusals.Nothing ≡ Ok (answers.Job job) = is in cc)
+claim_found made (Some message) job is = (message, refl)

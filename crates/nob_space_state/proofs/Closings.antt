@@ -1,5 +1,5 @@
 -- The closing of a session: what it gives back, and the state that it leaves.
-use Rattle.std.proofs.Common.{◌≡◌, ℕ, ◌+◌, ◌-◌, ◌<◌, ◌≤◌, Bool, true, false, cond, not, ◌&&◌, ◌||◌, ◌==◌, List, [], ◌∷◌, ◌++◌, map, filter, flat_map, take, drop, length, get_or, slice_get, None, Ok, Err, Some, refl, sym, ap, subst, ◌∙◌, arith, if◌then◌else◌}
+use Rattle.std.proofs.Common.{◌≡◌, ℕ, ◌+◌, ◌-◌, ◌<◌, ◌≤◌, Bool, true, false, cond, not, ◌&&◌, ◌||◌, ◌==◌, List, [], ◌∷◌, ◌++◌, map, filter, flat_map, length, get_or, slice_get, None, Ok, Err, Some, refl, sym, ap, subst, ◌∙◌, arith, if◌then◌else◌}
 use Prim.Native.Nat.{zero, suc}
 use lib.ListN.{set}
 use Rattle.std.specs.List.{AllByRecursion, sum_by}
@@ -61,7 +61,8 @@ use Rattle.nob_space_state.specs.Looks.{has_closed, HaveClients}
 use Rattle.nob_space_state.specs.Parts.{State, with_sessions}
 use Rattle.nob_space_holds.specs.Returns.{HasLent}
 use Rattle.nob_space_holds.specs.Shows.{TableShows, TableStands, AreListed, far_state}
-use Rattle.nob_space_state.specs.Stands.{Stands, EndsStand, PinsStand, bundle}
+use Rattle.nob_space_state.specs.Stands.{Stands, EndsStand, PinsStand, AreAwaited, bundle}
+use Rattle.nob_space_state.proofs.Awaited.{closing_awaited}
 use Rattle.nob_space_state.proofs.Kept.{clients_there, listed_clients}
 use Rattle.nob_space_state.proofs.Claiming.{times_lent}
 use Rattle.nob_space_state.proofs.Ends.{end_there, ends_changed}
@@ -263,6 +264,11 @@ listed_less false cut entered = refl
 
 -- ---- the whole
 
+-- the messages that wait after a closing
+thrown_waiting : (p : ℕ) (W : InHand) → (work.after_close p W).waiting ≡ filter (is_not_from p) W.waiting
+unfolding work.after_close
+thrown_waiting p W = refl
+
 module _ {s n : ℕ} {limits : Limits} {st : State} {D : List Deed} (stands : Stands s n limits st D) (p : ℕ) where
   -- what was lent in vain, the table has
   pub vain_lent : HasLent st.table (lent_in_vain s p st.work)
@@ -314,24 +320,19 @@ module _ {s n : ℕ} {limits : Limits} {st : State} {D : List Deed} (stands : St
         listed = closing_listed reason cause after.dirty down.listed;
         pins = closing_pins s n p reason cause D st.pins.bundles after.pins.bundles stands.pins down.pins;
         work = down.work ∙ ap (work.after_close p) stands.work ∙ sym (closed_work s n p reason cause D);
+        awaited = subst (λ (ms : List Message). AreAwaited s n after.awaited ms (Closing p reason cause ∷ D)) (sym (ap (λ (W : InHand). W.waiting) down.work ∙ thrown_waiting p st.work))
+            (closing_awaited s n p reason cause D st.awaited after.awaited st.work.waiting peer stands.awaited down.awaited);
         calls = down.calls ∙ stands.calls;
         jobs = down.jobs ∙ stands.jobs;
         right = (its, stands.right);
       }
 
--- ---- each element in its turn
-
--- a list of which the elements before one are changed, with that one changed too
-pub changed_more : {X : Type 0} (f : X → X) (xs : List X) (i : ℕ) (x : X) → i < length xs → x ≡ get_or (map f (take i xs) ++ drop i xs) i x → set (map f (take i xs) ++ drop i xs) i (f x) ≡ map f (take (suc i) xs) ++ drop (suc i) xs
-changed_more f [] i x lt is = absurd (omega (arith, lt))
-changed_more f (y ∷ xs) zero x lt is = ap (λ z. f z ∷ xs) is
-changed_more f (y ∷ xs) (suc i) x lt is = ap (λ zs. f y ∷ zs) (changed_more f xs i x (omega (arith, lt)) is)
-
 -- the work in hand once messages are thrown away and calls ended
-pub thrown_work : (p : ℕ) (W : InHand) (waiting ready : List Message) (calls : List OwnCall) → waiting ≡ filter (is_not_from p) W.waiting → ready ≡ filter (is_not_from p) W.ready → calls ≡ map (work.call_after_close p W.replies) W.calls
-    → record { waiting = waiting; ready = ready; running = W.running; replies = W.replies; calls = calls } ≡ work.after_close p W
+pub thrown_work : (p : ℕ) (W : InHand) (waiting ready : List Message) (running : List Run) (replies : List Message) (calls : List OwnCall)
+    → waiting ≡ filter (is_not_from p) W.waiting → ready ≡ filter (is_not_from p) W.ready → running ≡ W.running → replies ≡ W.replies → calls ≡ map (work.call_after_close p W.replies) W.calls
+    → record { waiting = waiting; ready = ready; running = running; replies = replies; calls = calls } ≡ work.after_close p W
 unfolding work.after_close
-thrown_work p W waiting ready calls a b c = λ i. record { waiting = a i; ready = b i; running = W.running; replies = W.replies; calls = c i }
+thrown_work p W waiting ready running replies calls a b c d e = λ i. record { waiting = a i; ready = b i; running = c i; replies = d i; calls = e i }
 
 -- ---- by whichever event
 

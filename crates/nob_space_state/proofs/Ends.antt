@@ -44,6 +44,7 @@ use Rattle.nob_space_state.specs.Parts.{State, with_sessions}
 use Rattle.nob_model.specs.Lists.{IsRightDeed}
 use Rattle.nob_space_holds.specs.Shows.{far_state}
 use Rattle.nob_space_state.specs.Stands.{Stands, EndsStand, bundle}
+use Rattle.nob_space_state.proofs.Awaited.{same_lost, still_awaited}
 use Rattle.nob_model.proofs.Made.{loans_made}
 
 -- one element changes
@@ -181,6 +182,7 @@ module _ {s n : ℕ} {limits : Limits} {st : State} {deed : Deed} {D : List Deed
         listed = λ index client. stands.listed index client ∙ sym (still.listed index client);
         pins = λ f. stands.pins f ∙ ap (λ items. sum_by f (map bundle items)) (sym still.bundles);
         work = stands.work ∙ sym still.work;
+        awaited = still_awaited (deed ∷ D) stands.awaited (λ rep. same_lost s n rep D (deed ∷ D) (still.closed rep.owner) (still.turns rep));
         calls = stands.calls ∙ sym still.calls_made;
         jobs = stands.jobs ∙ sym still.jobs_made;
         right = (its, stands.right);
@@ -220,6 +222,7 @@ module _ {s n : ℕ} {limits : Limits} {st : State} {D : List Deed} (stands : St
         listed = stands.listed;
         pins = stands.pins;
         work = stands.work;
+        awaited = stands.awaited;
         calls = stands.calls;
         jobs = stands.jobs;
         right = stands.right;

@@ -247,7 +247,7 @@ module _ {s n : ℕ} {limits : Limits} {st : State} {D : List Deed} (stands : St
 
 module _ {s n : ℕ} {limits : Limits} {st : State} {D : List Deed} (stands : Stands s n limits st D) (j : ℕ) where
   pub drop_stands : (u : Table) (runs : List Run) → IsRightDeed s n limits (DropReply j) D → GivesBack st.table u (lent_by s j st.work.running) → runs ≡ filter (λ run. not (is_run j run)) st.work.running
-      → Stands s n limits (record { sessions = st.sessions; table = u; dirty = st.dirty; pins = st.pins; work = record { waiting = st.work.waiting; ready = st.work.ready; running = runs; replies = st.work.replies; calls = st.work.calls }; calls = st.calls; jobs = st.jobs }) (DropReply j ∷ D)
+      → Stands s n limits (record { sessions = st.sessions; table = u; dirty = st.dirty; pins = st.pins; work = record { waiting = st.work.waiting; ready = st.work.ready; running = runs; replies = st.work.replies; calls = st.work.calls }; awaited = st.awaited; calls = st.calls; jobs = st.jobs }) (DropReply j ∷ D)
   unfolding gifts gifts_of after_finish
   drop_stands u runs its back ended =
       let W : InHand = record { waiting = st.work.waiting; ready = st.work.ready; running = runs; replies = st.work.replies; calls = st.work.calls } in
@@ -270,6 +270,7 @@ module _ {s n : ℕ} {limits : Limits} {st : State} {D : List Deed} (stands : St
         listed = stands.listed;
         pins = stands.pins;
         work = in_hand;
+        awaited = stands.awaited;
         calls = stands.calls;
         jobs = stands.jobs;
         right = (its, stands.right);
@@ -298,7 +299,7 @@ pub finish_stands : {s n : ℕ} {limits : Limits} {st : State} {D : List Deed} �
     → (session.Stands s run.message.from limits old.end (calls_at run.message.from (history_of s n D)) → session.Stands s run.message.from limits new.end (ends.Send payload Limited (Ok number) ∷ calls_at run.message.from (history_of s n D)))
     → reps ≡ filter is_counted (refs_in value) → AddsPins st.pins.bundles table_of_pins.bundles run.message.from (old.end.handed + 1) reps
     → GivesBack st.table u (lent_by s j st.work.running) → runs ≡ filter (λ one. not (is_run j one)) st.work.running
-    → Stands s n limits (record { sessions = set st.sessions (run.message.from - 1) new; table = u; dirty = st.dirty; pins = table_of_pins; work = record { waiting = st.work.waiting; ready = st.work.ready; running = runs; replies = st.work.replies; calls = st.work.calls }; calls = st.calls; jobs = st.jobs }) (Finish j outcome ∷ D)
+    → Stands s n limits (record { sessions = set st.sessions (run.message.from - 1) new; table = u; dirty = st.dirty; pins = table_of_pins; work = record { waiting = st.work.waiting; ready = st.work.ready; running = runs; replies = st.work.replies; calls = st.work.calls }; awaited = st.awaited; calls = st.calls; jobs = st.jobs }) (Finish j outcome ∷ D)
 unfolding after_finish
 finish_stands {s} {n} {limits} {st} {D} stands j outcome its run found still call target method argument item old new table_of_pins is payload status number value reps u runs status_is value_is spelled next answer refs adds back ended =
     let W : InHand = record { waiting = st.work.waiting; ready = st.work.ready; running = runs; replies = st.work.replies; calls = st.work.calls } in
@@ -312,6 +313,7 @@ finish_stands {s} {n} {limits} {st} {D} stands j outcome its run found still cal
     (sym (ap bytes_if bytes)) (limited_reply call outcome) next answer (subst (λ (rs : List WireRep). AddsPins st.pins.bundles table_of_pins.bundles run.message.from (old.end.handed + 1) rs) counted adds)
     (finish_shows stands hands u back)
     (after ∙ ap (after_finish j) stands.work ∙ sym (finish_work s n j outcome D))
+    refl
     stands.calls its
 
 -- what is no Call doesn't run

@@ -1,6 +1,7 @@
 pub mod Words
 pub mod Orderly
 pub mod Told
+pub mod Awaited
 pub mod Quiet
 pub mod Rows
 pub mod Stood

@@ -1,7 +1,6 @@
 -- What could be done next, by the state.
 use Rattle.std.proofs.Common.{◌≡◌, ℕ, ◌+◌, ◌<◌, ◌≤◌, ◌==◌, ◌&&◌, not, nat_lt, Bool, true, false, List, find, Option, Some, None, Ok, is_some, option_map, refl, sym, ap, subst, ◌∙◌, arith}
 use Rattle.std.specs.Prelude.{◌≢◌, MatchOption}
-use Rattle.std.specs.List.{position}
 use Rattle.std.proofs.lemmas.Bool.Decides.{nat_tests, Decides-eqb}
 use Rattle.std.proofs.lemmas.Cmp.{nat_eq_equiv}
 use Rattle.std.proofs.lemmas.Option.{none-some}
@@ -31,7 +30,6 @@ use Rattle.nob_space_state.specs.Looks.{has_closed, has_clients, has_holds}
 use Rattle.nob_space_state.specs.Dues.{due}
 use Rattle.nob_space_state.specs.Parts.{State}
 use Rattle.nob_space_state.specs.Stands.{Stands}
-use Rattle.nob_model_work.proofs.Firsts.{no_place, place_first}
 use Rattle.nob_space_state.proofs.Listed.{somebody_listed}
 use Rattle.nob_space_state.proofs.Exported.{listed_there, withdraw_passes, withdraw_right}
 use Rattle.nob_space_state.proofs.Rows.{differ}
@@ -54,16 +52,9 @@ due_there s n p window h peer = rw peer refl
 pub due_no_peer : (s n p window : ℕ) (h : History) → is_peer s n p ≡ false → due s n p window h ≡ Nothing
 due_no_peer s n p window h stranger = rw stranger refl
 
--- a place was found where an element was
-pub place_found : {A : Type 0} (test : A → Bool) (xs : List A) → is_some (position test xs) ≡ is_some (find test xs)
-place_found test xs = elim (position test xs) as (λ place. position test xs ≡ place → is_some place ≡ is_some (find test xs)) [
-  | Some i ↦ λ there. sym (ap is_some (place_first test xs i there).1)
-  | None ↦ λ nowhere. sym (ap is_some (no_place test xs nowhere))
-] refl
-
 -- there is a job to claim where a ready one is free
-pub claim_there : {s n : ℕ} {limits : Limits} {st : State} {D : List Deed} → Stands s n limits st D → is_some (position (is_free st.work) st.work.ready) ≡ can_claim (history_of s n D)
-claim_there {s} {n} {limits} {st} {D} stands = place_found (is_free st.work) st.work.ready ∙ ap (λ (W : InHand). is_some (find (is_free W) W.ready)) stands.work
+pub claim_there : {s n : ℕ} {limits : Limits} {st : State} {D : List Deed} → Stands s n limits st D → is_some (find (is_free st.work) st.work.ready) ≡ can_claim (history_of s n D)
+claim_there {s} {n} {limits} {st} {D} stands = ap (λ (W : InHand). is_some (find (is_free W) W.ready)) stands.work
 
 -- ---- the object to withdraw
 

@@ -1,6 +1,6 @@
 -- Errors that are handed on: what is said of the error holds of the result.
 use Rattle.std.proofs.Common.{◌≡◌, Option, Some, None, Result, Ok, Err, IsOk, IsErrAnd, MatchResult, sym, subst, ap, ◌∙◌}
-use Rattle.std.specs.Prelude.{OnErr}
+use Rattle.std.specs.Prelude.{OnOk, OnErr}
 use Rattle.nob_model_types.specs.declared.answer.Answer.{Answer}
 use Rattle.nob_model_types.specs.declared.refusal.Refusal.{Refusal}
 use Rattle.nob_space_state.specs.declared.error.SpaceError.{SpaceError}
@@ -37,3 +37,8 @@ refusal_on found (Err e) refusal is told = told ∙ ap (λ (f : Refusal). Some f
 pub after_error : {A E : Type 0} (P : Type 0) (result : Result A E) → P → OnErr result P
 after_error P (Ok x) holds = tt
 after_error P (Err e) holds = holds
+
+-- what holds after any result holds after an answer
+pub after_any : {A E P : Type 0} (result : Result A E) → P → OnOk result P
+after_any (Ok x) holds = holds
+after_any (Err e) holds = tt

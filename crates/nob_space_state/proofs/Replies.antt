@@ -46,7 +46,8 @@ use Rattle.nob_space_state.specs.Parts.{State}
 use Rattle.nob_space_holds.specs.Shows.{TableShows}
 use Rattle.nob_space_state.specs.Stands.{Stands}
 use Rattle.nob_space_holds.specs.TakingOver.{reps_of, CanTake, with_more, with_fewer}
-use Rattle.nob_space_state.specs.Taking.{is_full, is_overfull, is_reply, answer_of_item, answer_of_reply, answer_of_call, take_answer}
+use Rattle.nob_space_calls.specs.Calls.{is_reply}
+use Rattle.nob_space_state.specs.Taking.{is_full, is_overfull, answer_of_item, answer_of_reply, answer_of_call, take_answer}
 use Rattle.nob_space_state.proofs.Claiming.{times_lent}
 use Rattle.nob_space_state.proofs.Firsts.{times_without}
 use Rattle.nob_space_state.proofs.Orderly.{orderly}
@@ -297,7 +298,7 @@ module _ {s n : ℕ} {limits : Limits} {st : State} {D : List Deed} (stands : St
     pub take_stands : (t : Table) (replies : List Message) (calls : List OwnCall) → IsRightDeed s n limits (TakeReply k status value) D
         → TableShows s n t (history_of s n D) (with_more (reps_of m.copies) (λ w. hand w D)) (with_fewer (reps_of m.copies) (λ w. times w (lent_in s (work s n D))))
         → replies ≡ without_first (is_reply k) st.work.replies → calls ≡ filter (λ own. not (is_call k own)) st.work.calls
-        → Stands s n limits (record { sessions = st.sessions; table = t; dirty = st.dirty; pins = st.pins; work = record { waiting = st.work.waiting; ready = st.work.ready; running = st.work.running; replies = replies; calls = calls }; calls = st.calls; jobs = st.jobs }) (TakeReply k status value ∷ D)
+        → Stands s n limits (record { sessions = st.sessions; table = t; dirty = st.dirty; pins = st.pins; work = record { waiting = st.work.waiting; ready = st.work.ready; running = st.work.running; replies = replies; calls = calls }; awaited = st.awaited; calls = st.calls; jobs = st.jobs }) (TakeReply k status value ∷ D)
     unfolding gifts gifts_of
     take_stands t replies calls its shows others left =
         let fewer : replies ≡ without_first (is_reply k) (work s n D).replies = others ∙ ap (λ (w : InHand). without_first (is_reply k) w.replies) stands.work in
@@ -319,6 +320,7 @@ module _ {s n : ℕ} {limits : Limits} {st : State} {D : List Deed} (stands : St
           listed = stands.listed;
           pins = stands.pins;
           work = is_less ∙ sym take_work;
+          awaited = stands.awaited;
           calls = stands.calls;
           jobs = stands.jobs;
           right = (its, stands.right);
@@ -339,7 +341,7 @@ module _ {s n : ℕ} {limits : Limits} {st : State} {D : List Deed} (stands : St
 
   -- after it was told that there will be no reply
   pub end_stands : (calls : List OwnCall) → IsRightDeed s n limits (TakeEnd k) D → calls ≡ filter (λ own. not (is_call k own)) st.work.calls
-      → Stands s n limits (record { sessions = st.sessions; table = st.table; dirty = st.dirty; pins = st.pins; work = record { waiting = st.work.waiting; ready = st.work.ready; running = st.work.running; replies = st.work.replies; calls = calls }; calls = st.calls; jobs = st.jobs }) (TakeEnd k ∷ D)
+      → Stands s n limits (record { sessions = st.sessions; table = st.table; dirty = st.dirty; pins = st.pins; work = record { waiting = st.work.waiting; ready = st.work.ready; running = st.work.running; replies = st.work.replies; calls = calls }; awaited = st.awaited; calls = st.calls; jobs = st.jobs }) (TakeEnd k ∷ D)
   unfolding gifts gifts_of
   end_stands calls its left =
       let rest : calls ≡ filter (λ own. not (is_call k own)) (work s n D).calls = left ∙ ap (λ (w : InHand). filter (λ own. not (is_call k own)) w.calls) stands.work in
@@ -360,6 +362,7 @@ module _ {s n : ℕ} {limits : Limits} {st : State} {D : List Deed} (stands : St
         listed = stands.listed;
         pins = stands.pins;
         work = is_less ∙ sym end_work;
+        awaited = stands.awaited;
         calls = stands.calls;
         jobs = stands.jobs;
         right = (its, stands.right);

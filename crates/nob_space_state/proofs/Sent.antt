@@ -44,7 +44,9 @@ use Rattle.nob_space_state.specs.Parts.{State}
 use Rattle.nob_space_holds.specs.Pins.{AddsPins}
 use Rattle.nob_model.specs.Lists.{IsRightDeed}
 use Rattle.nob_space_holds.specs.Shows.{TableShows, TableStands, far_state}
-use Rattle.nob_space_state.specs.Stands.{Stands, EndsStand, PinsStand, bundle}
+use Rattle.nob_space_state.specs.Stands.{Stands, EndsStand, PinsStand, AreAwaited, bundle}
+use Rattle.nob_model_words.specs.declared.message.Message.{Message}
+use Rattle.nob_space_state.proofs.Awaited.{same_lost, still_awaited}
 
 -- an item that goes to a peer
 abbrev pub gift_to : ℕ → Item → Gift
@@ -147,14 +149,16 @@ module _ {s n p : ℕ} {item : Item} {deed : Deed} {D : List Deed} (hands : Hand
   -- the state with other ends, holds, pins and work in hand
   pub stands_handed : {limits : Limits} {st : State} (sessions : List Roomy) (t : Table) (table_of_pins : pins.Table) (W : InHand) (made : ℕ) → Stands s n limits st D
       → EndsStand s n limits sessions (history_of s n (deed ∷ D)) → TableStands s n t (history_of s n (deed ∷ D)) → PinsStand table_of_pins.bundles (history_of s n (deed ∷ D))
-      → W ≡ work s n (deed ∷ D) → made ≡ calls_made (deed ∷ D) → IsRightDeed s n limits deed D
-      → Stands s n limits (record { sessions = sessions; table = t; dirty = st.dirty; pins = table_of_pins; work = W; calls = made; jobs = st.jobs }) (deed ∷ D)
-  stands_handed {limits} {st} sessions t table_of_pins W made stands ends_stand table_stands pins_stand in_hand calls its = record {
+      → W ≡ work s n (deed ∷ D) → W.waiting ≡ st.work.waiting → made ≡ calls_made (deed ∷ D) → IsRightDeed s n limits deed D
+      → Stands s n limits (record { sessions = sessions; table = t; dirty = st.dirty; pins = table_of_pins; work = W; awaited = st.awaited; calls = made; jobs = st.jobs }) (deed ∷ D)
+  stands_handed {limits} {st} sessions t table_of_pins W made stands ends_stand table_stands pins_stand in_hand waits calls its = record {
     ends = ends_stand;
     table = table_stands;
     listed = λ index client. stands.listed index client ∙ sym (hands.listed index client);
     pins = pins_stand;
     work = in_hand;
+    awaited = subst (λ (ms : List Message). AreAwaited s n st.awaited ms (deed ∷ D)) (sym waits)
+        (still_awaited (deed ∷ D) stands.awaited (λ rep. same_lost s n rep D (deed ∷ D) (hands.closes_nothing rep.owner) (hands.same_turns rep)));
     calls = calls;
     jobs = stands.jobs ∙ sym hands.jobs;
     right = (its, stands.right);

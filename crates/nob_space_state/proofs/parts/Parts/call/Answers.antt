@@ -13,10 +13,12 @@ use Rattle.nob_model_words.specs.declared.deed.Deed.TheVariants as did
 use Rattle.nob_model_work.specs.declared.work.OwnCall.{OwnCall}
 use Rattle.nob_model_work.specs.declared.work.Stage.TheVariants as stages
 use Rattle.nob_ids.specs.declared.wire_rep.WireRep.{WireRep}
+use Rattle.nob_model_words.specs.declared.message.Message.{Message}
+use Rattle.nob_space_calls.specs.Calls.{IsAbove}
 use Rattle.nob_space_holds.specs.Pins.{AddsPins}
 use Rattle.nob_space_state.specs.Parts.{State, state_of}
 use Rattle.nob_space_state.specs.Stands.{Stands}
-use Rattle.nob_space_state.proofs.Calling.{call_judged, call_right, call_ok, call_wants, call_spelled, call_stands, few_calls, peer_range, next_free, stands_unsent}
+use Rattle.nob_space_state.proofs.Calling.{calls_below, call_judged, call_right, call_ok, call_wants, call_spelled, call_stands, few_calls, peer_range, next_free, stands_unsent}
 use Rattle.nob_space_state.proofs.Passing.{refused_as, wants_as, after_error}
 use Rattle.nob_space_state.proofs.Ends.{end_there}
 use Rattle.nob_space_state.proofs.Sent.{next_unpinned}
@@ -46,8 +48,8 @@ returns-in-Err-OutOfMemory-clause-answer c limits D stands = call_wants stands c
 pub returns-in_err-reps-clause-answer : goal.returns-in_err-reps-clause-answer
 returns-in_err-reps-clause-answer c limits D stands = wants_as _ c.from_residual-in_err-reps.result _ c.from_residual-in_err-reps.ensures.1 (call_wants stands c.args.target.now c.args.value.now c.in_ok-refuse_call.ensures)
 
-pub returns-in_err-reserve-clause-answer : goal.returns-in_err-reserve-clause-answer
-returns-in_err-reserve-clause-answer c limits D stands = wants_as _ c.from_residual-in_err-reserve.result _ c.from_residual-in_err-reserve.ensures.1 (call_wants stands c.args.target.now c.args.value.now c.in_ok-refuse_call.ensures)
+pub returns-in_err-reserve_calls-clause-answer : goal.returns-in_err-reserve_calls-clause-answer
+returns-in_err-reserve_calls-clause-answer c limits D stands = wants_as _ c.from_residual-in_err-reserve_calls.result _ c.from_residual-in_err-reserve_calls.ensures.1 (call_wants stands c.args.target.now c.args.value.now c.in_ok-refuse_call.ensures)
 
 pub returns-in_err-hand-clause-answer : goal.returns-in_err-hand-clause-answer
 returns-in_err-hand-clause-answer c limits D stands = wants_as _ c.from_residual-in_err-hand.result _ c.from_residual-in_err-hand.ensures.1 (call_wants stands c.args.target.now c.args.value.now c.in_ok-refuse_call.ensures)
@@ -79,21 +81,26 @@ returns-in_err-hand-clause-err c = after_error _ c.from_residual-in_err-hand.res
     let judged = call_judged c.args.here.now.space c.args.here.now.n (state_of c.args.self.now) c.args.target.now c.args.value.now c.in_ok-refuse_call.ensures in
     let is : c.index_mut-session.result.now ≡ get_or c.args.self.now.sessions.items (c.args.target.now.owner - 1) c.index_mut-session.result.now = subst (λ k. c.index_mut-session.result.now ≡ get_or c.args.self.now.sessions.items (k - 1) c.index_mut-session.result.now) c.get.ensures.value c.index_mut-session.ensures.value in
     let same = c.in_err-hand.ensures.err in
-    subst (λ (k : ℕ). Stands c.args.here.now.space c.args.here.now.n limits (after k c.args.self.now.calls.items) D → Stands c.args.here.now.space c.args.here.now.n limits (after c.get.result c.reserve.new.self.items) D) c.get.ensures.value
-    (λ st. subst (λ (calls : List OwnCall). Stands c.args.here.now.space c.args.here.now.n limits (after c.get.result calls) D) (sym c.reserve.ensures.items) st)
+    subst (λ (k : ℕ). Stands c.args.here.now.space c.args.here.now.n limits (after k c.args.self.now.calls.calls c.args.self.now.calls.replies) D → Stands c.args.here.now.space c.args.here.now.n limits (after c.get.result c.reserve_calls.new.self.calls c.reserve_calls.new.self.replies) D) c.get.ensures.value
+    (λ st. subst (λ (calls : List OwnCall). Stands c.args.here.now.space c.args.here.now.n limits (after c.get.result calls c.reserve_calls.new.self.replies) D) (sym c.reserve_calls.ensures.calls)
+    (subst (λ (replies : List Message). Stands c.args.here.now.space c.args.here.now.n limits (after c.get.result c.args.self.now.calls.calls replies) D) (sym c.reserve_calls.ensures.replies) st))
     (stands_unsent stands c.args.target.now.owner c.index_mut-session.result.now c.hand.new.session c.hand.new.pins judged.peer is same.0 same.1))
   where
-    after : ℕ → List OwnCall → State
-    after k calls =
+    after : ℕ → List OwnCall → List Message → State
+    after k calls replies =
         record {
           sessions = set c.args.self.now.sessions.items (k - 1) c.hand.new.session;
           table = c.args.self.now.table;
           dirty = c.args.self.now.dirty;
           pins = c.hand.new.pins;
-          work = record { waiting = c.args.self.now.waiting.items; ready = c.args.self.now.ready.items; running = c.args.self.now.running.items; replies = c.args.self.now.replies.items; calls = calls };
+          work = record { waiting = c.args.self.now.waiting.items; ready = c.args.self.now.jobs.ready; running = c.args.self.now.jobs.running; replies = replies; calls = calls };
+          awaited = c.args.self.now.waiting.awaited;
           calls = c.args.self.now.calls_made;
           jobs = c.args.self.now.jobs_made;
         }
+
+pub push-requires-clause-above : goal.push-requires-clause-above
+push-requires-clause-above c = subst (λ (calls : List OwnCall). IsAbove calls c.new-call.result) (sym c.reserve_calls.ensures.calls) (calls_below c.requires.2 c.new-call.result c.new-call.ensures)
 
 pub returns-clause-answer : goal.returns-clause-answer
 returns-clause-answer c limits D stands = call_ok stands c.args.target.now c.args.value.now c.in_ok-refuse_call.ensures ∙ ap (λ (k : ℕ). Ok (answers.Called k)) (sym c.new-call.ensures)
@@ -108,15 +115,26 @@ returns-clause-stands c limits D stands =
       table = c.args.self.now.table;
       dirty = c.args.self.now.dirty;
       pins = c.hand.new.pins;
-      work = record { waiting = c.args.self.now.waiting.items; ready = c.args.self.now.ready.items; running = c.args.self.now.running.items; replies = c.args.self.now.replies.items; calls = c.push.new.self.items };
+      work = record { waiting = c.args.self.now.waiting.items; ready = c.args.self.now.jobs.ready; running = c.args.self.now.jobs.running; replies = c.push.new.self.replies; calls = c.push.new.self.calls };
+      awaited = c.args.self.now.waiting.awaited;
       calls = c.args.self.now.calls_made + 1;
       jobs = c.args.self.now.jobs_made;
     }) (did.Call c.args.target.now c.args.method c.args.value.now c.new-call.result ∷ D)) (sym c.get.ensures.value)
+    (subst (λ (replies : List Message). Stands c.args.here.now.space c.args.here.now.n limits (record {
+      sessions = set c.args.self.now.sessions.items (c.args.target.now.owner - 1) c.hand.new.session;
+      table = c.args.self.now.table;
+      dirty = c.args.self.now.dirty;
+      pins = c.hand.new.pins;
+      work = record { waiting = c.args.self.now.waiting.items; ready = c.args.self.now.jobs.ready; running = c.args.self.now.jobs.running; replies = replies; calls = c.push.new.self.calls };
+      awaited = c.args.self.now.waiting.awaited;
+      calls = c.args.self.now.calls_made + 1;
+      jobs = c.args.self.now.jobs_made;
+    }) (did.Call c.args.target.now c.args.method c.args.value.now c.new-call.result ∷ D)) (sym (c.push.ensures.replies ∙ c.reserve_calls.ensures.replies))
     (call_stands stands c.args.target.now c.args.method c.args.value.now c.index_mut-session.result.now c.hand.new.session c.hand.new.pins
     (λ call is_next. call_is c.args.here.now.space c.args.here.now.n limits D c.args.target.now c.args.method c.args.value.now call (call_ok stands c.args.target.now c.args.value.now c.in_ok-refuse_call.ensures ∙ ap (λ (k : ℕ). Ok (answers.Called k)) (sym is_next)))
     judged is
-    c.in-Ok.payload.items c.in_ok-hand.field-0 c.new-call.result c.in_ok-reps.reps.items c.push.new.self.items
+    c.in-Ok.payload.items c.in_ok-hand.field-0 c.new-call.result c.in_ok-reps.reps.items c.push.new.self.calls
     c.new-call.ensures (c.in-Ok.ensures {u = tt}).exact sent.number
     (λ before. sent.answer c.args.here.now.space c.args.target.now.owner limits (calls_at c.args.target.now.owner (history_of c.args.here.now.space c.args.here.now.n D)) before)
     c.in_ok-reps.ensures (subst (λ (reps : List WireRep). AddsPins c.args.self.now.pins.bundles c.hand.new.pins.bundles c.args.target.now.owner (c.index_mut-session.result.now.end.handed + 1) reps) c.as_slice.ensures.value sent.pins)
-    ((c.in-Ok-push.ensures {u = tt}).items ∙ ap (λ (calls : List OwnCall). calls ++ record { call = c.new-call.result; to = c.args.target.now.owner; stage = stages.Sent } ∷ []) c.reserve.ensures.items))
+    (c.push.ensures.calls ∙ ap (λ (calls : List OwnCall). calls ++ record { call = c.new-call.result; to = c.args.target.now.owner; stage = stages.Sent } ∷ []) c.reserve_calls.ensures.calls)))

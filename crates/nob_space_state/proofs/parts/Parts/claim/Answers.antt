@@ -1,32 +1,37 @@
-use Rattle.std.proofs.Common.{◌≡◌, ℕ, ◌+◌, ◌∷◌, Ok, IsOk, refl, sym, ap, subst, ◌∙◌}
+use Rattle.std.proofs.Common.{◌≡◌, ◌+◌, ◌∷◌, Ok, IsOk, IsSome, find, refl, sym, ap, subst, ◌∙◌}
 use Rattle.nob_model_types.specs.declared.answer.Answer.TheVariants as answers
 use Rattle.nob_model_types.specs.declared.answer.Job.{Job}
-use Rattle.nob_model_acting.specs.Candidates.{is_free}
+use Rattle.nob_model_work.specs.Work.{without_first}
 use Rattle.nob_model.specs.Right.{claim_of, job_of}
+use Rattle.nob_space_jobs.specs.Jobs.{is_free_of}
 use Rattle.nob_space_state.specs.Parts.{state_of}
-use Rattle.nob_space_state.proofs.Claiming.{claim_right, claim_done, claimed_is}
-use Rattle.nob_model_work.proofs.Firsts.{at_place}
+use Rattle.nob_space_state.proofs.Claiming.{claim_right, claim_done, claim_found, claimed_is}
 use Rattle.nob_space_state.proofs.Passing.{error_on, wants_as}
 use Rattle.nob_space_state.proofs.Orderly.{claim_is}
 use Rattle.nob_space_state.proofs.parts.Parts.claim.Goals as goal
 
-pub returns-in_err-place-clause-answer : goal.returns-in_err-place-clause-answer
-returns-in_err-place-clause-answer c limits D stands =
-    error_on (λ (next : ℕ × Job). answers.Job next.1) (λ (job : Job). answers.Job job) c.from_residual.result _ _ c.in_err-place.field-0.0 c.from_residual.ensures.1
-    (sym (claim_right stands)) c.in_err-place.ensures.answer
+pub returns-in_err-job-clause-answer : goal.returns-in_err-job-clause-answer
+returns-in_err-job-clause-answer c limits D stands =
+    error_on (λ (job : Job). answers.Job job) (λ (job : Job). answers.Job job) c.from_residual.result _ _ c.in_err-job.field-0.0 c.from_residual.ensures.1
+    (sym (claim_right stands)) c.in_err-job.ensures.answer
 
-pub returns-in_err-reserve-clause-answer : goal.returns-in_err-reserve-clause-answer
-returns-in_err-reserve-clause-answer c limits D stands =
-    wants_as _ c.from_residual-in_err-reserve.result _ c.from_residual-in_err-reserve.ensures.1 (subst IsOk (sym (claim_right stands ∙ c.in_ok-place.ensures.answer)) refl)
+pub returns-in_err-reserve_running-clause-answer : goal.returns-in_err-reserve_running-clause-answer
+returns-in_err-reserve_running-clause-answer c limits D stands =
+    wants_as _ c.from_residual-in_err-reserve_running.result _ c.from_residual-in_err-reserve_running.ensures.1 (subst IsOk (sym (claim_right stands ∙ c.in_ok-job.ensures.answer)) refl)
+
+pub claim-requires-clause-free : goal.claim-requires-clause-free
+claim-requires-clause-free c =
+    let there = claim_found c.args.self.now.jobs_made (find (is_free_of c.args.self.now.jobs.running) c.args.self.now.jobs.ready) c.in_ok-job.job c.in_ok-job.ensures.answer in
+    subst IsSome (sym ((λ i. find (is_free_of (c.reserve_running.ensures.running i)) (c.reserve_running.ensures.ready i)) ∙ there.1)) tt
 
 pub returns-clause-answer : goal.returns-clause-answer
-returns-clause-answer c limits D stands = claim_right stands ∙ c.in_ok-place.ensures.answer
+returns-clause-answer c limits D stands = claim_right stands ∙ c.in_ok-job.ensures.answer
 
 pub returns-clause-stands : goal.returns-clause-stands
 returns-clause-stands c limits D stands =
-    let taken = at_place (is_free (state_of c.args.self.now).work) c.args.self.now.ready.items c.in_ok-place.place c.remove-message.result c.in_ok-place.ensures.place c.remove-message.ensures.value in
-    let is : job_of (c.args.self.now.jobs_made + 1) c.remove-message.result.from c.remove-message.result.item ≡ Ok (answers.Job c.in_ok-place.job) =
-    claimed_is c.args.self.now.jobs_made c.remove-message.result c.in_ok-place.job (ap (claim_of c.args.self.now.jobs_made) (sym taken.0) ∙ c.in_ok-place.ensures.answer) in
-    claim_done stands c.remove-message.result c.in_ok-place.job c.remove-message.new.self.items c.push_front.new.self.items (claim_is c.args.here.now.space c.args.here.now.n limits D c.in_ok-place.job (returns-clause-answer c limits D stands)) taken.0 is
-    (c.remove-message.ensures.items ∙ taken.1)
-    (c.push_front.ensures ∙ ap (λ runs. record { job = c.in_ok-place.job.job; message = c.remove-message.result } ∷ runs) c.reserve.ensures.items)
+    let there = claim_found c.args.self.now.jobs_made (find (is_free_of c.args.self.now.jobs.running) c.args.self.now.jobs.ready) c.in_ok-job.job c.in_ok-job.ensures.answer in
+    let is : job_of (c.args.self.now.jobs_made + 1) there.0.from there.0.item ≡ Ok (answers.Job c.in_ok-job.job) =
+    claimed_is c.args.self.now.jobs_made there.0 c.in_ok-job.job (ap (claim_of c.args.self.now.jobs_made) (sym there.1) ∙ c.in_ok-job.ensures.answer) in
+    claim_done stands there.0 c.in_ok-job.job c.claim.new.self.ready c.claim.new.self.running (claim_is c.args.here.now.space c.args.here.now.n limits D c.in_ok-job.job (returns-clause-answer c limits D stands)) there.1 is
+    (c.claim.ensures.ready ∙ (λ i. without_first (is_free_of (c.reserve_running.ensures.running i)) (c.reserve_running.ensures.ready i)))
+    (c.claim.ensures.running there.0 ((λ i. find (is_free_of (c.reserve_running.ensures.running i)) (c.reserve_running.ensures.ready i)) ∙ there.1) ∙ ap (λ runs. record { job = c.in_ok-job.job.job; message = there.0 } ∷ runs) c.reserve_running.ensures.running)

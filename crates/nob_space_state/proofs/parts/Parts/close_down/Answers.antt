@@ -1,5 +1,6 @@
-use Rattle.std.proofs.Common.{ℕ, refl, sym, subst, ◌∙◌}
+use Rattle.std.proofs.Common.{ℕ, ◌&&◌, ◌==◌, not, refl, sym, subst, ◌∙◌}
 use Rattle.nob_pins.specs.Bundles.{TakesOutAll}
+use Rattle.nob_space_waiting.specs.Waiting.{is_awaited}
 use Rattle.nob_space_holds.specs.Returns.{lent_from}
 use Rattle.nob_space_state.specs.Closing.{ClosesDown}
 use Rattle.nob_space_state.specs.Parts.{state_of}
@@ -16,18 +17,16 @@ returns c =
       table = c.unlist_all.new.table;
       dirty = c.unlist_all.new.dirty;
       pins = c.close-2.new.self;
-      waiting = c.throw_away.new.messages;
-      ready = c.throw_away-2.new.messages;
-      running = c.args.self.now.running;
-      replies = c.args.self.now.replies;
-      calls = c.end_calls.new.calls;
+      waiting = c.lose_of.new.self;
+      jobs = c.throw_ready_away.new.jobs;
+      calls = c.close-3.new.self;
       calls_made = c.args.self.now.calls_made;
       jobs_made = c.args.self.now.jobs_made;
     })) c.peer-peer.ensures record {
       sessions = refl;
       table = record {
-        back = c.throw_away-2.new.table;
-        gives = back_then c.args.self.now.table c.throw_away.new.table c.throw_away-2.new.table (lent_from c.args.me c.peer-peer.result c.args.self.now.waiting.items) (lent_from c.args.me c.peer-peer.result c.args.self.now.ready.items) c.throw_away.ensures.back c.throw_away-2.ensures.back;
+        back = c.throw_ready_away.new.table;
+        gives = back_then c.args.self.now.table c.throw_waiting_away.new.table c.throw_ready_away.new.table (lent_from c.args.me c.peer-peer.result c.args.self.now.waiting.items) (lent_from c.args.me c.peer-peer.result c.args.self.now.jobs.ready) c.throw_waiting_away.ensures.back c.throw_ready_away.ensures.back;
         loses = record {
           closed = λ rep. same_standing c.unlist_all.ensures.table.items rep ∙ c.close.ensures.closed rep;
           places = λ rep. (λ i. place_in (c.unlist_all.ensures.table.items.surrogates i) rep) ∙ c.close.ensures.places rep;
@@ -39,7 +38,8 @@ returns c =
       };
       listed = c.unlist_all.ensures.listed;
       pins = subst (λ (p : ℕ). TakesOutAll c.args.self.now.pins.bundles c.close-2.new.self.bundles p) (sym c.peer-peer.ensures) c.close-2.ensures;
-      work = thrown_work c.peer-peer.result (state_of c.args.self.now).work c.throw_away.new.messages.items c.throw_away-2.new.messages.items c.end_calls.new.calls.items c.throw_away.ensures.left c.throw_away-2.ensures.left c.end_calls.ensures;
+      work = thrown_work c.peer-peer.result (state_of c.args.self.now).work _ c.throw_ready_away.new.jobs.ready c.throw_ready_away.new.jobs.running c.close-3.new.self.replies c.close-3.new.self.calls (c.lose_of.ensures.items ∙ c.throw_waiting_away.ensures.left) c.throw_ready_away.ensures.left c.throw_ready_away.ensures.running c.close-3.ensures.replies c.close-3.ensures.calls;
+      awaited = λ rep. c.lose_of.ensures.awaited rep ∙ (λ i. not (rep.owner == c.peer-peer.result) && is_awaited (c.throw_waiting_away.ensures.awaited i) rep);
       calls = refl;
       jobs = refl;
     }

@@ -1,6 +1,0 @@
-use Rattle.std.proofs.Common.{◌≡◌, ◌++◌, map, take, drop}
-use Rattle.nob_model_work.specs.Work.{call_after_close}
-use Rattle.nob_space_state.proofs.closing.end_calls.Given as goal
-
-abbrev pub invariant-loop-place : goal.invariant-loop-place
-invariant-loop-place l = l.calls.items ≡ map (call_after_close l.peer l.replies.items) (take l.place l.fn.calls.items) ++ drop l.place l.fn.calls.items
