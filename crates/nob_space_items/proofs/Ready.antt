@@ -30,6 +30,7 @@ use Rattle.nob_table.specs.Table.{Table, standing, place_of, surrogate_total, is
 use Rattle.nob_table_rows.proofs.Same.{same_refl}
 use Rattle.nob_model_types.specs.declared.refusal.Refusal.TheVariants as refusals
 use Rattle.nob_model_words.specs.declared.deed.Deed.{Deed}
+use Rattle.nob_model_words.specs.declared.deed.Deed.TheVariants.{Act}
 use Rattle.nob_model_words.specs.declared.message.Loan.{Loan}
 use Rattle.nob_model_words.specs.declared.message.Loan.TheVariants as loans
 use Rattle.nob_model_words.specs.declared.message.RefCopy.{RefCopy}

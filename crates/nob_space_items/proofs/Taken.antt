@@ -47,7 +47,7 @@ use Rattle.nob_model.proofs.Premises.{front_item, in_turn}
 use Rattle.nob_space_state.specs.Parts.{State}
 use Rattle.nob_space_holds.specs.Shows.{TableStands, far_state, AreListed}
 use Rattle.nob_space_state.specs.Stands.{Stands, EndsStand, PinsStand}
-use Rattle.nob_space_state.proofs.Awaited.{same_lost, still_awaited}
+use Rattle.nob_space_state.proofs.Awaited.{same_lost}
 use Rattle.nob_space_state.proofs.Ends.{end_there, ends_changed}
 use Rattle.nob_space_state.specs.Looks.{HaveClients}
 use Rattle.nob_space_holds.proofs.Marked.{none_kept, shows_unmarked, shows_marked}
@@ -184,7 +184,7 @@ module _ (s n p k : ℕ) (item : Item) (D : List Deed) (there : item_at p k D �
       listed = listed;
       pins = pins_stand;
       work = stands.work ∙ sym note_work;
-      awaited = still_awaited (Act p k ∷ D) stands.awaited (λ rep. same_lost s n rep D (Act p k ∷ D) refl (same_turns rep));
+      awaited = λ rep due. stands.awaited rep due ∙ ap not (sym (same_lost s n rep D (Act p k ∷ D) refl (same_turns rep)));
       calls = stands.calls;
       jobs = stands.jobs;
       right = (its, stands.right);
