@@ -5,6 +5,7 @@ use denote.Struct.Declared.{shape}
 use denote.Struct.Field.{u64-field}
 use denote.Struct.Struct.{Struct}
 use Rattle.std.proofs.Crossing.{crosses, Vec-send, Vec-sync}
+use Rattle.std.specs.contracts.option.Option as Option
 use Rattle.std.specs.contracts.result.Result as Result
 use Rattle.std.specs.contracts.sync.Condvar as Condvar
 use Rattle.nob_bytes.proofs.owned.Bytes.TheSendSync as bytes
@@ -16,29 +17,91 @@ use Rattle.nob_keeper.specs.contracts.kept.Kept.TheInside as KeptInside
 use Rattle.nob_keeper.specs.contracts.receipt.Receipt as Receipt
 use Rattle.nob_keeper.specs.contracts.seat.Seat as Seat
 use Rattle.nob_keeper.specs.contracts.seat.Seat.TheInside as SeatInside
+use Rattle.nob_model.specs.contracts.Message as Message
+use Rattle.nob_model.specs.contracts.Run as Run
 use Rattle.nob_model_session.proofs.entry.Frames.TheSendSync as frames
 use Rattle.nob_model_types.specs.contracts.answer.Answer as Answer
 use Rattle.nob_model_types.specs.contracts.event.Event as Event
 use Rattle.nob_model_types.specs.contracts.refusal.Refusal as Refusal
+use Rattle.nob_model_words.proofs.message.RefCopies.TheSendSync as copies
 use Rattle.nob_pickle.proofs.value.Values.TheLaws.TheKnot as values
 use Rattle.nob_pins.proofs.table.PinTable.TheSendSync as pins
 use Rattle.nob_session.proofs.session.Session.TheSendSync as session
 use Rattle.nob_session.specs.contracts.session.Session as Session
 use Rattle.nob_space.specs.contracts.space.Space as Space
 use Rattle.nob_space.specs.contracts.space.Space.TheInside as SpaceInside
-use Rattle.nob_space_calls.proofs.calls.Calls.TheSendSync as calls
-use Rattle.nob_space_jobs.proofs.jobs.Jobs.TheSendSync as jobs
+use Rattle.nob_slots.proofs.slots.Slots.TheSendSync as slots
+use Rattle.nob_space_calls.proofs.firsts.Firsts.TheSendSync as firsts
+use Rattle.nob_space_calls.proofs.rows.Rows.TheSendSync as rows
+use Rattle.nob_space_calls.specs.contracts.calls.Calls as Calls
+use Rattle.nob_space_calls.specs.contracts.calls.Calls.TheInside as CallsInside
+use Rattle.nob_space_calls.specs.contracts.ready.Ready as Ready
+use Rattle.nob_space_calls.specs.contracts.ready.Ready.TheInside as ReadyInside
+use Rattle.nob_space_jobs.proofs.lines.Lines.TheSendSync as job_lines
+use Rattle.nob_space_jobs.specs.contracts.jobs.Jobs as Jobs
+use Rattle.nob_space_jobs.specs.contracts.jobs.Jobs.TheInside as JobsInside
+use Rattle.nob_space_list.proofs.list.SlabList.TheSendSync as lists
 use Rattle.nob_space_state.specs.contracts.parts.Parts as Parts
-use Rattle.nob_space_waiting.proofs.waiting.Waiting.TheSendSync as waiting
+use Rattle.nob_space_waiting.proofs.lines.Lines.TheSendSync as waiting_lines
+use Rattle.nob_space_waiting.specs.contracts.entry.Entry as Entry
+use Rattle.nob_space_waiting.specs.contracts.waiting.Waiting as Waiting
+use Rattle.nob_space_waiting.specs.contracts.waiting.Waiting.TheInside as WaitingInside
 use Rattle.nob_table.proofs.table.ObjectTable.TheSendSync as table
 use Rattle.nob_trace.specs.contracts.stamped.Stamped as Stamped
+
+message_send : IsSend Message.the_row
+message_send = search (copies.the_send, bytes.the_send, crosses, values.crosses, sendable) depth 60 fits 20000
+
+entry_send : IsSend Entry.the_row
+entry_send = search (copies.the_send, bytes.the_send, crosses, values.crosses, sendable) depth 60 fits 20000
+
+waiting_inside_send : IsSend WaitingInside.the_row
+waiting_inside_send =
+    let T = WaitingInside.the_type in
+    recorded_send (Struct (shape T)) T.D T.to T.to_one (struct_send (shape T)
+    (search sendable depth 30, (slots.the_send Entry.the_row entry_send, (waiting_lines.the_send, (search sendable, (search sendable, tt))))))
+
+waiting_send : IsSend Waiting.the_row
+waiting_send = view_send WaitingInside.the_row _ _ _ _ waiting_inside_send
+
+run_send : IsSend Run.the_row
+run_send = search (copies.the_send, bytes.the_send, crosses, values.crosses, sendable) depth 60 fits 20000
+
+slot_send : IsSend (Option.the_row Message.the_row)
+slot_send = search (message_send, sendable) depth 60 fits 20000
+
+jobs_inside_send : IsSend JobsInside.the_row
+jobs_inside_send =
+    let T = JobsInside.the_type in
+    recorded_send (Struct (shape T)) T.D T.to T.to_one (struct_send (shape T)
+    (Vec-send (Option.the_row Message.the_row) slot_send, (job_lines.the_field_send, (search sendable, (search sendable, (lists.the_send Run.the_row run_send, tt))))))
+
+jobs_send : IsSend Jobs.the_row
+jobs_send = view_send JobsInside.the_row _ _ _ _ jobs_inside_send
+
+ready_inside_send : IsSend ReadyInside.the_row
+ready_inside_send =
+    let T = ReadyInside.the_type in
+    recorded_send (Struct (shape T)) T.D T.to T.to_one (struct_send (shape T)
+    (slots.the_send Message.the_row message_send, (firsts.the_send, (search sendable, (search sendable, tt)))))
+
+ready_send : IsSend Ready.the_row
+ready_send = view_send ReadyInside.the_row _ _ _ _ ready_inside_send
+
+calls_inside_send : IsSend CallsInside.the_row
+calls_inside_send =
+    let T = CallsInside.the_type in
+    recorded_send (Struct (shape T)) T.D T.to T.to_one (struct_send (shape T) (rows.the_send, (ready_send, tt)))
+
+calls_send : IsSend Calls.the_row
+calls_send = view_send CallsInside.the_row _ _ _ _ calls_inside_send
 
 parts_send : IsSend (Struct (shape Parts.the_type))
 parts_send =
     let sessions = Vec-send Session.the_row session.the_send in
     let numbers : AllSend (u64-field.row ∷ u64-field.row ∷ []) = search sendable in
     struct_send (shape Parts.the_type)
-    (sessions, (table.the_send, (dirty.the_send, (pins.the_send, (waiting.the_send, (jobs.the_send, (calls.the_send, numbers)))))))
+    (sessions, (table.the_send, (dirty.the_send, (pins.the_send, (waiting_send, (jobs_send, (calls_send, numbers)))))))
 
 space_inside_send : IsSend SpaceInside.the_row
 space_inside_send =

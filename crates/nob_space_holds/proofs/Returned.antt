@@ -3,7 +3,8 @@ use Rattle.std.proofs.Common.{◌≡◌, ℕ, ◌+◌, ◌-◌, ◌<◌, Bool, t
 use Prim.Native.Nat.{suc}
 use Rattle.std.proofs.Math.Seq.{drop-cons}
 use Rattle.std.proofs.lemmas.Grind.{flat_map-append}
-use Rattle.std.proofs.lemmas.List.{append-nil, map-append, take_more, take-append-drop}
+use Rattle.std.specs.Borrow.{Bor}
+use Rattle.std.proofs.lemmas.List.{append_assoc, append-nil, map-append, take_more, take-append-drop}
 use Rattle.std.proofs.lemmas.List.Elements.{filter-append}
 use Rattle.std.proofs.lemmas.Bool.Decides.{nat_tests}
 use Rattle.nob_ids.specs.Names.{is_same}
@@ -165,3 +166,24 @@ from_both s p xs ys = ap (flat_map (loans_of s)) (filter-append (is_from p) xs y
 pub from_lends : (s p : ℕ) (message : Message) (b : Bool) → is_from p message ≡ b → lent_from s p (message ∷ []) ≡ (if b then loans_of s message else [])
 from_lends s p message true is = ap (λ (b : Bool). flat_map (loans_of s) (cond b (message ∷ []) [])) is ∙ append-nil (loans_of s message)
 from_lends s p message false is = ap (λ (b : Bool). flat_map (loans_of s) (cond b (message ∷ []) [])) is
+
+-- ---- messages that are passed one after the other
+
+module _ (s p : ℕ) where
+  -- what the next message has lent still is, where those before gave back theirs
+  pub next_lent : (t u : Table) (all before rest : List Message) (message : Message) → all ≡ before ++ message ∷ rest → HasLent t (lent_from s p all) → GivesBack t u (lent_from s p before) → HasLent u (lent_from s p (message ∷ []))
+  next_lent t u all before rest message is lent back =
+      let apart : lent_from s p all ≡ lent_from s p before ++ (lent_from s p (message ∷ []) ++ lent_from s p rest) =
+      ap (lent_from s p) is ∙ from_both s p before (message ∷ rest) ∙ ap (λ reps. lent_from s p before ++ reps) (from_both s p (message ∷ []) rest) in
+      first_lent u (lent_from s p (message ∷ [])) (lent_from s p rest) (lent_then t u (lent_from s p before) (lent_from s p (message ∷ []) ++ lent_from s p rest) (subst (HasLent t) apart lent) back)
+
+  -- once it gave back its own
+  pub next_back : (t u v : Table) (seen : List (Bor Message)) (message : Bor Message) → GivesBack t u (lent_from s p (map (λ m. m.now) seen)) → GivesBack u v (lent_from s p (message.now ∷ [])) → GivesBack t v (lent_from s p (map (λ m. m.now) (seen ++ message ∷ [])))
+  next_back t u v seen message before here =
+      subst (GivesBack t v) (sym (ap (lent_from s p) (map-append (λ m. m.now) seen (message ∷ [])) ∙ from_both s p (map (λ m. m.now) seen) (message.now ∷ [])))
+      (back_then t u v (lent_from s p (map (λ m. m.now) seen)) (lent_from s p (message.now ∷ [])) before here)
+
+-- the messages seen and those left are all, one step further
+pub seen_more : (all left rest : List Message) (seen : List (Bor Message)) (message : Bor Message) → all ≡ map (λ m. m.now) seen ++ left → left ≡ message.now ∷ rest → all ≡ map (λ m. m.now) (seen ++ message ∷ []) ++ rest
+seen_more all left rest seen message is steps =
+    is ∙ ap (λ ms. map (λ m. m.now) seen ++ ms) steps ∙ sym (append_assoc (map (λ m. m.now) seen) (message.now ∷ []) rest) ∙ ap (λ ms. ms ++ rest) (sym (map-append (λ m. m.now) seen (message ∷ [])))

@@ -1,6 +1,5 @@
 -- The closing of a session: what it gives back, and the state that it leaves.
-use Rattle.std.proofs.Common.{◌≡◌, ℕ, ◌+◌, ◌-◌, ◌<◌, ◌≤◌, Bool, true, false, cond, not, ◌&&◌, ◌||◌, ◌==◌, List, [], ◌∷◌, ◌++◌, map, filter, flat_map, length, get_or, slice_get, None, Ok, Err, Some, refl, sym, ap, subst, ◌∙◌, arith, if◌then◌else◌}
-use Prim.Native.Nat.{zero, suc}
+use Rattle.std.proofs.Common.{◌≡◌, ℕ, ◌+◌, ◌-◌, ◌≤◌, Bool, true, false, cond, not, ◌&&◌, ◌||◌, ◌==◌, List, [], ◌∷◌, ◌++◌, map, filter, flat_map, get_or, slice_get, None, Ok, Err, Some, refl, sym, ap, subst, ◌∙◌, arith, if◌then◌else◌}
 use lib.ListN.{set}
 use Rattle.std.specs.List.{AllByRecursion, sum_by}
 use Rattle.std.proofs.lemmas.Bool.Decides.{nat_tests}

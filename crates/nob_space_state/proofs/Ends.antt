@@ -182,7 +182,7 @@ module _ {s n : ℕ} {limits : Limits} {st : State} {deed : Deed} {D : List Deed
         listed = λ index client. stands.listed index client ∙ sym (still.listed index client);
         pins = λ f. stands.pins f ∙ ap (λ items. sum_by f (map bundle items)) (sym still.bundles);
         work = stands.work ∙ sym still.work;
-        awaited = still_awaited (deed ∷ D) stands.awaited (λ rep. same_lost s n rep D (deed ∷ D) (still.closed rep.owner) (still.turns rep));
+        awaited = still_awaited s n st.awaited st.work.waiting D (deed ∷ D) stands.awaited (λ rep. same_lost s n rep D (deed ∷ D) (still.closed rep.owner) (still.turns rep));
         calls = stands.calls ∙ sym still.calls_made;
         jobs = stands.jobs ∙ sym still.jobs_made;
         right = (its, stands.right);

@@ -1,5 +1,5 @@
 -- A deed that hands one item to one peer: what it sends and pins, and the state that it leaves.
-use Rattle.std.proofs.Common.{◌≡◌, ℕ, ◌+◌, Bool, true, false, cond, not, ◌&&◌, ◌||◌, ◌==◌, List, [], ◌∷◌, ◌++◌, length, map, filter, None, Ok, if◌then◌else◌, refl, sym, ap, ◌∙◌, arith}
+use Rattle.std.proofs.Common.{◌≡◌, ℕ, ◌+◌, Bool, true, false, cond, not, ◌&&◌, ◌||◌, ◌==◌, List, [], ◌∷◌, ◌++◌, length, map, filter, None, Ok, if◌then◌else◌, refl, sym, ap, subst, ◌∙◌, arith}
 use Rattle.std.specs.List.{sum_by, list_any}
 use Rattle.std.proofs.lemmas.List.{append-nil, map-append}
 use Rattle.std.proofs.lemmas.List.Sums.{sum_by-cons, sum_by_push}
@@ -158,7 +158,7 @@ module _ {s n p : ℕ} {item : Item} {deed : Deed} {D : List Deed} (hands : Hand
     pins = pins_stand;
     work = in_hand;
     awaited = subst (λ (ms : List Message). AreAwaited s n st.awaited ms (deed ∷ D)) (sym waits)
-        (still_awaited (deed ∷ D) stands.awaited (λ rep. same_lost s n rep D (deed ∷ D) (hands.closes_nothing rep.owner) (hands.same_turns rep)));
+        (still_awaited s n st.awaited st.work.waiting D (deed ∷ D) stands.awaited (λ rep. same_lost s n rep D (deed ∷ D) (hands.closes_nothing rep.owner) (hands.same_turns rep)));
     calls = calls;
     jobs = stands.jobs ∙ sym hands.jobs;
     right = (its, stands.right);

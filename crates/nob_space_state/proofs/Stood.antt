@@ -52,7 +52,7 @@ module _ {s n : ℕ} {deed : Deed} {D : List Deed} (quiet : IsQuiet s n deed D) 
     listed = λ index client. stands.listed index client ∙ sym (quiet.listed index client);
     pins = λ f. stands.pins f ∙ ap (λ items. sum_by f (map bundle items)) (sym quiet.bundles);
     work = stands.work ∙ sym quiet.work;
-    awaited = still_awaited (deed ∷ D) stands.awaited (λ rep. same_lost s n rep D (deed ∷ D) (quiet.closed rep.owner) (quiet.turns rep));
+    awaited = still_awaited s n st.awaited st.work.waiting D (deed ∷ D) stands.awaited (λ rep. same_lost s n rep D (deed ∷ D) (quiet.closed rep.owner) (quiet.turns rep));
     calls = stands.calls ∙ sym quiet.calls_made;
     jobs = stands.jobs ∙ sym quiet.jobs_made;
     right = (its, stands.right);

@@ -1,5 +1,6 @@
+use Rattle.std.proofs.Common.{◌≡◌, ◌++◌, map}
 use Rattle.nob_space_holds.specs.Returns.{lent_from, GivesBack}
 use Rattle.nob_space_holds.proofs.returns.give_back_ready.Given as goal
 
 abbrev pub invariant-loop-message : goal.invariant-loop-message
-invariant-loop-message l = GivesBack l.fn.table l.table (lent_from l.me l.peer l.yielded)
+invariant-loop-message l = GivesBack l.fn.table l.table (lent_from l.me l.peer (map (λ m. m.now) l.yielded)) × (l.jobs.ready ≡ map (λ m. m.now) l.yielded ++ l.message-iterator)

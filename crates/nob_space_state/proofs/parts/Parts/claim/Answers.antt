@@ -4,7 +4,6 @@ use Rattle.nob_model_types.specs.declared.answer.Job.{Job}
 use Rattle.nob_model_work.specs.Work.{without_first}
 use Rattle.nob_model.specs.Right.{claim_of, job_of}
 use Rattle.nob_space_jobs.specs.Jobs.{is_free_of}
-use Rattle.nob_space_state.specs.Parts.{state_of}
 use Rattle.nob_space_state.proofs.Claiming.{claim_right, claim_done, claim_found, claimed_is}
 use Rattle.nob_space_state.proofs.Passing.{error_on, wants_as}
 use Rattle.nob_space_state.proofs.Orderly.{claim_is}
@@ -22,7 +21,7 @@ returns-in_err-reserve_running-clause-answer c limits D stands =
 pub claim-requires-clause-free : goal.claim-requires-clause-free
 claim-requires-clause-free c =
     let there = claim_found c.args.self.now.jobs_made (find (is_free_of c.args.self.now.jobs.running) c.args.self.now.jobs.ready) c.in_ok-job.job c.in_ok-job.ensures.answer in
-    subst IsSome (sym ((λ i. find (is_free_of (c.reserve_running.ensures.running i)) (c.reserve_running.ensures.ready i)) ∙ there.1)) tt
+    subst IsSome (sym ((λ i. find (is_free_of (c.reserve_running.ensures.running i)) (c.reserve_running.ensures.ready i)) ∙ there.1)) refl
 
 pub returns-clause-answer : goal.returns-clause-answer
 returns-clause-answer c limits D stands = claim_right stands ∙ c.in_ok-job.ensures.answer
