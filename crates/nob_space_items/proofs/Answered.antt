@@ -198,7 +198,7 @@ module _ {s n p k : ℕ} {limits : Limits} {st : State} {D : List Deed} (stands 
   -- after a Dirty
   pub dirty_stands : (index : ℕ) → IsFront s n p k (items.Dirty index) D → send_refusal p Note st ≡ None → (live : Bool) → live ≡ objects.is_live s index D → (dirty : List Listing) → EntersIf live st.dirty dirty index p → (t : Table) → Unchanged st.table t → Keeps st.table t index live
       → ((me peer : ℕ) (limits : Limits) (L : List EndEntry) → session.Stands me peer limits old.end L → session.Stands me peer limits new.end (ends.Take ∷ ends.Send (payload_of (dirty_answer live index)) Note (Ok (old.end.handed + 1)) ∷ L))
-      → Stands s n limits (record { sessions = set st.sessions (place - 1) new; table = t; dirty = dirty; pins = st.pins; work = st.work; calls = st.calls; jobs = st.jobs }) (Act p k ∷ D)
+      → Stands s n limits (record { sessions = set st.sessions (place - 1) new; table = t; dirty = dirty; pins = st.pins; work = st.work; awaited = st.awaited; calls = st.calls; jobs = st.jobs }) (Act p k ∷ D)
   dirty_stands index front free live live_is dirty enters t same keeps answer =
       let there : item_at p k D ≡ Some (items.Dirty index) = front_is front limits stands.right in
       let seen : old ≡ get_or st.sessions (p - 1) old = subst (λ q. old ≡ get_or st.sessions (q - 1) old) at is in
@@ -208,7 +208,7 @@ module _ {s n p k : ℕ} {limits : Limits} {st : State} {D : List Deed} (stands 
       subst (λ calls. session.Stands s p limits new.end calls) (sym (calls_here front there))
       (subst (λ m. session.Stands s p limits new.end (ends.Take ∷ ends.Send (payload_of (dirty_answer (objects.is_live s index D) index)) Note (Ok (m + 1)) ∷ calls_at p (history_of s n D))) count
       (subst (λ b. session.Stands s p limits new.end (ends.Take ∷ ends.Send (payload_of (dirty_answer b index)) Note (Ok (old.end.handed + 1)) ∷ calls_at p (history_of s n D))) live_is (answer s p limits (calls_at p (history_of s n D)) end.2))) in
-      subst (λ q. Stands s n limits (record { sessions = set st.sessions (q - 1) new; table = t; dirty = dirty; pins = st.pins; work = st.work; calls = st.calls; jobs = st.jobs }) (Act p k ∷ D)) (sym at)
+      subst (λ q. Stands s n limits (record { sessions = set st.sessions (q - 1) new; table = t; dirty = dirty; pins = st.pins; work = st.work; awaited = st.awaited; calls = st.calls; jobs = st.jobs }) (Act p k ∷ D)) (sym at)
       (note_stands s n p k (items.Dirty index) D there refl (λ rep. ap (λ found. turns_after s n p rep found D (turns s n rep D)) there)
       (set st.sessions (p - 1) new) dirty st.pins t stands same (entered_have st.table t st.dirty dirty index p live keeps enters (clients_there s st.dirty D stands.listed st.table stands.table.kept))
       (ends_changed s n limits st.sessions (history_of s n D) (history_of s n (Act p k ∷ D)) p new stands.ends end.0 after (λ q other. sym (calls_elsewhere front there q (nat_eq_equiv.symm p q ∙ other))))
@@ -219,17 +219,18 @@ module _ {s n p k : ℕ} {limits : Limits} {st : State} {D : List Deed} (stands 
 module _ {s n p : ℕ} {limits : Limits} {st : State} {D : List Deed} (stands : Stands s n limits st D) (place : ℕ) (at : place ≡ p) (old new : Roomy) (is : old ≡ get_or st.sessions (place - 1) old) where
   -- where memory is wanted nothing is changed
   pub dirty_kept : is_peer s n p ≡ true → (dirty : List Listing) → ((i c : ℕ) → lists dirty i c ≡ lists st.dirty i c) → new.end ≡ old.end
-      → Stands s n limits (record { sessions = set st.sessions (place - 1) new; table = st.table; dirty = dirty; pins = st.pins; work = st.work; calls = st.calls; jobs = st.jobs }) D
+      → Stands s n limits (record { sessions = set st.sessions (place - 1) new; table = st.table; dirty = dirty; pins = st.pins; work = st.work; awaited = st.awaited; calls = st.calls; jobs = st.jobs }) D
   dirty_kept peer dirty same end_same =
       let seen : old ≡ get_or st.sessions (p - 1) old = subst (λ q. old ≡ get_or st.sessions (q - 1) old) at is in
       let end = end_there s n limits st.sessions (history_of s n D) p old stands.ends peer seen in
-      subst (λ q. Stands s n limits (record { sessions = set st.sessions (q - 1) new; table = st.table; dirty = dirty; pins = st.pins; work = st.work; calls = st.calls; jobs = st.jobs }) D) (sym at)
+      subst (λ q. Stands s n limits (record { sessions = set st.sessions (q - 1) new; table = st.table; dirty = dirty; pins = st.pins; work = st.work; awaited = st.awaited; calls = st.calls; jobs = st.jobs }) D) (sym at)
       record {
         ends = ends_kept s n limits st.sessions (history_of s n D) p old new stands.ends end.0 end.1 end_same;
         table = stands.table;
         listed = λ i c. same i c ∙ stands.listed i c;
         pins = stands.pins;
         work = stands.work;
+        awaited = stands.awaited;
         calls = stands.calls;
         jobs = stands.jobs;
         right = stands.right;

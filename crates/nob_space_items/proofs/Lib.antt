@@ -1,4 +1,5 @@
 pub mod Judged
+pub mod Lost
 pub mod Taken
 pub mod Noted
 pub mod Answered
@@ -14,7 +15,6 @@ pub mod Grown
 pub mod Message
 pub mod Asks
 pub mod Granted
-pub mod Granting
 pub mod Received
 pub mod Read
 pub mod ReadItems

@@ -27,7 +27,7 @@ use Rattle.nob_model_words.specs.declared.turns.Turns.{Turns}
 use Rattle.nob_model_words.specs.Deeds.{deed_by}
 use Rattle.nob_model_words.specs.Messages.{new_message, new_copy, loan_after, copy_after, message_after}
 use Rattle.nob_model_words.specs.Sessions.{is_peer, closed, item_at}
-use Rattle.nob_model_words.specs.Turns.{turns, turns_after, with_dirty, is_own, is_granted, is_refused, is_standing, is_usable, wants_dirty, carries}
+use Rattle.nob_model_words.specs.Turns.{turns, turns_after, with_dirty, is_own, is_granted, is_lost, is_refused, is_standing, is_usable, wants_dirty, carries}
 use Rattle.nob_model_work.specs.declared.gifts.Gift.{Gift}
 use Rattle.nob_model_work.specs.declared.work.InHand.{InHand}
 use Rattle.nob_model_work.specs.declared.work.Run.{Run}
@@ -51,18 +51,20 @@ use Rattle.nob_model.specs.Lists.{IsRightDeed}
 use Rattle.nob_model.specs.Right.{right_act, act_of, right_after}
 use Rattle.nob_model.proofs.Made.{loans_made}
 use Rattle.nob_model.proofs.Premises.{front_item, in_turn, took_turns}
+use Rattle.nob_space_waiting.specs.Waiting.{is_due_in}
 use Rattle.nob_space_state.specs.Parts.{State}
 use Rattle.nob_space_state.specs.Looks.{has_closed}
 use Rattle.nob_space_holds.specs.Shows.{far_state}
 use Rattle.nob_space_state.specs.Stands.{Stands}
 use Rattle.nob_space_state.proofs.Told.{closed_there}
 use Rattle.nob_space_items.specs.Fronts.{IsFront}
-use Rattle.nob_space_items.specs.Messages.{is_wanted, wanted_refs, new_loan, new_copies}
 use Rattle.nob_space_settling.specs.Settling.{is_denied}
-use Rattle.nob_space_items.specs.Placing.{IsMessage}
-use Rattle.nob_space_items.proofs.Among.{any_of, filter_passes}
 use Rattle.nob_space_settling.proofs.Resolving.{denied_far}
 use Rattle.nob_space_settling.proofs.Spares.{granted_far}
+use Rattle.nob_space_items.specs.Messages.{is_wanted, wanted_refs, new_loan, new_copies}
+use Rattle.nob_space_items.specs.Placing.{IsMessage}
+use Rattle.nob_space_items.proofs.Among.{any_of, filter_passes}
+use Rattle.nob_space_items.proofs.Lost.{due_open}
 use Rattle.nob_space_items.proofs.Refused.{wanted_there, dirties_there}
 use Rattle.nob_space_items.proofs.Wanted.{any_once}
 
@@ -343,3 +345,11 @@ module _ {s n : ℕ} {limits : Limits} {st : State} {D : List Deed} (stands : St
       ∙ loans_put s n (Act p k ∷ D) (new_message s n p k item (Act p k ∷ D)) item (work s n D)
       ∙ ap (λ (m : Message). after_message m item (with_loans s n (Act p k ∷ D) (work s n D))) new_message_at
       ∙ ap (after_message (record { from = p; number = k; item = item; copies = new_copies s n st (counted_in item) }) item) same_loans
+
+  -- what is lost is lost as before
+  pub act_lost : (rep : WireRep) → is_lost s n rep (Act p k ∷ D) ≡ is_lost s n rep D
+  act_lost rep = ap (λ b. not (is_own s rep) && (not (is_peer s n rep.owner) || closed rep.owner D || b)) (same_refused rep)
+
+  -- what is due to the message isn't lost
+  pub act_due : (rep : WireRep) → is_due_in (record { from = p; number = k; item = item; copies = new_copies s n st (counted_in item) } ∷ []) rep ≡ true → is_lost s n rep (Act p k ∷ D) ≡ false
+  act_due rep due = due_open s n p k item (Act p k ∷ D) rep (ap (λ (m : Message). is_due_in (m ∷ []) rep) new_message_at ∙ due)

@@ -88,12 +88,12 @@ module _ {s n p k : ℕ} {limits : Limits} {st : State} {D : List Deed} (stands 
     (take : (me peer : ℕ) (limits : Limits) (L : List EndEntry) → session.Stands me peer limits old.end L → session.Stands me peer limits new.end (ends.Take ∷ L)) where
   -- after a Clean
   pub clean_stands : (index : ℕ) → IsFront s n p k (items.Clean index) D → (dirty : List Listing) → Leaves st.dirty dirty index p → (t : Table) → Unchanged st.table t → (HaveClients st.table st.dirty → HaveClients t dirty)
-      → Stands s n limits (record { sessions = set st.sessions (place - 1) new; table = t; dirty = dirty; pins = st.pins; work = st.work; calls = st.calls; jobs = st.jobs }) (Act p k ∷ D)
+      → Stands s n limits (record { sessions = set st.sessions (place - 1) new; table = t; dirty = dirty; pins = st.pins; work = st.work; awaited = st.awaited; calls = st.calls; jobs = st.jobs }) (Act p k ∷ D)
   unfolding gifts_of_act act_refusal
   clean_stands index front dirty leaves t same have =
       let there : item_at p k D ≡ Some (items.Clean index) = front_is front limits stands.right in
       let none = gives_none s n p k (items.Clean index) D there refl in
-      subst (λ q. Stands s n limits (record { sessions = set st.sessions (q - 1) new; table = t; dirty = dirty; pins = st.pins; work = st.work; calls = st.calls; jobs = st.jobs }) (Act p k ∷ D)) (sym at)
+      subst (λ q. Stands s n limits (record { sessions = set st.sessions (q - 1) new; table = t; dirty = dirty; pins = st.pins; work = st.work; awaited = st.awaited; calls = st.calls; jobs = st.jobs }) (Act p k ∷ D)) (sym at)
       (note_stands s n p k (items.Clean index) D there refl (λ rep. ap (λ found. turns_after s n p rep found D (turns s n rep D)) there)
       (set st.sessions (p - 1) new) dirty st.pins t stands same (have (clients_there s st.dirty D stands.listed st.table stands.table.kept))
       (ends_taken s n p k D limits st.sessions old new none stands.ends front.peer (subst (λ q. old ≡ get_or st.sessions (q - 1) old) at is) (λ before. take s p limits (calls_at p (history_of s n D)) before))
@@ -149,13 +149,13 @@ module _ {s n p k : ℕ} {limits : Limits} {st : State} {D : List Deed} (stands 
     (take : (me peer : ℕ) (limits : Limits) (L : List EndEntry) → session.Stands me peer limits old.end L → session.Stands me peer limits new.end (ends.Take ∷ L)) where
   -- after a Settle
   pub settle_stands : (number : ℕ) → IsFront s n p k (items.Settle number) D → (table_of_pins : pins.Table) → TakesOut st.pins.bundles table_of_pins.bundles p number
-      → Stands s n limits (record { sessions = set st.sessions (place - 1) new; table = st.table; dirty = st.dirty; pins = table_of_pins; work = st.work; calls = st.calls; jobs = st.jobs }) (Act p k ∷ D)
+      → Stands s n limits (record { sessions = set st.sessions (place - 1) new; table = st.table; dirty = st.dirty; pins = table_of_pins; work = st.work; awaited = st.awaited; calls = st.calls; jobs = st.jobs }) (Act p k ∷ D)
   unfolding gifts_of_act act_refusal
   settle_stands number front table_of_pins takes_out =
       let there : item_at p k D ≡ Some (items.Settle number) = front_is front limits stands.right in
       let none = gives_none s n p k (items.Settle number) D there refl in
       let listed : (b : Bool) (client index : ℕ) → is_entered s index client D ≡ (if b then is_entered s index client D else is_entered s index client D) = λ b client index. elim b as (λ b. is_entered s index client D ≡ (if b then is_entered s index client D else is_entered s index client D)) [ true ↦ refl | false ↦ refl ] in
-      subst (λ q. Stands s n limits (record { sessions = set st.sessions (q - 1) new; table = st.table; dirty = st.dirty; pins = table_of_pins; work = st.work; calls = st.calls; jobs = st.jobs }) (Act p k ∷ D)) (sym at)
+      subst (λ q. Stands s n limits (record { sessions = set st.sessions (q - 1) new; table = st.table; dirty = st.dirty; pins = table_of_pins; work = st.work; awaited = st.awaited; calls = st.calls; jobs = st.jobs }) (Act p k ∷ D)) (sym at)
       (note_stands s n p k (items.Settle number) D there refl (λ rep. ap (λ found. turns_after s n p rep found D (turns s n rep D)) there)
       (set st.sessions (p - 1) new) st.dirty table_of_pins st.table stands (unchanged st.table) (clients_there s st.dirty D stands.listed st.table stands.table.kept)
       (ends_taken s n p k D limits st.sessions old new none stands.ends front.peer (subst (λ q. old ≡ get_or st.sessions (q - 1) old) at is) (λ before. take s p limits (calls_at p (history_of s n D)) before))

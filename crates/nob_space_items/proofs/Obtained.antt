@@ -1,5 +1,5 @@
 -- Acting on a DirtyOk: the loans that it makes can be made, and what it leaves.
-use Rattle.std.proofs.Common.{◌≡◌, ℕ, ◌+◌, ◌-◌, ◌*◌, ◌<◌, ◌≤◌, Bool, true, false, List, ◌∷◌, map, get_or, Some, if◌then◌else◌, refl, sym, ap, subst, ◌∙◌, arith}
+use Rattle.std.proofs.Common.{◌≡◌, ℕ, ◌+◌, ◌-◌, ◌*◌, ◌<◌, ◌≤◌, Bool, true, false, not, ◌&&◌, List, ◌∷◌, map, get_or, Some, if◌then◌else◌, refl, sym, ap, subst, ◌∙◌, arith}
 use Prim.Native.Nat.{zero, suc}
 use lib.ListN.{set, replicate}
 use Rattle.std.specs.List.{AllByRecursion}
@@ -29,14 +29,15 @@ use Rattle.nob_model.specs.Lists.{IsRightDeed}
 use Rattle.nob_model.specs.Right.{own_ref}
 use Rattle.nob_space_state.specs.Parts.{State}
 use Rattle.nob_space_holds.specs.Shows.{TableShows}
-use Rattle.nob_space_state.specs.Stands.{Stands}
+use Rattle.nob_space_state.specs.Stands.{Stands, AreAwaited}
 use Rattle.nob_space_items.specs.Fronts.{IsFront}
-use Rattle.nob_space_items.specs.Granting.{granted_message, due_to_all}
+use Rattle.nob_space_waiting.specs.Waiting.{granted_message, due_to_all, is_awaited, is_due_in}
 use Rattle.nob_space_items.specs.Lending.{CanLend, Lends}
 use Rattle.nob_space_items.proofs.Bounded.{lent_low}
 use Rattle.nob_space_items.proofs.Crowds.{few_messages}
 use Rattle.nob_space_items.proofs.Granted.{of_times, with_granted, granted_loans, granted_lends, times_replicate}
-use Rattle.nob_space_items.proofs.Owners.{pending_known, answered_shows, answer_stands}
+use Rattle.nob_space_items.proofs.Lost.{granted_awaited, pending_open}
+use Rattle.nob_space_items.proofs.Owners.{awaited, others_lost, pending_known, answered_shows, answer_stands}
 use Rattle.nob_space_items.proofs.Taken.{act_is, front_is, note_loans}
 
 all_replicate : {A : Type 0} (P : A → Type 0) (x : A) → P x → (count : ℕ) → AllByRecursion P (replicate count x)
@@ -72,6 +73,10 @@ module _ {s n p k : ℕ} {limits : Limits} {st : State} {D : List Deed} (stands 
       let low = lent_low s n rep (Act p k ∷ D) in
       let few = few_messages s n limits (Act p k ∷ D) (its_right, stands.right) in
       omega (arith, after, same, low, few)
+
+  -- where it is due it is awaited
+  pub due_awaited : is_due_in st.work.waiting (own_ref p index) ≡ true → not (is_awaited st.awaited (own_ref p index)) ≡ false
+  due_awaited due = ap not (stands.awaited (own_ref p index) due ∙ ap not (pending_open s n (own_ref p index) D front.peer front.is_open (awaited true index front)))
 
   -- the loans that are due can be counted
   pub due_low : due_to_all (own_ref p index) st.work.waiting < 18446744073709551616
@@ -113,11 +118,14 @@ module _ {s n p k : ℕ} {limits : Limits} {st : State} {D : List Deed} (stands 
   -- after a DirtyOk
   pub granted_stands : (index : ℕ) → IsFront s n p k (items.DirtyOk index) D → (u v : Table) → ChangeLeaves st.table u → Becomes st.table u (own_ref p index) (in_state states.Granted (standing st.table (own_ref p index)))
       → (count : ℕ) → count ≡ due_to_all (own_ref p index) st.work.waiting → Lends u v (replicate count (own_ref p index)) → (waiting : List Message) → waiting ≡ map (granted_message (own_ref p index)) st.work.waiting
-      → Stands s n limits (record { sessions = set st.sessions (place - 1) new; table = v; dirty = st.dirty; pins = st.pins; work = record { waiting = waiting; ready = st.work.ready; running = st.work.running; replies = st.work.replies; calls = st.work.calls }; calls = st.calls; jobs = st.jobs }) (Act p k ∷ D)
-  granted_stands index front u v leaves becomes count due lends waiting made =
+      → (awaits : List (WireRep × ℕ)) → ((other : WireRep) → is_awaited awaits other ≡ (not (is_same (own_ref p index) other) && is_awaited st.awaited other))
+      → Stands s n limits (record { sessions = set st.sessions (place - 1) new; table = v; dirty = st.dirty; pins = st.pins; work = record { waiting = waiting; ready = st.work.ready; running = st.work.running; replies = st.work.replies; calls = st.work.calls }; awaited = awaits; calls = st.calls; jobs = st.jobs }) (Act p k ∷ D)
+  granted_stands index front u v leaves becomes count due lends waiting made awaits ends =
+      let there : item_at p k D ≡ Some (items.DirtyOk index) = front_is front limits stands.right in
       let W : InHand = record { waiting = waiting; ready = st.work.ready; running = st.work.running; replies = st.work.replies; calls = st.work.calls } in
       let made_work : W ≡ with_granted (own_ref p index) st.work = λ i. record { waiting = made i; ready = st.work.ready; running = st.work.running; replies = st.work.replies; calls = st.work.calls } in
-      answer_stands stands place at old new is take true index front v W
+      answer_stands stands place at old new is take true index front v W awaits
+      (subst (λ ms. AreAwaited s n awaits ms (Act p k ∷ D)) (sym made) (granted_awaited s n D (Act p k ∷ D) (own_ref p index) (others_lost true index front there) st.awaited awaits st.work.waiting stands.awaited ends))
       (subst (λ V. TableShows s n v (history_of s n (Act p k ∷ D)) (λ rep. hand rep D) (λ rep. times rep (lent_in s V))) (sym made_work)
       (granted_shows stands index front u leaves becomes v (subst (λ c. Lends u v (replicate c (own_ref p index))) due lends)))
       (made_work ∙ loans_there stands index front)

@@ -19,13 +19,15 @@ use Rattle.nob_table_rows.specs.Counts.{is_held}
 use Rattle.nob_table_rows.specs.Standings as standings
 use Rattle.nob_table_rows.specs.Standings.{in_state}
 use Rattle.nob_table.specs.Table.{Table, standing, Becomes, ChangeLeaves}
+use Rattle.nob_table_rows.proofs.Same.{same_laws}
 use Rattle.nob_model_words.specs.declared.deed.Deed.{Deed}
 use Rattle.nob_model_words.specs.declared.deed.Deed.TheVariants.{Act}
+use Rattle.nob_model_words.specs.declared.message.Message.{Message}
 use Rattle.nob_model_words.specs.declared.turns.OwnerAnswer.{OwnerAnswer}
 use Rattle.nob_model_words.specs.declared.turns.OwnerAnswer.TheVariants as said
 use Rattle.nob_model_words.specs.declared.turns.Turns.{Turns}
 use Rattle.nob_model_words.specs.Sessions.{closed, item_at}
-use Rattle.nob_model_words.specs.Turns.{turns, turns_after, is_own, is_pending, is_granted, names, with_answer}
+use Rattle.nob_model_words.specs.Turns.{turns, turns_after, is_own, is_lost, is_pending, is_granted, is_refused, names, with_answer}
 use Rattle.nob_model_words.specs.Messages.{loan_after, copy_after, message_after}
 use Rattle.nob_model_work.specs.declared.work.InHand.{InHand}
 use Rattle.nob_model_work.specs.Work.{work, with_loans, run_after}
@@ -43,11 +45,14 @@ use Rattle.nob_model.specs.Right.{own_ref}
 use Rattle.nob_model.proofs.Made.{loans_made}
 use Rattle.nob_space_state.specs.Parts.{State}
 use Rattle.nob_space_holds.specs.Shows.{TableShows, far_state}
-use Rattle.nob_space_state.specs.Stands.{Stands, bundle}
+use Rattle.nob_space_waiting.specs.Waiting.{is_awaited}
+use Rattle.nob_space_state.specs.Stands.{Stands, AreAwaited, bundle}
+use Rattle.nob_space_state.proofs.Awaited.{same_lost}
 use Rattle.nob_space_holds.proofs.Shows.{one_row}
 use Rattle.nob_space_items.specs.Fronts.{IsFront}
 use Rattle.nob_space_items.specs.Judging.{awaits_answer}
 use Rattle.nob_space_items.proofs.Judged.{awaits_there}
+use Rattle.nob_space_items.proofs.Lost.{far_lost, refused_awaited}
 use Rattle.nob_space_items.proofs.Noted.{bundles_stay, fault_none, gives_none, listed_is, not_false}
 use Rattle.nob_space_items.proofs.Taken.{act_is, front_is, ends_taken, note_dirties, note_loans}
 
@@ -92,6 +97,10 @@ module _ {s n p k : ℕ} {D : List Deed} (granted : Bool) (index : ℕ) (front :
         ap (λ found. turns_after s n p rep found D (turns s n rep D)) there
         ∙ elim granted as (λ b. turns_after s n p rep (Some (answer_note b index)) D (turns s n rep D) ≡ (if names rep p index then with_answer (said_by b) (turns s n rep D) else turns s n rep D)) [ true ↦ refl | false ↦ refl ]
         ∙ ap (λ b. if b then with_answer (said_by granted) (turns s n rep D) else turns s n rep D) (names_same p index rep)
+
+    -- and every other one is lost as before
+    pub others_lost : (rep : WireRep) → is_same (own_ref p index) rep ≡ false → is_lost s n rep (Act p k ∷ D) ≡ is_lost s n rep D
+    others_lost rep differs = same_lost s n rep D (Act p k ∷ D) refl (turned rep ∙ ap (λ b. if b then with_answer (said_by granted) (turns s n rep D) else turns s n rep D) differs)
 
 -- ---- the table
 
@@ -170,24 +179,25 @@ module _ {s n p k : ℕ} {limits : Limits} {st : State} {D : List Deed} (stands 
 module _ {s n p k : ℕ} {limits : Limits} {st : State} {D : List Deed} (stands : Stands s n limits st D) (place : ℕ) (at : place ≡ p) (old new : Roomy) (is : old ≡ get_or st.sessions (place - 1) old)
     (take : (me peer : ℕ) (limits : Limits) (L : List EndEntry) → session.Stands me peer limits old.end L → session.Stands me peer limits new.end (ends.Take ∷ L)) where
   -- the state with the answer, once its loans are made
-  pub answer_stands : (granted : Bool) (index : ℕ) → IsFront s n p k (answer_note granted index) D → (t : Table) (W : InHand)
-      → TableShows s n t (history_of s n (Act p k ∷ D)) (λ rep. hand rep D) (λ rep. times rep (lent_in s W)) → W ≡ with_loans s n (Act p k ∷ D) (work s n D)
-      → Stands s n limits (record { sessions = set st.sessions (place - 1) new; table = t; dirty = st.dirty; pins = st.pins; work = W; calls = st.calls; jobs = st.jobs }) (Act p k ∷ D)
+  pub answer_stands : (granted : Bool) (index : ℕ) → IsFront s n p k (answer_note granted index) D → (t : Table) (W : InHand) (awaits : List (WireRep × ℕ))
+      → AreAwaited s n awaits W.waiting (Act p k ∷ D) → TableShows s n t (history_of s n (Act p k ∷ D)) (λ rep. hand rep D) (λ rep. times rep (lent_in s W)) → W ≡ with_loans s n (Act p k ∷ D) (work s n D)
+      → Stands s n limits (record { sessions = set st.sessions (place - 1) new; table = t; dirty = st.dirty; pins = st.pins; work = W; awaited = awaits; calls = st.calls; jobs = st.jobs }) (Act p k ∷ D)
   unfolding gifts_of_act act_refusal
-  answer_stands granted index front t W shows loans =
+  answer_stands granted index front t W awaits are shows loans =
       let there : item_at p k D ≡ Some (answer_note granted index) = front_is front limits stands.right in
       let gives : gifts_of_act s n p D (Some (answer_note granted index)) ≡ [] = elim granted as (λ b. gifts_of_act s n p D (Some (answer_note b index)) ≡ []) [ true ↦ refl | false ↦ refl ] in
       let none = gives_none s n p k (answer_note granted index) D there gives in
       let settles : (j : ℕ) → transit.is_settle_of j (Some (answer_note granted index)) ≡ false = λ j. elim granted as (λ b. transit.is_settle_of j (Some (answer_note b index)) ≡ false) [ true ↦ refl | false ↦ refl ] in
       let free : act_refusal s n p (answer_note granted index) (history_of s n D) ≡ None = elim granted as (λ b. act_refusal s n p (answer_note b index) (history_of s n D) ≡ None) [ true ↦ refl | false ↦ refl ] in
       let in_hand : W ≡ work s n (Act p k ∷ D) = loans ∙ sym (note_loans s n p k (answer_note granted index) D there (note_is granted index)) in
-      subst (λ q. Stands s n limits (record { sessions = set st.sessions (q - 1) new; table = t; dirty = st.dirty; pins = st.pins; work = W; calls = st.calls; jobs = st.jobs }) (Act p k ∷ D)) (sym at)
+      subst (λ q. Stands s n limits (record { sessions = set st.sessions (q - 1) new; table = t; dirty = st.dirty; pins = st.pins; work = W; awaited = awaits; calls = st.calls; jobs = st.jobs }) (Act p k ∷ D)) (sym at)
       record {
         ends = ends_taken s n p k D limits st.sessions old new none stands.ends front.peer (subst (λ q. old ≡ get_or st.sessions (q - 1) old) at is) (λ before. take s p limits (calls_at p (history_of s n D)) before);
         table = subst (λ V. TableShows s n t (history_of s n (Act p k ∷ D)) (λ rep. hand rep D) (λ rep. times rep (lent_in s V))) in_hand shows;
         listed = λ i c. stands.listed i c ∙ sym (answer_listed granted index front there i c);
         pins = λ f. stands.pins f ∙ ap (λ sent_items. sum_by f (map bundle sent_items)) (sym (bundles_stay s n p k (answer_note granted index) D there settles none));
         work = in_hand;
+        awaited = are;
         calls = stands.calls;
         jobs = stands.jobs;
         right = (act_is front limits free, stands.right);
@@ -218,3 +228,25 @@ module _ {s n p k : ℕ} {D : List Deed} (index : ℕ) (front : IsFront s n p k 
         calls = (work s n D).calls;
       }) (λ i rep. granted_same rep i)
       ∙ loans_made s n D
+
+  -- the reference is lost
+  refused_lost : is_lost s n (own_ref p index) (Act p k ∷ D) ≡ true
+  refused_lost =
+      far_lost s n (own_ref p index) (Act p k ∷ D) front.peer front.is_open
+      ∙ ap is_refused (turned false index front there (own_ref p index) ∙ ap (λ b. if b then with_answer said.Refused (turns s n (own_ref p index) D) else turns s n (own_ref p index) D) (same_laws.refl (own_ref p index)))
+      ∙ (after_answer said.Refused (turns s n (own_ref p index) D) (awaited false index front)).2
+
+module _ {s n p k : ℕ} {limits : Limits} {st : State} {D : List Deed} (stands : Stands s n limits st D) (place : ℕ) (at : place ≡ p) (old new : Roomy) (is : old ≡ get_or st.sessions (place - 1) old)
+    (take : (me peer : ℕ) (limits : Limits) (L : List EndEntry) → session.Stands me peer limits old.end L → session.Stands me peer limits new.end (ends.Take ∷ L)) where
+  -- after a DirtyNo
+  pub refused_stands : (index : ℕ) → IsFront s n p k (items.DirtyNo index) D → (t : Table) → ChangeLeaves st.table t → Becomes st.table t (own_ref p index) (in_state states.Refused (standing st.table (own_ref p index)))
+      → (waiting : List Message) → waiting ≡ st.work.waiting → (awaits : List (WireRep × ℕ)) → ((other : WireRep) → is_awaited awaits other ≡ (not (is_same (own_ref p index) other) && is_awaited st.awaited other))
+      → Stands s n limits (record { sessions = set st.sessions (place - 1) new; table = t; dirty = st.dirty; pins = st.pins; work = record { waiting = waiting; ready = st.work.ready; running = st.work.running; replies = st.work.replies; calls = st.work.calls }; awaited = awaits; calls = st.calls; jobs = st.jobs }) (Act p k ∷ D)
+  refused_stands index front t leaves becomes waiting same awaits ends =
+      let there : item_at p k D ≡ Some (items.DirtyNo index) = front_is front limits stands.right in
+      let W : InHand = record { waiting = waiting; ready = st.work.ready; running = st.work.running; replies = st.work.replies; calls = st.work.calls } in
+      let kept : W ≡ work s n D = (λ i. record { waiting = same i; ready = st.work.ready; running = st.work.running; replies = st.work.replies; calls = st.work.calls }) ∙ stands.work in
+      answer_stands stands place at old new is take false index front t W awaits
+      (subst (λ ms. AreAwaited s n awaits ms (Act p k ∷ D)) (sym same) (refused_awaited s n D (Act p k ∷ D) (own_ref p index) (others_lost false index front there) st.awaited awaits st.work.waiting stands.awaited ends (refused_lost index front there)))
+      (subst (λ V. TableShows s n t (history_of s n (Act p k ∷ D)) (λ rep. hand rep D) (λ rep. times rep (lent_in s V))) (sym kept) (answered_shows stands false index front t leaves becomes))
+      (kept ∙ sym (refused_loans index front there))

@@ -30,6 +30,7 @@ use Rattle.nob_table.specs.Table.{Table, standing, place_of, surrogate_total, is
 use Rattle.nob_table_rows.proofs.Same.{same_refl}
 use Rattle.nob_model_types.specs.declared.refusal.Refusal.TheVariants as refusals
 use Rattle.nob_model_words.specs.declared.deed.Deed.{Deed}
+use Rattle.nob_model_words.specs.declared.deed.Deed.TheVariants.{Act}
 use Rattle.nob_model_words.specs.declared.message.Loan.{Loan}
 use Rattle.nob_model_words.specs.declared.message.Loan.TheVariants as loans
 use Rattle.nob_model_words.specs.declared.message.RefCopy.{RefCopy}
@@ -37,6 +38,7 @@ use Rattle.nob_model_words.specs.declared.message.Message.{Message}
 use Rattle.nob_model_words.specs.Objects as objects
 use Rattle.nob_model_words.specs.Sessions.{is_peer}
 use Rattle.nob_model_work.specs.declared.gifts.Gift.{Gift}
+use Rattle.nob_model_work.specs.declared.work.InHand.{InHand}
 use Rattle.nob_model_work.specs.Gifts.{once, dirty_for}
 use Rattle.nob_model_work.specs.Work.{work, after_message}
 use Rattle.nob_model_history.specs.declared.history.History.{History}
@@ -51,7 +53,8 @@ use Rattle.nob_model.proofs.Premises.{no_fault}
 use Rattle.nob_model_acting.specs.Sending.{is_own_and_not_live}
 use Rattle.nob_space_state.specs.Parts.{State}
 use Rattle.nob_space_state.specs.Looks.{end_with, has_closed, is_closed_end}
-use Rattle.nob_space_state.specs.Stands.{Stands}
+use Rattle.nob_space_waiting.specs.Waiting.{WaitingList, is_awaited, is_due_in, IsNew}
+use Rattle.nob_space_state.specs.Stands.{Stands, AreAwaited}
 use Rattle.nob_space_state.proofs.Rows.{distinct_filtered}
 use Rattle.nob_space_state.proofs.Told.{own_is}
 use Rattle.nob_space_items.specs.Asking.{AsksFor, place_after, CanAsk, CanSendAll, SendsAll}
@@ -60,13 +63,14 @@ use Rattle.nob_space_items.specs.Growing.{AreAmong, HasRoom, HaveRoom, Grows}
 use Rattle.nob_space_items.specs.Lending.{CanLend}
 use Rattle.nob_space_items.specs.Messages.{is_wanted, wanted_refs, owner_count, has_free, has_numbers_for, is_too_much, message_refusal, new_loan, new_copies, is_at_hand}
 use Rattle.nob_space_items.specs.Placing.{IsMessage}
-use Rattle.nob_space_settling.specs.Settling.{is_lost_here}
 use Rattle.nob_space_items.specs.Receiving.{HasFront, CanReceive, Receives}
 use Rattle.nob_space_items.proofs.Among.{any_of, filter_passes}
+use Rattle.nob_space_settling.specs.Settling.{is_lost_here}
 use Rattle.nob_space_settling.proofs.Spares.{CanBeAsked, all_append}
 use Rattle.nob_space_items.proofs.Asks.{all_asked, wanted_unknown}
 use Rattle.nob_space_items.proofs.Bounded.{filter_short, dirties_low, message_lends, lent_low}
-use Rattle.nob_space_items.proofs.Message.{all_peers}
+use Rattle.nob_space_items.proofs.Lost.{message_new}
+use Rattle.nob_space_items.proofs.Message.{act_due, act_lost, all_peers}
 use Rattle.nob_space_items.proofs.Received.{message_of}
 use Rattle.nob_space_items.proofs.ReadItems.{item_few}
 
@@ -319,6 +323,11 @@ module _ {s n : ℕ} {limits : Limits} {st : State} {D : List Deed} (stands : St
       let first : right_front calls ≡ Some (k, front.bytes) = sends_front (items_to (p - 1 + 1) G) (calls_at (p - 1 + 1) (history_of s n D)) ∙ ap (λ q. right_front (calls_at q (history_of s n D))) at ∙ front.front in
       subst (λ (payloads : List (List ℕ)). 0 < length payloads) (sym (ap (λ (e : End). e.waiting) its)) (front_waits (takes calls + 1) k front.bytes (waiting calls) first)
 
+  -- no reference that messages wait for in vain is due to it
+  pub new_ready : (w : WaitingList) → w.items ≡ st1.work.waiting → w.awaited ≡ st1.awaited → IsNew w (message_of s n st p k item)
+  new_ready w items awaited = message_new s n D (Act p k ∷ D) (message_of s n st p k item) (act_lost stands p k item front message) (act_due stands p k item front message) w
+      (subst (λ ms. AreAwaited s n w.awaited ms D) (sym (items ∙ ap (λ (W : InHand). W.waiting) grows.work)) (subst (λ counts. AreAwaited s n counts st.work.waiting D) (sym (awaited ∙ grows.awaited)) stands.awaited))
+
   -- all together
   pub can_receive : HaveRoom (length (wanted_refs s n st (counted_in item))) st1.sessions (wanted_refs s n st (counted_in item)) → length (wanted_refs s n st (counted_in item)) ≤ st1.table.surrogate_room → CanReceive s st1 (message_of s n st p k item) (wanted_refs s n st (counted_in item))
   can_receive room places = record {
@@ -359,6 +368,7 @@ module _ {s n : ℕ} {limits : Limits} {st : State} {D : List Deed} (stands : St
     work = receives.work ∙ ap (after_message (message_of s n st p k item) item) grows.work;
     dirty = receives.dirty ∙ grows.dirty;
     pins = receives.pins ∙ grows.pins;
+    awaited = λ rep. receives.awaited rep ∙ ap (λ counts. is_awaited counts rep || is_due_in (message_of s n st p k item ∷ []) rep) grows.awaited;
     calls = receives.calls ∙ grows.calls;
     jobs = receives.jobs ∙ grows.jobs;
   }

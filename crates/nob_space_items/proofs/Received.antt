@@ -30,7 +30,7 @@ use Rattle.nob_model_history.specs.Holds.{hand, times, lent_in, loans_of}
 use Rattle.nob_model.specs.Lists.{IsRightDeed}
 use Rattle.nob_space_state.specs.Parts.{State}
 use Rattle.nob_space_holds.specs.Shows.{TableStands}
-use Rattle.nob_space_state.specs.Stands.{Stands, EndsStand, bundle}
+use Rattle.nob_space_state.specs.Stands.{Stands, EndsStand, AreAwaited, bundle}
 use Rattle.nob_space_state.proofs.Ends.{end_there, ends_changed}
 use Rattle.nob_space_holds.proofs.Counted.{times_both}
 use Rattle.nob_space_holds.proofs.Taking.{shows_same}
@@ -39,7 +39,8 @@ use Rattle.nob_space_items.specs.Messages.{wanted_refs, new_copies}
 use Rattle.nob_space_items.specs.Placing.{IsMessage}
 use Rattle.nob_space_items.specs.Receiving.{Receives}
 use Rattle.nob_space_items.proofs.Asks.{asks_show}
-use Rattle.nob_space_items.proofs.Message.{act_calls, act_work, act_listed, act_bundles}
+use Rattle.nob_space_items.proofs.Lost.{message_awaited}
+use Rattle.nob_space_items.proofs.Message.{act_bundles, act_calls, act_due, act_listed, act_lost, act_work}
 
 -- ---- what is lent
 
@@ -133,6 +134,8 @@ module _ {s n : ℕ} {limits : Limits} {st new : State} {D : List Deed} (stands 
     table = table_after;
     listed = λ index client. ap (λ dirty. lists dirty index client) receives.dirty ∙ stands.listed index client ∙ sym (act_listed stands p k item front message index client);
     pins = λ f. ap (λ (table : pins.Table). sum_by f table.bundles) receives.pins ∙ stands.pins f ∙ ap (λ (items : List SentItem). sum_by f (map bundle items)) (sym (act_bundles stands p k item front message));
+    awaited = subst (λ (W : InHand). AreAwaited s n new.awaited W.waiting (Act p k ∷ D)) (sym receives.work)
+        (message_awaited s n D (Act p k ∷ D) (message_of s n st p k item) (act_lost stands p k item front message) (act_due stands p k item front message) st.awaited new.awaited item st.work message stands.awaited receives.awaited);
     work = receives.work ∙ ap (after_message (message_of s n st p k item) item) stands.work ∙ sym (act_work stands p k item front message);
     calls = receives.calls ∙ stands.calls;
     jobs = receives.jobs ∙ stands.jobs;

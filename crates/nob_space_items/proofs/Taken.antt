@@ -47,6 +47,7 @@ use Rattle.nob_model.proofs.Premises.{front_item, in_turn}
 use Rattle.nob_space_state.specs.Parts.{State}
 use Rattle.nob_space_holds.specs.Shows.{TableStands, far_state, AreListed}
 use Rattle.nob_space_state.specs.Stands.{Stands, EndsStand, PinsStand}
+use Rattle.nob_space_state.proofs.Awaited.{same_lost}
 use Rattle.nob_space_state.proofs.Ends.{end_there, ends_changed}
 use Rattle.nob_space_state.specs.Looks.{HaveClients}
 use Rattle.nob_space_holds.proofs.Marked.{none_kept, shows_unmarked, shows_marked}
@@ -176,13 +177,14 @@ module _ (s n p k : ℕ) (item : Item) (D : List Deed) (there : item_at p k D �
     -- the state with other ends, listings and pins, and other marks in the table
     pub note_stands : {limits : Limits} {st : State} (sessions : List Roomy) (dirty : List Listing) (table_of_pins : pins.Table) (t : Table) → Stands s n limits st D → Unchanged st.table t → HaveClients t dirty
         → EndsStand s n limits sessions (history_of s n (Act p k ∷ D)) → ((index client : ℕ) → lists dirty index client ≡ is_listed s index client (Act p k ∷ D)) → PinsStand table_of_pins.bundles (history_of s n (Act p k ∷ D)) → IsRightDeed s n limits (Act p k) D
-        → Stands s n limits (record { sessions = sessions; table = t; dirty = dirty; pins = table_of_pins; work = st.work; calls = st.calls; jobs = st.jobs }) (Act p k ∷ D)
+        → Stands s n limits (record { sessions = sessions; table = t; dirty = dirty; pins = table_of_pins; work = st.work; awaited = st.awaited; calls = st.calls; jobs = st.jobs }) (Act p k ∷ D)
     note_stands {limits} {st} sessions dirty table_of_pins t stands same have ends_stand listed pins_stand its = record {
       ends = ends_stand;
       table = shows_marked same (listed_clients s dirty (Act p k ∷ D) listed t have) (note_shows (shows_unmarked stands.table) (λ index kept. absurd (none_kept st.table index kept)));
       listed = listed;
       pins = pins_stand;
       work = stands.work ∙ sym note_work;
+      awaited = λ rep due. stands.awaited rep due ∙ ap not (sym (same_lost s n rep D (Act p k ∷ D) refl (same_turns rep)));
       calls = stands.calls;
       jobs = stands.jobs;
       right = (its, stands.right);

@@ -30,5 +30,6 @@ pub record Grows (old new : State) : Type 0 where
   pub dirty : new.dirty ≡ old.dirty
   pub pins : new.pins ≡ old.pins
   pub work : new.work ≡ old.work
+  pub awaited : new.awaited ≡ old.awaited
   pub calls : new.calls ≡ old.calls
   pub jobs : new.jobs ≡ old.jobs

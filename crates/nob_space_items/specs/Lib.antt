@@ -6,6 +6,5 @@ pub mod Asking
 pub mod Lending
 pub mod Placing
 pub mod Growing
-pub mod Granting
 pub mod Receiving
 pub mod Acts

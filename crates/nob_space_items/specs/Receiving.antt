@@ -1,5 +1,5 @@
 -- What acting on a Call or a Reply makes of the state, once there is room for all.
-use Rattle.std.specs.Prelude.{◌≡◌, ℕ, ◌-◌, ◌<◌, ◌≤◌, List, ◌∷◌, length, get_or, slice_set}
+use Rattle.std.specs.Prelude.{◌≡◌, ℕ, ◌-◌, ◌<◌, ◌≤◌, ◌||◌, List, [], ◌∷◌, length, get_or, slice_set}
 use Rattle.nob_ids.specs.declared.limits.Limits.{Limits}
 use Rattle.nob_ids.specs.declared.wire_rep.WireRep.{WireRep}
 use Rattle.nob_model_session.specs.declared.entry.EndEntry.{EndEntry}
@@ -10,6 +10,7 @@ use Rattle.nob_table.specs.Table.{Table}
 use Rattle.nob_model_words.specs.declared.message.Message.{Message}
 use Rattle.nob_model_work.specs.Work.{after_message}
 use Rattle.nob_model_history.specs.Holds.{loans_of}
+use Rattle.nob_space_waiting.specs.Waiting.{is_awaited, is_due_in}
 use Rattle.nob_space_state.specs.Parts.{State}
 use Rattle.nob_space_items.specs.Asking.{AsksFor, CanAsk, CanSendAll, SendsAll}
 use Rattle.nob_space_items.specs.Lending.{CanLend, Lends}
@@ -45,6 +46,7 @@ pub record Receives (s : ℕ) (old new : State) (message : Message) (reps : List
   pub asks : AsksFor old.table asked reps
   pub lends : Lends asked new.table (loans_of s message)
   pub work : new.work ≡ after_message message message.item old.work
+  pub awaited : (rep : WireRep) → is_awaited new.awaited rep ≡ (is_awaited old.awaited rep || is_due_in (message ∷ []) rep)
   pub dirty : new.dirty ≡ old.dirty
   pub pins : new.pins ≡ old.pins
   pub calls : new.calls ≡ old.calls

@@ -99,8 +99,9 @@ fn act_on(
 /// nothing waits; and the item stays in the inbox where a Call or a Reply would pass a limit, or a
 /// session has no number for the Dirties or the answer that it asks for. It takes memory to read a
 /// Call or a Reply, for what an item leaves here, and for what is sent; a fault of what was read
-/// takes none. Linear in the bytes, the calls, the messages that wait, and the pins of the item
-/// that a Settle names, and logarithmic in the listings; a fault costs what `close_for` does.
+/// takes none. Linear in the bytes, the pins of the item that a Settle names, and the copies of the
+/// messages that wait for what a DirtyOk or a DirtyNo names, and logarithmic in the calls and the
+/// listings; a fault costs what `close_for` does.
 pub fn act(
     parts: &mut Parts,
     alloc: Global,

@@ -1,6 +1,6 @@
 //! The faults of an item, by the state. None takes memory.
 
-ghost use Rattle.std.specs.Prelude.{◌≡◌, ◌==◌, not};
+ghost use Rattle.std.specs.Prelude.{◌≡◌, not};
 ghost use Rattle.std.specs.List.{list_any};
 ghost use Rattle.nob_item.specs.Spelling.{Fits};
 ghost use Rattle.nob_model_acting.specs.Acting as words;
@@ -11,7 +11,6 @@ ghost use Rattle.nob_space_items.specs.Judging.{carries_none, was_never_given, a
 
 use nob_ids::{CallNo, Reason, SpaceId, WireRep};
 use nob_item::{Item, counted_ref};
-use nob_model::{Here, OwnCall, Stage};
 use nob_space_state::Parts;
 use nob_table::State;
 
@@ -28,27 +27,6 @@ fn carries_none(parts: &Parts, me: SpaceId, item: &Item) -> bool
         number += 1;
     }
     false
-}
-
-// Whether no Reply to a call was acted on, and it hasn't ended.
-fn is_sent(stage: Stage) -> bool
-    ensures { result ≡ words.is_sent stage }
-{
-    matches!(stage, Stage::Sent)
-}
-
-// Whether a call was made to a peer and waits for its Reply.
-fn awaits_reply(peer: SpaceId, call: CallNo, own: &OwnCall) -> bool
-    ensures { result ≡ words.awaits_reply peer call own.now }
-{
-    own.call == call && own.to == peer && is_sent(own.stage)
-}
-
-// Whether one of these calls was made to a peer under this number and waits for its Reply.
-fn is_awaited(peer: SpaceId, call: CallNo, calls: &[OwnCall]) -> bool
-    ensures { result ≡ list_any (words.awaits_reply peer call) calls.now }
-{
-    calls.iter().any(|own| awaits_reply(peer, call, own))
 }
 
 // Whether an index was never given to an object of this space.
@@ -102,17 +80,17 @@ fn fault_of_reply(
 ) -> Option<Reason>
     requires { Fits item.now }
     ensures { result ≡ words.first_fault
-        (words.fault_if (not (list_any (words.awaits_reply peer call) parts.now.calls.items))
+        (words.fault_if (not (list_any (words.awaits_reply peer call) parts.now.calls.calls))
         Reason.OutOfPlace) (words.fault_if
         (carries_none me (state_of parts.now) item.now) Reason.BadReference) }
 {
-    if !is_awaited(peer, call, parts.calls.as_slice()) {
+    if !parts.calls.awaits(peer, call) {
         return Some(Reason::OutOfPlace);
     }
     fault_if(carries_none(parts, me, item), Reason::BadReference)
 }
 
-// The first fault of an item from a peer. Linear in the item and the calls.
+// The first fault of an item from a peer. Linear in the item, and logarithmic in the calls.
 #[tactic(auto, unfolding(crate::specs::Judging::item_fault))]
 pub(crate) fn fault_of_item(
     parts: &Parts,

@@ -39,20 +39,21 @@ fn grow_sessions(
     }
 }
 
-// Makes room for a message, and for the Dirties of these references of it.
-pub(crate) fn grow(parts: &mut Parts, reps: &[WireRep]) -> Result<(), AllocError>
+// Makes room for a message of so many copies, and for the Dirties of these references of it. Only
+// memory fails it, and the parts hold the same in any case.
+pub(crate) fn grow(parts: &mut Parts, reps: &[WireRep], copies: usize) -> Result<(), AllocError>
     requires { AreAmong (length parts.old.sessions.items) reps.now }
     ensures same { Grows (state_of parts.old) (state_of parts.new) }
     ensures sessions { OnOk result (HaveRoom (length reps.now) parts.new.sessions.items reps.now) }
     ensures table { OnOk result (length reps.now ≤ parts.new.table.surrogate_room) }
-    ensures waiting { OnOk result (0 < parts.new.waiting.room) }
-    ensures ready { OnOk result (0 < parts.new.ready.room) }
-    ensures replies { OnOk result (0 < parts.new.replies.room) }
+    ensures waiting { OnOk result (copies < parts.new.waiting.room) }
+    ensures ready { OnOk result (0 < parts.new.jobs.ready_room) }
+    ensures replies { OnOk result (0 < parts.new.calls.replies_room) }
 {
     parts.table.reserve(0, reps.len())?;
     grow_sessions(&mut parts.sessions, reps, reps.len())?;
-    parts.waiting.reserve(1)?;
-    parts.ready.reserve(1)?;
-    parts.replies.reserve(1)?;
+    parts.waiting.reserve(copies)?;
+    parts.jobs.reserve_ready(1)?;
+    parts.calls.reserve_replies(1)?;
     Ok(())
 }

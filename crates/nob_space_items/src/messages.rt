@@ -1,6 +1,6 @@
 //! Acting on a Call or a Reply.
 
-ghost use Rattle.std.specs.Prelude.{◌≡◌, ◌≤◌, ◌&&◌, not, List, length, Some, None, IfOk, OnOk, OnErr, MatchResult};
+ghost use Rattle.std.specs.Prelude.{◌≡◌, ◌≤◌, ◌-◌, ◌^◌, ◌&&◌, not, min, List, length, Some, None, IfOk, OnOk, OnErr, MatchResult};
 ghost use Rattle.std.specs.List.{list_all, list_any};
 ghost use Rattle.nob_ids.specs.Names.{is_same};
 ghost use Rattle.nob_ids.specs.declared.limits.Limits.{Limits as LimitsOf};
@@ -88,15 +88,18 @@ fn wanted_refs(parts: &Parts, here: &Here, item: &Item) -> FewRefs
     wanted
 }
 
-// How many messages there are.
+// How many messages there are, as far as that can be counted.
 fn message_count(parts: &Parts) -> u64
-    ensures { result ≡ acting.messages (state_of parts.now).work }
+    ensures { result ≡ min (acting.messages (state_of parts.now).work) (2 ^ 64 - 1) }
 {
     let waiting = parts.waiting.len() as u64;
-    let ready = parts.ready.len() as u64;
-    let running = parts.running.len() as u64;
-    let replies = parts.replies.len() as u64;
-    waiting + ready + running + replies
+    let ready = parts.jobs.ready_len() as u64;
+    let running = parts.jobs.running_len() as u64;
+    let replies = parts.calls.replies_len() as u64;
+    waiting
+        .saturating_add(ready)
+        .saturating_add(running)
+        .saturating_add(replies)
 }
 
 // How many of some references a space owns.
@@ -175,7 +178,7 @@ fn judge_message(parts: &Parts, here: &Here, item: &Item) -> Result<FewRefs, Ref
 /// get Dirties, its loans are made as far as they can be, and it waits for its references or is
 /// ready. It stays in the inbox where a limit or the numbers of a session forbid it, and then
 /// nothing was sent. Linear in its value times its references, of which there are 32 at most, and
-/// in the calls.
+/// logarithmic in the calls.
 pub(crate) fn act_on_message(
     parts: &mut Parts,
     alloc: Global,
@@ -201,7 +204,7 @@ pub(crate) fn act_on_message(
     let wanted = judge_message(parts, here, &item)?;
     let dirties = new_dirties(alloc, wanted.as_slice())?;
     let copies = new_copies(parts, alloc, here, &item)?;
-    grow(parts, wanted.as_slice())?;
+    grow(parts, wanted.as_slice(), copies.as_slice().len())?;
     let message = Message {
         from: peer,
         number,

@@ -23,7 +23,7 @@ ghost use Rattle.nob_space_state.specs.Stands.{Stands, IsState, Keeps, Did, Answ
 ghost use Rattle.nob_space_items.specs.Fronts.{IsFront};
 ghost use Rattle.nob_space_items.specs.Notes.{dirty_answer, EntersIf};
 
-use crate::grants::{lend_times, lend_to_all};
+use crate::grants::lend_times;
 use nob_dirty::DirtySets;
 use nob_ids::{ItemNo, SpaceId, WireRep};
 use nob_item::{Item, encode};
@@ -159,7 +159,8 @@ pub(crate) fn act_on_dirty(
     Ok(())
 }
 
-// Acts on a DirtyNo: the reference that was asked for is refused. It takes no memory.
+// Acts on a DirtyNo: the reference that was asked for is refused, and lost to the messages that wait
+// for it. It takes no memory. Linear in the copies of it that are due.
 pub(crate) fn act_on_dirty_no(
     parts: &mut Parts,
     here: &Here,
@@ -174,15 +175,17 @@ pub(crate) fn act_on_dirty_no(
     ensures stands { Did here.now.space here.now.n (state_of parts.old) (state_of parts.new)
         (did.Act peer number) }
 {
-    match parts.table.refuse(WireRep { owner: peer, index }) {
+    let rep = WireRep { owner: peer, index };
+    match parts.table.refuse(rep) {
         Ok(()) => {}
         Err(_) => unreachable!(),
     }
+    parts.waiting.lose(&rep);
     parts.sessions[peer.get() as usize - 1].take();
 }
 
 // Acts on a DirtyOk: the reference that was asked for is granted, and lent to the messages that
-// wait for it. It takes no memory.
+// wait for it. It takes no memory. Linear in the copies of the messages that wait for it.
 pub(crate) fn act_on_dirty_ok(
     parts: &mut Parts,
     here: &Here,
@@ -202,7 +205,7 @@ pub(crate) fn act_on_dirty_ok(
         Ok(()) => {}
         Err(_) => unreachable!(),
     }
-    let due = lend_to_all(&rep, &mut parts.waiting);
+    let due = parts.waiting.lend(&rep);
     lend_times(&mut parts.table, &rep, due);
     parts.sessions[peer.get() as usize - 1].take();
 }

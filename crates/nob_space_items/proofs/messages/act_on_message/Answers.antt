@@ -4,6 +4,7 @@ use Rattle.nob_item.specs.Kinds.{counted_in}
 use Rattle.nob_model_words.specs.declared.deed.Deed.{Deed}
 use Rattle.nob_model_words.specs.declared.message.RefCopy.{RefCopy}
 use Rattle.nob_model_acting.specs.Acting.{answer_of_act}
+use Rattle.nob_space_waiting.specs.Waiting.{IsNew}
 use Rattle.nob_space_state.specs.Parts.{state_of}
 use Rattle.nob_space_state.proofs.Passing.{refused_as, wants_as, after_error}
 use Rattle.nob_space_items.specs.Growing.{AreAmong, HaveRoom}
@@ -11,7 +12,7 @@ use Rattle.nob_space_items.specs.Messages.{wanted_refs, message_refusal}
 use Rattle.nob_space_items.specs.Receiving.{CanReceive, Receives}
 use Rattle.nob_space_items.proofs.Message.{message_answer, act_is}
 use Rattle.nob_space_items.proofs.ReadItems.{item_few}
-use Rattle.nob_space_items.proofs.Ready.{owners_among, can_receive, grown_receives}
+use Rattle.nob_space_items.proofs.Ready.{owners_among, can_receive, grown_receives, new_ready}
 use Rattle.nob_space_items.proofs.Received.{message_of, receives_stand}
 use Rattle.nob_space_items.proofs.messages.act_on_message.Goals as goal
 
@@ -70,6 +71,21 @@ receive-requires-clause-can c =
     (subst (λ (reps : List WireRep). length reps ≤ new.table.surrogate_room) given c.in_ok-grow.ensures.table) in
     subst (λ (copies : List RefCopy). CanReceive s new (record { from = c.args.peer; number = c.args.number; item = c.args.item; copies = copies }) c.in_ok-dirties.dirties.items) (sym c.in_ok-copies.ensures)
     (subst (CanReceive s new (message_of s n st c.args.peer c.args.number c.args.item)) (sym dirties_are) can)
+
+pub receive-requires-clause-new : goal.receive-requires-clause-new
+receive-requires-clause-new c =
+    let s = c.args.here.now.space in
+    let n = c.args.here.now.n in
+    let D : List Deed = c.requires.state.1 in
+    let stands = c.requires.state.2 in
+    let st = state_of c.args.parts.now in
+    let fits : length c.args.parts.now.sessions.items < 18446744073709551616 = search rules in
+    let each = stands.ends.each in
+    let small : n < 18446744073709551616 = omega (arith, fits, each) in
+    let reps_are : c.in_ok-wanted.wanted ≡ wanted_refs s n st (counted_in c.args.item) = c.in_ok-wanted.ensures.wanted in
+    subst (λ (copies : List RefCopy). IsNew c.grow.new.parts.waiting (record { from = c.args.peer; number = c.args.number; item = c.args.item; copies = copies })) (sym c.in_ok-copies.ensures)
+    (new_ready stands c.args.peer c.args.number c.args.item (c.requires.front c.requires.state.0 D stands) c.requires.message
+    (subst (λ (reps : List WireRep). message_refusal st reps ≡ None) reps_are c.in_ok-wanted.ensures.free) small (state_of c.grow.new.parts) c.grow.ensures.same c.grow.new.parts.waiting refl refl)
 
 pub returns-clause-answer : goal.returns-clause-answer
 returns-clause-answer c limits D stands =
