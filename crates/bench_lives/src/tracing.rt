@@ -1,6 +1,6 @@
 //! The traces of what happened in a world.
 
-use crate::lives::{SPACES, space_at};
+use crate::world::{SPACES, space_at};
 use nob_check_traces::{CheckError, check};
 use nob_ids::{Limits, SpaceId};
 use nob_model::{Answer, Entry, Refusal};
