@@ -69,6 +69,7 @@ impl<T> Slots<T> {
     /// How many items there are. Constant time.
     pub fn len(&self) -> usize
         ensures count { result ≡ length self.now.rows }
+        ensures fits { result ≤ 2 ^ 62 }
         ensures rising { IsRising self.now.rows }
         ensures there { (number : ℕ) → is_marked self.now.marked number ≡ true
             → IsSome (item_at self.now.rows number) }

@@ -1,3 +1,4 @@
 pub mod Jobs
 pub mod Lanes
 pub mod Lines
+pub mod Running
