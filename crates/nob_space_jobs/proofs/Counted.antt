@@ -1,8 +1,7 @@
 -- How many jobs of a target run.
-use Rattle.std.proofs.Common.{◌≡◌, ℕ, zero, suc, ◌+◌, ◌<◌, ◌≤◌, ◌==◌, Bool, true, false, not, ◌||◌, List, [], ◌∷◌, length, get_or, refl, sym, ap, ◌∙◌, arith, if◌then◌else◌}
+use Rattle.std.proofs.Common.{◌≡◌, ℕ, zero, suc, ◌+◌, ◌<◌, ◌≤◌, ◌==◌, Bool, true, false, not, ◌||◌, List, [], ◌∷◌, cond, filter, length, refl, sym, ap, ◌∙◌, arith, if◌then◌else◌}
 use Rattle.std.proofs.lemmas.Bool.{ne_eqb}
 use Rattle.std.proofs.lemmas.Cmp.{nat_eq_equiv}
-use Rattle.std.specs.List.{remove}
 use Rattle.nob_model_work.specs.declared.work.Run.{Run}
 use Rattle.nob_model_acting.specs.Candidates.{target_of}
 use Rattle.nob_space_jobs.specs.Jobs.{is_running}
@@ -26,21 +25,26 @@ runs_few (run ∷ runs) t =
     let rest : runs_of runs t ≤ length runs = runs_few runs t in
     elim (target_of run.message.item == t) as (λ b. (if b then 1 + runs_of runs t else runs_of runs t) ≤ suc (length runs)) [ true ↦ omega (arith, rest) | false ↦ omega (arith, rest) ]
 
--- one of them less
-pub runs_removed : (runs : List Run) (place : ℕ) (run : Run) (t : ℕ) → place < length runs → run ≡ get_or runs place run → runs_of runs t ≡ (if is_target (target_of run.message.item) t then 1 + runs_of (remove runs place) t else runs_of (remove runs place) t)
-runs_removed [] place run t under is = absurd (omega (arith, under))
-runs_removed (x ∷ runs) zero run t under is = ap (λ (r : Run). if target_of r.message.item == t then 1 + runs_of runs t else runs_of runs t) (sym is)
-runs_removed (x ∷ runs) (suc place) run t under is =
-    let rest : runs_of runs t ≡ (if is_target (target_of run.message.item) t then 1 + runs_of (remove runs place) t else runs_of (remove runs place) t) = runs_removed runs place run t (omega (arith, under)) is in
-    elim (target_of x.message.item == t) as (λ b. (if b then 1 + runs_of runs t else runs_of runs t) ≡ (if is_target (target_of run.message.item) t then 1 + (if b then 1 + runs_of (remove runs place) t else runs_of (remove runs place) t) else (if b then 1 + runs_of (remove runs place) t else runs_of (remove runs place) t))) [
-      | true ↦ ap (λ k. 1 + k) rest ∙ elim (is_target (target_of run.message.item) t) as (λ b. 1 + (if b then 1 + runs_of (remove runs place) t else runs_of (remove runs place) t) ≡ (if b then 1 + (1 + runs_of (remove runs place) t) else 1 + runs_of (remove runs place) t)) [ true ↦ refl | false ↦ refl ]
-      | false ↦ rest
+-- those that pass a test and the others
+parted : (test : Run → Bool) (runs : List Run) (t : ℕ) → runs_of runs t ≡ runs_of (filter test runs) t + runs_of (filter (λ run. not (test run)) runs) t
+parted test [] t = refl
+parted test (run ∷ runs) t =
+    let rest = parted test runs t in
+    elim (test run) as (λ b. (if target_of run.message.item == t then 1 + runs_of runs t else runs_of runs t) ≡ runs_of (cond b (run ∷ filter test runs) (filter test runs)) t + runs_of (cond (not b) (run ∷ filter (λ r. not (test r)) runs) (filter (λ r. not (test r)) runs)) t) [
+      | true ↦ elim (target_of run.message.item == t) as (λ b. (if b then 1 + runs_of runs t else runs_of runs t) ≡ (if b then 1 + runs_of (filter test runs) t else runs_of (filter test runs) t) + runs_of (filter (λ r. not (test r)) runs) t) [ true ↦ omega (arith, rest) | false ↦ rest ]
+      | false ↦ elim (target_of run.message.item == t) as (λ b. (if b then 1 + runs_of runs t else runs_of runs t) ≡ runs_of (filter test runs) t + (if b then 1 + runs_of (filter (λ r. not (test r)) runs) t else runs_of (filter (λ r. not (test r)) runs) t)) [ true ↦ omega (arith, rest) | false ↦ rest ]
     ]
 
--- the target of one that runs has one at least
-pub runs_some : (runs : List Run) (place : ℕ) (run : Run) → place < length runs → run ≡ get_or runs place run → 0 < runs_of runs (target_of run.message.item)
-runs_some runs place run under is =
-    let one : runs_of runs (target_of run.message.item) ≡ 1 + runs_of (remove runs place) (target_of run.message.item) = runs_removed runs place run (target_of run.message.item) under is ∙ rw (nat_eq_equiv.refl (target_of run.message.item)) refl in
+-- one alone passes a test, and is taken out
+pub runs_parted : (test : Run → Bool) (runs : List Run) (run : Run) → filter test runs ≡ run ∷ [] → (t : ℕ)
+    → runs_of runs t ≡ (if is_target (target_of run.message.item) t then 1 + runs_of (filter (λ r. not (test r)) runs) t else runs_of (filter (λ r. not (test r)) runs) t)
+runs_parted test runs run alone t =
+    parted test runs t ∙ rw alone (elim (target_of run.message.item == t) as (λ b. (if b then 1 else 0) + runs_of (filter (λ r. not (test r)) runs) t ≡ (if b then 1 + runs_of (filter (λ r. not (test r)) runs) t else runs_of (filter (λ r. not (test r)) runs) t)) [ true ↦ refl | false ↦ omega arith ])
+
+-- its target has one at least
+pub runs_some : (test : Run → Bool) (runs : List Run) (run : Run) → filter test runs ≡ run ∷ [] → 0 < runs_of runs (target_of run.message.item)
+runs_some test runs run alone =
+    let one : runs_of runs (target_of run.message.item) ≡ 1 + runs_of (filter (λ r. not (test r)) runs) (target_of run.message.item) = runs_parted test runs run alone (target_of run.message.item) ∙ rw (nat_eq_equiv.refl (target_of run.message.item)) refl in
     omega (arith, one)
 
 -- what is one more in both is the same in both

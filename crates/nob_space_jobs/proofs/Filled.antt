@@ -1,5 +1,5 @@
 -- The slots of ready jobs: their messages and targets after a change.
-use Rattle.std.proofs.Common.{◌≡◌, ℕ, zero, suc, ◌+◌, ◌<◌, ◌≤◌, Bool, true, false, List, [], ◌∷◌, ◌++◌, length, filter, find, nat_lt, Option, Some, None, is_some, inl, inr, refl, sym, ap, subst, ◌∙◌, arith}
+use Rattle.std.proofs.Common.{◌≡◌, ℕ, zero, suc, ◌+◌, ◌<◌, ◌≤◌, Bool, true, false, cond, List, [], ◌∷◌, ◌++◌, length, filter, find, nat_lt, Option, Some, None, is_some, inl, inr, refl, sym, ap, subst, ◌∙◌, arith}
 use lib.ListN.{set}
 use Rattle.std.proofs.lemmas.Bool.{cases_eq, cases_lt, lt-ltb, le-ltb}
 use Rattle.std.proofs.lemmas.List.Elements.{filter_map-append}
@@ -174,3 +174,10 @@ lines_widened {T} {nexts} {lanes} {heads} are = record {
   lane = are.lane;
   head = are.head;
 }
+
+-- those that pass a test are no more than all
+pub fewer_left : (test : Message → Bool) (messages : List Message) → length (filter test messages) ≤ length messages
+fewer_left test [] = omega arith
+fewer_left test (message ∷ messages) =
+    let rest = fewer_left test messages in
+    elim (test message) as (λ b. length (cond b (message ∷ filter test messages) (filter test messages)) ≤ suc (length messages)) [ true ↦ omega (arith, rest) | false ↦ omega (arith, rest) ]

@@ -5,7 +5,7 @@ pub mod Linked
 pub mod Heads
 pub mod Low
 pub mod Used
-pub mod Ends
 pub mod Passed
 pub mod Filled
 pub mod Counted
+pub mod Newest

@@ -1,22 +1,20 @@
 //! The jobs of a space.
 
-ghost use Rattle.std.specs.Prelude.{◌≡◌, ◌+◌, ◌^◌, ◌<◌, ◌≤◌, [], ◌∷◌, ◌++◌, length, filter, find, not, IsSome, Some, OnOk, remove};
-ghost use Rattle.std.specs.Fn.{CalledAt};
-ghost use Rattle.std.specs.List.{position};
-ghost use Rattle.std.specs.List.Retain.{IsFiltered};
+ghost use Rattle.std.specs.Prelude.{◌≡◌, ◌+◌, ◌^◌, ◌<◌, ◌≤◌, ◌==◌, [], ◌∷◌, ◌++◌, length, filter, find, not, IsOk, IsSome, Some, MatchOption, OnOk};
 ghost use Rattle.std.specs.Option.{option_map};
 ghost use Rattle.nob_model_words.specs.declared.message.Message.{Message as MessageOf};
+ghost use Rattle.nob_model_words.specs.Messages.{is_not_from};
 ghost use Rattle.nob_model_work.specs.Work.{is_run, without_first};
-ghost use Rattle.nob_space_jobs.specs.Jobs.{is_free_of};
+ghost use Rattle.nob_space_jobs.specs.Jobs.{is_free_of, IsAbove};
 
 use crate::lines::Lines;
-use crate::ready::ReadyIter;
+use crate::ready::ReadyFrom;
+use crate::running::Running;
 use crate::slots::{drop_failing, message_at, rebuild, start_at};
-use nob_ids::JobNo;
+use nob_ids::{JobNo, SpaceId};
 use nob_model_acting::candidates::target_of;
 use nob_model_words::Message;
 use nob_model_work::Run;
-use nob_space_list::SlabList;
 use std::alloc::{AllocError, Global};
 use std::marker::Model;
 
@@ -34,7 +32,7 @@ pub struct Jobs {
     live: usize,
     // How many more ready jobs fit.
     room: usize,
-    running: SlabList<Run>,
+    running: Running,
 }
 
 // By hand, so that the lists are taken apart here alone and not at each end of each caller.
@@ -65,20 +63,13 @@ impl Model for Jobs {
 
     ghost view = { λ a. record {
       ready = messages_in a.slots.items;
-      running = a.running.items;
+      running = a.running.runs;
       ready_room = a.room;
       running_room = a.running.room;
     } };
 
     ghost invariant = { λ a. AreJobs a.slots.items (vec_capacity a.slots) a.lines.nexts.items
-        (vec_capacity a.lines.nexts) a.lines.lanes a.lines.heads a.live a.room a.running.items };
-}
-
-// Whether a job has this number.
-fn is_run(job: JobNo, run: &Run) -> bool
-    ensures { result ≡ is_run job run.now }
-{
-    run.job == job
+        (vec_capacity a.lines.nexts) a.lines.lanes a.lines.heads a.live a.room a.running.runs };
 }
 
 impl Jobs {
@@ -92,7 +83,7 @@ impl Jobs {
             lines: Lines::new(alloc),
             live: 0,
             room: 0,
-            running: SlabList::new(alloc),
+            running: Running::new(alloc),
         }
     }
 
@@ -110,19 +101,15 @@ impl Jobs {
         self.running.len()
     }
 
-    /// The ready jobs, one after the other.
-    pub fn ready(&self) -> ReadyIter<'_>
-        ensures items { result ≡ self.now.ready }
+    /// The ready jobs that came from a space, in order.
+    pub fn ready_from(&self, peer: SpaceId) -> ReadyFrom<'_>
+        ensures items { result ≡ filter (λ message. message.from == peer) self.now.ready }
         ensures fits { length result < 2 ^ 64 }
     {
-        ReadyIter { slots: &self.slots }
-    }
-
-    /// The jobs that run.
-    pub fn running(&self) -> &SlabList<Run>
-        ensures { result.now.items ≡ self.now.running }
-    {
-        &self.running
+        ReadyFrom {
+            peer,
+            slots: &self.slots,
+        }
     }
 
     /// Makes room for so many more ready jobs. Only memory fails it, and the jobs are the same in
@@ -133,6 +120,7 @@ impl Jobs {
         ensures ready_room { self.old.ready_room ≤ self.new.ready_room }
         ensures running_room { self.new.running_room ≡ self.old.running_room }
         ensures ok { OnOk result (additional ≤ self.new.ready_room) }
+        ensures succeeds { additional ≤ self.old.ready_room → IsOk result }
     {
         if additional <= self.room {
             return Ok(());
@@ -149,7 +137,9 @@ impl Jobs {
         ensures ready { self.new.ready ≡ self.old.ready }
         ensures running { self.new.running ≡ self.old.running }
         ensures ready_room { self.new.ready_room ≡ self.old.ready_room }
+        ensures running_room { self.old.running_room ≤ self.new.running_room }
         ensures ok { OnOk result (additional ≤ self.new.running_room) }
+        ensures succeeds { additional ≤ self.old.running_room → IsOk result }
     {
         self.running.reserve(additional)
     }
@@ -185,17 +175,19 @@ impl Jobs {
     }
 
     /// The first ready job whose target isn't running is claimed: it runs under this number. It
-    /// takes no memory. Constant time on average, and linear in the jobs that run, of which only
-    /// keys move.
+    /// takes no memory. Constant time on average. The caller's conditions: there is such a job, and
+    /// room for one more that runs, and the number is above those of all that run.
     pub fn claim(&mut self, job: JobNo)
         requires free { IsSome (find (is_free_of self.old.running) self.old.ready) }
         requires room { 0 < self.old.running_room }
+        requires above { IsAbove self.old.running job }
         ensures ready { self.new.ready
             ≡ without_first (is_free_of self.old.running) self.old.ready }
         ensures running { (message : MessageOf)
             → find (is_free_of self.old.running) self.old.ready ≡ Some message
             → self.new.running ≡ record { job = job; message = message } ∷ self.old.running }
         ensures ready_room { self.new.ready_room ≡ self.old.ready_room }
+        ensures running_room { self.new.running_room + 1 ≡ self.old.running_room }
     {
         let Some(place) = self.lines.heads.first_from(0) else {
             unreachable!();
@@ -206,7 +198,7 @@ impl Jobs {
             unreachable!();
         };
         self.live -= 1;
-        self.running.push_front(Run { job, message });
+        self.running.push(Run { job, message });
         self.tidy();
     }
 
@@ -222,53 +214,45 @@ impl Jobs {
         }
     }
 
-    /// The job that runs under this number. Linear in the jobs that run.
+    /// The job that runs under this number: no two have one number. Logarithmic in the jobs that
+    /// run.
     pub fn find_run(&self, job: JobNo) -> Option<&Run>
-        ensures { option_map (λ run. run.now) result ≡ find (is_run job) self.now.running }
+        ensures found { option_map (λ run. run.now) result ≡ find (is_run job) self.now.running }
+        ensures alone { MatchOption result (filter (is_run job) self.now.running ≡ [])
+            (λ run. filter (is_run job) self.now.running ≡ run.now ∷ []) }
     {
-        self.running.iter().find(|run| is_run(job, run))
+        self.running.find(job)
     }
 
-    /// Ends the jobs of this number. It takes no memory. Linear in the jobs that run.
+    /// Ends the job of this number, if it runs. It takes no memory. Logarithmic in the jobs that run,
+    /// and constant time on average beside that.
     pub fn end(&mut self, job: JobNo)
         ensures ready { self.new.ready ≡ self.old.ready }
         ensures running { self.new.running
             ≡ filter (λ run. not (is_run job run)) self.old.running }
         ensures ready_room { self.new.ready_room ≡ self.old.ready_room }
+        ensures running_room { self.new.running_room ≡ self.old.running_room }
     {
-        while let Some(place) = self.place_of(job) {
-            self.end_at(place);
-        }
-    }
-
-    // The place of the first job of this number.
-    fn place_of(&self, job: JobNo) -> Option<usize>
-        ensures { result ≡ position (is_run job) self.now.running }
-    {
-        self.running.iter().position(|run| is_run(job, run))
-    }
-
-    // Ends the job at a place.
-    fn end_at(&mut self, place: usize)
-        requires { place < length self.old.running }
-        ensures ready { self.new.ready ≡ self.old.ready }
-        ensures running { self.new.running ≡ remove self.old.running place }
-        ensures ready_room { self.new.ready_room ≡ self.old.ready_room }
-    {
-        let run = self.running.remove(place);
+        let Some(run) = self.running.take(job) else {
+            return;
+        };
         self.lines.end(target_of(&run.message.item));
     }
 
-    /// Keeps the ready jobs at which a test answers `true`, in their order, and drops the others. It
-    /// takes no memory. Linear in the ready jobs and the targets, and in what dropping costs.
-    pub fn retain_ready<F: FnMut(&Message) -> bool>(&mut self, test: F)
-        requires { F.IsAlwaysCallable test }
-        ensures ready { IsFiltered (CalledAt F.FnMut) test self.old.ready self.new.ready }
+    /// Drops the ready jobs from a space, whose session has closed. It takes no memory. Linear in
+    /// the ready jobs and the targets, and in what dropping costs.
+    pub fn drop_from(&mut self, peer: SpaceId)
+        ensures ready { self.new.ready ≡ filter (is_not_from peer) self.old.ready }
         ensures running { self.new.running ≡ self.old.running }
         ensures ready_room { self.new.ready_room ≡ self.old.ready_room }
         ensures running_room { self.new.running_room ≡ self.old.running_room }
     {
-        drop_failing(&mut self.slots, test);
+        drop_failing(
+            &mut self.slots,
+            |message: &Message| -> bool
+                ensures { result ≡ is_not_from peer message.now }
+            { message.from != peer },
+        );
         rebuild(&mut self.slots, &mut self.lines);
         self.live = self.slots.len();
     }

@@ -7,7 +7,8 @@ mod jobs;
 mod lanes;
 mod lines;
 mod ready;
+mod running;
 mod slots;
 
 pub use jobs::Jobs;
-pub use ready::ReadyIter;
+pub use ready::ReadyFrom;

@@ -119,7 +119,7 @@ impl Lines {
         requires place { place < length self.old.nexts.items }
         requires bound { place < bound self.old.heads }
         requires lane { (lane : LaneOf) × (lane_at self.old.lanes.rows target ≡ Some lane)
-            × (lane.first ≡ Some place) × (lane.runs < 2 ^ 60) }
+            × (lane.first ≡ Some place) × (lane.runs < 2 ^ 63) }
         ensures lines { (targets : ℕ → Option ℕ)
             → AreLines targets self.old.nexts.items self.old.lanes.rows self.old.heads
             → AreLines (with_target targets place None) self.new.nexts.items self.new.lanes.rows

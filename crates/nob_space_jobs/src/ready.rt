@@ -1,21 +1,23 @@
-//! The ready jobs, one after the other.
+//! The ready jobs from a space, one after the other.
 
-ghost use Rattle.std.specs.Prelude.{◌≡◌, [], ◌∷◌, MatchOption};
+ghost use Rattle.std.specs.Prelude.{◌≡◌, ◌==◌, [], ◌∷◌, filter, MatchOption};
 ghost use Rattle.std.specs.Iterator.{YieldsFirstRef, item_count};
 ghost use Rattle.nob_space_jobs.specs.Lines.{messages_in};
 
+use nob_ids::SpaceId;
 use nob_model_words::Message;
 use std::marker::Model;
 
-/// The ready jobs, in order of becoming ready. Contracts see those that are left.
+/// The ready jobs from a space, in order of becoming ready. Contracts see those that are left.
 #[derive(Drop)]
-pub struct ReadyIter<'a> {
+pub struct ReadyFrom<'a> {
+    pub(crate) peer: SpaceId,
     // The slots that are left.
     pub(crate) slots: &'a [Option<Message>],
 }
 
-impl<'a> Model for ReadyIter<'a> {
-    ghost use Rattle.std.specs.Prelude.{List};
+impl<'a> Model for ReadyFrom<'a> {
+    ghost use Rattle.std.specs.Prelude.{◌==◌, List, filter};
     ghost use Rattle.nob_model_words.specs.declared.message.Message.{Message};
 
     ghost Value = { List Message };
@@ -27,25 +29,34 @@ impl<'a> Model for ReadyIter<'a> {
 
     ghost use Rattle.nob_space_jobs.specs.Lines.{messages_in};
 
-    ghost view = { λ it. messages_in it.slots.now };
+    ghost view = { λ it. filter (λ message. message.from == it.peer) (messages_in it.slots.now) };
 }
 
-// The first message of the slots, and the slots behind it. Linear in the empty slots before it.
-fn first_filled<'a>(slots: &'a [Option<Message>]) -> Option<(&'a Message, &'a [Option<Message>])>
-    ensures { MatchOption result (messages_in slots.now ≡ [])
-        (λ first. messages_in slots.now ≡ first.0.now ∷ messages_in first.1.now) }
+// The first message from a space in the slots, and the slots behind it. Linear in the slots before
+// it.
+fn first_from<'a>(
+    peer: SpaceId,
+    slots: &'a [Option<Message>],
+) -> Option<(&'a Message, &'a [Option<Message>])>
+    ensures { MatchOption result
+        (filter (λ message. message.from == peer) (messages_in slots.now) ≡ [])
+        (λ first. filter (λ message. message.from == peer) (messages_in slots.now)
+        ≡ first.0.now ∷ filter (λ message. message.from == peer) (messages_in first.1.now)) }
 {
     let mut left = slots;
     while let Some((slot, others)) = left.split_first() {
-        if let Some(message) = slot {
+        left = others;
+        let Some(message) = slot else {
+            continue;
+        };
+        if message.from == peer {
             return Some((message, others));
         }
-        left = others;
     }
     None
 }
 
-impl<'a> Iterator for ReadyIter<'a> {
+impl<'a> Iterator for ReadyFrom<'a> {
     type Item = &'a Message;
 
     ghost next_gives = { YieldsFirstRef (λ rest. rest) };
@@ -53,7 +64,7 @@ impl<'a> Iterator for ReadyIter<'a> {
     ghost remaining = { item_count (λ rest. rest) };
 
     fn next(&mut self) -> Option<&'a Message> {
-        let (message, slots) = first_filled(self.slots)?;
+        let (message, slots) = first_from(self.peer, self.slots)?;
         self.slots = slots;
         Some(message)
     }

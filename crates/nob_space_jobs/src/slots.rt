@@ -53,7 +53,7 @@ pub fn start_at(
     requires head { has lines.old.heads place ≡ true }
     requires lines { AreLines (target_at slots.old.items) lines.old.nexts.items
         lines.old.lanes.rows lines.old.heads }
-    requires few { (target : ℕ) → runs_in (lane_at lines.old.lanes.rows target) < 2 ^ 60 }
+    requires few { (target : ℕ) → runs_in (lane_at lines.old.lanes.rows target) < 2 ^ 63 }
     requires beside { length lines.old.nexts.items ≡ length slots.old.items }
     requires bound { length slots.old.items ≤ bound lines.old.heads }
     ensures message { result ≡ message_at slots.old.items place }
