@@ -21,11 +21,6 @@ numbers_of lists space = all_of (slice_get lists.lists space)
 abbrev pub IsAboveAll : List ℕ → ℕ → Type 0
 IsAboveAll numbers number = AllByRecursion (λ other. other < number) numbers
 
--- each number is below those behind it
-abbrev pub AreRising : List ℕ → Type 0
-AreRising [] = Unit {0}
-AreRising (number ∷ numbers) = AllByRecursion (λ other. number < other) numbers × AreRising numbers
-
 -- a space has these numbers, and every other one the same as before
 abbrev pub Puts : NumberLists → NumberLists → ℕ → List ℕ → Type 0
 Puts old new space numbers = (other : ℕ) → numbers_of new other ≡ (if other == space then numbers else numbers_of old other)

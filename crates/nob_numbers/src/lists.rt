@@ -19,7 +19,7 @@ pub fn make_lists(alloc: Global, lists: &mut Vec<Slots<()>>) -> Result<(), Alloc
     ensures all { OnOk result (33 ≤ length lists.new.items) }
     ensures same { 33 ≤ length lists.old.items → lists.new.items ≡ lists.old.items }
 {
-    while lists.len() < LISTS {
+    for _made in lists.len()..LISTS {
         lists.push(Slots::new(alloc))?;
     }
     Ok(())

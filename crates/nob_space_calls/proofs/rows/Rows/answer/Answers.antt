@@ -1,34 +1,28 @@
-use Rattle.std.proofs.Common.{◌≡◌, List, map, find, sym, ap, subst, ◌∙◌, arith}
-use lib.ListN.{set}
-use Rattle.std.proofs.lemmas.Option.{slice_get_within}
-use Rattle.nob_model_work.specs.declared.work.OwnCall.{OwnCall}
-use Rattle.nob_model_work.specs.Work.{is_call, call_after_reply}
-use Rattle.nob_space_calls.specs.Rows.{AreRising}
-use Rattle.nob_space_calls.proofs.Rising.{place_in, none_answered, answered_at, rising_answered}
+use Rattle.std.proofs.Common.{◌≡◌, sym, ap, subst, ◌∙◌}
+use Rattle.std.specs.Map.{set_value}
+use Rattle.nob_model_work.specs.Work.{call_after_reply}
+use Rattle.nob_slots.specs.Slots.{is_number}
+use Rattle.nob_space_calls.specs.Rows.{calls_in, changed_at, AreRows}
+use Rattle.nob_space_calls.proofs.Numbered.{none_answered, changed_some, calls_answered, are_answered}
 use Rattle.nob_space_calls.proofs.rows.Rows.answer.Goals as goal
 
 pub returns-in_default-clause-calls : goal.returns-in_default-clause-calls
-returns-in_default-clause-calls c =
-    rw (← c.self.view_is) (none_answered c.self.inside.calls.items c.args.call (ap (find (is_call c.args.call)) (sym c.deref.ensures.value) ∙ c.in_default.ensures) c.args.peer)
-
-pub index-requires : goal.index-requires
-index-requires c =
-    let is = place_in c.deref.result.now c.self.inside.calls.items c.args.call c.in-Some.place c.deref.ensures.value c.in-Some.ensures in
-    omega (arith, slice_get_within c.self.inside.calls.items c.in-Some.place is.own is.there, c.self.inside.calls.ok.0)
-
-pub index_mut-requires : goal.index_mut-requires
-index_mut-requires c =
-    let is = place_in c.deref.result.now c.self.inside.calls.items c.args.call c.in-Some.place c.deref.ensures.value c.in-Some.ensures in
-    omega (arith, slice_get_within c.self.inside.calls.items c.in-Some.place is.own is.there, c.self.inside.calls.ok.0)
+returns-in_default-clause-calls c = rw (← c.self.view_is) (none_answered c.args.peer c.args.call c.self.inside.calls.rows c.self.invariant.numbered (sym c.own_at.ensures ∙ c.in_default.is))
 
 pub invariant_of-self : goal.invariant_of-self
 invariant_of-self c =
-    let is = place_in c.deref.result.now c.self.inside.calls.items c.args.call c.in-Some.place c.deref.ensures.value c.in-Some.ensures in
-    let done : set c.self.inside.calls.items c.in-Some.place c.after_reply.result ≡ map (call_after_reply c.args.peer c.args.call) c.self.inside.calls.items =
-    ap (λ (one : OwnCall). set c.self.inside.calls.items c.in-Some.place one) c.after_reply.ensures ∙ answered_at c.self.inside.calls.items c.args.call c.in-Some.place c.self.invariant is c.args.peer c.index.result.now c.index.ensures in
-    subst (λ (cs : List OwnCall). AreRising cs) (sym done) (rising_answered c.args.peer c.args.call c.self.inside.calls.items c.self.invariant)
+    let rows = c.self.inside.calls.rows in
+    let change = call_after_reply c.args.peer c.args.call in
+    let done : c.set-own.new.self.rows ≡ changed_at change c.args.call rows =
+    c.set-own.ensures.rows ∙ ap (λ n. set_value (is_number n) rows c.after_reply-answered.result) c.get.ensures ∙ ap (set_value (is_number c.args.call) rows) c.after_reply-answered.ensures
+    ∙ changed_some change c.args.call c.in-Some.own rows (sym c.own_at.ensures ∙ c.in-Some.is) in
+    subst (λ rs. AreRows rs c.self.inside.to) (sym done) (are_answered rows c.self.inside.to c.self.invariant c.args.peer c.args.call)
 
 pub returns-clause-calls : goal.returns-clause-calls
 returns-clause-calls c =
-    let is = place_in c.deref.result.now c.self.inside.calls.items c.args.call c.in-Some.place c.deref.ensures.value c.in-Some.ensures in
-    rw (← c.self.view_is) (ap (λ (one : OwnCall). set c.self.inside.calls.items c.in-Some.place one) c.after_reply.ensures ∙ answered_at c.self.inside.calls.items c.args.call c.in-Some.place c.self.invariant is c.args.peer c.index.result.now c.index.ensures)
+    let rows = c.self.inside.calls.rows in
+    let change = call_after_reply c.args.peer c.args.call in
+    let done : c.set-own.new.self.rows ≡ changed_at change c.args.call rows =
+    c.set-own.ensures.rows ∙ ap (λ n. set_value (is_number n) rows c.after_reply-answered.result) c.get.ensures ∙ ap (set_value (is_number c.args.call) rows) c.after_reply-answered.ensures
+    ∙ changed_some change c.args.call c.in-Some.own rows (sym c.own_at.ensures ∙ c.in-Some.is) in
+    rw (← c.self.view_is) (ap calls_in done ∙ calls_answered c.args.peer c.args.call rows c.self.invariant.rising c.self.invariant.numbered)
