@@ -1,4 +1,4 @@
-use Rattle.std.proofs.Common.{◌≡◌, Some, option_copied, sym, ap, ◌∙◌}
+use Rattle.std.proofs.Common.{option_copied, sym, ap, ◌∙◌}
 use Rattle.std.specs.Map.{set_value}
 use Rattle.nob_model_work.specs.Work.{call_after_close}
 use Rattle.nob_slots.specs.Slots.{is_number}

@@ -1,4 +1,4 @@
-use Rattle.std.proofs.Common.{◌≡◌, not, filter, sym, ap, ◌∙◌}
+use Rattle.std.proofs.Common.{not, filter, sym, ap, ◌∙◌}
 use Rattle.nob_model_work.specs.Work.{is_call}
 use Rattle.nob_space_calls.specs.Rows.{calls_in}
 use Rattle.nob_space_calls.proofs.Numbered.{are_unchanged, are_removed, calls_removed}
@@ -10,7 +10,7 @@ invariant_of-self c = are_unchanged c.self.inside.calls.rows c.self.inside.to c.
 pub returns-in_default-clause-calls : goal.returns-in_default-clause-calls
 returns-in_default-clause-calls c =
     rw (← c.self.view_is) (ap calls_in c.take.ensures.rows ∙ calls_removed c.get-number.result c.self.inside.calls.rows c.self.invariant.rising c.self.invariant.numbered
-        ∙ ap (λ n. filter (λ own. not (is_call n own)) (calls_in c.self.inside.calls.rows)) c.get-number.ensures)
+    ∙ ap (λ n. filter (λ own. not (is_call n own)) (calls_in c.self.inside.calls.rows)) c.get-number.ensures)
 
 pub invariant_of-self-2 : goal.invariant_of-self-2
 invariant_of-self-2 c =
@@ -19,4 +19,4 @@ invariant_of-self-2 c =
 pub returns-clause-calls : goal.returns-clause-calls
 returns-clause-calls c =
     rw (← c.self.view_is) (ap calls_in c.take.ensures.rows ∙ calls_removed c.get-number.result c.self.inside.calls.rows c.self.invariant.rising c.self.invariant.numbered
-        ∙ ap (λ n. filter (λ own. not (is_call n own)) (calls_in c.self.inside.calls.rows)) c.get-number.ensures)
+    ∙ ap (λ n. filter (λ own. not (is_call n own)) (calls_in c.self.inside.calls.rows)) c.get-number.ensures)
