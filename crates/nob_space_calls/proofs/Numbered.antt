@@ -1,5 +1,6 @@
 -- Calls under their numbers: what a look-up finds, and what a change of one makes of all.
-use Rattle.std.proofs.Common.{◌≡◌, ℕ, ◌<◌, Bool, true, false, not, ◌&&◌, ◌||◌, ◌==◌, cond, List, [], ◌∷◌, ◌++◌, map, filter, find, Some, None, refl, sym, ap, subst, ◌∙◌, eqb-true, if◌then◌else◌}
+use mathlib.Core.List.{append-nil}
+use Rattle.std.proofs.Common.{◌≡◌, ℕ, ◌<◌, Bool, true, false, not, ◌&&◌, ◌||◌, ◌==◌, cond, List, [], ◌∷◌, ◌++◌, map, filter, find, Option, Some, None, refl, sym, ap, subst, ◌∙◌, eqb-true, if◌then◌else◌}
 use Rattle.std.proofs.lemmas.Cmp.{nat_eq_equiv}
 use Rattle.std.proofs.lemmas.Option.{none-some, same_Some}
 use Rattle.std.specs.List.{AllByRecursion, list_any}
@@ -35,14 +36,6 @@ pub item_found : (k : ℕ) (rows : List Row) → AreNumbered rows → item_at ro
 item_found k [] all = refl
 item_found k (row ∷ rows) all = λ i. cond (sym (is_own k row all.0) i) (Some row.1) (item_found k rows all.1 i)
 
-pub none_awaited : (p k : ℕ) (rows : List Row) → AreNumbered rows → item_at rows k ≡ None → false ≡ list_any (awaits_reply p k) (calls_in rows)
-none_awaited p k [] all none = refl
-none_awaited p k (row ∷ rows) all none =
-    elim (is_number k row.0) as (λ b. is_number k row.0 ≡ b → cond b (Some row.1) (item_at rows k) ≡ None → false ≡ list_any (awaits_reply p k) (calls_in (row ∷ rows))) [
-      | true ↦ λ t e. absurd (none-some row.1 (sym e))
-      | false ↦ λ u e. rw (is_own k row all.0 ∙ u) (none_awaited p k rows all.1 e)
-    ] refl none
-
 -- where all numbers are above
 none_above : (k : ℕ) (rows : List Row) → AllByRecursion (λ row. k < row.0) rows → item_at rows k ≡ None
 none_above k [] above = refl
@@ -52,15 +45,19 @@ none_above k (row ∷ rows) above = rw (lower_apart k row.0 above.0) (none_above
 behind : (k : ℕ) (row : Row) (rows : List Row) → is_number k row.0 ≡ true → AllByRecursion (λ other. row.0 < other.0) rows → AllByRecursion (λ other. k < other.0) rows
 behind k row rows is all = subst (λ (n : ℕ). AllByRecursion (λ other. n < other.0) rows) (sym (eqb-true k row.0 is)) all
 
-pub some_awaited : (p k : ℕ) (own : OwnCall) (rows : List Row) → IsRising rows → AreNumbered rows → item_at rows k ≡ Some own → awaits_reply p k own ≡ list_any (awaits_reply p k) (calls_in rows)
-some_awaited p k own [] rise all some = absurd (none-some own some)
-some_awaited p k own (row ∷ rows) rise all some =
-    elim (is_number k row.0) as (λ b. is_number k row.0 ≡ b → cond b (Some row.1) (item_at rows k) ≡ Some own → awaits_reply p k own ≡ list_any (awaits_reply p k) (calls_in (row ∷ rows))) [
-      | true ↦ λ t e.
-          let none : false ≡ list_any (awaits_reply p k) (calls_in rows) = none_awaited p k rows all.1 (none_above k rows (behind k row rows t rise.0)) in
-          ap (awaits_reply p k) (sym (same_Some row.1 own e)) ∙ plain (awaits_reply p k row.1) ∙ ap (λ (b : Bool). awaits_reply p k row.1 || b) none
-      | false ↦ λ u e. rw (is_own k row all.0 ∙ u) (some_awaited p k own rows rise.1 all.1 e)
-    ] refl some
+-- whether the call that a look-up found waits for its Reply
+abbrev pub is_awaited : ℕ → ℕ → Option OwnCall → Bool
+is_awaited p k None = false
+is_awaited p k (Some own) = awaits_reply p k own
+
+pub item_awaited : (p k : ℕ) (rows : List Row) → IsRising rows → AreNumbered rows → is_awaited p k (item_at rows k) ≡ list_any (awaits_reply p k) (calls_in rows)
+item_awaited p k [] rise all = refl
+item_awaited p k (row ∷ rows) rise all =
+    let rest : is_awaited p k (item_at rows k) ≡ list_any (awaits_reply p k) (calls_in rows) = item_awaited p k rows rise.1 all.1 in
+    elim (is_number k row.0) as (λ b. is_number k row.0 ≡ b → is_awaited p k (cond b (Some row.1) (item_at rows k)) ≡ list_any (awaits_reply p k) (calls_in (row ∷ rows))) [
+      | true ↦ λ t. plain (awaits_reply p k row.1) ∙ ap (λ (b : Bool). awaits_reply p k row.1 || b) (ap (is_awaited p k) (sym (none_above k rows (behind k row rows t rise.0))) ∙ rest)
+      | false ↦ λ u. rw (is_own k row all.0 ∙ u) rest
+    ] refl
   where
     plain : (b : Bool) → b ≡ (b || false)
     plain true = refl
@@ -87,56 +84,48 @@ none_taken p k (row ∷ rows) above =
       | false ↦ none_taken p k rows above.1
     ]
 
-numbers_removed : (p k : ℕ) (own : OwnCall) (rows : List Row) → IsRising rows → item_at rows k ≡ Some own
-    → (if p == own.to then filter (λ other. not (k == other)) (numbers_to p rows) else numbers_to p rows) ≡ numbers_to p (remove_entry (is_number k) rows)
-numbers_removed p k own [] rise some = absurd (none-some own some)
-numbers_removed p k own (row ∷ rows) rise some =
-    elim (is_number k row.0) as (λ b. is_number k row.0 ≡ b → cond b (Some row.1) (item_at rows k) ≡ Some own
-    → (if p == own.to then filter (λ other. not (k == other)) (numbers_to p (row ∷ rows)) else numbers_to p (row ∷ rows)) ≡ numbers_to p (cond b rows (row ∷ remove_entry (is_number k) rows))) [
-      | true ↦ λ t e. subst (λ (w : OwnCall). (if p == w.to then filter (λ other. not (k == other)) (numbers_to p (row ∷ rows)) else numbers_to p (row ∷ rows)) ≡ numbers_to p rows) (same_Some row.1 own e)
-          (elim (p == row.1.to) as (λ c. (if c then filter (λ other. not (k == other)) (if c then row.0 ∷ numbers_to p rows else numbers_to p rows) else (if c then row.0 ∷ numbers_to p rows else numbers_to p rows)) ≡ numbers_to p rows) [
-            | true ↦ rw t (sym (none_taken p k rows (behind k row rows t rise.0)))
-            | false ↦ refl
-          ])
-      | false ↦ λ u e.
-          let rest = numbers_removed p k own rows rise.1 e in
+numbers_taken : (p k : ℕ) (rows : List Row) → IsRising rows → filter (λ other. not (k == other)) (numbers_to p rows) ≡ numbers_to p (remove_entry (is_number k) rows)
+numbers_taken p k [] rise = refl
+numbers_taken p k (row ∷ rows) rise =
+    let rest : filter (λ other. not (k == other)) (numbers_to p rows) ≡ numbers_to p (remove_entry (is_number k) rows) = numbers_taken p k rows rise.1 in
+    elim (is_number k row.0) as (λ b. is_number k row.0 ≡ b → filter (λ other. not (k == other)) (numbers_to p (row ∷ rows)) ≡ numbers_to p (cond b rows (row ∷ remove_entry (is_number k) rows))) [
+      | true ↦ λ t.
+          let none : filter (λ other. not (k == other)) (numbers_to p rows) ≡ numbers_to p rows = sym (none_taken p k rows (behind k row rows t rise.0)) in
+          elim (p == row.1.to) as (λ c. filter (λ other. not (k == other)) (if c then row.0 ∷ numbers_to p rows else numbers_to p rows) ≡ numbers_to p rows) [ true ↦ rw t none | false ↦ none ]
+      | false ↦ λ u.
           let left = numbers_to p (remove_entry (is_number k) rows) in
-          elim (p == row.1.to) as (λ c. (if p == own.to then filter (λ other. not (k == other)) (if c then row.0 ∷ numbers_to p rows else numbers_to p rows) else (if c then row.0 ∷ numbers_to p rows else numbers_to p rows)) ≡ (if c then row.0 ∷ left else left)) [
-            | true ↦ elim (p == own.to) as (λ d. (if d then filter (λ other. not (k == other)) (numbers_to p rows) else numbers_to p rows) ≡ left → (if d then filter (λ other. not (k == other)) (row.0 ∷ numbers_to p rows) else row.0 ∷ numbers_to p rows) ≡ row.0 ∷ left) [
-              | true ↦ λ h. rw u (ap (λ (ns : List ℕ). row.0 ∷ ns) h)
-              | false ↦ λ h. ap (λ (ns : List ℕ). row.0 ∷ ns) h
-            ] rest
-            | false ↦ rest
-          ]
-    ] refl some
+          elim (p == row.1.to) as (λ c. filter (λ other. not (k == other)) (if c then row.0 ∷ numbers_to p rows else numbers_to p rows) ≡ (if c then row.0 ∷ left else left)) [ true ↦ rw u (ap (λ (ns : List ℕ). row.0 ∷ ns) rest) | false ↦ rest ]
+    ] refl
 
-all_removed : (P : Row → Type 0) (k : ℕ) (rows : List Row) → AllByRecursion P rows → AllByRecursion P (remove_entry (is_number k) rows)
-all_removed P k [] all = tt
-all_removed P k (row ∷ rows) all = elim (is_number k row.0) as (λ b. AllByRecursion P (cond b rows (row ∷ remove_entry (is_number k) rows))) [ true ↦ all.1 | false ↦ (all.0, all_removed P k rows all.1) ]
+numbers_left : (p k : ℕ) (own : OwnCall) → (p == own.to) ≡ false → (rows : List Row) → item_at rows k ≡ Some own → numbers_to p rows ≡ numbers_to p (remove_entry (is_number k) rows)
+numbers_left p k own other [] some = absurd (none-some own some)
+numbers_left p k own other (row ∷ rows) some =
+    elim (is_number k row.0) as (λ b. cond b (Some row.1) (item_at rows k) ≡ Some own → numbers_to p (row ∷ rows) ≡ numbers_to p (cond b rows (row ∷ remove_entry (is_number k) rows))) [
+      | true ↦ λ e. ap (λ (b : Bool). if b then row.0 ∷ numbers_to p rows else numbers_to p rows) (ap (λ (w : OwnCall). p == w.to) (same_Some row.1 own e) ∙ other)
+      | false ↦ λ e. ap (λ (ns : List ℕ). if p == row.1.to then row.0 ∷ ns else ns) (numbers_left p k own other rows e)
+    ] some
 
-rising_removed : (k : ℕ) (rows : List Row) → IsRising rows → IsRising (remove_entry (is_number k) rows)
-rising_removed k [] rise = tt
-rising_removed k (row ∷ rows) rise = elim (is_number k row.0) as (λ b. IsRising (cond b rows (row ∷ remove_entry (is_number k) rows))) [
-  | true ↦ rise.1
-  | false ↦ (all_removed (λ other. row.0 < other.0) k rows rise.0, rising_removed k rows rise.1)
-]
+-- of any items under numbers
+module _ {X : Type 0} where
+  pub all_removed : (P : ℕ × X → Type 0) (k : ℕ) (rows : List (ℕ × X)) → AllByRecursion P rows → AllByRecursion P (remove_entry (is_number k) rows)
+  all_removed P k [] all = tt
+  all_removed P k (row ∷ rows) all = elim (is_number k row.0) as (λ b. AllByRecursion P (cond b rows (row ∷ remove_entry (is_number k) rows))) [ true ↦ all.1 | false ↦ (all.0, all_removed P k rows all.1) ]
+
+  pub rising_removed : (k : ℕ) (rows : List (ℕ × X)) → IsRising rows → IsRising (remove_entry (is_number k) rows)
+  rising_removed k [] rise = tt
+  rising_removed k (row ∷ rows) rise =
+      elim (is_number k row.0) as (λ b. IsRising (cond b rows (row ∷ remove_entry (is_number k) rows))) [ true ↦ rise.1 | false ↦ (all_removed (λ other. row.0 < other.0) k rows rise.0, rising_removed k rows rise.1) ]
 
 -- ---- one more
 pub calls_push : (rows : List Row) (row : Row) → calls_in (rows ++ row ∷ []) ≡ calls_in rows ++ row.1 ∷ []
 calls_push [] row = refl
 calls_push (x ∷ rows) row = ap (λ (cs : List OwnCall). x.1 ∷ cs) (calls_push rows row)
 
-numbers_push : (p : ℕ) (rows : List Row) (row : Row) → (if p == row.1.to then numbers_to p rows ++ row.0 ∷ [] else numbers_to p rows) ≡ numbers_to p (rows ++ row ∷ [])
-numbers_push p [] row = refl
-numbers_push p (x ∷ rows) row =
-    let more = numbers_to p (rows ++ row ∷ []) in
-    elim (p == x.1.to) as (λ c. (if p == row.1.to then (if c then x.0 ∷ numbers_to p rows else numbers_to p rows) ++ row.0 ∷ [] else (if c then x.0 ∷ numbers_to p rows else numbers_to p rows)) ≡ (if c then x.0 ∷ more else more)) [
-      | true ↦ elim (p == row.1.to) as (λ d. (if d then numbers_to p rows ++ row.0 ∷ [] else numbers_to p rows) ≡ more → (if d then x.0 ∷ (numbers_to p rows ++ row.0 ∷ []) else x.0 ∷ numbers_to p rows) ≡ x.0 ∷ more) [
-        | true ↦ λ h. ap (λ (ns : List ℕ). x.0 ∷ ns) h
-        | false ↦ λ h. ap (λ (ns : List ℕ). x.0 ∷ ns) h
-      ] (numbers_push p rows row)
-      | false ↦ numbers_push p rows row
-    ]
+numbers_push : (p : ℕ) (row : Row) (rows : List Row) → numbers_to p (rows ++ row ∷ []) ≡ numbers_to p rows ++ numbers_to p (row ∷ [])
+numbers_push p row [] = refl
+numbers_push p row (x ∷ rows) =
+    let rest : numbers_to p (rows ++ row ∷ []) ≡ numbers_to p rows ++ numbers_to p (row ∷ []) = numbers_push p row rows in
+    elim (p == x.1.to) as (λ b. (if b then x.0 ∷ numbers_to p (rows ++ row ∷ []) else numbers_to p (rows ++ row ∷ [])) ≡ (if b then x.0 ∷ numbers_to p rows else numbers_to p rows) ++ numbers_to p (row ∷ [])) [ true ↦ ap (λ (ns : List ℕ). x.0 ∷ ns) rest | false ↦ rest ]
 
 pub above_rows : (n : ℕ) (rows : List Row) → AreNumbered rows → IsAbove (calls_in rows) n → slots.IsAbove rows n
 above_rows n [] all above = tt
@@ -228,19 +217,15 @@ reply_to : (p k : ℕ) (own : OwnCall) → (call_after_reply p k own).to ≡ own
 unfolding call_after_reply
 reply_to p k own = refl
 
-pub none_answered : (p k : ℕ) (rows : List Row) → AreNumbered rows → item_at rows k ≡ None → calls_in rows ≡ map (call_after_reply p k) (calls_in rows)
-none_answered p k [] all none = refl
-none_answered p k (row ∷ rows) all none =
-    elim (is_number k row.0) as (λ b. is_number k row.0 ≡ b → cond b (Some row.1) (item_at rows k) ≡ None → calls_in (row ∷ rows) ≡ map (call_after_reply p k) (calls_in (row ∷ rows))) [
-      | true ↦ λ t e. absurd (none-some row.1 (sym e))
-      | false ↦ λ u e. let here = other_stays p k row.1 (is_own k row all.0 ∙ u) in let rest = none_answered p k rows all.1 e in λ i. here i ∷ rest i
-    ] refl none
+none_answered : (p k : ℕ) (rows : List Row) → AreNumbered rows → AllByRecursion (λ row. k < row.0) rows → calls_in rows ≡ map (call_after_reply p k) (calls_in rows)
+none_answered p k [] all above = refl
+none_answered p k (row ∷ rows) all above = λ i. other_stays p k row.1 (is_own k row all.0 ∙ lower_apart k row.0 above.0) i ∷ none_answered p k rows all.1 above.1 i
 
 pub calls_answered : (p k : ℕ) (rows : List Row) → IsRising rows → AreNumbered rows → calls_in (changed_at (call_after_reply p k) k rows) ≡ map (call_after_reply p k) (calls_in rows)
 calls_answered p k [] rise all = refl
 calls_answered p k (row ∷ rows) rise all =
     elim (is_number k row.0) as (λ b. is_number k row.0 ≡ b → calls_in (if b then (row.0, call_after_reply p k row.1) ∷ rows else row ∷ changed_at (call_after_reply p k) k rows) ≡ map (call_after_reply p k) (calls_in (row ∷ rows))) [
-      | true ↦ λ t. ap (λ (cs : List OwnCall). call_after_reply p k row.1 ∷ cs) (none_answered p k rows all.1 (none_above k rows (behind k row rows t rise.0)))
+      | true ↦ λ t. ap (λ (cs : List OwnCall). call_after_reply p k row.1 ∷ cs) (none_answered p k rows all.1 (behind k row rows t rise.0))
       | false ↦ λ u. let here = other_stays p k row.1 (is_own k row all.0 ∙ u) in let rest = calls_answered p k rows rise.1 all.1 in λ i. here i ∷ rest i
     ] refl
 
@@ -295,14 +280,19 @@ module _ (rows : List Row) (to : NumberLists) (are : AreRows rows to) where
   are_push own rows' to' above pushed puts = subst (λ (rs : List Row). AreRows rs to') (sym pushed) (record {
     rising = rising_push rows (own.call, own) are.rising (above_rows own.call rows are.numbered above);
     numbered = numbered_push rows (own.call, own) are.numbered refl;
-    listed = λ p. puts p ∙ puts_listed (λ ns. ns ++ own.call ∷ []) p own.to ∙ numbers_push p rows (own.call, own);
+    listed = λ p.
+        puts p ∙ puts_listed (λ ns. ns ++ own.call ∷ []) p own.to
+        ∙ elim (p == own.to) as (λ b. (if b then numbers_to p rows ++ own.call ∷ [] else numbers_to p rows) ≡ numbers_to p rows ++ (if b then own.call ∷ [] else [])) [ true ↦ refl | false ↦ sym (append-nil (numbers_to p rows)) ]
+        ∙ sym (numbers_push p (own.call, own) rows);
   })
 
   pub are_removed : (k : ℕ) (own : OwnCall) (rows' : List Row) (to' : NumberLists) → item_at rows k ≡ Some own → rows' ≡ remove_entry (is_number k) rows → Puts to to' own.to (filter (λ other. not (k == other)) (numbers_of to own.to)) → AreRows rows' to'
   are_removed k own rows' to' some removed puts = subst (λ (rs : List Row). AreRows rs to') (sym removed) (record {
     rising = rising_removed k rows are.rising;
     numbered = all_removed (λ row. row.1.call ≡ row.0) k rows are.numbered;
-    listed = λ p. puts p ∙ puts_listed (λ ns. filter (λ other. not (k == other)) ns) p own.to ∙ numbers_removed p k own rows are.rising some;
+    listed = λ p.
+        puts p ∙ puts_listed (filter (λ other. not (k == other))) p own.to
+        ∙ elim (p == own.to) as (λ b. (p == own.to) ≡ b → (if b then filter (λ other. not (k == other)) (numbers_to p rows) else numbers_to p rows) ≡ numbers_to p (remove_entry (is_number k) rows)) [ true ↦ λ t. numbers_taken p k rows are.rising | false ↦ λ u. numbers_left p k own u rows some ] refl;
   })
 
   pub are_unchanged : (k : ℕ) (rows' : List Row) → item_at rows k ≡ None → rows' ≡ remove_entry (is_number k) rows → AreRows rows' to

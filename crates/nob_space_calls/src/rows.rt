@@ -86,6 +86,19 @@ fn after_reply(own: &OwnCall, from: SpaceId, call: CallNo) -> OwnCall
     }
 }
 
+// Answers the call of this number, if it is there, was made to a space and waits for its Reply.
+// Logarithmic in the calls.
+fn answer_call(peer: SpaceId, calls: &mut Slots<OwnCall>, call: CallNo)
+    ensures rows { calls.new.rows ≡ changed_at (call_after_reply peer call) call calls.old.rows }
+    ensures room { calls.new.room ≡ calls.old.room }
+{
+    let Some(own) = own_at(calls, call) else {
+        return;
+    };
+    let answered = after_reply(&own, peer, call);
+    let _own = calls.set(call.get(), answered);
+}
+
 // A call after the closing of the session with a space: it ends if it was made to the space and has
 // no ready reply.
 #[tactic(auto, unfolding(nob_model_work::specs::Work::call_after_close))]
@@ -205,11 +218,7 @@ impl Rows {
         ensures calls { self.new.calls ≡ map (call_after_reply peer call) self.old.calls }
         ensures room { self.new.room ≡ self.old.room }
     {
-        let Some(own) = own_at(&self.calls, call) else {
-            return;
-        };
-        let answered = after_reply(&own, peer, call);
-        let _own = self.calls.set(call.get(), answered);
+        answer_call(peer, &mut self.calls, call);
     }
 
     // The session with a space closes: the calls to it that have no ready reply end.
