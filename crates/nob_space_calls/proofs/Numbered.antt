@@ -11,7 +11,7 @@ use Rattle.nob_model_work.specs.declared.work.Stage.{Stage}
 use Rattle.nob_model_work.specs.declared.work.Stage.TheVariants.{Sent, Answered, Ended}
 use Rattle.nob_model_work.specs.Work.{is_call, stage_after_reply, call_after_reply, call_after_close, is_reply_from}
 use Rattle.nob_model_words.specs.declared.message.Message.{Message}
-use Rattle.nob_numbers.specs.Numbers.{NumberLists, numbers_of, IsAboveAll, Puts, SameNumbers}
+use Rattle.nob_numbers.specs.Numbers.{NumberLists, numbers_of, IsAboveAll, Puts}
 use Rattle.nob_slots.proofs.Numbers.{lower_differs, differs_turned, absent_entry}
 use Rattle.nob_slots.proofs.Rising.{rising_push}
 use Rattle.nob_slots.specs.Slots as slots
@@ -76,13 +76,13 @@ calls_removed k (row ∷ rows) rise all =
       | false ↦ λ u. rw (is_own k row all.0 ∙ u) (ap (λ (cs : List OwnCall). row.1 ∷ cs) (calls_removed k rows rise.1 all.1))
     ] refl
 
-none_taken : (p k : ℕ) (rows : List Row) → AllByRecursion (λ row. k < row.0) rows → numbers_to p rows ≡ filter (λ other. not (k == other)) (numbers_to p rows)
-none_taken p k [] above = refl
-none_taken p k (row ∷ rows) above =
-    elim (p == row.1.to) as (λ b. (if b then row.0 ∷ numbers_to p rows else numbers_to p rows) ≡ filter (λ other. not (k == other)) (if b then row.0 ∷ numbers_to p rows else numbers_to p rows)) [
-      | true ↦ rw (lower_apart k row.0 above.0) (ap (λ (ns : List ℕ). row.0 ∷ ns) (none_taken p k rows above.1))
-      | false ↦ none_taken p k rows above.1
-    ]
+all_numbers : (P : ℕ → Type 0) (p : ℕ) (rows : List Row) → AllByRecursion (λ row. P row.0) rows → AllByRecursion P (numbers_to p rows)
+all_numbers P p [] all = tt
+all_numbers P p (row ∷ rows) all = elim (p == row.1.to) as (λ b. AllByRecursion P (if b then row.0 ∷ numbers_to p rows else numbers_to p rows)) [ true ↦ (all.0, all_numbers P p rows all.1) | false ↦ all_numbers P p rows all.1 ]
+
+none_taken : (k : ℕ) (ns : List ℕ) → AllByRecursion (λ n. k < n) ns → filter (λ other. not (k == other)) ns ≡ ns
+none_taken k [] above = refl
+none_taken k (n ∷ ns) above = rw (lower_apart k n above.0) (ap (λ (ms : List ℕ). n ∷ ms) (none_taken k ns above.1))
 
 numbers_taken : (p k : ℕ) (rows : List Row) → IsRising rows → filter (λ other. not (k == other)) (numbers_to p rows) ≡ numbers_to p (remove_entry (is_number k) rows)
 numbers_taken p k [] rise = refl
@@ -90,7 +90,7 @@ numbers_taken p k (row ∷ rows) rise =
     let rest : filter (λ other. not (k == other)) (numbers_to p rows) ≡ numbers_to p (remove_entry (is_number k) rows) = numbers_taken p k rows rise.1 in
     elim (is_number k row.0) as (λ b. is_number k row.0 ≡ b → filter (λ other. not (k == other)) (numbers_to p (row ∷ rows)) ≡ numbers_to p (cond b rows (row ∷ remove_entry (is_number k) rows))) [
       | true ↦ λ t.
-          let none : filter (λ other. not (k == other)) (numbers_to p rows) ≡ numbers_to p rows = sym (none_taken p k rows (behind k row rows t rise.0)) in
+          let none : filter (λ other. not (k == other)) (numbers_to p rows) ≡ numbers_to p rows = none_taken k (numbers_to p rows) (all_numbers (λ n. k < n) p rows (behind k row rows t rise.0)) in
           elim (p == row.1.to) as (λ c. filter (λ other. not (k == other)) (if c then row.0 ∷ numbers_to p rows else numbers_to p rows) ≡ numbers_to p rows) [ true ↦ rw t none | false ↦ none ]
       | false ↦ λ u.
           let left = numbers_to p (remove_entry (is_number k) rows) in
@@ -117,10 +117,6 @@ module _ {X : Type 0} where
       elim (is_number k row.0) as (λ b. IsRising (cond b rows (row ∷ remove_entry (is_number k) rows))) [ true ↦ rise.1 | false ↦ (all_removed (λ other. row.0 < other.0) k rows rise.0, rising_removed k rows rise.1) ]
 
 -- ---- one more
-pub calls_push : (rows : List Row) (row : Row) → calls_in (rows ++ row ∷ []) ≡ calls_in rows ++ row.1 ∷ []
-calls_push [] row = refl
-calls_push (x ∷ rows) row = ap (λ (cs : List OwnCall). x.1 ∷ cs) (calls_push rows row)
-
 numbers_push : (p : ℕ) (row : Row) (rows : List Row) → numbers_to p (rows ++ row ∷ []) ≡ numbers_to p rows ++ numbers_to p (row ∷ [])
 numbers_push p row [] = refl
 numbers_push p row (x ∷ rows) =
@@ -130,10 +126,6 @@ numbers_push p row (x ∷ rows) =
 pub above_rows : (n : ℕ) (rows : List Row) → AreNumbered rows → IsAbove (calls_in rows) n → slots.IsAbove rows n
 above_rows n [] all above = tt
 above_rows n (row ∷ rows) all above = (subst (λ (k : ℕ). k < n) all.0 above.0, above_rows n rows all.1 above.1)
-
-above_numbers : (p n : ℕ) (rows : List Row) → slots.IsAbove rows n → IsAboveAll (numbers_to p rows) n
-above_numbers p n [] above = tt
-above_numbers p n (row ∷ rows) above = elim (p == row.1.to) as (λ b. IsAboveAll (if b then row.0 ∷ numbers_to p rows else numbers_to p rows) n) [ true ↦ (above.0, above_numbers p n rows above.1) | false ↦ above_numbers p n rows above.1 ]
 
 numbered_push : (rows : List Row) (row : Row) → AreNumbered rows → row.1.call ≡ row.0 → AreNumbered (rows ++ row ∷ [])
 numbered_push [] row all here = (here, tt)
@@ -244,15 +236,11 @@ close_to : (p : ℕ) (replies : List Message) (own : OwnCall) → (call_after_cl
 unfolding call_after_close
 close_to p replies own = refl
 
-numbers_above : (p n : ℕ) (rows : List Row) → AllByRecursion (λ row. n < row.0) rows → AllByRecursion (λ k. n < k) (numbers_to p rows)
-numbers_above p n [] above = tt
-numbers_above p n (row ∷ rows) above = elim (p == row.1.to) as (λ b. AllByRecursion (λ k. n < k) (if b then row.0 ∷ numbers_to p rows else numbers_to p rows)) [ true ↦ (above.0, numbers_above p n rows above.1) | false ↦ numbers_above p n rows above.1 ]
-
 pub calls_closed : (p : ℕ) (replies : List Message) (rows : List Row) → IsRising rows → calls_in (changed (call_after_close p replies) (numbers_to p rows) rows) ≡ map (call_after_close p replies) (calls_in rows)
 calls_closed p replies [] rise = refl
 calls_closed p replies (row ∷ rows) rise =
     let change = call_after_close p replies in
-    let above = numbers_above p row.0 rows rise.0 in
+    let above = all_numbers (λ k. row.0 < k) p rows rise.0 in
     let rest = calls_closed p replies rows rise.1 in
     elim (p == row.1.to) as (λ b. (p == row.1.to) ≡ b → calls_in (changed change (if b then row.0 ∷ numbers_to p rows else numbers_to p rows) (row ∷ rows)) ≡ map change (calls_in (row ∷ rows))) [
       | true ↦ λ t.
@@ -270,11 +258,8 @@ module _ (rows : List Row) (to : NumberLists) (are : AreRows rows to) where
     | false ↦ λ u. are.listed p
   ] refl
 
-  pub are_same : (rows' : List Row) (to' : NumberLists) → rows' ≡ rows → SameNumbers to to' → AreRows rows' to'
-  are_same rows' to' same listed = subst (λ (rs : List Row). AreRows rs to') (sym same) (record { rising = are.rising; numbered = are.numbered; listed = λ p. listed p ∙ are.listed p })
-
   pub above_listed : (p n : ℕ) → IsAbove (calls_in rows) n → IsAboveAll (numbers_of to p) n
-  above_listed p n above = subst (λ (ns : List ℕ). IsAboveAll ns n) (sym (are.listed p)) (above_numbers p n rows (above_rows n rows are.numbered above))
+  above_listed p n above = subst (λ (ns : List ℕ). IsAboveAll ns n) (sym (are.listed p)) (all_numbers (λ k. k < n) p rows (above_rows n rows are.numbered above))
 
   pub are_push : (own : OwnCall) (rows' : List Row) (to' : NumberLists) → IsAbove (calls_in rows) own.call → rows' ≡ rows ++ (own.call, own) ∷ [] → Puts to to' own.to (numbers_of to own.to ++ own.call ∷ []) → AreRows rows' to'
   are_push own rows' to' above pushed puts = subst (λ (rs : List Row). AreRows rs to') (sym pushed) (record {
