@@ -1,2 +1,2 @@
-pub mod Rising
+pub mod Numbered
 pub mod Stamped

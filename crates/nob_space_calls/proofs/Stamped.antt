@@ -14,6 +14,7 @@ use Rattle.nob_slots.specs.Slots as slots
 use Rattle.nob_slots.specs.Slots.{item_at, is_number, IsRising}
 use Rattle.nob_slots.proofs.Numbers.{lower_differs}
 use Rattle.nob_slots.proofs.Rising as rising
+use Rattle.nob_space_calls.proofs.Numbered.{all_removed, rising_removed}
 use Rattle.nob_space_calls.specs.Calls.{is_reply}
 use Rattle.nob_space_calls.specs.Rows.{replies_in, first_stamp, reply_count, Writes, one_more, Notes, next_first, AreFirsts, AreReady}
 use Rattle.nob_space_calls.specs.declared.firsts.First.{First}
@@ -29,17 +30,6 @@ stamp_above k n s (row ∷ rows) all is =
       | true ↦ λ e. let less : n < row.0 = all.0 in let same : row.0 ≡ s = same_Some row.0 s e in omega (arith, less, same)
       | false ↦ λ e. stamp_above k n s rows all.1 e
     ] is
-
-all_removed : (P : Row → Type 0) (s : ℕ) (rows : List Row) → AllByRecursion P rows → AllByRecursion P (remove_entry (is_number s) rows)
-all_removed P s [] all = tt
-all_removed P s (row ∷ rows) all = elim (is_number s row.0) as (λ b. AllByRecursion P (cond b rows (row ∷ remove_entry (is_number s) rows))) [ true ↦ all.1 | false ↦ (all.0, all_removed P s rows all.1) ]
-
-rising_removed : (s : ℕ) (rows : List Row) → IsRising rows → IsRising (remove_entry (is_number s) rows)
-rising_removed s [] rise = tt
-rising_removed s (row ∷ rows) rise = elim (is_number s row.0) as (λ b. IsRising (cond b rows (row ∷ remove_entry (is_number s) rows))) [
-  | true ↦ rise.1
-  | false ↦ (all_removed (λ other. row.0 < other.0) s rows rise.0, rising_removed s rows rise.1)
-]
 
 -- there are no more of them than numbers below another
 pub length_below : (next low : ℕ) (rows : List Row) → IsRising rows → AllByRecursion (λ row. row.0 < next) rows → AllByRecursion (λ row. low ≤ row.0) rows → low ≤ next → length rows + low ≤ next

@@ -1,11 +1,12 @@
 -- How the calls and the ready replies are kept. No public clause cites this module.
-use Rattle.std.specs.Prelude.{◌≡◌, ℕ, ◌+◌, ◌^◌, ◌<◌, ◌≤◌, true, false, List, [], ◌∷◌, map, length, slice_get, Option, Some, None, if◌then◌else◌}
+use Rattle.std.specs.Prelude.{◌≡◌, ℕ, ◌+◌, ◌^◌, ◌<◌, ◌≤◌, ◌==◌, true, false, List, [], ◌∷◌, map, Option, Some, None, if◌then◌else◌}
 use Rattle.std.specs.List.{AllByRecursion}
 use Rattle.std.specs.Option.{option_map}
 use Rattle.nob_item.specs.declared.item.Item.{Item}
 use Rattle.nob_model_words.specs.declared.message.Message.{Message}
 use Rattle.nob_model_words.specs.Messages.{replies_to}
 use Rattle.nob_model_work.specs.declared.work.OwnCall.{OwnCall}
+use Rattle.nob_numbers.specs.Numbers.{NumberLists, numbers_of}
 use Rattle.nob_slots.specs.Slots as slots
 use Rattle.nob_slots.specs.Slots.{item_at, is_number, IsRising}
 use Rattle.nob_space_calls.specs.Calls.{is_reply}
@@ -26,22 +27,30 @@ pub record FirstList : Type 0 where
   pub rows : List (ℕ × First)
   pub room : ℕ
 
--- the number of each call is below those of the calls behind it
-abbrev pub AreRising : List OwnCall → Type 0
-AreRising [] = Unit {0}
-AreRising (own ∷ calls) = AllByRecursion (λ other. own.call < other.call) calls × AreRising calls
+-- the calls under their numbers
+abbrev pub calls_in : List (ℕ × OwnCall) → List OwnCall
+calls_in rows = map (λ row. row.1) rows
 
--- the calls with a lower number are those before this place
-pub record IsPoint (calls : List OwnCall) (k point : ℕ) : Type 0 where
-  pub bound : point ≤ length calls
-  pub below : (at : ℕ) (own : OwnCall) → slice_get calls at ≡ Some own → at < point → own.call < k
-  pub from : (at : ℕ) (own : OwnCall) → slice_get calls at ≡ Some own → point ≤ at → k ≤ own.call
+-- the numbers of the calls made to a space
+abbrev pub numbers_to : ℕ → List (ℕ × OwnCall) → List ℕ
+numbers_to p [] = []
+numbers_to p (row ∷ rows) = if p == row.1.to then row.0 ∷ numbers_to p rows else numbers_to p rows
 
--- the call of a number stands at this place
-pub record IsPlace (calls : List OwnCall) (k place : ℕ) : Type 0 where
-  pub own : OwnCall
-  pub there : slice_get calls place ≡ Some own
-  pub number : own.call ≡ k
+-- the calls once that of a number is changed
+abbrev pub changed_at : (OwnCall → OwnCall) → ℕ → List (ℕ × OwnCall) → List (ℕ × OwnCall)
+changed_at change k [] = []
+changed_at change k (row ∷ rows) = if is_number k row.0 then (row.0, change row.1) ∷ rows else row ∷ changed_at change k rows
+
+-- the calls once those of these numbers are changed, one after the other
+abbrev pub changed : (OwnCall → OwnCall) → List ℕ → List (ℕ × OwnCall) → List (ℕ × OwnCall)
+changed change [] rows = rows
+changed change (k ∷ ks) rows = changed change ks (changed_at change k rows)
+
+-- each call stands under its number, the numbers rise, and those of each space are those of the calls made to it
+pub record AreRows (rows : List (ℕ × OwnCall)) (to : NumberLists) : Type 0 where
+  pub rising : IsRising rows
+  pub numbered : AllByRecursion (λ row. row.1.call ≡ row.0) rows
+  pub listed : (p : ℕ) → numbers_of to p ≡ numbers_to p rows
 
 -- the replies under stamps
 abbrev pub replies_in : List (ℕ × Message) → List Message

@@ -17,8 +17,9 @@ use std::marker::Model;
 /// The calls of a space whose replies aren't taken, the first made first, and the ready replies, in
 /// order of becoming ready. Contracts see both lists, and for how many more of each there is room.
 ///
-/// A call is looked for by halving, since the numbers of the calls rise. For each call that has a
-/// ready reply a map has the stamp of the first, and the replies stand in the order of their stamps.
+/// A call is looked for by halving, since the numbers of the calls rise, and for each space the
+/// numbers of the calls made to it stand in a list of their own. For each call that has a ready reply
+/// a map has the stamp of the first, and the replies stand in the order of their stamps.
 #[derive(Drop)]
 pub struct Calls {
     calls: Rows,
@@ -116,7 +117,7 @@ impl Calls {
     }
 
     /// Takes the call of this number out, if there is one; the replies to it stay. It takes no
-    /// memory. Logarithmic in the calls, and the calls made after it move by one.
+    /// memory. Logarithmic in the calls, and constant time on average beside that.
     pub fn remove(&mut self, number: CallNo)
         ensures calls { self.new.calls ≡ filter (λ own. not (is_call number own)) self.old.calls }
         ensures replies { self.new.replies ≡ self.old.replies }
@@ -174,7 +175,7 @@ impl Calls {
     }
 
     /// The session with a space closed: the calls to it that have no ready reply from it end. It
-    /// takes no memory. Linear in the calls, with a look-up for each to this space; one to which
+    /// takes no memory. Linear in the calls to this space, with look-ups for each; one to which
     /// several replies are ready passes all replies.
     pub fn close(&mut self, peer: SpaceId)
         ensures calls { self.new.calls ≡ map (call_after_close peer self.old.replies)

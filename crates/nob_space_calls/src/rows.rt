@@ -1,82 +1,48 @@
 //! The calls.
 
-ghost use Rattle.std.specs.Prelude.{◌≡◌, ◌+◌, ◌<◌, ◌≤◌, ◌++◌, ◌∷◌, [], None, not, length, filter, find, map, nat_lt, vec_capacity, option_copied, slice_get, MatchOption, IsOk, OnOk};
+ghost use Rattle.std.specs.Prelude.{◌≡◌, ◌+◌, ◌<◌, ◌≤◌, ◌^◌, ◌++◌, ◌∷◌, [], not, length, filter, find, map, IsOk, OnOk};
 ghost use Rattle.std.specs.List.{list_any};
 ghost use Rattle.nob_model_work.specs.Work.{is_call, stage_after_reply, call_after_reply, call_after_close};
 ghost use Rattle.nob_model_acting.specs.Acting.{awaits_reply, is_sent};
+ghost use Rattle.nob_slots.specs.Slots.{item_at};
 ghost use Rattle.nob_space_calls.specs.Calls.{IsAbove};
-ghost use Rattle.nob_space_calls.specs.Rows.{AreRising, IsPoint, IsPlace};
+ghost use Rattle.nob_space_calls.specs.Rows.{changed_at, changed};
 
 use crate::ready::Ready;
 use nob_ids::{CallNo, SpaceId};
 use nob_model_work::{OwnCall, Stage};
+use nob_numbers::{Iter, Numbers};
+use nob_slots::Slots;
 use std::alloc::{AllocError, Global};
 use std::marker::Model;
 
-// Calls in the order of their numbers. Contracts see the list, and for how many more there is room.
+// Calls under their numbers, and for each space the numbers of the calls made to it. Contracts see
+// the calls, and for how many more there is room.
 #[derive(Drop)]
 pub(crate) struct Rows {
-    calls: Vec<OwnCall>,
+    calls: Slots<OwnCall>,
+    to: Numbers,
 }
 
 impl Model for Rows {
-    ghost use Rattle.std.specs.Prelude.{◌-◌, length, vec_capacity};
-    ghost use Rattle.nob_space_calls.specs.Rows.{OwnList, AreRising};
+    ghost use Rattle.std.specs.Prelude.{min};
+    ghost use Rattle.nob_space_calls.specs.Rows.{OwnList, calls_in, AreRows};
 
     ghost Value = { OwnList };
 
     ghost view = { λ r. record {
-      calls = r.calls.items;
-      room = vec_capacity r.calls - length r.calls.items;
+      calls = calls_in r.calls.rows;
+      room = min r.calls.room r.to.room;
     } };
 
-    ghost invariant = { λ r. AreRising r.calls.items };
-}
-
-// How many calls have a number below this one: the first ones. Logarithmic in the calls.
-fn count_below(calls: &[OwnCall], call: CallNo) -> usize
-    requires { AreRising calls.now }
-    ensures { IsPoint calls.now call result }
-{
-    calls.partition_point(
-        |own: &OwnCall| -> bool
-            ensures { result ≡ nat_lt own.now.call call }
-        { own.call < call },
-    )
-}
-
-// The call at a place.
-fn own_at(calls: &[OwnCall], at: usize) -> Option<&OwnCall>
-    ensures { option_copied result ≡ slice_get calls.now at }
-{
-    calls.get(at)
-}
-
-// The place of the call of this number. Logarithmic in the calls.
-fn place_of(calls: &[OwnCall], call: CallNo) -> Option<usize>
-    requires { AreRising calls.now }
-    ensures { MatchOption result (find (is_call call) calls.now ≡ None)
-        (λ place. IsPlace calls.now call place) }
-{
-    let at = count_below(calls, call);
-    let Some(own) = own_at(calls, at) else {
-        return None;
-    };
-    if own.call != call {
-        return None;
-    }
-    Some(at)
+    ghost invariant = { λ r. AreRows r.calls.rows r.to };
 }
 
 // The call of this number. Logarithmic in the calls.
-fn find_call(calls: &[OwnCall], call: CallNo) -> Option<OwnCall>
-    requires { AreRising calls.now }
-    ensures { result ≡ find (is_call call) calls.now }
+fn own_at(calls: &Slots<OwnCall>, call: CallNo) -> Option<OwnCall>
+    ensures { result ≡ item_at calls.now.rows call }
 {
-    let Some(place) = place_of(calls, call) else {
-        return None;
-    };
-    Some(calls[place])
+    calls.get(call.get()).copied()
 }
 
 // Whether no Reply to a call was acted on, and it hasn't ended.
@@ -91,18 +57,6 @@ fn awaits_reply(peer: SpaceId, call: CallNo, own: &OwnCall) -> bool
     ensures { result ≡ awaits_reply peer call own.now }
 {
     own.call == call && own.to == peer && is_sent(own.stage)
-}
-
-// Whether the call of this number was made to a space and waits for its Reply. Logarithmic in the
-// calls.
-fn is_awaited(calls: &[OwnCall], peer: SpaceId, call: CallNo) -> bool
-    requires { AreRising calls.now }
-    ensures { result ≡ list_any (awaits_reply peer call) calls.now }
-{
-    let Some(place) = place_of(calls, call) else {
-        return false;
-    };
-    awaits_reply(peer, call, &calls[place])
 }
 
 // The stage of a call after a Reply, by whether it answers the call.
@@ -132,6 +86,19 @@ fn after_reply(own: &OwnCall, from: SpaceId, call: CallNo) -> OwnCall
     }
 }
 
+// Answers the call of this number, if it is there, was made to a space and waits for its Reply.
+// Logarithmic in the calls.
+fn answer_call(peer: SpaceId, calls: &mut Slots<OwnCall>, call: CallNo)
+    ensures rows { calls.new.rows ≡ changed_at (call_after_reply peer call) call calls.old.rows }
+    ensures room { calls.new.room ≡ calls.old.room }
+{
+    let Some(own) = own_at(calls, call) else {
+        return;
+    };
+    let answered = after_reply(&own, peer, call);
+    let _own = calls.set(call.get(), answered);
+}
+
 // A call after the closing of the session with a space: it ends if it was made to the space and has
 // no ready reply.
 #[tactic(auto, unfolding(nob_model_work::specs::Work::call_after_close))]
@@ -149,14 +116,30 @@ fn after_close(peer: SpaceId, ready: &Ready, own: &OwnCall) -> OwnCall
     *own
 }
 
-// Ends the calls to a space that have no ready reply.
-fn end_calls(peer: SpaceId, ready: &Ready, calls: &mut Vec<OwnCall>)
-    ensures calls { calls.new.items ≡ map (call_after_close peer ready.now.replies)
-        calls.old.items }
-    ensures capacity { vec_capacity calls.new ≡ vec_capacity calls.old }
+// Ends the call of a number, if it is there, was made to a space and has no ready reply.
+// Logarithmic in the calls.
+fn end_call(peer: SpaceId, ready: &Ready, calls: &mut Slots<OwnCall>, call: u64)
+    ensures rows { calls.new.rows ≡ changed_at (call_after_close peer ready.now.replies) call
+        calls.old.rows }
+    ensures room { calls.new.room ≡ calls.old.room }
 {
-    for place in 0..calls.len() {
-        calls[place] = after_close(peer, ready, &calls[place]);
+    let Some(own) = calls.get(call) else {
+        return;
+    };
+    let ended = after_close(peer, ready, own);
+    let _own = calls.set(call, ended);
+}
+
+// Ends those of the calls of these numbers that were made to a space and have no ready reply.
+fn end_calls(peer: SpaceId, ready: &Ready, numbers: Iter<'_>, calls: &mut Slots<OwnCall>)
+    requires { length numbers < 2 ^ 64 }
+    ensures rows { calls.new.rows ≡ changed (call_after_close peer ready.now.replies) numbers.entry
+        calls.old.rows }
+    ensures room { calls.new.room ≡ calls.old.room }
+{
+    let mut left = numbers;
+    while let Some(call) = left.next() {
+        end_call(peer, ready, calls, call);
     }
 }
 
@@ -166,7 +149,8 @@ impl Rows {
         ensures { result.calls ≡ [] }
     {
         Rows {
-            calls: Vec::new(alloc),
+            calls: Slots::new(alloc),
+            to: Numbers::new(alloc),
         }
     }
 
@@ -184,7 +168,8 @@ impl Rows {
         ensures succeeds { additional ≤ self.old.room → IsOk result }
         ensures room { self.old.room ≤ self.new.room }
     {
-        self.calls.reserve(additional)
+        self.calls.reserve(additional)?;
+        self.to.reserve(additional)
     }
 
     // Puts a call behind all others, where there is room for it and its number is above theirs.
@@ -194,32 +179,38 @@ impl Rows {
         ensures calls { self.new.calls ≡ self.old.calls ++ own ∷ [] }
         ensures room { self.new.room + 1 ≡ self.old.room }
     {
-        self.calls.push_reserved(own);
+        let number = own.call.get();
+        self.to.push(own.to, number);
+        self.calls.push(number, own);
     }
 
     // The call of this number.
     pub(crate) fn get(&self, call: CallNo) -> Option<OwnCall>
         ensures { result ≡ find (is_call call) self.now.calls }
     {
-        find_call(&self.calls, call)
+        own_at(&self.calls, call)
     }
 
     // Takes the call of this number out.
     pub(crate) fn remove(&mut self, call: CallNo)
         ensures calls { self.new.calls ≡ filter (λ own. not (is_call call own)) self.old.calls }
-        ensures room { self.old.room ≤ self.new.room }
+        ensures room { self.new.room ≡ self.old.room }
     {
-        let Some(place) = place_of(&self.calls, call) else {
+        let number = call.get();
+        let Some(own) = self.calls.take(number) else {
             return;
         };
-        let _own = self.calls.remove(place);
+        self.to.take(own.to, number);
     }
 
     // Whether the call of this number was made to a space and waits for its Reply.
     pub(crate) fn awaits(&self, peer: SpaceId, call: CallNo) -> bool
         ensures { result ≡ list_any (awaits_reply peer call) self.now.calls }
     {
-        is_awaited(&self.calls, peer, call)
+        let Some(own) = own_at(&self.calls, call) else {
+            return false;
+        };
+        awaits_reply(peer, call, &own)
     }
 
     // A Reply from a space answers the call of this number.
@@ -227,10 +218,7 @@ impl Rows {
         ensures calls { self.new.calls ≡ map (call_after_reply peer call) self.old.calls }
         ensures room { self.new.room ≡ self.old.room }
     {
-        let Some(place) = place_of(&self.calls, call) else {
-            return;
-        };
-        self.calls[place] = after_reply(&self.calls[place], peer, call);
+        answer_call(peer, &mut self.calls, call);
     }
 
     // The session with a space closes: the calls to it that have no ready reply end.
@@ -239,6 +227,6 @@ impl Rows {
             self.old.calls }
         ensures room { self.new.room ≡ self.old.room }
     {
-        end_calls(peer, ready, &mut self.calls);
+        end_calls(peer, ready, self.to.iter(peer), &mut self.calls);
     }
 }
