@@ -1,0 +1,54 @@
+-- The numbers of each space, where one list is another.
+use Rattle.std.proofs.Common.{◌≡◌, ℕ, ◌<◌, ◌≤◌, ◌==◌, true, false, List, [], ◌∷◌, ◌++◌, map, length, Some, slice_get, refl, ap, sym, subst, ◌∙◌, arith, if◌then◌else◌, eqb-true}
+use Prim.Native.Nat.{zero, suc}
+use lib.ListN.{set}
+use Rattle.std.proofs.lemmas.Option.{none-some, same_Some}
+use Rattle.nob_slots.specs.Slots.{SlotList}
+use Rattle.nob_slots.proofs.Flat.{get_set_same, get_set_other}
+use Rattle.nob_numbers.specs.Numbers.{all_of}
+use Rattle.nob_numbers.specs.Lists.{HaveRoom, numbers_in}
+
+-- a list for each space
+pub Lists : Type 0
+Lists = List (SlotList (Unit {0}))
+
+pub numbers_at : Lists → ℕ → List ℕ
+numbers_at lists space = all_of (slice_get (map (λ (slots : SlotList (Unit {0})). numbers_in slots.rows) lists) space)
+
+-- one more list, of nothing
+pub one_more : (lists : Lists) (slots : SlotList (Unit {0})) → slots.rows ≡ [] → (space : ℕ) → numbers_at (lists ++ slots ∷ []) space ≡ numbers_at lists space
+one_more [] slots none zero = ap numbers_in none
+one_more [] slots none (suc space) = refl
+one_more (first ∷ lists) slots none zero = refl
+one_more (first ∷ lists) slots none (suc space) = one_more lists slots none space
+
+-- a list of other numbers
+pub other_list : (lists : Lists) (place : ℕ) (old new : SlotList (Unit {0})) → slice_get lists place ≡ Some old → (space : ℕ)
+    → numbers_at (set lists place new) space ≡ (if space == place then numbers_in new.rows else numbers_at lists space)
+other_list [] place old new got space = absurd (none-some old got)
+other_list (first ∷ lists) zero old new got zero = refl
+other_list (first ∷ lists) zero old new got (suc space) = refl
+other_list (first ∷ lists) (suc place) old new got zero = refl
+other_list (first ∷ lists) (suc place) old new got (suc space) = other_list lists place old new got space
+
+-- the numbers of the list at a place
+pub here : (lists : Lists) (place : ℕ) (slots : SlotList (Unit {0})) → slice_get lists place ≡ Some slots → numbers_at lists place ≡ numbers_in slots.rows
+here [] place slots got = absurd (none-some slots got)
+here (first ∷ lists) zero slots got = ap (λ (s : SlotList (Unit {0})). numbers_in s.rows) (same_Some first slots got)
+here (first ∷ lists) (suc place) slots got = here lists place slots got
+
+-- a list of the same numbers
+pub same_list : (lists : Lists) (place : ℕ) (old new : SlotList (Unit {0})) → slice_get lists place ≡ Some old → new.rows ≡ old.rows
+    → map (λ (slots : SlotList (Unit {0})). numbers_in slots.rows) (set lists place new) ≡ map (λ (slots : SlotList (Unit {0})). numbers_in slots.rows) lists
+same_list [] place old new got same = absurd (none-some old got)
+same_list (first ∷ lists) zero old new got same = ap (λ (ns : List ℕ). ns ∷ map (λ (slots : SlotList (Unit {0})). numbers_in slots.rows) lists) (ap numbers_in same ∙ ap (λ (s : SlotList (Unit {0})). numbers_in s.rows) (sym (same_Some first old got)))
+same_list (first ∷ lists) (suc place) old new got same = ap (λ (rest : List (List ℕ)). numbers_in first.rows ∷ rest) (same_list lists place old new got same)
+
+-- another list at a place, with room
+pub room_set : (lists : Lists) (place room : ℕ) (old new : SlotList (Unit {0})) → slice_get lists place ≡ Some old → HaveRoom lists room → room ≤ new.room → HaveRoom (set lists place new) room
+room_set lists place room old new got rooms le at slots there =
+    elim (at == place) as (λ b. (at == place) ≡ b → room ≤ slots.room) [
+      | true ↦ λ t. let is : at ≡ place = eqb-true at place t in
+          subst (λ (s : SlotList (Unit {0})). room ≤ s.room) (same_Some new slots (sym (get_set_same lists place old new got) ∙ subst (λ (k : ℕ). slice_get (set lists place new) k ≡ Some slots) is there)) le
+      | false ↦ λ f. rooms at slots (sym (get_set_other lists place at new (λ e. grind (arith, nat_tests))) ∙ there)
+    ] refl
