@@ -9,13 +9,15 @@ use Rattle.std.specs.Option.{unwrap_or}
 use Rattle.nob_ids.specs.declared.wire_rep.WireRep.{WireRep}
 use Rattle.nob_ids.specs.Names.{is_same}
 use Rattle.nob_model_words.specs.declared.message.Message.{Message}
+use Rattle.nob_numbers.specs.Numbers.{NumberLists}
 use Rattle.nob_slots.specs.Slots.{item_at, IsRising, IsAbove}
 use Rattle.nob_space_waiting.specs.declared.entry.Entry.{Entry}
 use Rattle.nob_space_waiting.specs.declared.lines.Link.{Link}
 use Rattle.nob_space_waiting.specs.Waiting.{due_to, due_to_all, is_awaited, is_due_in, places_for}
-use Rattle.nob_space_waiting.specs.Lines.{LineList, AreLined, AreMarked, AreOpen, AreWaiting, IsLined, changed, is_of_owner, items_of, lent_entry, link_at, link_of, lowered_entry, once, open_in, stands, times_in, times_of}
+use Rattle.nob_space_waiting.specs.Lines.{LineList, AreLined, AreMarked, AreOpen, AreWaiting, IsLined, changed, is_of_owner, items_of, lent_entry, link_at, link_of, lowered_entry, once, open_in, stamps_from, stands, times_in, times_of}
 use Rattle.nob_space_waiting.proofs.Counting.{same_is, stands_below}
 use Rattle.nob_space_waiting.proofs.Granted.{but, due_other, open_but, open_granted, open_less, open_same}
+use Rattle.nob_space_waiting.proofs.Stamps.{stamps_changed}
 use Rattle.nob_space_waiting.proofs.Rows.{changed_below, changed_found, changed_rising}
 
 pub awaited_none : (counts : List (WireRep × ℕ)) (rep : WireRep) → is_awaited counts rep ≡ false → places_for counts rep ≡ 0
@@ -36,7 +38,7 @@ due_few rep (row ∷ rs) s e found =
       | false ↦ λ h. let rest = due_few rep rs s e h in omega (arith, rest)
     ] found
 
-module _ {rows : List (ℕ × Entry)} {marked : List ℕ} {entries next room : ℕ} {lines : LineList} (are : AreWaiting rows marked entries lines next room) (gone : WireRep → Bool) (new : LineList)
+module _ {rows : List (ℕ × Entry)} {marked : List ℕ} {entries next room : ℕ} {froms : NumberLists} {lines : LineList} (are : AreWaiting rows marked entries froms lines next room) (gone : WireRep → Bool) (new : LineList)
     (counts : (r : WireRep) → places_for new.counts r ≡ (if gone r then 0 else places_for lines.counts r))
     (links : (r : WireRep) (place : ℕ) → gone r ≡ false → link_at new.links (link_of r place) ≡ link_at lines.links (link_of r place))
     (kept : lines.room ≤ new.room) where
@@ -73,12 +75,14 @@ module _ {rows : List (ℕ × Entry)} {marked : List ℕ} {entries next room : �
   pub ended : (g : ℕ → Entry → Entry) (rows' : List (ℕ × Entry)) (marked' : List ℕ) (entries' : ℕ) → rows' ≡ changed g rows → AreMarked rows' marked' → entries' ≡ entries
       → ((s : ℕ) (e : Entry) → item_at rows s ≡ Some e → (g s e).waits ≡ open_in (λ r. is_awaited lines.counts r && not (gone r)) (g s e).message)
       → ((s : ℕ) (e : Entry) (r : WireRep) → gone r ≡ false → due_to r (g s e).message ≡ due_to r e.message)
-      → AreWaiting rows' marked' entries' new next room
-  ended g rows' marked' entries' is marks same waits dues =
+      → ((s : ℕ) (e : Entry) → (g s e).message.from ≡ e.message.from)
+      → AreWaiting rows' marked' entries' froms new next room
+  ended g rows' marked' entries' is marks same waits dues senders =
       record {
         rising = subst IsRising (sym is) (changed_rising g rows are.rising);
         above = subst (λ rs. IsAbove rs next) (sym is) (changed_below g next rows are.above);
         marks = marks;
+        stamps = λ peer. are.stamps peer ∙ sym (ap (stamps_from peer) is ∙ stamps_changed peer g rows senders);
         waits = λ s e found.
             let was = changed_found g rows s e (sym (ap (λ rs. item_at rs s) is) ∙ found) in
             ap (λ (x : Entry). x.waits) was.2 ∙ waits s was.0 was.1
@@ -91,11 +95,12 @@ module _ {rows : List (ℕ × Entry)} {marked : List ℕ} {entries next room : �
         fresh = times_fewer;
         few = few_still;
         entry_room = λ some. let more = are.entry_room some in omega (arith, more, same);
+        stamp_room = are.stamp_room;
         line_room = omega (arith, are.line_room, kept);
         small = are.small;
       }
 
-module _ {rows : List (ℕ × Entry)} {marked : List ℕ} {entries next room : ℕ} {lines : LineList} (are : AreWaiting rows marked entries lines next room) (rep : WireRep) where
+module _ {rows : List (ℕ × Entry)} {marked : List ℕ} {entries next room : ℕ} {froms : NumberLists} {lines : LineList} (are : AreWaiting rows marked entries froms lines next room) (rep : WireRep) where
   -- a message waits for the copies of the reference no longer
   pub lowered_open : (s : ℕ) (e : Entry) → item_at rows s ≡ Some e → e.waits - times_in lines rep s ≡ open_in (but rep (is_awaited lines.counts)) e.message
   lowered_open s e found =

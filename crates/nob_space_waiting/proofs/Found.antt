@@ -9,10 +9,11 @@ use Rattle.nob_ids.specs.declared.wire_rep.WireRep.{WireRep}
 use Rattle.nob_model_words.specs.declared.message.Message.{Message}
 use Rattle.nob_model_words.specs.declared.message.RefCopy.{RefCopy}
 use Rattle.nob_model_work.specs.Work.{without_first}
+use Rattle.nob_numbers.specs.Numbers.{NumberLists, numbers_of}
 use Rattle.nob_slots.specs.Slots.{item_at, is_marked, is_number, IsAbove, IsFirstMarked, IsRising, NoneMarked, PutsMark}
 use Rattle.nob_space_waiting.specs.declared.entry.Entry.{Entry}
 use Rattle.nob_space_waiting.specs.Waiting.{is_awaited, is_due_where}
-use Rattle.nob_space_waiting.specs.Lines.{LineList, AreMarked, AreWaiting, items_of, open_in}
+use Rattle.nob_space_waiting.specs.Lines.{LineList, AreMarked, AreWaiting, items_of, open_in, stamps_from}
 use Rattle.nob_space_waiting.proofs.Rows.{found_above, found_behind, lower_unlike}
 
 -- whether none of a message's copies that are due is of a reference that is awaited
@@ -51,7 +52,7 @@ module _ (test : Message → Bool) where
             (rw off rest.0, rw off (ap (λ (ms : List Message). row.1.message ∷ ms) rest.1))
       ] refl found
 
-module _ {rows : List (ℕ × Entry)} {marked : List ℕ} {entries next room : ℕ} {lines : LineList} (are : AreWaiting rows marked entries lines next room) where
+module _ {rows : List (ℕ × Entry)} {marked : List ℕ} {entries next room : ℕ} {froms : NumberLists} {lines : LineList} (are : AreWaiting rows marked entries froms lines next room) where
   settles_marked : (s : ℕ) (x : Entry) → item_at rows s ≡ Some x → settles lines.counts x.message ≡ is_marked marked s
   settles_marked s x found =
       all_none (is_due_where (is_awaited lines.counts)) x.message.copies ∙ ap (λ n. n == 0) (sym (are.waits s x found)) ∙ sym (are.marks s x found)
@@ -64,16 +65,18 @@ module _ {rows : List (ℕ × Entry)} {marked : List ℕ} {entries next room : �
       find_first (settles lines.counts) n e rows are.rising found (settles_marked n e found ∙ first.1) (λ s x there less. settles_marked s x there ∙ first.2 s (omega arith) less)
 
   -- what holds of fewer entries
-  pub fewer : (rows' : List (ℕ × Entry)) (marked' : List ℕ) (entries' : ℕ) → IsRising rows' → IsAbove rows' next → ((s : ℕ) (x : Entry) → item_at rows' s ≡ Some x → (item_at rows s ≡ Some x) × (is_marked marked' s ≡ is_marked marked s)) → entries' ≡ entries → AreWaiting rows' marked' entries' lines next room
-  fewer rows' marked' entries' rising above had same = record {
+  pub fewer : (rows' : List (ℕ × Entry)) (marked' : List ℕ) (entries' : ℕ) (froms' : NumberLists) → IsRising rows' → IsAbove rows' next → ((s : ℕ) (x : Entry) → item_at rows' s ≡ Some x → item_at rows s ≡ Some x) → AreMarked rows' marked' → ((peer : ℕ) → numbers_of froms' peer ≡ stamps_from peer rows') → entries' ≡ entries → froms'.room ≡ froms.room → AreWaiting rows' marked' entries' froms' lines next room
+  fewer rows' marked' entries' froms' rising above had marks stamps same kept = record {
     rising = rising;
     above = above;
-    marks = λ s x found. let h = had s x found in h.1 ∙ are.marks s x h.0;
-    waits = λ s x found. are.waits s x ((had s x found).0);
-    lined = λ r on s x found. are.lined r on s x ((had s x found).0);
+    marks = marks;
+    stamps = stamps;
+    waits = λ s x found. are.waits s x (had s x found);
+    lined = λ r on s x found. are.lined r on s x (had s x found);
     fresh = are.fresh;
     few = are.few;
     entry_room = λ some. let more = are.entry_room some in omega (arith, more, same);
+    stamp_room = λ some. let more = are.stamp_room some in omega (arith, more, kept);
     line_room = are.line_room;
     small = are.small;
   }

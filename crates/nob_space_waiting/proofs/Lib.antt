@@ -1,5 +1,6 @@
 pub mod Granting
 pub mod Rows
+pub mod Stamps
 pub mod Counting
 pub mod Granted
 pub mod Lent

@@ -6,6 +6,7 @@ use Rattle.std.specs.Option.{unwrap_or}
 use Rattle.nob_ids.specs.declared.wire_rep.WireRep.{WireRep}
 use Rattle.nob_ids.specs.Names.{is_same}
 use Rattle.nob_model_words.specs.declared.message.Message.{Message}
+use Rattle.nob_numbers.specs.Numbers.{NumberLists}
 use Rattle.nob_slots.specs.Slots.{item_at}
 use Rattle.nob_space_waiting.specs.declared.entry.Entry.{Entry}
 use Rattle.nob_space_waiting.specs.Waiting.{due_to, is_awaited}
@@ -83,7 +84,7 @@ of_owner owner counts r =
       | false ↦ λ u. let off : is_awaited counts r ≡ false = ap (λ o. nat_lt 0 (unwrap_or o 0)) (no_key r counts u) in rw off refl
     ] refl
 
-pub owner_open : {rows : List (ℕ × Entry)} {marked : List ℕ} {entries next room : ℕ} {lines : LineList} (are : AreWaiting rows marked entries lines next room) (owner : ℕ) → AreApart lines.counts → (s : ℕ) (e : Entry) → item_at rows s ≡ Some e → e.waits - times_of lines owner (keys_of lines.counts) s ≡ open_in (λ r. is_awaited lines.counts r && not (r.owner == owner)) e.message
+pub owner_open : {rows : List (ℕ × Entry)} {marked : List ℕ} {entries next room : ℕ} {froms : NumberLists} {lines : LineList} (are : AreWaiting rows marked entries froms lines next room) (owner : ℕ) → AreApart lines.counts → (s : ℕ) (e : Entry) → item_at rows s ≡ Some e → e.waits - times_of lines owner (keys_of lines.counts) s ≡ open_in (λ r. is_awaited lines.counts r && not (r.owner == owner)) e.message
 owner_open {lines = lines} are owner apart s e found =
     let waits = are.waits s e found in
     let split = owner_split lines owner e.message s (is_awaited lines.counts) (λ r on. are.lined r on s e found) (λ r off. times_none_awaited lines r s off) (keys_of lines.counts) apart in

@@ -9,13 +9,15 @@ use Rattle.nob_ids.specs.declared.wire_rep.WireRep.{WireRep}
 use Rattle.nob_ids.specs.Names.{is_same}
 use Rattle.nob_model_words.specs.declared.message.Message.{Message}
 use Rattle.nob_model_words.specs.declared.message.RefCopy.{RefCopy}
+use Rattle.nob_numbers.specs.Numbers.{NumberLists, numbers_of, Puts}
 use Rattle.nob_slots.specs.Slots.{item_at, is_marked, is_number, IsAbove, IsRising, PutsMark}
 use Rattle.nob_space_waiting.specs.declared.entry.Entry.{Entry}
 use Rattle.nob_space_waiting.specs.Waiting.{due_to, due_to_all, is_awaited, is_due, is_due_in, is_due_where, places_for, waits_for}
-use Rattle.nob_space_waiting.specs.Lines.{LineList, AreMarked, AreWaiting, items_of, open_in, times_in}
+use Rattle.nob_space_waiting.specs.Lines.{LineList, AreMarked, AreWaiting, items_of, open_in, stamps_from, times_in}
 use Rattle.nob_space_waiting.proofs.Ended.{awaited_none, due_few, times_none_awaited}
 use Rattle.nob_space_waiting.proofs.Granted.{count_cons, count_same}
 use Rattle.nob_space_waiting.proofs.Rows.{found_below}
+use Rattle.nob_space_waiting.proofs.Stamps.{stamps_pushed}
 
 -- ---- rows
 above_all : (n : ℕ) (e : Entry) (k : ℕ) (rows : List (ℕ × Entry)) → k < n → AllByRecursion (λ row. k < row.0) rows → AllByRecursion (λ row. k < row.0) (rows ++ (n, e) ∷ [])
@@ -82,7 +84,7 @@ due_few_copies r (c ∷ copies) =
     let one : (if waits_for r c then 1 else 0) ≤ 1 = elim (waits_for r c) as (λ b. (if b then 1 else 0) ≤ 1) [ true ↦ omega arith | false ↦ omega arith ] in
     omega (arith, rest, all, one)
 
-module _ {rows : List (ℕ × Entry)} {marked : List ℕ} {entries next room : ℕ} {lines : LineList} (are : AreWaiting rows marked entries lines next room) (message : Message) (new : LineList)
+module _ {rows : List (ℕ × Entry)} {marked : List ℕ} {entries next room : ℕ} {froms : NumberLists} {lines : LineList} (are : AreWaiting rows marked entries froms lines next room) (message : Message) (new : LineList)
     (counts : (r : WireRep) → places_for new.counts r ≡ places_for lines.counts r + due_to r message)
     (times : (r : WireRep) (s : ℕ) → times_in new r s ≡ times_in lines r s + (if next == s then due_to r message else 0))
     (fits : (r : WireRep) → is_due_in (message ∷ []) r ≡ true → is_due_in (items_of rows) r ≡ true → not (is_awaited lines.counts r) ≡ false) where
@@ -146,19 +148,21 @@ module _ {rows : List (ℕ × Entry)} {marked : List ℕ} {entries next room : �
   awaited_new r due = let its = counts r in sym (some_more (places_for new.counts r) (omega (arith, due, its)))
 
   -- what holds once the message is there
-  pub pushed : (rows' : List (ℕ × Entry)) (marked' : List ℕ) (entries' next' waits : ℕ) → rows' ≡ rows ++ (next, record { message = message; waits = waits }) ∷ [] → waits ≡ length (filter (λ copy. is_due copy.loan) message.copies)
-      → PutsMark marked marked' next (waits == 0) → next' ≡ next + 1 + length message.copies → length message.copies < room → AreWaiting rows' marked' entries' new next' 0
-  pushed rows' marked' entries' next' waits is count puts more fits' =
+  pub pushed : (rows' : List (ℕ × Entry)) (marked' : List ℕ) (entries' : ℕ) (froms' : NumberLists) (next' waits : ℕ) → rows' ≡ rows ++ (next, record { message = message; waits = waits }) ∷ [] → waits ≡ length (filter (λ copy. is_due copy.loan) message.copies)
+      → Puts froms froms' message.from (numbers_of froms message.from ++ next ∷ []) → PutsMark marked marked' next (waits == 0) → next' ≡ next + 1 + length message.copies → length message.copies < room → AreWaiting rows' marked' entries' froms' new next' 0
+  pushed rows' marked' entries' froms' next' waits is count stamped puts more fits' =
       let e : Entry = record { message = message; waits = waits } in
       record {
         rising = subst IsRising (sym is) (push_rising next e rows are.rising are.above);
         above = subst (λ rs. IsAbove rs next') (sym is) (push_below next next' e rows (omega (arith, more)) are.above);
         marks = λ s x found. push_found next e rows s x (λ old. marks_old s x old) (λ at same. marks_new s x at same) (sym (ap (λ rs. item_at rs s) is) ∙ found);
+        stamps = λ peer. stamps_pushed froms froms' rows next e are.stamps stamped peer ∙ ap (stamps_from peer) (sym is);
         waits = λ s x found. push_found next e rows s x (λ old. waits_old s x old) (λ at same. waits_new x same) (sym (ap (λ rs. item_at rs s) is) ∙ found);
         lined = λ r on s x found. push_found next e rows s x (λ old. others r s (differs s x old) ∙ lined_old r s x old on) (λ at same. lined_new r s x at same) (sym (ap (λ rs. item_at rs s) is) ∙ found);
         fresh = λ r s past. others r s (λ at. omega (arith, at, past, more)) ∙ are.fresh r s (omega (arith, past, more));
         few = λ r. let its = counts r in let few = are.few r in let fewer = due_few_copies r message.copies in omega (arith, its, few, fewer, more);
         entry_room = λ some. absurd (omega (arith, some));
+        stamp_room = λ some. absurd (omega (arith, some));
         line_room = omega arith;
         small = omega (arith, more, fits', are.small);
       }

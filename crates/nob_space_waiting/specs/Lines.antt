@@ -1,14 +1,15 @@
 -- A line for each reference that messages wait for, and how many such copies each has. No public clause cites this module.
-use Rattle.std.specs.Prelude.{◌≡◌, ℕ, ◌+◌, ◌-◌, ◌^◌, ◌<◌, ◌≤◌, ◌==◌, nat_lt, Bool, true, false, ◌&&◌, List, [], ◌∷◌, length, map, filter, Option, Some, None, if◌then◌else◌}
+use Rattle.std.specs.Prelude.{◌≡◌, ℕ, ◌+◌, ◌-◌, ◌^◌, ◌<◌, ◌≤◌, ◌==◌, nat_lt, Bool, true, false, ◌&&◌, List, [], ◌∷◌, length, map, filter, Option, Some, None, IsSome, if◌then◌else◌}
 use Prim.Native.Nat.{zero, suc}
-use Rattle.std.specs.List.{list_any, IsDistinct}
-use Rattle.std.specs.Map.{lookup, keys_of}
+use Rattle.std.specs.List.{list_any, AllByRecursion, IsDistinct}
+use Rattle.std.specs.Map.{lookup, keys_of, remove_entry}
 use Rattle.std.specs.Option.{unwrap_or, option_map_or}
 use Rattle.nob_ids.specs.Names.{is_same}
 use Rattle.nob_ids.specs.declared.wire_rep.WireRep.{WireRep}
 use Rattle.nob_model_words.specs.declared.message.Message.{Message}
 use Rattle.nob_model_words.specs.declared.message.RefCopy.{RefCopy}
-use Rattle.nob_slots.specs.Slots.{item_at, IsAbove, IsRising, is_marked}
+use Rattle.nob_numbers.specs.Numbers.{NumberLists, numbers_of}
+use Rattle.nob_slots.specs.Slots.{item_at, is_number, IsAbove, IsRising, is_marked}
 use Rattle.nob_space_waiting.specs.declared.entry.Entry.{Entry}
 use Rattle.nob_space_waiting.specs.declared.lines.Link.{Link}
 use Rattle.nob_space_waiting.specs.Waiting.{due_to, granted_message, is_awaited, is_due, is_due_where, places_for}
@@ -56,6 +57,29 @@ times_in lines rep stamp = stands lines.links rep (places_for lines.counts rep) 
 -- the messages of the entries
 abbrev pub items_of : List (ℕ × Entry) → List Message
 items_of rows = map (λ row. row.1.message) rows
+
+-- the stamps of the messages from a space
+abbrev pub stamps_from : ℕ → List (ℕ × Entry) → List ℕ
+stamps_from peer rows = map (λ row. row.0) (filter (λ row. row.1.message.from == peer) rows)
+
+-- the entries without those of some stamps
+abbrev pub without : List ℕ → List (ℕ × Entry) → List (ℕ × Entry)
+without [] rows = rows
+without (stamp ∷ stamps) rows = without stamps (remove_entry (is_number stamp) rows)
+
+-- the message of an entry that there may be, in front of others
+abbrev pub with_message : Option Entry → List Message → List Message
+with_message None messages = messages
+with_message (Some entry) messages = entry.message ∷ messages
+
+-- the messages of the entries of some stamps
+abbrev pub messages_at : List (ℕ × Entry) → List ℕ → List Message
+messages_at rows [] = []
+messages_at rows (stamp ∷ stamps) = with_message (item_at rows stamp) (messages_at rows stamps)
+
+-- each of some stamps has an entry
+abbrev pub AreThere : List (ℕ × Entry) → List ℕ → Type 0
+AreThere rows stamps = AllByRecursion (λ stamp. IsSome (item_at rows stamp)) stamps
 
 -- how many copies of a message are due and of a reference that passes a test
 abbrev pub open_in : (WireRep → Bool) → Message → ℕ
@@ -118,11 +142,12 @@ times_of lines owner (rep ∷ reps) stamp = (if rep.owner == owner then times_in
 abbrev pub AreApart : List (WireRep × ℕ) → Type 0
 AreApart counts = IsDistinct is_same (keys_of counts)
 
--- what holds of the entries, of the marks, of the lines, of the next stamp and of the room
-pub record AreWaiting (rows : List (ℕ × Entry)) (marked : List ℕ) (entries_room : ℕ) (lines : LineList) (next room : ℕ) : Type 0 where
+-- what holds of the entries, of the marks, of the stamps by space, of the lines, of the next stamp and of the room
+pub record AreWaiting (rows : List (ℕ × Entry)) (marked : List ℕ) (entries_room : ℕ) (froms : NumberLists) (lines : LineList) (next room : ℕ) : Type 0 where
   pub rising : IsRising rows
   pub above : IsAbove rows next
   pub marks : AreMarked rows marked
+  pub stamps : (peer : ℕ) → numbers_of froms peer ≡ stamps_from peer rows
   pub waits : AreOpen (is_awaited lines.counts) rows
   pub lined : AreLined lines rows
   -- stamps that are to come stand in no line
@@ -130,5 +155,6 @@ pub record AreWaiting (rows : List (ℕ × Entry)) (marked : List ℕ) (entries_
   -- no line is longer than what came
   pub few : (rep : WireRep) → places_for lines.counts rep ≤ next
   pub entry_room : 0 < room → 0 < entries_room
+  pub stamp_room : 0 < room → 0 < froms.room
   pub line_room : room ≤ lines.room + 1
   pub small : next + room ≤ 2 ^ 62

@@ -1,18 +1,21 @@
-//! The messages, one after the other.
+//! The messages from a space, one after the other.
 
 ghost use Rattle.std.specs.Iterator.{YieldsFirstRef, item_count};
 
 use crate::entry::Entry;
 use nob_model_words::Message;
+use nob_slots::Slots;
 use std::marker::Model;
 
-/// The messages that wait, in order. Contracts see those that are left.
+/// The messages from a space that wait, in order. Contracts see those that are left.
 #[derive(Drop)]
-pub struct Iter<'a> {
-    pub(crate) entries: nob_slots::Iter<'a, Entry>,
+pub struct From<'a> {
+    pub(crate) slots: &'a Slots<Entry>,
+    // The stamps of those that are left.
+    pub(crate) stamps: nob_numbers::Iter<'a>,
 }
 
-impl<'a> Model for Iter<'a> {
+impl<'a> Model for From<'a> {
     ghost use Rattle.std.specs.Prelude.{List};
     ghost use Rattle.nob_model_words.specs.declared.message.Message.{Message};
 
@@ -23,12 +26,14 @@ impl<'a> Model for Iter<'a> {
 
     ghost coded = { Prim.hlevel (codes, trees_code) };
 
-    ghost use Rattle.nob_space_waiting.specs.Lines.{items_of};
+    ghost use Rattle.nob_space_waiting.specs.Lines.{AreThere, messages_at};
 
-    ghost view = { λ it. items_of it.entries };
+    ghost view = { λ it. messages_at it.slots.now.rows it.stamps };
+
+    ghost invariant = { λ it. AreThere it.slots.now.rows it.stamps };
 }
 
-impl<'a> Iterator for Iter<'a> {
+impl<'a> Iterator for From<'a> {
     type Item = &'a Message;
 
     ghost next_gives = { YieldsFirstRef (λ rest. rest) };
@@ -36,7 +41,12 @@ impl<'a> Iterator for Iter<'a> {
     ghost remaining = { item_count (λ rest. rest) };
 
     fn next(&mut self) -> Option<&'a Message> {
-        let (_stamp, entry) = self.entries.next()?;
+        let Some(stamp) = self.stamps.next() else {
+            return None;
+        };
+        let Some(entry) = self.slots.get(stamp) else {
+            return None;
+        };
         Some(&entry.message)
     }
 }

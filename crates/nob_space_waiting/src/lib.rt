@@ -10,5 +10,5 @@ mod lines;
 mod losing;
 mod waiting;
 
-pub use iter::Iter;
+pub use iter::From;
 pub use waiting::Waiting;

@@ -1,21 +1,24 @@
 //! The list.
 
-ghost use Rattle.std.specs.Prelude.{◌≡◌, ℕ, ◌+◌, ◌-◌, ◌<◌, ◌≤◌, ◌^◌, ◌==◌, ◌&&◌, ◌||◌, if◌then◌else◌, ◌++◌, ◌∷◌, [], true, false, not, length, map, filter, find, option_copied, OnOk};
+ghost use Rattle.std.specs.Prelude.{◌≡◌, ℕ, ◌+◌, ◌-◌, ◌<◌, ◌≤◌, ◌^◌, ◌==◌, ◌&&◌, ◌||◌, if◌then◌else◌, ◌++◌, ◌∷◌, [], true, false, not, length, map, filter, find, option_copied, IsOk, OnOk};
 ghost use Rattle.nob_ids.specs.Names.{is_same};
 ghost use Rattle.nob_ids.specs.declared.wire_rep.WireRep.{WireRep as WireRepOf};
 ghost use Rattle.nob_model_words.specs.Messages.{is_not_from};
 ghost use Rattle.nob_model_work.specs.Work.{without_first};
+ghost use Rattle.nob_numbers.specs.Numbers.{numbers_of};
+ghost use Rattle.nob_slots.specs.Slots.{IsRising};
 ghost use Rattle.nob_space_waiting.specs.Waiting.{due_to_all, granted_message, is_awaited, is_due_in, is_marked_lost, is_settleable_in, IsNew, places_for, waits_for, is_due};
-ghost use Rattle.nob_space_waiting.specs.Lines.{times_in, LineList};
+ghost use Rattle.nob_space_waiting.specs.Lines.{times_in, AreMarked, LineList, without};
 
 use crate::entry::Entry;
-use crate::iter::Iter;
+use crate::iter::From;
 use crate::lending::{is_due, lend_line};
 use crate::lines::Lines;
 use crate::losing::{lower_all, lower_line};
 use nob_ids::{SpaceId, WireRep};
 use nob_model_words::Message;
 use nob_model_words::message::RefCopy;
+use nob_numbers::Numbers;
 use nob_slots::Slots;
 use std::alloc::{AllocError, Global};
 use std::marker::Model;
@@ -29,6 +32,8 @@ use std::marker::Model;
 pub struct Waiting {
     alloc: Global,
     slots: Slots<Entry>,
+    // The stamps of the messages from each space.
+    froms: Numbers,
     lines: Lines,
     // The stamp of the next message, above all in use.
     next: u64,
@@ -42,6 +47,7 @@ impl Drop for Waiting {
         let Waiting {
             alloc: _,
             slots: _,
+            froms: _,
             lines: _,
             next: _,
             room: _,
@@ -67,7 +73,7 @@ impl Model for Waiting {
       room = w.room;
     } };
 
-    ghost invariant = { λ w. AreWaiting w.slots.rows w.slots.marked w.slots.room w.lines w.next w.room };
+    ghost invariant = { λ w. AreWaiting w.slots.rows w.slots.marked w.slots.room w.froms w.lines w.next w.room };
 }
 
 // The most stamps and copies that there can be.
@@ -112,6 +118,19 @@ fn line_up(lines: &mut Lines, copies: &[RefCopy], stamp: u64) -> u64
     waits
 }
 
+// Takes the entries of a space's stamps out. Linear in them, each with a look for it.
+fn take_all(slots: &mut Slots<Entry>, froms: &Numbers, peer: SpaceId)
+    requires rising { IsRising slots.old.rows }
+    requires marked { AreMarked slots.old.rows slots.old.marked }
+    ensures rows { slots.new.rows ≡ without (numbers_of froms.now peer) slots.old.rows }
+    ensures marked { AreMarked slots.new.rows slots.new.marked }
+    ensures room { slots.new.room ≡ slots.old.room }
+{
+    for stamp in froms.iter(peer) {
+        let _entry = slots.take(stamp);
+    }
+}
+
 impl Waiting {
     /// No messages. It takes no memory before the first.
     pub fn new(alloc: Global) -> Waiting
@@ -120,6 +139,7 @@ impl Waiting {
         Waiting {
             alloc,
             slots: Slots::new(alloc),
+            froms: Numbers::new(alloc),
             lines: Lines::new(alloc),
             next: 0,
             room: 0,
@@ -133,13 +153,14 @@ impl Waiting {
         self.slots.len()
     }
 
-    /// The messages, one after the other. Linear in all of them.
-    pub fn iter(&self) -> Iter<'_>
-        ensures items { result ≡ self.now.items }
+    /// The messages from a space, one after the other. A look for each of them.
+    pub fn from(&self, peer: SpaceId) -> From<'_>
+        ensures items { result ≡ filter (λ message. message.from == peer) self.now.items }
         ensures fits { length result < 2 ^ 64 }
     {
-        Iter {
-            entries: self.slots.iter(),
+        From {
+            slots: &self.slots,
+            stamps: self.froms.iter(peer),
         }
     }
 
@@ -150,6 +171,8 @@ impl Waiting {
         ensures items { self.new.items ≡ self.old.items }
         ensures awaited { self.new.awaited ≡ self.old.awaited }
         ensures ok { OnOk result (copies < self.new.room) }
+        ensures succeeds { copies < self.old.room → IsOk result }
+        ensures room { self.old.room ≤ self.new.room }
     {
         if copies < self.room {
             return Ok(());
@@ -158,6 +181,7 @@ impl Waiting {
             return Err(AllocError);
         }
         self.slots.reserve(1)?;
+        self.froms.reserve(1)?;
         self.lines.reserve(copies)?;
         self.room = copies + 1;
         Ok(())
@@ -178,6 +202,7 @@ impl Waiting {
         let waits = line_up(&mut self.lines, copies, stamp);
         self.next = stamp + 1 + copies.len() as u64;
         self.room = 0;
+        self.froms.push(message.from, stamp);
         self.slots.push(stamp, Entry { message, waits });
         self.slots.mark(stamp, waits == 0);
     }
@@ -245,20 +270,18 @@ impl Waiting {
     {
         let stamp = self.slots.first_marked(0)?;
         let Entry { message, .. } = self.slots.take(stamp)?;
+        self.froms.take(message.from, stamp);
         Some(message)
     }
 
-    /// Drops the messages from a space, whose session has closed. It takes no memory. Linear in the
-    /// messages.
+    /// Drops the messages from a space, whose session has closed. It takes no memory. Linear in those
+    /// messages, each with a look for it.
     pub fn drop_from(&mut self, peer: SpaceId)
         ensures items { self.new.items ≡ filter (is_not_from peer) self.old.items }
         ensures awaited { self.new.awaited ≡ self.old.awaited }
         ensures room { self.new.room ≡ self.old.room }
     {
-        self.slots.retain(
-            |entry: &Entry| -> bool
-                ensures { result ≡ is_not_from peer entry.now.message }
-            { entry.message.from != peer },
-        );
+        take_all(&mut self.slots, &self.froms, peer);
+        self.froms.clear(peer);
     }
 }

@@ -14,7 +14,7 @@ invariant_of-self c =
     let lined : IsLined c.self.inside.lines c.self.inside.slots.rows c.args.rep.now = lined_all c.self.invariant c.args.rep.now (rw (← c.self.view_is) at c.requires.open) in
     ended c.self.invariant (is_same c.args.rep.now) c.clear.new.self c.clear.ensures.counts c.clear.ensures.links c.clear.ensures.room
     (λ s e. lent_entry c.args.rep.now e) c.lend_line-lent.new.slots.rows c.lend_line-lent.new.slots.marked c.lend_line-lent.new.slots.room c.lend_line-lent.ensures.rows c.lend_line-lent.ensures.marked c.lend_line-lent.ensures.room
-    (lent_open c.self.invariant c.args.rep.now lined) (λ s e r off. due_other c.args.rep.now r e.message off)
+    (lent_open c.self.invariant c.args.rep.now lined) (λ s e r off. due_other c.args.rep.now r e.message off) (λ s e. refl)
 
 pub returns-clause-items : goal.returns-clause-items
 returns-clause-items c = rw (← c.self.view_is) (ap items_of c.lend_line-lent.ensures.rows ∙ lent_items c.args.rep.now c.self.inside.slots.rows)

@@ -10,7 +10,7 @@ pub invariant_of-self : goal.invariant_of-self
 invariant_of-self c =
     ended c.self.invariant (λ r. r.owner == c.args.owner) c.clear_of.new.self c.clear_of.ensures.counts c.clear_of.ensures.links c.clear_of.ensures.room
     (λ s e. lowered_entry (times_of c.self.inside.lines c.args.owner (keys_of c.self.inside.lines.counts) s) e) c.lower_all.new.slots.rows c.lower_all.new.slots.marked c.lower_all.new.slots.room c.lower_all.ensures.rows c.lower_all.ensures.marked c.lower_all.ensures.room
-    (owner_open c.self.invariant c.args.owner c.lower_all.ensures.apart) (λ s e r off. refl)
+    (owner_open c.self.invariant c.args.owner c.lower_all.ensures.apart) (λ s e r off. refl) (λ s e. refl)
 
 pub returns-clause-items : goal.returns-clause-items
 returns-clause-items c = rw (← c.self.view_is) (ap items_of c.lower_all.ensures.rows ∙ changed_items (λ s e. lowered_entry (times_of c.self.inside.lines c.args.owner (keys_of c.self.inside.lines.counts) s) e) c.self.inside.slots.rows (λ s e. refl))

@@ -1,12 +1,18 @@
 use Rattle.std.proofs.Common.{◌≡◌, ◌==◌, ◌+◌, ◌<◌, length, filter, ap, sym, subst, ◌∙◌, IsSome, if◌then◌else◌}
+use Rattle.nob_numbers.specs.Numbers.{IsAboveAll}
 use Rattle.nob_slots.specs.Slots.{item_at, PutsMark}
 use Rattle.nob_space_waiting.specs.Waiting.{is_due, places_for, waits_for}
 use Rattle.nob_space_waiting.specs.Lines.{times_in}
 use Rattle.nob_space_waiting.proofs.Pushed.{push_there, pushed}
+use Rattle.nob_space_waiting.proofs.Stamps.{stamps_below}
 use Rattle.nob_space_waiting.proofs.waiting.Waiting.push.Goals as goal
 
+pub push-requires-clause-above : goal.push-requires-clause-above
+push-requires-clause-above c =
+    subst (λ ss. IsAboveAll ss c.self.inside.next) (sym (c.self.invariant.stamps c.args.message.from)) (stamps_below c.args.message.from c.self.inside.next c.self.inside.slots.rows c.self.invariant.above)
+
 pub mark-requires : goal.mark-requires
-mark-requires c = subst (λ rs. IsSome (item_at rs c.self.inside.next)) (sym c.push.ensures.rows) (push_there c.self.inside.next _ c.self.inside.slots.rows c.self.invariant.above)
+mark-requires c = subst (λ rs. IsSome (item_at rs c.self.inside.next)) (sym c.push-2.ensures.rows) (push_there c.self.inside.next _ c.self.inside.slots.rows c.self.invariant.above)
 
 pub invariant_of-self : goal.invariant_of-self
 invariant_of-self c =
@@ -15,9 +21,10 @@ invariant_of-self c =
     (λ r. c.line_up-waits.ensures.counts r ∙ ap (λ copies. places_for c.self.inside.lines.counts r + length (filter (waits_for r) copies)) c.as_slice-copies.ensures)
     (λ r s. c.line_up-waits.ensures.times r s ∙ ap (λ copies. times_in c.self.inside.lines r s + (if c.self.inside.next == s then length (filter (waits_for r) copies) else 0)) c.as_slice-copies.ensures)
     (rw (← c.self.view_is) at c.requires.new)
-    c.mark.new.self.rows c.mark.new.self.marked c.mark.new.self.room (c.self.inside.next + 1 + length c.as_slice-copies.result.now) c.line_up-waits.result
-    (c.mark.ensures.rows ∙ c.push.ensures.rows)
+    c.mark.new.self.rows c.mark.new.self.marked c.mark.new.self.room c.push.new.self (c.self.inside.next + 1 + length c.as_slice-copies.result.now) c.line_up-waits.result
+    (c.mark.ensures.rows ∙ c.push-2.ensures.rows)
     (c.line_up-waits.ensures.count ∙ ap (λ copies. length (filter (λ copy. is_due copy.loan) copies)) c.as_slice-copies.ensures)
-    (subst (λ marked. PutsMark marked c.mark.new.self.marked c.self.inside.next (c.line_up-waits.result == 0)) c.push.ensures.marked c.mark.ensures.marked)
+    c.push.ensures.numbers
+    (subst (λ marked. PutsMark marked c.mark.new.self.marked c.self.inside.next (c.line_up-waits.result == 0)) c.push-2.ensures.marked c.mark.ensures.marked)
     (ap (λ copies. c.self.inside.next + 1 + length copies) c.as_slice-copies.ensures)
     room
