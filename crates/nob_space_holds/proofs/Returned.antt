@@ -138,13 +138,9 @@ one_lent t rep lent =
 
 -- ---- jobs
 
-pub runs_both : (s j : ℕ) (xs ys : List Run) → flat_map (λ (run : Run). loans_of s run.message) (filter (is_run j) (xs ++ ys)) ≡ flat_map (λ (run : Run). loans_of s run.message) (filter (is_run j) xs) ++ flat_map (λ (run : Run). loans_of s run.message) (filter (is_run j) ys)
-runs_both s j xs ys = ap (flat_map (λ (run : Run). loans_of s run.message)) (filter-append (is_run j) xs ys) ∙ flat_map-append (λ (run : Run). loans_of s run.message) (filter (is_run j) xs) (filter (is_run j) ys)
-
--- a job of the number lends what its message lends, and another nothing
-pub run_lends : (s j : ℕ) (run : Run) (b : Bool) → is_run j run ≡ b → flat_map (λ (one : Run). loans_of s one.message) (filter (is_run j) (run ∷ [])) ≡ (if b then loans_of s run.message else [])
-run_lends s j run true is = ap (λ (b : Bool). flat_map (λ (one : Run). loans_of s one.message) (cond b (run ∷ []) [])) is ∙ append-nil (loans_of s run.message)
-run_lends s j run false is = ap (λ (b : Bool). flat_map (λ (one : Run). loans_of s one.message) (cond b (run ∷ []) [])) is
+-- the one job of a number lends what its message lends
+pub run_lends : (s j : ℕ) (runs : List Run) (run : Run) → filter (is_run j) runs ≡ run ∷ [] → flat_map (λ (one : Run). loans_of s one.message) (filter (is_run j) runs) ≡ loans_of s run.message
+run_lends s j runs run alone = ap (flat_map (λ (one : Run). loans_of s one.message)) alone ∙ append-nil (loans_of s run.message)
 
 -- what is no Call has lent no target
 pub no_target : (s : ℕ) (item : Item) → ((call : ℕ) (target method : ℕ) (value : Value) → item ≡ items.Call call target method value → ⊥) → target_lent s item ≡ []
@@ -158,30 +154,20 @@ no_target s (items.Clean index) other = refl
 
 -- ---- what messages from a space have lent
 
--- what messages from a space lend together is what they lend apart
-pub from_both : (s p : ℕ) (xs ys : List Message) → lent_from s p (xs ++ ys) ≡ lent_from s p xs ++ lent_from s p ys
-from_both s p xs ys = ap (flat_map (loans_of s)) (filter-append (is_from p) xs ys) ∙ flat_map-append (loans_of s) (filter (is_from p) xs) (filter (is_from p) ys)
-
--- a message from the space lends what it lends, and another nothing
-pub from_lends : (s p : ℕ) (message : Message) (b : Bool) → is_from p message ≡ b → lent_from s p (message ∷ []) ≡ (if b then loans_of s message else [])
-from_lends s p message true is = ap (λ (b : Bool). flat_map (loans_of s) (cond b (message ∷ []) [])) is ∙ append-nil (loans_of s message)
-from_lends s p message false is = ap (λ (b : Bool). flat_map (loans_of s) (cond b (message ∷ []) [])) is
-
--- ---- messages that are passed one after the other
-
-module _ (s p : ℕ) where
+-- messages that are passed one after the other
+module _ (s : ℕ) where
   -- what the next message has lent still is, where those before gave back theirs
-  pub next_lent : (t u : Table) (all before rest : List Message) (message : Message) → all ≡ before ++ message ∷ rest → HasLent t (lent_from s p all) → GivesBack t u (lent_from s p before) → HasLent u (lent_from s p (message ∷ []))
+  pub next_lent : (t u : Table) (all before rest : List Message) (message : Message) → all ≡ before ++ message ∷ rest → HasLent t (flat_map (loans_of s) all) → GivesBack t u (flat_map (loans_of s) before) → HasLent u (loans_of s message)
   next_lent t u all before rest message is lent back =
-      let apart : lent_from s p all ≡ lent_from s p before ++ (lent_from s p (message ∷ []) ++ lent_from s p rest) =
-      ap (lent_from s p) is ∙ from_both s p before (message ∷ rest) ∙ ap (λ reps. lent_from s p before ++ reps) (from_both s p (message ∷ []) rest) in
-      first_lent u (lent_from s p (message ∷ [])) (lent_from s p rest) (lent_then t u (lent_from s p before) (lent_from s p (message ∷ []) ++ lent_from s p rest) (subst (HasLent t) apart lent) back)
+      let apart : flat_map (loans_of s) all ≡ flat_map (loans_of s) before ++ (loans_of s message ++ flat_map (loans_of s) rest) = ap (flat_map (loans_of s)) is ∙ flat_map-append (loans_of s) before (message ∷ rest) in
+      first_lent u (loans_of s message) (flat_map (loans_of s) rest) (lent_then t u (flat_map (loans_of s) before) (loans_of s message ++ flat_map (loans_of s) rest) (subst (HasLent t) apart lent) back)
 
   -- once it gave back its own
-  pub next_back : (t u v : Table) (seen : List (Bor Message)) (message : Bor Message) → GivesBack t u (lent_from s p (map (λ m. m.now) seen)) → GivesBack u v (lent_from s p (message.now ∷ [])) → GivesBack t v (lent_from s p (map (λ m. m.now) (seen ++ message ∷ [])))
+  pub next_back : (t u v : Table) (seen : List (Bor Message)) (message : Bor Message) → GivesBack t u (flat_map (loans_of s) (map (λ m. m.now) seen)) → GivesBack u v (loans_of s message.now) → GivesBack t v (flat_map (loans_of s) (map (λ m. m.now) (seen ++ message ∷ [])))
   next_back t u v seen message before here =
-      subst (GivesBack t v) (sym (ap (lent_from s p) (map-append (λ m. m.now) seen (message ∷ [])) ∙ from_both s p (map (λ m. m.now) seen) (message.now ∷ [])))
-      (back_then t u v (lent_from s p (map (λ m. m.now) seen)) (lent_from s p (message.now ∷ [])) before here)
+      subst (GivesBack t v)
+      (sym (ap (flat_map (loans_of s)) (map-append (λ m. m.now) seen (message ∷ [])) ∙ flat_map-append (loans_of s) (map (λ m. m.now) seen) (message.now ∷ []) ∙ ap (λ reps. flat_map (loans_of s) (map (λ m. m.now) seen) ++ reps) (append-nil (loans_of s message.now))))
+      (back_then t u v (flat_map (loans_of s) (map (λ m. m.now) seen)) (loans_of s message.now) before here)
 
 -- the messages seen and those left are all, one step further
 pub seen_more : (all left rest : List Message) (seen : List (Bor Message)) (message : Bor Message) → all ≡ map (λ m. m.now) seen ++ left → left ≡ message.now ∷ rest → all ≡ map (λ m. m.now) (seen ++ message ∷ []) ++ rest

@@ -5,13 +5,12 @@ ghost use Rattle.nob_model_words.specs.Messages.{is_not_from};
 ghost use Rattle.nob_model_work.specs.Work.{is_run};
 ghost use Rattle.nob_model_history.specs.Holds.{copies_lent, target_lent, loans_of, is_lent};
 ghost use Rattle.nob_table.specs.Table.{standing};
-ghost use Rattle.nob_space_holds.specs.Returns.{HasLent, GivesBack, is_from, lent_from};
+ghost use Rattle.nob_space_holds.specs.Returns.{HasLent, GivesBack, lent_from};
 
 use nob_ids::{JobNo, SpaceId, WireRep};
 use nob_item::Item;
-use nob_model::{Loan, Message, RefCopy, Run};
+use nob_model::{Loan, Message, RefCopy};
 use nob_space_jobs::Jobs;
-use nob_space_list::SlabList;
 use nob_space_waiting::Waiting;
 use nob_table::{ObjectTable, Part};
 
@@ -77,30 +76,21 @@ pub fn give_back_message(table: &mut ObjectTable, me: SpaceId, message: &Message
     give_back_copies(table, message.copies.as_slice());
 }
 
-// Whether a job has this number.
-fn is_run(job: JobNo, run: &Run) -> bool
-    ensures { result ≡ is_run job run.now }
-{
-    run.job == job
-}
-
-// Gives back what the jobs of this number have lent.
-fn give_back_job(table: &mut ObjectTable, me: SpaceId, job: JobNo, runs: &SlabList<Run>)
+// Gives back what the job of this number has lent, if it runs.
+fn give_back_job(table: &mut ObjectTable, me: SpaceId, job: JobNo, jobs: &Jobs)
     requires { HasLent table.old (flat_map (λ run. loans_of me run.message)
-        (filter (is_run job) runs.now.items)) }
+        (filter (is_run job) jobs.now.running)) }
     ensures { GivesBack table.old table.new
-        (flat_map (λ run. loans_of me run.message) (filter (is_run job) runs.now.items)) }
+        (flat_map (λ run. loans_of me run.message) (filter (is_run job) jobs.now.running)) }
 {
-    for place in 0..runs.len() {
-        let run = &runs[place];
-        if is_run(job, run) {
-            give_back_message(table, me, &run.message);
-        }
-    }
+    let Some(run) = jobs.find_run(job) else {
+        return;
+    };
+    give_back_message(table, me, &run.message);
 }
 
-/// Ends the jobs of this number: what they have lent is given back. Linear in the jobs that run and
-/// in what they have lent.
+/// Ends the job of this number, if it runs: what it has lent is given back. Logarithmic in the jobs
+/// that run, and linear in what it has lent.
 pub fn end_job(table: &mut ObjectTable, jobs: &mut Jobs, me: SpaceId, job: JobNo)
     requires { HasLent table.old (flat_map (λ run. loans_of me run.message)
         (filter (is_run job) jobs.old.running)) }
@@ -109,25 +99,8 @@ pub fn end_job(table: &mut ObjectTable, jobs: &mut Jobs, me: SpaceId, job: JobNo
     ensures ended { jobs.new.running ≡ filter (λ run. not (is_run job run)) jobs.old.running }
     ensures ready { jobs.new.ready ≡ jobs.old.ready }
 {
-    give_back_job(table, me, job, jobs.running());
+    give_back_job(table, me, job, jobs);
     jobs.end(job);
-}
-
-// Whether a message came from a space.
-fn is_from(peer: SpaceId, message: &Message) -> bool
-    ensures { result ≡ is_from peer message.now }
-{
-    message.from == peer
-}
-
-// Gives back what a message has lent, if it came from a space.
-fn give_back_from(table: &mut ObjectTable, me: SpaceId, peer: SpaceId, message: &Message)
-    requires { HasLent table.old (lent_from me peer (message.now ∷ [])) }
-    ensures { GivesBack table.old table.new (lent_from me peer (message.now ∷ [])) }
-{
-    if is_from(peer, message) {
-        give_back_message(table, me, message);
-    }
 }
 
 // Gives back what the messages that wait from a space have lent.
@@ -135,8 +108,8 @@ fn give_back_waiting(table: &mut ObjectTable, me: SpaceId, peer: SpaceId, waitin
     requires { HasLent table.old (lent_from me peer waiting.now.items) }
     ensures { GivesBack table.old table.new (lent_from me peer waiting.now.items) }
 {
-    for message in waiting.iter() {
-        give_back_from(table, me, peer, message);
+    for message in waiting.from(peer) {
+        give_back_message(table, me, message);
     }
 }
 
@@ -145,13 +118,13 @@ fn give_back_ready(table: &mut ObjectTable, me: SpaceId, peer: SpaceId, jobs: &J
     requires { HasLent table.old (lent_from me peer jobs.now.ready) }
     ensures { GivesBack table.old table.new (lent_from me peer jobs.now.ready) }
 {
-    for message in jobs.ready() {
-        give_back_from(table, me, peer, message);
+    for message in jobs.ready_from(peer) {
+        give_back_message(table, me, message);
     }
 }
 
 /// Throws the messages that wait from a space away: what they have lent is given back. Linear in
-/// the messages that wait.
+/// them and what they have lent.
 pub fn throw_waiting_away(
     table: &mut ObjectTable,
     waiting: &mut Waiting,
@@ -167,8 +140,8 @@ pub fn throw_waiting_away(
     waiting.drop_from(peer);
 }
 
-/// Throws the ready jobs of a space away: what they have lent is given back. Linear in the ready
-/// jobs.
+/// Throws the ready jobs of a space away: what they have lent is given back. Linear in them and
+/// what they have lent.
 pub fn throw_ready_away(table: &mut ObjectTable, jobs: &mut Jobs, me: SpaceId, peer: SpaceId)
     requires { HasLent table.old (lent_from me peer jobs.old.ready) }
     ensures back { GivesBack table.old table.new (lent_from me peer jobs.old.ready) }
@@ -176,5 +149,5 @@ pub fn throw_ready_away(table: &mut ObjectTable, jobs: &mut Jobs, me: SpaceId, p
     ensures running { jobs.new.running ≡ jobs.old.running }
 {
     give_back_ready(table, me, peer, jobs);
-    jobs.retain_ready(|message| !is_from(peer, message));
+    jobs.drop_from(peer);
 }

@@ -1,6 +1,7 @@
-use Rattle.std.proofs.Common.{◌≡◌, ◌++◌, map}
-use Rattle.nob_space_holds.specs.Returns.{lent_from, GivesBack}
+use Rattle.std.proofs.Common.{◌≡◌, ◌==◌, ◌++◌, filter, flat_map, map}
+use Rattle.nob_model_history.specs.Holds.{loans_of}
+use Rattle.nob_space_holds.specs.Returns.{GivesBack}
 use Rattle.nob_space_holds.proofs.returns.give_back_waiting.Given as goal
 
 abbrev pub invariant-loop-message : goal.invariant-loop-message
-invariant-loop-message l = GivesBack l.fn.table l.table (lent_from l.me l.peer (map (λ m. m.now) l.yielded)) × (l.waiting.items ≡ map (λ m. m.now) l.yielded ++ l.message-iterator)
+invariant-loop-message l = GivesBack l.fn.table l.table (flat_map (loans_of l.me) (map (λ m. m.now) l.yielded)) × (filter (λ message. message.from == l.peer) l.waiting.items ≡ map (λ m. m.now) l.yielded ++ l.message-iterator)
