@@ -18,8 +18,8 @@ use std::marker::Model;
 /// order of becoming ready. Contracts see both lists, and for how many more of each there is room.
 ///
 /// A call is looked for by halving, since the numbers of the calls rise, and for each space the
-/// numbers of the calls made to it stand in a list of their own. For each call that has a ready reply
-/// a map has the stamp of the first, and the replies stand in the order of their stamps.
+/// numbers of the calls made to it stand in a list of their own. For each call that has a ready
+/// reply a map has the stamp of the first, and the replies stand in the order of their stamps.
 #[derive(Drop)]
 pub struct Calls {
     calls: Rows,
