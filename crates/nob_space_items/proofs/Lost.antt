@@ -107,7 +107,7 @@ due_open s n p k item E rep due = elim (is_lost s n rep E) as (λ b. is_lost s n
 
 module _ (s n : ℕ) (D E : List Deed) (m : Message) (same : (rep : WireRep) → is_lost s n rep E ≡ is_lost s n rep D) (is_open : (rep : WireRep) → is_due_in (m ∷ []) rep ≡ true → is_lost s n rep E ≡ false) where
   -- what is awaited once the message was put where it goes
-  pub message_awaited : (old new : List (WireRep × ℕ)) (item : Item) (W : InHand) → IsMessage item → AreAwaited s n old W.waiting D → ((rep : WireRep) → is_awaited new rep ≡ (is_awaited old rep || is_due_in (m ∷ []) rep)) → AreAwaited s n new (after_message m item W).waiting E
+  pub message_awaited : (old new : List WireRep) (item : Item) (W : InHand) → IsMessage item → AreAwaited s n old W.waiting D → ((rep : WireRep) → is_awaited new rep ≡ (is_awaited old rep || is_due_in (m ∷ []) rep)) → AreAwaited s n new (after_message m item W).waiting E
   message_awaited old new item W message before more = λ rep due.
       more rep
       ∙ elim (is_due_in (m ∷ []) rep) as (λ b. is_due_in (m ∷ []) rep ≡ b → (is_awaited old rep || b) ≡ not (is_lost s n rep E)) [
@@ -117,9 +117,9 @@ module _ (s n : ℕ) (D E : List Deed) (m : Message) (same : (rep : WireRep) →
             or_none (is_awaited old rep) ∙ before rep others ∙ ap not (sym (same rep))
       ] refl
 
-  -- no reference that messages wait for in vain is due to it
+  -- a reference that is due to it and to messages that wait is awaited
   pub message_new : (w : WaitingList) → AreAwaited s n w.awaited w.items D → IsNew w m
-  message_new w before = λ rep due others. ap not (before rep others ∙ ap not (sym (same rep) ∙ is_open rep due))
+  message_new w before = λ rep due others. before rep others ∙ ap not (sym (same rep) ∙ is_open rep due)
 
 -- ---- an owner's answer
 
@@ -135,7 +135,7 @@ pending_open s n rep D peer up pending = far_lost s n rep D peer up ∙ (waiting
 
 module _ (s n : ℕ) (D E : List Deed) (rep : WireRep) (others : (other : WireRep) → is_same rep other ≡ false → is_lost s n other E ≡ is_lost s n other D) where
   -- once nothing is awaited any more of the owner of one reference
-  ended_awaited : (old new : List (WireRep × ℕ)) (waiting later : List Message) → AreAwaited s n old waiting D → ((other : WireRep) → is_awaited new other ≡ (not (is_same rep other) && is_awaited old other))
+  ended_awaited : (old new : List WireRep) (waiting later : List Message) → AreAwaited s n old waiting D → ((other : WireRep) → is_awaited new other ≡ (not (is_same rep other) && is_awaited old other))
       → ((other : WireRep) → is_same rep other ≡ false → is_due_in later other ≡ is_due_in waiting other) → (is_due_in later rep ≡ true → is_lost s n rep E ≡ true) → AreAwaited s n new later E
   ended_awaited old new waiting later before ends left lost = λ other due.
       ends other
@@ -145,11 +145,11 @@ module _ (s n : ℕ) (D E : List Deed) (rep : WireRep) (others : (other : WireRe
       ] refl
 
   -- where it is refused
-  pub refused_awaited : (old new : List (WireRep × ℕ)) (waiting : List Message) → AreAwaited s n old waiting D → ((other : WireRep) → is_awaited new other ≡ (not (is_same rep other) && is_awaited old other)) → is_lost s n rep E ≡ true → AreAwaited s n new waiting E
+  pub refused_awaited : (old new : List WireRep) (waiting : List Message) → AreAwaited s n old waiting D → ((other : WireRep) → is_awaited new other ≡ (not (is_same rep other) && is_awaited old other)) → is_lost s n rep E ≡ true → AreAwaited s n new waiting E
   refused_awaited old new waiting before ends lost = ended_awaited old new waiting waiting before ends (λ other differs. refl) (λ due. lost)
 
   -- where it is granted
-  pub granted_awaited : (old new : List (WireRep × ℕ)) (waiting : List Message) → AreAwaited s n old waiting D → ((other : WireRep) → is_awaited new other ≡ (not (is_same rep other) && is_awaited old other)) → AreAwaited s n new (map (granted_message rep) waiting) E
+  pub granted_awaited : (old new : List WireRep) (waiting : List Message) → AreAwaited s n old waiting D → ((other : WireRep) → is_awaited new other ≡ (not (is_same rep other) && is_awaited old other)) → AreAwaited s n new (map (granted_message rep) waiting) E
   granted_awaited old new waiting before ends = ended_awaited old new waiting (map (granted_message rep) waiting) before ends
       (λ other differs. ap (nat_lt 0) (others_due rep other waiting differs))
       (λ due. (let bad : true ≡ false = sym due ∙ ap (nat_lt 0) (granted_due rep waiting) in absurd (cc)))

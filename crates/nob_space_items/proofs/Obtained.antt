@@ -75,8 +75,8 @@ module _ {s n p k : ℕ} {limits : Limits} {st : State} {D : List Deed} (stands 
       omega (arith, after, same, low, few)
 
   -- where it is due it is awaited
-  pub due_awaited : is_due_in st.work.waiting (own_ref p index) ≡ true → not (is_awaited st.awaited (own_ref p index)) ≡ false
-  due_awaited due = ap not (stands.awaited (own_ref p index) due ∙ ap not (pending_open s n (own_ref p index) D front.peer front.is_open (awaited true index front)))
+  pub due_awaited : is_due_in st.work.waiting (own_ref p index) ≡ true → is_awaited st.awaited (own_ref p index) ≡ true
+  due_awaited due = stands.awaited (own_ref p index) due ∙ ap not (pending_open s n (own_ref p index) D front.peer front.is_open (awaited true index front))
 
   -- the loans that are due can be counted
   pub due_low : due_to_all (own_ref p index) st.work.waiting < 18446744073709551616
@@ -118,7 +118,7 @@ module _ {s n p k : ℕ} {limits : Limits} {st : State} {D : List Deed} (stands 
   -- after a DirtyOk
   pub granted_stands : (index : ℕ) → IsFront s n p k (items.DirtyOk index) D → (u v : Table) → ChangeLeaves st.table u → Becomes st.table u (own_ref p index) (in_state states.Granted (standing st.table (own_ref p index)))
       → (count : ℕ) → count ≡ due_to_all (own_ref p index) st.work.waiting → Lends u v (replicate count (own_ref p index)) → (waiting : List Message) → waiting ≡ map (granted_message (own_ref p index)) st.work.waiting
-      → (awaits : List (WireRep × ℕ)) → ((other : WireRep) → is_awaited awaits other ≡ (not (is_same (own_ref p index) other) && is_awaited st.awaited other))
+      → (awaits : List WireRep) → ((other : WireRep) → is_awaited awaits other ≡ (not (is_same (own_ref p index) other) && is_awaited st.awaited other))
       → Stands s n limits (record { sessions = set st.sessions (place - 1) new; table = v; dirty = st.dirty; pins = st.pins; work = record { waiting = waiting; ready = st.work.ready; running = st.work.running; replies = st.work.replies; calls = st.work.calls }; awaited = awaits; calls = st.calls; jobs = st.jobs }) (Act p k ∷ D)
   granted_stands index front u v leaves becomes count due lends waiting made awaits ends =
       let there : item_at p k D ≡ Some (items.DirtyOk index) = front_is front limits stands.right in

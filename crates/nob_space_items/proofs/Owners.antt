@@ -179,7 +179,7 @@ module _ {s n p k : ℕ} {limits : Limits} {st : State} {D : List Deed} (stands 
 module _ {s n p k : ℕ} {limits : Limits} {st : State} {D : List Deed} (stands : Stands s n limits st D) (place : ℕ) (at : place ≡ p) (old new : Roomy) (is : old ≡ get_or st.sessions (place - 1) old)
     (take : (me peer : ℕ) (limits : Limits) (L : List EndEntry) → session.Stands me peer limits old.end L → session.Stands me peer limits new.end (ends.Take ∷ L)) where
   -- the state with the answer, once its loans are made
-  pub answer_stands : (granted : Bool) (index : ℕ) → IsFront s n p k (answer_note granted index) D → (t : Table) (W : InHand) (awaits : List (WireRep × ℕ))
+  pub answer_stands : (granted : Bool) (index : ℕ) → IsFront s n p k (answer_note granted index) D → (t : Table) (W : InHand) (awaits : List WireRep)
       → AreAwaited s n awaits W.waiting (Act p k ∷ D) → TableShows s n t (history_of s n (Act p k ∷ D)) (λ rep. hand rep D) (λ rep. times rep (lent_in s W)) → W ≡ with_loans s n (Act p k ∷ D) (work s n D)
       → Stands s n limits (record { sessions = set st.sessions (place - 1) new; table = t; dirty = st.dirty; pins = st.pins; work = W; awaited = awaits; calls = st.calls; jobs = st.jobs }) (Act p k ∷ D)
   unfolding gifts_of_act act_refusal
@@ -240,7 +240,7 @@ module _ {s n p k : ℕ} {limits : Limits} {st : State} {D : List Deed} (stands 
     (take : (me peer : ℕ) (limits : Limits) (L : List EndEntry) → session.Stands me peer limits old.end L → session.Stands me peer limits new.end (ends.Take ∷ L)) where
   -- after a DirtyNo
   pub refused_stands : (index : ℕ) → IsFront s n p k (items.DirtyNo index) D → (t : Table) → ChangeLeaves st.table t → Becomes st.table t (own_ref p index) (in_state states.Refused (standing st.table (own_ref p index)))
-      → (waiting : List Message) → waiting ≡ st.work.waiting → (awaits : List (WireRep × ℕ)) → ((other : WireRep) → is_awaited awaits other ≡ (not (is_same (own_ref p index) other) && is_awaited st.awaited other))
+      → (waiting : List Message) → waiting ≡ st.work.waiting → (awaits : List WireRep) → ((other : WireRep) → is_awaited awaits other ≡ (not (is_same (own_ref p index) other) && is_awaited st.awaited other))
       → Stands s n limits (record { sessions = set st.sessions (place - 1) new; table = t; dirty = st.dirty; pins = st.pins; work = record { waiting = waiting; ready = st.work.ready; running = st.work.running; replies = st.work.replies; calls = st.work.calls }; awaited = awaits; calls = st.calls; jobs = st.jobs }) (Act p k ∷ D)
   refused_stands index front t leaves becomes waiting same awaits ends =
       let there : item_at p k D ≡ Some (items.DirtyNo index) = front_is front limits stands.right in

@@ -5,7 +5,6 @@ use Rattle.std.specs.List.{AllByRecursion, IsDistinct, list_any, list_all}
 use Rattle.std.proofs.lemmas.Bool.{and_parts, or_parts, not-true, not-false}
 use Rattle.std.proofs.lemmas.Bool.Decides.{nat_tests, Decides-eqb}
 use Rattle.std.proofs.lemmas.List.{length-map}
-use Rattle.std.proofs.lemmas.Option.{slice_get_read}
 use Rattle.nob_ids.specs.Names.{is_same, is_counted}
 use Rattle.nob_ids.specs.declared.limits.Limits.{Limits}
 use Rattle.nob_ids.specs.declared.reason.Reason.{Reason}
@@ -308,13 +307,10 @@ module _ {s n : ℕ} {limits : Limits} {st : State} {D : List Deed} (stands : St
 
   -- its item waits in front
   pub front_ready : (mid : List Roomy) → SendsAll st1.sessions mid (wanted_refs s n st (counted_in item)) → HasFront mid p
-  front_ready mid sends = λ end is.
+  front_ready mid sends = λ end there.
       let G : List Gift = map dirty_for (wanted_refs s n st (counted_in item)) in
       let peer = front.peer in
       let low : 1 ≤ p = grind (arith, nat_tests, peer) in
-      let high : p ≤ n = grind (arith, nat_tests, peer) in
-      let each : length mid ≡ n = sends.each ∙ grows.sessions.each ∙ stands.ends.each in
-      let there : slice_get mid (p - 1) ≡ Some end = slice_get_read mid (length mid) (p - 1) end refl (omega (arith, low, high, each)) is in
       let later = sends.ends (p - 1) end there in
       let before = grows.sessions.ends (p - 1) later.0 later.1 in
       let at : p - 1 + 1 ≡ p = omega (arith, low) in

@@ -1,9 +1,10 @@
 -- The state once a Call or a Reply was acted on stands for one deed more.
-use Rattle.std.proofs.Common.{◌≡◌, ℕ, ◌+◌, true, false, List, [], ◌∷◌, ◌++◌, map, flat_map, if◌then◌else◌, refl, sym, ap, subst, ◌∙◌, arith}
+use Rattle.std.proofs.Common.{◌≡◌, ℕ, ◌+◌, ◌-◌, true, false, List, [], ◌∷◌, ◌++◌, map, flat_map, get_or, if◌then◌else◌, refl, sym, ap, subst, ◌∙◌, arith}
 use Rattle.std.specs.List.{sum_by}
 use Rattle.std.proofs.lemmas.Cmp.{nat_eq_equiv}
 use Rattle.std.proofs.lemmas.List.{append-nil}
 use Rattle.std.proofs.lemmas.List.Concat.{flat_map-append}
+use Rattle.std.proofs.lemmas.Option.{get_or_from_slice_get}
 use Rattle.nob_ids.specs.declared.limits.Limits.{Limits}
 use Rattle.nob_ids.specs.declared.wire_rep.WireRep.{WireRep}
 use Rattle.nob_item.specs.Kinds.{counted_in}
@@ -113,7 +114,8 @@ module _ {s n : ℕ} {limits : Limits} {st new : State} {D : List Deed} (stands 
 
   ends_after : EndsStand s n limits new.sessions (history_of s n (Act p k ∷ D))
   ends_after =
-      let there = end_there s n limits receives.sent between p receives.takes.before ends_between front.peer receives.takes.was in
+      let was : receives.takes.before ≡ get_or receives.sent (p - 1) receives.takes.before = sym (get_or_from_slice_get receives.sent (p - 1) receives.takes.before receives.takes.before receives.takes.was) in
+      let there = end_there s n limits receives.sent between p receives.takes.before ends_between front.peer was in
       let here : calls_at p (history_of s n (Act p k ∷ D)) ≡ ends.Take ∷ calls_at p between = act_calls stands p k item front message p ∙ ap (λ b. if b then ends.Take ∷ calls_at p between else calls_at p between) (nat_eq_equiv.refl p) in
       subst (λ (sessions : List Roomy). EndsStand s n limits sessions (history_of s n (Act p k ∷ D))) (sym receives.takes.is)
       (ends_changed s n limits receives.sent between (history_of s n (Act p k ∷ D)) p receives.takes.after ends_between there.0

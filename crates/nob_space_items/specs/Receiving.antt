@@ -1,5 +1,5 @@
 -- What acting on a Call or a Reply makes of the state, once there is room for all.
-use Rattle.std.specs.Prelude.{◌≡◌, ℕ, ◌-◌, ◌<◌, ◌≤◌, ◌||◌, List, [], ◌∷◌, length, get_or, slice_set}
+use Rattle.std.specs.Prelude.{◌≡◌, ℕ, ◌-◌, ◌<◌, ◌≤◌, ◌||◌, List, [], ◌∷◌, length, Some, slice_get, slice_set}
 use Rattle.nob_ids.specs.declared.limits.Limits.{Limits}
 use Rattle.nob_ids.specs.declared.wire_rep.WireRep.{WireRep}
 use Rattle.nob_model_session.specs.declared.entry.EndEntry.{EndEntry}
@@ -18,13 +18,13 @@ use Rattle.nob_space_items.specs.Placing.{IsMessage}
 
 -- an item waits at the end with a peer
 abbrev pub HasFront : List Roomy → ℕ → Type 0
-HasFront ends p = (end : Roomy) → end ≡ get_or ends (p - 1) end → 0 < length end.end.waiting
+HasFront ends p = (end : Roomy) → slice_get ends (p - 1) ≡ Some end → 0 < length end.end.waiting
 
 -- the end with a peer has taken the item in front, and every other end is as before
 pub record Takes (old new : List Roomy) (p : ℕ) : Type 0 where
   pub before : Roomy
   pub after : Roomy
-  pub was : before ≡ get_or old (p - 1) before
+  pub was : slice_get old (p - 1) ≡ Some before
   pub is : new ≡ slice_set old (p - 1) after
   pub answer : (me peer : ℕ) (limits : Limits) (L : List EndEntry) → session.Stands me peer limits before.end L → session.Stands me peer limits after.end (Take ∷ L)
 

@@ -82,7 +82,7 @@ loans_fixed s n D m same =
     all_weaker (λ (copy : RefCopy). copy_after s n D copy ≡ copy) (λ (copy : RefCopy). loan_after (is_own s copy.rep || is_usable s n copy.rep D) copy.loan ≡ copy.loan) (λ copy fixed. ap (λ (c : RefCopy). c.loan) fixed) m.copies
     (all_fixed (λ copy. copy_after s n D copy) m.copies (ap (λ (o : Message). o.copies) same))
 
-module _ (s n : ℕ) (D : List Deed) (awaited : List (WireRep × ℕ)) where
+module _ (s n : ℕ) (D : List Deed) (awaited : List WireRep) where
   copies_resolved : (copies : List RefCopy)
       → AllByRecursion (λ (copy : RefCopy). copy.loan ≡ loans.Lent → is_owned s n copy.rep D ≡ true) copies
       → AllByRecursion (λ (copy : RefCopy). copy.loan ≡ loans.Never → is_lost s n copy.rep D ≡ true) copies

@@ -93,8 +93,8 @@ fn forget(table: &mut ObjectTable, rep: &WireRep)
 
 /// Clean: the first surrogate, in the order of the last Dirties, that is granted on an open session
 /// and has neither holds nor pins is given up: its owner is told so by an item. Nothing where there
-/// is none, SeqEnd where the session with its owner has no number left. Linear in the surrogates,
-/// once more for each surrogate that nothing holds but that has pins.
+/// is none, SeqEnd where the session with its owner has no number left. A few look-ups, and one more
+/// for each surrogate before it that nothing holds but that has pins.
 pub fn clean(parts: &mut Parts, alloc: Global, here: &Here) -> Result<WireRep, SpaceError>
     requires { IsState here.now.space here.now.n (state_of parts.old) }
     ensures answer { (limits : LimitsOf) (D : List Deed)

@@ -20,7 +20,7 @@ pub same_lost : (s n : ℕ) (rep : WireRep) (D E : List Deed) → closed rep.own
 same_lost s n rep D E cut turned = λ i. not (is_own s rep) && (not (is_peer s n rep.owner) || cut i || is_refused (turned i))
 
 -- what is awaited stays so where the same is lost
-pub still_awaited : (s n : ℕ) (awaited : List (WireRep × ℕ)) (waiting : List Message) (D E : List Deed) → AreAwaited s n awaited waiting D → ((rep : WireRep) → is_lost s n rep E ≡ is_lost s n rep D) → AreAwaited s n awaited waiting E
+pub still_awaited : (s n : ℕ) (awaited : List WireRep) (waiting : List Message) (D E : List Deed) → AreAwaited s n awaited waiting D → ((rep : WireRep) → is_lost s n rep E ≡ is_lost s n rep D) → AreAwaited s n awaited waiting E
 still_awaited s n awaited waiting D E before same = λ rep due. before rep due ∙ ap not (sym (same rep))
 
 -- some loan is due where one is due to fewer messages
@@ -40,11 +40,11 @@ without_due rep test (m ∷ ms) =
     elim (test m) as (λ b. due_to_all rep (if b then ms else m ∷ without_first test ms) ≤ due_to rep m + due_to_all rep ms) [ true ↦ omega arith | false ↦ omega (arith, rest) ]
 
 -- what is due to some of the messages is due to them all
-pub filter_awaited : (s n : ℕ) (awaited : List (WireRep × ℕ)) (D : List Deed) (test : Message → Bool) (ms : List Message) → AreAwaited s n awaited ms D → AreAwaited s n awaited (filter test ms) D
+pub filter_awaited : (s n : ℕ) (awaited : List WireRep) (D : List Deed) (test : Message → Bool) (ms : List Message) → AreAwaited s n awaited ms D → AreAwaited s n awaited (filter test ms) D
 filter_awaited s n awaited D test ms before = λ rep due. before rep (due_more (due_to_all rep (filter test ms)) (due_to_all rep ms) (filter_due rep test ms) due)
 
 -- and to all but one
-pub without_awaited : (s n : ℕ) (awaited : List (WireRep × ℕ)) (D : List Deed) (test : Message → Bool) (ms : List Message) → AreAwaited s n awaited ms D → AreAwaited s n awaited (without_first test ms) D
+pub without_awaited : (s n : ℕ) (awaited : List WireRep) (D : List Deed) (test : Message → Bool) (ms : List Message) → AreAwaited s n awaited ms D → AreAwaited s n awaited (without_first test ms) D
 without_awaited s n awaited D test ms before = λ rep due. before rep (due_more (due_to_all rep (without_first test ms)) (due_to_all rep ms) (without_due rep test ms) due)
 
 -- the references of a peer whose session closes are lost, and the others as before
@@ -64,7 +64,7 @@ closing_lost s n p reason cause D rep peer = elim (rep.owner == p) as (λ b. rep
     whichever false = refl
 
 -- what is awaited once a session has closed
-pub closing_awaited : (s n p : ℕ) (reason : Reason) (cause : Cause) (D : List Deed) (old new : List (WireRep × ℕ)) (ms : List Message) → is_peer s n p ≡ true → AreAwaited s n old ms D
+pub closing_awaited : (s n p : ℕ) (reason : Reason) (cause : Cause) (D : List Deed) (old new : List WireRep) (ms : List Message) → is_peer s n p ≡ true → AreAwaited s n old ms D
     → ((rep : WireRep) → is_awaited new rep ≡ (not (rep.owner == p) && is_awaited old rep)) → AreAwaited s n new (filter (is_not_from p) ms) (Closing p reason cause ∷ D)
 closing_awaited s n p reason cause D old new ms peer before loses = λ rep due.
     loses rep ∙ ap (λ b. not (rep.owner == p) && b) (filter_awaited s n old D (is_not_from p) ms before rep due) ∙ sym (closing_lost s n p reason cause D rep peer)

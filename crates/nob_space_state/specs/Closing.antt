@@ -40,11 +40,14 @@ pub record LosesOwner (old new : Table) (owner : ℕ) : Type 0 where
   pub exported : new.exported ≡ old.exported
   pub dirties : new.dirties ≡ old.dirties
 
--- the table of a space whose session with p closes: what was lent in vain is given back, the references to p's objects are lost, and what only p was listed for is let go
+-- what becomes of the table of a space whose session with p closes
 pub record TableLoses (s p : ℕ) (old : Table) (listed : List Listing) (W : InHand) (new : Table) (left : List Listing) : Type 0 where
+  -- what was lent in vain is given back
   pub back : Table
   pub gives : GivesBack old back (lent_in_vain s p W)
+  -- the references to p's objects are lost
   pub loses : LosesOwner back new p
+  -- what only p was listed for is let go
   pub kept : HaveClients back listed → HaveClients new left
 
 -- what the closing of the session with p leaves of the parts, the end itself aside

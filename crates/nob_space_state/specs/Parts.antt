@@ -8,15 +8,23 @@ use Rattle.nob_pins.specs.Bundles as pins
 use Rattle.nob_model_work.specs.declared.work.InHand.{InHand}
 use Rattle.nob_space_state.specs.declared.parts.Parts.{Parts}
 
--- what a space keeps: sessions, the one with space p at place p - 1; objects and surrogates; clients; pins; work in hand; how many wait for each reference whose answer is to come; how many calls and jobs
+-- what a space keeps, in parts
 pub record State : Type 0 where
+  -- its ends of the sessions, the one with space p at place p - 1
   pub sessions : List Roomy
+  -- its objects, and its surrogates of others'
   pub table : Table
+  -- the clients that are listed for its objects
   pub dirty : List Listing
+  -- the pins of what it sent
   pub pins : pins.Table
+  -- the work in hand
   pub work : InHand
-  pub awaited : List (WireRep × ℕ)
+  -- the references that messages wait for and whose owners' answers are to come
+  pub awaited : List WireRep
+  -- how many calls were made
   pub calls : ℕ
+  -- how many jobs were claimed
   pub jobs : ℕ
 
 -- the parts as plain data
@@ -75,8 +83,8 @@ with_work work calls jobs st =
       jobs = jobs;
     }
 
--- the state with so many waiting for each reference whose answer is to come
-abbrev pub with_awaited : List (WireRep × ℕ) → State → State
+-- the state with other references whose owners' answers are to come
+abbrev pub with_awaited : List WireRep → State → State
 with_awaited awaited st =
     record {
       sessions = st.sessions;

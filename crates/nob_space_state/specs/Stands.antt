@@ -43,7 +43,7 @@ abbrev pub PinsStand : List Pinned → History → Type 0
 PinsStand bundles h = (f : Pinned → ℕ) → sum_by f bundles ≡ sum_by f (map bundle (transit.bundles h))
 
 -- of the references that are due to messages that wait, those are awaited that aren't lost
-abbrev pub AreAwaited : (s n : ℕ) → List (WireRep × ℕ) → List Message → List Deed → Type 0
+abbrev pub AreAwaited : (s n : ℕ) → List WireRep → List Message → List Deed → Type 0
 AreAwaited s n awaited waiting D = (rep : WireRep) → is_due_in waiting rep ≡ true → is_awaited awaited rep ≡ not (is_lost s n rep D)
 
 -- a state of space s among n, with these limits, stands for a list of what the space did: each deed was right after those before

@@ -70,7 +70,8 @@ impl Parts {
     /// Finish: a job that runs is ended. Its outcome goes to its client as a reply, whose
     /// references are pinned until the client has settled them; what its call had lent is given
     /// back. Where the session with the client has closed the reply is dropped, whatever the
-    /// outcome. Linear in the value and the running jobs.
+    /// outcome. Logarithmic in the jobs that run, and linear in the value and in what the call had
+    /// lent.
     pub fn finish(
         &mut self,
         alloc: Global,

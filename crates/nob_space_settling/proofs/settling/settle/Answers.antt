@@ -227,7 +227,7 @@ returns-clause-stands c limits D stands =
     let one : c.in-Some-take_settleable.message ≡ c.in-Some.message.now = some_same (sym taken ∙ seen) in
     let reply = c.in_ok-reply.ensures.spelled in
     subst (λ (after : State). Stands c.args.here.now.space c.args.here.now.n limits after (did.Settle c.in-Some.message.now.from c.in-Some.message.now.number ∷ D)) (sym c.put_settled.ensures.put)
-    (subst (λ (awaited : List (WireRep × ℕ)). Stands c.args.here.now.space c.args.here.now.n limits (record {
+    (subst (λ (awaited : List WireRep). Stands c.args.here.now.space c.args.here.now.n limits (record {
       sessions = set c.args.parts.now.sessions.items (c.get.result - 1) c.hand_notes.new.session;
       table = c.put_settled.new.parts.table;
       dirty = c.args.parts.now.dirty;
