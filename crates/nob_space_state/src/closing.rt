@@ -43,10 +43,10 @@ impl Parts {
     }
 
     /// The session with a peer closes here for a reason: an item from it has a fault, or it was
-    /// asked to close. It takes no memory. Linear in what it throws away: the messages that wait from
-    /// the peer, and the peer's references, listings, pins and calls, each with a look-up or a few;
-    /// and in all ready jobs and their targets. The caller's condition: it is a peer, and its
-    /// session is open here.
+    /// asked to close. It takes no memory. Linear in what it throws away, with a few look-ups for each: the
+    /// messages that wait from the peer and its ready jobs, what waits for its references, and its
+    /// references, listings, pins and calls. The caller's condition: it is a peer, and its session is
+    /// open here.
     pub fn close_for(&mut self, here: &Here, peer: SpaceId, reason: Reason)
         requires state { IsState here.now.space here.now.n (state_of self.old) }
         requires peer { is_peer here.now.space here.now.n peer ≡ true }

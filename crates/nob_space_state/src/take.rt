@@ -105,8 +105,8 @@ impl Parts {
     }
 
     /// TakeReply of a call: its reply, whose references come into the hand, or that there will be
-    /// none. It takes no memory. Logarithmic in the calls and the ready replies, and the calls made
-    /// after it move by one.
+    /// none. It takes no memory. Logarithmic in the calls and the ready replies, and linear in the
+    /// value.
     pub fn take_reply(&mut self, here: &Here, call: CallNo) -> Result<CallResult, Refusal>
         requires { IsState here.now.space here.now.n (state_of self.old) }
         ensures answer { (limits : LimitsOf) (D : List Deed)
