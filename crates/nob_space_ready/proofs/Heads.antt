@@ -1,5 +1,5 @@
 -- The first job that is marked is the first that may start.
-use Rattle.std.proofs.Common.{◌≡◌, ℕ, ◌<◌, ◌≤◌, ◌==◌, ◌&&◌, Bool, true, false, cond, List, [], ◌∷◌, find, Option, Some, None, inl, inr, refl, sym, ap, ◌∙◌, arith, true≢false, eqb-true}
+use Rattle.std.proofs.Common.{◌≡◌, ℕ, ◌<◌, ◌≤◌, ◌==◌, Bool, true, false, cond, List, [], ◌∷◌, find, Option, Some, None, inl, inr, refl, sym, ap, ◌∙◌, arith, true≢false, eqb-true}
 use Rattle.std.proofs.lemmas.Bool.{and_parts, cases_lt, eq-eqb}
 use Rattle.std.proofs.lemmas.Cmp.{nat_eq_equiv}
 use Rattle.std.proofs.lemmas.Map.Made.{lookup-map_values}
@@ -14,7 +14,7 @@ use Rattle.nob_space_ready.specs.declared.lanes.Lane.{Lane}
 use Rattle.nob_space_ready.specs.declared.links.Link.{Link}
 use Rattle.nob_space_ready.specs.Ready.{is_free_at, is_target, runs_at}
 use Rattle.nob_space_ready.specs.Lanes.{lane_at, runs_in, runs_of}
-use Rattle.nob_space_ready.specs.Lines.{AreLines, AreLinked, IsLane, IsNext, has_target, is_head, is_head_of, is_in_line, is_place, target_at}
+use Rattle.nob_space_ready.specs.Lines.{AreLines, AreLinked, IsLane, IsNext, is_head, is_head_of, is_in_line, is_place}
 use Rattle.nob_space_ready.specs.Rows.{SameTargets, message_target, messages_in}
 use Rattle.nob_space_ready.proofs.Found.{found_above, found_behind}
 use Rattle.nob_space_ready.proofs.Written.{has_it, target_is}

@@ -6,3 +6,4 @@ pub mod Joined
 pub mod Left
 pub mod Heads
 pub mod Stamps
+pub mod Kept

@@ -1,9 +1,9 @@
 -- One stamp more in line, behind all others.
-use Rattle.std.proofs.Common.{◌≡◌, ℕ, ◌+◌, ◌<◌, ◌≤◌, ◌==◌, Bool, true, false, Option, Some, None, is_some, ◌⊎◌, inl, inr, refl, sym, ap, subst, ◌∙◌, arith, if◌then◌else◌, eqb-true, true≢false}
+use Rattle.std.proofs.Common.{◌≡◌, ℕ, ◌+◌, ◌<◌, ◌≤◌, Bool, true, false, Option, Some, None, is_some, ◌⊎◌, inl, inr, refl, sym, ap, subst, ◌∙◌, arith, if◌then◌else◌, eqb-true, true≢false}
 use Rattle.std.proofs.lemmas.Bool.{cases_eq, cases_lt, eq-eqb}
 use Rattle.nob_space_ready.specs.declared.lanes.Lane.{Lane}
 use Rattle.nob_space_ready.specs.Lanes.{last_of}
-use Rattle.nob_space_ready.specs.Lines.{IsBefore, IsLane, IsLast, IsLine, IsNext, first_or, is_place, lane_pushed, with_if}
+use Rattle.nob_space_ready.specs.Lines.{IsBefore, IsLast, IsLine, IsNext, first_or, is_place, lane_pushed, with_if}
 
 pub last_on : (some : Bool) (last at : ℕ) → is_place (if some then Some last else None) at ≡ true → (some ≡ true) × (last ≡ at)
 last_on true last at on = (refl, eqb-true last at on)

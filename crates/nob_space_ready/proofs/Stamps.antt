@@ -1,8 +1,8 @@
 -- Messages under their stamps: those from one space.
-use Rattle.std.proofs.Common.{◌≡◌, ℕ, ◌<◌, ◌≤◌, ◌==◌, Bool, true, false, not, cond, List, [], ◌∷◌, ◌++◌, length, map, filter, Option, Some, None, inl, inr, refl, sym, ap, subst, ◌∙◌, arith, if◌then◌else◌, eqb-true, true≢false}
-use Rattle.std.proofs.lemmas.Bool.{cases_lt, ne_eqb, eqb-false}
+use Rattle.std.proofs.Common.{◌≡◌, ℕ, ◌<◌, ◌==◌, Bool, true, false, not, cond, List, [], ◌∷◌, ◌++◌, map, filter, Option, Some, None, refl, sym, ap, subst, ◌∙◌, arith, if◌then◌else◌, eqb-true}
+use Rattle.std.proofs.lemmas.Bool.{ne_eqb}
 use Rattle.std.proofs.lemmas.Cmp.{nat_eq_equiv}
-use Rattle.std.proofs.lemmas.Option.{none-some, same_Some}
+use Rattle.std.proofs.lemmas.Option.{same_Some}
 use Rattle.std.specs.List.{AllByRecursion}
 use Rattle.std.specs.Map.{remove_entry}
 use Rattle.nob_model_words.specs.declared.message.Message.{Message}
@@ -10,7 +10,6 @@ use Rattle.nob_model_words.specs.Messages.{is_not_from}
 use Rattle.nob_numbers.specs.Numbers.{IsAboveAll}
 use Rattle.nob_slots.specs.Slots.{item_at, is_number, IsAbove, IsRising}
 use Rattle.nob_space_ready.specs.Rows.{messages_at, messages_in, stamps_from, without_all}
-use Rattle.nob_space_ready.proofs.Found.{found_behind}
 
 abbrev pub Row : Type 0
 Row = ℕ × Message
@@ -110,7 +109,7 @@ module _ (p : ℕ) where
   without_from (row ∷ rows) rising =
       let rest = without_from rows rising.1 in
       elim (row.1.from == p) as (λ b. without_all (row ∷ rows) (map (λ (r : Row). r.0) (cond b (row ∷ filter (λ r. r.1.from == p) rows) (filter (λ r. r.1.from == p) rows))) ≡ cond (not b) (row ∷ others p rows) (others p rows)) [
-        | true ↦ rw (nat_eq_equiv.refl row.0) rest
+        | true ↦ ap (λ (b : Bool). without_all (cond b rows (row ∷ remove_entry (is_number row.0) rows)) (stamps_from p rows)) (nat_eq_equiv.refl row.0) ∙ rest
         | false ↦ without_behind row rows (stamps_from p rows) (stamps_over row.0 rows rising.0) ∙ ap (λ (rs : List Row). row ∷ rs) rest
       ]
 

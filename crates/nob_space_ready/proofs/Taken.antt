@@ -1,10 +1,9 @@
 -- One stamp less in line.
-use Rattle.std.proofs.Common.{◌≡◌, ℕ, ◌+◌, ◌<◌, ◌≤◌, ◌==◌, Bool, true, false, Option, Some, None, IsSome, is_some, inl, inr, refl, sym, ap, subst, ◌∙◌, arith, if◌then◌else◌, eqb-true, true≢false}
+use Rattle.std.proofs.Common.{◌≡◌, ℕ, ◌+◌, ◌<◌, ◌≤◌, Bool, true, false, Option, Some, None, IsSome, is_some, inl, inr, refl, sym, ap, subst, ◌∙◌, arith, if◌then◌else◌, eqb-true, true≢false}
 use Rattle.std.proofs.lemmas.Bool.{cases_eq, cases_lt, eq-eqb}
-use Rattle.std.proofs.lemmas.Option.{none-some, same_Some}
 use Rattle.std.specs.Option.{unwrap_or}
 use Rattle.nob_space_ready.specs.declared.lanes.Lane.{Lane}
-use Rattle.nob_space_ready.specs.Lines.{IsBefore, IsLane, IsLast, IsLine, IsNext, is_place, lane_taken, with_if}
+use Rattle.nob_space_ready.specs.Lines.{IsBefore, IsLast, IsLine, IsNext, is_place, lane_taken, with_if}
 
 pub is_place_of : (o : Option ℕ) (at : ℕ) → is_place o at ≡ true → o ≡ Some at
 is_place_of None at on = absurd (true≢false (sym on))
@@ -77,11 +76,14 @@ module _ {line new : ℕ → Bool} {befores behinds before behind : ℕ → Opti
     | inr ne ↦ elim (cases_lt at place) as (λ _. new at ≡ false) [ inl under ↦ less_in at (last at under) | inr more ↦ less_in at (none at (omega (arith, more, ne)) less) ]
   ]
   before_over to (Some p) over none last =
-      let low = last.0 in
-      (omega (arith, low, over), same p (λ e. omega (arith, low, e)) ∙ last.1, λ at more less. elim (cases_eq place at) as (λ _. new at ≡ false) [
-        | inl e ↦ ap new (sym e) ∙ gone
-        | inr ne ↦ elim (cases_lt at place) as (λ _. new at ≡ false) [ inl under ↦ less_in at (last.2 at more under) | inr beyond ↦ less_in at (none at (omega (arith, beyond, ne)) less) ]
-      ])
+      let low = last.0 in (
+        omega (arith, low, over),
+        same p (λ e. omega (arith, low, e)) ∙ last.1,
+        λ at more less. elim (cases_eq place at) as (λ _. new at ≡ false) [
+          | inl e ↦ ap new (sym e) ∙ gone
+          | inr ne ↦ elim (cases_lt at place) as (λ _. new at ≡ false) [ inl under ↦ less_in at (last.2 at more under) | inr beyond ↦ less_in at (none at (omega (arith, beyond, ne)) less) ]
+        ],
+      )
 
   taken_behind : (at : ℕ) → new at ≡ true → IsNext new (at + 1) (behind at)
   taken_behind at t =

@@ -2,12 +2,11 @@
 use Rattle.std.proofs.Common.{◌≡◌, ℕ, ◌+◌, ◌==◌, ◌&&◌, ◌||◌, not, is_some, Bool, true, false, List, Option, Some, None, ◌⊎◌, inl, inr, refl, sym, ap, subst, ◌∙◌, arith, if◌then◌else◌, eqb-true, true≢false}
 use Rattle.std.proofs.lemmas.Bool.{eqb-false, and_right}
 use Rattle.std.proofs.lemmas.Cmp.{nat_eq_equiv}
-use Rattle.std.proofs.lemmas.Option.{none-some}
 use Rattle.nob_slots.specs.Slots.{is_marked}
 use Rattle.nob_space_ready.specs.declared.lanes.Lane.{Lane}
 use Rattle.nob_space_ready.specs.Ready.{is_target}
 use Rattle.nob_space_ready.specs.Lanes.{PutsLane, if_used, is_used, lane_at}
-use Rattle.nob_space_ready.specs.Lines.{AreLines, IsBefore, IsLane, IsLine, IsNext, MarksFirst, has_target, is_head, is_head_of, is_in_line, is_place}
+use Rattle.nob_space_ready.specs.Lines.{AreLines, IsBefore, IsLine, IsNext, MarksFirst, has_target, is_head, is_head_of, is_in_line, is_place}
 
 -- what has a target
 pub target_is : (t : ℕ) (o : Option ℕ) → has_target t o ≡ true → o ≡ Some t

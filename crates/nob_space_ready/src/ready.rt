@@ -159,7 +159,7 @@ impl ReadyJobs {
     /// The first ready job whose target isn't running, if there is one, is ready no more, and one
     /// job more of its target runs. It takes no memory. As `first_free`, and a few look-ups.
     pub fn start(&mut self) -> Option<Message>
-        requires few { (target : ℕ) → runs_at self.old.runs target < 2 ^ 60 }
+        requires few { (target : ℕ) → runs_at self.old.runs target < 2 ^ 63 }
         ensures message { result ≡ find (is_free_at self.old.runs) self.old.jobs }
         ensures jobs { self.new.jobs ≡ without_first (is_free_at self.old.runs) self.old.jobs }
         ensures runs { (target : ℕ) → runs_at self.new.runs target

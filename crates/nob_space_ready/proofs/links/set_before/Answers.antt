@@ -1,8 +1,8 @@
-use Rattle.std.proofs.Common.{◌≡◌, Some, refl, sym, ap, subst, ◌∙◌}
+use Rattle.std.proofs.Common.{◌≡◌, Some, refl, sym, ap, ◌∙◌}
 use Rattle.std.specs.Option.{option_copied, option_map}
 use Rattle.nob_slots.specs.Slots.{item_at}
 use Rattle.nob_space_ready.specs.declared.links.Link.{Link}
-use Rattle.nob_space_ready.specs.Lines.{before_of, before_at, behind_of, with_if}
+use Rattle.nob_space_ready.specs.Lines.{before_of, behind_of}
 use Rattle.nob_space_ready.proofs.Found.{set_by, set_same}
 use Rattle.nob_space_ready.proofs.links.set_before.Goals as goal
 

@@ -1,4 +1,4 @@
-use Rattle.std.proofs.Common.{ap, sym, ◌∙◌}
+use Rattle.std.proofs.Common.{ap, ◌∙◌}
 use Rattle.nob_space_ready.specs.Lines.{target_at}
 use Rattle.nob_space_ready.proofs.Joined.{first_there, links_joined, target_pushed, tied_above}
 use Rattle.nob_space_ready.proofs.lines.Lines.push.Goals as goal
