@@ -128,7 +128,7 @@ impl Lines {
     /// A job more of a target that has a lane runs.
     pub fn begin(&mut self, target: u64)
         requires lane { IsSome (lane_at self.old.lanes.rows target) }
-        requires few { runs_in (lane_at self.old.lanes.rows target) < 2 ^ 60 }
+        requires few { runs_in (lane_at self.old.lanes.rows target) < 2 ^ 63 }
         requires lines { AreLinked self.old.links.rows self.old.lanes.rows
             self.old.links.marked }
         ensures links { self.new.links.rows ≡ self.old.links.rows }
