@@ -39,6 +39,7 @@ pub(crate) fn hold(
             }
             Kept::Waiting => pass_on(one, two, three)?,
             Kept::Ready => ask(one, two)?,
+            Kept::Running => run(one, two)?,
             Kept::Answered => {
                 ask(one, two)?;
                 answer(one, two)?;
@@ -120,6 +121,15 @@ fn send(alloc: Global, one: &mut Space, two: &Space, len: usize) -> Result<(), S
 fn ask(one: &mut Space, two: &mut Space) -> Result<(), SpaceError> {
     two.call(&agent_of(one), METHOD, &Value::Unit)?;
     exchange(two, one)?;
+    Ok(())
+}
+
+// The second space calls a new object of the first, and the job runs.
+fn run(one: &mut Space, two: &mut Space) -> Result<(), SpaceError> {
+    let rep = pass(one, two)?;
+    two.call(&rep, METHOD, &Value::Unit)?;
+    exchange(two, one)?;
+    let _job = one.claim()?;
     Ok(())
 }
 

@@ -12,6 +12,8 @@ pub(crate) enum Kept {
     Waiting,
     /// Calls that the second space made are ready at the first, and nobody claims them.
     Ready,
+    /// Jobs of calls that the second space made run at the first, each at an object of its own.
+    Running,
     /// Calls that the second space made are answered, and it hasn't taken the replies.
     Answered,
     /// The first space has sent items of a few bytes, of which the second knows nothing.
@@ -70,6 +72,7 @@ fn kept_of(word: &str) -> Option<Kept> {
         "listed" => Kept::Listed,
         "waiting" => Kept::Waiting,
         "ready" => Kept::Ready,
+        "running" => Kept::Running,
         "answered" => Kept::Answered,
         "small" => Kept::Small,
         "large" => Kept::Large,

@@ -37,10 +37,14 @@ use Rattle.nob_space_calls.specs.contracts.calls.Calls as Calls
 use Rattle.nob_space_calls.specs.contracts.calls.Calls.TheInside as CallsInside
 use Rattle.nob_space_calls.specs.contracts.ready.Ready as Ready
 use Rattle.nob_space_calls.specs.contracts.ready.Ready.TheInside as ReadyInside
-use Rattle.nob_space_jobs.proofs.lines.Lines.TheSendSync as job_lines
+use Rattle.nob_numbers.proofs.numbers.Numbers.TheSendSync as numbers
 use Rattle.nob_space_jobs.specs.contracts.jobs.Jobs as Jobs
 use Rattle.nob_space_jobs.specs.contracts.jobs.Jobs.TheInside as JobsInside
-use Rattle.nob_space_list.proofs.list.SlabList.TheSendSync as lists
+use Rattle.nob_space_jobs.specs.contracts.running.Running as Running
+use Rattle.nob_space_jobs.specs.contracts.running.Running.TheInside as RunningInside
+use Rattle.nob_space_ready.proofs.lines.Lines.TheSendSync as ready_lines
+use Rattle.nob_space_ready.specs.contracts.ready.ReadyJobs as ReadyJobs
+use Rattle.nob_space_ready.specs.contracts.ready.ReadyJobs.TheInside as ReadyJobsInside
 use Rattle.nob_space_state.specs.contracts.parts.Parts as Parts
 use Rattle.nob_space_waiting.proofs.lines.Lines.TheSendSync as waiting_lines
 use Rattle.nob_space_waiting.specs.contracts.entry.Entry as Entry
@@ -59,7 +63,7 @@ waiting_inside_send : IsSend WaitingInside.the_row
 waiting_inside_send =
     let T = WaitingInside.the_type in
     recorded_send (Struct (shape T)) T.D T.to T.to_one (struct_send (shape T)
-    (search sendable depth 30, (slots.the_send Entry.the_row entry_send, (waiting_lines.the_send, (search sendable, (search sendable, tt))))))
+    (search sendable depth 30, (slots.the_send Entry.the_row entry_send, (numbers.the_send, (waiting_lines.the_send, (search sendable, (search sendable, tt)))))))
 
 waiting_send : IsSend Waiting.the_row
 waiting_send = view_send WaitingInside.the_row _ _ _ _ waiting_inside_send
@@ -67,14 +71,27 @@ waiting_send = view_send WaitingInside.the_row _ _ _ _ waiting_inside_send
 run_send : IsSend Run.the_row
 run_send = search (copies.the_send, bytes.the_send, crosses, values.crosses, sendable) depth 60 fits 20000
 
-slot_send : IsSend (Option.the_row Message.the_row)
-slot_send = search (message_send, sendable) depth 60 fits 20000
+running_inside_send : IsSend RunningInside.the_row
+running_inside_send =
+    let T = RunningInside.the_type in
+    recorded_send (Struct (shape T)) T.D T.to T.to_one (struct_send (shape T) (slots.the_send Run.the_row run_send, tt))
+
+running_send : IsSend Running.the_row
+running_send = view_send RunningInside.the_row _ _ _ _ running_inside_send
+
+ready_jobs_inside_send : IsSend ReadyJobsInside.the_row
+ready_jobs_inside_send =
+    let T = ReadyJobsInside.the_type in
+    recorded_send (Struct (shape T)) T.D T.to T.to_one (struct_send (shape T)
+    (slots.the_send Message.the_row message_send, (ready_lines.the_field_send, (numbers.the_send, (search sendable, (search sendable, tt))))))
+
+ready_jobs_send : IsSend ReadyJobs.the_row
+ready_jobs_send = view_send ReadyJobsInside.the_row _ _ _ _ ready_jobs_inside_send
 
 jobs_inside_send : IsSend JobsInside.the_row
 jobs_inside_send =
     let T = JobsInside.the_type in
-    recorded_send (Struct (shape T)) T.D T.to T.to_one (struct_send (shape T)
-    (Vec-send (Option.the_row Message.the_row) slot_send, (job_lines.the_field_send, (search sendable, (search sendable, (lists.the_send Run.the_row run_send, tt))))))
+    recorded_send (Struct (shape T)) T.D T.to T.to_one (struct_send (shape T) (ready_jobs_send, (running_send, tt)))
 
 jobs_send : IsSend Jobs.the_row
 jobs_send = view_send JobsInside.the_row _ _ _ _ jobs_inside_send

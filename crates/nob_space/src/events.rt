@@ -101,7 +101,7 @@ impl Space {
     /// What a call brought: its reply, whose references come into the hand, or that there will
     /// be none. NoCall where there is no such call, NotReady while there is no reply, Limit
     /// where a hand would be too full. It takes no memory. Logarithmic in the calls and the
-    /// ready replies; the calls made after it move by one place.
+    /// ready replies.
     #[tactic(auto, unfolding(nob_model::specs::Right::right_after))]
     pub fn take_reply(&mut self, call: CallNo) -> Result<CallResult, Refusal>
         ensures answer { StepAnswers self.old (events.TakeReply call)
@@ -116,8 +116,8 @@ impl Space {
     }
 
     /// The first ready job, in order of becoming ready, whose target isn't running. Nothing
-    /// where there is none, Limit where the numbers are used up. A look-up, linear in the job's
-    /// value, and in the jobs that run, of which only keys move.
+    /// where there is none, Limit where the numbers are used up. A look-up, and linear in the job's
+    /// value.
     #[tactic(auto, unfolding(nob_model::specs::Right::right_after))]
     pub fn claim(&mut self) -> Result<Job, SpaceError>
         ensures answer { StepAnswers self.old events.Claim
@@ -133,8 +133,8 @@ impl Space {
 
     /// A job's outcome goes to its client, or is dropped where the session with the client has
     /// closed; what the job had on loan is given back. NoJob where no such job runs; then
-    /// refused as the value of a Call is, or by QueueFull or SeqEnd. Linear in the value and
-    /// the running jobs.
+    /// refused as the value of a Call is, or by QueueFull or SeqEnd. A look-up, and linear in the
+    /// value and in what was on loan.
     #[tactic(auto, unfolding(nob_model::specs::Right::right_after))]
     pub fn finish(&mut self, job: JobNo, outcome: &Outcome) -> Result<ReplyFate, SpaceError>
         ensures answer { StepAnswers self.old (events.Finish job outcome.now)
@@ -190,8 +190,8 @@ impl Space {
 
     /// The first surrogate, in the order of their last Dirties, that is granted on an open
     /// session, without holds and without pins, is given up, and its owner told: its reference.
-    /// Nothing where there is none, SeqEnd where the session has no number left. Linear
-    /// in the surrogates, once more for each that nothing holds but that has pins.
+    /// Nothing where there is none, SeqEnd where the session has no number left. A look-up, and one
+    /// more for each surrogate before it that nothing holds but that has pins.
     #[tactic(auto, unfolding(nob_model::specs::Right::right_after))]
     pub fn clean(&mut self) -> Result<WireRep, SpaceError>
         ensures answer { StepAnswers self.old events.Clean
@@ -273,7 +273,8 @@ impl Space {
     }
 
     /// The session with a peer closes here: the reason that the peer is told. NoPeer, Closed.
-    /// It takes no memory. Linear in all that it throws away and looks through.
+    /// It takes no memory. Linear in what belongs to the session: all that it throws away, and the
+    /// calls that were made to the peer.
     #[tactic(auto, unfolding(nob_model::specs::Right::right_after))]
     pub fn close(&mut self, peer: SpaceId) -> Result<Reason, Refusal>
         ensures answer { StepAnswers self.old (events.Close peer)

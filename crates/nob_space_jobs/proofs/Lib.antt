@@ -1,11 +1,3 @@
-pub mod Flat
-pub mod Targets
-pub mod Started
-pub mod Linked
-pub mod Heads
-pub mod Low
-pub mod Used
-pub mod Passed
-pub mod Filled
 pub mod Counted
+pub mod Free
 pub mod Newest

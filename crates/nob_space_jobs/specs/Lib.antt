@@ -1,4 +1,2 @@
 pub mod Jobs
-pub mod Lanes
-pub mod Lines
 pub mod Running

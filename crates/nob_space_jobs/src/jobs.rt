@@ -7,31 +7,20 @@ ghost use Rattle.nob_model_words.specs.Messages.{is_not_from};
 ghost use Rattle.nob_model_work.specs.Work.{is_run, without_first};
 ghost use Rattle.nob_space_jobs.specs.Jobs.{is_free_of, IsAbove};
 
-use crate::lines::Lines;
-use crate::ready::ReadyFrom;
 use crate::running::Running;
-use crate::slots::{drop_failing, message_at, rebuild, start_at};
 use nob_ids::{JobNo, SpaceId};
 use nob_model_acting::candidates::target_of;
 use nob_model_words::Message;
 use nob_model_work::Run;
+use nob_space_ready::{MessagesFrom, ReadyJobs};
 use std::alloc::{AllocError, Global};
 use std::marker::Model;
 
 /// The ready jobs, in order of becoming ready, and the jobs that run, the newest first. Contracts
 /// see both lists, and for how many more of each there is room.
-///
-/// Each ready job has a slot, in their order. The slot of a job that was claimed is empty; once more
-/// than half of the slots are, all empty ones are cleared in place. The ready jobs of one target
-/// stand in line: the first of them is marked while no job of the target runs, so the first that is
-/// marked is the first that may be claimed.
 pub struct Jobs {
-    slots: Vec<Option<Message>>,
-    lines: Lines,
-    // How many slots aren't empty.
-    live: usize,
-    // How many more ready jobs fit.
-    room: usize,
+    // They count how many jobs of each target run.
+    ready: ReadyJobs,
     running: Running,
 }
 
@@ -39,10 +28,7 @@ pub struct Jobs {
 impl Drop for Jobs {
     fn drop(self) {
         let Jobs {
-            slots: _,
-            lines: _,
-            live: _,
-            room: _,
+            ready: _,
             running: _,
         } = self;
     }
@@ -58,18 +44,16 @@ impl Model for Jobs {
 
     ghost coded = { Prim.hlevel (codes, trees_code) };
 
-    ghost use Rattle.std.specs.Vec.{vec_capacity};
-    ghost use Rattle.nob_space_jobs.specs.Lines.{AreJobs, messages_in};
+    ghost use Rattle.nob_space_jobs.specs.Running.{AreCounted};
 
     ghost view = { λ a. record {
-      ready = messages_in a.slots.items;
+      ready = a.ready.jobs;
       running = a.running.runs;
-      ready_room = a.room;
+      ready_room = a.ready.room;
       running_room = a.running.room;
     } };
 
-    ghost invariant = { λ a. AreJobs a.slots.items (vec_capacity a.slots) a.lines.nexts.items
-        (vec_capacity a.lines.nexts) a.lines.lanes a.lines.heads a.live a.room a.running.runs };
+    ghost invariant = { λ a. AreCounted a.ready.runs a.running.runs };
 }
 
 impl Jobs {
@@ -79,10 +63,7 @@ impl Jobs {
         ensures running { result.running ≡ [] }
     {
         Jobs {
-            slots: Vec::new(alloc),
-            lines: Lines::new(alloc),
-            live: 0,
-            room: 0,
+            ready: ReadyJobs::new(alloc),
             running: Running::new(alloc),
         }
     }
@@ -91,7 +72,7 @@ impl Jobs {
     pub fn ready_len(&self) -> usize
         ensures { result ≡ length self.now.ready }
     {
-        self.live
+        self.ready.len()
     }
 
     /// How many jobs run. Constant time.
@@ -101,15 +82,12 @@ impl Jobs {
         self.running.len()
     }
 
-    /// The ready jobs that came from a space, in order.
-    pub fn ready_from(&self, peer: SpaceId) -> ReadyFrom<'_>
+    /// The ready jobs that came from a space, in order. Linear in them, each with a look-up.
+    pub fn ready_from(&self, peer: SpaceId) -> MessagesFrom<'_>
         ensures items { result ≡ filter (λ message. message.from == peer) self.now.ready }
         ensures fits { length result < 2 ^ 64 }
     {
-        ReadyFrom {
-            peer,
-            slots: &self.slots,
-        }
+        self.ready.from(peer)
     }
 
     /// Makes room for so many more ready jobs. Only memory fails it, and the jobs are the same in
@@ -122,13 +100,7 @@ impl Jobs {
         ensures ok { OnOk result (additional ≤ self.new.ready_room) }
         ensures succeeds { additional ≤ self.old.ready_room → IsOk result }
     {
-        if additional <= self.room {
-            return Ok(());
-        }
-        self.slots.reserve(additional)?;
-        self.lines.reserve(additional)?;
-        self.room = additional;
-        Ok(())
+        self.ready.reserve(additional)
     }
 
     /// Makes room for so many more jobs that run. Only memory fails it, and the jobs are the same
@@ -152,14 +124,7 @@ impl Jobs {
         ensures ready_room { self.new.ready_room + 1 ≡ self.old.ready_room }
         ensures running_room { self.new.running_room ≡ self.old.running_room }
     {
-        let target = target_of(&message.item);
-        let place = self.slots.len();
-        self.slots.push_reserved(Some(message));
-        self.lines.nexts.push_reserved(None);
-        self.lines.open(target);
-        self.lines.link(place, target);
-        self.live += 1;
-        self.room -= 1;
+        self.ready.push(message);
     }
 
     /// The first ready job whose target isn't running. It looks at a few words of bits, and passes
@@ -168,10 +133,7 @@ impl Jobs {
         ensures { option_map (λ message. message.now) result
             ≡ find (is_free_of self.now.running) self.now.ready }
     {
-        let Some(place) = self.lines.heads.first_from(0) else {
-            return None;
-        };
-        message_at(&self.slots, place)
+        self.ready.first_free()
     }
 
     /// The first ready job whose target isn't running is claimed: it runs under this number. It
@@ -189,29 +151,12 @@ impl Jobs {
         ensures ready_room { self.new.ready_room ≡ self.old.ready_room }
         ensures running_room { self.new.running_room + 1 ≡ self.old.running_room }
     {
-        let Some(place) = self.lines.heads.first_from(0) else {
-            unreachable!();
-        };
         // A target has no more jobs that run than there are.
         let _runs = self.running.len();
-        let Some(message) = start_at(&mut self.slots, &mut self.lines, place) else {
+        let Some(message) = self.ready.start() else {
             unreachable!();
         };
-        self.live -= 1;
         self.running.push(Run { job, message });
-        self.tidy();
-    }
-
-    // Clears the empty slots once they are more than half.
-    fn tidy(&mut self)
-        ensures ready { self.new.ready ≡ self.old.ready }
-        ensures running { self.new.running ≡ self.old.running }
-        ensures ready_room { self.new.ready_room ≡ self.old.ready_room }
-        ensures running_room { self.new.running_room ≡ self.old.running_room }
-    {
-        if self.live < self.slots.len() / 2 {
-            rebuild(&mut self.slots, &mut self.lines);
-        }
     }
 
     /// The job that runs under this number: no two have one number. Logarithmic in the jobs that
@@ -236,24 +181,17 @@ impl Jobs {
         let Some(run) = self.running.take(job) else {
             return;
         };
-        self.lines.end(target_of(&run.message.item));
+        self.ready.end(target_of(&run.message.item));
     }
 
     /// Drops the ready jobs from a space, whose session has closed. It takes no memory. Linear in
-    /// the ready jobs and the targets, and in what dropping costs.
+    /// them, each with a few look-ups.
     pub fn drop_from(&mut self, peer: SpaceId)
         ensures ready { self.new.ready ≡ filter (is_not_from peer) self.old.ready }
         ensures running { self.new.running ≡ self.old.running }
         ensures ready_room { self.new.ready_room ≡ self.old.ready_room }
         ensures running_room { self.new.running_room ≡ self.old.running_room }
     {
-        drop_failing(
-            &mut self.slots,
-            |message: &Message| -> bool
-                ensures { result ≡ is_not_from peer message.now }
-            { message.from != peer },
-        );
-        rebuild(&mut self.slots, &mut self.lines);
-        self.live = self.slots.len();
+        self.ready.drop_from(peer);
     }
 }

@@ -25,3 +25,4 @@ pub mod Closings
 pub mod Arrivals
 pub mod Unpinned
 pub mod Nexts
+pub mod Numbered

@@ -9,7 +9,7 @@ ghost use Rattle.nob_model_history.specs.Histories.{history_of};
 ghost use Rattle.nob_model_acting.specs.Candidates as candidates;
 ghost use Rattle.nob_model.specs.Right as right;
 ghost use Rattle.nob_space_state.specs.Parts.{state_of};
-ghost use Rattle.nob_space_state.specs.Stands.{Stands, Keeps, Did, AnswersOrWants};
+ghost use Rattle.nob_space_state.specs.Stands.{Stands, IsState, Keeps, Did, AnswersOrWants};
 
 use crate::error::SpaceError;
 use crate::parts::Parts;
@@ -49,9 +49,9 @@ impl Parts {
     }
 
     /// Claim: the first ready job, in order of becoming ready, whose target isn't running; its
-    /// value is copied. A few words of bits, linear in the value, and in the jobs that run, of which
-    /// only keys move.
+    /// value is copied. A few words of bits, and linear in the value.
     pub fn claim(&mut self, here: &Here) -> Result<Job, SpaceError>
+        requires { IsState here.now.space here.now.n (state_of self.old) }
         ensures answer { (limits : LimitsOf) (D : List Deed)
             → Stands here.now.space here.now.n limits (state_of self.old) D
             → AnswersOrWants (λ job. answers.Job job) result

@@ -1,0 +1,4 @@
+pub mod Ready
+pub mod Lanes
+pub mod Lines
+pub mod Rows
