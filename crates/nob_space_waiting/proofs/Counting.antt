@@ -1,19 +1,17 @@
 -- Places in lines, and how often a stamp stands there.
-use Rattle.std.proofs.Common.{◌≡◌, ℕ, ◌<◌, ◌≤◌, ◌+◌, ◌==◌, ◌&&◌, add-one, Bool, true, false, not, nat_lt, cond, List, [], ◌∷◌, ◌++◌, length, filter, take, Option, Some, None, get_or, slice_get, if◌then◌else◌, refl, sym, ap, subst, ◌∙◌, arith}
+use Rattle.std.proofs.Common.{◌≡◌, ℕ, ◌<◌, ◌≤◌, ◌+◌, ◌==◌, ◌&&◌, add-one, Bool, true, false, not, nat_lt, cond, List, [], ◌∷◌, ◌++◌, length, filter, take, Option, Some, None, get_or, is_some, slice_get, if◌then◌else◌, refl, sym, ap, subst, ◌∙◌, arith}
 use Prim.Native.Nat.{zero, suc}
 use Rattle.std.proofs.lemmas.Bool.Decides.{Decides-eqb, Decides-and, nat_tests}
 use Rattle.std.proofs.lemmas.Cmp.{nat_eq_equiv}
 use Rattle.std.proofs.lemmas.List.{take_more}
-use Rattle.std.proofs.lemmas.Map.Entries.{lookup-filter-keys}
 use Rattle.std.proofs.lemmas.Option.{get_or_from_slice_get, slice_get_within}
 use Rattle.std.specs.Map.{keys_of, lookup}
 use Rattle.std.specs.Option.{unwrap_or}
 use Rattle.nob_ids.specs.declared.wire_rep.WireRep.{WireRep}
 use Rattle.nob_ids.specs.Names.{is_same}
 use Rattle.nob_space_waiting.specs.declared.entry.Entry.{Entry}
-use Rattle.nob_space_waiting.specs.declared.lines.Link.{Link}
-use Rattle.nob_space_waiting.specs.Waiting.{places_for}
-use Rattle.nob_space_waiting.specs.Lines.{LineList, is_link, link_at, link_of, lowered, once, stands, times_in, times_of}
+use Rattle.nob_space_waiting.specs.declared.owner_lines.Link.{Link}
+use Rattle.nob_space_waiting.specs.Lines.{HavePlaces, LineList, count_of, is_link, link_at, link_of, lowered, lines_of, once, places_for, stamp_at, stands, times_in, times_of}
 use Rattle.nob_space_waiting.proofs.Rows.{lower_unlike, lowered_both}
 
 pub same_is : (rep other : WireRep) → is_same rep other ≡ true → rep ≡ other
@@ -31,69 +29,49 @@ same_turned rep other =
 abbrev pub Writes : List (WireRep × ℕ) → List (WireRep × ℕ) → WireRep → Option ℕ → Type 0
 Writes old new rep w = (other : WireRep) → lookup (is_same other) new ≡ cond (is_same rep other) w (lookup (is_same other) old)
 
-written : (old new : List (WireRep × ℕ)) (rep : WireRep) (w : Option ℕ) → Writes old new rep w → (other : WireRep) → places_for new other ≡ (if is_same rep other then unwrap_or w 0 else places_for old other)
-written old new rep w writes other = rw (writes other) (elim (is_same rep other) as (λ b. unwrap_or (cond b w (lookup (is_same other) old)) 0 ≡ (if b then unwrap_or w 0 else places_for old other)) [ true ↦ refl | false ↦ refl ])
+written : (old new : List (WireRep × ℕ)) (rep : WireRep) (w : Option ℕ) → Writes old new rep w → (other : WireRep) → count_of new other ≡ (if is_same rep other then unwrap_or w 0 else count_of old other)
+written old new rep w writes other = rw (writes other) (elim (is_same rep other) as (λ b. unwrap_or (cond b w (lookup (is_same other) old)) 0 ≡ (if b then unwrap_or w 0 else count_of old other)) [ true ↦ refl | false ↦ refl ])
 
 -- one more
-pub one_more : (old new : List (WireRep × ℕ)) (rep : WireRep) (n : ℕ) → Writes old new rep (Some n) → n ≡ places_for old rep + 1 → (other : WireRep) → places_for new other ≡ (if is_same rep other then 1 else 0) + places_for old other
+pub one_more : (old new : List (WireRep × ℕ)) (rep : WireRep) (n : ℕ) → Writes old new rep (Some n) → n ≡ count_of old rep + 1 → (other : WireRep) → count_of new other ≡ (if is_same rep other then 1 else 0) + count_of old other
 one_more old new rep n writes more other =
     let all = written old new rep (Some n) writes other in
-    elim (is_same rep other) as (λ b. is_same rep other ≡ b → places_for new other ≡ (if b then n else places_for old other) → places_for new other ≡ (if b then 1 else 0) + places_for old other) [
-      | true ↦ λ t e. let same : places_for old rep ≡ places_for old other = ap (λ (w : WireRep). places_for old w) (same_is rep other t) in omega (arith, e, more, same)
+    elim (is_same rep other) as (λ b. is_same rep other ≡ b → count_of new other ≡ (if b then n else count_of old other) → count_of new other ≡ (if b then 1 else 0) + count_of old other) [
+      | true ↦ λ t e. let same : count_of old rep ≡ count_of old other = ap (λ (w : WireRep). count_of old w) (same_is rep other t) in omega (arith, e, more, same)
       | false ↦ λ t e. omega (arith, e)
     ] refl all
 
-pub links_kept : (old new : List (Link × ℕ)) (rep : WireRep) (place : ℕ) (w : Option ℕ) → ((q : Link) → lookup (is_link q) new ≡ cond (is_link (link_of rep place) q) w (lookup (is_link q) old)) → (other : WireRep) (at : ℕ) → is_same rep other ≡ false → link_at new (link_of other at) ≡ link_at old (link_of other at)
+pub links_kept : (old new : List (Link × ℕ)) (rep : WireRep) (place : ℕ) (w : Option ℕ) → ((q : Link) → lookup (is_link q) new ≡ cond (is_link (link_of rep place) q) w (lookup (is_link q) old)) → (other : WireRep) (at : ℕ) → is_same rep other ≡ false → stamp_at new (link_of other at) ≡ stamp_at old (link_of other at)
 links_kept old new rep place w writes other at differs = writes (link_of other at) ∙ rw differs refl
 
--- ---- the lines of an owner
-other_owner : (owner : ℕ) (rep other : WireRep) → is_same other rep ≡ true → not (rep.owner == owner) ≡ not (other.owner == owner)
-other_owner owner rep other same = ap (λ (r : WireRep). not (r.owner == owner)) (sym (same_is other rep same))
-
-pub counts_of : (owner : ℕ) (old new : List (WireRep × ℕ)) → new ≡ filter (λ (e : WireRep × ℕ). not (e.0.owner == owner)) old → (other : WireRep) → places_for new other ≡ (if other.owner == owner then 0 else places_for old other)
-counts_of owner old new kept other =
-    ap (λ (es : List (WireRep × ℕ)). places_for es other) kept
-    ∙ ap (λ o. unwrap_or o 0) (lookup-filter-keys (is_same other) (λ (r : WireRep). not (r.owner == owner)) (not (other.owner == owner)) (λ r same. other_owner owner r other same) old)
-    ∙ elim (other.owner == owner) as (λ b. unwrap_or (cond (not b) (lookup (is_same other) old) None) 0 ≡ (if b then 0 else places_for old other)) [ true ↦ refl | false ↦ refl ]
-
-link_owner : (owner : ℕ) (link : Link) (other : WireRep) (at : ℕ) → is_link (link_of other at) link ≡ true → not (link.rep.owner == owner) ≡ not (other.owner == owner)
-link_owner owner link other at same =
-    elim (is_same other link.rep) as (λ b. is_same other link.rep ≡ b → (b && (at == link.place)) ≡ true → not (link.rep.owner == owner) ≡ not (other.owner == owner)) [
-      | true ↦ λ t h. other_owner owner link.rep other t
-      | false ↦ λ u h. absurd (cc)
-    ] refl same
-
-pub links_of : (owner : ℕ) (old new : List (Link × ℕ)) → new ≡ filter (λ (e : Link × ℕ). not (e.0.rep.owner == owner)) old → (other : WireRep) (at : ℕ) → (other.owner == owner) ≡ false → link_at new (link_of other at) ≡ link_at old (link_of other at)
-links_of owner old new kept other at differs =
-    ap (λ (es : List (Link × ℕ)). link_at es (link_of other at)) kept
-    ∙ lookup-filter-keys (is_link (link_of other at)) (λ (l : Link). not (l.rep.owner == owner)) (not (other.owner == owner)) (λ l same. link_owner owner l other at same) old
-    ∙ rw differs refl
+-- what is counted has places still
+pub places_written : (old new : List (WireRep × ℕ)) (rep : WireRep) (w : Option ℕ) → Writes old new rep w → is_some w ≡ nat_lt 0 (unwrap_or w 0) → HavePlaces old → HavePlaces new
+places_written old new rep w writes some have other =
+    ap is_some (writes other)
+    ∙ elim (is_same rep other) as (λ b. is_some (cond b w (lookup (is_same other) old)) ≡ nat_lt 0 (unwrap_or (cond b w (lookup (is_same other) old)) 0)) [ true ↦ some | false ↦ have other ]
+    ∙ ap (λ o. nat_lt 0 (unwrap_or o 0)) (sym (writes other))
 
 -- ---- stamps in lines
-pub stands_next : (links : List (Link × ℕ)) (rep : WireRep) (place : ℕ) (standing : Option ℕ) (rows0 rows new : List (ℕ × Entry)) → standing ≡ link_at links (link_of rep place) → rows ≡ lowered (stands links rep place) rows0 → new ≡ lowered (once standing) rows → new ≡ lowered (stands links rep (place + 1)) rows0
-stands_next links rep place standing rows0 rows new is was now =
+pub stands_next : (lines : LineList) (rep : WireRep) (place : ℕ) (standing : Option ℕ) (rows0 rows new : List (ℕ × Entry)) → standing ≡ link_at lines (link_of rep place) → rows ≡ lowered (stands lines rep place) rows0 → new ≡ lowered (once standing) rows → new ≡ lowered (stands lines rep (place + 1)) rows0
+stands_next lines rep place standing rows0 rows new is was now =
     now ∙ ap (lowered (once standing)) was
-    ∙ ap (λ o. lowered (once o) (lowered (stands links rep place) rows0)) is
-    ∙ lowered_both (stands links rep place) (once (link_at links (link_of rep place))) (stands links rep (suc place)) rows0 (λ s. refl)
-    ∙ ap (λ n. lowered (stands links rep n) rows0) (sym (add-one place))
+    ∙ ap (λ o. lowered (once o) (lowered (stands lines rep place) rows0)) is
+    ∙ lowered_both (stands lines rep place) (once (link_at lines (link_of rep place))) (stands lines rep (suc place)) rows0 (λ s. refl)
+    ∙ ap (λ n. lowered (stands lines rep n) rows0) (sym (add-one place))
 
-times_append : (lines : LineList) (owner : ℕ) (reps others : List WireRep) (s : ℕ) → times_of lines owner (reps ++ others) s ≡ times_of lines owner reps s + times_of lines owner others s
-times_append lines owner [] others s = omega arith
-times_append lines owner (rep ∷ reps) others s = let rest = times_append lines owner reps others s in omega (arith, rest)
+times_append : (lines : LineList) (reps others : List WireRep) (s : ℕ) → times_of lines (reps ++ others) s ≡ times_of lines reps s + times_of lines others s
+times_append lines [] others s = omega arith
+times_append lines (rep ∷ reps) others s = let rest = times_append lines reps others s in omega (arith, rest)
 
-pub times_next : (lines : LineList) (owner at : ℕ) (rep : WireRep) (rows0 rows new : List (ℕ × Entry)) → slice_get (keys_of lines.counts) at ≡ Some rep → rows ≡ lowered (times_of lines owner (take at (keys_of lines.counts))) rows0 → new ≡ lowered (times_of lines owner (rep ∷ [])) rows → new ≡ lowered (times_of lines owner (take (at + 1) (keys_of lines.counts))) rows0
-times_next lines owner at rep rows0 rows new got was now =
-    let keys : List WireRep = keys_of lines.counts in
+pub times_next : (lines : LineList) (keys : List WireRep) (at : ℕ) (rep : WireRep) (rows0 rows new : List (ℕ × Entry)) → slice_get keys at ≡ Some rep → rows ≡ lowered (times_of lines (take at keys)) rows0 → new ≡ lowered (times_in lines rep) rows → new ≡ lowered (times_of lines (take (at + 1) keys)) rows0
+times_next lines keys at rep rows0 rows new got was now =
     let more : take (at + 1) keys ≡ take at keys ++ rep ∷ [] = take_more keys at rep (slice_get_within keys at rep got) ∙ ap (λ (r : WireRep). take at keys ++ r ∷ []) (get_or_from_slice_get keys at rep rep got) in
-    now ∙ ap (lowered (times_of lines owner (rep ∷ []))) was
-    ∙ lowered_both (times_of lines owner (take at keys)) (times_of lines owner (rep ∷ [])) (times_of lines owner (take at keys ++ rep ∷ [])) rows0
-    (λ s. let sums = times_append lines owner (take at keys) (rep ∷ []) s in omega (arith, sums))
-    ∙ ap (λ (reps : List WireRep). lowered (times_of lines owner reps) rows0) (sym more)
+    now ∙ ap (lowered (times_in lines rep)) was
+    ∙ lowered_both (times_of lines (take at keys)) (times_in lines rep) (times_of lines (take at keys ++ rep ∷ [])) rows0
+    (λ s. let sums = times_append lines (take at keys) (rep ∷ []) s in omega (arith, sums))
+    ∙ ap (λ (reps : List WireRep). lowered (times_of lines reps) rows0) (sym more)
 
-pub times_none : (lines : LineList) (owner : ℕ) (rep : WireRep) (s : ℕ) → (rep.owner == owner) ≡ false → times_of lines owner (rep ∷ []) s ≡ 0
-times_none lines owner rep s differs = rw differs (omega arith)
-
-pub stands_below : (old new : List (Link × ℕ)) (rep : WireRep) (count s : ℕ) → ((place : ℕ) → place < count → link_at new (link_of rep place) ≡ link_at old (link_of rep place)) → stands new rep count s ≡ stands old rep count s
+pub stands_below : (old new : LineList) (rep : WireRep) (count s : ℕ) → ((place : ℕ) → place < count → link_at new (link_of rep place) ≡ link_at old (link_of rep place)) → stands new rep count s ≡ stands old rep count s
 stands_below old new rep zero s same = refl
 stands_below old new rep (suc count) s same =
     let rest = stands_below old new rep count s (λ place less. same place (omega (arith, less))) in
@@ -102,23 +80,23 @@ stands_below old new rep (suc count) s same =
 
 -- a stamp behind the others of a line
 pub times_push : (old new : LineList) (rep : WireRep) (stamp : ℕ)
-    → ((other : WireRep) → places_for new.counts other ≡ (if is_same rep other then 1 else 0) + places_for old.counts other)
-    → ((other : WireRep) (place : ℕ) → link_at new.links (link_of other place) ≡ (if is_link (link_of rep (places_for old.counts rep)) (link_of other place) then Some stamp else link_at old.links (link_of other place)))
+    → ((other : WireRep) → places_for new other ≡ (if is_same rep other then 1 else 0) + places_for old other)
+    → ((other : WireRep) (place : ℕ) → link_at new (link_of other place) ≡ (if is_link (link_of rep (places_for old rep)) (link_of other place) then Some stamp else link_at old (link_of other place)))
     → (other : WireRep) (s : ℕ) → times_in new other s ≡ times_in old other s + (if stamp == s then (if is_same rep other then 1 else 0) else 0)
 times_push old new rep stamp counts links other s =
-    elim (is_same rep other) as (λ b. is_same rep other ≡ b → places_for new.counts other ≡ (if b then 1 else 0) + places_for old.counts other → times_in new other s ≡ times_in old other s + (if stamp == s then (if b then 1 else 0) else 0)) [
+    elim (is_same rep other) as (λ b. is_same rep other ≡ b → places_for new other ≡ (if b then 1 else 0) + places_for old other → times_in new other s ≡ times_in old other s + (if stamp == s then (if b then 1 else 0) else 0)) [
       | true ↦ λ t e.
-          let n : ℕ = places_for old.counts other in
-          let at : places_for old.counts rep ≡ n = ap (λ (r : WireRep). places_for old.counts r) (same_is rep other t) in
-          let more : places_for new.counts other ≡ suc n = omega (arith, e) in
-          let test : (place : ℕ) (b : Bool) → (n == place) ≡ b → is_link (link_of rep (places_for old.counts rep)) (link_of other place) ≡ b = λ place b h. (λ i. t i && (at i == place)) ∙ h in
-          let top : link_at new.links (link_of other n) ≡ Some stamp = links other n ∙ ap (λ b. if b then Some stamp else link_at old.links (link_of other n)) (test n true (nat_eq_equiv.refl n)) in
-          let below = stands_below old.links new.links other n s (λ place less. links other place ∙ ap (λ b. if b then Some stamp else link_at old.links (link_of other place)) (test place false (nat_eq_equiv.symm n place ∙ lower_unlike place n less))) in
-          let first : once (link_at new.links (link_of other n)) s ≡ (if stamp == s then 1 else 0) = ap (λ o. once o s) top in
-          ap (λ k. stands new.links other k s) more ∙ omega (arith, first, below)
+          let n : ℕ = places_for old other in
+          let at : places_for old rep ≡ n = ap (λ (r : WireRep). places_for old r) (same_is rep other t) in
+          let more : places_for new other ≡ suc n = omega (arith, e) in
+          let test : (place : ℕ) (b : Bool) → (n == place) ≡ b → is_link (link_of rep (places_for old rep)) (link_of other place) ≡ b = λ place b h. (λ i. t i && (at i == place)) ∙ h in
+          let top : link_at new (link_of other n) ≡ Some stamp = links other n ∙ ap (λ b. if b then Some stamp else link_at old (link_of other n)) (test n true (nat_eq_equiv.refl n)) in
+          let below = stands_below old new other n s (λ place less. links other place ∙ ap (λ b. if b then Some stamp else link_at old (link_of other place)) (test place false (nat_eq_equiv.symm n place ∙ lower_unlike place n less))) in
+          let first : once (link_at new (link_of other n)) s ≡ (if stamp == s then 1 else 0) = ap (λ o. once o s) top in
+          ap (λ k. stands new other k s) more ∙ omega (arith, first, below)
       | false ↦ λ u e.
-          let same : places_for new.counts other ≡ places_for old.counts other = omega (arith, e) in
-          let kept = stands_below old.links new.links other (places_for old.counts other) s (λ place less. links other place ∙ rw u refl) in
+          let same : places_for new other ≡ places_for old other = omega (arith, e) in
+          let kept = stands_below old new other (places_for old other) s (λ place less. links other place ∙ rw u refl) in
           let none : ◌≡◌ {A = ℕ} (if stamp == s then 0 else 0) 0 = elim (stamp == s) as (λ b. ◌≡◌ {A = ℕ} (if b then 0 else 0) 0) [ true ↦ refl | false ↦ refl ] in
-          ap (λ k. stands new.links other k s) same ∙ omega (arith, kept, none)
+          ap (λ k. stands new other k s) same ∙ omega (arith, kept, none)
     ] refl (counts other)

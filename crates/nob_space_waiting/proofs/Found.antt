@@ -13,11 +13,12 @@ use Rattle.nob_numbers.specs.Numbers.{NumberLists, numbers_of}
 use Rattle.nob_slots.specs.Slots.{item_at, is_marked, is_number, IsAbove, IsFirstMarked, IsRising, NoneMarked, PutsMark}
 use Rattle.nob_space_waiting.specs.declared.entry.Entry.{Entry}
 use Rattle.nob_space_waiting.specs.Waiting.{is_awaited, is_due_where}
-use Rattle.nob_space_waiting.specs.Lines.{LineList, AreMarked, AreWaiting, items_of, open_in, stamps_from}
+use Rattle.nob_space_waiting.specs.Lines.{LineList, AreMarked, AreWaiting, has_line, items_of, open_in, reps_in, stamps_from}
+use Rattle.nob_space_waiting.proofs.Granted.{open_same}
 use Rattle.nob_space_waiting.proofs.Rows.{found_above, found_behind, lower_unlike}
 
 -- whether none of a message's copies that are due is of a reference that is awaited
-abbrev pub settles : List (WireRep × ℕ) → Message → Bool
+abbrev pub settles : List WireRep → Message → Bool
 settles awaited message = list_all (λ copy. not (is_due_where (is_awaited awaited) copy)) message.copies
 
 all_none : (test : RefCopy → Bool) (copies : List RefCopy) → list_all (λ copy. not (test copy)) copies ≡ (length (filter test copies) == 0)
@@ -53,16 +54,16 @@ module _ (test : Message → Bool) where
       ] refl found
 
 module _ {rows : List (ℕ × Entry)} {marked : List ℕ} {entries next room : ℕ} {froms : NumberLists} {lines : LineList} (are : AreWaiting rows marked entries froms lines next room) where
-  settles_marked : (s : ℕ) (x : Entry) → item_at rows s ≡ Some x → settles lines.counts x.message ≡ is_marked marked s
+  settles_marked : (s : ℕ) (x : Entry) → item_at rows s ≡ Some x → settles (reps_in lines.owners) x.message ≡ is_marked marked s
   settles_marked s x found =
-      all_none (is_due_where (is_awaited lines.counts)) x.message.copies ∙ ap (λ n. n == 0) (sym (are.waits s x found)) ∙ sym (are.marks s x found)
+      all_none (is_due_where (is_awaited (reps_in lines.owners))) x.message.copies ∙ ap (λ n. n == 0) (open_same (is_awaited (reps_in lines.owners)) (has_line lines) x.message are.awaited ∙ sym (are.waits s x found)) ∙ sym (are.marks s x found)
 
-  pub first_none : NoneMarked marked 0 → (find (settles lines.counts) (items_of rows) ≡ None) × (without_first (settles lines.counts) (items_of rows) ≡ items_of rows)
-  first_none none = find_none (settles lines.counts) rows are.rising (λ s x found. settles_marked s x found ∙ none s (omega arith))
+  pub first_none : NoneMarked marked 0 → (find (settles (reps_in lines.owners)) (items_of rows) ≡ None) × (without_first (settles (reps_in lines.owners)) (items_of rows) ≡ items_of rows)
+  first_none none = find_none (settles (reps_in lines.owners)) rows are.rising (λ s x found. settles_marked s x found ∙ none s (omega arith))
 
-  pub first_found : (n : ℕ) (e : Entry) → IsFirstMarked marked 0 n → item_at rows n ≡ Some e → (find (settles lines.counts) (items_of rows) ≡ Some e.message) × (without_first (settles lines.counts) (items_of rows) ≡ items_of (remove_entry (is_number n) rows))
+  pub first_found : (n : ℕ) (e : Entry) → IsFirstMarked marked 0 n → item_at rows n ≡ Some e → (find (settles (reps_in lines.owners)) (items_of rows) ≡ Some e.message) × (without_first (settles (reps_in lines.owners)) (items_of rows) ≡ items_of (remove_entry (is_number n) rows))
   first_found n e first found =
-      find_first (settles lines.counts) n e rows are.rising found (settles_marked n e found ∙ first.1) (λ s x there less. settles_marked s x there ∙ first.2 s (omega arith) less)
+      find_first (settles (reps_in lines.owners)) n e rows are.rising found (settles_marked n e found ∙ first.1) (λ s x there less. settles_marked s x there ∙ first.2 s (omega arith) less)
 
   -- what holds of fewer entries
   pub fewer : (rows' : List (ℕ × Entry)) (marked' : List ℕ) (entries' : ℕ) (froms' : NumberLists) → IsRising rows' → IsAbove rows' next → ((s : ℕ) (x : Entry) → item_at rows' s ≡ Some x → item_at rows s ≡ Some x) → AreMarked rows' marked' → ((peer : ℕ) → numbers_of froms' peer ≡ stamps_from peer rows') → entries' ≡ entries → froms'.room ≡ froms.room → AreWaiting rows' marked' entries' froms' lines next room
@@ -73,6 +74,7 @@ module _ {rows : List (ℕ × Entry)} {marked : List ℕ} {entries next room : �
     stamps = stamps;
     waits = λ s x found. are.waits s x (had s x found);
     lined = λ r on s x found. are.lined r on s x (had s x found);
+    awaited = are.awaited;
     fresh = are.fresh;
     few = are.few;
     entry_room = λ some. let more = are.entry_room some in omega (arith, more, same);

@@ -8,7 +8,6 @@ use Rattle.nob_ids.specs.declared.wire_rep.WireRep.{WireRep}
 use Rattle.nob_model_words.specs.declared.message.Message.{Message}
 use Rattle.nob_slots.specs.Slots.{item_at, is_number, IsRising}
 use Rattle.nob_space_waiting.specs.declared.entry.Entry.{Entry}
-use Rattle.nob_space_waiting.specs.declared.lines.Link.{Link}
 use Rattle.nob_space_waiting.specs.Waiting.{due_to, due_to_all, granted_message}
 use Rattle.nob_space_waiting.specs.Lines.{LineList, IsLined, all_lent, changed, is_stamp, is_standing, items_of, lent_entry, lent_where, link_at, link_of, once, stands}
 use Rattle.nob_space_waiting.proofs.Granted.{granted_still, granted_twice, none_due}
@@ -55,21 +54,21 @@ some_or : (b : Bool) (n : ℕ) → (b || nat_lt 0 n) ≡ nat_lt 0 ((if b then 1 
 some_or true n = let more : 0 < 1 + n = omega arith in grind (arith, nat_tests, more)
 some_or false n = let same : n ≡ 0 + n = omega arith in ap (nat_lt 0) same
 
-pub lent_next : (rep : WireRep) (links : List (Link × ℕ)) (place : ℕ) (standing : Option ℕ) (rows0 rows new : List (ℕ × Entry)) → standing ≡ link_at links (link_of rep place) → rows ≡ lent_where rep (λ s. nat_lt 0 (stands links rep place s)) rows0 → new ≡ lent_where rep (is_standing standing) rows → new ≡ lent_where rep (λ s. nat_lt 0 (stands links rep (place + 1) s)) rows0
-lent_next rep links place standing rows0 rows new is was now =
+pub lent_next : (rep : WireRep) (lines : LineList) (place : ℕ) (standing : Option ℕ) (rows0 rows new : List (ℕ × Entry)) → standing ≡ link_at lines (link_of rep place) → rows ≡ lent_where rep (λ s. nat_lt 0 (stands lines rep place s)) rows0 → new ≡ lent_where rep (is_standing standing) rows → new ≡ lent_where rep (λ s. nat_lt 0 (stands lines rep (place + 1) s)) rows0
+lent_next rep lines place standing rows0 rows new is was now =
     now ∙ ap (lent_where rep (is_standing standing)) was
-    ∙ lent_both rep (λ s. nat_lt 0 (stands links rep place s)) (is_standing standing) (λ s. nat_lt 0 (once standing s + stands links rep place s)) rows0 (λ s. some_or (is_stamp s standing) (stands links rep place s))
-    ∙ ap (λ o. lent_where rep (λ s. nat_lt 0 (once o s + stands links rep place s)) rows0) is
-    ∙ ap (λ n. lent_where rep (λ s. nat_lt 0 (stands links rep n s)) rows0) (sym (add-one place))
+    ∙ lent_both rep (λ s. nat_lt 0 (stands lines rep place s)) (is_standing standing) (λ s. nat_lt 0 (once standing s + stands lines rep place s)) rows0 (λ s. some_or (is_stamp s standing) (stands lines rep place s))
+    ∙ ap (λ o. lent_where rep (λ s. nat_lt 0 (once o s + stands lines rep place s)) rows0) is
+    ∙ ap (λ n. lent_where rep (λ s. nat_lt 0 (stands lines rep n s)) rows0) (sym (add-one place))
 
-pub lent_all : (rep : WireRep) (links : List (Link × ℕ)) (count : ℕ) (rows : List (ℕ × Entry)) → IsRising rows → ((s : ℕ) (e : Entry) → item_at rows s ≡ Some e → stands links rep count s ≡ due_to rep e.message) → lent_where rep (λ s. nat_lt 0 (stands links rep count s)) rows ≡ all_lent rep rows
-lent_all rep links count rows rising lined =
-    changed_as (λ s e. if nat_lt 0 (stands links rep count s) then lent_entry rep e else e) (λ s e. lent_entry rep e) rows rising
-    (λ s e found. elim (nat_lt 0 (stands links rep count s)) as (λ b. nat_lt 0 (stands links rep count s) ≡ b → (if b then lent_entry rep e else e) ≡ lent_entry rep e) [
+pub lent_all : (rep : WireRep) (lines : LineList) (count : ℕ) (rows : List (ℕ × Entry)) → IsRising rows → ((s : ℕ) (e : Entry) → item_at rows s ≡ Some e → stands lines rep count s ≡ due_to rep e.message) → lent_where rep (λ s. nat_lt 0 (stands lines rep count s)) rows ≡ all_lent rep rows
+lent_all rep lines count rows rising lined =
+    changed_as (λ s e. if nat_lt 0 (stands lines rep count s) then lent_entry rep e else e) (λ s e. lent_entry rep e) rows rising
+    (λ s e found. elim (nat_lt 0 (stands lines rep count s)) as (λ b. nat_lt 0 (stands lines rep count s) ≡ b → (if b then lent_entry rep e else e) ≡ lent_entry rep e) [
       | true ↦ λ t. refl
       | false ↦ λ u.
           let its = lined s e found in
-          let zero : stands links rep count s ≡ 0 = none_below (stands links rep count s) u in
+          let zero : stands lines rep count s ≡ 0 = none_below (stands lines rep count s) u in
           sym (lent_still rep e (sym its ∙ zero))
     ] refl)
   where

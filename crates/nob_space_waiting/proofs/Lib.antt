@@ -5,6 +5,7 @@ pub mod Counting
 pub mod Granted
 pub mod Lent
 pub mod Ended
-pub mod Owners
+pub mod Split
+pub mod Kept
 pub mod Found
 pub mod Pushed

@@ -12,9 +12,9 @@ use Rattle.nob_model_words.specs.declared.message.RefCopy.{RefCopy}
 use Rattle.nob_numbers.specs.Numbers.{NumberLists, numbers_of, Puts}
 use Rattle.nob_slots.specs.Slots.{item_at, is_marked, is_number, IsAbove, IsRising, PutsMark}
 use Rattle.nob_space_waiting.specs.declared.entry.Entry.{Entry}
-use Rattle.nob_space_waiting.specs.Waiting.{due_to, due_to_all, is_awaited, is_due, is_due_in, is_due_where, places_for, waits_for}
-use Rattle.nob_space_waiting.specs.Lines.{LineList, AreMarked, AreWaiting, items_of, open_in, stamps_from, times_in}
-use Rattle.nob_space_waiting.proofs.Ended.{awaited_none, due_few, times_none_awaited}
+use Rattle.nob_space_waiting.specs.Waiting.{due_to, due_to_all, is_awaited, is_due, is_due_in, is_due_where, waits_for}
+use Rattle.nob_space_waiting.specs.Lines.{LineList, AreAwaited, AreMarked, AreWaiting, has_line, places_for, reps_in, items_of, open_in, stamps_from, times_in}
+use Rattle.nob_space_waiting.proofs.Ended.{line_none, due_few, times_none}
 use Rattle.nob_space_waiting.proofs.Granted.{count_cons, count_same}
 use Rattle.nob_space_waiting.proofs.Rows.{found_below}
 use Rattle.nob_space_waiting.proofs.Stamps.{stamps_pushed}
@@ -51,7 +51,7 @@ push_there n e (row ∷ rows) above =
     elim (is_number n row.0) as (λ b. IsSome (cond b (Some row.1) (item_at (rows ++ (n, e) ∷ []) n))) [ true ↦ refl | false ↦ push_there n e rows above.1 ]
 
 -- ---- copies
-some_more : (n : ℕ) → 0 < n → nat_lt 0 n ≡ true
+pub some_more : (n : ℕ) → 0 < n → nat_lt 0 n ≡ true
 some_more n h = grind (arith, nat_tests, h)
 
 -- tests that agree at what is due count the same
@@ -85,9 +85,10 @@ due_few_copies r (c ∷ copies) =
     omega (arith, rest, all, one)
 
 module _ {rows : List (ℕ × Entry)} {marked : List ℕ} {entries next room : ℕ} {froms : NumberLists} {lines : LineList} (are : AreWaiting rows marked entries froms lines next room) (message : Message) (new : LineList)
-    (counts : (r : WireRep) → places_for new.counts r ≡ places_for lines.counts r + due_to r message)
+    (counts : (r : WireRep) → places_for new r ≡ places_for lines r + due_to r message)
     (times : (r : WireRep) (s : ℕ) → times_in new r s ≡ times_in lines r s + (if next == s then due_to r message else 0))
-    (fits : (r : WireRep) → is_due_in (message ∷ []) r ≡ true → is_due_in (items_of rows) r ≡ true → not (is_awaited lines.counts r) ≡ false) where
+    (reps : AreAwaited new)
+    (fits : (r : WireRep) → is_due_in (message ∷ []) r ≡ true → is_due_in (items_of rows) r ≡ true → is_awaited (reps_in lines.owners) r ≡ true) where
   others : (r : WireRep) (s : ℕ) → (next ≡ s → ⊥) → times_in new r s ≡ times_in lines r s
   others r s differs =
       let plain = times r s in
@@ -97,11 +98,11 @@ module _ {rows : List (ℕ × Entry)} {marked : List ℕ} {entries next room : �
       ] refl plain
 
   -- where it is not awaited and the new message waits for it, no other does
-  none_waits : (r : WireRep) (s : ℕ) (x : Entry) → item_at rows s ≡ Some x → is_awaited lines.counts r ≡ false → 0 < due_to r message → due_to r x.message ≡ 0
+  none_waits : (r : WireRep) (s : ℕ) (x : Entry) → item_at rows s ≡ Some x → has_line lines r ≡ false → 0 < due_to r message → due_to r x.message ≡ 0
   none_waits r s x found off due =
       let one : is_due_in (message ∷ []) r ≡ true = some_more (due_to_all r (message ∷ [])) (omega (arith, due)) in
       elim (is_due_in (items_of rows) r) as (λ b. is_due_in (items_of rows) r ≡ b → due_to r x.message ≡ 0) [
-        | true ↦ λ t. absurd (true≢false (sym (ap not off) ∙ fits r one t))
+        | true ↦ λ t. absurd (true≢false (sym (sym (are.awaited r) ∙ fits r one t) ∙ off))
         | false ↦ λ u. let few = due_few r rows s x found in let zero = none_below (due_to_all r (items_of rows)) u in omega (arith, few, zero)
       ] refl
     where
@@ -110,33 +111,33 @@ module _ {rows : List (ℕ × Entry)} {marked : List ℕ} {entries next room : �
       none_below (suc n) h = let more : 0 < suc n = omega arith in absurd (grind (arith, nat_tests, more, h))
 
   -- a reference that an old message waits for is awaited as before
-  awaited_old : (s : ℕ) (x : Entry) → item_at rows s ≡ Some x → (r : WireRep) → 0 < due_to r x.message → is_awaited lines.counts r ≡ is_awaited new.counts r
+  awaited_old : (s : ℕ) (x : Entry) → item_at rows s ≡ Some x → (r : WireRep) → 0 < due_to r x.message → has_line lines r ≡ has_line new r
   awaited_old s x found r due =
-      elim (is_awaited lines.counts r) as (λ b. is_awaited lines.counts r ≡ b → b ≡ is_awaited new.counts r) [
+      elim (has_line lines r) as (λ b. has_line lines r ≡ b → b ≡ has_line new r) [
         | true ↦ λ t.
-            let was : 0 < places_for lines.counts r = awaited_some (places_for lines.counts r) t in
+            let was : 0 < places_for lines r = awaited_some (places_for lines r) t in
             let its = counts r in
-            sym (some_more (places_for new.counts r) (omega (arith, was, its)))
+            sym (some_more (places_for new r) (omega (arith, was, its)))
         | false ↦ λ u.
-            let none = awaited_none lines.counts r u in
+            let none = line_none lines r u in
             let its = counts r in
             let zero : due_to r message ≡ 0 = elim (due_to r message) as (λ n. due_to r message ≡ n → n ≡ 0) [
               | zero ↦ λ e. refl
               | suc n ↦ λ e. let bad = none_waits r s x found u (omega (arith, e)) in absurd (omega (arith, bad, due))
             ] refl in
-            let same : places_for new.counts r ≡ 0 = omega (arith, its, none, zero) in sym (ap (nat_lt 0) same)
+            let same : places_for new r ≡ 0 = omega (arith, its, none, zero) in sym (ap (nat_lt 0) same)
       ] refl
     where
       awaited_some : (n : ℕ) → nat_lt 0 n ≡ true → 0 < n
       awaited_some zero h = absurd (true≢false (sym h))
       awaited_some (suc n) h = omega arith
 
-  lined_old : (r : WireRep) (s : ℕ) (x : Entry) → item_at rows s ≡ Some x → is_awaited new.counts r ≡ true → times_in lines r s ≡ due_to r x.message
+  lined_old : (r : WireRep) (s : ℕ) (x : Entry) → item_at rows s ≡ Some x → has_line new r ≡ true → times_in lines r s ≡ due_to r x.message
   lined_old r s x found on =
-      elim (is_awaited lines.counts r) as (λ b. is_awaited lines.counts r ≡ b → times_in lines r s ≡ due_to r x.message) [
+      elim (has_line lines r) as (λ b. has_line lines r ≡ b → times_in lines r s ≡ due_to r x.message) [
         | true ↦ λ t. are.lined r t s x found
         | false ↦ λ u.
-            let none = times_none_awaited lines r s u in
+            let none = times_none lines r s u in
             elim (due_to r x.message) as (λ n. due_to r x.message ≡ n → times_in lines r s ≡ n) [
               | zero ↦ λ e. none
               | suc n ↦ λ e. let same = awaited_old s x found r (omega (arith, e)) in absurd (true≢false (sym on ∙ sym same ∙ u))
@@ -144,8 +145,17 @@ module _ {rows : List (ℕ × Entry)} {marked : List ℕ} {entries next room : �
       ] refl
 
   -- the reference of a copy that is due to the message is awaited
-  awaited_new : (r : WireRep) → 0 < due_to r message → true ≡ is_awaited new.counts r
-  awaited_new r due = let its = counts r in sym (some_more (places_for new.counts r) (omega (arith, due, its)))
+  awaited_new : (r : WireRep) → 0 < due_to r message → true ≡ has_line new r
+  awaited_new r due = let its = counts r in sym (some_more (places_for new r) (omega (arith, due, its)))
+
+  -- which are awaited, as the contract sees it
+  pub awaited_more : (r : WireRep) → is_awaited (reps_in new.owners) r ≡ (is_awaited (reps_in lines.owners) r || is_due_in (message ∷ []) r)
+  awaited_more r =
+      reps r ∙ ap (nat_lt 0) (counts r) ∙ more (places_for lines r) (due_to r message) ∙ ap (λ b. b || nat_lt 0 (due_to r message + 0)) (sym (are.awaited r))
+    where
+      more : (a b : ℕ) → nat_lt 0 (a + b) ≡ (nat_lt 0 a || nat_lt 0 (b + 0))
+      more zero b = let same : b ≡ b + 0 = omega arith in ap (nat_lt 0) (omega arith)
+      more (suc a) b = some_more (suc a + b) (omega arith) ∙ sym (ap (λ t. t || nat_lt 0 (b + 0)) (some_more (suc a) (omega arith)))
 
   -- what holds once the message is there
   pub pushed : (rows' : List (ℕ × Entry)) (marked' : List ℕ) (entries' : ℕ) (froms' : NumberLists) (next' waits : ℕ) → rows' ≡ rows ++ (next, record { message = message; waits = waits }) ∷ [] → waits ≡ length (filter (λ copy. is_due copy.loan) message.copies)
@@ -159,6 +169,7 @@ module _ {rows : List (ℕ × Entry)} {marked : List ℕ} {entries next room : �
         stamps = λ peer. stamps_pushed froms froms' rows next e are.stamps stamped peer ∙ ap (stamps_from peer) (sym is);
         waits = λ s x found. push_found next e rows s x (λ old. waits_old s x old) (λ at same. waits_new x same) (sym (ap (λ rs. item_at rs s) is) ∙ found);
         lined = λ r on s x found. push_found next e rows s x (λ old. others r s (differs s x old) ∙ lined_old r s x old on) (λ at same. lined_new r s x at same) (sym (ap (λ rs. item_at rs s) is) ∙ found);
+        awaited = reps;
         fresh = λ r s past. others r s (λ at. omega (arith, at, past, more)) ∙ are.fresh r s (omega (arith, past, more));
         few = λ r. let its = counts r in let few = are.few r in let fewer = due_few_copies r message.copies in omega (arith, its, few, fewer, more);
         entry_room = λ some. absurd (omega (arith, some));
@@ -179,13 +190,13 @@ module _ {rows : List (ℕ × Entry)} {marked : List ℕ} {entries next room : �
       marks_new : (s : ℕ) (x : Entry) → next ≡ s → record { message = message; waits = waits } ≡ x → is_marked marked' s ≡ (x.waits == 0)
       marks_new s x at same = puts s ∙ ap (λ (k : ℕ). if is_number next k then waits == 0 else is_marked marked s) (sym at) ∙ ap (λ b. if b then waits == 0 else is_marked marked s) (nat_eq_equiv.refl next) ∙ ap (λ (y : Entry). y.waits == 0) same
 
-      waits_old : (s : ℕ) (x : Entry) → item_at rows s ≡ Some x → x.waits ≡ open_in (is_awaited new.counts) x.message
-      waits_old s x old = are.waits s x old ∙ open_where (is_awaited lines.counts) (is_awaited new.counts) x.message.copies (awaited_old s x old)
+      waits_old : (s : ℕ) (x : Entry) → item_at rows s ≡ Some x → x.waits ≡ open_in (has_line new) x.message
+      waits_old s x old = are.waits s x old ∙ open_where (has_line lines) (has_line new) x.message.copies (awaited_old s x old)
 
-      waits_new : (x : Entry) → record { message = message; waits = waits } ≡ x → x.waits ≡ open_in (is_awaited new.counts) x.message
+      waits_new : (x : Entry) → record { message = message; waits = waits } ≡ x → x.waits ≡ open_in (has_line new) x.message
       waits_new x same =
-          ap (λ (y : Entry). y.waits) (sym same) ∙ count ∙ due_count message.copies ∙ open_where (λ r. true) (is_awaited new.counts) message.copies awaited_new
-          ∙ ap (λ (y : Entry). open_in (is_awaited new.counts) y.message) same
+          ap (λ (y : Entry). y.waits) (sym same) ∙ count ∙ due_count message.copies ∙ open_where (λ r. true) (has_line new) message.copies awaited_new
+          ∙ ap (λ (y : Entry). open_in (has_line new) y.message) same
 
       lined_new : (r : WireRep) (s : ℕ) (x : Entry) → next ≡ s → record { message = message; waits = waits } ≡ x → times_in new r s ≡ due_to r x.message
       lined_new r s x at same =

@@ -1,7 +1,7 @@
 -- A line for each reference that messages wait for, and how many such copies each has. No public clause cites this module.
-use Rattle.std.specs.Prelude.{◌≡◌, ℕ, ◌+◌, ◌-◌, ◌^◌, ◌<◌, ◌≤◌, ◌==◌, nat_lt, Bool, true, false, ◌&&◌, List, [], ◌∷◌, length, map, filter, Option, Some, None, IsSome, if◌then◌else◌}
+use Rattle.std.specs.Prelude.{◌≡◌, ℕ, ◌+◌, ◌-◌, ◌^◌, ◌<◌, ◌≤◌, ◌==◌, nat_lt, Bool, true, false, ◌&&◌, List, [], ◌∷◌, ◌++◌, length, map, filter, Option, Some, None, IsSome, is_some, slice_get, if◌then◌else◌}
 use Prim.Native.Nat.{zero, suc}
-use Rattle.std.specs.List.{list_any, AllByRecursion, IsDistinct}
+use Rattle.std.specs.List.{AllByRecursion, IsDistinct}
 use Rattle.std.specs.Map.{lookup, keys_of, remove_entry}
 use Rattle.std.specs.Option.{unwrap_or, option_map_or}
 use Rattle.nob_ids.specs.Names.{is_same}
@@ -11,14 +11,37 @@ use Rattle.nob_model_words.specs.declared.message.RefCopy.{RefCopy}
 use Rattle.nob_numbers.specs.Numbers.{NumberLists, numbers_of}
 use Rattle.nob_slots.specs.Slots.{item_at, is_number, IsAbove, IsRising, is_marked}
 use Rattle.nob_space_waiting.specs.declared.entry.Entry.{Entry}
-use Rattle.nob_space_waiting.specs.declared.lines.Link.{Link}
-use Rattle.nob_space_waiting.specs.Waiting.{due_to, granted_message, is_awaited, is_due, is_due_where, places_for}
+use Rattle.nob_space_waiting.specs.declared.owner_lines.Link.{Link}
+use Rattle.nob_space_waiting.specs.Waiting.{due_to, granted_message, is_awaited, is_due, is_due_where}
 
--- how many places each line has, who stands at each place, and for how many more places there is room
-pub record LineList : Type 0 where
+-- the lines of some references: how many places each has, and who stands at each place
+pub record LineMap : Type 0 where
   pub counts : List (WireRep × ℕ)
   pub links : List (Link × ℕ)
+
+-- the lines of an owner's references, and for how many more places there is room
+pub record OwnerList : Type 0 where
+  pub lines : LineMap
   pub room : ℕ
+
+-- the lines of each owner's references, those of an owner at its place, and for how many more places there is room, of whichever owner
+pub record LineList : Type 0 where
+  pub owners : List LineMap
+  pub room : ℕ
+
+-- lines that there may be
+abbrev pub lines_or_none : Option LineMap → LineMap
+lines_or_none None = record { counts = []; links = [] }
+lines_or_none (Some lines) = lines
+
+-- the lines of an owner's references
+abbrev pub lines_of : LineList → ℕ → LineMap
+lines_of lines owner = lines_or_none (slice_get lines.owners owner)
+
+-- the references that have a line, owner by owner
+abbrev pub reps_in : List LineMap → List WireRep
+reps_in [] = []
+reps_in (lines ∷ owners) = keys_of lines.counts ++ reps_in owners
 
 -- whether two places are one
 abbrev pub is_link : Link → Link → Bool
@@ -28,9 +51,25 @@ is_link link other = is_same link.rep other.rep && link.place == other.place
 abbrev pub link_of : WireRep → ℕ → Link
 link_of rep place = record { rep = rep; place = place }
 
+-- how many places are counted for a reference
+abbrev pub count_of : List (WireRep × ℕ) → WireRep → ℕ
+count_of counts rep = unwrap_or (lookup (is_same rep) counts) 0
+
+-- how many places the line of a reference has
+abbrev pub places_for : LineList → WireRep → ℕ
+places_for lines rep = count_of (lines_of lines rep.owner).counts rep
+
+-- whether a reference has a line
+abbrev pub has_line : LineList → WireRep → Bool
+has_line lines rep = nat_lt 0 (places_for lines rep)
+
+-- which stamp is linked to a place
+abbrev pub stamp_at : List (Link × ℕ) → Link → Option ℕ
+stamp_at links link = lookup (is_link link) links
+
 -- who stands at a place in line
-abbrev pub link_at : List (Link × ℕ) → Link → Option ℕ
-link_at links link = lookup (is_link link) links
+abbrev pub link_at : LineList → Link → Option ℕ
+link_at lines link = stamp_at (lines_of lines link.rep.owner).links link
 
 -- whether it is the one with this stamp
 abbrev pub is_stamp : ℕ → Option ℕ → Bool
@@ -46,13 +85,13 @@ abbrev pub once : Option ℕ → ℕ → ℕ
 once standing stamp = if is_stamp stamp standing then 1 else 0
 
 -- how often a stamp stands among the first so many places in the line of a reference
-abbrev pub stands : List (Link × ℕ) → WireRep → ℕ → ℕ → ℕ
-stands links rep zero stamp = 0
-stands links rep (suc count) stamp = once (link_at links (link_of rep count)) stamp + stands links rep count stamp
+abbrev pub stands : LineList → WireRep → ℕ → ℕ → ℕ
+stands lines rep zero stamp = 0
+stands lines rep (suc count) stamp = once (link_at lines (link_of rep count)) stamp + stands lines rep count stamp
 
 -- how often a stamp stands in the line of a reference
 abbrev pub times_in : LineList → WireRep → ℕ → ℕ
-times_in lines rep stamp = stands lines.links rep (places_for lines.counts rep) stamp
+times_in lines rep stamp = stands lines rep (places_for lines rep) stamp
 
 -- the messages of the entries
 abbrev pub items_of : List (ℕ × Entry) → List Message
@@ -125,22 +164,45 @@ AreOpen test rows = (stamp : ℕ) (entry : Entry) → item_at rows stamp ≡ Som
 abbrev pub IsLined : LineList → List (ℕ × Entry) → WireRep → Type 0
 IsLined lines rows rep = (stamp : ℕ) (entry : Entry) → item_at rows stamp ≡ Some entry → times_in lines rep stamp ≡ due_to rep entry.message
 
--- the same of each reference that is awaited
+-- the same of each reference that has a line
 abbrev pub AreLined : LineList → List (ℕ × Entry) → Type 0
-AreLined lines rows = (rep : WireRep) → is_awaited lines.counts rep ≡ true → IsLined lines rows rep
+AreLined lines rows = (rep : WireRep) → has_line lines rep ≡ true → IsLined lines rows rep
 
--- whether a reference is of this owner, and one of these
-abbrev pub is_of_owner : ℕ → List WireRep → WireRep → Bool
-is_of_owner owner reps rep = rep.owner == owner && list_any (is_same rep) reps
-
--- how often a stamp stands in the lines of the references of an owner among these
-abbrev pub times_of : LineList → ℕ → List WireRep → ℕ → ℕ
-times_of lines owner [] stamp = 0
-times_of lines owner (rep ∷ reps) stamp = (if rep.owner == owner then times_in lines rep stamp else 0) + times_of lines owner reps stamp
+-- how often a stamp stands in the lines of these references
+abbrev pub times_of : LineList → List WireRep → ℕ → ℕ
+times_of lines [] stamp = 0
+times_of lines (rep ∷ reps) stamp = times_in lines rep stamp + times_of lines reps stamp
 
 -- no reference has two lines
 abbrev pub AreApart : List (WireRep × ℕ) → Type 0
 AreApart counts = IsDistinct is_same (keys_of counts)
+
+-- each reference that is counted has a place
+abbrev pub HavePlaces : List (WireRep × ℕ) → Type 0
+HavePlaces counts = (rep : WireRep) → is_some (lookup (is_same rep) counts) ≡ nat_lt 0 (count_of counts rep)
+
+-- each reference with a line is of this owner, and has a place
+pub record AreOf (owner : ℕ) (lines : LineMap) : Type 0 where
+  pub places : HavePlaces lines.counts
+  pub only : (rep : WireRep) → (rep.owner == owner) ≡ false → count_of lines.counts rep ≡ 0
+
+-- the lines of each owner, with so much room
+abbrev pub lists_of : List OwnerList → ℕ → LineList
+lists_of owners room = record { owners = map (λ owner. owner.lines) owners; room = room }
+
+-- the lines of each owner have room for so many more places
+abbrev pub HaveRoom : List OwnerList → ℕ → Type 0
+HaveRoom owners room = (place : ℕ) (owner : OwnerList) → slice_get owners place ≡ Some owner → room ≤ owner.room
+
+-- where there is room there are lines for each owner, each with that room, and none are of another owner's references
+pub record AreOwners (owners : List OwnerList) (room : ℕ) : Type 0 where
+  pub all : 0 < room → 33 ≤ length owners
+  pub rooms : HaveRoom owners room
+  pub own : (owner : ℕ) → AreOf owner (lines_of (lists_of owners room) owner)
+
+-- the references that have a line are awaited, and no others
+abbrev pub AreAwaited : LineList → Type 0
+AreAwaited lines = (rep : WireRep) → is_awaited (reps_in lines.owners) rep ≡ has_line lines rep
 
 -- what holds of the entries, of the marks, of the stamps by space, of the lines, of the next stamp and of the room
 pub record AreWaiting (rows : List (ℕ × Entry)) (marked : List ℕ) (entries_room : ℕ) (froms : NumberLists) (lines : LineList) (next room : ℕ) : Type 0 where
@@ -148,12 +210,13 @@ pub record AreWaiting (rows : List (ℕ × Entry)) (marked : List ℕ) (entries_
   pub above : IsAbove rows next
   pub marks : AreMarked rows marked
   pub stamps : (peer : ℕ) → numbers_of froms peer ≡ stamps_from peer rows
-  pub waits : AreOpen (is_awaited lines.counts) rows
+  pub waits : AreOpen (has_line lines) rows
   pub lined : AreLined lines rows
+  pub awaited : AreAwaited lines
   -- stamps that are to come stand in no line
   pub fresh : (rep : WireRep) (stamp : ℕ) → next ≤ stamp → times_in lines rep stamp ≡ 0
   -- no line is longer than what came
-  pub few : (rep : WireRep) → places_for lines.counts rep ≤ next
+  pub few : (rep : WireRep) → places_for lines rep ≤ next
   pub entry_room : 0 < room → 0 < entries_room
   pub stamp_room : 0 < room → 0 < froms.room
   pub line_room : room ≤ lines.room + 1

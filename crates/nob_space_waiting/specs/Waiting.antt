@@ -1,8 +1,6 @@
 -- The messages of a space that wait for their references, as a contract sees them.
 use Rattle.std.specs.Prelude.{◌≡◌, ℕ, ◌+◌, ◌==◌, nat_lt, Bool, true, false, ◌&&◌, not, List, [], ◌∷◌, length, map, filter}
 use Rattle.std.specs.List.{list_any, list_all}
-use Rattle.std.specs.Map.{lookup}
-use Rattle.std.specs.Option.{unwrap_or}
 use Rattle.nob_ids.specs.Names.{is_same}
 use Rattle.nob_ids.specs.declared.wire_rep.WireRep.{WireRep}
 use Rattle.nob_model_words.specs.declared.message.Loan.{Loan}
@@ -11,10 +9,10 @@ use Rattle.nob_model_words.specs.declared.message.Message.{Message}
 use Rattle.nob_model_words.specs.declared.message.RefCopy.{RefCopy}
 use Rattle.nob_model_words.specs.Messages.{loan_after}
 
--- the messages in order, the places in line for each reference whose answer is to come, and below how many copies a message fits without memory
+-- the messages in order, the references whose owners' answers are to come, and below how many copies a message fits without memory
 pub record WaitingList : Type 0 where
   pub items : List Message
-  pub awaited : List (WireRep × ℕ)
+  pub awaited : List WireRep
   pub room : ℕ
 
 -- whether a loan is due
@@ -48,26 +46,18 @@ due_to_all rep (message ∷ messages) = due_to rep message + due_to_all rep mess
 abbrev pub is_due_in : List Message → WireRep → Bool
 is_due_in messages rep = nat_lt 0 (due_to_all rep messages)
 
--- how many places in line there are for a reference
-abbrev pub places_for : List (WireRep × ℕ) → WireRep → ℕ
-places_for awaited rep = unwrap_or (lookup (is_same rep) awaited) 0
-
 -- whether a reference is awaited: its owner's answer is to come
-abbrev pub is_awaited : List (WireRep × ℕ) → WireRep → Bool
-is_awaited awaited rep = nat_lt 0 (places_for awaited rep)
-
--- whether a reference with loans that are due is marked lost: nothing is to come for it
-abbrev pub is_marked_lost : WaitingList → WireRep → Bool
-is_marked_lost w rep = not (is_awaited w.awaited rep)
+abbrev pub is_awaited : List WireRep → WireRep → Bool
+is_awaited awaited rep = list_any (is_same rep) awaited
 
 -- whether a copy is due and its reference passes a test
 abbrev pub is_due_where : (WireRep → Bool) → RefCopy → Bool
 is_due_where test copy = is_due copy.loan && test copy.rep
 
--- whether a message may be settled: each copy whose loan is due is of a reference that is marked lost
+-- whether a message may be settled: no copy whose loan is due is of a reference that is awaited
 abbrev pub is_settleable_in : WaitingList → Message → Bool
 is_settleable_in w message = list_all (λ copy. not (is_due_where (is_awaited w.awaited) copy)) message.copies
 
--- no reference that these messages wait for in vain is due to a message
+-- each reference that is due to a message and to others that wait is awaited
 abbrev pub IsNew : WaitingList → Message → Type 0
-IsNew w message = (rep : WireRep) → is_due_in (message ∷ []) rep ≡ true → is_due_in w.items rep ≡ true → is_marked_lost w rep ≡ false
+IsNew w message = (rep : WireRep) → is_due_in (message ∷ []) rep ≡ true → is_due_in w.items rep ≡ true → is_awaited w.awaited rep ≡ true

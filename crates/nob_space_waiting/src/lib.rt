@@ -8,6 +8,8 @@ mod iter;
 mod lending;
 mod lines;
 mod losing;
+mod owner_lines;
+mod owners;
 mod waiting;
 
 pub use iter::From;

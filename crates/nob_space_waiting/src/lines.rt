@@ -1,165 +1,175 @@
-//! A line for each reference that messages wait for.
+//! The lines of all owners' references.
 
-ghost use Rattle.std.specs.Prelude.{◌≡◌, ℕ, ◌+◌, ◌-◌, ◌<◌, ◌≤◌, ◌^◌, ◌==◌, [], false, length, filter, Some, OnOk, slice_get, if◌then◌else◌};
+ghost use Rattle.std.specs.Prelude.{◌≡◌, ℕ, ◌+◌, ◌-◌, ◌<◌, ◌≤◌, ◌^◌, ◌==◌, ◌&&◌, [], false, length, Some, IsOk, OnOk, slice_get, if◌then◌else◌};
+ghost use Rattle.std.specs.List.{list_any};
 ghost use Rattle.std.specs.Map.{keys_of};
-ghost use Rattle.indexmap.specs.IndexMap.{spare};
 ghost use Rattle.nob_ids.specs.Names.{is_same};
 ghost use Rattle.nob_ids.specs.declared.wire_rep.WireRep.{WireRep as WireRepOf};
-ghost use Rattle.nob_space_waiting.specs.Waiting.{places_for, waits_for, is_due};
-ghost use Rattle.nob_space_waiting.specs.Lines.{AreApart, is_link, link_at, link_of, times_in};
+ghost use Rattle.nob_space_waiting.specs.Lines.{AreApart, AreAwaited, has_line, is_link, lines_of, link_at, link_of, places_for, reps_in};
 
-use indexmap::IndexMap;
+use crate::owner_lines::{Link, OwnerLines};
+use crate::owners::{make_owners, widen};
 use nob_ids::{SpaceId, WireRep};
 use std::alloc::{AllocError, Global};
 use std::marker::Model;
 
-/// A place in the line of a reference.
-#[derive(Clone, Copy, Debug, PartialEq, Eq, Hash)]
-pub struct Link {
-    pub rep: WireRep,
-    pub place: u64,
+// For how many more places the lines of each owner are made to have room at least.
+const MORE: usize = 16;
+
+/// A line for each reference that messages wait for, owner by owner.
+pub struct Lines {
+    alloc: Global,
+    // Those of each owner's references, at its number.
+    owners: Vec<OwnerLines>,
+    // How many more places fit in the lines of each owner.
+    room: usize,
 }
 
-/// How many places the line of each reference has, and the stamp that stands at each.
-#[derive(Drop)]
-pub struct Lines {
-    counts: IndexMap<WireRep, u64>,
-    links: IndexMap<Link, u64>,
+// By hand, so that the lines are taken apart here alone and not at each end of each caller.
+impl Drop for Lines {
+    fn drop(self) {
+        let Lines {
+            alloc: _,
+            owners: _,
+            room: _,
+        } = self;
+    }
 }
 
 impl Model for Lines {
-    ghost use Rattle.nob_space_waiting.specs.Lines.{LineList};
+    ghost use Rattle.nob_space_waiting.specs.Lines.{AreOwners, LineList, lists_of};
 
     ghost Value = { LineList };
 
-    ghost use Rattle.std.specs.Prelude.{min};
-    ghost use Rattle.indexmap.specs.IndexMap.{spare};
+    ghost view = { λ lines. lists_of lines.owners.items lines.room };
 
-    ghost view = { λ lines. record {
-      counts = lines.counts.entries;
-      links = lines.links.entries;
-      room = min (spare lines.counts) (spare lines.links);
-    } };
-
-    ghost use Rattle.nob_space_waiting.specs.Lines.{AreApart};
-
-    ghost invariant = { λ lines. AreApart lines.counts.entries };
+    ghost invariant = { λ lines. AreOwners lines.owners.items lines.room };
 }
 
 impl Lines {
     /// No lines. It takes no memory before the first place.
     pub fn new(alloc: Global) -> Lines
-        ensures counts { result.counts ≡ [] }
-        ensures links { result.links ≡ [] }
+        ensures { result.owners ≡ [] }
     {
         Lines {
-            counts: IndexMap::new(alloc),
-            links: IndexMap::new(alloc),
+            alloc,
+            owners: Vec::new(alloc),
+            room: 0,
         }
     }
 
-    /// How many lines there are.
-    pub fn len(&self) -> usize
-        ensures count { result ≡ length self.now.counts }
-        ensures apart { AreApart self.now.counts }
+    /// How many lines the references of an owner have. Constant time.
+    pub fn len_of(&self, owner: SpaceId) -> usize
+        ensures count { result ≡ length (lines_of self.now owner).counts }
+        ensures apart { AreApart (lines_of self.now owner).counts }
+        ensures reps { (rep : WireRepOf) → list_any (is_same rep)
+            (keys_of (lines_of self.now owner).counts) ≡ (rep.owner == owner && has_line self.now rep) }
     {
-        self.counts.len()
+        match self.owners.get(owner.get() as usize) {
+            Some(lines) => lines.len(),
+            None => 0,
+        }
     }
 
-    /// The reference whose line is at a place among the lines.
-    pub fn rep_at(&self, at: usize) -> WireRep
-        requires { at < length self.now.counts }
-        ensures { slice_get (keys_of self.now.counts) at ≡ Some result }
+    /// The reference whose line is at a place among the lines of an owner. Constant time.
+    pub fn rep_at(&self, owner: SpaceId, at: usize) -> WireRep
+        requires { at < length (lines_of self.now owner).counts }
+        ensures { slice_get (keys_of (lines_of self.now owner).counts) at ≡ Some result }
     {
-        let Some((rep, _count)) = self.counts.get_index(at) else {
+        let Some(lines) = self.owners.get(owner.get() as usize) else {
             unreachable!();
         };
-        *rep
+        lines.rep_at(at)
     }
 
     /// How many places the line of a reference has. One look-up.
     pub fn count(&self, rep: &WireRep) -> u64
-        ensures count { result ≡ places_for self.now.counts rep.now }
+        ensures count { result ≡ places_for self.now rep.now }
         ensures fits { result < 2 ^ 64 }
     {
-        match self.counts.get(rep) {
-            Some(count) => *count,
+        match self.owners.get(rep.owner.get() as usize) {
+            Some(lines) => lines.count(rep),
             None => 0,
         }
     }
 
     /// The stamp at a place in the line of a reference. One look-up.
     pub fn link(&self, rep: &WireRep, place: u64) -> Option<u64>
-        ensures { result ≡ link_at self.now.links (link_of rep.now place) }
+        ensures { result ≡ link_at self.now (link_of rep.now place) }
     {
-        self.links.get(&Link { rep: *rep, place }).copied()
+        let Some(lines) = self.owners.get(rep.owner.get() as usize) else {
+            return None;
+        };
+        lines.link(rep, place)
     }
 
-    /// Makes room for so many more places. Only memory fails it, and the lines are the same in any
-    /// case.
+    /// Makes room for so many more places, of whichever owner. Only memory fails it, and the lines
+    /// are the same in any case. Constant time on average: it looks at each owner's lines once for
+    /// sixteen places.
     pub fn reserve(&mut self, additional: usize) -> Result<(), AllocError>
-        ensures counts { self.new.counts ≡ self.old.counts }
-        ensures links { self.new.links ≡ self.old.links }
+        ensures lines { (owner : ℕ) → lines_of self.new owner ≡ lines_of self.old owner }
+        ensures reps { reps_in self.new.owners ≡ reps_in self.old.owners }
         ensures ok { OnOk result (additional ≤ self.new.room) }
+        ensures succeeds { additional ≤ self.old.room → IsOk result }
         ensures room { self.old.room ≤ self.new.room }
     {
-        self.counts.reserve(additional)?;
-        self.links.reserve(additional)
+        if additional <= self.room {
+            return Ok(());
+        }
+        make_owners(self.alloc, &mut self.owners)?;
+        let more = additional.max(MORE);
+        widen(&mut self.owners, more)?;
+        self.room = more;
+        Ok(())
     }
 
     /// Puts a stamp behind the others in the line of a reference. It takes no memory. A few
     /// look-ups.
     pub fn push(&mut self, rep: &WireRep, stamp: u64)
         requires room { 0 < self.old.room }
-        requires small { places_for self.old.counts rep.now < 2 ^ 64 - 1 }
-        ensures counts { (other : WireRepOf) → places_for self.new.counts other
-            ≡ (if is_same rep.now other then 1 else 0) + places_for self.old.counts other }
-        ensures links { (other : WireRepOf) (place : ℕ) → link_at self.new.links (link_of other place)
-            ≡ (if is_link (link_of rep.now (places_for self.old.counts rep.now)) (link_of other place)
-            then Some stamp else link_at self.old.links (link_of other place)) }
-        ensures room { self.old.room ≤ self.new.room + 1 }
+        requires small { places_for self.old rep.now < 2 ^ 64 - 1 }
+        ensures counts { (other : WireRepOf) → places_for self.new other
+            ≡ (if is_same rep.now other then 1 else 0) + places_for self.old other }
+        ensures links { (other : WireRepOf) (place : ℕ) → link_at self.new (link_of other place)
+            ≡ (if is_link (link_of rep.now (places_for self.old rep.now)) (link_of other place)
+            then Some stamp else link_at self.old (link_of other place)) }
+        ensures awaited { AreAwaited self.new }
+        ensures room { self.new.room + 1 ≡ self.old.room }
     {
-        let place = self.count(rep);
-        let _none = self.links.insert(Link { rep: *rep, place }, stamp).unwrap();
-        let _before = self.counts.insert(*rep, place + 1).unwrap();
+        let place = rep.owner.get() as usize;
+        self.owners[place].push(rep, stamp);
+        self.room -= 1;
     }
 
     /// Takes the line of a reference out. It takes no memory. Linear in its places.
     pub fn clear(&mut self, rep: &WireRep)
-        ensures counts { (other : WireRepOf) → places_for self.new.counts other
-            ≡ (if is_same rep.now other then 0 else places_for self.old.counts other) }
+        ensures counts { (other : WireRepOf) → places_for self.new other
+            ≡ (if is_same rep.now other then 0 else places_for self.old other) }
         ensures links { (other : WireRepOf) (place : ℕ) → is_same rep.now other ≡ false
-            → link_at self.new.links (link_of other place)
-            ≡ link_at self.old.links (link_of other place) }
-        ensures room { self.old.room ≤ self.new.room }
+            → link_at self.new (link_of other place) ≡ link_at self.old (link_of other place) }
+        ensures awaited { AreAwaited self.new }
+        ensures room { self.new.room ≡ self.old.room }
     {
-        let count = self.count(rep);
-        remove_links(&mut self.links, rep, count);
-        let _count = self.counts.swap_remove(rep);
+        let place = rep.owner.get() as usize;
+        if place >= self.owners.len() {
+            return;
+        }
+        self.owners[place].clear(rep);
     }
 
-    /// Takes the lines of an owner's references out. It takes no memory. Linear in all places.
+    /// Takes the lines of an owner's references out. It takes no memory. Linear in their places.
     pub fn clear_of(&mut self, owner: SpaceId)
-        ensures counts { (other : WireRepOf) → places_for self.new.counts other
-            ≡ (if other.owner == owner then 0 else places_for self.old.counts other) }
+        ensures counts { (other : WireRepOf) → places_for self.new other
+            ≡ (if other.owner == owner then 0 else places_for self.old other) }
         ensures links { (other : WireRepOf) (place : ℕ) → (other.owner == owner) ≡ false
-            → link_at self.new.links (link_of other place)
-            ≡ link_at self.old.links (link_of other place) }
-        ensures room { self.old.room ≤ self.new.room }
+            → link_at self.new (link_of other place) ≡ link_at self.old (link_of other place) }
+        ensures awaited { AreAwaited self.new }
+        ensures room { self.new.room ≡ self.old.room }
     {
-        self.counts.retain(|rep, _| rep.owner != owner);
-        self.links.retain(|link, _| link.rep.owner != owner);
-    }
-}
-
-// Takes the first so many places of a line out.
-fn remove_links(links: &mut IndexMap<Link, u64>, rep: &WireRep, count: u64)
-    ensures links { (other : WireRepOf) (place : ℕ) → is_same rep.now other ≡ false
-        → link_at links.new.entries (link_of other place)
-        ≡ link_at links.old.entries (link_of other place) }
-    ensures room { spare links.old ≤ spare links.new }
-{
-    for place in 0..count {
-        let _stamp = links.swap_remove(&Link { rep: *rep, place });
+        let place = owner.get() as usize;
+        if place >= self.owners.len() {
+            return;
+        }
+        self.owners[place].clear_all();
     }
 }

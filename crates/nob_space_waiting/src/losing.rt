@@ -1,9 +1,12 @@
 //! What a reference that is lost leaves to the messages that waited for it.
 
-ghost use Rattle.std.specs.Prelude.{◌≡◌, ◌∷◌, [], Some};
+ghost use Rattle.std.specs.Prelude.{◌≡◌, ◌==◌, ◌&&◌, Some};
+ghost use Rattle.std.specs.List.{list_any};
 ghost use Rattle.std.specs.Map.{keys_of};
+ghost use Rattle.nob_ids.specs.Names.{is_same};
+ghost use Rattle.nob_ids.specs.declared.wire_rep.WireRep.{WireRep as WireRepOf};
 ghost use Rattle.nob_slots.specs.Slots.{IsRising};
-ghost use Rattle.nob_space_waiting.specs.Lines.{AreApart, AreMarked, lowered, once, times_in, times_of};
+ghost use Rattle.nob_space_waiting.specs.Lines.{AreApart, AreMarked, has_line, lines_of, lowered, once, times_in, times_of};
 
 use crate::entry::{Entry, lift, put_back};
 use crate::lines::Lines;
@@ -55,33 +58,20 @@ pub fn lower_line(slots: &mut Slots<Entry>, alloc: Global, lines: &Lines, rep: &
     }
 }
 
-// The same of the line of a reference, if it is of this owner.
-fn lower_if(slots: &mut Slots<Entry>, alloc: Global, lines: &Lines, owner: SpaceId, rep: &WireRep)
-    requires rising { IsRising slots.old.rows }
-    requires marked { AreMarked slots.old.rows slots.old.marked }
-    ensures rows { slots.new.rows
-        ≡ lowered (times_of lines.now owner (rep.now ∷ [])) slots.old.rows }
-    ensures marked { AreMarked slots.new.rows slots.new.marked }
-    ensures room { slots.new.room ≡ slots.old.room }
-{
-    if rep.owner == owner {
-        lower_line(slots, alloc, lines, rep);
-    }
-}
-
-/// The same of all lines of an owner's references. A look at each line, and linear in the places of
-/// those.
+/// The same of all lines of an owner's references. Linear in their places.
 pub fn lower_all(slots: &mut Slots<Entry>, alloc: Global, lines: &Lines, owner: SpaceId)
     requires rising { IsRising slots.old.rows }
     requires marked { AreMarked slots.old.rows slots.old.marked }
     ensures rows { slots.new.rows
-        ≡ lowered (times_of lines.now owner (keys_of lines.now.counts)) slots.old.rows }
+        ≡ lowered (times_of lines.now (keys_of (lines_of lines.now owner).counts)) slots.old.rows }
     ensures marked { AreMarked slots.new.rows slots.new.marked }
-    ensures apart { AreApart lines.now.counts }
+    ensures apart { AreApart (lines_of lines.now owner).counts }
+    ensures reps { (rep : WireRepOf) → list_any (is_same rep)
+        (keys_of (lines_of lines.now owner).counts) ≡ (rep.owner == owner && has_line lines.now rep) }
     ensures room { slots.new.room ≡ slots.old.room }
 {
-    for at in 0..lines.len() {
-        let rep = lines.rep_at(at);
-        lower_if(slots, alloc, lines, owner, &rep);
+    for at in 0..lines.len_of(owner) {
+        let rep = lines.rep_at(owner, at);
+        lower_line(slots, alloc, lines, &rep);
     }
 }

@@ -7,8 +7,8 @@ ghost use Rattle.nob_model_words.specs.Messages.{is_not_from};
 ghost use Rattle.nob_model_work.specs.Work.{without_first};
 ghost use Rattle.nob_numbers.specs.Numbers.{numbers_of};
 ghost use Rattle.nob_slots.specs.Slots.{IsRising};
-ghost use Rattle.nob_space_waiting.specs.Waiting.{due_to_all, granted_message, is_awaited, is_due_in, is_marked_lost, is_settleable_in, IsNew, places_for, waits_for, is_due};
-ghost use Rattle.nob_space_waiting.specs.Lines.{times_in, AreMarked, LineList, without};
+ghost use Rattle.nob_space_waiting.specs.Waiting.{due_to_all, granted_message, is_awaited, is_due_in, is_settleable_in, IsNew, waits_for, is_due};
+ghost use Rattle.nob_space_waiting.specs.Lines.{AreAwaited, AreMarked, LineList, places_for, times_in, without};
 
 use crate::entry::Entry;
 use crate::iter::From;
@@ -65,11 +65,11 @@ impl Model for Waiting {
 
     ghost coded = { Prim.hlevel (codes, trees_code) };
 
-    ghost use Rattle.nob_space_waiting.specs.Lines.{AreWaiting, items_of};
+    ghost use Rattle.nob_space_waiting.specs.Lines.{AreWaiting, items_of, reps_in};
 
     ghost view = { λ w. record {
       items = items_of w.slots.rows;
-      awaited = w.lines.counts;
+      awaited = reps_in w.lines.owners;
       room = w.room;
     } };
 
@@ -83,13 +83,15 @@ const MOST: u64 = 1 << 61;
 // few look-ups.
 fn line_one(lines: &mut Lines, copy: &RefCopy, stamp: u64) -> u64
     requires room { 0 < lines.old.room }
-    requires small { places_for lines.old.counts copy.now.rep < 2 ^ 64 - 1 }
+    requires awaited { AreAwaited lines.old }
+    requires small { places_for lines.old copy.now.rep < 2 ^ 64 - 1 }
     ensures count { result ≡ (if is_due copy.now.loan then 1 else 0) }
-    ensures counts { (rep : WireRepOf) → places_for lines.new.counts rep
-        ≡ places_for lines.old.counts rep + (if waits_for rep copy.now then 1 else 0) }
+    ensures counts { (rep : WireRepOf) → places_for lines.new rep
+        ≡ places_for lines.old rep + (if waits_for rep copy.now then 1 else 0) }
     ensures times { (rep : WireRepOf) (other : ℕ) → times_in lines.new rep other
         ≡ times_in lines.old rep other
         + (if stamp == other then (if waits_for rep copy.now then 1 else 0) else 0) }
+    ensures awaited { AreAwaited lines.new }
     ensures room { lines.old.room ≤ lines.new.room + 1 }
 {
     if !is_due(copy.loan) {
@@ -102,14 +104,16 @@ fn line_one(lines: &mut Lines, copy: &RefCopy, stamp: u64) -> u64
 // Puts a stamp in the line of each reference of which a copy is due, for each such copy: how many.
 fn line_up(lines: &mut Lines, copies: &[RefCopy], stamp: u64) -> u64
     requires room { length copies.now ≤ lines.old.room }
+    requires awaited { AreAwaited lines.old }
     requires small { (rep : WireRepOf)
-        → places_for lines.old.counts rep + length copies.now < 2 ^ 64 }
+        → places_for lines.old rep + length copies.now < 2 ^ 64 }
     ensures count { result ≡ length (filter (λ copy. is_due copy.loan) copies.now) }
-    ensures counts { (rep : WireRepOf) → places_for lines.new.counts rep
-        ≡ places_for lines.old.counts rep + length (filter (waits_for rep) copies.now) }
+    ensures counts { (rep : WireRepOf) → places_for lines.new rep
+        ≡ places_for lines.old rep + length (filter (waits_for rep) copies.now) }
     ensures times { (rep : WireRepOf) (other : ℕ) → times_in lines.new rep other
         ≡ times_in lines.old rep other
         + (if stamp == other then length (filter (waits_for rep) copies.now) else 0) }
+    ensures awaited { AreAwaited lines.new }
 {
     let mut waits = 0;
     for copy in copies {
@@ -135,6 +139,7 @@ impl Waiting {
     /// No messages. It takes no memory before the first.
     pub fn new(alloc: Global) -> Waiting
         ensures items { result.items ≡ [] }
+        ensures awaited { result.awaited ≡ [] }
     {
         Waiting {
             alloc,
@@ -219,8 +224,8 @@ impl Waiting {
         self.lines.clear(rep);
     }
 
-    /// Marks all references of an owner lost. It takes no memory. Linear in the copies that are due
-    /// of references that are awaited; a look for its message for each of those of this owner.
+    /// Marks all references of an owner lost. It takes no memory. Linear in the copies of them that
+    /// are due, each with a look for its message.
     pub fn lose_of(&mut self, owner: SpaceId)
         ensures items { self.new.items ≡ self.old.items }
         ensures awaited { (other : WireRepOf) → is_awaited self.new.awaited other
@@ -236,7 +241,7 @@ impl Waiting {
     /// messages wait for it, and their number can be counted in 64 bits.
     pub fn lend(&mut self, rep: &WireRep) -> u64
         requires open { is_due_in self.old.items rep.now ≡ true
-            → is_marked_lost self.old rep.now ≡ false }
+            → is_awaited self.old.awaited rep.now ≡ true }
         requires count { due_to_all rep.now self.old.items < 2 ^ 64 }
         ensures items { self.new.items ≡ map (granted_message rep.now) self.old.items }
         ensures count { result ≡ due_to_all rep.now self.old.items }

@@ -1,7 +1,7 @@
 use Rattle.std.proofs.Common.{◌≡◌, ◌+◌, nat_lt, ap, sym, subst, refl, ◌∙◌, arith, if◌then◌else◌}
 use Rattle.nob_slots.specs.Slots.{IsRising}
-use Rattle.nob_space_waiting.specs.Waiting.{due_to_all, places_for}
-use Rattle.nob_space_waiting.specs.Lines.{all_lent, is_standing, items_of, lent_entry, lent_where, stands}
+use Rattle.nob_space_waiting.specs.Waiting.{due_to_all}
+use Rattle.nob_space_waiting.specs.Lines.{places_for, all_lent, is_standing, items_of, lent_entry, lent_where, stands}
 use Rattle.nob_space_waiting.proofs.Lent.{due_lent, lent_again, lent_all, lent_next, lent_none}
 use Rattle.nob_space_waiting.proofs.Rows.{changed_rising}
 use Rattle.nob_space_waiting.proofs.lending.lend_line.Goals as goal
@@ -13,7 +13,7 @@ pub loop-place-preserved : goal.loop-place-preserved
 loop-place-preserved c = (
   subst IsRising (sym c.lend_unless-lent.ensures.rows) (changed_rising (λ s e. if is_standing c.link-standing.result s then lent_entry c.args.rep.now e else e) c.loop-place.slots.rows c.loop-place.invariant.0),
   c.lend_unless-lent.ensures.marked,
-  lent_next c.args.rep.now c.args.lines.now.links c.loop-place.place c.link-standing.result c.args.slots.now.rows c.loop-place.slots.rows c.lend_unless-lent.new.slots.rows c.link-standing.ensures c.loop-place.invariant.2 c.lend_unless-lent.ensures.rows,
+  lent_next c.args.rep.now c.args.lines.now c.loop-place.place c.link-standing.result c.args.slots.now.rows c.loop-place.slots.rows c.lend_unless-lent.new.slots.rows c.link-standing.ensures c.loop-place.invariant.2 c.lend_unless-lent.ensures.rows,
   omega (arith, c.loop-place.invariant.3, c.lend_unless-lent.ensures.count),
   lent_again c.args.rep.now (is_standing c.link-standing.result) c.loop-place.slots.rows c.lend_unless-lent.new.slots.rows c.lend_unless-lent.ensures.rows,
   c.lend_unless-lent.ensures.room ∙ c.loop-place.invariant.5,
@@ -23,8 +23,8 @@ pub returns-clause-rows : goal.returns-clause-rows
 returns-clause-rows c =
     let end : c.loop-place.place ≡ c.count-place-end.result = omega (arith, c.loop-place-test.false, c.loop-place.auto.place-end) in
     c.loop-place.invariant.2
-    ∙ ap (λ n. lent_where c.args.rep.now (λ s. nat_lt 0 (stands c.args.lines.now.links c.args.rep.now n s)) c.args.slots.now.rows) (end ∙ c.count-place-end.ensures.count)
-    ∙ lent_all c.args.rep.now c.args.lines.now.links (places_for c.args.lines.now.counts c.args.rep.now) c.args.slots.now.rows c.requires.rising c.requires.lined
+    ∙ ap (λ n. lent_where c.args.rep.now (λ s. nat_lt 0 (stands c.args.lines.now c.args.rep.now n s)) c.args.slots.now.rows) (end ∙ c.count-place-end.ensures.count)
+    ∙ lent_all c.args.rep.now c.args.lines.now (places_for c.args.lines.now c.args.rep.now) c.args.slots.now.rows c.requires.rising c.requires.lined
 
 pub returns-clause-count : goal.returns-clause-count
 returns-clause-count c =

@@ -12,6 +12,6 @@ pub loop-place-preserved : goal.loop-place-preserved
 loop-place-preserved c = (
   subst IsRising (sym c.lower_standing.ensures.rows) (changed_rising (λ s e. lowered_entry (once c.link-standing.result s) e) c.loop-place.slots.rows c.loop-place.invariant.0),
   c.lower_standing.ensures.marked,
-  stands_next c.args.lines.now.links c.args.rep.now c.loop-place.place c.link-standing.result c.args.slots.now.rows c.loop-place.slots.rows c.lower_standing.new.slots.rows c.link-standing.ensures c.loop-place.invariant.2 c.lower_standing.ensures.rows,
+  stands_next c.args.lines.now c.args.rep.now c.loop-place.place c.link-standing.result c.args.slots.now.rows c.loop-place.slots.rows c.lower_standing.new.slots.rows c.link-standing.ensures c.loop-place.invariant.2 c.lower_standing.ensures.rows,
   c.lower_standing.ensures.room ∙ c.loop-place.invariant.3,
 )

@@ -1,9 +1,9 @@
 use Rattle.std.proofs.Common.{◌≡◌, ◌==◌, ◌+◌, ◌<◌, length, filter, ap, sym, subst, ◌∙◌, IsSome, if◌then◌else◌}
 use Rattle.nob_numbers.specs.Numbers.{IsAboveAll}
 use Rattle.nob_slots.specs.Slots.{item_at, PutsMark}
-use Rattle.nob_space_waiting.specs.Waiting.{is_due, places_for, waits_for}
-use Rattle.nob_space_waiting.specs.Lines.{times_in}
-use Rattle.nob_space_waiting.proofs.Pushed.{push_there, pushed}
+use Rattle.nob_space_waiting.specs.Waiting.{is_due, waits_for}
+use Rattle.nob_space_waiting.specs.Lines.{places_for, times_in}
+use Rattle.nob_space_waiting.proofs.Pushed.{awaited_more, push_there, pushed}
 use Rattle.nob_space_waiting.proofs.Stamps.{stamps_below}
 use Rattle.nob_space_waiting.proofs.waiting.Waiting.push.Goals as goal
 
@@ -18,9 +18,9 @@ pub invariant_of-self : goal.invariant_of-self
 invariant_of-self c =
     let room : length c.args.message.copies < c.self.inside.room = rw (← c.self.view_is) at c.requires.room in
     pushed c.self.invariant c.args.message c.line_up-waits.new.lines
-    (λ r. c.line_up-waits.ensures.counts r ∙ ap (λ copies. places_for c.self.inside.lines.counts r + length (filter (waits_for r) copies)) c.as_slice-copies.ensures)
+    (λ r. c.line_up-waits.ensures.counts r ∙ ap (λ copies. places_for c.self.inside.lines r + length (filter (waits_for r) copies)) c.as_slice-copies.ensures)
     (λ r s. c.line_up-waits.ensures.times r s ∙ ap (λ copies. times_in c.self.inside.lines r s + (if c.self.inside.next == s then length (filter (waits_for r) copies) else 0)) c.as_slice-copies.ensures)
-    (rw (← c.self.view_is) at c.requires.new)
+    c.line_up-waits.ensures.awaited (rw (← c.self.view_is) at c.requires.new)
     c.mark.new.self.rows c.mark.new.self.marked c.mark.new.self.room c.push.new.self (c.self.inside.next + 1 + length c.as_slice-copies.result.now) c.line_up-waits.result
     (c.mark.ensures.rows ∙ c.push-2.ensures.rows)
     (c.line_up-waits.ensures.count ∙ ap (λ copies. length (filter (λ copy. is_due copy.loan) copies)) c.as_slice-copies.ensures)
@@ -28,3 +28,10 @@ invariant_of-self c =
     (subst (λ marked. PutsMark marked c.mark.new.self.marked c.self.inside.next (c.line_up-waits.result == 0)) c.push-2.ensures.marked c.mark.ensures.marked)
     (ap (λ copies. c.self.inside.next + 1 + length copies) c.as_slice-copies.ensures)
     room
+
+pub returns-clause-awaited : goal.returns-clause-awaited
+returns-clause-awaited c r =
+    rw (← c.self.view_is) (awaited_more c.self.invariant c.args.message c.line_up-waits.new.lines
+    (λ r. c.line_up-waits.ensures.counts r ∙ ap (λ copies. places_for c.self.inside.lines r + length (filter (waits_for r) copies)) c.as_slice-copies.ensures)
+    (λ r s. c.line_up-waits.ensures.times r s ∙ ap (λ copies. times_in c.self.inside.lines r s + (if c.self.inside.next == s then length (filter (waits_for r) copies) else 0)) c.as_slice-copies.ensures)
+    c.line_up-waits.ensures.awaited (rw (← c.self.view_is) at c.requires.new) r)

@@ -1,7 +1,7 @@
 use Rattle.std.proofs.Common.{◌≤◌, ◌∙◌, None, arith}
 use Rattle.indexmap.specs.IndexMap.{spare}
 use Rattle.nob_space_waiting.proofs.Counting.{links_kept}
-use Rattle.nob_space_waiting.proofs.lines.remove_links.Goals as goal
+use Rattle.nob_space_waiting.proofs.owner_lines.remove_links.Goals as goal
 
 pub loop-place-preserved : goal.loop-place-preserved
 loop-place-preserved c =
