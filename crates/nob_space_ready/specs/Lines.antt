@@ -1,4 +1,4 @@
--- The ready jobs of each target in line under rising stamps: which comes first, and which stand next before and behind each. No public clause cites this module.
+-- The ready jobs of each target in line under rising stamps: which come first, next before and next behind. No public clause cites this module.
 use Rattle.std.specs.Prelude.{◌≡◌, ℕ, ◌+◌, ◌<◌, ◌≤◌, ◌==◌, Bool, true, false, ◌&&◌, List, Option, Some, None, IsSome, is_some, if◌then◌else◌}
 use Rattle.std.specs.Option.{option_map, unwrap_or}
 use Rattle.nob_slots.specs.Slots.{item_at, is_marked}
