@@ -1,17 +1,16 @@
 -- Entries to which a reference is lent, one after the other.
-use Rattle.std.proofs.Common.{◌≡◌, ℕ, ◌<◌, ◌≤◌, ◌+◌, ◌-◌, ◌||◌, add-one, Bool, true, false, nat_lt, cond, List, [], ◌∷◌, map, Option, Some, None, IsSome, if◌then◌else◌, refl, sym, ap, subst, ◌∙◌, arith, true≢false}
+use Rattle.std.proofs.Common.{◌≡◌, ℕ, ◌<◌, ◌+◌, ◌-◌, ◌||◌, add-one, Bool, true, false, nat_lt, cond, List, [], ◌∷◌, Option, Some, if◌then◌else◌, refl, sym, ap, ◌∙◌, arith}
 use Prim.Native.Nat.{zero, suc}
 use Rattle.std.proofs.lemmas.Bool.Decides.{nat_tests}
 use Rattle.std.proofs.lemmas.Option.{none-some, same_Some}
-use Rattle.std.specs.Map.{lookup, set_value}
+use Rattle.std.specs.Map.{set_value}
 use Rattle.nob_ids.specs.declared.wire_rep.WireRep.{WireRep}
-use Rattle.nob_model_words.specs.declared.message.Message.{Message}
 use Rattle.nob_slots.specs.Slots.{item_at, is_number, IsRising}
 use Rattle.nob_space_waiting.specs.declared.entry.Entry.{Entry}
 use Rattle.nob_space_waiting.specs.Waiting.{due_to, due_to_all, granted_message}
-use Rattle.nob_space_waiting.specs.Lines.{LineList, IsLined, all_lent, changed, is_stamp, is_standing, items_of, lent_entry, lent_where, link_at, link_of, once, stands}
+use Rattle.nob_space_waiting.specs.Lines.{LineList, all_lent, is_stamp, is_standing, items_of, lent_entry, lent_where, link_at, link_of, once, stands}
 use Rattle.nob_space_waiting.proofs.Granted.{granted_still, granted_twice, none_due}
-use Rattle.nob_space_waiting.proofs.Rows.{at_stamp, changed_as, changed_ext, changed_twice}
+use Rattle.nob_space_waiting.proofs.Rows.{changed_as, changed_ext, changed_twice}
 
 pub lent_twice : (rep : WireRep) (e : Entry) → lent_entry rep (lent_entry rep e) ≡ lent_entry rep e
 lent_twice rep e =

@@ -7,12 +7,11 @@ use Rattle.std.specs.Option.{unwrap_or, option_map_or}
 use Rattle.nob_ids.specs.Names.{is_same}
 use Rattle.nob_ids.specs.declared.wire_rep.WireRep.{WireRep}
 use Rattle.nob_model_words.specs.declared.message.Message.{Message}
-use Rattle.nob_model_words.specs.declared.message.RefCopy.{RefCopy}
 use Rattle.nob_numbers.specs.Numbers.{NumberLists, numbers_of}
 use Rattle.nob_slots.specs.Slots.{item_at, is_number, IsAbove, IsRising, is_marked}
 use Rattle.nob_space_waiting.specs.declared.entry.Entry.{Entry}
 use Rattle.nob_space_waiting.specs.declared.owner_lines.Link.{Link}
-use Rattle.nob_space_waiting.specs.Waiting.{due_to, granted_message, is_awaited, is_due, is_due_where}
+use Rattle.nob_space_waiting.specs.Waiting.{due_to, granted_message, is_awaited, is_due_where}
 
 -- the lines of some references: how many places each has, and who stands at each place
 pub record LineMap : Type 0 where

@@ -1,4 +1,4 @@
-use Rattle.std.proofs.Common.{ap, sym, subst, refl, ◌∙◌, false}
+use Rattle.std.proofs.Common.{ap, sym, subst, ◌∙◌}
 use Rattle.nob_slots.specs.Slots.{IsRising}
 use Rattle.nob_space_waiting.specs.Lines.{AreMarked, without}
 use Rattle.nob_space_waiting.proofs.Found.{removed_rising}
