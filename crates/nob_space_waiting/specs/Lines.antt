@@ -70,18 +70,14 @@ stamp_at links link = lookup (is_link link) links
 abbrev pub link_at : LineList → Link → Option ℕ
 link_at lines link = stamp_at (lines_of lines link.rep.owner).links link
 
--- whether it is the one with this stamp
-abbrev pub is_stamp : ℕ → Option ℕ → Bool
-is_stamp stamp None = false
-is_stamp stamp (Some other) = other == stamp
-
--- whether a stamp is the one that stands there
+-- whether a stamp is the one that stands there, if there is any
 abbrev pub is_standing : Option ℕ → ℕ → Bool
-is_standing standing stamp = is_stamp stamp standing
+is_standing None stamp = false
+is_standing (Some standing) stamp = standing == stamp
 
 -- one for the stamp that stands there, if there is any
 abbrev pub once : Option ℕ → ℕ → ℕ
-once standing stamp = if is_stamp stamp standing then 1 else 0
+once standing stamp = if is_standing standing stamp then 1 else 0
 
 -- how often a stamp stands among the first so many places in the line of a reference
 abbrev pub stands : LineList → WireRep → ℕ → ℕ → ℕ
