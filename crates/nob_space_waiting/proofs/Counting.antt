@@ -1,17 +1,17 @@
 -- Places in lines, and how often a stamp stands there.
-use Rattle.std.proofs.Common.{◌≡◌, ℕ, ◌<◌, ◌≤◌, ◌+◌, ◌==◌, ◌&&◌, add-one, Bool, true, false, not, nat_lt, cond, List, [], ◌∷◌, ◌++◌, length, filter, take, Option, Some, None, get_or, is_some, slice_get, if◌then◌else◌, refl, sym, ap, subst, ◌∙◌, arith}
+use Rattle.std.proofs.Common.{◌≡◌, ℕ, ◌<◌, ◌+◌, ◌==◌, ◌&&◌, add-one, Bool, true, false, nat_lt, cond, List, [], ◌∷◌, ◌++◌, take, Option, Some, is_some, slice_get, if◌then◌else◌, refl, sym, ap, ◌∙◌, arith}
 use Prim.Native.Nat.{zero, suc}
-use Rattle.std.proofs.lemmas.Bool.Decides.{Decides-eqb, Decides-and, nat_tests}
+use Rattle.std.proofs.lemmas.Bool.Decides.{Decides-eqb, Decides-and}
 use Rattle.std.proofs.lemmas.Cmp.{nat_eq_equiv}
 use Rattle.std.proofs.lemmas.List.{take_more}
 use Rattle.std.proofs.lemmas.Option.{get_or_from_slice_get, slice_get_within}
-use Rattle.std.specs.Map.{keys_of, lookup}
+use Rattle.std.specs.Map.{lookup}
 use Rattle.std.specs.Option.{unwrap_or}
 use Rattle.nob_ids.specs.declared.wire_rep.WireRep.{WireRep}
 use Rattle.nob_ids.specs.Names.{is_same}
 use Rattle.nob_space_waiting.specs.declared.entry.Entry.{Entry}
 use Rattle.nob_space_waiting.specs.declared.owner_lines.Link.{Link}
-use Rattle.nob_space_waiting.specs.Lines.{HavePlaces, LineList, count_of, is_link, link_at, link_of, lowered, lines_of, once, places_for, stamp_at, stands, times_in, times_of}
+use Rattle.nob_space_waiting.specs.Lines.{HavePlaces, LineList, count_of, is_link, link_at, link_of, lowered, once, places_for, stamp_at, stands, times_in, times_of}
 use Rattle.nob_space_waiting.proofs.Rows.{lower_unlike, lowered_both}
 
 pub same_is : (rep other : WireRep) → is_same rep other ≡ true → rep ≡ other

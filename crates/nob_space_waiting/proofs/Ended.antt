@@ -1,19 +1,16 @@
 -- What holds once lines have ended.
-use Rattle.std.proofs.Common.{◌≡◌, ℕ, ◌<◌, ◌≤◌, ◌+◌, ◌-◌, ◌^◌, ◌==◌, ◌&&◌, ◌||◌, Bool, true, false, not, nat_lt, cond, List, [], ◌∷◌, length, filter, map, Option, Some, None, is_some, if◌then◌else◌, refl, sym, ap, subst, ◌∙◌, arith, true≢false}
+use Rattle.std.proofs.Common.{◌≡◌, ℕ, ◌<◌, ◌≤◌, ◌+◌, ◌-◌, ◌^◌, ◌==◌, ◌&&◌, Bool, true, false, not, nat_lt, cond, List, [], ◌∷◌, Some, if◌then◌else◌, refl, sym, ap, subst, ◌∙◌, arith, true≢false}
 use Prim.Native.Nat.{zero, suc}
 use Rattle.std.proofs.lemmas.Bool.Decides.{nat_tests}
 use Rattle.std.proofs.lemmas.Option.{none-some, same_Some}
-use Rattle.std.specs.List.{AllByRecursion, IsDistinct, list_any}
 use Rattle.nob_ids.specs.declared.wire_rep.WireRep.{WireRep}
-use Rattle.nob_ids.specs.Names.{is_same}
-use Rattle.nob_model_words.specs.declared.message.Message.{Message}
 use Rattle.nob_numbers.specs.Numbers.{NumberLists, numbers_of}
 use Rattle.nob_slots.specs.Slots.{item_at, IsRising, IsAbove}
 use Rattle.nob_space_waiting.specs.declared.entry.Entry.{Entry}
 use Rattle.nob_space_waiting.specs.Waiting.{due_to, due_to_all, is_awaited, is_due_in}
-use Rattle.nob_space_waiting.specs.Lines.{LineList, LineMap, AreAwaited, count_of, lines_of, stamp_at, AreLined, AreMarked, AreOpen, AreWaiting, IsLined, changed, has_line, items_of, places_for, reps_in, lent_entry, link_at, link_of, lowered_entry, once, open_in, stamps_from, stands, times_in, times_of}
-use Rattle.nob_space_waiting.proofs.Counting.{same_is, stands_below}
-use Rattle.nob_space_waiting.proofs.Granted.{but, due_other, open_but, open_granted, open_less, open_same}
+use Rattle.nob_space_waiting.specs.Lines.{LineList, LineMap, AreAwaited, count_of, lines_of, stamp_at, AreMarked, AreWaiting, IsLined, changed, has_line, items_of, places_for, reps_in, lent_entry, link_at, link_of, open_in, stamps_from, stands, times_in}
+use Rattle.nob_space_waiting.proofs.Counting.{stands_below}
+use Rattle.nob_space_waiting.proofs.Granted.{but, open_but, open_granted, open_less, open_same}
 use Rattle.nob_space_waiting.proofs.Stamps.{stamps_changed}
 use Rattle.nob_space_waiting.proofs.Rows.{changed_below, changed_found, changed_rising}
 

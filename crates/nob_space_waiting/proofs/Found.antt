@@ -1,5 +1,5 @@
 -- The first message that may be settled, and what holds once messages are taken out.
-use Rattle.std.proofs.Common.{◌≡◌, ℕ, ◌<◌, ◌≤◌, ◌+◌, ◌==◌, ◌&&◌, ◌||◌, Bool, true, false, not, cond, List, [], ◌∷◌, length, filter, find, map, Option, Some, None, IsSome, is_some, if◌then◌else◌, refl, sym, ap, subst, ◌∙◌, arith, eqb-true, true≢false}
+use Rattle.std.proofs.Common.{◌≡◌, ℕ, ◌<◌, ◌==◌, ◌&&◌, Bool, true, false, not, cond, List, [], ◌∷◌, length, filter, find, Some, None, refl, sym, ap, ◌∙◌, arith, eqb-true}
 use Rattle.std.proofs.lemmas.Bool.{ne_eqb}
 use Rattle.std.proofs.lemmas.Cmp.{nat_eq_equiv}
 use Rattle.std.proofs.lemmas.Option.{none-some, same_Some}
@@ -10,10 +10,10 @@ use Rattle.nob_model_words.specs.declared.message.Message.{Message}
 use Rattle.nob_model_words.specs.declared.message.RefCopy.{RefCopy}
 use Rattle.nob_model_work.specs.Work.{without_first}
 use Rattle.nob_numbers.specs.Numbers.{NumberLists, numbers_of}
-use Rattle.nob_slots.specs.Slots.{item_at, is_marked, is_number, IsAbove, IsFirstMarked, IsRising, NoneMarked, PutsMark}
+use Rattle.nob_slots.specs.Slots.{item_at, is_marked, is_number, IsAbove, IsFirstMarked, IsRising, NoneMarked}
 use Rattle.nob_space_waiting.specs.declared.entry.Entry.{Entry}
 use Rattle.nob_space_waiting.specs.Waiting.{is_awaited, is_due_where}
-use Rattle.nob_space_waiting.specs.Lines.{LineList, AreMarked, AreWaiting, has_line, items_of, open_in, reps_in, stamps_from}
+use Rattle.nob_space_waiting.specs.Lines.{LineList, AreMarked, AreWaiting, has_line, items_of, reps_in, stamps_from}
 use Rattle.nob_space_waiting.proofs.Granted.{open_same}
 use Rattle.nob_space_waiting.proofs.Rows.{found_above, found_behind, lower_unlike}
 

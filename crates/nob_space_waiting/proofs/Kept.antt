@@ -1,5 +1,5 @@
 -- The lines of each owner, where those of one are others.
-use Rattle.std.proofs.Common.{◌≡◌, ℕ, ◌+◌, ◌<◌, ◌≤◌, ◌==◌, ◌&&◌, ◌||◌, Bool, true, false, nat_lt, List, [], ◌∷◌, ◌++◌, map, length, Option, Some, None, slice_get, refl, ap, sym, subst, ◌∙◌, arith, eqb-true}
+use Rattle.std.proofs.Common.{◌≡◌, ℕ, ◌+◌, ◌<◌, ◌≤◌, ◌==◌, ◌&&◌, ◌||◌, Bool, true, false, nat_lt, List, [], ◌∷◌, ◌++◌, map, length, Some, None, slice_get, refl, ap, sym, subst, ◌∙◌, arith, eqb-true}
 use Prim.Native.Nat.{zero, suc}
 use lib.ListN.{set}
 use Rattle.std.proofs.lemmas.Bool.Decides.{nat_tests}
@@ -115,7 +115,7 @@ pub own_set : (owners : List OwnerList) (place : ℕ) (old new : OwnerList) → 
     → ((r : WireRep) → (r.owner == place) ≡ false → count_of old.lines.counts r ≡ 0 → count_of new.lines.counts r ≡ 0) → (o : ℕ) → AreOf o (lines_at (set owners place new) o)
 own_set owners place old new got own have keeps o =
     set_holds owners place old new got (λ a b. AreOf o b → AreOf o a) o
-    (λ same are. record { places = have; only = λ r off. keeps r (subst (λ (k : ℕ). (r.owner == k) ≡ false) same off) (are.only r off); })
+    (λ same are. record { places = have; only = λ r off. keeps r (subst (λ (k : ℕ). (r.owner == k) ≡ false) same off) (are.only r off) })
     (λ off lines are. are) (own o)
 
 keys_have : (owner : ℕ) (lines : LineMap) → AreOf owner lines → (rep : WireRep) → list_any (is_same rep) (keys_of lines.counts) ≡ nat_lt 0 (count_of lines.counts rep)

@@ -1,17 +1,16 @@
 -- Entries to which a reference is lent, one after the other.
-use Rattle.std.proofs.Common.{◌≡◌, ℕ, ◌<◌, ◌≤◌, ◌+◌, ◌-◌, ◌||◌, add-one, Bool, true, false, nat_lt, cond, List, [], ◌∷◌, map, Option, Some, None, IsSome, if◌then◌else◌, refl, sym, ap, subst, ◌∙◌, arith, true≢false}
+use Rattle.std.proofs.Common.{◌≡◌, ℕ, ◌<◌, ◌+◌, ◌-◌, ◌||◌, add-one, Bool, true, false, nat_lt, cond, List, [], ◌∷◌, Option, Some, if◌then◌else◌, refl, sym, ap, ◌∙◌, arith}
 use Prim.Native.Nat.{zero, suc}
 use Rattle.std.proofs.lemmas.Bool.Decides.{nat_tests}
 use Rattle.std.proofs.lemmas.Option.{none-some, same_Some}
-use Rattle.std.specs.Map.{lookup, set_value}
+use Rattle.std.specs.Map.{set_value}
 use Rattle.nob_ids.specs.declared.wire_rep.WireRep.{WireRep}
-use Rattle.nob_model_words.specs.declared.message.Message.{Message}
 use Rattle.nob_slots.specs.Slots.{item_at, is_number, IsRising}
 use Rattle.nob_space_waiting.specs.declared.entry.Entry.{Entry}
 use Rattle.nob_space_waiting.specs.Waiting.{due_to, due_to_all, granted_message}
-use Rattle.nob_space_waiting.specs.Lines.{LineList, IsLined, all_lent, changed, is_stamp, is_standing, items_of, lent_entry, lent_where, link_at, link_of, once, stands}
+use Rattle.nob_space_waiting.specs.Lines.{LineList, all_lent, is_standing, items_of, lent_entry, lent_where, link_at, link_of, once, stands}
 use Rattle.nob_space_waiting.proofs.Granted.{granted_still, granted_twice, none_due}
-use Rattle.nob_space_waiting.proofs.Rows.{at_stamp, changed_as, changed_ext, changed_twice}
+use Rattle.nob_space_waiting.proofs.Rows.{changed_as, changed_ext, changed_twice}
 
 pub lent_twice : (rep : WireRep) (e : Entry) → lent_entry rep (lent_entry rep e) ≡ lent_entry rep e
 lent_twice rep e =
@@ -57,7 +56,7 @@ some_or false n = let same : n ≡ 0 + n = omega arith in ap (nat_lt 0) same
 pub lent_next : (rep : WireRep) (lines : LineList) (place : ℕ) (standing : Option ℕ) (rows0 rows new : List (ℕ × Entry)) → standing ≡ link_at lines (link_of rep place) → rows ≡ lent_where rep (λ s. nat_lt 0 (stands lines rep place s)) rows0 → new ≡ lent_where rep (is_standing standing) rows → new ≡ lent_where rep (λ s. nat_lt 0 (stands lines rep (place + 1) s)) rows0
 lent_next rep lines place standing rows0 rows new is was now =
     now ∙ ap (lent_where rep (is_standing standing)) was
-    ∙ lent_both rep (λ s. nat_lt 0 (stands lines rep place s)) (is_standing standing) (λ s. nat_lt 0 (once standing s + stands lines rep place s)) rows0 (λ s. some_or (is_stamp s standing) (stands lines rep place s))
+    ∙ lent_both rep (λ s. nat_lt 0 (stands lines rep place s)) (is_standing standing) (λ s. nat_lt 0 (once standing s + stands lines rep place s)) rows0 (λ s. some_or (is_standing standing s) (stands lines rep place s))
     ∙ ap (λ o. lent_where rep (λ s. nat_lt 0 (once o s + stands lines rep place s)) rows0) is
     ∙ ap (λ n. lent_where rep (λ s. nat_lt 0 (stands lines rep n s)) rows0) (sym (add-one place))
 

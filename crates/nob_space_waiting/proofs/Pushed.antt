@@ -1,19 +1,18 @@
 -- A message behind the others.
-use Rattle.std.proofs.Common.{◌≡◌, ℕ, ◌<◌, ◌≤◌, ◌+◌, ◌==◌, ◌&&◌, ◌||◌, Bool, true, false, not, nat_lt, cond, List, [], ◌∷◌, ◌++◌, length, filter, Option, Some, None, IsSome, if◌then◌else◌, refl, sym, ap, subst, ◌∙◌, arith, eqb-true, true≢false}
+use Rattle.std.proofs.Common.{◌≡◌, ℕ, ◌<◌, ◌≤◌, ◌+◌, ◌==◌, ◌&&◌, ◌||◌, Bool, true, false, nat_lt, cond, List, [], ◌∷◌, ◌++◌, length, filter, Some, None, IsSome, if◌then◌else◌, refl, sym, ap, subst, ◌∙◌, arith, eqb-true, true≢false}
 use Prim.Native.Nat.{zero, suc}
 use Rattle.std.proofs.lemmas.Bool.Decides.{nat_tests}
 use Rattle.std.proofs.lemmas.Cmp.{nat_eq_equiv}
 use Rattle.std.proofs.lemmas.Option.{none-some, same_Some}
 use Rattle.std.specs.List.{AllByRecursion}
 use Rattle.nob_ids.specs.declared.wire_rep.WireRep.{WireRep}
-use Rattle.nob_ids.specs.Names.{is_same}
 use Rattle.nob_model_words.specs.declared.message.Message.{Message}
 use Rattle.nob_model_words.specs.declared.message.RefCopy.{RefCopy}
 use Rattle.nob_numbers.specs.Numbers.{NumberLists, numbers_of, Puts}
 use Rattle.nob_slots.specs.Slots.{item_at, is_marked, is_number, IsAbove, IsRising, PutsMark}
 use Rattle.nob_space_waiting.specs.declared.entry.Entry.{Entry}
 use Rattle.nob_space_waiting.specs.Waiting.{due_to, due_to_all, is_awaited, is_due, is_due_in, is_due_where, waits_for}
-use Rattle.nob_space_waiting.specs.Lines.{LineList, AreAwaited, AreMarked, AreWaiting, has_line, places_for, reps_in, items_of, open_in, stamps_from, times_in}
+use Rattle.nob_space_waiting.specs.Lines.{LineList, AreAwaited, AreWaiting, has_line, places_for, reps_in, items_of, open_in, stamps_from, times_in}
 use Rattle.nob_space_waiting.proofs.Ended.{line_none, due_few, times_none}
 use Rattle.nob_space_waiting.proofs.Granted.{count_cons, count_same}
 use Rattle.nob_space_waiting.proofs.Rows.{found_below}

@@ -1,10 +1,10 @@
 -- Entries of which some are changed.
-use Rattle.std.proofs.Common.{◌≡◌, ℕ, ◌+◌, ◌-◌, ◌<◌, ◌≤◌, ◌==◌, Bool, true, false, cond, List, [], ◌∷◌, ◌++◌, map, Option, Some, None, IsSome, MatchOption, is_some, refl, sym, ap, subst, ◌∙◌, arith, if◌then◌else◌, eqb-true, true≢false}
+use Rattle.std.proofs.Common.{◌≡◌, ℕ, ◌+◌, ◌-◌, ◌<◌, ◌==◌, true, false, cond, List, [], ◌∷◌, map, Option, Some, None, IsSome, MatchOption, refl, sym, ap, subst, ◌∙◌, arith, if◌then◌else◌, eqb-true, true≢false}
 use Rattle.std.proofs.lemmas.Cmp.{nat_eq_equiv}
 use Rattle.std.proofs.lemmas.Map.{lookup-set_value}
 use Rattle.std.proofs.lemmas.Option.{none-some, same_Some}
 use Rattle.std.specs.List.{AllByRecursion}
-use Rattle.std.specs.Map.{lookup, set_value}
+use Rattle.std.specs.Map.{set_value}
 use Rattle.std.specs.Option.{option_map}
 use Rattle.nob_model_words.specs.declared.message.Message.{Message}
 use Rattle.nob_slots.specs.Slots.{item_at, is_number, is_marked, IsAbove, IsRising, PutsMark}

@@ -7,12 +7,11 @@ use Rattle.std.specs.Option.{unwrap_or, option_map_or}
 use Rattle.nob_ids.specs.Names.{is_same}
 use Rattle.nob_ids.specs.declared.wire_rep.WireRep.{WireRep}
 use Rattle.nob_model_words.specs.declared.message.Message.{Message}
-use Rattle.nob_model_words.specs.declared.message.RefCopy.{RefCopy}
 use Rattle.nob_numbers.specs.Numbers.{NumberLists, numbers_of}
 use Rattle.nob_slots.specs.Slots.{item_at, is_number, IsAbove, IsRising, is_marked}
 use Rattle.nob_space_waiting.specs.declared.entry.Entry.{Entry}
 use Rattle.nob_space_waiting.specs.declared.owner_lines.Link.{Link}
-use Rattle.nob_space_waiting.specs.Waiting.{due_to, granted_message, is_awaited, is_due, is_due_where}
+use Rattle.nob_space_waiting.specs.Waiting.{due_to, granted_message, is_awaited, is_due_where}
 
 -- the lines of some references: how many places each has, and who stands at each place
 pub record LineMap : Type 0 where
@@ -71,18 +70,14 @@ stamp_at links link = lookup (is_link link) links
 abbrev pub link_at : LineList → Link → Option ℕ
 link_at lines link = stamp_at (lines_of lines link.rep.owner).links link
 
--- whether it is the one with this stamp
-abbrev pub is_stamp : ℕ → Option ℕ → Bool
-is_stamp stamp None = false
-is_stamp stamp (Some other) = other == stamp
-
--- whether a stamp is the one that stands there
+-- whether a stamp is the one that stands there, if there is any
 abbrev pub is_standing : Option ℕ → ℕ → Bool
-is_standing standing stamp = is_stamp stamp standing
+is_standing None stamp = false
+is_standing (Some standing) stamp = standing == stamp
 
 -- one for the stamp that stands there, if there is any
 abbrev pub once : Option ℕ → ℕ → ℕ
-once standing stamp = if is_stamp stamp standing then 1 else 0
+once standing stamp = if is_standing standing stamp then 1 else 0
 
 -- how often a stamp stands among the first so many places in the line of a reference
 abbrev pub stands : LineList → WireRep → ℕ → ℕ → ℕ

@@ -7,7 +7,7 @@ ghost use Rattle.nob_ids.specs.Names.{is_same};
 ghost use Rattle.nob_ids.specs.declared.wire_rep.WireRep.{WireRep as WireRepOf};
 ghost use Rattle.nob_space_waiting.specs.Lines.{AreApart, AreAwaited, has_line, is_link, lines_of, link_at, link_of, places_for, reps_in};
 
-use crate::owner_lines::{Link, OwnerLines};
+use crate::owner_lines::OwnerLines;
 use crate::owners::{make_owners, widen};
 use nob_ids::{SpaceId, WireRep};
 use std::alloc::{AllocError, Global};
@@ -157,7 +157,8 @@ impl Lines {
         self.owners[place].clear(rep);
     }
 
-    /// Takes the lines of an owner's references out. It takes no memory. Linear in their places.
+    /// Takes the lines of an owner's references out. It takes no memory. Linear in the most places
+    /// that they had.
     pub fn clear_of(&mut self, owner: SpaceId)
         ensures counts { (other : WireRepOf) → places_for self.new other
             ≡ (if other.owner == owner then 0 else places_for self.old other) }

@@ -138,7 +138,7 @@ impl OwnerLines {
         let _count = self.counts.swap_remove(rep);
     }
 
-    /// Takes all lines out. It takes no memory. Linear in all places.
+    /// Takes all lines out. It takes no memory. Linear in the most places that there were.
     pub fn clear_all(&mut self)
         ensures counts { self.new.lines.counts ≡ [] }
         ensures links { self.new.lines.links ≡ [] }

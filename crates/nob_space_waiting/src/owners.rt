@@ -1,7 +1,7 @@
 //! The lines of each owner.
 
-ghost use Rattle.std.specs.Prelude.{◌≡◌, ℕ, ◌<◌, ◌≤◌, length, map, OnOk, Some, slice_get, slice_set};
-ghost use Rattle.nob_space_waiting.specs.Lines.{HaveRoom, OwnerList, lines_of, lists_of, reps_in};
+ghost use Rattle.std.specs.Prelude.{◌≡◌, ℕ, ◌≤◌, length, map, OnOk};
+ghost use Rattle.nob_space_waiting.specs.Lines.{HaveRoom, lines_of, lists_of, reps_in};
 
 use crate::owner_lines::OwnerLines;
 use nob_ids::SpaceId;

@@ -1,12 +1,13 @@
 //! The list.
 
 ghost use Rattle.std.specs.Prelude.{◌≡◌, ℕ, ◌+◌, ◌-◌, ◌<◌, ◌≤◌, ◌^◌, ◌==◌, ◌&&◌, ◌||◌, if◌then◌else◌, ◌++◌, ◌∷◌, [], true, false, not, length, map, filter, find, option_copied, IsOk, OnOk};
+ghost use Rattle.std.specs.Map.{remove_entry};
 ghost use Rattle.nob_ids.specs.Names.{is_same};
 ghost use Rattle.nob_ids.specs.declared.wire_rep.WireRep.{WireRep as WireRepOf};
 ghost use Rattle.nob_model_words.specs.Messages.{is_not_from};
 ghost use Rattle.nob_model_work.specs.Work.{without_first};
 ghost use Rattle.nob_numbers.specs.Numbers.{numbers_of};
-ghost use Rattle.nob_slots.specs.Slots.{IsRising};
+ghost use Rattle.nob_slots.specs.Slots.{is_number, IsRising, PutsMark};
 ghost use Rattle.nob_space_waiting.specs.Waiting.{due_to_all, granted_message, is_awaited, is_due_in, is_settleable_in, IsNew, waits_for, is_due};
 ghost use Rattle.nob_space_waiting.specs.Lines.{AreAwaited, AreMarked, LineList, places_for, times_in, without};
 
@@ -26,8 +27,8 @@ use std::marker::Model;
 /// Messages that wait for their references, in order. Contracts see them, which of the references
 /// that they wait for are awaited, and for how many copies there is room.
 ///
-/// Each message has a stamp, and a place in the line of each reference that is awaited, for each of
-/// its copies whose loan is due. It is marked once it has no place left. An owner's answer ends the
+/// Each message has a stamp, which stands among those of the space that it came from, and at a place
+/// in the line of each reference that is awaited, for each of its copies whose loan is due. It is marked once it has no place left. An owner's answer ends the
 /// line of its reference; a message that is dropped leaves its places in lines to that answer.
 pub struct Waiting {
     alloc: Global,
@@ -122,6 +123,15 @@ fn line_up(lines: &mut Lines, copies: &[RefCopy], stamp: u64) -> u64
     waits
 }
 
+// Takes the entry of a stamp out, if there is one.
+fn take_one(slots: &mut Slots<Entry>, stamp: u64)
+    ensures rows { slots.new.rows ≡ remove_entry (is_number stamp) slots.old.rows }
+    ensures marked { PutsMark slots.old.marked slots.new.marked stamp false }
+    ensures room { slots.new.room ≡ slots.old.room }
+{
+    let _entry = slots.take(stamp);
+}
+
 // Takes the entries of a space's stamps out. Linear in them, each with a look for it.
 fn take_all(slots: &mut Slots<Entry>, froms: &Numbers, peer: SpaceId)
     requires rising { IsRising slots.old.rows }
@@ -131,7 +141,7 @@ fn take_all(slots: &mut Slots<Entry>, froms: &Numbers, peer: SpaceId)
     ensures room { slots.new.room ≡ slots.old.room }
 {
     for stamp in froms.iter(peer) {
-        let _entry = slots.take(stamp);
+        take_one(slots, stamp);
     }
 }
 
@@ -170,8 +180,8 @@ impl Waiting {
     }
 
     /// Makes room for one message of so many copies. Only memory fails it, or that more came in all
-    /// than can be counted; the messages and marks are the same in any case. Constant time on
-    /// average.
+    /// than can be counted; the messages and what is awaited are the same in any case. Constant time
+    /// on average.
     pub fn reserve(&mut self, copies: usize) -> Result<(), AllocError>
         ensures items { self.new.items ≡ self.old.items }
         ensures awaited { self.new.awaited ≡ self.old.awaited }
@@ -193,8 +203,8 @@ impl Waiting {
     }
 
     /// Puts a message behind all others, where there is room for it. It takes no memory. Linear in
-    /// its copies. The caller's condition: none of its copies is due of a reference that others wait
-    /// for and that is marked lost.
+    /// its copies. The caller's condition: a reference of which a copy of it is due, and for which
+    /// others wait, is awaited.
     pub fn push(&mut self, message: Message)
         requires room { length message.copies < self.old.room }
         requires new { IsNew self.old message }
@@ -212,7 +222,7 @@ impl Waiting {
         self.slots.mark(stamp, waits == 0);
     }
 
-    /// Marks a reference lost: nothing is to come for it. It takes no memory. Linear in the copies
+    /// A reference is lost: nothing is to come for it. It takes no memory. Linear in the copies
     /// of it that are due, each with a look for its message.
     pub fn lose(&mut self, rep: &WireRep)
         ensures items { self.new.items ≡ self.old.items }
@@ -224,8 +234,8 @@ impl Waiting {
         self.lines.clear(rep);
     }
 
-    /// Marks all references of an owner lost. It takes no memory. Linear in the copies of them that
-    /// are due, each with a look for its message.
+    /// All references of an owner are lost. It takes no memory. Linear in the copies of them that are
+    /// due, each with a look for its message.
     pub fn lose_of(&mut self, owner: SpaceId)
         ensures items { self.new.items ≡ self.old.items }
         ensures awaited { (other : WireRepOf) → is_awaited self.new.awaited other
@@ -237,8 +247,8 @@ impl Waiting {
     }
 
     /// Makes the loans of a reference that are due: how many. It takes no memory. Linear in the
-    /// copies of the messages that wait for it. The caller's conditions: it isn't marked lost where
-    /// messages wait for it, and their number can be counted in 64 bits.
+    /// copies of the messages that wait for it. The caller's conditions: it is awaited where
+    /// messages wait for it, and the loans can be counted in 64 bits.
     pub fn lend(&mut self, rep: &WireRep) -> u64
         requires open { is_due_in self.old.items rep.now ≡ true
             → is_awaited self.old.awaited rep.now ≡ true }
@@ -254,8 +264,8 @@ impl Waiting {
         lent
     }
 
-    /// The first message that may be settled: each of its copies that is due is of a reference that
-    /// is marked lost. A few words of bits, and a look for its message.
+    /// The first message that may be settled: none of its copies that is due is of a reference that
+    /// is awaited. A few words of bits, and a look for its message.
     pub fn first_settleable(&self) -> Option<&Message>
         ensures { option_copied result ≡ find (is_settleable_in self.now) self.now.items }
     {

@@ -1,4 +1,4 @@
-use Rattle.std.proofs.Common.{ap, sym, rules, ◌∙◌, IsSome}
+use Rattle.std.proofs.Common.{ap, rules, ◌∙◌, IsSome}
 use Rattle.std.specs.Map.{set_value}
 use Rattle.nob_slots.specs.Slots.{item_at, is_number}
 use Rattle.nob_space_waiting.proofs.Rows.{lift_left, set_twice}

@@ -1,7 +1,6 @@
-use Rattle.std.proofs.Common.{◌≡◌, ◌==◌, ◌+◌, ◌-◌, Some, ap, sym, subst, refl, ◌∙◌, IsSome, arith}
+use Rattle.std.proofs.Common.{◌≡◌, ◌-◌, ap, sym, subst, ◌∙◌, arith}
 use Rattle.std.specs.Map.{set_value}
-use Rattle.nob_model_words.specs.declared.message.Message.{Message}
-use Rattle.nob_slots.specs.Slots.{item_at, is_number}
+use Rattle.nob_slots.specs.Slots.{is_number}
 use Rattle.nob_space_waiting.specs.declared.entry.Entry.{Entry}
 use Rattle.nob_space_waiting.specs.Waiting.{due_to, due_to_all}
 use Rattle.nob_space_waiting.specs.Lines.{AreMarked, items_of, lent_entry}

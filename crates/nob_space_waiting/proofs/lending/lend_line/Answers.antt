@@ -1,7 +1,7 @@
-use Rattle.std.proofs.Common.{◌≡◌, ◌+◌, nat_lt, ap, sym, subst, refl, ◌∙◌, arith, if◌then◌else◌}
+use Rattle.std.proofs.Common.{◌≡◌, nat_lt, ap, sym, subst, refl, ◌∙◌, arith, if◌then◌else◌}
 use Rattle.nob_slots.specs.Slots.{IsRising}
 use Rattle.nob_space_waiting.specs.Waiting.{due_to_all}
-use Rattle.nob_space_waiting.specs.Lines.{places_for, all_lent, is_standing, items_of, lent_entry, lent_where, stands}
+use Rattle.nob_space_waiting.specs.Lines.{places_for, is_standing, items_of, lent_entry, lent_where, stands}
 use Rattle.nob_space_waiting.proofs.Lent.{due_lent, lent_again, lent_all, lent_next, lent_none}
 use Rattle.nob_space_waiting.proofs.Rows.{changed_rising}
 use Rattle.nob_space_waiting.proofs.lending.lend_line.Goals as goal

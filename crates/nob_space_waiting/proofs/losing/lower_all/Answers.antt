@@ -1,4 +1,4 @@
-use Rattle.std.proofs.Common.{ap, sym, subst, refl, ◌∙◌}
+use Rattle.std.proofs.Common.{sym, subst, refl, ◌∙◌}
 use Rattle.std.specs.Map.{keys_of}
 use Rattle.nob_slots.specs.Slots.{IsRising}
 use Rattle.nob_space_waiting.specs.Lines.{lines_of, lowered_entry, times_in}

@@ -1,6 +1,6 @@
-use Rattle.std.proofs.Common.{◌≡◌, ◌==◌, ◌-◌, Some, ap, sym, subst, ◌∙◌, IsSome}
+use Rattle.std.proofs.Common.{◌≡◌, ap, sym, subst, ◌∙◌}
 use Rattle.std.specs.Map.{set_value}
-use Rattle.nob_slots.specs.Slots.{item_at, is_number}
+use Rattle.nob_slots.specs.Slots.{is_number}
 use Rattle.nob_space_waiting.specs.declared.entry.Entry.{Entry}
 use Rattle.nob_space_waiting.specs.Lines.{AreMarked, lowered_entry}
 use Rattle.nob_space_waiting.proofs.Rows.{changed_absent, left_same, lifted_some, lowered_once, marked_put, set_changed}

@@ -1,6 +1,6 @@
-use Rattle.std.proofs.Common.{ap, sym, subst, refl, ◌∙◌}
+use Rattle.std.proofs.Common.{sym, subst, refl, ◌∙◌}
 use Rattle.nob_slots.specs.Slots.{IsRising}
-use Rattle.nob_space_waiting.specs.Lines.{lowered, lowered_entry, once, stands}
+use Rattle.nob_space_waiting.specs.Lines.{lowered_entry, once}
 use Rattle.nob_space_waiting.proofs.Counting.{stands_next}
 use Rattle.nob_space_waiting.proofs.Rows.{changed_rising, lowered_none}
 use Rattle.nob_space_waiting.proofs.losing.lower_line.Goals as goal

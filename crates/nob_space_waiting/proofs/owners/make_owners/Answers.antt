@@ -1,4 +1,4 @@
-use Rattle.std.proofs.Common.{◌≡◌, ℕ, ◌+◌, List, length, ◌∙◌, arith, ap}
+use Rattle.std.proofs.Common.{◌≡◌, ◌+◌, List, length, ◌∙◌, arith, ap}
 use Rattle.nob_slots.proofs.Flat.{length_push}
 use Rattle.nob_space_waiting.specs.Lines.{OwnerList, reps_in}
 use Rattle.nob_space_waiting.proofs.Kept.{all_lines, lines_at, one_more, reps_more}

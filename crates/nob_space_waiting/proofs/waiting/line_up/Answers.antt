@@ -1,4 +1,4 @@
-use Rattle.std.proofs.Common.{◌+◌, ◌<◌, ◌≤◌, length, filter, take, arith, if◌then◌else◌, true, false}
+use Rattle.std.proofs.Common.{◌≤◌, arith, if◌then◌else◌, true, false}
 use Rattle.nob_space_waiting.specs.Waiting.{is_due, waits_for}
 use Rattle.nob_space_waiting.proofs.Granting.{few_first}
 use Rattle.nob_space_waiting.proofs.waiting.line_up.Goals as goal

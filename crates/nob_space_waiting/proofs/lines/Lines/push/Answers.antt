@@ -1,11 +1,9 @@
-use Rattle.std.proofs.Common.{◌≡◌, ◌==◌, ◌+◌, ◌-◌, ◌<◌, ℕ, Some, true, false, length, refl, ap, sym, subst, ◌∙◌, arith, true≢false, if◌then◌else◌}
+use Rattle.std.proofs.Common.{◌≡◌, ◌==◌, ◌+◌, ◌-◌, ◌<◌, ℕ, Some, length, refl, ap, sym, subst, ◌∙◌, arith, if◌then◌else◌}
 use Rattle.std.proofs.Math.ListN.{length-set}
 use lib.ListN.{set}
-use Rattle.std.proofs.lemmas.Cmp.{nat_eq_equiv}
 use Rattle.std.proofs.lemmas.Option.{slice_get_read}
 use Rattle.nob_ids.specs.Names.{is_same}
-use Rattle.nob_ids.specs.declared.wire_rep.WireRep.{WireRep}
-use Rattle.nob_space_waiting.specs.Lines.{AreOf, HavePlaces, LineList, LineMap, count_of, is_link, link_at, link_of, lists_of, stamp_at}
+use Rattle.nob_space_waiting.specs.Lines.{AreOf, LineList, LineMap, count_of, is_link, link_of, lists_of, stamp_at}
 use Rattle.nob_space_waiting.proofs.Kept.{all_awaited, here, lines_at, other_rep, own_set, room_set, set_holds}
 use Rattle.nob_space_waiting.proofs.lines.Lines.push.Goals as goal
 

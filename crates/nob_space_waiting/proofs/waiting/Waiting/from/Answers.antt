@@ -1,4 +1,4 @@
-use Rattle.std.proofs.Common.{◌≡◌, ◌<◌, ◌^◌, length, ap, sym, subst, ◌∙◌, arith}
+use Rattle.std.proofs.Common.{ap, sym, subst, ◌∙◌, arith}
 use Rattle.nob_space_waiting.specs.Lines.{AreThere, messages_at}
 use Rattle.nob_space_waiting.proofs.Stamps.{messages_few, messages_from, there_from}
 use Rattle.nob_space_waiting.proofs.waiting.Waiting.from.Goals as goal

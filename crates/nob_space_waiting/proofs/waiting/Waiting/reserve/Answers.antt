@@ -1,4 +1,4 @@
-use Rattle.std.proofs.Common.{◌≡◌, ◌+◌, arith}
+use Rattle.std.proofs.Common.{◌+◌, arith}
 use Rattle.nob_space_waiting.proofs.Ended.{widened}
 use Rattle.nob_space_waiting.proofs.waiting.Waiting.reserve.Goals as goal
 

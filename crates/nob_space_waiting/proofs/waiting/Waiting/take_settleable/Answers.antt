@@ -1,5 +1,5 @@
-use Rattle.std.proofs.Common.{◌≡◌, Some, false, ap, sym, subst, ◌∙◌, if◌then◌else◌}
-use Rattle.nob_slots.specs.Slots.{item_at, is_marked, is_number, IsAbove, IsRising}
+use Rattle.std.proofs.Common.{ap, sym, subst, ◌∙◌}
+use Rattle.nob_slots.specs.Slots.{item_at, IsAbove, IsRising}
 use Rattle.nob_space_waiting.specs.Lines.{items_of, stamps_from, AreMarked}
 use Rattle.nob_space_waiting.proofs.Found.{fewer, first_found, first_none, removed_below, removed_found, removed_rising}
 use Rattle.nob_space_waiting.proofs.Stamps.{marked_removed, stamps_taken}
