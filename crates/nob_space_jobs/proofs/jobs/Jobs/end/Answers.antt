@@ -29,4 +29,4 @@ invariant_of-self-2 c t =
     let ends : (t : ℕ) → runs_at c.self.inside.ready.runs t ≡ (if is_target (target_of run.message.item) t then 1 + runs_at c.end.new.self.runs t else runs_at c.end.new.self.runs t) =
     rw c.target_of.ensures at c.end.ensures.runs in
     rw c.take.ensures.runs (counted_less (is_target (target_of run.message.item) t) (runs_at c.end.new.self.runs t) (runs_of (filter (λ r. not (is_run c.args.job r)) runs) t)
-        (sym (ends t) ∙ c.self.invariant t ∙ runs_parted (is_run c.args.job) runs run c.in-Some.ensures.alone t))
+    (sym (ends t) ∙ c.self.invariant t ∙ runs_parted (is_run c.args.job) runs run c.in-Some.ensures.alone t))
