@@ -12,7 +12,7 @@ use Rattle.nob_model_words.specs.declared.message.Message.{Message}
 use Rattle.nob_model_words.specs.Messages.{is_job, is_of}
 use Rattle.nob_model_work.specs.declared.work.InHand.{InHand}
 use Rattle.nob_model_work.specs.declared.work.Run.{Run}
-use Rattle.nob_model_work.specs.Work.{work, work_after, with_loans, run_after, is_none_of, after_message, after_act, after_settlement, after_settle, after_claim, after_finish, after_take, after_end, after_call, after_close, is_run}
+use Rattle.nob_model_work.specs.Work.{work, work_after, with_loans, run_after, is_none_of, make_ready, make_reply, wait, after_message, after_act, after_settlement, after_settle, after_claim, after_finish, after_take, after_end, after_call, after_close, is_run}
 use Rattle.nob_model_history.specs.Histories.{history_of}
 use Rattle.nob_model.specs.Lists.{AreRightDeeds, IsRightDeed}
 use Rattle.nob_model.specs.Right.{jobs_made, right_after}
@@ -23,11 +23,16 @@ use Rattle.nob_space_state.specs.Parts.{State}
 use Rattle.nob_space_state.specs.Stands.{Stands}
 use Rattle.nob_space_state.proofs.Running.{all_filter, all_map}
 
+-- whichever it is, the same jobs run
+kept : (b : Bool) (one other W : InHand) → one.running ≡ W.running → other.running ≡ W.running → InHand.running (if b then one else other) ≡ W.running
+kept true one other W same again = same
+kept false one other W same again = again
+
 -- a message acted on runs no job
 message_runs : (message : Message) (item : Item) (W : InHand) → (after_message message item W).running ≡ W.running
 unfolding after_message
-message_runs message (items.Call call target method value) W = elim (is_none_of message.copies) as (λ b. (if b then _ else _).running ≡ W.running) [ true ↦ refl | false ↦ refl ]
-message_runs message (items.Reply call status value) W = elim (is_none_of message.copies) as (λ b. (if b then _ else _).running ≡ W.running) [ true ↦ refl | false ↦ refl ]
+message_runs message (items.Call call target method value) W = kept (is_none_of message.copies) (make_ready message W) (wait message W) W refl refl
+message_runs message (items.Reply call status value) W = kept (is_none_of message.copies) (make_reply message W) (wait message W) W refl refl
 message_runs message (items.Settle item) W = refl
 message_runs message (items.Dirty index) W = refl
 message_runs message (items.DirtyOk index) W = refl
