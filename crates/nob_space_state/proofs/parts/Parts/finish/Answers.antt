@@ -29,11 +29,11 @@ use Rattle.nob_space_state.proofs.parts.Parts.finish.Goals as goal
 
 pub returns-in_default-clause-answer : goal.returns-in_default-clause-answer
 returns-in_default-clause-answer c limits D stands =
-    finish_of_none stands c.args.job c.args.outcome.now (sym (c.in_default.ensures {u = tt}))
+    finish_of_none stands c.args.job c.args.outcome.now (sym (c.in_default.ensures {u = tt}).found)
 
 pub unreachable-requires : goal.unreachable-requires
 unreachable-requires c =
-    let found : find (is_run c.args.job) c.args.self.now.jobs.running ≡ Some c.in-Some.run'.now = sym (c.in-Some.ensures {u = tt}) in
+    let found : find (is_run c.args.job) c.args.self.now.jobs.running ≡ Some c.in-Some.run'.now = sym (c.in-Some.ensures {u = tt}).found in
     runs_call c.in-Some.run'.now.message.item (run_sound c.requires.2 c.args.job c.args.outcome.now c.in-Some.run'.now found).1 c.in_default-item.not-Call
 
 pub end_job-requires : goal.end_job-requires
@@ -44,7 +44,7 @@ end_job-requires-2 c = jobs_lent c.requires.2 c.args.job
 
 pub returns-then-has_closed-clause-answer : goal.returns-then-has_closed-clause-answer
 returns-then-has_closed-clause-answer c limits D stands =
-    let found : find (is_run c.args.job) c.args.self.now.jobs.running ≡ Some c.in-Some.run'.now = sym (c.in-Some.ensures {u = tt}) in
+    let found : find (is_run c.args.job) c.args.self.now.jobs.running ≡ Some c.in-Some.run'.now = sym (c.in-Some.ensures {u = tt}).found in
     finish_of_closed stands c.args.job c.args.outcome.now c.in-Some.run'.now found (sym c.has_closed.ensures ∙ c.if-has_closed.true)
 
 pub returns-then-has_closed-clause-stands : goal.returns-then-has_closed-clause-stands
@@ -62,7 +62,7 @@ returns-then-has_closed-clause-stands c limits D stands =
 
 pub returns-in_err-refuse_reply-clause-answer : goal.returns-in_err-refuse_reply-clause-answer
 returns-in_err-refuse_reply-clause-answer c limits D stands =
-    let found : find (is_run c.args.job) c.args.self.now.jobs.running ≡ Some c.in-Some.run'.now = sym (c.in-Some.ensures {u = tt}) in
+    let found : find (is_run c.args.job) c.args.self.now.jobs.running ≡ Some c.in-Some.run'.now = sym (c.in-Some.ensures {u = tt}).found in
     let still : has_closed c.args.self.now.sessions.items c.in-Some.run'.now.message.from ≡ false = sym c.has_closed.ensures ∙ c.if-has_closed.false in
     refused_as _ c.from_residual.result _ c.in_err-refuse_reply.field-0.0 c.from_residual.ensures.1
     (finish_of_open stands c.args.job c.args.outcome.now c.in-Some.run'.now found still
@@ -70,7 +70,7 @@ returns-in_err-refuse_reply-clause-answer c limits D stands =
 
 pub unreachable-requires-in-Err-Fault : goal.unreachable-requires-in-Err-Fault
 unreachable-requires-in-Err-Fault c =
-    let found : find (is_run c.args.job) c.args.self.now.jobs.running ≡ Some c.in-Some.run'.now = sym (c.in-Some.ensures {u = tt}) in
+    let found : find (is_run c.args.job) c.args.self.now.jobs.running ≡ Some c.in-Some.run'.now = sym (c.in-Some.ensures {u = tt}).found in
     let sound = run_sound c.requires.2 c.args.job c.args.outcome.now c.in-Some.run'.now found in
     let judged = reply_judged c.args.here.now.space c.in-Some.run'.now.message.from (state_of c.args.self.now) c.value_of-value.result.now c.in_ok-refuse_reply.ensures in
     let number = runs_number c.in-Some.run'.now.message.item c.in-Call.call c.in-Call.target c.in-Call.method c.in-Call.value sound.0.number c.in-Call.is in
@@ -80,33 +80,33 @@ unreachable-requires-in-Err-Fault c =
 
 pub returns-in-Err-OutOfMemory-clause-answer : goal.returns-in-Err-OutOfMemory-clause-answer
 returns-in-Err-OutOfMemory-clause-answer c limits D stands =
-    let found : find (is_run c.args.job) c.args.self.now.jobs.running ≡ Some c.in-Some.run'.now = sym (c.in-Some.ensures {u = tt}) in
+    let found : find (is_run c.args.job) c.args.self.now.jobs.running ≡ Some c.in-Some.run'.now = sym (c.in-Some.ensures {u = tt}).found in
     let still : has_closed c.args.self.now.sessions.items c.in-Some.run'.now.message.from ≡ false = sym c.has_closed.ensures ∙ c.if-has_closed.false in
     subst IsOk (sym (finish_wants stands c.args.job c.args.outcome.now c.in-Some.run'.now found still c.value_of-value.result.now c.value_of-value.ensures c.in_ok-refuse_reply.ensures)) refl
 
 pub returns-in_err-reps-clause-answer : goal.returns-in_err-reps-clause-answer
 returns-in_err-reps-clause-answer c limits D stands =
-    let found : find (is_run c.args.job) c.args.self.now.jobs.running ≡ Some c.in-Some.run'.now = sym (c.in-Some.ensures {u = tt}) in
+    let found : find (is_run c.args.job) c.args.self.now.jobs.running ≡ Some c.in-Some.run'.now = sym (c.in-Some.ensures {u = tt}).found in
     let still : has_closed c.args.self.now.sessions.items c.in-Some.run'.now.message.from ≡ false = sym c.has_closed.ensures ∙ c.if-has_closed.false in
     wants_as _ c.from_residual-in_err-reps.result _ c.from_residual-in_err-reps.ensures.1
     (subst IsOk (sym (finish_wants stands c.args.job c.args.outcome.now c.in-Some.run'.now found still c.value_of-value.result.now c.value_of-value.ensures c.in_ok-refuse_reply.ensures)) refl)
 
 pub returns-in_err-hand-clause-answer : goal.returns-in_err-hand-clause-answer
 returns-in_err-hand-clause-answer c limits D stands =
-    let found : find (is_run c.args.job) c.args.self.now.jobs.running ≡ Some c.in-Some.run'.now = sym (c.in-Some.ensures {u = tt}) in
+    let found : find (is_run c.args.job) c.args.self.now.jobs.running ≡ Some c.in-Some.run'.now = sym (c.in-Some.ensures {u = tt}).found in
     let still : has_closed c.args.self.now.sessions.items c.in-Some.run'.now.message.from ≡ false = sym c.has_closed.ensures ∙ c.if-has_closed.false in
     wants_as _ c.from_residual-in_err-hand.result _ c.from_residual-in_err-hand.ensures.1
     (subst IsOk (sym (finish_wants stands c.args.job c.args.outcome.now c.in-Some.run'.now found still c.value_of-value.result.now c.value_of-value.ensures c.in_ok-refuse_reply.ensures)) refl)
 
 pub returns-clause-answer : goal.returns-clause-answer
 returns-clause-answer c limits D stands =
-    let found : find (is_run c.args.job) c.args.self.now.jobs.running ≡ Some c.in-Some.run'.now = sym (c.in-Some.ensures {u = tt}) in
+    let found : find (is_run c.args.job) c.args.self.now.jobs.running ≡ Some c.in-Some.run'.now = sym (c.in-Some.ensures {u = tt}).found in
     let still : has_closed c.args.self.now.sessions.items c.in-Some.run'.now.message.from ≡ false = sym c.has_closed.ensures ∙ c.if-has_closed.false in
     finish_wants stands c.args.job c.args.outcome.now c.in-Some.run'.now found still c.value_of-value.result.now c.value_of-value.ensures c.in_ok-refuse_reply.ensures
 
 pub index_mut-session-requires : goal.index_mut-session-requires
 index_mut-session-requires c =
-    let found : find (is_run c.args.job) c.args.self.now.jobs.running ≡ Some c.in-Some.run'.now = sym (c.in-Some.ensures {u = tt}) in
+    let found : find (is_run c.args.job) c.args.self.now.jobs.running ≡ Some c.in-Some.run'.now = sym (c.in-Some.ensures {u = tt}).found in
     let sound = run_sound c.requires.2 c.args.job c.args.outcome.now c.in-Some.run'.now found in
     let range = peer_range c.args.here.now.space c.args.here.now.n c.in-Some.run'.now.message.from sound.0.peer in
     let each = c.requires.2.ends.each in
@@ -115,7 +115,7 @@ index_mut-session-requires c =
 
 pub hand-requires-clause-next : goal.hand-requires-clause-next
 hand-requires-clause-next c =
-    let found : find (is_run c.args.job) c.args.self.now.jobs.running ≡ Some c.in-Some.run'.now = sym (c.in-Some.ensures {u = tt}) in
+    let found : find (is_run c.args.job) c.args.self.now.jobs.running ≡ Some c.in-Some.run'.now = sym (c.in-Some.ensures {u = tt}).found in
     let sound = run_sound c.requires.2 c.args.job c.args.outcome.now c.in-Some.run'.now found in
     let judged = reply_judged c.args.here.now.space c.in-Some.run'.now.message.from (state_of c.args.self.now) c.value_of-value.result.now c.in_ok-refuse_reply.ensures in
     let is : c.index_mut-session.result.now ≡ get_or c.args.self.now.sessions.items (c.in-Some.run'.now.message.from - 1) c.index_mut-session.result.now = subst (λ k. c.index_mut-session.result.now ≡ get_or c.args.self.now.sessions.items (k - 1) c.index_mut-session.result.now) c.get.ensures.value c.index_mut-session.ensures.value in
@@ -124,7 +124,7 @@ hand-requires-clause-next c =
 
 pub hand-requires-clause-new : goal.hand-requires-clause-new
 hand-requires-clause-new c =
-    let found : find (is_run c.args.job) c.args.self.now.jobs.running ≡ Some c.in-Some.run'.now = sym (c.in-Some.ensures {u = tt}) in
+    let found : find (is_run c.args.job) c.args.self.now.jobs.running ≡ Some c.in-Some.run'.now = sym (c.in-Some.ensures {u = tt}).found in
     let sound = run_sound c.requires.2 c.args.job c.args.outcome.now c.in-Some.run'.now found in
     let is : c.index_mut-session.result.now ≡ get_or c.args.self.now.sessions.items (c.in-Some.run'.now.message.from - 1) c.index_mut-session.result.now = subst (λ k. c.index_mut-session.result.now ≡ get_or c.args.self.now.sessions.items (k - 1) c.index_mut-session.result.now) c.get.ensures.value c.index_mut-session.ensures.value in
     let there = end_there c.args.here.now.space c.args.here.now.n c.requires.0 c.args.self.now.sessions.items (history_of c.args.here.now.space c.args.here.now.n c.requires.1) c.in-Some.run'.now.message.from c.index_mut-session.result.now c.requires.2.ends sound.0.peer is in
@@ -132,7 +132,7 @@ hand-requires-clause-new c =
 
 pub returns-in_err-hand-clause-err : goal.returns-in_err-hand-clause-err
 returns-in_err-hand-clause-err c = after_error _ c.from_residual-in_err-hand.result (λ limits D stands.
-    let found : find (is_run c.args.job) c.args.self.now.jobs.running ≡ Some c.in-Some.run'.now = sym (c.in-Some.ensures {u = tt}) in
+    let found : find (is_run c.args.job) c.args.self.now.jobs.running ≡ Some c.in-Some.run'.now = sym (c.in-Some.ensures {u = tt}).found in
     let sound = run_sound c.requires.2 c.args.job c.args.outcome.now c.in-Some.run'.now found in
     let is : c.index_mut-session.result.now ≡ get_or c.args.self.now.sessions.items (c.in-Some.run'.now.message.from - 1) c.index_mut-session.result.now = subst (λ k. c.index_mut-session.result.now ≡ get_or c.args.self.now.sessions.items (k - 1) c.index_mut-session.result.now) c.get.ensures.value c.index_mut-session.ensures.value in
     let same = c.in_err-hand.ensures.err in
@@ -150,7 +150,7 @@ returns-in_err-hand-clause-err c = after_error _ c.from_residual-in_err-hand.res
 
 pub returns-clause-stands : goal.returns-clause-stands
 returns-clause-stands c limits D stands =
-    let found : find (is_run c.args.job) c.args.self.now.jobs.running ≡ Some c.in-Some.run'.now = sym (c.in-Some.ensures {u = tt}) in
+    let found : find (is_run c.args.job) c.args.self.now.jobs.running ≡ Some c.in-Some.run'.now = sym (c.in-Some.ensures {u = tt}).found in
     let still : has_closed c.args.self.now.sessions.items c.in-Some.run'.now.message.from ≡ false = sym c.has_closed.ensures ∙ c.if-has_closed.false in
     let is : c.index_mut-session.result.now ≡ get_or c.args.self.now.sessions.items (c.in-Some.run'.now.message.from - 1) c.index_mut-session.result.now = subst (λ k. c.index_mut-session.result.now ≡ get_or c.args.self.now.sessions.items (k - 1) c.index_mut-session.result.now) c.get.ensures.value c.index_mut-session.ensures.value in
     let sent = c.in_ok-hand.ensures in
@@ -183,34 +183,34 @@ returns-clause-stands c limits D stands =
     c.end_job-2.ensures.back c.end_job-2.ensures.ended))
 
 pub returns-in_default-clause-dropped : goal.returns-in_default-clause-dropped
-returns-in_default-clause-dropped c run found cut = absurd (none-some run (c.in_default.ensures {u = tt} ∙ found))
+returns-in_default-clause-dropped c run found cut = absurd (none-some run ((c.in_default.ensures {u = tt}).found ∙ found))
 
 pub returns-in_err-refuse_reply-clause-dropped : goal.returns-in_err-refuse_reply-clause-dropped
 returns-in_err-refuse_reply-clause-dropped c run again cut =
-    let found : find (is_run c.args.job) c.args.self.now.jobs.running ≡ Some c.in-Some.run'.now = sym (c.in-Some.ensures {u = tt}) in
+    let found : find (is_run c.args.job) c.args.self.now.jobs.running ≡ Some c.in-Some.run'.now = sym (c.in-Some.ensures {u = tt}).found in
     let still : has_closed c.args.self.now.sessions.items c.in-Some.run'.now.message.from ≡ false = sym c.has_closed.ensures ∙ c.if-has_closed.false in
     absurd (still_open c.args.job c.args.self.now.jobs.running c.args.self.now.sessions.items c.in-Some.run'.now run found still again cut)
 
 pub returns-in-Err-OutOfMemory-clause-dropped : goal.returns-in-Err-OutOfMemory-clause-dropped
 returns-in-Err-OutOfMemory-clause-dropped c run again cut =
-    let found : find (is_run c.args.job) c.args.self.now.jobs.running ≡ Some c.in-Some.run'.now = sym (c.in-Some.ensures {u = tt}) in
+    let found : find (is_run c.args.job) c.args.self.now.jobs.running ≡ Some c.in-Some.run'.now = sym (c.in-Some.ensures {u = tt}).found in
     let still : has_closed c.args.self.now.sessions.items c.in-Some.run'.now.message.from ≡ false = sym c.has_closed.ensures ∙ c.if-has_closed.false in
     absurd (still_open c.args.job c.args.self.now.jobs.running c.args.self.now.sessions.items c.in-Some.run'.now run found still again cut)
 
 pub returns-in_err-reps-clause-dropped : goal.returns-in_err-reps-clause-dropped
 returns-in_err-reps-clause-dropped c run again cut =
-    let found : find (is_run c.args.job) c.args.self.now.jobs.running ≡ Some c.in-Some.run'.now = sym (c.in-Some.ensures {u = tt}) in
+    let found : find (is_run c.args.job) c.args.self.now.jobs.running ≡ Some c.in-Some.run'.now = sym (c.in-Some.ensures {u = tt}).found in
     let still : has_closed c.args.self.now.sessions.items c.in-Some.run'.now.message.from ≡ false = sym c.has_closed.ensures ∙ c.if-has_closed.false in
     absurd (still_open c.args.job c.args.self.now.jobs.running c.args.self.now.sessions.items c.in-Some.run'.now run found still again cut)
 
 pub returns-in_err-hand-clause-dropped : goal.returns-in_err-hand-clause-dropped
 returns-in_err-hand-clause-dropped c run again cut =
-    let found : find (is_run c.args.job) c.args.self.now.jobs.running ≡ Some c.in-Some.run'.now = sym (c.in-Some.ensures {u = tt}) in
+    let found : find (is_run c.args.job) c.args.self.now.jobs.running ≡ Some c.in-Some.run'.now = sym (c.in-Some.ensures {u = tt}).found in
     let still : has_closed c.args.self.now.sessions.items c.in-Some.run'.now.message.from ≡ false = sym c.has_closed.ensures ∙ c.if-has_closed.false in
     absurd (still_open c.args.job c.args.self.now.jobs.running c.args.self.now.sessions.items c.in-Some.run'.now run found still again cut)
 
 pub returns-clause-dropped : goal.returns-clause-dropped
 returns-clause-dropped c run again cut =
-    let found : find (is_run c.args.job) c.args.self.now.jobs.running ≡ Some c.in-Some.run'.now = sym (c.in-Some.ensures {u = tt}) in
+    let found : find (is_run c.args.job) c.args.self.now.jobs.running ≡ Some c.in-Some.run'.now = sym (c.in-Some.ensures {u = tt}).found in
     let still : has_closed c.args.self.now.sessions.items c.in-Some.run'.now.message.from ≡ false = sym c.has_closed.ensures ∙ c.if-has_closed.false in
     absurd (still_open c.args.job c.args.self.now.jobs.running c.args.self.now.sessions.items c.in-Some.run'.now run found still again cut)
