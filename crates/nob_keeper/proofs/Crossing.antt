@@ -37,7 +37,7 @@ use Rattle.nob_space_calls.specs.contracts.calls.Calls as Calls
 use Rattle.nob_space_calls.specs.contracts.calls.Calls.TheInside as CallsInside
 use Rattle.nob_space_calls.specs.contracts.ready.Ready as Ready
 use Rattle.nob_space_calls.specs.contracts.ready.Ready.TheInside as ReadyInside
-use Rattle.nob_numbers.proofs.numbers.Numbers.TheSendSync as numbers
+use Rattle.nob_numbers.proofs.numbers.Numbers.TheSendSync as space_numbers
 use Rattle.nob_space_jobs.specs.contracts.jobs.Jobs as Jobs
 use Rattle.nob_space_jobs.specs.contracts.jobs.Jobs.TheInside as JobsInside
 use Rattle.nob_space_jobs.specs.contracts.running.Running as Running
@@ -63,7 +63,7 @@ waiting_inside_send : IsSend WaitingInside.the_row
 waiting_inside_send =
     let T = WaitingInside.the_type in
     recorded_send (Struct (shape T)) T.D T.to T.to_one (struct_send (shape T)
-    (search sendable depth 30, (slots.the_send Entry.the_row entry_send, (numbers.the_send, (waiting_lines.the_send, (search sendable, (search sendable, tt)))))))
+    (search sendable depth 30, (slots.the_send Entry.the_row entry_send, (space_numbers.the_send, (waiting_lines.the_send, (search sendable, (search sendable, tt)))))))
 
 waiting_send : IsSend Waiting.the_row
 waiting_send = view_send WaitingInside.the_row _ _ _ _ waiting_inside_send
@@ -83,7 +83,7 @@ ready_jobs_inside_send : IsSend ReadyJobsInside.the_row
 ready_jobs_inside_send =
     let T = ReadyJobsInside.the_type in
     recorded_send (Struct (shape T)) T.D T.to T.to_one (struct_send (shape T)
-    (slots.the_send Message.the_row message_send, (ready_lines.the_field_send, (numbers.the_send, (search sendable, (search sendable, tt))))))
+    (slots.the_send Message.the_row message_send, (ready_lines.the_field_send, (space_numbers.the_send, (search sendable, (search sendable, tt))))))
 
 ready_jobs_send : IsSend ReadyJobs.the_row
 ready_jobs_send = view_send ReadyJobsInside.the_row _ _ _ _ ready_jobs_inside_send
