@@ -1,5 +1,5 @@
-//! The program `example_counter`: two nodes in two threads. One makes a counter known by a name; the
-//! other looks it up, calls it and gives it back; then nobody refers to it any more, and it is
+//! The program `example_counter`: two nodes in two threads. One makes a counter known by a name;
+//! the other looks it up, calls it and gives it back; then nobody refers to it any more, and it is
 //! withdrawn.
 #![tactic(auto)]
 
@@ -48,13 +48,11 @@ impl Player<Counter> for Caller {
 }
 
 fn main(rt: HostRuntime) -> io::Result<()> {
-    let mut caller = Caller { said: None };
-    let left = run_two(&rt, rt.alloc(), 2, &mut Owner, &mut caller);
-    match (left, caller.said) {
-        (Some((owned, _)), Some(Value::Int(total))) => {
-            println!(&rt; "the counter says {total}")?;
-            println!(&rt; "it is withdrawn: {}", owned.objects.is_empty())
-        }
-        _ => println!(&rt; "it failed"),
+    let Some((owner, caller)) = run_two(&rt, rt.alloc(), 2, Owner, Caller { said: None }) else {
+        return println!(&rt; "it failed");
+    };
+    if let Some(Value::Int(total)) = caller.player.said {
+        println!(&rt; "the counter says {total}")?;
     }
+    println!(&rt; "it is withdrawn: {}", owner.report.objects.is_empty())
 }

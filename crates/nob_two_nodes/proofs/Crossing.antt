@@ -1,18 +1,18 @@
 -- What a node leaves may go to another thread, where the application's objects may.
-use mathlib.Core.List.{[], ◌∷◌}
 use denote.RattleType.{RattleType}
-use denote.Param.Send.{IsSend, sendable, recorded_send, struct_send, view_send}
+use denote.Param.Send.{IsSend, IsSync, sendable, recorded_send, struct_send, view_send}
 use denote.Struct.Declared.{shape}
 use denote.Struct.Struct.{Struct}
 use Rattle.std.proofs.Crossing.{crosses, Vec-send}
+use Rattle.std.specs.contracts.sync.Barrier as Barrier
 use Rattle.std.specs.contracts.result.Result as Result
 use Rattle.nob_bytes.proofs.owned.Bytes.TheSendSync as bytes
-use Rattle.nob_dispatch_objects.specs.declared.object.Object as Object
 use Rattle.nob_model_session.proofs.entry.Frames.TheSendSync as frames
 use Rattle.nob_model_types.specs.contracts.answer.Answer as Answer
 use Rattle.nob_model_types.specs.contracts.event.Event as Event
 use Rattle.nob_model_types.specs.contracts.refusal.Refusal as Refusal
 use Rattle.nob_node.specs.contracts.running.Report as Report
+use Rattle.nob_two_nodes.specs.contracts.player.Played as Played
 use Rattle.nob_node_parts.proofs.object.Left.TheSendSync as left
 use Rattle.nob_node_parts.specs.contracts.object.Left as Left
 use Rattle.nob_pickle.proofs.value.Values.TheLaws.TheKnot as values
@@ -46,11 +46,17 @@ entries_send = view_send EntriesInside.the_row _ _ _ _ entries_inside_send
 trace_send : IsSend (Trace.the_field).row
 trace_send = struct_send (shape Trace.the_type) (search sendable depth 30, (search sendable depth 30, (search (crosses, sendable) depth 60, (entries_send, tt))))
 
-module _ (O : RattleType) (g : Object.Ghosts O.Denot) (crossing : IsSend O) where
+pub barrier_sync : IsSync Barrier.the_row
+barrier_sync = search (crosses, sendable) depth 60 fits 20000
+
+module _ (O : RattleType) (crossing : IsSend O) where
   left_send : IsSend (Left.the_row O)
   left_send = left.the_send O crossing
 
-  pub report_send : IsSend (Report.the_row O g)
-  report_send =
-      let T = Report.the_type O g in
-      recorded_send (Struct (shape T)) T.D T.to T.to_one (struct_send (shape T) (trace_send, (Vec-send (Left.the_row O) left_send, tt)))
+  report_send : IsSend (Report.the_field O).row
+  report_send = struct_send (shape (Report.the_type O)) (trace_send, (Vec-send (Left.the_row O) left_send, tt))
+
+  pub played_send : (A : RattleType) → IsSend A → IsSend (Played.the_row O A)
+  played_send A crosses_too =
+      let T = Played.the_type O A in
+      recorded_send (Struct (shape T)) T.D T.to T.to_one (struct_send (shape T) (crosses_too, (report_send, tt)))

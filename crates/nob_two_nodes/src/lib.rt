@@ -9,5 +9,5 @@ mod sides;
 
 pub use holds::{answer_to, give_back, give_back_all, look_up, offer, retire};
 pub use partner::Partner;
-pub use player::Player;
+pub use player::{Played, Player};
 pub use running::run_two;

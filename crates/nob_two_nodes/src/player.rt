@@ -2,7 +2,7 @@
 
 use crate::partner::Partner;
 use nob_dispatch_objects::Object;
-use nob_node::{App, Node};
+use nob_node::{App, Node, Report};
 use std::sync::Wait;
 
 /// What an application does at one of two nodes, whose objects are of a type of its own.
@@ -12,14 +12,23 @@ pub trait Player<O: Object> {
     fn run<R: Wait>(&mut self, rt: &R, node: &mut Node<O>, partner: &mut Partner);
 }
 
+/// A player whose node has ended.
+#[derive(Drop)]
+pub struct Played<O: Object, A: Drop> {
+    /// The player.
+    pub player: A,
+    /// What its node leaves.
+    pub report: Report<O>,
+}
+
 /// A player at its node.
 #[derive(Drop)]
-pub(crate) struct Playing<'p, 'b, A> {
-    pub(crate) player: &'p mut A,
+pub(crate) struct Playing<'b, A: Drop> {
+    pub(crate) player: A,
     pub(crate) partner: Partner<'b>,
 }
 
-impl<'p, 'b, O: Object, A: Player<O>> App<O> for Playing<'p, 'b, A> {
+impl<'b, O: Object, A: Player<O> + Drop> App<O> for Playing<'b, A> {
     fn run<R: Wait>(&mut self, rt: &R, node: &mut Node<O>) {
         self.player.run(rt, node, &mut self.partner);
         self.partner.leave(rt);

@@ -2,25 +2,29 @@
 
 ghost use denote.Param.Send.{IsSend, IsSync};
 
-use crate::player::Player;
+use crate::player::{Played, Player};
 use crate::sides::{both_sides, run_side};
 use nob_dispatch_objects::Object;
-use nob_node::Report;
 use std::alloc::Global;
 use std::sync::{Barrier, Wait};
 use std::thread::{self, Threads};
 
 /// Runs two nodes, those of the spaces 1 and 2, each in a thread of its own, with a link each way,
-/// until both players have returned: what each node leaves. The players meet so often, and a player
-/// that returns early, or whose node can't be made, is not waited for. `None` where a node fails,
-/// for want of memory or of a thread.
-pub fn run_two<O: Object + Send, R: Threads + Wait + Sync, A: Player<O> + Send, B: Player<O>>(
+/// until both players have returned: the players, with what their nodes leave. They meet so often;
+/// a player that returns early, or whose node can't be made, is not waited for. `None` where a node
+/// fails, for want of memory or of a thread.
+pub fn run_two<
+    O: Object + Send,
+    R: Threads + Wait + Sync,
+    A: Player<O> + Send + Drop,
+    B: Player<O> + Drop,
+>(
     rt: &R,
     alloc: Global,
     meetings: u32,
-    first: &mut A,
-    second: &mut B,
-) -> Option<(Report<O>, Report<O>)> {
+    first: A,
+    second: B,
+) -> Option<(Played<O, A>, Played<O, B>)> {
     let (ours, theirs) = both_sides(alloc)?;
     let together = Barrier::new(2);
     let barrier = &together;
@@ -40,10 +44,10 @@ pub fn run_two<O: Object + Send, R: Threads + Wait + Sync, A: Player<O> + Send, 
     )
 }
 
-// Both reports.
-fn both<O: Object>(
-    first: Option<Report<O>>,
-    second: Option<Report<O>>,
-) -> Option<(Report<O>, Report<O>)> {
+// Both players.
+fn both<O: Object, A: Drop, B: Drop>(
+    first: Option<Played<O, A>>,
+    second: Option<Played<O, B>>,
+) -> Option<(Played<O, A>, Played<O, B>)> {
     Some((first?, second?))
 }

@@ -1,7 +1,7 @@
 //! The two sides: a node with its links to the other, and how it is run.
 
 use crate::partner::Partner;
-use crate::player::{Player, Playing};
+use crate::player::{Played, Player, Playing};
 use nob_dispatch::OpenGate;
 use nob_dispatch_objects::Object;
 use nob_fault::Shim;
@@ -56,28 +56,31 @@ fn config_of(space: SpaceId) -> Option<Config> {
     Config::new(space, 2, Limits::default(), WORKERS, PAUSE, 0)
 }
 
-/// Runs the node of a side until both players have returned: its report, where it didn't fail.
-pub(crate) fn run_side<O: Object + Send, R: Threads + Wait + Sync, A: Player<O>>(
+/// Runs the node of a side until both players have returned: the player, where the node didn't
+/// fail.
+pub(crate) fn run_side<O: Object + Send, R: Threads + Wait + Sync, A: Player<O> + Drop>(
     rt: &R,
     side: Side,
     barrier: &Barrier,
     meetings: u32,
-    player: &mut A,
-) -> Option<Report<O>> {
+    player: A,
+) -> Option<Played<O, A>> {
     let Side {
         alloc,
         config,
         ends,
         other,
     } = side;
-    let mut playing = Playing {
-        player,
-        partner: Partner::new(barrier, other, meetings),
-    };
+    let partner = Partner::new(barrier, other, meetings);
+    let mut playing = Playing { player, partner };
     let report = run_node(rt, alloc, config, ends, &mut playing);
     // Where there was no memory for the node its player never ran.
     playing.partner.leave(rt);
-    report
+    let Playing { player, partner: _ } = playing;
+    Some(Played {
+        player,
+        report: report?,
+    })
 }
 
 // Runs a node: its report, where it didn't fail.
