@@ -144,11 +144,11 @@ pub fn give_back<O: Object, R: Wait>(
     ensures refused { IfErr result (λ error.
         asked.IsLastRefusal node.new (events.Release hold.rep) error) }
 {
-    let mut hold = hold;
+    let mut held = hold;
     for _ in rt.forever() {
-        match node.release(rt, hold) {
+        match node.release(rt, held) {
             Ok(()) => return Ok(()),
-            Err((NodeError::Keeper(KeeperError::OutOfMemory), back)) => hold = back,
+            Err((NodeError::Keeper(KeeperError::OutOfMemory), back)) => held = back,
             Err((error, back)) => {
                 back.forget();
                 return Err(error);

@@ -34,17 +34,19 @@ pub(crate) struct Side {
 pub(crate) fn both_sides(alloc: Global) -> Option<(Side, Side)> {
     let first = SpaceId::new(1)?;
     let second = SpaceId::new(2)?;
+    let our_config = config_of(first)?;
+    let their_config = config_of(second)?;
     let (put_there, take_there) = link(alloc, LINK).ok()?;
     let (put_back, take_back) = link(alloc, LINK).ok()?;
     let ours = Side {
         alloc,
-        config: config_of(first)?,
+        config: our_config,
         ends: Ends::new(second, put_there, take_back, Shim::new(Vec::new(alloc))),
         other: second,
     };
     let theirs = Side {
         alloc,
-        config: config_of(second)?,
+        config: their_config,
         ends: Ends::new(first, put_back, take_there, Shim::new(Vec::new(alloc))),
         other: first,
     };
