@@ -4,7 +4,7 @@ use nob_dispatch_objects::{Done, Object, Outcome};
 use nob_pickle::Value;
 
 /// A counter. Its method 0 adds a whole number to the total, and answers the total.
-#[derive(Debug, Drop)]
+#[derive(Drop)]
 pub(crate) struct Counter {
     pub(crate) total: i64,
 }
