@@ -41,6 +41,15 @@ impl Entries {
         }
     }
 
+    /// Entries whose stamps are at least 1 and rise, as they stand in a `Vec`. It takes no memory,
+    /// and costs the same however many there are.
+    pub fn from_vec(entries: Vec<Stamped>) -> Entries
+        requires rise { spec.Rise 0 entries.items }
+        ensures { result ≡ entries.items }
+    {
+        Entries { entries }
+    }
+
     /// How many there are.
     pub fn len(&self) -> usize
         ensures { result ≡ length self.now }
