@@ -2,7 +2,6 @@
 
 ghost use Rattle.std.specs.Prelude.{◌≡◌, ◌↔◌, ◌⊎◌, ◌++◌, ◌<◌, ◌+◌, ◌≤◌, ℕ, List, true, false, length, replicate, get_or, IfOk, IfErr, OnOk, OnErr, vec_len};
 ghost use Rattle.std.specs.List.{AllByRecursion};
-ghost use Rattle.nob_trace.specs.Stamps.{Rise};
 ghost use Rattle.nob_keeper.specs.Closing as closing;
 ghost use Rattle.nob_keeper.specs.Receipts.{Told, entry_of};
 ghost use Rattle.nob_keeper.specs.declared.receipt.Receipt.{Receipt as ReceiptOf};
@@ -11,7 +10,7 @@ use crate::error::KeeperError;
 use crate::receipt::Receipt;
 use crate::seat::Seat;
 use nob_model_same::{same_event, same_result};
-use nob_trace::{Entries, Stamped};
+use nob_trace::Stamped;
 use std::alloc::{AllocError, Global};
 
 // Whether a receipt is told of a trace's entries. It costs what the receipt owns.
@@ -120,35 +119,4 @@ pub(crate) fn judge(alloc: Global, entries: &[Stamped], seats: &[Seat]) -> Resul
         return Err(KeeperError::Seats);
     }
     Ok(())
-}
-
-// Copies of entries whose stamps rise. Only memory fails it.
-pub(crate) fn copied(alloc: Global, entries: &[Stamped]) -> Result<Entries, AllocError>
-    requires { Rise 0 entries.now }
-    ensures { IfOk result (λ copies. copies ≡ entries.now) }
-{
-    let mut copies = Entries::new(alloc);
-    for entry in entries {
-        copies.push(copy_of(entry)?)?;
-    }
-    Ok(copies)
-}
-
-// A copy of an entry. Only memory fails it.
-fn copy_of(entry: &Stamped) -> Result<Stamped, AllocError>
-    ensures { IfOk result (λ copy. copy ≡ entry.now) }
-{
-    let event = entry.event.copy()?;
-    match &entry.result {
-        Ok(answer) => Ok(Stamped {
-            stamp: entry.stamp,
-            event,
-            result: Ok(answer.copy()?),
-        }),
-        Err(refusal) => Ok(Stamped {
-            stamp: entry.stamp,
-            event,
-            result: Err(*refusal),
-        }),
-    }
 }

@@ -14,14 +14,14 @@ ghost use Rattle.nob_keeper.specs.Receipts as receipts;
 ghost use Rattle.nob_keeper.specs.Seats.{Has};
 ghost use Rattle.nob_keeper.specs.declared.error.KeeperError.{KeeperError as KeeperErrorOf};
 
-use crate::closing::{copied, is_told, judge};
+use crate::closing::{is_told, judge};
 use crate::error::KeeperError;
 use crate::receipt::Receipt;
 use crate::seat::Seat;
 use nob_ids::{CallNo, SpaceId};
 use nob_model_types::{Answer, Event, Refusal};
 use nob_space::{Due, Space, SpaceError, Work};
-use nob_trace::{Stamped, Trace};
+use nob_trace::{Entries, Stamped, Trace};
 use std::alloc::{AllocError, Global};
 use std::marker::Model;
 
@@ -188,7 +188,7 @@ impl Kept {
 
     /// The trace, where the seats' receipts are those of its entries, each once: else K4, or K2
     /// where memory is wanted, and all is handed back. The space is ended. Linear in the entries
-    /// and what they own.
+    /// and what they own, which it compares and doesn't copy.
     pub fn close_with(self, seats: Vec<Seat>) -> Result<Trace, (KeeperError, Kept, Vec<Seat>)>
         ensures trace { IfOk result (λ trace. accounts.account_in trace ≡ self) }
         ensures receipts { IfOk result (λ trace.
@@ -206,19 +206,12 @@ impl Kept {
         if let Err(error) = judge(alloc, self.entries.as_slice(), seats.as_slice()) {
             return Err((error, self, seats));
         }
-        let Ok(entries) = copied(alloc, self.entries.as_slice()) else {
-            return Err((KeeperError::OutOfMemory, self, seats));
-        };
-        let Kept {
-            space,
-            n,
-            entries: _entries,
-        } = self;
+        let Kept { space, n, entries } = self;
         let trace = Trace {
             space: space.id(),
             n,
             limits: space.limits(),
-            entries,
+            entries: Entries::from_vec(entries),
         };
         space.shut();
         Ok(trace)
