@@ -8,26 +8,25 @@ ghost use Rattle.nob_pins.specs.Evidence.{reps_of};
 ghost use Rattle.nob_pins.specs.Peers.{count_in};
 
 use crate::pin::TransitPin;
-use indexmap::IndexMap;
 use nob_ids::WireRep;
+use nob_rows::Rows;
 use std::alloc::{AllocError, Global};
 use std::marker::Model;
 
 // A count for each reference that has one; the others' is 0.
 #[derive(Drop)]
 pub(crate) struct Counts {
-    counts: IndexMap<WireRep, u64>,
+    counts: Rows<u64>,
 }
 
 impl Model for Counts {
-    ghost use Rattle.indexmap.specs.IndexMap.{spare};
     ghost use Rattle.nob_pins.specs.Peers.{Counted};
 
     ghost Value = { Counted };
 
     ghost view = { λ counts. record {
-      rows = counts.counts.entries;
-      room = spare counts.counts;
+      rows = counts.counts.rows;
+      room = counts.counts.room;
     } };
 }
 
@@ -37,7 +36,7 @@ impl Counts {
         ensures { result.rows ≡ [] }
     {
         Counts {
-            counts: IndexMap::new(alloc),
+            counts: Rows::new(alloc),
         }
     }
 
@@ -46,10 +45,7 @@ impl Counts {
         ensures value { result ≡ count_in self.now.rows rep }
         ensures small { result < 2 ^ 64 }
     {
-        match self.counts.get(&rep) {
-            Some(count) => *count,
-            None => 0,
-        }
+        self.counts.get(rep).unwrap_or(0)
     }
 
     // Makes room for the counts of so many more references.
@@ -70,8 +66,10 @@ impl Counts {
             ≡ (if is_same rep.now other then 1 else 0) + count_in self.old.rows other }
         ensures room { self.old.room ≤ self.new.room + 1 }
     {
-        let count = self.get(*rep) + 1;
-        let _before = self.counts.insert(*rep, count).unwrap();
+        match self.counts.get(*rep) {
+            Some(count) => self.counts.set(rep, count + 1),
+            None => self.counts.push(rep, 1),
+        }
     }
 
     // Counts a reference once less: two look-ups. A count that falls to 0 goes.
@@ -81,23 +79,9 @@ impl Counts {
             ≡ (if is_same rep.now other then 1 else 0) + count_in self.new.rows other }
         ensures kept { self.old.room ≤ self.new.room }
     {
-        let count = self.get(*rep);
-        if count == 1 {
-            let _count = self.counts.swap_remove(rep);
-        } else {
-            self.write(rep, count - 1);
-        }
-    }
-
-    // Writes the count of a reference that has one.
-    fn write(&mut self, rep: &WireRep, count: u64)
-        requires some { 0 < count_in self.old.rows rep.now }
-        ensures count { (other : WireRep) → count_in self.new.rows other
-            ≡ (if is_same rep.now other then count else count_in self.old.rows other) }
-        ensures kept { self.old.room ≤ self.new.room }
-    {
-        if let Some(old) = self.counts.get_mut(rep) {
-            *old = count;
+        match self.counts.get(*rep) {
+            Some(count) if count > 1 => self.counts.set(rep, count - 1),
+            _ => self.counts.take(rep),
         }
     }
 }

@@ -49,7 +49,7 @@ use Rattle.nob_space_state.proofs.Sent.{gift_to}
 use Rattle.nob_space_items.specs.Fronts.{IsFront}
 use Rattle.nob_space_items.specs.Notes.{dirty_answer, EntersIf}
 use Rattle.nob_space_items.proofs.Noted.{act_gives, fault_none, listed_is}
-use Rattle.nob_table.specs.Table.{Table, Unchanged, Keeps, is_kept}
+use Rattle.nob_table.specs.Table.{Table, Unchanged, SetsKept, is_kept}
 use Rattle.nob_space_state.specs.Looks.{HaveClients}
 use Rattle.nob_space_state.proofs.Kept.{clients_there}
 use Rattle.nob_space_items.proofs.Taken.{act_is, front_is, note_stands}
@@ -150,7 +150,7 @@ entered_if false false false true up = refl
 entered_if false false false false up = refl
 
 -- the object that a client is entered for may be kept from outside
-entered_have : (t u : Table) (old new : List Listing) (index client : ℕ) (live : Bool) → Keeps t u index live → EntersIf live old new index client → HaveClients t old → HaveClients u new
+entered_have : (t u : Table) (old new : List Listing) (index client : ℕ) (live : Bool) → SetsKept t u index live → EntersIf live old new index client → HaveClients t old → HaveClients u new
 entered_have t u old new index client true keeps enters have i kept =
     elim (i == index) as (λ b. i == index ≡ b → (if b then true else is_kept t i) ≡ true → (c : ℕ) × (lists new i c ≡ true)) [
       | true ↦ λ here _. (client, enters i client ∙ rw (nat_eq_equiv.symm index i ∙ here, nat_eq_equiv.refl client) (elim (lists old i client) as (λ b. (b || true) ≡ true) [ true ↦ refl | false ↦ refl ]))
@@ -196,7 +196,7 @@ module _ {s n p k : ℕ} {limits : Limits} {st : State} {D : List Deed} (stands 
 
 module _ {s n p k : ℕ} {limits : Limits} {st : State} {D : List Deed} (stands : Stands s n limits st D) (place : ℕ) (at : place ≡ p) (old new : Roomy) (is : old ≡ get_or st.sessions (place - 1) old) where
   -- after a Dirty
-  pub dirty_stands : (index : ℕ) → IsFront s n p k (items.Dirty index) D → send_refusal p Note st ≡ None → (live : Bool) → live ≡ objects.is_live s index D → (dirty : List Listing) → EntersIf live st.dirty dirty index p → (t : Table) → Unchanged st.table t → Keeps st.table t index live
+  pub dirty_stands : (index : ℕ) → IsFront s n p k (items.Dirty index) D → send_refusal p Note st ≡ None → (live : Bool) → live ≡ objects.is_live s index D → (dirty : List Listing) → EntersIf live st.dirty dirty index p → (t : Table) → Unchanged st.table t → SetsKept st.table t index live
       → ((me peer : ℕ) (limits : Limits) (L : List EndEntry) → session.Stands me peer limits old.end L → session.Stands me peer limits new.end (ends.Take ∷ ends.Send (payload_of (dirty_answer live index)) Note (Ok (old.end.handed + 1)) ∷ L))
       → Stands s n limits (record { sessions = set st.sessions (place - 1) new; table = t; dirty = dirty; pins = st.pins; work = st.work; awaited = st.awaited; calls = st.calls; jobs = st.jobs }) (Act p k ∷ D)
   dirty_stands index front free live live_is dirty enters t same keeps answer =

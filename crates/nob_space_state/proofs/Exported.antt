@@ -17,10 +17,10 @@ use Rattle.nob_table_rows.specs.declared.fault.TableFault.{TableFault}
 use Rattle.nob_table_rows.specs.declared.fault.TableFault.TheVariants.{Absent, StillUsed, Limit}
 use Rattle.nob_table_rows.specs.declared.fault.TableError.TheVariants as errors
 use Rattle.nob_table_rows.specs.Counts as table_counts
-use Rattle.nob_table_rows.specs.Rows.{IsOnce}
+use Rattle.nob_rows.specs.Rows.{IsOnce}
 use Rattle.nob_table_rows.specs.Standings.{is_live, withdrawn, exported_standing}
 use Rattle.nob_table.specs.Table as table
-use Rattle.nob_table.specs.Table.{Table, standing, live_reps, own, withdraw_fault, export_fault, IsRefusal, Becomes, Keeps, is_kept, ExportLeaves, WithdrawalLeaves, SameSurrogates}
+use Rattle.nob_table.specs.Table.{Table, standing, live_reps, own, withdraw_fault, export_fault, IsRefusal, Becomes, SetsKept, is_kept, ExportLeaves, WithdrawalLeaves, SameSurrogates}
 use Rattle.nob_table_rows.proofs.Same.{same_laws, same_is, same_refl}
 use Rattle.nob_model_types.specs.declared.answer.Answer.TheVariants as answers
 use Rattle.nob_model_types.specs.declared.refusal.Refusal.TheVariants as refusals
@@ -200,7 +200,7 @@ module _ {s n : ℕ} {limits : Limits} {st : State} {D : List Deed} (stands : St
       its
 
   -- after a Withdraw
-  pub withdraw_stands : (index : ℕ) → IsRightDeed s n limits (Withdraw index) D → WithdrawalLeaves st.table u → Keeps st.table u index false → Becomes st.table u (own_ref s index) withdrawn → withdraw_refusal s st index ≡ None → Stands s n limits (with_table u st) (Withdraw index ∷ D)
+  pub withdraw_stands : (index : ℕ) → IsRightDeed s n limits (Withdraw index) D → WithdrawalLeaves st.table u → SetsKept st.table u index false → Becomes st.table u (own_ref s index) withdrawn → withdraw_refusal s st index ≡ None → Stands s n limits (with_table u st) (Withdraw index ∷ D)
   withdraw_stands index its leaves unkept becomes free =
       let rep : WireRep = own_ref s index in
       let quiet : IsQuiet s n (Withdraw index) D = withdraw_is_quiet s n index D in

@@ -8,8 +8,8 @@ use Rattle.nob_table_rows.specs.declared.counts.Counts.{Counts}
 use Rattle.nob_table_rows.specs.declared.standing.Surrogate.{Surrogate}
 use Rattle.nob_table_rows.specs.Counts.{is_held}
 use Rattle.nob_table_rows.specs.Order.{place_in}
-use Rattle.nob_table_rows.specs.Far.{is_idle_in, NeverIdleIn, IsFirstIn}
-use Rattle.nob_table_rows.specs.Rows.{row_at, Puts, keep_if}
+use Rattle.nob_table_far.specs.Far.{is_idle_in, NeverIdleIn, IsFirstIn}
+use Rattle.nob_rows.specs.Rows.{row_at, Puts, keep_if}
 use Rattle.nob_table_rows.specs.Standings.{far_standing, is_idle}
 use Rattle.nob_table.specs.Table.{Table, IsTable, standing, NoneIdle, IsFirstIdle}
 use Rattle.nob_table_rows.proofs.Keys.{kept_some}

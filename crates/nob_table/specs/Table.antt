@@ -15,7 +15,7 @@ use Rattle.nob_table_rows.specs.Counts.{is_held}
 use Rattle.nob_ids.specs.Names.{is_same}
 use Rattle.nob_table_rows.specs.Objects.{is_marked}
 use Rattle.nob_table_rows.specs.Order.{place_in, IsRising}
-use Rattle.nob_table_rows.specs.Rows.{row_at, reps_of}
+use Rattle.nob_rows.specs.Rows.{row_at, reps_of}
 use Rattle.nob_table_rows.specs.Standings.{is_known, is_unknown, is_live, is_pending, is_granted, is_idle, is_unheld, own_standing, far_standing}
 
 -- the table of a space, with the room beside its items: how many more exports and surrogates fit without memory
@@ -168,8 +168,8 @@ pub record Stays (old new : Table) : Type 0 where
   pub surrogate_room : old.surrogate_room ≤ new.surrogate_room
 
 -- in new the object of this index is kept from outside or not, as said, and every other one as in old
-abbrev pub Keeps : Table → Table → ℕ → Bool → Type 0
-Keeps old new index kept = (other : ℕ) → is_kept new other ≡ (if other == index then kept else is_kept old other)
+abbrev pub SetsKept : Table → Table → ℕ → Bool → Type 0
+SetsKept old new index kept = (other : ℕ) → is_kept new other ≡ (if other == index then kept else is_kept old other)
 
 -- this reference has this place in new, and every other one the place that it has in old
 abbrev pub Places : Table → Table → WireRep → Option ℕ → Type 0

@@ -4,13 +4,14 @@ ghost use Rattle.std.specs.Prelude.{◌≡◌, List, is_some, ◌+◌, ◌^◌, 
 ghost use Rattle.nob_ids.specs.declared.wire_rep.WireRep.{WireRep};
 ghost use Rattle.nob_table_rows.specs.Counts.{is_held};
 ghost use Rattle.nob_ids.specs.Names.{is_same};
-ghost use Rattle.nob_table_rows.specs.Rows.{IsOnce};
+ghost use Rattle.nob_rows.specs.Rows.{IsOnce};
 ghost use Rattle.std.specs.List.{list_any};
 ghost use Rattle.nob_table_rows.specs.Standings.{unknown, is_known, is_live, is_lost, is_surrogate, state_of, withdrawn, exported_standing, pending_standing, with_counts, in_state, after_hold, after_release, after_close};
-ghost use Rattle.nob_table.specs.Table.{Table, standing, surrogate_total, most_objects, most_surrogates, most_index, surrogate_reps, place_of, IsOrder, live, live_reps, own, export_fault, hold_fault, release_fault, pending_fault, answer_fault, remove_fault, withdraw_fault, Becomes, Keeps, Marked, is_kept, SameObjects, ExportLeaves, WithdrawalLeaves, ChangeLeaves, RemovalLeaves, Stays, Places, IsRefusal, NoneIdle, IsFirstIdle, NeverUnheld, IsFirstUnheld, NeverSpare, IsFirstSpare, is_of};
+ghost use Rattle.nob_table.specs.Table.{Table, standing, surrogate_total, most_objects, most_surrogates, most_index, surrogate_reps, place_of, IsOrder, live, live_reps, own, export_fault, hold_fault, release_fault, pending_fault, answer_fault, remove_fault, withdraw_fault, Becomes, SetsKept, Marked, is_kept, SameObjects, ExportLeaves, WithdrawalLeaves, ChangeLeaves, RemovalLeaves, Stays, Places, IsRefusal, NoneIdle, IsFirstIdle, NeverUnheld, IsFirstUnheld, NeverSpare, IsFirstSpare, is_of};
 
 use nob_ids::{SpaceId, WireRep};
-use nob_table_rows::{Counts, Far, Grant, Objects, Part, Standing, State, TableError, TableFault};
+use nob_table_far::Far;
+use nob_table_rows::{Counts, Grant, Objects, Part, Standing, State, TableError, TableFault};
 use std::alloc::{AllocError, Global};
 use std::marker::Model;
 
@@ -130,7 +131,7 @@ impl ObjectTable {
     /// Marks a live object as kept from outside; nothing where no live object has the index. It
     /// takes no memory. Logarithmic.
     pub fn keep(&mut self, index: u64)
-        ensures kept { Keeps self.old self.new index
+        ensures kept { SetsKept self.old self.new index
             (is_live (standing self.old (own self.old index)).state) }
         ensures left { Marked self.old self.new }
     {
@@ -144,7 +145,7 @@ impl ObjectTable {
     /// Takes the mark off: the object of this index isn't kept from outside. It takes no memory.
     /// Logarithmic.
     pub fn let_go(&mut self, index: u64)
-        ensures kept { Keeps self.old self.new index false }
+        ensures kept { SetsKept self.old self.new index false }
         ensures left { Marked self.old self.new }
     {
         let rep = WireRep {
@@ -293,7 +294,7 @@ impl ObjectTable {
             (λ fault. withdraw_fault self.old index ≡ Some fault) }
         ensures withdrawn { OnOk result (Becomes self.old self.new (own self.old index) withdrawn) }
         ensures live { OnOk result (live self.new + 1 ≡ live self.old) }
-        ensures unkept { OnOk result (Keeps self.old self.new index false) }
+        ensures unkept { OnOk result (SetsKept self.old self.new index false) }
         ensures left { WithdrawalLeaves self.old self.new }
         ensures err { OnErr result (Stays self.old self.new) }
     {

@@ -1,15 +1,8 @@
 pub mod Flat
-pub mod Gaps
-pub mod Idle
-pub mod Kept
 pub mod Keys
-pub mod Linked
-pub mod Lost
 pub mod Made
 pub mod Marked
 pub mod Parted
-pub mod Pushed
 pub mod Rising
 pub mod Same
 pub mod LiveRows
-pub mod Slotted

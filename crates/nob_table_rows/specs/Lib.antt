@@ -2,6 +2,4 @@ pub use Rattle.nob_ids.specs.Names
 pub mod Counts
 pub mod Objects
 pub mod Order
-pub mod Far
-pub mod Rows
 pub mod Standings

@@ -10,7 +10,7 @@ ghost use Rattle.nob_table_rows.specs.declared.object.Object.{Object};
 ghost use Rattle.nob_table_rows.specs.Counts.{is_unheld_object, is_spare_object};
 ghost use Rattle.nob_table_rows.specs.Objects.{AreAllHeld, ArePassing, IsFirstPassing, IsFirstRow, IsFirstSpareRow, NonePassing, NoneSpare, SameMarks, is_marked, live_rows, passes_at, passes_slot};
 ghost use Rattle.nob_table_rows.specs.Order.{IsByIndex};
-ghost use Rattle.nob_table_rows.specs.Rows.{row_at, reps_of, Puts, IsOnce};
+ghost use Rattle.nob_rows.specs.Rows.{row_at, reps_of, Puts, IsOnce};
 
 use crate::counts::Counts;
 use crate::object::Object;

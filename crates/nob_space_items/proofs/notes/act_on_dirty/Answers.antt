@@ -4,7 +4,7 @@ use Rattle.nob_space_state.proofs.Ends.{end_there}
 use Rattle.nob_model_history.specs.Histories.{history_of}
 use Rattle.nob_space_items.proofs.Answered.{dirty_refusal, dirty_next, dirty_stands, dirty_kept}
 use Rattle.nob_space_items.proofs.Taken.{act_free, act_refused, front_waits}
-use Rattle.nob_table.specs.Table.{standing, Keeps}
+use Rattle.nob_table.specs.Table.{standing, SetsKept}
 use Rattle.nob_table_rows.specs.Standings.{is_live}
 use Rattle.nob_model.specs.Right.{own_ref}
 use Rattle.nob_space_items.proofs.notes.act_on_dirty.Goals as goal
@@ -50,4 +50,4 @@ returns-clause-stands c limits D stands =
     let front = c.requires.front limits D stands in
     let done = c.in_ok-answer_dirty.ensures in
     dirty_stands stands c.get.result c.get.ensures.value c.index_mut-session.result.now c.answer_dirty.new.session c.index_mut-session.ensures.value c.args.index front c.in_ok-refuse_send.ensures c.is_live-live.result (c.is_live-live.ensures ∙ stands.table.live c.args.index) c.answer_dirty.new.dirty done.listed c.keep.new.self c.keep.ensures.left.items
-    (subst (λ live. Keeps c.args.parts.now.table c.keep.new.self c.args.index live) (ap (λ me. is_live (standing c.args.parts.now.table (own_ref me c.args.index)).state) stands.table.me ∙ sym c.is_live-live.ensures) c.keep.ensures.kept) done.session
+    (subst (λ live. SetsKept c.args.parts.now.table c.keep.new.self c.args.index live) (ap (λ me. is_live (standing c.args.parts.now.table (own_ref me c.args.index)).state) stands.table.me ∙ sym c.is_live-live.ensures) c.keep.ensures.kept) done.session

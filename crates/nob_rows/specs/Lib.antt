@@ -1,0 +1,2 @@
+pub use Rattle.nob_ids.specs.Names
+pub mod Rows

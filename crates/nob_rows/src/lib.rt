@@ -1,0 +1,6 @@
+//! Rows by reference.
+#![tactic(auto)]
+
+mod rows;
+
+pub use rows::Rows;
