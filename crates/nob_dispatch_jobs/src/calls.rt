@@ -41,6 +41,6 @@ impl JobCalls for Keeper {
     }
 
     fn has_job<R: Wait>(&self, rt: &R) -> bool {
-        Keeper::work(self, rt).claim
+        Keeper::can_claim(self, rt)
     }
 }

@@ -1,10 +1,16 @@
--- What an answered event may have made possible at its space.
-use Rattle.std.specs.Prelude.{Bool, true, false}
+-- What an answered event may have made possible at its space, and what there is to take care of.
+use Rattle.std.specs.Prelude.{ℕ, Bool, true, false, ◌||◌, is_some}
 use Rattle.nob_model_types.specs.declared.event.Event.{Event}
 use Rattle.nob_model_types.specs.declared.event.Event.TheVariants as events
 use Rattle.nob_model_types.specs.declared.answer.Answer.{Answer}
 use Rattle.nob_model_types.specs.declared.answer.Answer.TheVariants as answers
+use Rattle.nob_model_history.specs.declared.history.History.{History}
+use Rattle.nob_model.specs.Next.{can_settle, can_clean, to_withdraw}
 use Rattle.nob_keeper.specs.declared.waking.Wakes.{Wakes}
+
+-- whether there is something to settle, to clean or to withdraw
+abbrev pub can_care : (s n : ℕ) → History → Bool
+can_care s n h = can_settle s n h || (can_clean s n h || is_some (to_withdraw s h))
 
 -- whether an answer says that a session closed
 abbrev pub is_closing : Answer → Bool

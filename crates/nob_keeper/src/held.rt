@@ -50,6 +50,15 @@ pub struct Look {
     pub work: Work,
 }
 
+/// What a space could do but act and transmit, read under the lock.
+#[derive(Clone, Copy, Debug, PartialEq, Eq)]
+pub struct Chores {
+    /// Whether there is a job to claim.
+    pub claim: bool,
+    /// Whether there is something to settle, to clean or to withdraw.
+    pub care: bool,
+}
+
 /// So many spaces there are at most.
 const MOST_SPACES: usize = 32;
 
@@ -118,14 +127,8 @@ impl Held {
 
     // Who waits for a job or to take care of something is woken only where there is such work.
     fn look_for_work(&self, wakes: Wakes, notice: &mut Notice) {
-        let cares = wakes.care && self.desk.is_parked(WorkKind::Care);
-        let claims = wakes.claim && self.desk.is_parked(WorkKind::Claim);
-        if !cares && !claims {
-            return;
-        }
-        let work = self.kept.work();
-        notice.care = cares && is_care(&work);
-        notice.claim = claims && work.claim;
+        notice.care = wakes.care && self.desk.is_parked(WorkKind::Care) && self.kept.can_care();
+        notice.claim = wakes.claim && self.desk.is_parked(WorkKind::Claim) && self.kept.can_claim();
     }
 
     // Who waits for a reply is woken where it is ready.
@@ -166,10 +169,19 @@ impl Held {
         }
     }
 
+    // Whether there is a job to claim, and something to take care of.
+    pub(crate) fn chores(&self) -> Chores {
+        Chores {
+            claim: self.kept.can_claim(),
+            care: self.kept.can_care(),
+        }
+    }
+
     // What the space would transmit to each peer.
     pub(crate) fn dues(&self) -> Dues {
         let mut due = [Due::Nothing; MOST_SPACES];
-        for (place, due) in due.iter_mut().enumerate() {
+        let spaces = usize::from(self.kept.n().get());
+        for (place, due) in due.iter_mut().enumerate().take(spaces) {
             if let Some(peer) = SpaceId::new(place as u16 + 1) {
                 *due = self.kept.due(peer);
             }
@@ -179,9 +191,4 @@ impl Held {
             due,
         }
     }
-}
-
-// Whether there is something to settle, to clean or to withdraw.
-fn is_care(work: &Work) -> bool {
-    work.settle || work.clean || work.withdraw.is_some()
 }

@@ -9,7 +9,7 @@ ghost use Rattle.nob_keeper.specs.Seats as seats;
 
 use crate::desk::{Desk, REPLY_PLACES, reply_place};
 use crate::error::KeeperError;
-use crate::held::{Dues, Held, Look, Notice, Wake};
+use crate::held::{Chores, Dues, Held, Look, Notice, Wake};
 use crate::kept::Kept;
 use crate::seat::Seat;
 use crate::waking::WorkKind;
@@ -123,6 +123,17 @@ impl Keeper {
     /// What the space could do next. It costs what `Space::work` costs, under the lock.
     pub fn work<R: Wait>(&self, rt: &R) -> Work {
         self.held.lock(rt).kept.work()
+    }
+
+    /// Whether there is a job to claim. A few words of bits, under the lock.
+    pub fn can_claim<R: Wait>(&self, rt: &R) -> bool {
+        self.held.lock(rt).kept.can_claim()
+    }
+
+    /// Whether there is a job to claim, and something to settle, to clean or to withdraw. It costs
+    /// a few look-ups under the lock, where `work` looks at each session.
+    pub fn chores<R: Wait>(&self, rt: &R) -> Chores {
+        self.held.lock(rt).chores()
     }
 
     /// What the space could do next, with the number of entries after which this was so: what

@@ -12,6 +12,7 @@ ghost use Rattle.nob_keeper.specs.Accounts as accounts;
 ghost use Rattle.nob_keeper.specs.Closing as closing;
 ghost use Rattle.nob_keeper.specs.Receipts as receipts;
 ghost use Rattle.nob_keeper.specs.Seats.{Has};
+ghost use Rattle.nob_keeper.specs.Waking as waking;
 ghost use Rattle.nob_keeper.specs.declared.error.KeeperError.{KeeperError as KeeperErrorOf};
 
 use crate::closing::{is_told, judge};
@@ -138,6 +139,13 @@ impl Kept {
         Ok(())
     }
 
+    /// How many spaces there are, named by the last of them.
+    pub fn n(&self) -> SpaceId
+        ensures { result ≡ self.now.n }
+    {
+        self.n
+    }
+
     /// How many entries the trace has.
     pub fn len(&self) -> usize
         ensures { result ≡ length self.now.entries }
@@ -176,6 +184,21 @@ impl Kept {
             ≡ next.to_withdraw self.now.id (accounts.history_in self.now) }
     {
         self.space.work()
+    }
+
+    /// Whether the space could claim a job. It costs what `Space::can_claim` costs.
+    pub fn can_claim(&self) -> bool
+        ensures { result ≡ next.can_claim (accounts.history_in self.now) }
+    {
+        self.space.can_claim()
+    }
+
+    /// Whether the space could settle, clean or withdraw. It costs what `Space::can_settle`,
+    /// `can_clean` and `to_withdraw` cost.
+    pub fn can_care(&self) -> bool
+        ensures { result ≡ waking.can_care self.now.id self.now.n (accounts.history_in self.now) }
+    {
+        self.space.can_settle() || self.space.can_clean() || self.space.to_withdraw().is_some()
     }
 
     /// What a Transmit to a peer would give. Constant time.

@@ -12,7 +12,7 @@ mod seat;
 mod waking;
 
 pub use error::KeeperError;
-pub use held::{Dues, Look, Wake};
+pub use held::{Chores, Dues, Look, Wake};
 pub use keeper::Keeper;
 pub use kept::Kept;
 pub use receipt::Receipt;

@@ -11,7 +11,6 @@ use nob_keeper::{Dues, Keeper, KeeperError, Look, Receipt, Seat, WorkKind, wakes
 use nob_model_types::{Answer, Event};
 use nob_node_parts::{Idlers, Kept, Lookout, Outbox, Pulse};
 use nob_offers::Offered;
-use nob_space::Work;
 use std::alloc::Global;
 use std::sync::atomic::{AtomicBool, AtomicU64, Ordering};
 use std::sync::{Condvar, Mutex, Wait};
@@ -556,11 +555,11 @@ impl<B: Object> Site<B> {
         let may_assign = wakes.send && self.desk_is_late.load(Ordering::SeqCst);
         let may_care = wakes.send && self.care_is_late.load(Ordering::SeqCst);
         if wakes.claim || wakes.care {
-            let work = self.keeper.work(rt);
+            let chores = self.keeper.chores(rt);
             self.attend(
                 rt,
-                work.claim || may_assign || is_finish(&receipt.event),
-                is_care(&work) || may_care,
+                chores.claim || may_assign || is_finish(&receipt.event),
+                chores.care || may_care,
             );
         } else {
             self.attend(rt, may_assign, may_care);
@@ -599,11 +598,11 @@ impl<B: Object> Site<B> {
 
     /// Claims jobs, settles, cleans and withdraws what others left. What had no room waits for it.
     pub fn attend_left<R: Wait>(&self, rt: &R) {
-        let work = self.keeper.work(rt);
+        let chores = self.keeper.chores(rt);
         self.attend(
             rt,
-            work.claim && !self.desk_is_late.load(Ordering::SeqCst),
-            is_care(&work) && !self.care_is_late.load(Ordering::SeqCst),
+            chores.claim && !self.desk_is_late.load(Ordering::SeqCst),
+            chores.care && !self.care_is_late.load(Ordering::SeqCst),
         );
     }
 
@@ -624,7 +623,7 @@ impl<B: Object> Site<B> {
             match carer.turn(rt, &self.keeper) {
                 Ok(Turn::Did(_)) => {
                     self.transmit(rt);
-                    if self.keeper.work(rt).claim {
+                    if self.keeper.can_claim(rt) {
                         self.assign(rt);
                     }
                     self.let_go(rt, carer);
@@ -671,11 +670,6 @@ fn is_followed(answer: &Answer) -> bool {
         Answer::Took(count) => *count > 0,
         _ => false,
     }
-}
-
-// Whether there is something to settle, to clean or to withdraw.
-fn is_care(work: &Work) -> bool {
-    work.settle || work.clean || work.withdraw.is_some()
 }
 
 // Whether a receipt says no: what was tried can't be done now.
@@ -783,6 +777,6 @@ impl<B: Object> JobCalls for Site<B> {
     }
 
     fn has_job<R: Wait>(&self, rt: &R) -> bool {
-        self.keeper.work(rt).claim
+        self.keeper.can_claim(rt)
     }
 }

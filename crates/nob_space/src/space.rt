@@ -122,6 +122,42 @@ impl Space {
         self.parts.reply_ready(call)
     }
 
+    /// Whether there is a message to settle: to ask it would be no refusal, free numbers and want of
+    /// memory aside. It takes no memory. A few words of bits.
+    pub fn can_settle(&self) -> bool
+        ensures { (L : List Entry) → StandsFor self.now L
+            → result ≡ next.can_settle self.now.id self.now.n (history self.now.id self.now.n L) }
+    {
+        can_settle(&self.parts, &self.here)
+    }
+
+    /// Whether there is a surrogate to give up, free numbers and want of memory aside. It takes no
+    /// memory. A few look-ups, and one for each surrogate that nothing holds, but that is pinned.
+    pub fn can_clean(&self) -> bool
+        ensures { (L : List Entry) → StandsFor self.now L
+            → result ≡ next.can_clean self.now.id self.now.n (history self.now.id self.now.n L) }
+    {
+        can_clean(&self.parts, &self.here)
+    }
+
+    /// Whether there is a job to claim, want of memory aside. It takes no memory. A few words of
+    /// bits.
+    pub fn can_claim(&self) -> bool
+        ensures { (L : List Entry) → StandsFor self.now L
+            → result ≡ next.can_claim (history self.now.id self.now.n L) }
+    {
+        self.parts.can_claim()
+    }
+
+    /// The least index of an object that Withdraw would take. It takes no memory. A few look-ups,
+    /// and one for each object that nothing holds, nor keeps, but that is pinned.
+    pub fn to_withdraw(&self) -> Option<u64>
+        ensures { (L : List Entry) → StandsFor self.now L
+            → result ≡ next.to_withdraw self.now.id (history self.now.id self.now.n L) }
+    {
+        self.parts.to_withdraw(&self.here)
+    }
+
     /// What the space could do next: to ask it that would be no refusal, limits, free numbers and
     /// want of memory aside. It takes no memory. A few look-ups, and one for each object or
     /// surrogate that nothing holds, nor keeps, but that is pinned.
@@ -146,10 +182,10 @@ impl Space {
     {
         let act = acts(&self.parts, &self.here);
         let send = sends(&self.parts, &self.here);
-        let settle = can_settle(&self.parts, &self.here);
-        let clean = can_clean(&self.parts, &self.here);
-        let claim = self.parts.can_claim();
-        let withdraw = self.parts.to_withdraw(&self.here);
+        let settle = self.can_settle();
+        let clean = self.can_clean();
+        let claim = self.can_claim();
+        let withdraw = self.to_withdraw();
         Work {
             act,
             send,
