@@ -1,0 +1,11 @@
+pub mod Below
+pub mod Edits
+pub mod Leaves
+pub mod Looked
+pub mod Moves
+pub mod Set
+pub mod Taken
+pub mod Flat
+pub mod Same
+pub mod Walks
+pub mod Written

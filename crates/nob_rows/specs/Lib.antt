@@ -1,2 +1,3 @@
-pub use Rattle.nob_ids.specs.Names
 pub mod Rows
+pub mod Bits
+pub mod Tree

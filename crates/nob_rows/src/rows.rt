@@ -1,4 +1,4 @@
-//! Rows by reference.
+//! The rows.
 
 ghost use Rattle.std.specs.Prelude.{◌≡◌, ℕ, ◌^◌, ◌+◌, ◌<◌, ◌≤◌, ◌++◌, ◌∷◌, [], length, IsSome, None, Some, OnOk, IsOk, if◌then◌else◌, is_some};
 ghost use Rattle.std.specs.Map.{set_value};
@@ -6,58 +6,70 @@ ghost use Rattle.nob_ids.specs.Names.{is_same};
 ghost use Rattle.nob_ids.specs.declared.wire_rep.WireRep.{WireRep};
 ghost use Rattle.nob_rows.specs.Rows.{RowList, row_at, reps_of, Puts, IsOnce};
 
-use indexmap::IndexMap;
+use crate::change::{push_node, take_node};
+use crate::node::{Node, whole};
+use crate::place::find;
+use crate::write::set_row;
 use nob_ids::WireRep;
 use std::alloc::{AllocError, Global};
 use std::marker::Model;
 
-/// Rows by reference, in no order.
+/// Rows by reference, in no order. Contracts see the rows, and for how many more there is room.
 #[derive(Drop)]
 pub struct Rows<X> {
-    map: IndexMap<WireRep, X>,
+    nodes: Vec<Node<X>>,
 }
 
 impl<X> Model for Rows<X> {
+    ghost use Rattle.std.specs.Prelude.{ℕ, ◌-◌, length};
+    ghost use Rattle.std.specs.Vec.{vec_capacity};
     ghost use Rattle.nob_rows.specs.Rows.{RowList};
+    ghost use Rattle.nob_rows.specs.Tree.{rows_of};
 
     ghost Value = { RowList X };
 
-    ghost use Rattle.indexmap.specs.IndexMap.{spare};
-
-    ghost view = { λ a. record { rows = a.map.entries; room = spare a.map } };
+    ghost view = { λ a. record {
+      rows = rows_of a.nodes.items;
+      room = vec_capacity a.nodes - length a.nodes.items;
+    } };
 
     ghost use Rattle.nob_rows.specs.Rows.{IsOnce};
+    ghost use Rattle.nob_rows.specs.Tree.{IsTree};
 
-    ghost invariant = { λ a. IsOnce a.map.entries };
+    ghost invariant = { λ a. IsOnce (rows_of a.nodes.items)
+        × IsTree (length a.nodes.items) a.nodes.items };
 }
 
 impl<X: Copy + Drop> Rows<X> {
-    /// No rows.
+    /// No rows. It takes no memory before the first.
     pub fn new(alloc: Global) -> Rows<X>
         ensures { result.rows ≡ [] }
     {
         Rows {
-            map: IndexMap::new(alloc),
+            nodes: Vec::new(alloc),
         }
     }
 
-    /// How many rows there are.
+    /// How many rows there are. Constant time.
     pub fn len(&self) -> usize
         ensures len { result ≡ length self.now.rows }
         ensures small { result < 2 ^ 63 }
         ensures once { IsOnce self.now.rows }
     {
-        self.map.len()
+        self.nodes.len()
     }
 
-    /// What stands at the reference.
+    /// What stands at the reference. At most 70 steps.
     pub fn get(&self, rep: WireRep) -> Option<X>
         ensures { result ≡ row_at self.now.rows rep }
     {
-        self.map.get(&rep).copied()
+        let Some(place) = find(&self.nodes, &rep) else {
+            return None;
+        };
+        Some(self.nodes[place].row)
     }
 
-    /// Writes what stands at a reference that has a row.
+    /// Writes what stands at a reference that has a row. At most 70 steps.
     pub fn set(&mut self, rep: &WireRep, row: X)
         requires { IsSome (row_at self.old.rows rep.now) }
         ensures rows { Puts self.old.rows self.new.rows rep.now (Some row) }
@@ -67,9 +79,10 @@ impl<X: Copy + Drop> Rows<X> {
         ensures once { IsOnce self.new.rows }
         ensures room { self.new.room ≡ self.old.room }
     {
-        if let Some(old) = self.map.get_mut(rep) {
-            *old = row;
-        }
+        let Some(place) = find(&self.nodes, rep) else {
+            return;
+        };
+        set_row(&mut self.nodes, place, *rep, row);
     }
 
     /// Makes room for so many more rows.
@@ -79,10 +92,10 @@ impl<X: Copy + Drop> Rows<X> {
         ensures succeeds { additional ≤ self.old.room → IsOk result }
         ensures room { self.old.room ≤ self.new.room }
     {
-        self.map.reserve(additional)
+        self.nodes.reserve(additional)
     }
 
-    /// Puts a row at the end, at a reference that has none.
+    /// Puts a row at the end, at a reference that has none. It takes no memory. At most 70 steps.
     pub fn push(&mut self, rep: &WireRep, row: X)
         requires new { row_at self.old.rows rep.now ≡ None }
         requires room { 0 < self.old.room }
@@ -91,10 +104,11 @@ impl<X: Copy + Drop> Rows<X> {
         ensures once { IsOnce self.new.rows }
         ensures room { self.old.room ≤ self.new.room + 1 }
     {
-        let _absent = self.map.insert(*rep, row).unwrap();
+        push_node(&mut self.nodes, whole(*rep), row);
     }
 
-    /// Takes a row out. The last one moves to where it stood.
+    /// Takes a row out, if there is one. The others may change their order. It takes no memory. At
+    /// most 280 steps.
     pub fn take(&mut self, rep: &WireRep)
         ensures puts { Puts self.old.rows self.new.rows rep.now None }
         ensures once { IsOnce self.new.rows }
@@ -102,6 +116,9 @@ impl<X: Copy + Drop> Rows<X> {
             (if is_some (row_at self.old.rows rep.now) then 1 else 0) ≡ length self.old.rows }
         ensures room { self.old.room ≤ self.new.room }
     {
-        let _row = self.map.swap_remove(rep);
+        let Some(place) = find(&self.nodes, rep) else {
+            return;
+        };
+        take_node(&mut self.nodes, place);
     }
 }

@@ -1,14 +1,29 @@
-use Rattle.std.proofs.Common.{◌∙◌, ◌≡◌, None}
-use Rattle.indexmap.proofs.CallerLemmas.{insert_entry-new}
-use Rattle.nob_ids.specs.Names.{is_same}
-use Rattle.nob_rows.specs.Rows.{row_at}
+use Rattle.std.proofs.Common.{◌≡◌, None, Some, List, sym, subst}
+use Rattle.nob_ids.specs.declared.wire_rep.WireRep.{WireRep}
+use Rattle.nob_rows.specs.Rows.{IsOnce, Puts, row_at}
+use Rattle.nob_rows.specs.Tree.{rows_of}
+use Rattle.nob_rows.proofs.Looked.{is_nowhere, once_pushed, puts_pushed}
 use Rattle.nob_rows.proofs.rows.Rows.push.Goals as goal
 
-pub returns-clause-puts : goal.returns-clause-puts
-returns-clause-puts g c = let k = rw c.unwrap-absent.ensures at c.insert.ensures.updates in rw (← c.self.view_is) (k.0)
+pub push_node-requires-clause-new : goal.push_node-requires-clause-new
+push_node-requires-clause-new g c =
+    let none : row_at (rows_of c.self.inside.nodes.items) c.args.rep.now ≡ None = rw (← c.self.view_is) at c.requires.new in
+    rw c.whole.ensures.same (is_nowhere c.self.inside.nodes.items c.args.rep.now c.self.invariant.0 none)
 
-pub returns-clause-rows : goal.returns-clause-rows
-returns-clause-rows g c =
-    let new : row_at c.self.inside.map.entries c.args.rep.now ≡ None = rw (← c.self.view_is) at c.requires.new in
-    let k = rw c.unwrap-absent.ensures at c.insert.ensures.entries in
-    rw (← c.self.view_is) (k ∙ insert_entry-new is_same c.self.inside.map c.args.rep.now c.args.row new)
+pub invariant_of-self : goal.invariant_of-self
+invariant_of-self g c =
+    let none : row_at (rows_of c.self.inside.nodes.items) c.args.rep.now ≡ None = rw (← c.self.view_is) at c.requires.new in
+    let is = rw c.whole.ensures.same at c.push_node.ensures.rows in
+    (subst (λ (l : List (WireRep × g.row.X.Denot)). IsOnce l) (sym is) (once_pushed (rows_of c.self.inside.nodes.items) c.args.rep.now c.args.row c.self.invariant.0 none), c.push_node.ensures.tree)
+
+pub returns-clause-puts : goal.returns-clause-puts
+returns-clause-puts g c =
+    let none : row_at (rows_of c.self.inside.nodes.items) c.args.rep.now ≡ None = rw (← c.self.view_is) at c.requires.new in
+    let is = rw c.whole.ensures.same at c.push_node.ensures.rows in
+    rw (← c.self.view_is) (subst (λ (l : List (WireRep × g.row.X.Denot)). Puts (rows_of c.self.inside.nodes.items) l c.args.rep.now (Some c.args.row)) (sym is) (puts_pushed (rows_of c.self.inside.nodes.items) c.args.rep.now c.args.row c.self.invariant.0 none))
+
+pub returns-clause-once : goal.returns-clause-once
+returns-clause-once g c =
+    let none : row_at (rows_of c.self.inside.nodes.items) c.args.rep.now ≡ None = rw (← c.self.view_is) at c.requires.new in
+    let is = rw c.whole.ensures.same at c.push_node.ensures.rows in
+    subst (λ (l : List (WireRep × g.row.X.Denot)). IsOnce l) (sym is) (once_pushed (rows_of c.self.inside.nodes.items) c.args.rep.now c.args.row c.self.invariant.0 none)
