@@ -58,7 +58,7 @@ impl Space {
     }
 
     /// A hold in the hand is given back. NoObject where an own object isn't live, NotHeld where
-    /// none is in the hand. It takes no memory, and constant time on average.
+    /// none is in the hand. It takes no memory, and a look-up.
     #[tactic(auto, unfolding(nob_model::specs::Right::right_after))]
     pub fn release(&mut self, rep: &WireRep) -> Result<(), Refusal>
         ensures answer { StepAnswers self.old (events.Release rep.now)
@@ -207,8 +207,7 @@ impl Space {
     }
 
     /// The object of an index is live no more. NoObject where none is live, StillUsed where it
-    /// is held, pinned here, listed for a client, or the agent. It takes no memory.
-    /// Constant time on average, but for a look-up logarithmic in the listings.
+    /// is held, pinned here, listed for a client, or the agent. It takes no memory. A few look-ups.
     #[tactic(auto, unfolding(nob_model::specs::Right::right_after))]
     pub fn withdraw(&mut self, index: u64) -> Result<(), Refusal>
         ensures answer { StepAnswers self.old (events.Withdraw index)

@@ -14,7 +14,7 @@ use nob_space_jobs::Jobs;
 use nob_space_waiting::Waiting;
 use nob_table::{ObjectTable, Part};
 
-/// Gives back one loan of a reference. Constant time on average.
+/// Gives back one loan of a reference. A look-up.
 pub fn give_back(table: &mut ObjectTable, rep: WireRep)
     requires { 0 < (standing table.old rep).counts.lent }
     ensures { GivesBack table.old table.new (rep ∷ []) }

@@ -27,7 +27,7 @@ impl Parts {
         }
     }
 
-    /// Whether anything holds a reference. Constant time on average.
+    /// Whether anything holds a reference. A look-up.
     pub fn is_held(&self, rep: &WireRep) -> bool
         ensures { result ≡ has_holds self.now.table rep.now }
     {
@@ -36,7 +36,7 @@ impl Parts {
         counts.is_held()
     }
 
-    /// How often a reference is in hand. Constant time on average.
+    /// How often a reference is in hand. A look-up.
     pub fn hand(&self, rep: &WireRep) -> u32
         ensures { result ≡ (standing self.now.table rep.now).counts.hand }
     {
@@ -45,8 +45,8 @@ impl Parts {
         counts.hand
     }
 
-    /// Whether a reference names an object of this space, not the agent, that isn't live. Constant
-    /// time on average.
+    /// Whether a reference names an object of this space, not the agent, that isn't live. A
+    /// look-up.
     pub fn is_gone(&self, me: SpaceId, rep: &WireRep) -> bool
         ensures { result ≡ is_gone me self.now.table rep.now }
     {
@@ -71,7 +71,7 @@ impl Parts {
         self.dirty.lists(index, client)
     }
 
-    /// Whether a reference is in transit from here. Constant time on average.
+    /// Whether a reference is in transit from here. A look-up.
     pub fn is_pinned(&self, rep: &WireRep) -> bool
         ensures { result ≡ not (count_of self.now.pins.bundles rep.now == 0) }
     {

@@ -61,7 +61,7 @@ impl Parts {
         Ok(())
     }
 
-    /// Dup: one more hold in hand on a reference. It takes no memory. Constant time on average.
+    /// Dup: one more hold in hand on a reference. It takes no memory. A look-up.
     pub fn dup(&mut self, here: &Here, rep: &WireRep) -> Result<(), Refusal>
         ensures answer { (limits : LimitsOf) (D : List Deed)
             → Stands here.now.space here.now.n limits (state_of self.old) D
@@ -79,8 +79,7 @@ impl Parts {
         }
     }
 
-    /// Release: one hold in hand on a reference is given back. It takes no memory. Constant time on
-    /// average.
+    /// Release: one hold in hand on a reference is given back. It takes no memory. A look-up.
     pub fn release(&mut self, here: &Here, rep: &WireRep) -> Result<(), Refusal>
         ensures answer { (limits : LimitsOf) (D : List Deed)
             → Stands here.now.space here.now.n limits (state_of self.old) D
@@ -123,8 +122,7 @@ impl Parts {
         Ok(())
     }
 
-    /// Withdraw: the object of an index is live no more. It takes no memory. Constant time on
-    /// average, but for a look-up logarithmic in the listings.
+    /// Withdraw: the object of an index is live no more. It takes no memory. A few look-ups.
     pub fn withdraw(&mut self, here: &Here, index: u64) -> Result<(), Refusal>
         requires { IsState here.now.space here.now.n (state_of self.old) }
         ensures answer { (limits : LimitsOf) (D : List Deed)

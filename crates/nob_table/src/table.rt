@@ -77,8 +77,8 @@ impl ObjectTable {
         }
     }
 
-    /// How the reference stands. Constant time on average, and logarithmic in the live objects for
-    /// one of the space's own.
+    /// How the reference stands. Logarithmic in the live objects for one of the space's own, and at
+    /// most 70 steps in a tree for another's, whatever the indexes.
     pub fn state(&self, rep: WireRep) -> Standing
         ensures stands { result ≡ standing self.now rep }
         ensures given { IsTrue (is_live result.state) → (1 ≤ rep.index)
@@ -315,7 +315,7 @@ impl ObjectTable {
     /// A Dirty for the reference is sent: it is a pending surrogate, the last in order. B1 where
     /// the space can't have a surrogate of it, since it is its own or an agent's; B3 where there
     /// are 65,536 surrogates on open sessions; B4 where it is a surrogate already, or lost and
-    /// still held. Constant time on average, save where the room has to grow. The caller's
+    /// still held. At most 140 steps in trees, save where the room has to grow. The caller's
     /// condition: the Dirties sent can be counted in 128 bits.
     pub fn pending(&mut self, rep: WireRep) -> Result<(), TableError>
         requires { self.old.dirties + 1 < 2 ^ 128 }
