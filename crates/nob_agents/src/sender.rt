@@ -173,13 +173,17 @@ impl<P: PutParcel + Drop> Sender<P> {
         self.pace.next(&dues)
     }
 
-    // What is new and to be asked next, if something is. What is out isn't.
-    fn next_new<R: Wait, C: Calls>(&mut self, rt: &R, keeper: &C) -> Option<Event> {
+    // What is new and to be asked next, if something is, where a Transmit would give this. What is
+    // out isn't.
+    fn next_new(&mut self, dues: &mut [Due; 32]) -> Option<Event> {
         if let Some(peer) = self.gone.take() {
             return Some(Event::Close(peer));
         }
-        let dues = self.known(&keeper.dues(rt));
-        self.pace.next_new(&dues)
+        let event = self.pace.next_new(dues)?;
+        if let Event::Transmit(peer) = &event {
+            dues[peer.get() as usize - 1] = Due::Nothing;
+        }
+        Some(event)
     }
 
     /// One turn: what is on its way is put, as far as the links have room; then something is
@@ -205,16 +209,18 @@ impl<P: PutParcel + Drop> Sender<P> {
     }
 
     /// Puts what is on its way and transmits what is new, as far as the links have room: how many
-    /// parcels. What is out isn't transmitted again, and the turns until it is aren't counted: so
-    /// whoever has handed something on may ask for this as often as he likes. After K2, or another
-    /// error of the keeper, the next turn goes on where this one stood.
+    /// parcels. What there is to transmit is asked once. What is out isn't transmitted again, and the
+    /// turns until it is aren't counted: so whoever has handed something on may ask for this as
+    /// often as he likes. After K2, or another error of the keeper, the next turn goes on where this
+    /// one stood.
     pub fn flush<R: Wait, C: Calls>(&mut self, rt: &R, keeper: &C) -> Result<u64, KeeperError> {
         let (mut count, mut is_clear) = self.put_all(rt)?;
+        let mut dues = self.known(&keeper.dues(rt));
         for _ in 0..MOST_STEPS {
             if !is_clear {
                 break;
             }
-            let Some(event) = self.next_new(rt, keeper) else {
+            let Some(event) = self.next_new(&mut dues) else {
                 break;
             };
             self.ask(rt, keeper, &event)?;
