@@ -85,21 +85,21 @@ module _ {X : Type 0} where
   bare_node rep row depth true = refl
   bare_node rep row depth false = refl
 
-  pub pushed_first : (nodes : List (Node X)) → IsTree (length nodes) nodes → length nodes ≡ 0 → (rep : WireRep) → Fits rep → (row : X) → IsTree (length (nodes ++ node_of rep row 0 ∷ [])) (nodes ++ node_of rep row 0 ∷ [])
-  pushed_first [] tree none rep fits row =
-      let t = loose_pushed [] tree (node_of rep row 0) fits (omega arith) (bare_node rep row 0) (λ z. refl) in
+  pub pushed_first : (nodes : List (Node X)) → IsTree (length nodes) nodes → length nodes ≡ 0 → (rep : WireRep) → Fits rep → (x : X) → IsTree (length (nodes ++ node_of rep x 0 ∷ [])) (nodes ++ node_of rep x 0 ∷ [])
+  pushed_first [] tree none rep fits x =
+      let t = loose_pushed [] tree (node_of rep x 0) fits (omega arith) (bare_node rep x 0) (λ z. refl) in
       record {
         root = t.root;
         fits = t.fits;
         low = t.low;
         down = λ place node there one has. elim (cases_eq place 0) [
-          | inl e ↦ absurd (has (t.bare node (subst (λ (p : ℕ). slice_get (node_of rep row 0 ∷ []) p ≡ Some node) e there) one))
-          | inr n ↦ let w = slice_get_within (node_of rep row 0 ∷ []) place node there in absurd (n (omega (arith, w)))
+          | inl e ↦ absurd (has (t.bare node (subst (λ (p : ℕ). slice_get (node_of rep x 0 ∷ []) p ≡ Some node) e there) one))
+          | inr n ↦ let w = slice_get_within (node_of rep x 0 ∷ []) place node there in absurd (n (omega (arith, w)))
         ];
-        up = λ place node there nz tight. let w = slice_get_within (node_of rep row 0 ∷ []) place node there in absurd (nz (omega (arith, w)));
+        up = λ place node there nz tight. let w = slice_get_within (node_of rep x 0 ∷ []) place node there in absurd (nz (omega (arith, w)));
         bare = λ node there one. absurd (none-some node there);
       }
-  pushed_first (n ∷ nodes) tree none rep fits row = absurd (omega (arith, none))
+  pushed_first (n ∷ nodes) tree none rep fits x = absurd (omega (arith, none))
 
   pub end_depth : (nodes : List (Node X)) → IsTree (length nodes) nodes → (rep : WireRep) (above : ℕ) → EndsAt nodes rep above → (node : Node X) → slice_get nodes above ≡ Some node → node.depth < 70
   end_depth nodes tree rep above e node there = let w = walked (length nodes) nodes tree rep e.depth above node e.here there in omega (arith, w.0, e.low)
