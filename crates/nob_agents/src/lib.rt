@@ -15,6 +15,7 @@ mod way;
 pub use asking::Asking;
 pub use calls::Calls;
 pub use carer::Carer;
+pub use nob_keeper::{Dues, Keeper, KeeperError, Seat};
 pub use parcels::{PutParcel, TakeParcel};
 pub use sender::Sender;
 pub use taker::Taker;

@@ -1,8 +1,8 @@
 //! When an agent transmits.
 
 use nob_ids::SpaceId;
+use nob_keeper::Due;
 use nob_model_types::Event;
-use nob_space::Due;
 
 /// So many turns an Ack waits for items that it could go with.
 const ACK_PAUSE: u32 = 2;

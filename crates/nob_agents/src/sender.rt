@@ -12,9 +12,8 @@ use crate::passing::{has_gone_on, kept_behind, next_of, pass_on};
 use crate::turn::Turn;
 use crate::way::{Step, Way};
 use nob_ids::SpaceId;
-use nob_keeper::{Dues, KeeperError, Seat};
+use nob_keeper::{Due, Dues, KeeperError, Seat};
 use nob_model_types::Event;
-use nob_space::Due;
 use std::marker::Model;
 use std::sync::Wait;
 

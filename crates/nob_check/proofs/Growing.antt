@@ -4,8 +4,8 @@ use Rattle.std.specs.Prelude.{⊤, ◌==◌}
 use Rattle.std.specs.List.{list_any, cons_option}
 use Rattle.std.proofs.lemmas.Bool.{eqb-true, eq-eqb, ne_eqb}
 use Rattle.nob_model_types.specs.declared.entry.Entry.{Entry}
-use Rattle.nob_model_words.specs.Deeds.{deed_in, deeds}
-use Rattle.nob_model_words.specs.declared.deed.Deed.{Deed}
+use Rattle.nob_model_types.specs.Deeds.{deed_in, deeds}
+use Rattle.nob_model_types.specs.declared.deed.Deed.{Deed}
 use Rattle.nob_model_journal.specs.Journals.{at, deeds_at}
 use Rattle.nob_model_journal.specs.Tests.{spaces_in, with_space}
 use Rattle.nob_model_journal.proofs.Looking.{is_in, no_deed}

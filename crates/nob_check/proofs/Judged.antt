@@ -4,7 +4,7 @@ use Rattle.std.specs.Prelude.{reverse}
 use Rattle.std.proofs.lemmas.Grind.{reverse_onto}
 use Rattle.std.proofs.lemmas.List.{append_assoc, append-nil}
 use Rattle.nob_model_types.specs.declared.entry.Entry.{Entry}
-use Rattle.nob_model_words.specs.Deeds.{deed_in}
+use Rattle.nob_model_types.specs.Deeds.{deed_in}
 use Rattle.nob_model_journal.specs.Tests.{keeps_fronts, withdraws_safely, excuses_losses, finds_all}
 use Rattle.nob_model_journal.specs.Verdicts.{IsVerdict, most_spaces}
 use Rattle.nob_model_journal.specs.declared.verdict.Verdict.{Verdict}

@@ -4,8 +4,8 @@ use Rattle.std.specs.Prelude.{◌==◌}
 use Rattle.std.specs.List.{list_any}
 use Rattle.std.proofs.lemmas.Bool.{and_parts, and_from}
 use Rattle.nob_model_types.specs.declared.entry.Entry.{Entry}
-use Rattle.nob_model_words.specs.Deeds.{deed_in}
-use Rattle.nob_model_words.specs.declared.deed.Deed.{Deed}
+use Rattle.nob_model_types.specs.Deeds.{deed_in}
+use Rattle.nob_model_types.specs.declared.deed.Deed.{Deed}
 use Rattle.nob_check_ledgers.specs.Ledgers.{ledger_of, ledger_after, has_loans_made}
 use Rattle.nob_check_ledgers.specs.declared.ledger.Ledger.{Ledger}
 use Rattle.nob_check_ledgers.proofs.Loaning.{loans_made}

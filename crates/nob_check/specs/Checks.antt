@@ -3,10 +3,10 @@ use Rattle.std.specs.Prelude.{ℕ, Bool, true, ◌&&◌, ◌||◌, not, ◌==◌
 use Rattle.std.specs.List.{list_any, list_all}
 use Rattle.nob_ids.specs.declared.wire_rep.WireRep.{WireRep}
 use Rattle.nob_item.specs.declared.item.Item.{Item}
-use Rattle.nob_model_words.specs.Sessions.{item_at}
-use Rattle.nob_model_words.specs.Turns.{is_own, carries}
-use Rattle.nob_model_words.specs.declared.deed.Deed.{Deed}
-use Rattle.nob_model_words.specs.declared.deed.Deed.TheVariants.{Act, Withdraw}
+use Rattle.nob_model_types.specs.Sessions.{item_at}
+use Rattle.nob_model_types.specs.Turns.{is_own, carries}
+use Rattle.nob_model_types.specs.declared.deed.Deed.{Deed}
+use Rattle.nob_model_types.specs.declared.deed.Deed.TheVariants.{Act, Withdraw}
 use Rattle.nob_model_history.specs.Transit.{is_settled}
 use Rattle.nob_model_history.specs.declared.transit.SentItem.{SentItem}
 use Rattle.nob_model.specs.Right.{own_ref}

@@ -1,7 +1,7 @@
 -- The pass over a journal: what was seen of the entries so far, and what is said of it.
 use Rattle.std.specs.Prelude.{ℕ, Bool, true, false, ◌&&◌, not, List, [], ◌∷◌}
 use Rattle.nob_model_types.specs.declared.entry.Entry.{Entry}
-use Rattle.nob_model_words.specs.Deeds.{deed_in}
+use Rattle.nob_model_types.specs.Deeds.{deed_in}
 use Rattle.nob_model_journal.specs.Findings.{is_fault_found}
 use Rattle.nob_model_journal.specs.Tests.{withdraws_safely, excuses_losses, finds_all}
 use Rattle.nob_model_journal.specs.declared.verdict.Promise.TheVariants as promises

@@ -7,7 +7,7 @@ ghost use Rattle.nob_check.specs.Books as words;
 
 use nob_check_ledgers::{Ledger, new_ledger, with_deed};
 use nob_ids::{SpaceId, WireRep};
-use nob_model_words::{Deed, Here};
+use nob_model_types::{Deed, Here};
 use std::alloc::{AllocError, Global};
 use std::marker::Model;
 

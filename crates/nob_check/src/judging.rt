@@ -10,8 +10,7 @@ use crate::fronts::keeps_fronts;
 use crate::losses::{is_fault_found, is_lossless};
 use crate::withdraws::is_unneeded;
 use nob_model_journal::{Promise, Verdict};
-use nob_model_types::Entry;
-use nob_model_words::{Deed, Here};
+use nob_model_types::{Deed, Entry, Here};
 use std::alloc::{AllocError, Global};
 
 // As many spaces as there can be.

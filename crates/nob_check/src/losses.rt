@@ -2,7 +2,7 @@
 
 ghost use Rattle.std.specs.Prelude.{◌≡◌, ◌∷◌, IfOk, Some};
 ghost use Rattle.std.specs.List.{list_all};
-ghost use Rattle.nob_model_words.specs.Sessions.{item_at};
+ghost use Rattle.nob_model_types.specs.Sessions.{item_at};
 ghost use Rattle.nob_model_journal.specs.Losses.{sources};
 ghost use Rattle.nob_model_journal.specs.Findings as findings;
 ghost use Rattle.nob_model_journal.specs.Tests as tests;
@@ -14,8 +14,7 @@ use nob_check_index::DeedIndex;
 use nob_check_ledgers::{Ledger, is_carried, is_loss};
 use nob_ids::{ItemNo, Reason, SpaceId, WireRep};
 use nob_item::Item;
-use nob_model_types::{Answer, Refusal};
-use nob_model_words::Deed;
+use nob_model_types::{Answer, Deed, Refusal};
 use std::alloc::{AllocError, Global};
 
 // Whether a session closes for this reason for a fault in what came over it.

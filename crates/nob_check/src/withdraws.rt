@@ -8,7 +8,7 @@ ghost use Rattle.nob_check.specs.Checks as words;
 use crate::books::{both_open, reaches_owner};
 use nob_check_ledgers::{Ledger, Place, is_held};
 use nob_ids::{SpaceId, WireRep};
-use nob_model_words::Deed;
+use nob_model_types::Deed;
 use std::alloc::{AllocError, Global};
 
 // Whether what the space of a ledger sent to a place isn't settled, on a session that is open at

@@ -5,9 +5,9 @@ use Rattle.std.specs.List.{list_any}
 use Rattle.std.proofs.lemmas.Bool.{eqb-true}
 use Rattle.nob_ids.specs.Names.{is_same}
 use Rattle.nob_ids.specs.declared.wire_rep.WireRep.{WireRep}
-use Rattle.nob_model_words.specs.declared.deed.Deed.{Deed}
-use Rattle.nob_model_words.specs.declared.deed.Deed.TheVariants.{Export, Withdraw}
-use Rattle.nob_model_words.specs.Objects.{exports, is_withdrawn}
+use Rattle.nob_model_types.specs.declared.deed.Deed.{Deed}
+use Rattle.nob_model_types.specs.declared.deed.Deed.TheVariants.{Export, Withdraw}
+use Rattle.nob_model_types.specs.Objects.{exports, is_withdrawn}
 use Rattle.nob_check_index.specs.Exports.{is_export, exports_of, is_withdrawal, withdrawals_of}
 use Rattle.nob_check_index.proofs.Keys.{among_put, among_last, equal_swap, same_rep}
 

@@ -5,8 +5,8 @@ use Rattle.indexmap.specs.IndexMap.{insert_entry}
 use Rattle.nob_ids.specs.Names.{is_same}
 use Rattle.nob_ids.specs.declared.wire_rep.WireRep.{WireRep}
 use Rattle.nob_pickle.specs.Spelling.{refs_in}
-use Rattle.nob_model_words.specs.declared.deed.Deed.{Deed}
-use Rattle.nob_model_words.specs.declared.deed.Deed.TheVariants.{Export, Dup, Release, TakeReply}
+use Rattle.nob_model_types.specs.declared.deed.Deed.{Deed}
+use Rattle.nob_model_types.specs.declared.deed.Deed.TheVariants.{Export, Dup, Release, TakeReply}
 
 -- the count that was found, 0 where there is none
 abbrev pub found_count : Option ℕ → ℕ

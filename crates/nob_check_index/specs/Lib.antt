@@ -1,6 +1,6 @@
-pub use Rattle.nob_model_words.specs.Sessions
-pub use Rattle.nob_model_words.specs.Objects
-pub use Rattle.nob_model_words.specs.Turns
+pub use Rattle.nob_model_types.specs.Sessions
+pub use Rattle.nob_model_types.specs.Objects
+pub use Rattle.nob_model_types.specs.Turns
 pub use Rattle.nob_model_history.specs.Holds
 pub use Rattle.nob_model_history.specs.Transit
 pub use Rattle.nob_model_journal.specs.Losses

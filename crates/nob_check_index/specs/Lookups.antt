@@ -1,6 +1,6 @@
 -- The tables of a space: what is looked up of what it did.
 use Rattle.std.specs.Prelude.{ℕ, List}
-use Rattle.nob_model_words.specs.declared.deed.Deed.{Deed}
+use Rattle.nob_model_types.specs.declared.deed.Deed.{Deed}
 use Rattle.nob_check_tables.specs.Tables.{tables_of, tables_after}
 use Rattle.nob_check_index.specs.More.{more_of, more_after}
 use Rattle.nob_check_index.specs.declared.lookups.Lookups.{Lookups}

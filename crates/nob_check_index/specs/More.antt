@@ -1,6 +1,6 @@
 -- The tables beside those of nob_check_tables.
 use Rattle.std.specs.Prelude.{ℕ, List, []}
-use Rattle.nob_model_words.specs.declared.deed.Deed.{Deed}
+use Rattle.nob_model_types.specs.declared.deed.Deed.{Deed}
 use Rattle.nob_check_tables.specs.declared.tables.Tables.{Tables}
 use Rattle.nob_check_index.specs.Counts.{gains_of, gains_after, releases_of, releases_after}
 use Rattle.nob_check_index.specs.Exports.{exports_of, exports_after, withdrawals_of, withdrawals_after}

@@ -5,7 +5,7 @@ ghost use Rattle.nob_check_index.specs.Counts as words;
 
 use indexmap::IndexMap;
 use nob_ids::WireRep;
-use nob_model_words::Deed;
+use nob_model_types::Deed;
 use std::alloc::{AllocError, Global};
 use std::marker::Model;
 

@@ -3,9 +3,9 @@
 ghost use Rattle.std.specs.Prelude.{◌≡◌, ℕ, Bool, ◌∷◌, [], IfOk};
 ghost use Rattle.std.specs.List.{list_all};
 ghost use Rattle.std.specs.Option.{option_map};
-ghost use Rattle.nob_model_words.specs.Sessions as sessions;
-ghost use Rattle.nob_model_words.specs.Objects as objects;
-ghost use Rattle.nob_model_words.specs.Turns as asked;
+ghost use Rattle.nob_model_types.specs.Sessions as sessions;
+ghost use Rattle.nob_model_types.specs.Objects as objects;
+ghost use Rattle.nob_model_types.specs.Turns as asked;
 ghost use Rattle.nob_model_history.specs.Holds as holds;
 ghost use Rattle.nob_model_history.specs.Transit as transit;
 ghost use Rattle.nob_model_journal.specs.Losses as losses;
@@ -16,7 +16,7 @@ use crate::lists::Past;
 use crate::lookups::{Lookups, new_lookups, with_deed};
 use nob_ids::{ItemNo, SpaceId, WireRep};
 use nob_item::Item;
-use nob_model_words::{Deed, Here, Turns};
+use nob_model_types::{Deed, Here, Turns};
 use std::alloc::{AllocError, Global};
 use std::marker::Model;
 

@@ -2,7 +2,7 @@
 
 ghost use Rattle.std.specs.Prelude.{◌≡◌, ◌∷◌, [], IfOk};
 
-use nob_model_words::{Deed, Here};
+use nob_model_types::{Deed, Here};
 use std::alloc::{AllocError, Global};
 use std::marker::Model;
 
@@ -14,7 +14,7 @@ pub struct DeedList {
 
 impl Model for DeedList {
     ghost use Rattle.std.specs.Prelude.{List};
-    ghost use Rattle.nob_model_words.specs.declared.deed.Deed.{Deed};
+    ghost use Rattle.nob_model_types.specs.declared.deed.Deed.{Deed};
 
     ghost Value = { List Deed };
 
@@ -69,7 +69,7 @@ pub struct Past {
 
 impl Model for Past {
     ghost use Rattle.std.specs.Prelude.{List, reverse};
-    ghost use Rattle.nob_model_words.specs.declared.deed.Deed.{Deed};
+    ghost use Rattle.nob_model_types.specs.declared.deed.Deed.{Deed};
 
     ghost Value = { List Deed };
 

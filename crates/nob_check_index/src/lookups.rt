@@ -5,7 +5,7 @@ ghost use Rattle.nob_check_index.specs.Lookups as words;
 
 use crate::more::MoreTables;
 use nob_check_tables::{Tables, new_tables, with_deed as tables_with_deed};
-use nob_model_words::{Deed, Here};
+use nob_model_types::{Deed, Here};
 use std::alloc::{AllocError, Global};
 
 /// What is looked up of what a space did.

@@ -7,7 +7,7 @@ use crate::counts::HandCounts;
 use crate::objects::Objects;
 use crate::traffic::Traffic;
 use nob_check_tables::Tables;
-use nob_model_words::Deed;
+use nob_model_types::Deed;
 use std::alloc::{AllocError, Global};
 
 /// The objects of a space, its hand, and what its acts settled and carried.

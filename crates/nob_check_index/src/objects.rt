@@ -5,7 +5,7 @@ ghost use Rattle.nob_check_index.specs.Exports as words;
 
 use indexmap::IndexSet;
 use nob_ids::{SpaceId, WireRep};
-use nob_model_words::Deed;
+use nob_model_types::Deed;
 use std::alloc::{AllocError, Global};
 use std::marker::Model;
 

@@ -8,7 +8,7 @@ use indexmap::IndexSet;
 use nob_check_tables::Came;
 use nob_ids::{ItemNo, SpaceId};
 use nob_item::Item;
-use nob_model_words::Deed;
+use nob_model_types::Deed;
 use std::alloc::{AllocError, Global};
 use std::marker::Model;
 

@@ -9,7 +9,7 @@ use indexmap::IndexMap;
 use nob_check_tables::Tables;
 use nob_ids::{SpaceId, WireRep};
 use nob_item::Item;
-use nob_model_words::Deed;
+use nob_model_types::Deed;
 use std::alloc::{AllocError, Global};
 use std::marker::Model;
 

@@ -7,7 +7,7 @@ ghost use Rattle.nob_check_tables.specs.Closed.{is_among as among_word};
 ghost use Rattle.nob_check_index.specs.Spaces as words;
 
 use nob_ids::SpaceId;
-use nob_model_words::Deed;
+use nob_model_types::Deed;
 use std::alloc::{AllocError, Global};
 use std::marker::Model;
 

@@ -9,7 +9,7 @@ use crate::settlements::{Settlements, settlements_after};
 use crate::sources::{SourceRows, sources_after};
 use crate::spaces::{Spaces, senders_after};
 use nob_check_tables::Tables;
-use nob_model_words::Deed;
+use nob_model_types::Deed;
 use std::alloc::{AllocError, Global};
 
 /// What the items that were acted on settled and carried, and who sent them.

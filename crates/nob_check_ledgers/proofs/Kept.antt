@@ -1,7 +1,7 @@
 -- The ledger after a deed is the ledger of one deed more.
 use Rattle.std.proofs.Common.{◌≡◌, ℕ, List, ◌∷◌, refl}
-use Rattle.nob_model_words.specs.declared.deed.Deed.{Deed}
-use Rattle.nob_model_words.specs.declared.deed.Deed.TheVariants.{Act}
+use Rattle.nob_model_types.specs.declared.deed.Deed.{Deed}
+use Rattle.nob_model_types.specs.declared.deed.Deed.TheVariants.{Act}
 use Rattle.nob_model_work.specs.Gifts.{all_gifts}
 use Rattle.nob_model_work.specs.Work.{work}
 use Rattle.nob_model_history.specs.Transit.{sent_of}

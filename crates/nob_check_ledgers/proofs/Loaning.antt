@@ -1,6 +1,6 @@
 -- A ledger has its loans made after each deed.
 use Rattle.std.proofs.Common.{◌≡◌, ◌∷◌, true}
-use Rattle.nob_model_words.specs.declared.deed.Deed.{Deed}
+use Rattle.nob_model_types.specs.declared.deed.Deed.{Deed}
 use Rattle.nob_model_work.specs.Work.{work_after}
 use Rattle.nob_check_work.proofs.Keeping.{work_made}
 use Rattle.nob_check_ledgers.specs.Ledgers.{ledger_after, has_loans_made}

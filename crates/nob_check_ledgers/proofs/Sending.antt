@@ -12,7 +12,7 @@ use Rattle.std.proofs.lemmas.List.Folds.{list_any-append}
 use Rattle.nob_ids.specs.Names.{is_same}
 use Rattle.nob_ids.specs.declared.wire_rep.WireRep.{WireRep}
 use Rattle.nob_item.specs.Kinds.{counted_in}
-use Rattle.nob_model_words.specs.Turns.{carries}
+use Rattle.nob_model_types.specs.Turns.{carries}
 use Rattle.nob_model_history.specs.Transit.{count_to}
 use Rattle.nob_model_history.specs.declared.transit.SentItem.{SentItem}
 use Rattle.nob_model_history.proofs.Dirtying.{same_self}

@@ -1,6 +1,6 @@
 -- What a ledger is kept for.
 use Rattle.std.specs.Prelude.{◌≡◌, ℕ, List, ◌∷◌}
-use Rattle.nob_model_words.specs.declared.deed.Deed.{Deed}
+use Rattle.nob_model_types.specs.declared.deed.Deed.{Deed}
 use Rattle.nob_check_ledgers.specs.Ledgers.{ledger_of, ledger_after}
 
 -- the ledger after a deed is that of one deed more

@@ -1,4 +1,4 @@
-pub use Rattle.nob_model_words.specs.Sessions
+pub use Rattle.nob_model_types.specs.Sessions
 pub use Rattle.nob_model_work.specs.Work
 pub use Rattle.nob_model_work.specs.Gifts
 pub use Rattle.nob_model_history.specs.Holds

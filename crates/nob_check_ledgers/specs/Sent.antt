@@ -5,7 +5,7 @@ use Rattle.std.specs.Map.{lookup}
 use Rattle.indexmap.specs.IndexMap.{insert_entry}
 use Rattle.nob_ids.specs.Names.{is_same}
 use Rattle.nob_ids.specs.declared.wire_rep.WireRep.{WireRep}
-use Rattle.nob_model_words.specs.Turns.{carries}
+use Rattle.nob_model_types.specs.Turns.{carries}
 use Rattle.nob_model_history.specs.Transit.{count_to}
 use Rattle.nob_model_history.specs.declared.transit.SentItem.{SentItem}
 use Rattle.nob_check_ledgers.specs.declared.sent.Place.{Place}

@@ -1,7 +1,7 @@
 //! The ledger of a space, from one deed to the next.
 
 ghost use Rattle.std.specs.Prelude.{◌≡◌, ◌∷◌, ◌++◌, ◌+◌, [], IfOk, true};
-ghost use Rattle.nob_model_words.specs.Sessions.{item_at as item_word};
+ghost use Rattle.nob_model_types.specs.Sessions.{item_at as item_word};
 ghost use Rattle.nob_model_history.specs.Transit.{count_to as count_word, with_gifts as with_gifts_word};
 ghost use Rattle.nob_check_ledgers.specs.Ledgers as words;
 
@@ -10,7 +10,7 @@ use crate::sent::SentItems;
 use nob_check_index::DeedIndex;
 use nob_ids::{ItemNo, SpaceId};
 use nob_item::Item;
-use nob_model_words::{Deed, Here};
+use nob_model_types::{Deed, Here};
 use nob_model_work::{Gift, InHand};
 use std::alloc::{AllocError, Global};
 

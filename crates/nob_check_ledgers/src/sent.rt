@@ -4,7 +4,7 @@
 ghost use Rattle.std.specs.Prelude.{◌≡◌, ◌∷◌, ◌++◌, ◌+◌, ◌&&◌, [], Bool, IfOk};
 ghost use Rattle.std.specs.List.{list_any};
 ghost use Rattle.nob_item.specs.Kinds.{counted_in};
-ghost use Rattle.nob_model_words.specs.Turns.{carries};
+ghost use Rattle.nob_model_types.specs.Turns.{carries};
 ghost use Rattle.nob_model_history.specs.Transit.{count_to as count_word};
 ghost use Rattle.nob_check_ledgers.specs.Sent as words;
 

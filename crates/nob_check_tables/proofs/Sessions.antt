@@ -6,9 +6,9 @@ use Rattle.std.proofs.lemmas.Bool.{and_parts, and_from, eqb-true, eq-eqb}
 use Rattle.nob_frame.specs.Kinds.{is_data}
 use Rattle.nob_frame.specs.declared.frame.Frame.{Frame}
 use Rattle.nob_item.specs.declared.item.Item.{Item}
-use Rattle.nob_model_words.specs.declared.deed.Deed.{Deed}
-use Rattle.nob_model_words.specs.declared.deed.Deed.TheVariants.{Arrive, Closing}
-use Rattle.nob_model_words.specs.Sessions.{closed, is_accepted, or_else, payload_at, item_spelt, item_at}
+use Rattle.nob_model_types.specs.declared.deed.Deed.{Deed}
+use Rattle.nob_model_types.specs.declared.deed.Deed.TheVariants.{Arrive, Closing}
+use Rattle.nob_model_types.specs.Sessions.{closed, is_accepted, or_else, payload_at, item_spelt, item_at}
 use Rattle.nob_check_tables.specs.Closed.{is_among, with_peer}
 use Rattle.nob_check_tables.specs.Came.{is_same_arrival, found_item, came_at, item_in, with_item, with_frame}
 use Rattle.nob_check_tables.specs.Tables.{tables_of}

@@ -7,12 +7,12 @@ use Rattle.nob_ids.specs.declared.wire_rep.WireRep.{WireRep}
 use Rattle.nob_item.specs.Kinds.{counted_in}
 use Rattle.nob_item.specs.declared.item.Item.{Item}
 use Rattle.nob_item.specs.declared.item.Item.TheVariants as items
-use Rattle.nob_model_words.specs.Sessions.{closed, is_peer}
-use Rattle.nob_model_words.specs.Turns.{is_standing, wants_dirty, with_dirty, with_answer, with_clean, turns_after, turns}
-use Rattle.nob_model_words.specs.declared.deed.Deed.{Deed}
-use Rattle.nob_model_words.specs.declared.deed.Deed.TheVariants.{Act, Clean}
-use Rattle.nob_model_words.specs.declared.turns.OwnerAnswer.TheVariants as said
-use Rattle.nob_model_words.specs.declared.turns.Turns.{Turns}
+use Rattle.nob_model_types.specs.Sessions.{closed, is_peer}
+use Rattle.nob_model_types.specs.Turns.{is_standing, wants_dirty, with_dirty, with_answer, with_clean, turns_after, turns}
+use Rattle.nob_model_types.specs.declared.deed.Deed.{Deed}
+use Rattle.nob_model_types.specs.declared.deed.Deed.TheVariants.{Act, Clean}
+use Rattle.nob_model_types.specs.declared.turns.OwnerAnswer.TheVariants as said
+use Rattle.nob_model_types.specs.declared.turns.Turns.{Turns}
 use Rattle.nob_model_history.proofs.Dirtying.{same_self}
 use Rattle.nob_model_history.proofs.Turning.{same_ref}
 use Rattle.nob_check_tables.specs.Closed.{is_among}

@@ -5,9 +5,9 @@ use Rattle.indexmap.specs.IndexMap.{insert_entry}
 use Rattle.nob_frame.specs.Kinds.{is_data}
 use Rattle.nob_frame.specs.declared.frame.Frame.{Frame}
 use Rattle.nob_item.specs.declared.item.Item.{Item}
-use Rattle.nob_model_words.specs.Sessions.{item_spelt}
-use Rattle.nob_model_words.specs.declared.deed.Deed.{Deed}
-use Rattle.nob_model_words.specs.declared.deed.Deed.TheVariants.{Arrive}
+use Rattle.nob_model_types.specs.Sessions.{item_spelt}
+use Rattle.nob_model_types.specs.declared.deed.Deed.{Deed}
+use Rattle.nob_model_types.specs.declared.deed.Deed.TheVariants.{Arrive}
 use Rattle.nob_check_tables.specs.declared.came.Arrival.{Arrival}
 
 -- whether two arrivals are of one item

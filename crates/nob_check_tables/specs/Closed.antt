@@ -1,8 +1,8 @@
 -- Which sessions have closed at a space, as a list of peers.
 use Rattle.std.specs.Prelude.{ℕ, Bool, ◌==◌, List, ◌∷◌, if◌then◌else◌}
 use Rattle.std.specs.List.{list_any}
-use Rattle.nob_model_words.specs.declared.deed.Deed.{Deed}
-use Rattle.nob_model_words.specs.declared.deed.Deed.TheVariants.{Closing}
+use Rattle.nob_model_types.specs.declared.deed.Deed.{Deed}
+use Rattle.nob_model_types.specs.declared.deed.Deed.TheVariants.{Closing}
 
 -- whether a peer is one of these
 abbrev pub is_among : ℕ → List ℕ → Bool

@@ -1,5 +1,5 @@
-pub use Rattle.nob_model_words.specs.Sessions
-pub use Rattle.nob_model_words.specs.Turns
+pub use Rattle.nob_model_types.specs.Sessions
+pub use Rattle.nob_model_types.specs.Turns
 pub mod Closed
 pub mod Came
 pub mod Rows

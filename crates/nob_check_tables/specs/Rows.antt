@@ -8,11 +8,11 @@ use Rattle.nob_ids.specs.declared.wire_rep.WireRep.{WireRep}
 use Rattle.nob_item.specs.Kinds.{counted_in}
 use Rattle.nob_item.specs.declared.item.Item.{Item}
 use Rattle.nob_item.specs.declared.item.Item.TheVariants as items
-use Rattle.nob_model_words.specs.Sessions.{is_peer}
-use Rattle.nob_model_words.specs.Turns.{no_turns, is_standing, with_dirty, with_answer, with_clean}
-use Rattle.nob_model_words.specs.declared.turns.OwnerAnswer.{OwnerAnswer}
-use Rattle.nob_model_words.specs.declared.turns.OwnerAnswer.TheVariants as said
-use Rattle.nob_model_words.specs.declared.turns.Turns.{Turns}
+use Rattle.nob_model_types.specs.Sessions.{is_peer}
+use Rattle.nob_model_types.specs.Turns.{no_turns, is_standing, with_dirty, with_answer, with_clean}
+use Rattle.nob_model_types.specs.declared.turns.OwnerAnswer.{OwnerAnswer}
+use Rattle.nob_model_types.specs.declared.turns.OwnerAnswer.TheVariants as said
+use Rattle.nob_model_types.specs.declared.turns.Turns.{Turns}
 use Rattle.nob_check_tables.specs.Closed.{is_among}
 
 -- the turns that were found, none where there is no row

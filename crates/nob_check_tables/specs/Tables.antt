@@ -1,9 +1,9 @@
 -- The tables of a space: what is looked up of what it did.
 use Rattle.std.specs.Prelude.{ℕ, List, [], ◌∷◌}
 use Rattle.nob_ids.specs.declared.wire_rep.WireRep.{WireRep}
-use Rattle.nob_model_words.specs.declared.deed.Deed.{Deed}
-use Rattle.nob_model_words.specs.declared.deed.Deed.TheVariants.{Act, Clean}
-use Rattle.nob_model_words.specs.declared.turns.Turns.{Turns}
+use Rattle.nob_model_types.specs.declared.deed.Deed.{Deed}
+use Rattle.nob_model_types.specs.declared.deed.Deed.TheVariants.{Act, Clean}
+use Rattle.nob_model_types.specs.declared.turns.Turns.{Turns}
 use Rattle.nob_check_tables.specs.Closed.{closed_after}
 use Rattle.nob_check_tables.specs.Came.{came_after, item_in}
 use Rattle.nob_check_tables.specs.Rows.{with_item, rows_with_clean}

@@ -8,7 +8,7 @@ use indexmap::IndexMap;
 use nob_frame::Frame;
 use nob_ids::{ItemNo, SpaceId};
 use nob_item::Item;
-use nob_model_words::sessions;
+use nob_model_types::sessions;
 use std::alloc::{AllocError, Global};
 use std::marker::Model;
 

@@ -3,14 +3,14 @@
 ghost use Rattle.std.specs.Prelude.{◌≡◌, [], Some, IfOk};
 ghost use Rattle.std.specs.List.{list_any};
 ghost use Rattle.nob_ids.specs.Names.{is_same};
-ghost use Rattle.nob_model_words.specs.Turns as turns_words;
+ghost use Rattle.nob_model_types.specs.Turns as turns_words;
 ghost use Rattle.nob_check_tables.specs.Rows as words;
 
 use crate::closed::Closed;
 use indexmap::IndexMap;
 use nob_ids::{SpaceId, WireRep};
 use nob_item::Item;
-use nob_model_words::{Here, OwnerAnswer, Turns};
+use nob_model_types::{Here, OwnerAnswer, Turns};
 use std::alloc::{AllocError, Global};
 use std::marker::Model;
 
@@ -30,7 +30,7 @@ impl Drop for TurnRows {
 impl Model for TurnRows {
     ghost use Rattle.std.specs.Prelude.{List};
     ghost use Rattle.nob_ids.specs.declared.wire_rep.WireRep.{WireRep};
-    ghost use Rattle.nob_model_words.specs.declared.turns.Turns.{Turns};
+    ghost use Rattle.nob_model_types.specs.declared.turns.Turns.{Turns};
 
     ghost Value = { List (WireRep × Turns) };
 

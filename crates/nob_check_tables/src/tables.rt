@@ -9,7 +9,7 @@ use crate::came::Came;
 use crate::closed::Closed;
 use crate::rows::{TurnRows, rows_with_clean, with_item};
 use nob_ids::{ItemNo, SpaceId};
-use nob_model_words::{Deed, Here};
+use nob_model_types::{Deed, Here};
 use std::alloc::{AllocError, Global};
 
 /// What is looked up of what a space did.

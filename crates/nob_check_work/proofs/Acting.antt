@@ -1,9 +1,9 @@
 -- A deed by two steps.
 use Rattle.std.proofs.Common.{◌≡◌, ℕ, List, ◌∷◌, Option, Some, None, refl}
 use Rattle.nob_item.specs.declared.item.Item.{Item}
-use Rattle.nob_model_words.specs.declared.deed.Deed.{Deed}
-use Rattle.nob_model_words.specs.declared.deed.Deed.TheVariants.{Act}
-use Rattle.nob_model_words.specs.Sessions.{item_at}
+use Rattle.nob_model_types.specs.declared.deed.Deed.{Deed}
+use Rattle.nob_model_types.specs.declared.deed.Deed.TheVariants.{Act}
+use Rattle.nob_model_types.specs.Sessions.{item_at}
 use Rattle.nob_model_work.specs.Work.{after_act, work_after}
 use Rattle.nob_model_work.specs.declared.work.InHand.{InHand}
 use Rattle.nob_check_work.specs.Acting.{fresh_message, acted_on, after_acted, after_other}

@@ -5,10 +5,10 @@ use Rattle.std.proofs.lemmas.Bool.{and_from}
 use Rattle.nob_item.specs.declared.item.Item.{Item}
 use Rattle.nob_item.specs.declared.item.Item.TheVariants as items
 use Rattle.nob_model_types.specs.declared.answer.Job.{Job}
-use Rattle.nob_model_words.specs.declared.deed.Deed.{Deed}
-use Rattle.nob_model_words.specs.declared.deed.Deed.TheVariants.{Call, TakeReply, TakeEnd, Claim, Finish, DropReply, Settle, Closing}
-use Rattle.nob_model_words.specs.declared.message.Message.{Message}
-use Rattle.nob_model_words.specs.Messages.{is_of, is_job, is_not_from, is_lost_message, new_message, message_after, copy_after}
+use Rattle.nob_model_types.specs.declared.deed.Deed.{Deed}
+use Rattle.nob_model_types.specs.declared.deed.Deed.TheVariants.{Call, TakeReply, TakeEnd, Claim, Finish, DropReply, Settle, Closing}
+use Rattle.nob_model_types.specs.declared.message.Message.{Message}
+use Rattle.nob_model_types.specs.Messages.{is_of, is_job, is_not_from, is_lost_message, new_message, message_after, copy_after}
 use Rattle.nob_model_work.specs.declared.work.InHand.{InHand}
 use Rattle.nob_model_work.specs.Work.{after_call, after_take, after_end, after_claim, after_finish, after_settle, after_settlement, after_close, after_message, work_after, with_loans, with_calls, call_after_reply, is_none_of, is_run, is_not_reply, lost_reply, make_ready, make_reply, wait, without_first, without_waiting}
 use Rattle.nob_check_work.specs.Acting.{acted_on, after_acted, after_lent, after_other}

@@ -2,14 +2,14 @@
 -- looked at once the deed is done.
 use Rattle.std.specs.Prelude.{ℕ, Bool, true, false, List, [], Option, Some, None, find}
 use Rattle.nob_item.specs.declared.item.Item.{Item}
-use Rattle.nob_model_words.specs.declared.deed.Deed.{Deed}
-use Rattle.nob_model_words.specs.declared.deed.Deed.TheVariants.{Call, TakeReply, TakeEnd, Claim, Finish, DropReply, Act, Settle, Closing}
-use Rattle.nob_model_words.specs.declared.message.Loan.{Loan}
-use Rattle.nob_model_words.specs.declared.message.Loan.TheVariants as loans
-use Rattle.nob_model_words.specs.declared.message.RefCopy.{RefCopy}
-use Rattle.nob_model_words.specs.declared.message.Message.{Message}
-use Rattle.nob_model_words.specs.Sessions.{item_at}
-use Rattle.nob_model_words.specs.Messages.{is_of, is_job, new_message, message_after}
+use Rattle.nob_model_types.specs.declared.deed.Deed.{Deed}
+use Rattle.nob_model_types.specs.declared.deed.Deed.TheVariants.{Call, TakeReply, TakeEnd, Claim, Finish, DropReply, Act, Settle, Closing}
+use Rattle.nob_model_types.specs.declared.message.Loan.{Loan}
+use Rattle.nob_model_types.specs.declared.message.Loan.TheVariants as loans
+use Rattle.nob_model_types.specs.declared.message.RefCopy.{RefCopy}
+use Rattle.nob_model_types.specs.declared.message.Message.{Message}
+use Rattle.nob_model_types.specs.Sessions.{item_at}
+use Rattle.nob_model_types.specs.Messages.{is_of, is_job, new_message, message_after}
 use Rattle.nob_model_work.specs.Work.{after_call, after_take, after_end, after_claim, after_finish, after_settle, after_close, after_message}
 use Rattle.nob_model_work.specs.declared.work.InHand.{InHand}
 

@@ -3,17 +3,17 @@
 ghost use Rattle.std.specs.Prelude.{◌≡◌, [], ◌∷◌, IfOk, Some, map, filter, find, if◌then◌else◌};
 ghost use Rattle.nob_item.specs.Kinds.{counted_in};
 ghost use Rattle.nob_item.specs.declared.item.Item.TheVariants as items;
-ghost use Rattle.nob_model_words.specs.Sessions.{item_at};
-ghost use Rattle.nob_model_words.specs.Turns.{wants_dirty as is_wanted, turns as turns_word};
-ghost use Rattle.nob_model_words.specs.Messages.{is_of};
+ghost use Rattle.nob_model_types.specs.Sessions.{item_at};
+ghost use Rattle.nob_model_types.specs.Turns.{wants_dirty as is_wanted, turns as turns_word};
+ghost use Rattle.nob_model_types.specs.Messages.{is_of};
 ghost use Rattle.nob_model_work.specs.Gifts as words;
 
 use crate::lending::is_lost_message;
 use nob_check_index::DeedIndex;
 use nob_ids::{ItemNo, SpaceId, WireRep};
 use nob_item::Item;
-use nob_model_words::Deed;
-use nob_model_words::message::Message;
+use nob_model_types::Deed;
+use nob_model_types::message::Message;
 use nob_model_work::gifts::{
     find_waiting, lone, of_call, of_finish, once, settle_and_reply, to_peers,
 };

@@ -2,14 +2,14 @@
 
 ghost use Rattle.std.specs.Prelude.{◌≡◌, IfOk, map};
 ghost use Rattle.std.specs.List.{list_any};
-ghost use Rattle.nob_model_words.specs.Messages as words;
-ghost use Rattle.nob_model_words.specs.Turns as turns_words;
+ghost use Rattle.nob_model_types.specs.Messages as words;
+ghost use Rattle.nob_model_types.specs.Turns as turns_words;
 ghost use Rattle.nob_model_work.specs.Work as work_words;
 ghost use Rattle.nob_check_work.specs.Making.{can_lend};
 
 use nob_check_index::DeedIndex;
 use nob_ids::WireRep;
-use nob_model_words::message::{Loan, Message, Messages, RefCopies, RefCopy};
+use nob_model_types::message::{Loan, Message, Messages, RefCopies, RefCopy};
 use nob_model_work::{InHand, Run, Runs};
 use std::alloc::{AllocError, Global};
 
@@ -49,7 +49,7 @@ pub fn is_lost_message(past: &DeedIndex, message: &Message) -> bool
 }
 
 // A reference as it comes in a message.
-#[tactic(auto, unfolding(nob_model_words::specs::Messages::new_copy))]
+#[tactic(auto, unfolding(nob_model_types::specs::Messages::new_copy))]
 fn new_copy(past: &DeedIndex, rep: &WireRep) -> RefCopy
     ensures { result ≡ words.new_copy past.now.here.space past.now.here.n past.now.deeds rep.now }
 {
@@ -107,7 +107,7 @@ pub fn is_lendable(past: &DeedIndex, rep: &WireRep) -> bool
 }
 
 // A copy with its loan made, if it can be made now.
-#[tactic(auto, unfolding(nob_model_words::specs::Messages::copy_after))]
+#[tactic(auto, unfolding(nob_model_types::specs::Messages::copy_after))]
 fn copy_after(past: &DeedIndex, copy: &RefCopy) -> RefCopy
     ensures { result ≡ words.copy_after past.now.here.space past.now.here.n past.now.deeds
         copy.now }
@@ -134,7 +134,7 @@ fn copy_after(past: &DeedIndex, copy: &RefCopy) -> RefCopy
 }
 
 // Makes the loans of a message that can be made now.
-#[tactic(auto, unfolding(nob_model_words::specs::Messages::message_after))]
+#[tactic(auto, unfolding(nob_model_types::specs::Messages::message_after))]
 fn lend_message(past: &DeedIndex, message: &mut Message)
     ensures { message.new ≡ words.message_after past.now.here.space past.now.here.n past.now.deeds
         message.old }

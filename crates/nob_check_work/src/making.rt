@@ -2,14 +2,14 @@
 
 ghost use Rattle.std.specs.Prelude.{◌≡◌, IfOk, Some, not, filter};
 ghost use Rattle.std.specs.List.{list_any};
-ghost use Rattle.nob_model_words.specs.Sessions.{item_at};
+ghost use Rattle.nob_model_types.specs.Sessions.{item_at};
 ghost use Rattle.nob_check_work.specs.Making as words;
 
 use crate::lending::is_lendable;
 use nob_check_index::DeedIndex;
 use nob_ids::{ItemNo, SpaceId, WireRep};
 use nob_item::Item;
-use nob_model_words::Deed;
+use nob_model_types::Deed;
 use std::alloc::{AllocError, Global};
 
 // The references that acting on an item from a peer may make usable.

@@ -1,8 +1,8 @@
 //! What a space did and has in hand, from one deed to the next.
 
 ghost use Rattle.std.specs.Prelude.{◌≡◌, ◌∷◌, [], IfOk, true, find};
-ghost use Rattle.nob_model_words.specs.Sessions.{item_at};
-ghost use Rattle.nob_model_words.specs.Messages.{is_of};
+ghost use Rattle.nob_model_types.specs.Sessions.{item_at};
+ghost use Rattle.nob_model_types.specs.Messages.{is_of};
 ghost use Rattle.nob_model_work.specs.Work as words;
 ghost use Rattle.nob_check_work.specs.Acting as acting;
 ghost use Rattle.nob_check_work.specs.Making as making;
@@ -12,8 +12,8 @@ use crate::making::{awaited_by, is_any_lendable};
 use nob_check_index::DeedIndex;
 use nob_ids::{ItemNo, SpaceId};
 use nob_item::Item;
-use nob_model_words::Deed;
-use nob_model_words::message::{Message, Messages, RefCopies};
+use nob_model_types::Deed;
+use nob_model_types::message::{Message, Messages, RefCopies};
 use nob_model_work::InHand;
 use nob_model_work::work::{
     after_call, after_claim, after_close, after_end, after_finish, after_message, after_settlement,
@@ -150,7 +150,7 @@ fn after_acted(
 }
 
 // What is in hand once the item that was acted on is a message whose own loans are made.
-#[tactic(auto, unfolding(crate::specs::Acting::after_lent, nob_model_words::specs::Messages::message_after))]
+#[tactic(auto, unfolding(crate::specs::Acting::after_lent, nob_model_types::specs::Messages::message_after))]
 fn after_lent(
     alloc: Global,
     acted: Option<Message>,

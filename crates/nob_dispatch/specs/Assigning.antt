@@ -1,7 +1,7 @@
 -- A dispatcher with the ends of its two lanes. In lists of the numbers of jobs that ends gave and got the first stands first.
 use Rattle.std.specs.Prelude.{◌≡◌, ◌≤◌, ◌+◌, ℕ, Bool, true, List, [], ◌∷◌, ◌++◌, length, reverse, Option, Some, None, Result, Ok}
 use Rattle.nob_model_types.specs.declared.answer.Job.{Job}
-use Rattle.nob_keeper.specs.declared.error.KeeperError.{KeeperError}
+use Rattle.nob_dispatch_jobs.specs.KeeperError.{KeeperError}
 use Rattle.nob_dispatch.specs.declared.desk.Assigned.{Assigned}
 use Rattle.nob_dispatch.specs.declared.desk.Assigned.TheVariants as answers
 use Rattle.nob_dispatch_jobs.specs.declared.shelf.Place.{Place}

@@ -8,10 +8,11 @@ ghost use Rattle.nob_dispatch.specs.Serving as serving;
 ghost use Rattle.nob_dispatch_jobs.specs.Shelves as shelves;
 ghost use Rattle.nob_dispatch_jobs.specs.declared.shelf.Place.TheVariants.{Here, Away};
 
-use nob_dispatch_jobs::{AddError, Dispatcher, Errand, Handing, JobCalls, Place, Return, Shelf};
+use nob_dispatch_jobs::{
+    AddError, Dispatcher, Errand, Handing, JobCalls, KeeperError, Place, Return, Seat, Shelf,
+};
 use nob_dispatch_lanes::{LanePut, LaneTake, MOST_ERRANDS};
 use nob_dispatch_objects::Object;
-use nob_keeper::{KeeperError, Seat};
 use nob_model_types::Job;
 use std::alloc::Global;
 use std::marker::Model;

@@ -5,10 +5,9 @@ ghost use Rattle.nob_dispatch.specs.Serving as serving;
 ghost use Rattle.nob_dispatch_jobs.specs.Working as working;
 ghost use Rattle.nob_dispatch.specs.declared.hand.Deed.TheVariants as deeds;
 
-use nob_dispatch_jobs::{Errand, Gate, JobCalls, Progress, Return, Worker};
+use nob_dispatch_jobs::{Errand, Gate, JobCalls, KeeperError, Progress, Return, Seat, Worker};
 use nob_dispatch_lanes::{LanePut, LaneTake};
 use nob_dispatch_objects::Object;
-use nob_keeper::{KeeperError, Seat};
 use std::marker::Model;
 use std::sync::Wait;
 

@@ -3,9 +3,8 @@
 ghost use Rattle.std.specs.Prelude.{◌≡◌, None};
 
 use crate::hand::{Deed, Hand};
-use nob_dispatch_jobs::{Gate, JobCalls};
+use nob_dispatch_jobs::{Gate, JobCalls, KeeperError};
 use nob_dispatch_objects::Object;
-use nob_keeper::KeeperError;
 use std::sync::Wait;
 use std::sync::atomic::AtomicU64;
 use std::thread;

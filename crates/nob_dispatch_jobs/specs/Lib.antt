@@ -1,3 +1,4 @@
+pub use Rattle.nob_keeper.specs.declared.error.KeeperError
 pub mod Shelves
 pub mod Ends
 pub mod Working

@@ -14,5 +14,6 @@ pub use calls::JobCalls;
 pub use dispatcher::{Dispatcher, Handing};
 pub use errand::{Errand, Return};
 pub use gate::{Gate, OpenGate};
+pub use nob_keeper::{KeeperError, Seat};
 pub use shelf::{AddError, Place, Shelf};
 pub use worker::{Progress, Worker};

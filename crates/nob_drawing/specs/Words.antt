@@ -12,7 +12,7 @@ use Rattle.nob_model_types.specs.declared.answer.Answer.{Answer}
 use Rattle.nob_model_types.specs.declared.answer.Answer.TheVariants as answers
 use Rattle.nob_model_types.specs.declared.refusal.Refusal.{Refusal}
 use Rattle.nob_model_types.specs.declared.entry.Entry.{Entry}
-use Rattle.nob_model_words.specs.Sessions.{item_spelt}
+use Rattle.nob_model_types.specs.Sessions.{item_spelt}
 use Rattle.nob_model_text.specs.Values.{rep_text, value_text}
 use Rattle.nob_model_text.specs.Events.{event_text}
 use Rattle.nob_model_text.specs.Answers.{answer_text, refusal_text}

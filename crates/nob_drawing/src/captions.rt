@@ -4,7 +4,7 @@ ghost use Rattle.std.specs.Prelude.{◌≡◌, ◌++◌, ◌∷◌, IfOk, codes}
 ghost use Rattle.std.specs.String.{string_bytes};
 ghost use Rattle.std.specs.Fmt.{decimal};
 ghost use Rattle.nob_model_text.specs.Events.{event_text as event_text_of};
-ghost use Rattle.nob_model_words.specs.Sessions.{item_spelt};
+ghost use Rattle.nob_model_types.specs.Sessions.{item_spelt};
 ghost use Rattle.nob_model_text.specs.Values as values;
 ghost use Rattle.nob_drawing.specs.Words as spec;
 
@@ -13,8 +13,8 @@ use nob_frame::{Frame, FrameKind};
 use nob_ids::{SpaceId, WireRep};
 use nob_item::Item;
 use nob_model_text::{answer_text, event_text, refusal_text, rep_text, value_text};
+use nob_model_types::sessions::item_spelt;
 use nob_model_types::{Answer, Entry, Event, Refusal};
-use nob_model_words::sessions::item_spelt;
 use nob_pickle::Value;
 use std::alloc::{AllocError, Global};
 

@@ -7,8 +7,8 @@ use Rattle.nob_frame.specs.declared.frame.Frame.{Frame}
 use Rattle.nob_model_types.specs.declared.entry.Entry.{Entry}
 use Rattle.nob_model_types.specs.declared.event.Event.{Event}
 use Rattle.nob_model_types.specs.declared.event.Event.TheVariants.{Arrive}
-use Rattle.nob_model_words.specs.Deeds.{deed_in}
-use Rattle.nob_model_words.specs.Sessions.{or_else}
+use Rattle.nob_model_types.specs.Deeds.{deed_in}
+use Rattle.nob_model_types.specs.Sessions.{or_else}
 use Rattle.nob_model_journal.specs.Journals.{frames_of, transmitted_frames}
 use Rattle.nob_model_journal.specs.Runs.{ArrivesGiven}
 use Rattle.nob_drawing_plan.specs.declared.flight.Departure.{Departure}

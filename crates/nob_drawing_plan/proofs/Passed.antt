@@ -7,10 +7,10 @@ use Rattle.std.proofs.lemmas.List.{drop_more, length-drop}
 use Rattle.std.proofs.lemmas.List.Folds.{list_all-append}
 use Rattle.nob_ids.specs.declared.wire_rep.WireRep.{WireRep}
 use Rattle.nob_model_types.specs.declared.entry.Entry.{Entry}
-use Rattle.nob_model_words.specs.Deeds.{deed_in, deeds}
-use Rattle.nob_model_words.specs.Objects.{exports}
-use Rattle.nob_model_words.specs.declared.deed.Deed.{Deed}
-use Rattle.nob_model_words.specs.declared.deed.Deed.TheVariants.{Export}
+use Rattle.nob_model_types.specs.Deeds.{deed_in, deeds}
+use Rattle.nob_model_types.specs.Objects.{exports}
+use Rattle.nob_model_types.specs.declared.deed.Deed.{Deed}
+use Rattle.nob_model_types.specs.declared.deed.Deed.TheVariants.{Export}
 use Rattle.nob_model_history.specs.Histories.{history_of}
 use Rattle.nob_model_journal.specs.Journals.{at, deeds_at}
 use Rattle.nob_check_ledgers.specs.Ledgers.{ledger_of, ledger_after, has_loans_made}

@@ -6,7 +6,7 @@ use Rattle.std.proofs.lemmas.Bool.{and_parts, and_from, eqb-true, eq-eqb}
 use Rattle.std.proofs.lemmas.List.Folds.{list_any-append}
 use Rattle.nob_ids.specs.Names.{is_same}
 use Rattle.nob_model_types.specs.declared.entry.Entry.{Entry}
-use Rattle.nob_model_words.specs.Deeds.{deeds}
+use Rattle.nob_model_types.specs.Deeds.{deeds}
 use Rattle.nob_model_history.specs.Histories.{history_of}
 use Rattle.nob_model_history.proofs.Turning.{same_ref}
 use Rattle.nob_model_history.proofs.Dirtying.{same_self}

@@ -7,8 +7,8 @@ use Rattle.std.proofs.lemmas.Bool.{and_from, or_cases, or_left, or_right}
 use Rattle.std.proofs.lemmas.Grind.{flat_map-append}
 use Rattle.std.proofs.lemmas.List.Elements.{filter-append}
 use Rattle.std.proofs.lemmas.List.Folds.{list_any-append}
-use Rattle.nob_model_words.specs.Objects.{exports}
-use Rattle.nob_model_words.specs.declared.deed.Deed.{Deed}
+use Rattle.nob_model_types.specs.Objects.{exports}
+use Rattle.nob_model_types.specs.declared.deed.Deed.{Deed}
 use Rattle.nob_model_work.specs.Gifts.{gifts}
 use Rattle.nob_model_work.specs.Work.{work}
 use Rattle.nob_model_history.specs.Histories.{history_of}

@@ -11,8 +11,8 @@ use Rattle.nob_model_types.specs.declared.answer.Answer.{Answer}
 use Rattle.nob_model_types.specs.declared.answer.Answer.TheVariants.{Took}
 use Rattle.nob_model_types.specs.declared.refusal.Refusal.{Refusal}
 use Rattle.nob_model_types.specs.declared.entry.Entry.{Entry}
-use Rattle.nob_model_words.specs.Deeds.{deed_in}
-use Rattle.nob_model_words.specs.Sessions.{or_else}
+use Rattle.nob_model_types.specs.Deeds.{deed_in}
+use Rattle.nob_model_types.specs.Sessions.{or_else}
 use Rattle.nob_model_journal.specs.Journals.{frames_of}
 use Rattle.nob_drawing_plan.specs.declared.flight.Departure.{Departure}
 use Rattle.nob_drawing_plan.specs.declared.flight.Arrow.{Arrow}

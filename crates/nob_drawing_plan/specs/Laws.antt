@@ -4,7 +4,7 @@ use Rattle.std.specs.List.{list_any, Contains}
 use Rattle.nob_frame.specs.declared.frame.Frame.{Frame}
 use Rattle.nob_model_types.specs.declared.event.Event.TheVariants.{Arrive}
 use Rattle.nob_model_types.specs.declared.entry.Entry.{Entry}
-use Rattle.nob_model_words.specs.Deeds.{deed_in}
+use Rattle.nob_model_types.specs.Deeds.{deed_in}
 use Rattle.nob_model_journal.specs.Journals.{frames_of, Each}
 use Rattle.nob_model_journal.specs.Runs.{ArrivesGiven}
 use Rattle.nob_drawing_plan.specs.declared.mark.Mark.{Mark}

@@ -2,9 +2,9 @@
 -- touches. The newest entry of a journal stands FIRST.
 use Rattle.std.specs.Prelude.{◌≡◌, ℕ, Bool, true, ◌&&◌, ◌==◌, List, [], ◌∷◌, Option, Some, None, if◌then◌else◌}
 use Rattle.nob_model_types.specs.declared.entry.Entry.{Entry}
-use Rattle.nob_model_words.specs.Deeds.{deed_in}
-use Rattle.nob_model_words.specs.declared.deed.Deed.{Deed}
-use Rattle.nob_model_words.specs.declared.deed.Deed.TheVariants.{Export}
+use Rattle.nob_model_types.specs.Deeds.{deed_in}
+use Rattle.nob_model_types.specs.declared.deed.Deed.{Deed}
+use Rattle.nob_model_types.specs.declared.deed.Deed.TheVariants.{Export}
 use Rattle.nob_model_journal.specs.Journals.{deeds_at}
 use Rattle.nob_check_ledgers.specs.Ledgers.{ledger_of, ledger_after}
 use Rattle.nob_check_ledgers.specs.declared.ledger.Ledger.{Ledger}

@@ -9,8 +9,7 @@ use crate::mark::Mark;
 use crate::marks::{is_quiet, marks_at};
 use crate::passing::passed;
 use nob_ids::SpaceId;
-use nob_model_types::Entry;
-use nob_model_words::Here;
+use nob_model_types::{Entry, Here};
 use std::alloc::{AllocError, Global};
 
 /// What holds at a space from one row to another.

@@ -1,7 +1,7 @@
 //! What holds at a space after what it did.
 
 ghost use Rattle.std.specs.Prelude.{◌≡◌, IfOk, map, filter, flat_map};
-ghost use Rattle.nob_model_words.specs.Deeds.{deed_in};
+ghost use Rattle.nob_model_types.specs.Deeds.{deed_in};
 ghost use Rattle.nob_model_history.specs.Listing.{is_listed};
 ghost use Rattle.nob_drawing_plan.specs.declared.mark.Mark.TheVariants as marks;
 ghost use Rattle.nob_drawing_plan.specs.Marks as spec;
@@ -10,8 +10,7 @@ use crate::mark::Mark;
 use nob_ids::{SpaceId, WireRep};
 use nob_model_history::{History, SentItem, listing, transit};
 use nob_model_journal::journals::{history_at, senders_in};
-use nob_model_types::Entry;
-use nob_model_words::{Deed, Here, objects};
+use nob_model_types::{Deed, Entry, Here, objects};
 use nob_model_work::gifts::once;
 use std::alloc::{AllocError, Global};
 

@@ -1,7 +1,7 @@
 //! The bars of a journal in one pass.
 
 ghost use Rattle.std.specs.Prelude.{◌≡◌, ◌&&◌, IfOk, Some, true};
-ghost use Rattle.nob_model_words.specs.Deeds.{deed_in};
+ghost use Rattle.nob_model_types.specs.Deeds.{deed_in};
 ghost use Rattle.nob_check_ledgers.specs.Ledgers.{has_loans_made};
 ghost use Rattle.nob_drawing_plan.specs.Bars.{bars as bars_of};
 ghost use Rattle.nob_drawing_plan.specs.Passing as spec;
@@ -10,8 +10,7 @@ use crate::bar::Bar;
 use crate::steps::after_deed;
 use nob_check_ledgers::{Ledger, new_ledger};
 use nob_ids::SpaceId;
-use nob_model_types::Entry;
-use nob_model_words::{Deed, Here};
+use nob_model_types::{Deed, Entry, Here};
 use std::alloc::{AllocError, Global};
 
 /// What a pass over the entries of a journal keeps, the first entry first.

@@ -13,7 +13,7 @@ use nob_check_ledgers::{Ledger, with_deed};
 use nob_ids::{SpaceId, WireRep};
 use nob_item::Item;
 use nob_model_history::SentItem;
-use nob_model_words::Deed;
+use nob_model_types::Deed;
 use std::alloc::{AllocError, Global};
 
 /// What a deed changes of the marks of its space, the pins of what it sends aside.

@@ -4,7 +4,7 @@ ghost use Rattle.std.specs.Prelude.{◌≡◌, ◌≤◌, ◌-◌, ℕ, List, fa
 ghost use Rattle.std.specs.Int.{bit_at};
 ghost use Rattle.nob_ids.specs.Names.{IsSpace};
 ghost use Rattle.nob_model_types.specs.declared.entry.Entry.{Entry};
-ghost use Rattle.nob_model_words.specs.Deeds.{deeds};
+ghost use Rattle.nob_model_types.specs.Deeds.{deeds};
 ghost use Rattle.nob_model_history.specs.Histories.{history};
 ghost use Rattle.nob_model_history.specs.Listing.{is_listed};
 ghost use Rattle.nob_model.specs.Next as next;

@@ -23,7 +23,7 @@ use Rattle.nob_model_session.proofs.entry.Frames.TheSendSync as frames
 use Rattle.nob_model_types.specs.contracts.answer.Answer as Answer
 use Rattle.nob_model_types.specs.contracts.event.Event as Event
 use Rattle.nob_model_types.specs.contracts.refusal.Refusal as Refusal
-use Rattle.nob_model_words.proofs.message.RefCopies.TheSendSync as copies
+use Rattle.nob_model_types.proofs.message.RefCopies.TheSendSync as copies
 use Rattle.nob_pickle.proofs.value.Values.TheLaws.TheKnot as values
 use Rattle.nob_pins.proofs.table.PinTable.TheSendSync as pins
 use Rattle.nob_session.proofs.session.Session.TheSendSync as session
@@ -42,9 +42,9 @@ use Rattle.nob_space_jobs.specs.contracts.jobs.Jobs as Jobs
 use Rattle.nob_space_jobs.specs.contracts.jobs.Jobs.TheInside as JobsInside
 use Rattle.nob_space_jobs.specs.contracts.running.Running as Running
 use Rattle.nob_space_jobs.specs.contracts.running.Running.TheInside as RunningInside
-use Rattle.nob_space_ready.proofs.lines.Lines.TheSendSync as ready_lines
-use Rattle.nob_space_ready.specs.contracts.ready.ReadyJobs as ReadyJobs
-use Rattle.nob_space_ready.specs.contracts.ready.ReadyJobs.TheInside as ReadyJobsInside
+use Rattle.nob_space_jobs.proofs.lines.Lines.TheSendSync as ready_lines
+use Rattle.nob_space_jobs.specs.contracts.ready.ReadyJobs as ReadyJobs
+use Rattle.nob_space_jobs.specs.contracts.ready.ReadyJobs.TheInside as ReadyJobsInside
 use Rattle.nob_space_state.specs.contracts.parts.Parts as Parts
 use Rattle.nob_space_waiting.proofs.lines.Lines.TheSendSync as waiting_lines
 use Rattle.nob_space_waiting.specs.contracts.entry.Entry as Entry

@@ -15,6 +15,7 @@ pub use error::KeeperError;
 pub use held::{Chores, Dues, Look, Wake};
 pub use keeper::Keeper;
 pub use kept::Kept;
+pub use nob_space::{Due, Space};
 pub use receipt::Receipt;
 pub use seat::Seat;
 pub use waking::{Wakes, WorkKind, wakes_of};

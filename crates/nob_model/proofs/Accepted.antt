@@ -23,11 +23,11 @@ use Rattle.nob_model_types.specs.declared.answer.Answer.TheVariants as answers
 use Rattle.nob_model_types.specs.declared.refusal.Refusal.{Refusal}
 use Rattle.nob_model_types.specs.declared.refusal.Refusal.TheVariants as refusals
 use Rattle.nob_model_types.specs.declared.refusal.Use.TheVariants as uses
-use Rattle.nob_model_words.specs.Sessions.{is_peer, closed, item_spelt}
-use Rattle.nob_model_words.specs.Objects.{exports, is_live, live}
-use Rattle.nob_model_words.specs.Turns.{is_own}
-use Rattle.nob_model_words.specs.Messages.{replies_to}
-use Rattle.nob_model_words.specs.declared.message.Message.{Message}
+use Rattle.nob_model_types.specs.Sessions.{is_peer, closed, item_spelt}
+use Rattle.nob_model_types.specs.Objects.{exports, is_live, live}
+use Rattle.nob_model_types.specs.Turns.{is_own}
+use Rattle.nob_model_types.specs.Messages.{replies_to}
+use Rattle.nob_model_types.specs.declared.message.Message.{Message}
 use Rattle.nob_model_work.specs.Work.{is_call, is_run}
 use Rattle.nob_model_work.specs.Gifts.{value_of}
 use Rattle.nob_model_work.specs.declared.work.Run.{Run}

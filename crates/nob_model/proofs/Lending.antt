@@ -17,20 +17,20 @@ use Rattle.nob_model_session.specs.declared.entry.Arrived.TheVariants as arrived
 use Rattle.nob_model_session.specs.declared.entry.EndEntry.{EndEntry}
 use Rattle.nob_model_session.specs.declared.entry.EndEntry.TheVariants as ends
 use Rattle.nob_model_types.specs.declared.answer.Job.{Job}
-use Rattle.nob_model_words.specs.declared.deed.Deed.{Deed}
-use Rattle.nob_model_words.specs.declared.deed.Deed.TheVariants.{Call, TakeReply, TakeEnd, Claim, Finish, DropReply, Act, Settle, Clean, Transmit, Arrive, Tick, Closing}
-use Rattle.nob_model_words.specs.declared.deed.Cause.{Cause}
-use Rattle.nob_model_words.specs.declared.deed.Cause.TheVariants as causes
-use Rattle.nob_model_words.specs.declared.turns.OwnerAnswer.{OwnerAnswer}
-use Rattle.nob_model_words.specs.declared.turns.OwnerAnswer.TheVariants as said
-use Rattle.nob_model_words.specs.declared.turns.Turns.{Turns}
-use Rattle.nob_model_words.specs.declared.message.Loan.{Loan}
-use Rattle.nob_model_words.specs.declared.message.Loan.TheVariants as loans
-use Rattle.nob_model_words.specs.declared.message.RefCopy.{RefCopy}
-use Rattle.nob_model_words.specs.declared.message.Message.{Message}
-use Rattle.nob_model_words.specs.Sessions.{item_at, closed, is_peer}
-use Rattle.nob_model_words.specs.Turns.{turns, turns_after, is_own, is_usable, is_lost, is_resolved, is_granted, is_refused, is_pending, is_yes, is_no, wants_dirty, names, carries}
-use Rattle.nob_model_words.specs.Messages.{new_message, new_copy, loan_after, copy_after, message_after, is_of, is_not_from, is_job, is_lost_message}
+use Rattle.nob_model_types.specs.declared.deed.Deed.{Deed}
+use Rattle.nob_model_types.specs.declared.deed.Deed.TheVariants.{Call, TakeReply, TakeEnd, Claim, Finish, DropReply, Act, Settle, Clean, Transmit, Arrive, Tick, Closing}
+use Rattle.nob_model_types.specs.declared.deed.Cause.{Cause}
+use Rattle.nob_model_types.specs.declared.deed.Cause.TheVariants as causes
+use Rattle.nob_model_types.specs.declared.turns.OwnerAnswer.{OwnerAnswer}
+use Rattle.nob_model_types.specs.declared.turns.OwnerAnswer.TheVariants as said
+use Rattle.nob_model_types.specs.declared.turns.Turns.{Turns}
+use Rattle.nob_model_types.specs.declared.message.Loan.{Loan}
+use Rattle.nob_model_types.specs.declared.message.Loan.TheVariants as loans
+use Rattle.nob_model_types.specs.declared.message.RefCopy.{RefCopy}
+use Rattle.nob_model_types.specs.declared.message.Message.{Message}
+use Rattle.nob_model_types.specs.Sessions.{item_at, closed, is_peer}
+use Rattle.nob_model_types.specs.Turns.{turns, turns_after, is_own, is_usable, is_lost, is_resolved, is_granted, is_refused, is_pending, is_yes, is_no, wants_dirty, names, carries}
+use Rattle.nob_model_types.specs.Messages.{new_message, new_copy, loan_after, copy_after, message_after, is_of, is_not_from, is_job, is_lost_message}
 use Rattle.nob_model_work.specs.declared.work.InHand.{InHand}
 use Rattle.nob_model_work.specs.declared.work.OwnCall.{OwnCall}
 use Rattle.nob_model_work.specs.declared.work.Run.{Run}

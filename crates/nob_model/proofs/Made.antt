@@ -1,13 +1,13 @@
 -- The loans of the work in hand are made as far as they can be made now.
 use Rattle.std.proofs.Common.{◌≡◌, ℕ, Bool, true, false, ◌||◌, List, [], ◌∷◌, map, refl, ap}
 use Rattle.std.specs.List.{AllByRecursion}
-use Rattle.nob_model_words.specs.declared.deed.Deed.{Deed}
-use Rattle.nob_model_words.specs.declared.message.Loan.{Loan}
-use Rattle.nob_model_words.specs.declared.message.Loan.TheVariants as loans
-use Rattle.nob_model_words.specs.declared.message.RefCopy.{RefCopy}
-use Rattle.nob_model_words.specs.declared.message.Message.{Message}
-use Rattle.nob_model_words.specs.Turns.{is_own, is_usable}
-use Rattle.nob_model_words.specs.Messages.{loan_after, copy_after, message_after}
+use Rattle.nob_model_types.specs.declared.deed.Deed.{Deed}
+use Rattle.nob_model_types.specs.declared.message.Loan.{Loan}
+use Rattle.nob_model_types.specs.declared.message.Loan.TheVariants as loans
+use Rattle.nob_model_types.specs.declared.message.RefCopy.{RefCopy}
+use Rattle.nob_model_types.specs.declared.message.Message.{Message}
+use Rattle.nob_model_types.specs.Turns.{is_own, is_usable}
+use Rattle.nob_model_types.specs.Messages.{loan_after, copy_after, message_after}
 use Rattle.nob_model_work.specs.declared.work.InHand.{InHand}
 use Rattle.nob_model_work.specs.declared.work.Run.{Run}
 use Rattle.nob_model_work.specs.Work.{work, work_after, with_loans, run_after}

@@ -14,9 +14,9 @@ use Rattle.nob_model_types.specs.declared.answer.Answer.{Answer}
 use Rattle.nob_model_types.specs.declared.answer.Answer.TheVariants as answers
 use Rattle.nob_model_types.specs.declared.refusal.Refusal.{Refusal}
 use Rattle.nob_model_types.specs.declared.refusal.Refusal.TheVariants as refusals
-use Rattle.nob_model_words.specs.declared.message.Message.{Message}
-use Rattle.nob_model_words.specs.Sessions.{is_peer, closed, item_spelt}
-use Rattle.nob_model_words.specs.Objects.{exports, is_exported, is_withdrawn, live}
+use Rattle.nob_model_types.specs.declared.message.Message.{Message}
+use Rattle.nob_model_types.specs.Sessions.{is_peer, closed, item_spelt}
+use Rattle.nob_model_types.specs.Objects.{exports, is_exported, is_withdrawn, live}
 use Rattle.nob_model_history.specs.declared.history.History.{History}
 use Rattle.nob_model_history.specs.Ends.{calls_at}
 use Rattle.nob_model_history.specs.Transit.{is_some_of}

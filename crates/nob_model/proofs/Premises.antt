@@ -19,11 +19,11 @@ use Rattle.nob_model_session.specs.declared.entry.Arrived.{Arrived}
 use Rattle.nob_model_session.specs.declared.entry.Arrived.TheVariants as arrived
 use Rattle.nob_model_session.specs.declared.refusal.EndRefusal.{EndRefusal}
 use Rattle.nob_model_session.specs.declared.refusal.EndRefusal.TheVariants as end_refusals
-use Rattle.nob_model_words.specs.declared.deed.Deed.{Deed}
-use Rattle.nob_model_words.specs.declared.deed.Deed.TheVariants as did
-use Rattle.nob_model_words.specs.Sessions.{item_spelt, item_at}
-use Rattle.nob_model_words.specs.Objects.{exports, is_live}
-use Rattle.nob_model_words.specs.Turns.{turns, is_granted, is_usable}
+use Rattle.nob_model_types.specs.declared.deed.Deed.{Deed}
+use Rattle.nob_model_types.specs.declared.deed.Deed.TheVariants as did
+use Rattle.nob_model_types.specs.Sessions.{item_spelt, item_at}
+use Rattle.nob_model_types.specs.Objects.{exports, is_live}
+use Rattle.nob_model_types.specs.Turns.{turns, is_granted, is_usable}
 use Rattle.nob_model_history.specs.declared.history.History.{History}
 use Rattle.nob_model_history.specs.Histories.{history_of}
 use Rattle.nob_model_history.specs.Ends.{calls_at}

@@ -10,10 +10,10 @@ use Rattle.nob_model_types.specs.declared.answer.Answer.TheVariants as answers
 use Rattle.nob_model_types.specs.declared.refusal.Refusal.{Refusal}
 use Rattle.nob_model_types.specs.declared.refusal.Refusal.TheVariants as refusals
 use Rattle.nob_model_types.specs.declared.entry.Entry.{Entry}
-use Rattle.nob_model_words.specs.declared.deed.Deed.{Deed}
-use Rattle.nob_model_words.specs.Deeds.{deeds}
-use Rattle.nob_model_words.specs.Sessions.{acted}
-use Rattle.nob_model_words.specs.Objects.{is_live}
+use Rattle.nob_model_types.specs.declared.deed.Deed.{Deed}
+use Rattle.nob_model_types.specs.Deeds.{deeds}
+use Rattle.nob_model_types.specs.Sessions.{acted}
+use Rattle.nob_model_types.specs.Objects.{is_live}
 use Rattle.nob_model_history.specs.declared.history.History.{History}
 use Rattle.nob_model_work.specs.Work.{work}
 use Rattle.nob_model_history.specs.Histories.{history_of}

@@ -1,11 +1,11 @@
 pub use Rattle.nob_ids.specs.Names
 pub use Rattle.nob_ids.specs.Reasons
 pub use Rattle.nob_model_session.specs.End
-pub use Rattle.nob_model_words.specs.Deeds
-pub use Rattle.nob_model_words.specs.Sessions
-pub use Rattle.nob_model_words.specs.Objects
-pub use Rattle.nob_model_words.specs.Turns
-pub use Rattle.nob_model_words.specs.Messages
+pub use Rattle.nob_model_types.specs.Deeds
+pub use Rattle.nob_model_types.specs.Sessions
+pub use Rattle.nob_model_types.specs.Objects
+pub use Rattle.nob_model_types.specs.Turns
+pub use Rattle.nob_model_types.specs.Messages
 pub use Rattle.nob_model_work.specs.Work
 pub use Rattle.nob_model_work.specs.Gifts
 pub use Rattle.nob_model_history.specs.Histories

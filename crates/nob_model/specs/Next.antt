@@ -4,8 +4,8 @@ use Rattle.nob_model_session.specs.Right.{right_transmit, right_front}
 use Rattle.nob_model_types.specs.declared.answer.Answer.{Answer}
 use Rattle.nob_model_types.specs.declared.refusal.Refusal.{Refusal}
 use Rattle.nob_model_types.specs.declared.refusal.Refusal.TheVariants as refusals
-use Rattle.nob_model_words.specs.Sessions.{is_peer, closed}
-use Rattle.nob_model_words.specs.Objects.{live}
+use Rattle.nob_model_types.specs.Sessions.{is_peer, closed}
+use Rattle.nob_model_types.specs.Objects.{live}
 use Rattle.nob_model_history.specs.declared.history.History.{History}
 use Rattle.nob_model_history.specs.Ends.{calls_at}
 use Rattle.nob_model_history.specs.Transit.{is_some_of}

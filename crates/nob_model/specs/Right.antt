@@ -27,19 +27,19 @@ use Rattle.nob_model_types.specs.declared.refusal.Refusal.{Refusal}
 use Rattle.nob_model_types.specs.declared.refusal.Refusal.TheVariants as refusals
 use Rattle.nob_model_types.specs.declared.refusal.Use.TheVariants as uses
 use Rattle.nob_model_types.specs.declared.entry.Entry.{Entry}
-use Rattle.nob_model_words.specs.declared.deed.Deed.{Deed}
-use Rattle.nob_model_words.specs.declared.deed.Deed.TheVariants.{Call, Claim}
-use Rattle.nob_model_words.specs.Deeds.{deeds}
-use Rattle.nob_model_words.specs.Sessions.{is_peer, closed, item_spelt}
-use Rattle.nob_model_words.specs.Objects.{exports, is_live, live}
-use Rattle.nob_model_words.specs.Turns.{is_own, is_resolved}
-use Rattle.nob_model_words.specs.declared.message.Message.{Message}
+use Rattle.nob_model_types.specs.declared.deed.Deed.{Deed}
+use Rattle.nob_model_types.specs.declared.deed.Deed.TheVariants.{Call, Claim}
+use Rattle.nob_model_types.specs.Deeds.{deeds}
+use Rattle.nob_model_types.specs.Sessions.{is_peer, closed, item_spelt}
+use Rattle.nob_model_types.specs.Objects.{exports, is_live, live}
+use Rattle.nob_model_types.specs.Turns.{is_own, is_resolved}
+use Rattle.nob_model_types.specs.declared.message.Message.{Message}
 use Rattle.nob_model_work.specs.declared.work.Run.{Run}
 use Rattle.nob_model_work.specs.declared.work.Stage.{Stage}
 use Rattle.nob_model_work.specs.declared.work.Stage.TheVariants as stages
 use Rattle.nob_model_work.specs.declared.work.OwnCall.{OwnCall}
 use Rattle.nob_model_work.specs.declared.work.InHand.{InHand}
-use Rattle.nob_model_words.specs.Messages.{is_lost_message, replies_to}
+use Rattle.nob_model_types.specs.Messages.{is_lost_message, replies_to}
 use Rattle.nob_model_work.specs.Work.{is_call, is_run}
 use Rattle.nob_model_work.specs.Gifts.{value_of}
 use Rattle.nob_model_history.specs.declared.history.History.{History}

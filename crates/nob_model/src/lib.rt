@@ -10,6 +10,8 @@ pub mod right;
 
 pub use nob_model_history::{History, SentItem, history_of, make_history};
 pub use nob_model_session::{Arrived, EndEntry, EndRefusal, Ending, Frames, Kind, PairEntry};
-pub use nob_model_types::{Answer, Entry, Event, Job, Outcome, Refusal, Use, WorldStep};
-pub use nob_model_words::{Cause, Deed, Here, Loan, Message, OwnerAnswer, RefCopy, Turns};
+pub use nob_model_types::{
+    Answer, Cause, Deed, Entry, Event, Here, Job, Loan, Message, Outcome, OwnerAnswer, RefCopy,
+    Refusal, Turns, Use, WorldStep,
+};
 pub use nob_model_work::{Gift, InHand, OwnCall, Run, Stage};

@@ -10,8 +10,7 @@ use nob_model_acting::candidates::{to_claim, to_clean, to_settle};
 use nob_model_history::History;
 use nob_model_history::ends::calls_at;
 use nob_model_session::{EndEntry, right as end};
-use nob_model_types::{Answer, Refusal};
-use nob_model_words::{Here, objects, sessions};
+use nob_model_types::{Answer, Here, Refusal, objects, sessions};
 use std::alloc::{AllocError, Global};
 
 // Whether an item waits after these calls on an end.

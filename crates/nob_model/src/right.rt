@@ -3,7 +3,7 @@
 ghost use Rattle.std.specs.Prelude.{◌≡◌, ◌≤◌, ◌+◌, ◌==◌, nat_lt, IfOk, Some, None, find, length};
 ghost use Rattle.std.specs.List.{list_any, list_all};
 ghost use Rattle.std.specs.Option.{option_map};
-ghost use Rattle.nob_model_words.specs.Messages.{replies_to as replies_to_word};
+ghost use Rattle.nob_model_types.specs.Messages.{replies_to as replies_to_word};
 ghost use Rattle.nob_model_work.specs.Work.{is_call, is_run};
 ghost use Rattle.nob_model_work.specs.Gifts.{value_of};
 ghost use Rattle.nob_model_history.specs.Holds.{times as times_word, hand as hand_word};
@@ -29,9 +29,10 @@ use nob_model_history::{History, make_history};
 use nob_model_session::{
     Arrived, EndRefusal, Ending, Frames, Kind, end as end_words, right as end,
 };
-use nob_model_types::{Answer, Entry, Event, Job, Outcome, Refusal, Use};
-use nob_model_words::message::{Message, RefCopy, is_lost_message, replies_to};
-use nob_model_words::{Deed, Here, objects, sessions, turns};
+use nob_model_types::message::{Message, RefCopy, is_lost_message, replies_to};
+use nob_model_types::{
+    Answer, Deed, Entry, Event, Here, Job, Outcome, Refusal, Use, objects, sessions, turns,
+};
 use nob_model_work::{InHand, OwnCall, Run, Stage};
 use nob_pickle::Value;
 use std::alloc::{AllocError, Global};

@@ -11,8 +11,8 @@ use Rattle.nob_model_types.specs.declared.answer.Answer.{Answer}
 use Rattle.nob_model_types.specs.declared.answer.Answer.TheVariants as answers
 use Rattle.nob_model_types.specs.declared.refusal.Refusal.{Refusal}
 use Rattle.nob_model_types.specs.declared.refusal.Refusal.TheVariants as refusals
-use Rattle.nob_model_words.specs.Objects.{is_exported, is_live}
-use Rattle.nob_model_words.specs.Turns.{is_pending, turns, is_own}
+use Rattle.nob_model_types.specs.Objects.{is_exported, is_live}
+use Rattle.nob_model_types.specs.Turns.{is_pending, turns, is_own}
 use Rattle.nob_model_work.specs.declared.work.Stage.{Stage}
 use Rattle.nob_model_work.specs.declared.work.Stage.TheVariants as stages
 use Rattle.nob_model_work.specs.declared.work.OwnCall.{OwnCall}

@@ -13,9 +13,9 @@ use Rattle.nob_model_session.specs.End.{handed}
 use Rattle.nob_model_session.specs.Right.{right_send, last_item}
 use Rattle.nob_model_types.specs.declared.refusal.Refusal.{Refusal}
 use Rattle.nob_model_types.specs.declared.refusal.Refusal.TheVariants as refusals
-use Rattle.nob_model_words.specs.Sessions.{closed}
-use Rattle.nob_model_words.specs.Objects.{is_live}
-use Rattle.nob_model_words.specs.Turns.{is_own}
+use Rattle.nob_model_types.specs.Sessions.{closed}
+use Rattle.nob_model_types.specs.Objects.{is_live}
+use Rattle.nob_model_types.specs.Turns.{is_own}
 use Rattle.nob_model_history.specs.declared.history.History.{History}
 use Rattle.nob_model_history.specs.Ends.{calls_at}
 use Rattle.nob_model_history.specs.Holds.{is_held}

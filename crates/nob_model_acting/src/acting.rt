@@ -3,7 +3,7 @@
 ghost use Rattle.std.specs.Prelude.{◌≡◌, ◌≤◌, ◌&&◌, ◌==◌, not, IfOk, length};
 ghost use Rattle.std.specs.List.{list_any, list_all};
 ghost use Rattle.nob_model_history.specs.Ends.{items_to};
-ghost use Rattle.nob_model_words.specs.Objects.{is_live};
+ghost use Rattle.nob_model_types.specs.Objects.{is_live};
 ghost use Rattle.nob_model_acting.specs.Sending.{is_own_and_not_live};
 ghost use Rattle.nob_model_acting.specs.Acting as words;
 
@@ -12,8 +12,7 @@ use nob_ids::{CallNo, ItemNo, Reason, SpaceId, WireRep};
 use nob_item::Item;
 use nob_model_history::History;
 use nob_model_history::transit::{has_bundle, surrogates};
-use nob_model_types::{Answer, Refusal};
-use nob_model_words::{Here, objects, turns};
+use nob_model_types::{Answer, Here, Refusal, objects, turns};
 use nob_model_work::gifts::dirties_for;
 use nob_model_work::{Gift, InHand, OwnCall, Stage};
 use std::alloc::{AllocError, Global};

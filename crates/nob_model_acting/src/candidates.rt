@@ -3,15 +3,15 @@
 ghost use Rattle.std.specs.Prelude.{◌≡◌, ◌==◌, IfOk, find};
 ghost use Rattle.std.specs.List.{list_any, list_all};
 ghost use Rattle.std.specs.Option.{option_map};
-ghost use Rattle.nob_model_words.specs.Turns.{is_resolved as is_resolved_word};
+ghost use Rattle.nob_model_types.specs.Turns.{is_resolved as is_resolved_word};
 ghost use Rattle.nob_model_acting.specs.Candidates as words;
 
 use nob_ids::WireRep;
 use nob_item::Item;
 use nob_model_history::History;
 use nob_model_history::transit::first_idle;
-use nob_model_words::message::{Message, RefCopy};
-use nob_model_words::{Deed, Here, turns};
+use nob_model_types::message::{Message, RefCopy};
+use nob_model_types::{Deed, Here, turns};
 use nob_model_work::{InHand, Run};
 use std::alloc::{AllocError, Global};
 

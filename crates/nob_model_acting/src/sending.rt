@@ -12,8 +12,7 @@ use nob_model_history::ends::calls_at;
 use nob_model_history::holds::is_held;
 use nob_model_session::right::LAST_ITEM;
 use nob_model_session::{EndRefusal, Kind, end as end_words, right};
-use nob_model_types::Refusal;
-use nob_model_words::{objects, sessions};
+use nob_model_types::{Refusal, objects, sessions};
 use nob_pickle::Value;
 use std::alloc::{AllocError, Global};
 

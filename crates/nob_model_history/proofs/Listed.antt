@@ -3,9 +3,9 @@ use Rattle.std.proofs.Common.{◌≡◌, ℕ, ◌||◌, Bool, true, false, cond,
 use Rattle.std.specs.Prelude.{◌==◌}
 use Rattle.std.specs.List.{list_any}
 use Rattle.std.proofs.lemmas.Bool.{eqb-true, and_parts, or_cases, or_left, or_right}
-use Rattle.nob_model_words.specs.declared.deed.Deed.{Deed}
-use Rattle.nob_model_words.specs.declared.deed.Deed.TheVariants as did
-use Rattle.nob_model_words.specs.Sessions.{item_at}
+use Rattle.nob_model_types.specs.declared.deed.Deed.{Deed}
+use Rattle.nob_model_types.specs.declared.deed.Deed.TheVariants as did
+use Rattle.nob_model_types.specs.Sessions.{item_at}
 use Rattle.nob_model_history.specs.Listing.{is_entered, is_entered_after, is_listed, is_of_listed, is_any_listed}
 
 entered_step : (s index c p k : ℕ) (all D : List Deed) → is_listed s index c all ≡ true → (is_entered s index c D ≡ true → list_any (is_of_listed s index all) D ≡ true) → (own : Bool) → (p == c) ≡ own → cond own (is_entered_after s index (item_at p k D) D (is_entered s index c D)) (is_entered s index c D) ≡ true → (is_listed s index p all || list_any (is_of_listed s index all) D) ≡ true

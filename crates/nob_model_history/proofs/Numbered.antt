@@ -8,10 +8,10 @@ use Rattle.nob_item.specs.declared.item.Item.{Item}
 use Rattle.nob_model_session.specs.End.{handed}
 use Rattle.nob_model_session.specs.declared.entry.EndEntry.{EndEntry}
 use Rattle.nob_model_session.specs.declared.entry.EndEntry.TheVariants as ends
-use Rattle.nob_model_words.specs.declared.deed.Deed.{Deed}
-use Rattle.nob_model_words.specs.declared.deed.Deed.TheVariants as did
-use Rattle.nob_model_words.specs.declared.deed.Cause.{Cause}
-use Rattle.nob_model_words.specs.declared.deed.Cause.TheVariants as causes
+use Rattle.nob_model_types.specs.declared.deed.Deed.{Deed}
+use Rattle.nob_model_types.specs.declared.deed.Deed.TheVariants as did
+use Rattle.nob_model_types.specs.declared.deed.Cause.{Cause}
+use Rattle.nob_model_types.specs.declared.deed.Cause.TheVariants as causes
 use Rattle.nob_model_work.specs.declared.gifts.Gift.{Gift}
 use Rattle.nob_model_work.specs.Work.{work}
 use Rattle.nob_model_work.specs.Gifts.{gifts}

@@ -13,10 +13,10 @@ use Rattle.nob_model_session.specs.declared.entry.Ending.{Ending}
 use Rattle.nob_model_session.specs.declared.entry.Arrived.TheVariants as arrived
 use Rattle.nob_model_session.specs.declared.entry.EndEntry.{EndEntry}
 use Rattle.nob_model_session.specs.declared.entry.EndEntry.TheVariants as ends
-use Rattle.nob_model_words.specs.declared.deed.Deed.{Deed}
-use Rattle.nob_model_words.specs.declared.deed.Deed.TheVariants.{Act, Transmit, Arrive, Tick, Closing}
-use Rattle.nob_model_words.specs.declared.deed.Cause.{Cause}
-use Rattle.nob_model_words.specs.declared.deed.Cause.TheVariants as causes
+use Rattle.nob_model_types.specs.declared.deed.Deed.{Deed}
+use Rattle.nob_model_types.specs.declared.deed.Deed.TheVariants.{Act, Transmit, Arrive, Tick, Closing}
+use Rattle.nob_model_types.specs.declared.deed.Cause.{Cause}
+use Rattle.nob_model_types.specs.declared.deed.Cause.TheVariants as causes
 use Rattle.nob_model_work.specs.declared.gifts.Gift.{Gift}
 use Rattle.nob_model_history.specs.declared.history.History.{History}
 

@@ -1,8 +1,8 @@
 -- The history of a space: what it did, the newest first, with what it has in hand and what each deed gave.
 use Rattle.std.specs.Prelude.{ℕ, List}
 use Rattle.nob_model_types.specs.declared.entry.Entry.{Entry}
-use Rattle.nob_model_words.specs.Deeds.{deeds}
-use Rattle.nob_model_words.specs.declared.deed.Deed.{Deed}
+use Rattle.nob_model_types.specs.Deeds.{deeds}
+use Rattle.nob_model_types.specs.declared.deed.Deed.{Deed}
 use Rattle.nob_model_work.specs.Work.{work}
 use Rattle.nob_model_work.specs.Gifts.{all_gifts}
 use Rattle.nob_model_history.specs.declared.history.History.{History}

@@ -10,7 +10,7 @@ use nob_bytes::Bytes;
 use nob_ids::{ItemNo, Reason, SpaceId};
 use nob_item::{Item, ItemError};
 use nob_model_session::{Arrived, EndEntry, Ending, Kind};
-use nob_model_words::{Cause, Deed};
+use nob_model_types::{Cause, Deed};
 use nob_model_work::{Gift, GiftList};
 use std::alloc::{AllocError, Global};
 

@@ -3,8 +3,7 @@
 ghost use Rattle.std.specs.Prelude.{◌≡◌, IfOk};
 ghost use Rattle.nob_model_history.specs.Histories as words;
 
-use nob_model_types::Entry;
-use nob_model_words::{Deed, Here, deeds};
+use nob_model_types::{Deed, Entry, Here, deeds};
 use nob_model_work::gifts::past_of;
 use nob_model_work::{GiftList, InHand, Past};
 use std::alloc::{AllocError, Global};
@@ -18,7 +17,7 @@ pub struct Deeds {
 
 impl Model for Deeds {
     ghost use Rattle.std.specs.Prelude.{List};
-    ghost use Rattle.nob_model_words.specs.declared.deed.Deed.{Deed};
+    ghost use Rattle.nob_model_types.specs.declared.deed.Deed.{Deed};
 
     ghost Value = { List Deed };
 

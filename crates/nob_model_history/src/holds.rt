@@ -6,7 +6,7 @@ ghost use Rattle.nob_model_history.specs.Holds as words;
 use crate::history::History;
 use nob_ids::{SpaceId, WireRep};
 use nob_item::Item;
-use nob_model_words::{Deed, Loan, Message, RefCopy};
+use nob_model_types::{Deed, Loan, Message, RefCopy};
 use nob_model_work::{InHand, Run};
 use std::alloc::{AllocError, Global};
 

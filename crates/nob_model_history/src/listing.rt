@@ -2,12 +2,12 @@
 
 ghost use Rattle.std.specs.Prelude.{◌≡◌, IfOk, Some};
 ghost use Rattle.std.specs.List.{list_any};
-ghost use Rattle.nob_model_words.specs.Sessions.{item_at};
+ghost use Rattle.nob_model_types.specs.Sessions.{item_at};
 ghost use Rattle.nob_model_history.specs.Listing as words;
 
 use nob_ids::{ItemNo, SpaceId};
 use nob_item::Item;
-use nob_model_words::{Deed, objects, sessions};
+use nob_model_types::{Deed, objects, sessions};
 use std::alloc::{AllocError, Global};
 
 // Whether a client is entered after an item from it, by what held before.

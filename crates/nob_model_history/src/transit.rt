@@ -4,15 +4,15 @@ ghost use Rattle.std.specs.Prelude.{◌≡◌, ◌<◌, ◌≤◌, [], ◌∷◌
 ghost use Rattle.std.specs.List.{list_any};
 ghost use Rattle.nob_ids.specs.Names.{is_same};
 ghost use Rattle.nob_item.specs.Kinds.{counted_in};
-ghost use Rattle.nob_model_words.specs.Sessions.{closed};
-ghost use Rattle.nob_model_words.specs.Turns.{turns as turns_word, is_standing};
+ghost use Rattle.nob_model_types.specs.Sessions.{closed};
+ghost use Rattle.nob_model_types.specs.Turns.{turns as turns_word, is_standing};
 ghost use Rattle.nob_model_history.specs.Transit as words;
 
 use crate::history::History;
 use crate::holds::{is_held, times};
 use nob_ids::{ItemNo, SpaceId, WireRep};
 use nob_item::Item;
-use nob_model_words::{Deed, Here, sessions, turns};
+use nob_model_types::{Deed, Here, sessions, turns};
 use nob_model_work::{Gift, GiftList};
 use std::alloc::{AllocError, Global};
 

@@ -7,8 +7,8 @@ use Rattle.nob_ids.specs.declared.limits.Limits.{Limits}
 use Rattle.nob_pickle.specs.declared.value.Value.{Value}
 use Rattle.nob_item.specs.declared.item.Item.TheVariants as items
 use Rattle.nob_model_types.specs.declared.entry.Entry.{Entry}
-use Rattle.nob_model_words.specs.Sessions.{closed}
-use Rattle.nob_model_words.specs.Messages.{replies_to}
+use Rattle.nob_model_types.specs.Sessions.{closed}
+use Rattle.nob_model_types.specs.Messages.{replies_to}
 use Rattle.nob_model_work.specs.Work.{work}
 use Rattle.nob_model_acting.specs.Acting.{awaits_reply}
 use Rattle.nob_model_journal.specs.Journals.{deeds_at, closed_at, sent_to, acted_from}

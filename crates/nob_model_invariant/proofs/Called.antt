@@ -14,11 +14,11 @@ use Rattle.nob_item.specs.declared.item.Item.{Item}
 use Rattle.nob_item.specs.declared.item.Item.TheVariants as items
 use Rattle.nob_model_types.specs.declared.answer.Job.{Job}
 use Rattle.nob_model_types.specs.declared.event.Outcome.{Outcome}
-use Rattle.nob_model_words.specs.declared.deed.Deed.{Deed}
-use Rattle.nob_model_words.specs.declared.deed.Deed.TheVariants as did
-use Rattle.nob_model_words.specs.declared.message.Message.{Message}
-use Rattle.nob_model_words.specs.Sessions.{is_peer, closed, item_at, acted}
-use Rattle.nob_model_words.specs.Messages.{new_message, is_of, replies_to, is_job, is_lost_message}
+use Rattle.nob_model_types.specs.declared.deed.Deed.{Deed}
+use Rattle.nob_model_types.specs.declared.deed.Deed.TheVariants as did
+use Rattle.nob_model_types.specs.declared.message.Message.{Message}
+use Rattle.nob_model_types.specs.Sessions.{is_peer, closed, item_at, acted}
+use Rattle.nob_model_types.specs.Messages.{new_message, is_of, replies_to, is_job, is_lost_message}
 use Rattle.nob_model_work.specs.declared.gifts.Gift.{Gift}
 use Rattle.nob_model_work.specs.declared.work.InHand.{InHand}
 use Rattle.nob_model_work.specs.declared.work.OwnCall.{OwnCall}

@@ -9,11 +9,11 @@ use Rattle.nob_ids.specs.Names.{is_same}
 use Rattle.nob_ids.specs.declared.limits.Limits.{Limits}
 use Rattle.nob_ids.specs.declared.wire_rep.WireRep.{WireRep}
 use Rattle.nob_item.specs.Kinds.{counted_in}
-use Rattle.nob_model_words.specs.declared.deed.Deed.{Deed}
-use Rattle.nob_model_words.specs.declared.deed.Deed.TheVariants as did
-use Rattle.nob_model_words.specs.Sessions.{is_peer, closed, item_at, acted}
-use Rattle.nob_model_words.specs.Objects.{is_exported, is_withdrawn, is_live}
-use Rattle.nob_model_words.specs.Turns.{carries}
+use Rattle.nob_model_types.specs.declared.deed.Deed.{Deed}
+use Rattle.nob_model_types.specs.declared.deed.Deed.TheVariants as did
+use Rattle.nob_model_types.specs.Sessions.{is_peer, closed, item_at, acted}
+use Rattle.nob_model_types.specs.Objects.{is_exported, is_withdrawn, is_live}
+use Rattle.nob_model_types.specs.Turns.{carries}
 use Rattle.nob_model_work.specs.declared.gifts.Gift.{Gift}
 use Rattle.nob_model_work.specs.Work.{work}
 use Rattle.nob_model_work.specs.Gifts.{gifts_of, gifts}

@@ -12,15 +12,15 @@ use Rattle.nob_item.specs.Kinds.{counted_in}
 use Rattle.nob_item.specs.declared.item.Item.{Item}
 use Rattle.nob_item.specs.declared.item.Item.TheVariants as items
 use Rattle.nob_model_types.specs.declared.entry.Entry.{Entry}
-use Rattle.nob_model_words.specs.declared.deed.Deed.{Deed}
-use Rattle.nob_model_words.specs.declared.deed.Deed.TheVariants as did
-use Rattle.nob_model_words.specs.declared.message.Message.{Message}
-use Rattle.nob_model_words.specs.declared.turns.OwnerAnswer.{OwnerAnswer}
-use Rattle.nob_model_words.specs.declared.turns.OwnerAnswer.TheVariants as said
-use Rattle.nob_model_words.specs.Sessions.{closed, item_at}
-use Rattle.nob_model_words.specs.Objects.{is_live}
-use Rattle.nob_model_words.specs.Turns.{turns, is_own, is_granted, is_pending, is_refused, is_no, with_clean, carries}
-use Rattle.nob_model_words.specs.Messages.{is_of}
+use Rattle.nob_model_types.specs.declared.deed.Deed.{Deed}
+use Rattle.nob_model_types.specs.declared.deed.Deed.TheVariants as did
+use Rattle.nob_model_types.specs.declared.message.Message.{Message}
+use Rattle.nob_model_types.specs.declared.turns.OwnerAnswer.{OwnerAnswer}
+use Rattle.nob_model_types.specs.declared.turns.OwnerAnswer.TheVariants as said
+use Rattle.nob_model_types.specs.Sessions.{closed, item_at}
+use Rattle.nob_model_types.specs.Objects.{is_live}
+use Rattle.nob_model_types.specs.Turns.{turns, is_own, is_granted, is_pending, is_refused, is_no, with_clean, carries}
+use Rattle.nob_model_types.specs.Messages.{is_of}
 use Rattle.nob_model_work.specs.Work.{work}
 use Rattle.nob_model_history.specs.declared.transit.SentItem.{SentItem}
 use Rattle.nob_model_history.specs.Premises.{TookTurns, AnswersPending}

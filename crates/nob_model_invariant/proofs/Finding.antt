@@ -27,9 +27,9 @@ use Rattle.nob_model_types.specs.declared.answer.Answer.{Answer}
 use Rattle.nob_model_types.specs.declared.answer.Answer.TheVariants as answers
 use Rattle.nob_model_types.specs.declared.refusal.Refusal.{Refusal}
 use Rattle.nob_model_types.specs.declared.entry.Entry.{Entry}
-use Rattle.nob_model_words.specs.Sessions.{is_peer}
-use Rattle.nob_model_words.specs.Objects.{is_live}
-use Rattle.nob_model_words.specs.Turns.{is_own, carries}
+use Rattle.nob_model_types.specs.Sessions.{is_peer}
+use Rattle.nob_model_types.specs.Objects.{is_live}
+use Rattle.nob_model_types.specs.Turns.{is_own, carries}
 use Rattle.nob_model_history.specs.declared.history.History.{History}
 use Rattle.nob_model_history.specs.Ends.{calls_at}
 use Rattle.nob_model_history.specs.Listing.{is_entered}

@@ -1,7 +1,7 @@
 -- The points of the invariant.
 use Rattle.std.proofs.Common.{◌≡◌, ◌||◌, Bool, true, false, refl}
 use Rattle.std.proofs.lemmas.Bool.{both_ways}
-use Rattle.nob_model_words.specs.Sessions.{closed, acted}
+use Rattle.nob_model_types.specs.Sessions.{closed, acted}
 use Rattle.nob_model_work.specs.Work.{work}
 use Rattle.nob_model.proofs.Waiting.{all_weaker}
 use Rattle.nob_model_journal.specs.Journals.{deeds_at}

@@ -10,12 +10,12 @@ use Rattle.nob_item.specs.Kinds.{counted_in}
 use Rattle.nob_item.specs.declared.item.Item.{Item}
 use Rattle.nob_item.specs.declared.item.Item.TheVariants as items
 use Rattle.nob_model_types.specs.declared.answer.Job.{Job}
-use Rattle.nob_model_words.specs.declared.deed.Deed.{Deed}
-use Rattle.nob_model_words.specs.declared.deed.Deed.TheVariants as did
-use Rattle.nob_model_words.specs.declared.message.Message.{Message}
-use Rattle.nob_model_words.specs.declared.message.RefCopy.{RefCopy}
-use Rattle.nob_model_words.specs.Sessions.{item_at, closed}
-use Rattle.nob_model_words.specs.Messages.{new_message, new_copy, message_after, is_of, is_not_from, is_job, is_lost_message}
+use Rattle.nob_model_types.specs.declared.deed.Deed.{Deed}
+use Rattle.nob_model_types.specs.declared.deed.Deed.TheVariants as did
+use Rattle.nob_model_types.specs.declared.message.Message.{Message}
+use Rattle.nob_model_types.specs.declared.message.RefCopy.{RefCopy}
+use Rattle.nob_model_types.specs.Sessions.{item_at, closed}
+use Rattle.nob_model_types.specs.Messages.{new_message, new_copy, message_after, is_of, is_not_from, is_job, is_lost_message}
 use Rattle.nob_model_work.specs.declared.work.InHand.{InHand}
 use Rattle.nob_model_work.specs.Work.{without_first, wait, make_ready, make_reply, is_none_of, is_not_reply, after_message, after_act, after_settlement, without_waiting, after_settle, after_claim, after_finish, after_take, after_end, after_call, after_close, work_after, with_loans, work}
 use Rattle.nob_model_history.specs.Histories.{history_of}

@@ -4,10 +4,10 @@ use Rattle.std.proofs.lemmas.Bool.{and_parts, or_left, or_right, both_ways}
 use Rattle.nob_ids.specs.declared.wire_rep.WireRep.{WireRep}
 use Rattle.nob_item.specs.declared.item.Item.{Item}
 use Rattle.nob_item.specs.declared.item.Item.TheVariants as items
-use Rattle.nob_model_words.specs.declared.deed.Deed.{Deed}
-use Rattle.nob_model_words.specs.declared.turns.Turns.{Turns}
-use Rattle.nob_model_words.specs.declared.turns.OwnerAnswer.TheVariants as said
-use Rattle.nob_model_words.specs.Turns.{turns, turns_after, is_pending, is_granted, is_refused, is_standing, with_dirty, with_answer, wants_dirty, names, carries}
+use Rattle.nob_model_types.specs.declared.deed.Deed.{Deed}
+use Rattle.nob_model_types.specs.declared.turns.Turns.{Turns}
+use Rattle.nob_model_types.specs.declared.turns.OwnerAnswer.TheVariants as said
+use Rattle.nob_model_types.specs.Turns.{turns, turns_after, is_pending, is_granted, is_refused, is_standing, with_dirty, with_answer, wants_dirty, names, carries}
 use Rattle.nob_model_history.specs.Premises.{AnswersPending}
 use Rattle.nob_model_history.proofs.Turning.{HaveShape, after_dirty, after_answer, named_ref, wanted_none}
 use Rattle.nob_model_journal.specs.Losses.{is_carried, is_loss}

@@ -3,7 +3,7 @@
 use Rattle.std.specs.Prelude.{◌≡◌, ◌≢◌, ◌≤◌, ◌⊎◌, ℕ, ◌+◌, true, false, List}
 use Rattle.std.specs.List.{list_any}
 use Rattle.nob_model_types.specs.declared.entry.Entry.{Entry}
-use Rattle.nob_model_words.specs.Messages.{replies_to}
+use Rattle.nob_model_types.specs.Messages.{replies_to}
 use Rattle.nob_model_work.specs.Work.{work}
 use Rattle.nob_model_history.specs.Listing.{is_entered}
 use Rattle.nob_model_acting.specs.Acting.{awaits_reply}

@@ -6,12 +6,12 @@ use Rattle.nob_ids.specs.Names.{is_same}
 use Rattle.nob_ids.specs.declared.wire_rep.WireRep.{WireRep}
 use Rattle.nob_item.specs.Kinds.{counted_in}
 use Rattle.nob_item.specs.declared.item.Item.{Item}
-use Rattle.nob_model_words.specs.Sessions.{item_at}
-use Rattle.nob_model_words.specs.Turns.{turns}
-use Rattle.nob_model_words.specs.Messages.{is_of}
-use Rattle.nob_model_words.specs.declared.deed.Deed.{Deed}
-use Rattle.nob_model_words.specs.declared.deed.Deed.TheVariants.{Act, Clean}
-use Rattle.nob_model_words.specs.declared.message.Message.{Message}
+use Rattle.nob_model_types.specs.Sessions.{item_at}
+use Rattle.nob_model_types.specs.Turns.{turns}
+use Rattle.nob_model_types.specs.Messages.{is_of}
+use Rattle.nob_model_types.specs.declared.deed.Deed.{Deed}
+use Rattle.nob_model_types.specs.declared.deed.Deed.TheVariants.{Act, Clean}
+use Rattle.nob_model_types.specs.declared.message.Message.{Message}
 use Rattle.nob_model_history.specs.Transit.{is_some_of}
 use Rattle.nob_model_journal.specs.Losses.{is_carried}
 

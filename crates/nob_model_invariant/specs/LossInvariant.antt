@@ -3,10 +3,10 @@ use Rattle.std.specs.Prelude.{◌≡◌, ℕ, Bool, true, false, ◌||◌, ◌==
 use Rattle.std.specs.List.{AllByRecursion}
 use Rattle.nob_ids.specs.declared.wire_rep.WireRep.{WireRep}
 use Rattle.nob_model_types.specs.declared.entry.Entry.{Entry}
-use Rattle.nob_model_words.specs.Sessions.{is_peer}
-use Rattle.nob_model_words.specs.Turns.{turns, is_own, is_lost, is_pending, is_refused, is_standing, carries}
-use Rattle.nob_model_words.specs.declared.deed.Deed.{Deed}
-use Rattle.nob_model_words.specs.declared.message.Message.{Message}
+use Rattle.nob_model_types.specs.Sessions.{is_peer}
+use Rattle.nob_model_types.specs.Turns.{turns, is_own, is_lost, is_pending, is_refused, is_standing, carries}
+use Rattle.nob_model_types.specs.declared.deed.Deed.{Deed}
+use Rattle.nob_model_types.specs.declared.message.Message.{Message}
 use Rattle.nob_model_work.specs.Work.{work}
 use Rattle.nob_model_history.specs.Transit.{sent, is_settled}
 use Rattle.nob_model.specs.Right.{own_ref}

@@ -3,7 +3,7 @@ use Rattle.std.specs.Prelude.{◌≡◌, ⊤, ℕ, ◌&&◌, ◌||◌, not, ◌=
 use Rattle.nob_item.specs.declared.item.Item.{Item}
 use Rattle.nob_item.specs.declared.item.Item.TheVariants as items
 use Rattle.nob_model_types.specs.declared.entry.Entry.{Entry}
-use Rattle.nob_model_words.specs.Turns.{carries}
+use Rattle.nob_model_types.specs.Turns.{carries}
 use Rattle.nob_model.specs.Right.{own_ref}
 use Rattle.nob_model_journal.specs.Journals.{sent_to, acted_from}
 use Rattle.nob_model_safety.specs.Asking.{ask_in}

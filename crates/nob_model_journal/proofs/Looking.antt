@@ -8,10 +8,10 @@ use Rattle.std.proofs.lemmas.Bool.Decides.{Decides-and}
 use Rattle.nob_ids.specs.Names.{is_same}
 use Rattle.nob_ids.specs.declared.wire_rep.WireRep.{WireRep}
 use Rattle.nob_model_types.specs.declared.entry.Entry.{Entry}
-use Rattle.nob_model_words.specs.Deeds.{deeds}
-use Rattle.nob_model_words.specs.Sessions.{acted, item_at}
-use Rattle.nob_model_words.specs.declared.deed.Deed.{Deed}
-use Rattle.nob_model_words.specs.declared.deed.Deed.TheVariants.{Act}
+use Rattle.nob_model_types.specs.Deeds.{deeds}
+use Rattle.nob_model_types.specs.Sessions.{acted, item_at}
+use Rattle.nob_model_types.specs.declared.deed.Deed.{Deed}
+use Rattle.nob_model_types.specs.declared.deed.Deed.TheVariants.{Act}
 use Rattle.nob_model_history.proofs.Turning.{same_ref}
 use Rattle.nob_model_journal.specs.Journals.{at, deeds_at, Each}
 use Rattle.nob_model_journal.specs.Tests.{spaces_in, senders_in, each}

@@ -10,7 +10,7 @@ use Rattle.nob_pickle.specs.declared.value.Value.{Value}
 use Rattle.nob_pickle.proofs.Forests as forests
 use Rattle.nob_item.specs.declared.item.Item.{Item}
 use Rattle.nob_item.specs.declared.item.Item.TheVariants as items
-use Rattle.nob_model_words.specs.Same.{same_tree, same_trees, same_value}
+use Rattle.nob_model_types.specs.Same.{same_tree, same_trees, same_value}
 use Rattle.nob_model_history.proofs.Dirtying.{same_self}
 use Rattle.nob_model_history.proofs.Turning.{same_ref}
 use Rattle.nob_model_journal.specs.Tests.{same_item}

@@ -5,9 +5,9 @@ use Rattle.std.specs.List.{AllByRecursion}
 use Rattle.nob_item.specs.declared.item.Item.{Item}
 use Rattle.nob_model_types.specs.declared.entry.Entry.{Entry}
 use Rattle.nob_model_session.specs.Pair.{IsBeginning}
-use Rattle.nob_model_words.specs.Sessions.{closed}
-use Rattle.nob_model_words.specs.declared.deed.Deed.{Deed}
-use Rattle.nob_model_words.specs.declared.deed.Deed.TheVariants.{Act}
+use Rattle.nob_model_types.specs.Sessions.{closed}
+use Rattle.nob_model_types.specs.declared.deed.Deed.{Deed}
+use Rattle.nob_model_types.specs.declared.deed.Deed.TheVariants.{Act}
 use Rattle.nob_model_work.specs.Work.{work}
 use Rattle.nob_model_work.specs.Gifts.{gifts}
 use Rattle.nob_model_journal.specs.Journals.{deeds_at, sent_to, acted_from}

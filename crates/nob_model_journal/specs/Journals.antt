@@ -4,10 +4,10 @@ use Rattle.std.specs.Prelude.{⊤, ℕ, Bool, ◌&&◌, not, ◌==◌, List, [],
 use Rattle.nob_frame.specs.declared.frame.Frame.{Frame}
 use Rattle.nob_item.specs.declared.item.Item.{Item}
 use Rattle.nob_model_types.specs.declared.entry.Entry.{Entry}
-use Rattle.nob_model_words.specs.Deeds.{deed_in, deeds}
-use Rattle.nob_model_words.specs.Sessions.{closed, acted}
-use Rattle.nob_model_words.specs.declared.deed.Deed.{Deed}
-use Rattle.nob_model_words.specs.declared.deed.Deed.TheVariants.{Transmit}
+use Rattle.nob_model_types.specs.Deeds.{deed_in, deeds}
+use Rattle.nob_model_types.specs.Sessions.{closed, acted}
+use Rattle.nob_model_types.specs.declared.deed.Deed.{Deed}
+use Rattle.nob_model_types.specs.declared.deed.Deed.TheVariants.{Transmit}
 use Rattle.nob_model_history.specs.Histories.{history_of}
 use Rattle.nob_model_history.specs.Transit.{sent}
 use Rattle.nob_model_history.specs.declared.history.History.{History}

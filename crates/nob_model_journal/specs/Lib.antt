@@ -1,5 +1,5 @@
-pub use Rattle.nob_model_words.specs.Deeds
-pub use Rattle.nob_model_words.specs.Sessions
+pub use Rattle.nob_model_types.specs.Deeds
+pub use Rattle.nob_model_types.specs.Sessions
 pub use Rattle.nob_model_history.specs.Histories
 pub use Rattle.nob_model_history.specs.Transit
 pub mod Journals

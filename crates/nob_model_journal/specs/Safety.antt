@@ -4,9 +4,9 @@ use Rattle.std.specs.Prelude.{◌≡◌, ℕ, Bool, false, ◌&&◌, ◌||◌, n
 use Rattle.std.specs.List.{list_any}
 use Rattle.nob_ids.specs.declared.wire_rep.WireRep.{WireRep}
 use Rattle.nob_model_types.specs.declared.entry.Entry.{Entry}
-use Rattle.nob_model_words.specs.Deeds.{deed_in}
-use Rattle.nob_model_words.specs.Turns.{is_own, carries}
-use Rattle.nob_model_words.specs.declared.deed.Deed.TheVariants.{Withdraw}
+use Rattle.nob_model_types.specs.Deeds.{deed_in}
+use Rattle.nob_model_types.specs.Turns.{is_own, carries}
+use Rattle.nob_model_types.specs.declared.deed.Deed.TheVariants.{Withdraw}
 use Rattle.nob_model_history.specs.Holds.{is_held}
 use Rattle.nob_model_history.specs.Transit.{sent, is_settled}
 use Rattle.nob_model_history.specs.declared.transit.SentItem.{SentItem}

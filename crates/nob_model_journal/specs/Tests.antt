@@ -6,11 +6,11 @@ use Rattle.nob_item.specs.Kinds.{counted_in}
 use Rattle.nob_item.specs.declared.item.Item.{Item}
 use Rattle.nob_item.specs.declared.item.Item.TheVariants as items
 use Rattle.nob_model_types.specs.declared.entry.Entry.{Entry}
-use Rattle.nob_model_words.specs.Deeds.{deed_in}
-use Rattle.nob_model_words.specs.Same.{same_value}
-use Rattle.nob_model_words.specs.Sessions.{closed, item_at}
-use Rattle.nob_model_words.specs.declared.deed.Deed.{Deed}
-use Rattle.nob_model_words.specs.declared.deed.Deed.TheVariants.{Act, Withdraw}
+use Rattle.nob_model_types.specs.Deeds.{deed_in}
+use Rattle.nob_model_types.specs.Same.{same_value}
+use Rattle.nob_model_types.specs.Sessions.{closed, item_at}
+use Rattle.nob_model_types.specs.declared.deed.Deed.{Deed}
+use Rattle.nob_model_types.specs.declared.deed.Deed.TheVariants.{Act, Withdraw}
 use Rattle.nob_model_work.specs.Gifts.{all_gifts}
 use Rattle.nob_model_work.specs.declared.gifts.Gift.{Gift}
 use Rattle.nob_model.specs.Right.{own_ref}

@@ -2,7 +2,7 @@
 
 ghost use Rattle.std.specs.Prelude.{◌≡◌, ◌<◌, ◌+◌, ◌^◌, not, IfOk, length};
 ghost use Rattle.std.specs.List.{list_all};
-ghost use Rattle.nob_model_words.specs.Sessions.{closed as closed_word};
+ghost use Rattle.nob_model_types.specs.Sessions.{closed as closed_word};
 ghost use Rattle.nob_model_journal.specs.Journals as words;
 ghost use Rattle.nob_model_journal.specs.Tests as tests;
 
@@ -10,8 +10,7 @@ use crate::journals::{acted_from, history_at, senders_in, sent_to, spaces_in};
 use crate::same::same_item;
 use nob_ids::{ItemNo, SpaceId};
 use nob_item::Item;
-use nob_model_types::Entry;
-use nob_model_words::{Deed, Here, sessions};
+use nob_model_types::{Deed, Entry, Here, sessions};
 use nob_model_work::{Gift, GiftList};
 use std::alloc::{AllocError, Global};
 

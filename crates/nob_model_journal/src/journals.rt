@@ -3,15 +3,14 @@
 
 ghost use Rattle.std.specs.Prelude.{◌≡◌, ◌==◌, ◌++◌, IfOk, filter, map};
 ghost use Rattle.std.specs.List.{list_any};
-ghost use Rattle.nob_model_words.specs.Sessions.{acted as acted_word};
+ghost use Rattle.nob_model_types.specs.Sessions.{acted as acted_word};
 ghost use Rattle.nob_model_journal.specs.Journals as words;
 ghost use Rattle.nob_model_journal.specs.Tests as tests;
 
 use nob_ids::{ItemNo, SpaceId};
 use nob_item::Item;
 use nob_model_history::{History, SentItem, history_of, transit};
-use nob_model_types::Entry;
-use nob_model_words::{Deed, Here, sessions};
+use nob_model_types::{Deed, Entry, Here, sessions};
 use std::alloc::{AllocError, Global};
 
 /// The entries of a space, copied.

@@ -3,8 +3,8 @@
 ghost use Rattle.std.specs.Prelude.{◌≡◌, ◌∷◌, ◌||◌, ◌&&◌, not, IfOk, Some};
 ghost use Rattle.std.specs.List.{list_all};
 ghost use Rattle.nob_ids.specs.Names.{is_same};
-ghost use Rattle.nob_model_words.specs.Sessions.{item_at};
-ghost use Rattle.nob_model_words.specs.Turns.{turns as turns_word};
+ghost use Rattle.nob_model_types.specs.Sessions.{item_at};
+ghost use Rattle.nob_model_types.specs.Turns.{turns as turns_word};
 ghost use Rattle.nob_model_journal.specs.Journals.{deeds_at as deeds_word};
 ghost use Rattle.nob_model_journal.specs.Losses as words;
 ghost use Rattle.nob_model_journal.specs.Tests as tests;
@@ -12,8 +12,7 @@ ghost use Rattle.nob_model_journal.specs.Tests as tests;
 use crate::journals::{both_open, deeds_at};
 use nob_ids::{ItemNo, SpaceId, WireRep};
 use nob_item::Item;
-use nob_model_types::Entry;
-use nob_model_words::{Deed, Here, sessions, turns};
+use nob_model_types::{Deed, Entry, Here, sessions, turns};
 use std::alloc::{AllocError, Global};
 
 // Whether an item, where there is one, carries a reference.

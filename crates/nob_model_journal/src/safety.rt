@@ -3,15 +3,14 @@
 ghost use Rattle.std.specs.Prelude.{◌≡◌, ◌&&◌, ◌||◌, not, IfOk};
 ghost use Rattle.std.specs.List.{list_any, list_all};
 ghost use Rattle.nob_model_history.specs.Holds.{is_held as is_held_word};
-ghost use Rattle.nob_model_words.specs.Deeds.{deed_in};
+ghost use Rattle.nob_model_types.specs.Deeds.{deed_in};
 ghost use Rattle.nob_model_journal.specs.Safety as words;
 ghost use Rattle.nob_model_journal.specs.Tests as tests;
 
 use crate::journals::{both_open, deeds_at, history_at, spaces_in};
 use nob_ids::{SpaceId, WireRep};
 use nob_model_history::{History, SentItem, holds, transit};
-use nob_model_types::Entry;
-use nob_model_words::{Deed, Here, turns};
+use nob_model_types::{Deed, Entry, Here, turns};
 use std::alloc::{AllocError, Global};
 
 /// Whether a space is the owner of a reference, or its session with the owner is open at both ends.

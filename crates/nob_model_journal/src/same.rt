@@ -4,7 +4,7 @@ ghost use Rattle.std.specs.Prelude.{◌≡◌};
 ghost use Rattle.nob_model_journal.specs.Tests as tests;
 
 use nob_item::Item;
-use nob_model_words::same_value;
+use nob_model_types::same_value;
 
 /// Whether two items are the same. It recurses once for each level of their values.
 pub fn same_item(item: &Item, other: &Item) -> bool

@@ -10,14 +10,14 @@ use Rattle.nob_item.specs.Kinds.{counted_in}
 use Rattle.nob_item.specs.declared.item.Item.{Item}
 use Rattle.nob_item.specs.declared.item.Item.TheVariants as items
 use Rattle.nob_model_types.specs.declared.event.Outcome.{Outcome}
-use Rattle.nob_model_words.specs.declared.deed.Deed.{Deed}
-use Rattle.nob_model_words.specs.declared.deed.Deed.TheVariants as did
-use Rattle.nob_model_words.specs.declared.message.Message.{Message}
-use Rattle.nob_model_words.specs.declared.turns.Turns.{Turns}
-use Rattle.nob_model_words.specs.Sessions.{is_peer, item_at}
-use Rattle.nob_model_words.specs.Objects.{is_exported, is_live}
-use Rattle.nob_model_words.specs.Turns.{wants_dirty, turns}
-use Rattle.nob_model_words.specs.Messages.{is_of, is_lost_message}
+use Rattle.nob_model_types.specs.declared.deed.Deed.{Deed}
+use Rattle.nob_model_types.specs.declared.deed.Deed.TheVariants as did
+use Rattle.nob_model_types.specs.declared.message.Message.{Message}
+use Rattle.nob_model_types.specs.declared.turns.Turns.{Turns}
+use Rattle.nob_model_types.specs.Sessions.{is_peer, item_at}
+use Rattle.nob_model_types.specs.Objects.{is_exported, is_live}
+use Rattle.nob_model_types.specs.Turns.{wants_dirty, turns}
+use Rattle.nob_model_types.specs.Messages.{is_of, is_lost_message}
 use Rattle.nob_model_work.specs.declared.gifts.Gift.{Gift}
 use Rattle.nob_model_work.specs.declared.work.InHand.{InHand}
 use Rattle.nob_model_work.specs.declared.work.Run.{Run}

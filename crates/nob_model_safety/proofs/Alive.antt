@@ -13,15 +13,15 @@ use Rattle.nob_pickle.specs.declared.value.Value.{Value}
 use Rattle.nob_item.specs.Kinds.{counted_in}
 use Rattle.nob_item.specs.declared.item.Item.{Item}
 use Rattle.nob_item.specs.declared.item.Item.TheVariants as items
-use Rattle.nob_model_words.specs.declared.deed.Deed.{Deed}
-use Rattle.nob_model_words.specs.declared.deed.Deed.TheVariants as did
-use Rattle.nob_model_words.specs.declared.message.Loan.{Loan}
-use Rattle.nob_model_words.specs.declared.message.Loan.TheVariants as loans
-use Rattle.nob_model_words.specs.declared.message.RefCopy.{RefCopy}
-use Rattle.nob_model_words.specs.declared.message.Message.{Message}
-use Rattle.nob_model_words.specs.Objects.{exports, is_exported, is_withdrawn, is_live}
-use Rattle.nob_model_words.specs.Turns.{is_own, is_usable}
-use Rattle.nob_model_words.specs.Messages.{new_message, new_copy, loan_after, copy_after, message_after, replies_to}
+use Rattle.nob_model_types.specs.declared.deed.Deed.{Deed}
+use Rattle.nob_model_types.specs.declared.deed.Deed.TheVariants as did
+use Rattle.nob_model_types.specs.declared.message.Loan.{Loan}
+use Rattle.nob_model_types.specs.declared.message.Loan.TheVariants as loans
+use Rattle.nob_model_types.specs.declared.message.RefCopy.{RefCopy}
+use Rattle.nob_model_types.specs.declared.message.Message.{Message}
+use Rattle.nob_model_types.specs.Objects.{exports, is_exported, is_withdrawn, is_live}
+use Rattle.nob_model_types.specs.Turns.{is_own, is_usable}
+use Rattle.nob_model_types.specs.Messages.{new_message, new_copy, loan_after, copy_after, message_after, replies_to}
 use Rattle.nob_model_work.specs.declared.work.InHand.{InHand}
 use Rattle.nob_model_work.specs.declared.work.Run.{Run}
 use Rattle.nob_model_work.specs.Work.{work, work_after, with_loans, run_after}

@@ -24,11 +24,11 @@ use Rattle.nob_model_types.specs.declared.answer.Answer.{Answer}
 use Rattle.nob_model_types.specs.declared.answer.Answer.TheVariants as answers
 use Rattle.nob_model_types.specs.declared.refusal.Refusal.{Refusal}
 use Rattle.nob_model_types.specs.declared.entry.Entry.{Entry}
-use Rattle.nob_model_words.specs.Sessions.{is_peer}
+use Rattle.nob_model_types.specs.Sessions.{is_peer}
 use Rattle.nob_model_history.specs.declared.history.History.{History}
 use Rattle.nob_model_history.specs.Ends.{calls_at}
 use Rattle.nob_model_acting.specs.Acting.{fault_if, first_fault, fault_of, names_not_live, awaits_reply}
-use Rattle.nob_model_words.specs.Objects.{is_live}
+use Rattle.nob_model_types.specs.Objects.{is_live}
 use Rattle.nob_model.specs.Right.{right_after}
 use Rattle.nob_model.proofs.Accepted.{ClosesFor, fault_tells, arrive_end_tells, tick_end_tells, close_tells}
 use Rattle.nob_model_journal.specs.Journals.{history_at}

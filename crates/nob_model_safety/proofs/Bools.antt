@@ -3,9 +3,9 @@ use Rattle.std.proofs.Common.{◌≡◌, ℕ, zero, suc, ◌+◌, not, Bool, tru
 use Rattle.std.specs.List.{AllByRecursion}
 use Rattle.std.proofs.lemmas.List.{length-append, length_push, take_all, take-append-le}
 use Rattle.std.proofs.lemmas.List.Elements.{filter-append}
-use Rattle.nob_model_words.specs.declared.turns.OwnerAnswer.{OwnerAnswer}
-use Rattle.nob_model_words.specs.declared.turns.OwnerAnswer.TheVariants as said
-use Rattle.nob_model_words.specs.Turns.{is_yes, is_granted, is_pending, is_standing, with_dirty, with_answer, with_clean}
+use Rattle.nob_model_types.specs.declared.turns.OwnerAnswer.{OwnerAnswer}
+use Rattle.nob_model_types.specs.declared.turns.OwnerAnswer.TheVariants as said
+use Rattle.nob_model_types.specs.Turns.{is_yes, is_granted, is_pending, is_standing, with_dirty, with_answer, with_clean}
 use Rattle.nob_model_history.proofs.Turning.{HaveShape, not_standing_idle, pending_waits, granted_answered}
 use Rattle.nob_model_safety.specs.Asking.{dirties_in, cleans_in, last_or, word_of, last_word, turns_by, Alternate, AskedInTurn}
 

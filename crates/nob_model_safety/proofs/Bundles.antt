@@ -7,9 +7,9 @@ use Rattle.std.proofs.lemmas.List.{length_push}
 use Rattle.std.proofs.lemmas.List.Elements.{filter_map-append}
 use Rattle.nob_item.specs.declared.item.Item.{Item}
 use Rattle.nob_item.specs.declared.item.Item.TheVariants as items
-use Rattle.nob_model_words.specs.declared.deed.Deed.{Deed}
-use Rattle.nob_model_words.specs.declared.deed.Deed.TheVariants as did
-use Rattle.nob_model_words.specs.Sessions.{item_at, acted}
+use Rattle.nob_model_types.specs.declared.deed.Deed.{Deed}
+use Rattle.nob_model_types.specs.declared.deed.Deed.TheVariants as did
+use Rattle.nob_model_types.specs.Sessions.{item_at, acted}
 use Rattle.nob_model_history.specs.Transit.{is_settle_of, is_settled}
 use Rattle.nob_model_history.proofs.Sending.{up_to}
 use Rattle.nob_model_journal.specs.Fronts.{with_numbers}

@@ -10,11 +10,11 @@ use Rattle.nob_ids.specs.declared.limits.Limits.{Limits}
 use Rattle.nob_ids.specs.declared.wire_rep.WireRep.{WireRep}
 use Rattle.nob_item.specs.declared.item.Item.{Item}
 use Rattle.nob_item.specs.declared.item.Item.TheVariants as items
-use Rattle.nob_model_words.specs.declared.deed.Deed.{Deed}
-use Rattle.nob_model_words.specs.declared.deed.Deed.TheVariants as did
-use Rattle.nob_model_words.specs.declared.turns.Turns.{Turns}
-use Rattle.nob_model_words.specs.Sessions.{is_peer, item_at, acted}
-use Rattle.nob_model_words.specs.Turns.{turns, turns_after, is_pending, is_granted, is_standing, wants_dirty, with_dirty, with_answer, with_clean, carries, names}
+use Rattle.nob_model_types.specs.declared.deed.Deed.{Deed}
+use Rattle.nob_model_types.specs.declared.deed.Deed.TheVariants as did
+use Rattle.nob_model_types.specs.declared.turns.Turns.{Turns}
+use Rattle.nob_model_types.specs.Sessions.{is_peer, item_at, acted}
+use Rattle.nob_model_types.specs.Turns.{turns, turns_after, is_pending, is_granted, is_standing, wants_dirty, with_dirty, with_answer, with_clean, carries, names}
 use Rattle.nob_model_work.specs.Work.{work}
 use Rattle.nob_model_work.specs.Gifts.{gifts, gifts_of_act}
 use Rattle.nob_model_history.specs.Premises.{AnswersPending}

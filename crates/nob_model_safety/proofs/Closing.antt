@@ -14,8 +14,8 @@ use Rattle.nob_model_types.specs.declared.answer.Answer.{Answer}
 use Rattle.nob_model_types.specs.declared.answer.Answer.TheVariants as answers
 use Rattle.nob_model_types.specs.declared.refusal.Refusal.{Refusal}
 use Rattle.nob_model_types.specs.declared.refusal.Refusal.TheVariants as refusals
-use Rattle.nob_model_words.specs.declared.message.Message.{Message}
-use Rattle.nob_model_words.specs.Messages.{replies_to}
+use Rattle.nob_model_types.specs.declared.message.Message.{Message}
+use Rattle.nob_model_types.specs.Messages.{replies_to}
 use Rattle.nob_model_work.specs.declared.work.OwnCall.{OwnCall}
 use Rattle.nob_model_work.specs.declared.work.Run.{Run}
 use Rattle.nob_model_work.specs.declared.work.Stage.{Stage}
@@ -26,7 +26,7 @@ use Rattle.nob_model_types.specs.declared.answer.Job.{Job}
 use Rattle.nob_frame.specs.declared.frame.Frame.{Frame}
 use Rattle.nob_model_session.specs.Right.{right_transmit}
 use Rattle.nob_model_session.specs.declared.entry.Kind.TheVariants.{Limited}
-use Rattle.nob_model_words.specs.Sessions.{is_peer, closed}
+use Rattle.nob_model_types.specs.Sessions.{is_peer, closed}
 use Rattle.nob_model_work.specs.Gifts.{value_of}
 use Rattle.nob_model_history.specs.Ends.{calls_at}
 use Rattle.nob_model.proofs.Accepted.{accepted, err_ok}

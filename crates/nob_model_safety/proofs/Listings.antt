@@ -8,9 +8,9 @@ use Rattle.nob_ids.specs.declared.wire_rep.WireRep.{WireRep}
 use Rattle.nob_item.specs.declared.item.Item.{Item}
 use Rattle.nob_model_session.specs.Pair.{IsBeginning}
 use Rattle.nob_model_types.specs.declared.entry.Entry.{Entry}
-use Rattle.nob_model_words.specs.declared.turns.OwnerAnswer.TheVariants as said
-use Rattle.nob_model_words.specs.declared.turns.Turns.{Turns}
-use Rattle.nob_model_words.specs.Turns.{turns, is_granted, is_yes}
+use Rattle.nob_model_types.specs.declared.turns.OwnerAnswer.TheVariants as said
+use Rattle.nob_model_types.specs.declared.turns.Turns.{Turns}
+use Rattle.nob_model_types.specs.Turns.{turns, is_granted, is_yes}
 use Rattle.nob_model_journal.specs.Journals.{deeds_at, sent_to, acted_from}
 use Rattle.nob_model_journal.specs.Fronts.{with_numbers, ActsInOrder}
 use Rattle.nob_model_safety.specs.Asking.{ask_in, answer_in, asks_among, answers_among, items_among, dirties_in, last_or, last_word, turns_by, asked, heard, was_asked, gave}

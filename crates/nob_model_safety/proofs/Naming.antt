@@ -15,13 +15,13 @@ use Rattle.nob_item.specs.declared.item.Item.TheVariants as items
 use Rattle.nob_model_types.specs.declared.event.Outcome.{Outcome}
 use Rattle.nob_model_types.specs.declared.refusal.Refusal.TheVariants as refusals
 use Rattle.nob_model_types.specs.declared.entry.Entry.{Entry}
-use Rattle.nob_model_words.specs.declared.deed.Deed.{Deed}
-use Rattle.nob_model_words.specs.declared.deed.Deed.TheVariants as did
-use Rattle.nob_model_words.specs.declared.message.Message.{Message}
-use Rattle.nob_model_words.specs.Sessions.{is_peer, item_at}
-use Rattle.nob_model_words.specs.Objects.{exports, is_exported, is_live}
-use Rattle.nob_model_words.specs.Turns.{turns, wants_dirty}
-use Rattle.nob_model_words.specs.Messages.{message_after, is_of, is_lost_message, replies_to}
+use Rattle.nob_model_types.specs.declared.deed.Deed.{Deed}
+use Rattle.nob_model_types.specs.declared.deed.Deed.TheVariants as did
+use Rattle.nob_model_types.specs.declared.message.Message.{Message}
+use Rattle.nob_model_types.specs.Sessions.{is_peer, item_at}
+use Rattle.nob_model_types.specs.Objects.{exports, is_exported, is_live}
+use Rattle.nob_model_types.specs.Turns.{turns, wants_dirty}
+use Rattle.nob_model_types.specs.Messages.{message_after, is_of, is_lost_message, replies_to}
 use Rattle.nob_model_work.specs.declared.gifts.Gift.{Gift}
 use Rattle.nob_model_work.specs.declared.work.InHand.{InHand}
 use Rattle.nob_model_work.specs.declared.work.Run.{Run}

@@ -17,11 +17,11 @@ use Rattle.nob_model_session.specs.declared.entry.EndEntry.TheVariants as ends
 use Rattle.nob_model_session.specs.declared.entry.PairEntry.{PairEntry}
 use Rattle.nob_model_session.specs.declared.entry.PairEntry.TheVariants.{First, Second}
 use Rattle.nob_model_types.specs.declared.entry.Entry.{Entry}
-use Rattle.nob_model_words.specs.Deeds.{deed_in}
-use Rattle.nob_model_words.specs.declared.deed.Deed.{Deed}
-use Rattle.nob_model_words.specs.declared.deed.Deed.TheVariants as did
-use Rattle.nob_model_words.specs.declared.deed.Cause.{Cause}
-use Rattle.nob_model_words.specs.declared.deed.Cause.TheVariants as causes
+use Rattle.nob_model_types.specs.Deeds.{deed_in}
+use Rattle.nob_model_types.specs.declared.deed.Deed.{Deed}
+use Rattle.nob_model_types.specs.declared.deed.Deed.TheVariants as did
+use Rattle.nob_model_types.specs.declared.deed.Cause.{Cause}
+use Rattle.nob_model_types.specs.declared.deed.Cause.TheVariants as causes
 use Rattle.nob_model_work.specs.Work.{work}
 use Rattle.nob_model_work.specs.Gifts.{gifts}
 use Rattle.nob_model_history.specs.Histories.{history_of}

@@ -13,8 +13,8 @@ use Rattle.nob_ids.specs.declared.wire_rep.WireRep.{WireRep}
 use Rattle.nob_item.specs.declared.item.Item.{Item}
 use Rattle.nob_item.specs.declared.item.Item.TheVariants as items
 use Rattle.nob_model_types.specs.declared.entry.Entry.{Entry}
-use Rattle.nob_model_words.specs.Objects.{is_exported}
-use Rattle.nob_model_words.specs.Turns.{is_pending}
+use Rattle.nob_model_types.specs.Objects.{is_exported}
+use Rattle.nob_model_types.specs.Turns.{is_pending}
 use Rattle.nob_model_acting.specs.Acting.{fault_if, fault_of, is_unknown, awaits_answer}
 use Rattle.nob_model.proofs.Orderly.{exported}
 use Rattle.nob_model_journal.specs.Journals.{deeds_at, history_at, sent_to, acted_from}

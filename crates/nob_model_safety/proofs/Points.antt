@@ -1,7 +1,7 @@
 -- The points of the invariant that are read off one space's list alone.
 use Rattle.std.proofs.Common.{not, ap, refl, sym, subst, ◌≤◌, ℕ, arith}
 use Rattle.std.proofs.lemmas.Bool.{and_right, eq-eqb, ne_eqb}
-use Rattle.nob_model_words.specs.Objects.{is_exported}
+use Rattle.nob_model_types.specs.Objects.{is_exported}
 use Rattle.std.specs.List.{AllByRecursion}
 use Rattle.nob_model_history.proofs.Inbox.{acted_takes}
 use Rattle.nob_model_safety.specs.Settles.{settles_among}

@@ -16,7 +16,7 @@ use Rattle.nob_item.specs.Reading.{call_at, reply_at, item_by, item_read}
 use Rattle.nob_item.specs.Writing.{bytes_of}
 use Rattle.nob_item.proofs.Fronts.{call_is, reply_is}
 use Rattle.nob_item.proofs.Notes.{note_only}
-use Rattle.nob_model_words.specs.Sessions.{item_of, item_spelt}
+use Rattle.nob_model_types.specs.Sessions.{item_of, item_spelt}
 use Rattle.nob_model_history.specs.Ends.{bytes_if, payload_of}
 
 -- ---- values

@@ -5,9 +5,9 @@ use Rattle.nob_ids.specs.Names.{IsSpaceOf}
 use Rattle.nob_ids.specs.declared.wire_rep.WireRep.{WireRep}
 use Rattle.nob_item.specs.Kinds.{counted_in}
 use Rattle.nob_item.specs.declared.item.Item.{Item}
-use Rattle.nob_model_words.specs.Sessions.{item_at}
-use Rattle.nob_model_words.specs.declared.deed.Deed.{Deed}
-use Rattle.nob_model_words.specs.declared.deed.Deed.TheVariants.{Call, Act, Clean}
+use Rattle.nob_model_types.specs.Sessions.{item_at}
+use Rattle.nob_model_types.specs.declared.deed.Deed.{Deed}
+use Rattle.nob_model_types.specs.declared.deed.Deed.TheVariants.{Call, Act, Clean}
 
 -- the owner of a reference is one of the first n spaces
 abbrev pub IsOfFirst : ℕ → WireRep → Type 0

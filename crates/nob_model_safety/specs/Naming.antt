@@ -6,7 +6,7 @@ use Rattle.nob_item.specs.Kinds.{counted_in}
 use Rattle.nob_item.specs.declared.item.Item.{Item}
 use Rattle.nob_item.specs.declared.item.Item.TheVariants as items
 use Rattle.nob_model_types.specs.declared.entry.Entry.{Entry}
-use Rattle.nob_model_words.specs.Objects.{is_exported}
+use Rattle.nob_model_types.specs.Objects.{is_exported}
 use Rattle.nob_model_journal.specs.Journals.{deeds_at}
 
 -- the object of the receiver that an item is for: the one that a Call calls, the agent aside, and the one that is asked for or given up

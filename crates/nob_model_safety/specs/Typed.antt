@@ -5,9 +5,9 @@ use Rattle.std.specs.List.{AllByRecursion}
 use Rattle.nob_pickle.specs.Shape.{tree}
 use Rattle.nob_pickle.specs.Limits.{IsTyped}
 use Rattle.nob_model_types.specs.declared.entry.Entry.{Entry}
-use Rattle.nob_model_words.specs.Deeds.{deed_in}
-use Rattle.nob_model_words.specs.declared.deed.Deed.{Deed}
-use Rattle.nob_model_words.specs.declared.deed.Deed.TheVariants.{Call, Finish}
+use Rattle.nob_model_types.specs.Deeds.{deed_in}
+use Rattle.nob_model_types.specs.declared.deed.Deed.{Deed}
+use Rattle.nob_model_types.specs.declared.deed.Deed.TheVariants.{Call, Finish}
 use Rattle.nob_model_work.specs.Gifts.{value_of}
 
 -- what a deed hands on from outside is of its types: the target, the method and the value of a Call, and the value of a reply

@@ -11,7 +11,7 @@ use Rattle.nob_ids.specs.Names.{is_same}
 use Rattle.nob_ids.specs.declared.wire_rep.WireRep.{WireRep}
 use Rattle.std.proofs.lemmas.Bool.{eqb-true, eq-eqb}
 use Rattle.std.specs.Prelude.{◌==◌}
-use Rattle.nob_model_words.specs.Same.{same_tree, same_trees, same_value}
+use Rattle.nob_model_types.specs.Same.{same_tree, same_trees, same_value}
 
 ref_is : (a b : WireRep) → is_same a b ≡ true → a ≡ b
 ref_is a b h =

@@ -2,7 +2,7 @@
 
 ghost use Rattle.std.specs.Prelude.{◌≡◌, ◌↔◌, true};
 
-use nob_model_words::same_value as same_tree;
+use nob_model_types::same_value as same_tree;
 use nob_pickle::Value;
 
 /// Whether two values are the same. It recurses once for each level of them.

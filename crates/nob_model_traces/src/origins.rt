@@ -5,7 +5,7 @@ ghost use Rattle.std.specs.List.{Contains};
 ghost use Rattle.nob_model_types.specs.declared.event.Event.{Event as EventOf};
 ghost use Rattle.nob_model_types.specs.declared.event.Event.TheVariants as events;
 ghost use Rattle.nob_frame.specs.declared.frame.Frame.{Frame as FrameOf};
-ghost use Rattle.nob_model_words.specs.Deeds.{deed_in};
+ghost use Rattle.nob_model_types.specs.Deeds.{deed_in};
 ghost use Rattle.nob_model_journal.specs.Journals.{at, frames_of as frames_in, transmitted_frames};
 ghost use Rattle.nob_model_traces.specs.Origins as words;
 

@@ -1,13 +1,29 @@
 //! What happens at a space, as plain data: an event, its answer or its refusal, the entry that both
-//! make, and a step of a world of spaces. Nothing here says which answer is right.
+//! make, and a step of a world of spaces; and the words that are read off the list of what one space
+//! did, the newest first: which sessions have closed, which items came, which objects are live, what
+//! was asked of the owner of a reference, and messages. In `specs/` are the definitions; the functions
+//! here compute them plainly and slowly from the whole list, for every list. Nothing here says which
+//! answer is right.
 #![tactic(auto)]
 
 mod answer;
+mod deed;
 mod entry;
 mod event;
+mod here;
+pub mod message;
+pub mod objects;
 mod refusal;
+mod same;
+pub mod sessions;
+pub mod turns;
 
 pub use answer::{Answer, Job};
+pub use deed::{Cause, Deed, deeds};
 pub use entry::{Entry, WorldStep};
 pub use event::{Event, Outcome};
+pub use here::Here;
+pub use message::{Loan, Message, Messages, RefCopies, RefCopy};
 pub use refusal::{Refusal, Use};
+pub use same::same_value;
+pub use turns::{OwnerAnswer, Turns};

@@ -9,16 +9,16 @@ use Rattle.nob_pickle.specs.declared.value.Value.{Value}
 use Rattle.nob_pickle.specs.declared.value.Value.TheVariants as values
 use Rattle.nob_model_types.specs.declared.event.Outcome.{Outcome}
 use Rattle.nob_model_types.specs.declared.event.Outcome.TheVariants as outcomes
-use Rattle.nob_model_words.specs.declared.deed.Deed.{Deed}
-use Rattle.nob_model_words.specs.declared.deed.Deed.TheVariants.{Call, Finish, Act, Settle, Clean}
-use Rattle.nob_model_words.specs.Sessions.{is_peer, item_at}
-use Rattle.nob_model_words.specs.Objects.{is_exported, is_live}
-use Rattle.nob_model_words.specs.Turns.{wants_dirty, turns}
-use Rattle.nob_model_words.specs.declared.message.Message.{Message}
+use Rattle.nob_model_types.specs.declared.deed.Deed.{Deed}
+use Rattle.nob_model_types.specs.declared.deed.Deed.TheVariants.{Call, Finish, Act, Settle, Clean}
+use Rattle.nob_model_types.specs.Sessions.{is_peer, item_at}
+use Rattle.nob_model_types.specs.Objects.{is_exported, is_live}
+use Rattle.nob_model_types.specs.Turns.{wants_dirty, turns}
+use Rattle.nob_model_types.specs.declared.message.Message.{Message}
 use Rattle.nob_model_work.specs.declared.work.Run.{Run}
 use Rattle.nob_model_work.specs.declared.work.InHand.{InHand}
 use Rattle.nob_model_work.specs.declared.gifts.Gift.{Gift}
-use Rattle.nob_model_words.specs.Messages.{is_of, is_lost_message}
+use Rattle.nob_model_types.specs.Messages.{is_of, is_lost_message}
 use Rattle.nob_model_work.specs.Work.{is_run, work}
 
 -- each reference once, where it stands first

@@ -2,19 +2,18 @@
 
 ghost use Rattle.std.specs.Prelude.{◌≡◌, [], ◌∷◌, ◌++◌, not, IfOk, Some, None, map, filter, find, if◌then◌else◌};
 ghost use Rattle.std.specs.List.{list_any, position};
-ghost use Rattle.nob_model_words.specs.declared.deed.Deed.TheVariants as did;
-ghost use Rattle.nob_model_words.specs.Sessions.{item_at};
-ghost use Rattle.nob_model_words.specs.Messages as message_words;
+ghost use Rattle.nob_model_types.specs.declared.deed.Deed.TheVariants as did;
+ghost use Rattle.nob_model_types.specs.Sessions.{item_at};
+ghost use Rattle.nob_model_types.specs.Messages as message_words;
 ghost use Rattle.nob_model_work.specs.Work as words;
 
 use nob_ids::{CallNo, ItemNo, JobNo, SpaceId};
 use nob_item::Item;
-use nob_model_types::Job;
-use nob_model_words::message::{
+use nob_model_types::message::{
     self, Message, Messages, RefCopies, is_job, is_lost_message, is_of, message_after,
     messages_after, new_message, replies_to,
 };
-use nob_model_words::{Deed, Here, sessions};
+use nob_model_types::{Deed, Here, Job, sessions};
 use nob_pickle::Value;
 use std::alloc::{AllocError, Global};
 use std::marker::Model;

@@ -5,12 +5,12 @@ ghost use denote.Param.Send.{IsSend, IsSync};
 use crate::app::App;
 use crate::error::NodeError;
 use crate::node::Node;
-use nob_dispatch::{Desk, Errand, Gate, Hand, Place, Return, Shelf};
 use nob_dispatch_lanes::LaneTake;
 use nob_dispatch_objects::Object;
 use nob_keeper::{Keeper, KeeperError, Seat};
 use nob_node_site::{
-    Config, Crew, Ends, Inbox, Kept, Left, Outbox, Parts, Site, run_crew, site_of,
+    Config, Crew, Desk, Ends, Errand, Gate, Hand, Inbox, Kept, Left, Outbox, Parts, Place, Return,
+    Shelf, Site, run_crew, site_of,
 };
 use nob_trace::Trace;
 use std::alloc::Global;

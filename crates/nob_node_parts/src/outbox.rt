@@ -2,8 +2,7 @@
 
 ghost use Rattle.std.specs.Prelude.{◌≡◌, ◌<◌, length, vec_len};
 
-use nob_agents::{Sender, Step, Turn, Way};
-use nob_keeper::{Dues, Keeper, KeeperError, Seat};
+use nob_agents::{Dues, Keeper, KeeperError, Seat, Sender, Step, Turn, Way};
 use nob_link::{Parcel, PutEnd};
 use std::alloc::Global;
 use std::sync::Wait;

@@ -16,10 +16,9 @@ use nob_dispatch::{Desk, Errand, Hand, Return};
 use nob_dispatch_lanes::{LanePut, LaneTake, Numbered, lane};
 use nob_dispatch_objects::{Agent, Object};
 use nob_ids::SpaceId;
-use nob_keeper::Keeper;
+use nob_keeper::{Keeper, Space};
 use nob_link::{PutEnd, TakeEnd};
 use nob_node_parts::{Kept, Outbox};
-use nob_space::Space;
 use std::alloc::Global;
 use std::sync::Mutex;
 

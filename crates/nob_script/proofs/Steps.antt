@@ -13,7 +13,7 @@ use Rattle.nob_model_types.specs.declared.refusal.Refusal.{Refusal}
 use Rattle.nob_model_types.specs.declared.entry.Entry.{Entry}
 use Rattle.nob_model_types.specs.declared.entry.WorldStep.{WorldStep}
 use Rattle.nob_model_types.specs.declared.entry.WorldStep.TheVariants.{Do, Deliver}
-use Rattle.nob_model_words.specs.Deeds.{deed_in}
+use Rattle.nob_model_types.specs.Deeds.{deed_in}
 use Rattle.nob_model.specs.Right.{right}
 use Rattle.nob_model_journal.specs.Journals.{at, transmitted_frames, frames_of}
 use Rattle.nob_model_journal.specs.Runs.{IsMadeBy, IsOfWorld, WorldRun, frame_of}

@@ -11,7 +11,7 @@ use Rattle.nob_model_types.specs.declared.refusal.Refusal.{Refusal}
 use Rattle.nob_model_types.specs.declared.entry.Entry.{Entry}
 use Rattle.nob_model_types.specs.declared.entry.WorldStep.{WorldStep}
 use Rattle.nob_model_types.specs.declared.entry.WorldStep.TheVariants as steps
-use Rattle.nob_model_words.specs.Deeds.{deed_in}
+use Rattle.nob_model_types.specs.Deeds.{deed_in}
 use Rattle.nob_model.specs.Right.{right}
 use Rattle.nob_model_journal.specs.Journals.{at, frames_of}
 use Rattle.nob_model_journal.specs.Runs.{frame_of}

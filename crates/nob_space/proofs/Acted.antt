@@ -1,7 +1,7 @@
 -- What acting on an item did, by its answer.
 use Rattle.std.proofs.Common.{◌≡◌, ℕ, Some, refl}
 use Rattle.nob_model_types.specs.declared.event.Event.TheVariants as events
-use Rattle.nob_model_words.specs.Deeds.{deed_of}
+use Rattle.nob_model_types.specs.Deeds.{deed_of}
 use Rattle.nob_space_items.specs.Acts.{act_answer, act_deed}
 use Rattle.nob_space_items.specs.declared.acting.ActResult.{ActResult}
 use Rattle.nob_space_items.specs.declared.acting.ActResult.TheVariants as results

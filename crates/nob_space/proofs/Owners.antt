@@ -10,8 +10,8 @@ use Rattle.nob_model_types.specs.declared.entry.Entry.{Entry}
 use Rattle.nob_model_types.specs.declared.event.Event.{Event}
 use Rattle.nob_model_types.specs.declared.event.Event.TheVariants as events
 use Rattle.nob_model_types.specs.declared.event.Outcome.{Outcome}
-use Rattle.nob_model_words.specs.Deeds.{deed_of, deeds}
-use Rattle.nob_model_words.specs.declared.deed.Deed.{Deed}
+use Rattle.nob_model_types.specs.Deeds.{deed_of, deeds}
+use Rattle.nob_model_types.specs.declared.deed.Deed.{Deed}
 use Rattle.nob_space_state.specs.Parts.{State}
 use Rattle.nob_space_state.specs.Stands.{Stands}
 use Rattle.nob_space_state.specs.Closing.{tick_answer, tick_deed, arrive_answer, arrive_deed}

@@ -7,7 +7,7 @@ use Rattle.nob_model_types.specs.declared.answer.Answer.TheVariants as answers
 use Rattle.nob_model_types.specs.declared.event.Event.{Event}
 use Rattle.nob_model_types.specs.declared.event.Event.TheVariants as events
 use Rattle.nob_model_types.specs.declared.refusal.Refusal.{Refusal}
-use Rattle.nob_model_words.specs.Deeds.{deed_of}
+use Rattle.nob_model_types.specs.Deeds.{deed_of}
 use Rattle.nob_model_work.specs.Gifts.{value_of}
 use Rattle.nob_model_history.specs.declared.history.History.{History}
 use Rattle.nob_model_history.specs.Ends.{calls_at}

@@ -20,8 +20,7 @@ use nob_frame::Frame;
 use nob_ids::{CallNo, JobNo, Reason, SpaceId, WireRep};
 use nob_model::{Arrived, Frames, Job, Outcome, Refusal};
 use nob_pickle::Value;
-use nob_space_items::ActResult;
-use nob_space_settling::SettledItem;
+use nob_space_items::{ActResult, SettledItem};
 use nob_space_state::{CallResult, ReplyFate, SpaceError};
 
 impl Space {
@@ -184,7 +183,7 @@ impl Space {
     {
         let here = self.here;
         let alloc = self.alloc;
-        let settled = nob_space_settling::settle(&mut self.parts, alloc, &here)?;
+        let settled = nob_space_items::settle(&mut self.parts, alloc, &here)?;
         Ok(settled)
     }
 
@@ -202,7 +201,7 @@ impl Space {
     {
         let here = self.here;
         let alloc = self.alloc;
-        let rep = nob_space_settling::clean(&mut self.parts, alloc, &here)?;
+        let rep = nob_space_items::clean(&mut self.parts, alloc, &here)?;
         Ok(rep)
     }
 

@@ -8,8 +8,7 @@ mod twice;
 mod work;
 
 pub use nob_session::Due;
-pub use nob_space_items::ActResult;
-pub use nob_space_settling::SettledItem;
+pub use nob_space_items::{ActResult, SettledItem};
 pub use nob_space_state::{CallResult, ReplyFate, SpaceError};
 pub use space::Space;
 pub use work::Work;

@@ -3,7 +3,7 @@
 ghost use Rattle.std.specs.Prelude.{◌≡◌, List, false, IsOk, IfOk, OnErr};
 ghost use Rattle.nob_ids.specs.declared.limits.Limits.{Limits as LimitsOf};
 ghost use Rattle.nob_model_types.specs.declared.answer.Answer.{Answer as AnswerOf};
-ghost use Rattle.nob_model_words.specs.declared.deed.Deed.{Deed};
+ghost use Rattle.nob_model_types.specs.declared.deed.Deed.{Deed};
 ghost use Rattle.nob_model_history.specs.Histories.{history_of};
 ghost use Rattle.nob_model.specs.Right.{right_after};
 ghost use Rattle.nob_space_state.specs.Parts.{state_of};

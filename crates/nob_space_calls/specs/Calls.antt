@@ -1,8 +1,8 @@
 -- The calls of a space and the ready replies to them, as a contract sees them.
 use Rattle.std.specs.Prelude.{ℕ, ◌<◌, ◌≤◌, Bool, List}
 use Rattle.std.specs.List.{AllByRecursion}
-use Rattle.nob_model_words.specs.declared.message.Message.{Message}
-use Rattle.nob_model_words.specs.Messages.{replies_to}
+use Rattle.nob_model_types.specs.declared.message.Message.{Message}
+use Rattle.nob_model_types.specs.Messages.{replies_to}
 use Rattle.nob_model_work.specs.declared.work.OwnCall.{OwnCall}
 
 -- the calls, the first made first; the ready replies, in order of becoming ready; and how many more of both fit without memory

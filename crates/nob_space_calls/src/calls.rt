@@ -9,7 +9,7 @@ ghost use Rattle.nob_space_calls.specs.Calls.{is_reply, IsAbove, KeepsRooms};
 use crate::ready::Ready;
 use crate::rows::Rows;
 use nob_ids::{CallNo, SpaceId};
-use nob_model_words::Message;
+use nob_model_types::Message;
 use nob_model_work::OwnCall;
 use std::alloc::{AllocError, Global};
 use std::marker::Model;

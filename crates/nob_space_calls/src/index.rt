@@ -7,8 +7,8 @@ ghost use Rattle.nob_space_calls.specs.Rows.{Writes, one_more, Notes, next_first
 use crate::firsts::{First, Firsts};
 use nob_ids::CallNo;
 use nob_item::Item;
-use nob_model_words::Message;
-use nob_model_words::message::replies_to;
+use nob_model_types::Message;
+use nob_model_types::message::replies_to;
 use nob_slots::Slots;
 
 // One more reply to a call is ready, under a stamp above those of the others: two look-ups.

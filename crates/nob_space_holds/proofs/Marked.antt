@@ -6,8 +6,8 @@ use Rattle.nob_table_rows.specs.Counts.{is_held}
 use Rattle.nob_table_rows.specs.Order.{place_in}
 use Rattle.nob_table_rows.specs.Standings.{is_live, is_surrogate}
 use Rattle.nob_table.specs.Table.{Table, stands, standing, is_kept, Unchanged}
-use Rattle.nob_model_words.specs.Sessions.{closed}
-use Rattle.nob_model_words.specs.Turns.{turns}
+use Rattle.nob_model_types.specs.Sessions.{closed}
+use Rattle.nob_model_types.specs.Turns.{turns}
 use Rattle.nob_model_history.specs.declared.history.History.{History}
 use Rattle.nob_model_history.specs.Transit as transit
 use Rattle.nob_model.specs.Right.{own_ref}

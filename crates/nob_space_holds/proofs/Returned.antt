@@ -20,8 +20,8 @@ use Rattle.nob_table_rows.proofs.Same.{same_laws}
 use Rattle.nob_pickle.specs.declared.value.Value.{Value}
 use Rattle.nob_item.specs.declared.item.Item.{Item}
 use Rattle.nob_item.specs.declared.item.Item.TheVariants as items
-use Rattle.nob_model_words.specs.declared.message.Message.{Message}
-use Rattle.nob_model_words.specs.declared.message.RefCopy.{RefCopy}
+use Rattle.nob_model_types.specs.declared.message.Message.{Message}
+use Rattle.nob_model_types.specs.declared.message.RefCopy.{RefCopy}
 use Rattle.nob_model_work.specs.declared.work.Run.{Run}
 use Rattle.nob_model_work.specs.Work.{is_run}
 use Rattle.nob_model_history.specs.Holds.{times, is_lent, copies_lent, target_lent, loans_of}

@@ -16,9 +16,9 @@ use Rattle.nob_table_rows.specs.Counts.{is_held, more, fewer, no_counts}
 use Rattle.nob_table_rows.specs.Standings.{is_known, is_live, is_lost, is_surrogate, unknown, unless_lost, with_counts, after_hold, after_release}
 use Rattle.nob_table.specs.Table.{Table, standing, Becomes, ChangeLeaves, hold_fault, release_fault}
 use Rattle.nob_table_rows.proofs.Same.{same_is, same_refl}
-use Rattle.nob_model_words.specs.declared.turns.Turns.{Turns}
-use Rattle.nob_model_words.specs.Turns.{is_own, is_pending, is_granted, is_refused, turns}
-use Rattle.nob_model_words.specs.Sessions.{closed}
+use Rattle.nob_model_types.specs.declared.turns.Turns.{Turns}
+use Rattle.nob_model_types.specs.Turns.{is_own, is_pending, is_granted, is_refused, turns}
+use Rattle.nob_model_types.specs.Sessions.{closed}
 use Rattle.nob_model_history.specs.declared.history.History.{History}
 use Rattle.nob_model_history.specs.Transit as transit
 use Rattle.nob_model.specs.Right.{own_ref}

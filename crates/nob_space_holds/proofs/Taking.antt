@@ -11,8 +11,8 @@ use Rattle.nob_rows.specs.Rows.{row_at}
 use Rattle.nob_table_rows.specs.Standings.{is_known, after_hold, after_release}
 use Rattle.nob_table.specs.Table.{Table, standing, was_given, Becomes, ChangeLeaves, hold_fault, release_fault}
 use Rattle.nob_table_rows.proofs.Same.{same_is, same_refl}
-use Rattle.nob_model_words.specs.declared.message.RefCopy.{RefCopy}
-use Rattle.nob_model_words.proofs.Lists.{rest_is, first_and_rest}
+use Rattle.nob_model_types.specs.declared.message.RefCopy.{RefCopy}
+use Rattle.nob_model_types.proofs.Lists.{rest_is, first_and_rest}
 use Rattle.nob_model_history.specs.declared.history.History.{History}
 use Rattle.nob_model_history.specs.Holds.{times}
 use Rattle.nob_model.specs.Right.{most_in_hand}

@@ -3,7 +3,7 @@ use Rattle.std.specs.Prelude.{◌≡◌, ℕ, ◌-◌, ◌≤◌, ◌==◌, Bool
 use Rattle.nob_ids.specs.declared.wire_rep.WireRep.{WireRep}
 use Rattle.nob_table.specs.Table.{Table, standing}
 use Rattle.nob_model_history.specs.declared.history.History.{History}
-use Rattle.nob_model_words.specs.declared.message.Message.{Message}
+use Rattle.nob_model_types.specs.declared.message.Message.{Message}
 use Rattle.nob_model_history.specs.Holds.{times, loans_of}
 use Rattle.nob_space_holds.specs.Shows.{TableShows}
 

@@ -7,11 +7,11 @@ use Rattle.nob_table_rows.specs.declared.standing.State.TheVariants as states
 use Rattle.nob_table_rows.specs.Counts.{is_held}
 use Rattle.nob_table_rows.specs.Standings as standings
 use Rattle.nob_table.specs.Table.{Table, standing, place_of, is_kept}
-use Rattle.nob_model_words.specs.declared.deed.Deed.{Deed}
-use Rattle.nob_model_words.specs.declared.turns.Turns.{Turns}
-use Rattle.nob_model_words.specs.Sessions.{closed}
-use Rattle.nob_model_words.specs.Objects as objects
-use Rattle.nob_model_words.specs.Turns.{is_own, is_pending, is_granted, is_refused, turns}
+use Rattle.nob_model_types.specs.declared.deed.Deed.{Deed}
+use Rattle.nob_model_types.specs.declared.turns.Turns.{Turns}
+use Rattle.nob_model_types.specs.Sessions.{closed}
+use Rattle.nob_model_types.specs.Objects as objects
+use Rattle.nob_model_types.specs.Turns.{is_own, is_pending, is_granted, is_refused, turns}
 use Rattle.nob_model_history.specs.declared.history.History.{History}
 use Rattle.nob_model_history.specs.Holds.{times, hand, lent_in}
 use Rattle.nob_model_history.specs.Listing.{is_listed}

@@ -2,7 +2,7 @@
 use Rattle.std.specs.Prelude.{◌≤◌, ℕ, ◌+◌, ◌-◌, List, map}
 use Rattle.nob_ids.specs.declared.wire_rep.WireRep.{WireRep}
 use Rattle.nob_table.specs.Table.{Table, standing}
-use Rattle.nob_model_words.specs.declared.message.RefCopy.{RefCopy}
+use Rattle.nob_model_types.specs.declared.message.RefCopy.{RefCopy}
 use Rattle.nob_model_history.specs.Holds.{times}
 use Rattle.nob_model.specs.Right.{most_in_hand}
 

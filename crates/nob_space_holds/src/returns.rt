@@ -1,7 +1,7 @@
 //! What messages and jobs have lent is given back.
 
 ghost use Rattle.std.specs.Prelude.{◌≡◌, ◌<◌, [], ◌∷◌, filter, flat_map, not};
-ghost use Rattle.nob_model_words.specs.Messages.{is_not_from};
+ghost use Rattle.nob_model_types.specs.Messages.{is_not_from};
 ghost use Rattle.nob_model_work.specs.Work.{is_run};
 ghost use Rattle.nob_model_history.specs.Holds.{copies_lent, target_lent, loans_of, is_lent};
 ghost use Rattle.nob_table.specs.Table.{standing};

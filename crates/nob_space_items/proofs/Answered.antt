@@ -20,11 +20,11 @@ use Rattle.nob_session.specs.Calls.{next_of}
 use Rattle.nob_session.specs.Stands as session
 use Rattle.nob_session.specs.Stands.{End, Roomy}
 use Rattle.nob_model_types.specs.declared.refusal.Refusal.TheVariants as refusals
-use Rattle.nob_model_words.specs.declared.deed.Deed.{Deed}
-use Rattle.nob_model_words.specs.declared.deed.Deed.TheVariants.{Act}
-use Rattle.nob_model_words.specs.Objects as objects
-use Rattle.nob_model_words.specs.Sessions.{is_peer, closed, item_at}
-use Rattle.nob_model_words.specs.Turns.{turns, turns_after}
+use Rattle.nob_model_types.specs.declared.deed.Deed.{Deed}
+use Rattle.nob_model_types.specs.declared.deed.Deed.TheVariants.{Act}
+use Rattle.nob_model_types.specs.Objects as objects
+use Rattle.nob_model_types.specs.Sessions.{is_peer, closed, item_at}
+use Rattle.nob_model_types.specs.Turns.{turns, turns_after}
 use Rattle.nob_model_work.specs.declared.gifts.Gift.{Gift}
 use Rattle.nob_model_work.specs.Work.{work}
 use Rattle.nob_model_work.specs.Gifts.{gifts, gifts_of_act, answer_to}

@@ -19,10 +19,10 @@ use Rattle.nob_rows.specs.Rows.{row_at}
 use Rattle.nob_table_rows.specs.Standings as standings
 use Rattle.nob_table_rows.specs.Standings.{is_unknown, is_surrogate, own_standing, far_standing, pending_standing}
 use Rattle.nob_table.specs.Table.{Table, standing, place_of, was_given}
-use Rattle.nob_model_words.specs.declared.deed.Deed.{Deed}
-use Rattle.nob_model_words.specs.declared.deed.Deed.TheVariants.{Act}
-use Rattle.nob_model_words.specs.Sessions.{is_peer, closed}
-use Rattle.nob_model_words.specs.Turns.{turns, with_dirty, is_own}
+use Rattle.nob_model_types.specs.declared.deed.Deed.{Deed}
+use Rattle.nob_model_types.specs.declared.deed.Deed.TheVariants.{Act}
+use Rattle.nob_model_types.specs.Sessions.{is_peer, closed}
+use Rattle.nob_model_types.specs.Turns.{turns, with_dirty, is_own}
 use Rattle.nob_model_work.specs.Gifts.{once}
 use Rattle.nob_model_work.specs.Work.{work}
 use Rattle.nob_model_history.specs.Histories.{history_of}

@@ -9,11 +9,11 @@ use Rattle.nob_item.specs.declared.item.Item.{Item}
 use Rattle.nob_item.specs.declared.item.Item.TheVariants as items
 use Rattle.nob_model_types.specs.declared.answer.Job.{Job}
 use Rattle.nob_model_types.specs.declared.refusal.Refusal.TheVariants as refusals
-use Rattle.nob_model_words.specs.declared.deed.Deed.{Deed}
-use Rattle.nob_model_words.specs.declared.deed.Deed.TheVariants.{TakeReply, Claim, Finish, DropReply, Act, Settle, Closing}
-use Rattle.nob_model_words.specs.declared.message.Message.{Message}
-use Rattle.nob_model_words.specs.Sessions.{item_at}
-use Rattle.nob_model_words.specs.Messages.{new_message, message_after, is_of, is_not_from, is_job, is_lost_message}
+use Rattle.nob_model_types.specs.declared.deed.Deed.{Deed}
+use Rattle.nob_model_types.specs.declared.deed.Deed.TheVariants.{TakeReply, Claim, Finish, DropReply, Act, Settle, Closing}
+use Rattle.nob_model_types.specs.declared.message.Message.{Message}
+use Rattle.nob_model_types.specs.Sessions.{item_at}
+use Rattle.nob_model_types.specs.Messages.{new_message, message_after, is_of, is_not_from, is_job, is_lost_message}
 use Rattle.nob_model_work.specs.declared.work.InHand.{InHand}
 use Rattle.nob_model_work.specs.declared.work.Run.{Run}
 use Rattle.nob_model_work.specs.Work.{work, work_after, with_loans, run_after, wait, make_ready, make_reply, with_calls, call_after_reply, is_none_of, lost_reply, is_run, is_not_reply, without_first, without_waiting, after_message, after_act, after_settlement, after_settle, after_claim, after_finish, after_take, after_end, after_call, after_close}

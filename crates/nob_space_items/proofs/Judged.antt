@@ -24,13 +24,13 @@ use Rattle.nob_table_rows.specs.Counts.{is_held}
 use Rattle.nob_rows.specs.Rows.{row_at}
 use Rattle.nob_table_rows.specs.Standings as standings
 use Rattle.nob_table.specs.Table.{standing, was_given}
-use Rattle.nob_model_words.specs.declared.deed.Deed.{Deed}
-use Rattle.nob_model_words.specs.declared.deed.Deed.TheVariants.{Act, Clean}
-use Rattle.nob_model_words.specs.declared.turns.OwnerAnswer.TheVariants as said
-use Rattle.nob_model_words.specs.declared.turns.Turns.{Turns}
-use Rattle.nob_model_words.specs.Objects as objects
-use Rattle.nob_model_words.specs.Sessions.{is_peer, closed, item_at}
-use Rattle.nob_model_words.specs.Turns.{turns, turns_after, is_own, is_pending, is_granted, is_refused, wants_dirty, with_dirty, with_answer, with_clean, carries, names}
+use Rattle.nob_model_types.specs.declared.deed.Deed.{Deed}
+use Rattle.nob_model_types.specs.declared.deed.Deed.TheVariants.{Act, Clean}
+use Rattle.nob_model_types.specs.declared.turns.OwnerAnswer.TheVariants as said
+use Rattle.nob_model_types.specs.declared.turns.Turns.{Turns}
+use Rattle.nob_model_types.specs.Objects as objects
+use Rattle.nob_model_types.specs.Sessions.{is_peer, closed, item_at}
+use Rattle.nob_model_types.specs.Turns.{turns, turns_after, is_own, is_pending, is_granted, is_refused, wants_dirty, with_dirty, with_answer, with_clean, carries, names}
 use Rattle.nob_model_work.specs.declared.work.InHand.{InHand}
 use Rattle.nob_model_history.specs.declared.transit.SentItem.{SentItem}
 use Rattle.nob_model_history.specs.Histories.{history_of}

@@ -16,10 +16,10 @@ use Rattle.nob_table_rows.specs.declared.standing.State.TheVariants as states
 use Rattle.nob_table_rows.specs.Standings.{in_state, is_known}
 use Rattle.nob_table.specs.Table.{Table, standing, Becomes, ChangeLeaves}
 use Rattle.nob_table_rows.proofs.Same.{same_laws, same_is}
-use Rattle.nob_model_words.specs.declared.deed.Deed.{Deed}
-use Rattle.nob_model_words.specs.declared.deed.Deed.TheVariants.{Act}
-use Rattle.nob_model_words.specs.declared.message.Message.{Message}
-use Rattle.nob_model_words.specs.Sessions.{item_at}
+use Rattle.nob_model_types.specs.declared.deed.Deed.{Deed}
+use Rattle.nob_model_types.specs.declared.deed.Deed.TheVariants.{Act}
+use Rattle.nob_model_types.specs.declared.message.Message.{Message}
+use Rattle.nob_model_types.specs.Sessions.{item_at}
 use Rattle.nob_model_work.specs.declared.work.InHand.{InHand}
 use Rattle.nob_model_work.specs.Work.{work, with_loans}
 use Rattle.nob_model_history.specs.Histories.{history_of}

@@ -20,15 +20,15 @@ use Rattle.nob_table_rows.specs.Standings as standings
 use Rattle.nob_table_rows.specs.Standings.{in_state}
 use Rattle.nob_table.specs.Table.{Table, standing, Becomes, ChangeLeaves}
 use Rattle.nob_table_rows.proofs.Same.{same_laws}
-use Rattle.nob_model_words.specs.declared.deed.Deed.{Deed}
-use Rattle.nob_model_words.specs.declared.deed.Deed.TheVariants.{Act}
-use Rattle.nob_model_words.specs.declared.message.Message.{Message}
-use Rattle.nob_model_words.specs.declared.turns.OwnerAnswer.{OwnerAnswer}
-use Rattle.nob_model_words.specs.declared.turns.OwnerAnswer.TheVariants as said
-use Rattle.nob_model_words.specs.declared.turns.Turns.{Turns}
-use Rattle.nob_model_words.specs.Sessions.{closed, item_at}
-use Rattle.nob_model_words.specs.Turns.{turns, turns_after, is_own, is_lost, is_pending, is_granted, is_refused, names, with_answer}
-use Rattle.nob_model_words.specs.Messages.{loan_after, copy_after, message_after}
+use Rattle.nob_model_types.specs.declared.deed.Deed.{Deed}
+use Rattle.nob_model_types.specs.declared.deed.Deed.TheVariants.{Act}
+use Rattle.nob_model_types.specs.declared.message.Message.{Message}
+use Rattle.nob_model_types.specs.declared.turns.OwnerAnswer.{OwnerAnswer}
+use Rattle.nob_model_types.specs.declared.turns.OwnerAnswer.TheVariants as said
+use Rattle.nob_model_types.specs.declared.turns.Turns.{Turns}
+use Rattle.nob_model_types.specs.Sessions.{closed, item_at}
+use Rattle.nob_model_types.specs.Turns.{turns, turns_after, is_own, is_lost, is_pending, is_granted, is_refused, names, with_answer}
+use Rattle.nob_model_types.specs.Messages.{loan_after, copy_after, message_after}
 use Rattle.nob_model_work.specs.declared.work.InHand.{InHand}
 use Rattle.nob_model_work.specs.Work.{work, with_loans, run_after}
 use Rattle.nob_model_work.specs.Gifts.{gifts_of_act}

@@ -14,7 +14,7 @@ use Rattle.nob_item.specs.declared.fault.ItemFault.TheVariants as item_faults
 use Rattle.nob_item.specs.declared.item.Item.{Item}
 use Rattle.nob_item.specs.declared.item.Item.TheVariants as all
 use Rattle.nob_item.proofs.Choices.{bind_ok}
-use Rattle.nob_model_words.specs.Sessions.{item_of, item_spelt}
+use Rattle.nob_model_types.specs.Sessions.{item_of, item_spelt}
 use Rattle.nob_space_items.proofs.Read.{value_few, either, no_ok}
 
 of_value_ok : (r : Result Value PickleFault) (v : Value) → of_value r ≡ Ok v → r ≡ Ok v

@@ -28,14 +28,14 @@ use Rattle.nob_table.specs.Table as table
 use Rattle.nob_table.specs.Table.{Table, standing, place_of, surrogate_total, is_far}
 use Rattle.nob_table_rows.proofs.Same.{same_refl}
 use Rattle.nob_model_types.specs.declared.refusal.Refusal.TheVariants as refusals
-use Rattle.nob_model_words.specs.declared.deed.Deed.{Deed}
-use Rattle.nob_model_words.specs.declared.deed.Deed.TheVariants.{Act}
-use Rattle.nob_model_words.specs.declared.message.Loan.{Loan}
-use Rattle.nob_model_words.specs.declared.message.Loan.TheVariants as loans
-use Rattle.nob_model_words.specs.declared.message.RefCopy.{RefCopy}
-use Rattle.nob_model_words.specs.declared.message.Message.{Message}
-use Rattle.nob_model_words.specs.Objects as objects
-use Rattle.nob_model_words.specs.Sessions.{is_peer}
+use Rattle.nob_model_types.specs.declared.deed.Deed.{Deed}
+use Rattle.nob_model_types.specs.declared.deed.Deed.TheVariants.{Act}
+use Rattle.nob_model_types.specs.declared.message.Loan.{Loan}
+use Rattle.nob_model_types.specs.declared.message.Loan.TheVariants as loans
+use Rattle.nob_model_types.specs.declared.message.RefCopy.{RefCopy}
+use Rattle.nob_model_types.specs.declared.message.Message.{Message}
+use Rattle.nob_model_types.specs.Objects as objects
+use Rattle.nob_model_types.specs.Sessions.{is_peer}
 use Rattle.nob_model_work.specs.declared.gifts.Gift.{Gift}
 use Rattle.nob_model_work.specs.declared.work.InHand.{InHand}
 use Rattle.nob_model_work.specs.Gifts.{once, dirty_for}

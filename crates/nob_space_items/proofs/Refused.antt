@@ -28,10 +28,10 @@ use Rattle.nob_table.specs.Table.{standing, place_of, surrogate_total}
 use Rattle.nob_table_rows.proofs.Same.{same_is, same_laws}
 use Rattle.nob_table_rows.proofs.Keys.{any_key}
 use Rattle.nob_model_types.specs.declared.refusal.Refusal.TheVariants as refusals
-use Rattle.nob_model_words.specs.declared.deed.Deed.{Deed}
-use Rattle.nob_model_words.specs.declared.turns.Turns.{Turns}
-use Rattle.nob_model_words.specs.Sessions.{is_peer, closed}
-use Rattle.nob_model_words.specs.Turns.{turns, is_own, is_pending, is_granted, is_refused, is_standing, wants_dirty}
+use Rattle.nob_model_types.specs.declared.deed.Deed.{Deed}
+use Rattle.nob_model_types.specs.declared.turns.Turns.{Turns}
+use Rattle.nob_model_types.specs.Sessions.{is_peer, closed}
+use Rattle.nob_model_types.specs.Turns.{turns, is_own, is_pending, is_granted, is_refused, is_standing, wants_dirty}
 use Rattle.nob_model_work.specs.declared.gifts.Gift.{Gift}
 use Rattle.nob_model_work.specs.Work.{work}
 use Rattle.nob_model_work.specs.Gifts.{once, dirty_for, dirties_for}

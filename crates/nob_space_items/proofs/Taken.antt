@@ -21,13 +21,13 @@ use Rattle.nob_pins.specs.Bundles as pins
 use Rattle.nob_model_types.specs.declared.answer.Answer.TheVariants as answers
 use Rattle.nob_model_types.specs.declared.event.Event.TheVariants as events
 use Rattle.nob_model_types.specs.declared.refusal.Refusal.{Refusal}
-use Rattle.nob_model_words.specs.Deeds.{deed_by}
-use Rattle.nob_model_words.specs.declared.deed.Deed.{Deed}
-use Rattle.nob_model_words.specs.declared.deed.Deed.TheVariants.{Act}
-use Rattle.nob_model_words.specs.declared.turns.Turns.{Turns}
-use Rattle.nob_model_words.specs.Sessions.{is_peer, closed, item_at}
-use Rattle.nob_model_words.specs.Turns.{turns, is_own, is_granted}
-use Rattle.nob_model_words.specs.Messages.{loan_after, copy_after, message_after}
+use Rattle.nob_model_types.specs.Deeds.{deed_by}
+use Rattle.nob_model_types.specs.declared.deed.Deed.{Deed}
+use Rattle.nob_model_types.specs.declared.deed.Deed.TheVariants.{Act}
+use Rattle.nob_model_types.specs.declared.turns.Turns.{Turns}
+use Rattle.nob_model_types.specs.Sessions.{is_peer, closed, item_at}
+use Rattle.nob_model_types.specs.Turns.{turns, is_own, is_granted}
+use Rattle.nob_model_types.specs.Messages.{loan_after, copy_after, message_after}
 use Rattle.nob_model_work.specs.declared.gifts.Gift.{Gift}
 use Rattle.nob_model_work.specs.declared.work.InHand.{InHand}
 use Rattle.nob_model_work.specs.Work.{work, work_after, after_act, after_message, with_loans, run_after}

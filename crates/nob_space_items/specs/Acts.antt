@@ -4,9 +4,9 @@ use Rattle.nob_item.specs.Reading.{wants_memory}
 use Rattle.nob_model_types.specs.declared.answer.Answer.{Answer}
 use Rattle.nob_model_types.specs.declared.answer.Answer.TheVariants as answers
 use Rattle.nob_model_types.specs.declared.refusal.Refusal.{Refusal}
-use Rattle.nob_model_words.specs.declared.deed.Cause.TheVariants as causes
-use Rattle.nob_model_words.specs.declared.deed.Deed.{Deed}
-use Rattle.nob_model_words.specs.declared.deed.Deed.TheVariants as did
+use Rattle.nob_model_types.specs.declared.deed.Cause.TheVariants as causes
+use Rattle.nob_model_types.specs.declared.deed.Deed.{Deed}
+use Rattle.nob_model_types.specs.declared.deed.Deed.TheVariants as did
 use Rattle.nob_space_state.specs.declared.error.SpaceError.{SpaceError}
 use Rattle.nob_space_state.specs.declared.error.SpaceError.TheVariants as errors
 use Rattle.nob_space_items.specs.declared.acting.ActResult.{ActResult}

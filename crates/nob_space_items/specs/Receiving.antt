@@ -7,7 +7,7 @@ use Rattle.nob_model_session.specs.declared.entry.EndEntry.TheVariants.{Take}
 use Rattle.nob_session.specs.Stands as session
 use Rattle.nob_session.specs.Stands.{Roomy}
 use Rattle.nob_table.specs.Table.{Table}
-use Rattle.nob_model_words.specs.declared.message.Message.{Message}
+use Rattle.nob_model_types.specs.declared.message.Message.{Message}
 use Rattle.nob_model_work.specs.Work.{after_message}
 use Rattle.nob_model_history.specs.Holds.{loans_of}
 use Rattle.nob_space_waiting.specs.Waiting.{is_awaited, is_due_in}

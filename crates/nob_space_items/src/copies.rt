@@ -9,7 +9,7 @@ ghost use Rattle.nob_space_items.specs.Messages as specs;
 use nob_ids::WireRep;
 use nob_item::{Item, counted_refs};
 use nob_model::{Here, Loan, RefCopy};
-use nob_model_words::message::RefCopies;
+use nob_model_types::message::RefCopies;
 use nob_space_settling::is_lost;
 use nob_space_state::Parts;
 use nob_table::State;

@@ -15,3 +15,4 @@ mod placing;
 mod receiving;
 
 pub use acting::{ActResult, act};
+pub use nob_space_settling::{SettledItem, can_clean, can_settle, clean, settle};

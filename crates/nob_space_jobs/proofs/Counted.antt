@@ -6,7 +6,7 @@ use Rattle.nob_model_work.specs.declared.work.Run.{Run}
 use Rattle.nob_model_acting.specs.Candidates.{target_of}
 use Rattle.nob_space_jobs.specs.Jobs.{is_running}
 use Rattle.nob_space_jobs.specs.Running.{runs_of}
-use Rattle.nob_space_ready.specs.Ready.{is_target}
+use Rattle.nob_space_jobs.specs.Ready.{is_target}
 
 -- a target runs if its jobs that run aren't 0
 pub running_runs : (runs : List Run) (t : ℕ) → is_running runs t ≡ not (runs_of runs t == 0)

@@ -1,13 +1,13 @@
 -- A ready job is free by the counts of its target where it is by the jobs that run.
 use Rattle.std.proofs.Common.{◌≡◌, ℕ, ◌==◌, Bool, true, false, not, cond, List, [], ◌∷◌, find, Some, if◌then◌else◌, refl, sym, ap, ◌∙◌}
-use Rattle.nob_model_words.specs.declared.message.Message.{Message}
+use Rattle.nob_model_types.specs.declared.message.Message.{Message}
 use Rattle.nob_model_work.specs.declared.work.Run.{Run}
 use Rattle.nob_model_work.specs.Work.{without_first}
 use Rattle.nob_model_acting.specs.Candidates.{target_of}
 use Rattle.nob_space_jobs.specs.Jobs.{is_free_of}
 use Rattle.nob_space_jobs.specs.Running.{AreCounted, runs_of}
 use Rattle.nob_space_jobs.proofs.Counted.{running_runs}
-use Rattle.nob_space_ready.specs.Ready.{is_free_at}
+use Rattle.nob_space_jobs.specs.Ready.{is_free_at}
 
 not_not : (b : Bool) → not (not b) ≡ b
 not_not true = refl

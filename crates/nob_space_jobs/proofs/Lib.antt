@@ -1,3 +1,12 @@
 pub mod Counted
 pub mod Free
 pub mod Newest
+pub mod Found
+pub mod Pushed
+pub mod Taken
+pub mod Written
+pub mod Joined
+pub mod Left
+pub mod Heads
+pub mod Stamps
+pub mod Kept

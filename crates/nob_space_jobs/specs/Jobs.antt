@@ -1,7 +1,7 @@
 -- The jobs of a space as a contract sees them: those that are ready and those that run.
 use Rattle.std.specs.Prelude.{ℕ, ◌<◌, ◌==◌, Bool, not, List}
 use Rattle.std.specs.List.{AllByRecursion, list_any}
-use Rattle.nob_model_words.specs.declared.message.Message.{Message}
+use Rattle.nob_model_types.specs.declared.message.Message.{Message}
 use Rattle.nob_model_work.specs.declared.work.Run.{Run}
 use Rattle.nob_model_acting.specs.Candidates.{target_of}
 

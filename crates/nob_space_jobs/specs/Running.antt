@@ -3,7 +3,7 @@ use Rattle.std.specs.Prelude.{◌≡◌, ℕ, ◌+◌, ◌==◌, List, [], ◌�
 use Rattle.std.specs.List.{AllByRecursion}
 use Rattle.nob_model_work.specs.declared.work.Run.{Run}
 use Rattle.nob_model_acting.specs.Candidates.{target_of}
-use Rattle.nob_space_ready.specs.Ready.{runs_at}
+use Rattle.nob_space_jobs.specs.Ready.{runs_at}
 
 -- jobs, the newest first, and how many more fit without memory
 pub record RunList : Type 0 where

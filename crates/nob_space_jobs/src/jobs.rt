@@ -2,17 +2,18 @@
 
 ghost use Rattle.std.specs.Prelude.{◌≡◌, ◌+◌, ◌^◌, ◌<◌, ◌≤◌, ◌==◌, [], ◌∷◌, ◌++◌, length, filter, find, not, IsOk, IsSome, Some, MatchOption, OnOk};
 ghost use Rattle.std.specs.Option.{option_map};
-ghost use Rattle.nob_model_words.specs.declared.message.Message.{Message as MessageOf};
-ghost use Rattle.nob_model_words.specs.Messages.{is_not_from};
+ghost use Rattle.nob_model_types.specs.declared.message.Message.{Message as MessageOf};
+ghost use Rattle.nob_model_types.specs.Messages.{is_not_from};
 ghost use Rattle.nob_model_work.specs.Work.{is_run, without_first};
 ghost use Rattle.nob_space_jobs.specs.Jobs.{is_free_of, IsAbove};
 
+use crate::come::MessagesFrom;
+use crate::ready::ReadyJobs;
 use crate::running::Running;
 use nob_ids::{JobNo, SpaceId};
 use nob_model_acting::candidates::target_of;
-use nob_model_words::Message;
+use nob_model_types::Message;
 use nob_model_work::Run;
-use nob_space_ready::{MessagesFrom, ReadyJobs};
 use std::alloc::{AllocError, Global};
 use std::marker::Model;
 

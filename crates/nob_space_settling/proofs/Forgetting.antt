@@ -26,12 +26,12 @@ use Rattle.nob_table_rows.proofs.Same.{same_laws}
 use Rattle.nob_model_types.specs.declared.answer.Answer.TheVariants as answers
 use Rattle.nob_model_types.specs.declared.event.Event.TheVariants as events
 use Rattle.nob_model_types.specs.declared.refusal.Refusal.TheVariants as refusals
-use Rattle.nob_model_words.specs.Deeds.{deed_by}
-use Rattle.nob_model_words.specs.declared.deed.Deed.{Deed}
-use Rattle.nob_model_words.specs.declared.deed.Deed.TheVariants.{Clean}
-use Rattle.nob_model_words.specs.declared.turns.Turns.{Turns}
-use Rattle.nob_model_words.specs.Sessions.{closed, is_peer}
-use Rattle.nob_model_words.specs.Turns.{turns, is_own, is_usable, is_granted, is_refused, is_lost, with_clean}
+use Rattle.nob_model_types.specs.Deeds.{deed_by}
+use Rattle.nob_model_types.specs.declared.deed.Deed.{Deed}
+use Rattle.nob_model_types.specs.declared.deed.Deed.TheVariants.{Clean}
+use Rattle.nob_model_types.specs.declared.turns.Turns.{Turns}
+use Rattle.nob_model_types.specs.Sessions.{closed, is_peer}
+use Rattle.nob_model_types.specs.Turns.{turns, is_own, is_usable, is_granted, is_refused, is_lost, with_clean}
 use Rattle.nob_model_work.specs.Work.{work, work_after}
 use Rattle.nob_model_work.specs.Gifts.{gifts, gifts_of}
 use Rattle.nob_model_history.specs.Histories.{history_of}

@@ -19,10 +19,10 @@ use Rattle.nob_session.specs.Stands.{End, Roomy, end_of, is_open_end}
 use Rattle.nob_table_rows.specs.Counts.{is_held}
 use Rattle.nob_table_rows.specs.Standings as standings
 use Rattle.nob_table.specs.Table.{Table, standing}
-use Rattle.nob_model_words.specs.declared.deed.Deed.{Deed}
-use Rattle.nob_model_words.specs.Objects as objects
-use Rattle.nob_model_words.specs.Sessions.{closed, is_peer}
-use Rattle.nob_model_words.specs.Turns.{turns}
+use Rattle.nob_model_types.specs.declared.deed.Deed.{Deed}
+use Rattle.nob_model_types.specs.Objects as objects
+use Rattle.nob_model_types.specs.Sessions.{closed, is_peer}
+use Rattle.nob_model_types.specs.Turns.{turns}
 use Rattle.nob_model_work.specs.declared.gifts.Gift.{Gift}
 use Rattle.nob_model_work.specs.declared.work.InHand.{InHand}
 use Rattle.nob_model_work.specs.Work.{work}

@@ -18,11 +18,11 @@ use Rattle.nob_model_session.specs.declared.entry.EndEntry.TheVariants as ends
 use Rattle.nob_model_session.specs.declared.entry.Ending.{Ending}
 use Rattle.nob_model_session.specs.declared.refusal.EndRefusal.{EndRefusal}
 use Rattle.nob_model_types.specs.declared.answer.Job.{Job}
-use Rattle.nob_model_words.specs.declared.deed.Deed.{Deed}
-use Rattle.nob_model_words.specs.declared.deed.Deed.TheVariants.{Call, TakeReply, TakeEnd, Claim, Finish, DropReply, Act, Settle, Closing}
-use Rattle.nob_model_words.specs.declared.message.Message.{Message}
-use Rattle.nob_model_words.specs.Messages.{new_message, message_after, is_of, is_not_from, is_job, is_lost_message}
-use Rattle.nob_model_words.specs.Sessions.{item_at}
+use Rattle.nob_model_types.specs.declared.deed.Deed.{Deed}
+use Rattle.nob_model_types.specs.declared.deed.Deed.TheVariants.{Call, TakeReply, TakeEnd, Claim, Finish, DropReply, Act, Settle, Closing}
+use Rattle.nob_model_types.specs.declared.message.Message.{Message}
+use Rattle.nob_model_types.specs.Messages.{new_message, message_after, is_of, is_not_from, is_job, is_lost_message}
+use Rattle.nob_model_types.specs.Sessions.{item_at}
 use Rattle.nob_model_work.specs.declared.work.InHand.{InHand}
 use Rattle.nob_model_work.specs.Work.{work, work_after, with_loans, is_none_of, wait, make_ready, make_reply, is_not_reply, after_message, after_act, after_settlement, after_settle, after_claim, after_call, after_take, after_end, after_finish, after_close, without_waiting}
 use Rattle.nob_model_history.specs.Histories.{history_of}

@@ -17,17 +17,17 @@ use Rattle.nob_table.specs.Table.{standing}
 use Rattle.nob_model_types.specs.declared.answer.Answer.TheVariants as answers
 use Rattle.nob_model_types.specs.declared.event.Event.TheVariants as events
 use Rattle.nob_model_types.specs.declared.refusal.Refusal.TheVariants as refusals
-use Rattle.nob_model_words.specs.Deeds.{deed_by}
-use Rattle.nob_model_words.specs.declared.deed.Deed.{Deed}
-use Rattle.nob_model_words.specs.declared.deed.Deed.TheVariants.{Settle}
-use Rattle.nob_model_words.specs.declared.message.RefCopy.{RefCopy}
-use Rattle.nob_model_words.specs.declared.message.Message.{Message}
-use Rattle.nob_model_words.specs.declared.turns.OwnerAnswer.{OwnerAnswer}
-use Rattle.nob_model_words.specs.declared.turns.OwnerAnswer.TheVariants as said
-use Rattle.nob_model_words.specs.declared.turns.Turns.{Turns}
-use Rattle.nob_model_words.specs.Messages.{is_lost_message}
-use Rattle.nob_model_words.specs.Sessions.{is_peer, closed}
-use Rattle.nob_model_words.specs.Turns.{turns, is_lost, is_pending, is_granted, is_refused, is_yes, is_no}
+use Rattle.nob_model_types.specs.Deeds.{deed_by}
+use Rattle.nob_model_types.specs.declared.deed.Deed.{Deed}
+use Rattle.nob_model_types.specs.declared.deed.Deed.TheVariants.{Settle}
+use Rattle.nob_model_types.specs.declared.message.RefCopy.{RefCopy}
+use Rattle.nob_model_types.specs.declared.message.Message.{Message}
+use Rattle.nob_model_types.specs.declared.turns.OwnerAnswer.{OwnerAnswer}
+use Rattle.nob_model_types.specs.declared.turns.OwnerAnswer.TheVariants as said
+use Rattle.nob_model_types.specs.declared.turns.Turns.{Turns}
+use Rattle.nob_model_types.specs.Messages.{is_lost_message}
+use Rattle.nob_model_types.specs.Sessions.{is_peer, closed}
+use Rattle.nob_model_types.specs.Turns.{turns, is_lost, is_pending, is_granted, is_refused, is_yes, is_no}
 use Rattle.nob_model_history.specs.Histories.{history_of}
 use Rattle.nob_model_history.specs.Ends.{calls_at}
 use Rattle.nob_model_history.proofs.Turning.{pending_waits, waiting_stands}

@@ -18,11 +18,11 @@ use Rattle.nob_table_rows.specs.declared.standing.State.{State as TableState}
 use Rattle.nob_table_rows.specs.declared.standing.State.TheVariants as states
 use Rattle.nob_table.specs.Table.{standing, place_of, NoneIdle}
 use Rattle.nob_table_rows.proofs.Same.{same_is, same_laws}
-use Rattle.nob_model_words.specs.declared.deed.Deed.{Deed}
-use Rattle.nob_model_words.specs.declared.deed.Deed.TheVariants as did
-use Rattle.nob_model_words.specs.declared.turns.Turns.{Turns}
-use Rattle.nob_model_words.specs.Sessions.{is_peer, closed, item_at}
-use Rattle.nob_model_words.specs.Turns.{turns, is_own, is_usable, is_pending, is_granted, is_refused, wants_dirty}
+use Rattle.nob_model_types.specs.declared.deed.Deed.{Deed}
+use Rattle.nob_model_types.specs.declared.deed.Deed.TheVariants as did
+use Rattle.nob_model_types.specs.declared.turns.Turns.{Turns}
+use Rattle.nob_model_types.specs.Sessions.{is_peer, closed, item_at}
+use Rattle.nob_model_types.specs.Turns.{turns, is_own, is_usable, is_pending, is_granted, is_refused, wants_dirty}
 use Rattle.nob_model_work.specs.Work.{work}
 use Rattle.nob_model_work.specs.Gifts.{gifts, gifts_of_act, once}
 use Rattle.nob_model_history.specs.Histories.{history_of}

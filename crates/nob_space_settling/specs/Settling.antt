@@ -11,8 +11,8 @@ use Rattle.nob_model_session.specs.declared.entry.Kind.TheVariants.{Note}
 use Rattle.nob_table_rows.specs.declared.standing.State.{State as TableState}
 use Rattle.nob_table_rows.specs.declared.standing.State.TheVariants as states
 use Rattle.nob_table.specs.Table.{standing}
-use Rattle.nob_model_words.specs.declared.message.Message.{Message}
-use Rattle.nob_model_words.specs.Sessions.{is_peer}
+use Rattle.nob_model_types.specs.declared.message.Message.{Message}
+use Rattle.nob_model_types.specs.Sessions.{is_peer}
 use Rattle.nob_model_history.specs.Holds.{loans_of}
 use Rattle.nob_space_state.specs.Looks.{has_closed}
 use Rattle.nob_space_state.specs.Parts.{State}

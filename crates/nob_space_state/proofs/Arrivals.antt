@@ -10,7 +10,7 @@ use Rattle.nob_model_session.specs.declared.entry.Arrived.TheVariants as arrived
 use Rattle.nob_ids.specs.declared.reason.Reason.TheVariants.{PeerClosed, BadItem}
 use Rattle.nob_frame.specs.Kinds.{is_close}
 use Rattle.nob_model_types.specs.declared.refusal.Refusal.TheVariants as refusals
-use Rattle.nob_model_words.specs.Sessions.{is_peer}
+use Rattle.nob_model_types.specs.Sessions.{is_peer}
 use Rattle.nob_model_history.specs.declared.history.History.{History}
 use Rattle.nob_model_history.specs.Ends.{calls_at}
 use Rattle.nob_model.specs.Right.{right_ticks, tick_of, right_arrival, arrival_of}

@@ -18,12 +18,12 @@ use Rattle.nob_space_state.specs.declared.error.SpaceError.{SpaceError}
 use Rattle.nob_space_state.specs.declared.error.SpaceError.TheVariants as errors
 use Rattle.nob_model_types.specs.declared.answer.Job.{Job}
 use Rattle.nob_model_types.specs.declared.refusal.Refusal.TheVariants as refusals
-use Rattle.nob_model_words.specs.declared.deed.Deed.{Deed}
-use Rattle.nob_model_words.specs.declared.deed.Deed.TheVariants.{Claim}
-use Rattle.nob_model_words.specs.declared.message.Message.{Message}
-use Rattle.nob_model_words.specs.declared.message.RefCopy.{RefCopy}
-use Rattle.nob_model_words.specs.Same.{same_tree, same_trees}
-use Rattle.nob_model_words.specs.Messages.{is_job, is_call_of, message_after, copy_after}
+use Rattle.nob_model_types.specs.declared.deed.Deed.{Deed}
+use Rattle.nob_model_types.specs.declared.deed.Deed.TheVariants.{Claim}
+use Rattle.nob_model_types.specs.declared.message.Message.{Message}
+use Rattle.nob_model_types.specs.declared.message.RefCopy.{RefCopy}
+use Rattle.nob_model_types.specs.Same.{same_tree, same_trees}
+use Rattle.nob_model_types.specs.Messages.{is_job, is_call_of, message_after, copy_after}
 use Rattle.nob_model_work.specs.declared.work.InHand.{InHand}
 use Rattle.nob_model_work.specs.declared.work.Run.{Run}
 use Rattle.nob_model_work.specs.Work.{work, work_after, after_claim, with_loans, run_after, without_first}

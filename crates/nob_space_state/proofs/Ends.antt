@@ -25,12 +25,12 @@ use Rattle.nob_session.specs.Stands as session
 use Rattle.nob_session.specs.Stands.{Roomy, end_of}
 use Rattle.nob_table_rows.specs.Counts.{is_held}
 use Rattle.nob_table.specs.Table.{standing}
-use Rattle.nob_model_words.specs.declared.deed.Deed.{Deed}
-use Rattle.nob_model_words.specs.declared.deed.Deed.TheVariants.{Transmit, Tick, Arrive}
-use Rattle.nob_model_words.specs.Objects as objects
-use Rattle.nob_model_words.specs.Sessions.{closed, is_peer}
-use Rattle.nob_model_words.specs.Turns.{turns}
-use Rattle.nob_model_words.specs.Messages.{copy_after, message_after}
+use Rattle.nob_model_types.specs.declared.deed.Deed.{Deed}
+use Rattle.nob_model_types.specs.declared.deed.Deed.TheVariants.{Transmit, Tick, Arrive}
+use Rattle.nob_model_types.specs.Objects as objects
+use Rattle.nob_model_types.specs.Sessions.{closed, is_peer}
+use Rattle.nob_model_types.specs.Turns.{turns}
+use Rattle.nob_model_types.specs.Messages.{copy_after, message_after}
 use Rattle.nob_model_work.specs.Work.{work, work_after, with_loans, run_after}
 use Rattle.nob_model_work.specs.Gifts.{gifts, gifts_of}
 use Rattle.nob_model_history.specs.declared.history.History.{History}

@@ -11,8 +11,8 @@ use Rattle.nob_table_rows.specs.Standings.{is_known}
 use Rattle.nob_table.specs.Table.{Table, standing, was_given, hold_fault, release_fault}
 use Rattle.nob_model_types.specs.declared.answer.Answer.TheVariants as answers
 use Rattle.nob_model_types.specs.declared.refusal.Refusal.TheVariants as refusals
-use Rattle.nob_model_words.specs.declared.deed.Deed.{Deed}
-use Rattle.nob_model_words.specs.declared.deed.Deed.TheVariants.{Dup, Release}
+use Rattle.nob_model_types.specs.declared.deed.Deed.{Deed}
+use Rattle.nob_model_types.specs.declared.deed.Deed.TheVariants.{Dup, Release}
 use Rattle.nob_model_work.specs.Work.{work}
 use Rattle.nob_model_history.specs.Histories.{history_of}
 use Rattle.nob_model_history.specs.Holds.{hand, times, gains, releases, lent_in}

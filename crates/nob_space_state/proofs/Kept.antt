@@ -4,7 +4,7 @@ use Rattle.std.proofs.lemmas.Cmp.{nat_eq_equiv}
 use Rattle.nob_dirty.specs.declared.sets.Listing.{Listing}
 use Rattle.nob_dirty.specs.Sets.{lists}
 use Rattle.nob_table.specs.Table.{Table}
-use Rattle.nob_model_words.specs.declared.deed.Deed.{Deed}
+use Rattle.nob_model_types.specs.declared.deed.Deed.{Deed}
 use Rattle.nob_model_history.specs.Listing.{is_listed}
 use Rattle.nob_space_holds.specs.Shows.{AreListed}
 use Rattle.nob_space_state.specs.Looks.{has_clients, HaveClients}

@@ -2,9 +2,9 @@
 use Rattle.std.proofs.Common.{◌≡◌, ℕ, Bool, true, false, not, ◌&&◌, ◌||◌, ◌==◌, List, [], ◌∷◌, if◌then◌else◌, refl, sym, subst}
 use Rattle.std.proofs.lemmas.Bool.Decides.{Decides-eqb}
 use Rattle.std.specs.List.{list_any}
-use Rattle.nob_model_words.specs.declared.deed.Deed.{Deed}
-use Rattle.nob_model_words.specs.declared.deed.Deed.TheVariants.{Act}
-use Rattle.nob_model_words.specs.Sessions.{item_at, closed}
+use Rattle.nob_model_types.specs.declared.deed.Deed.{Deed}
+use Rattle.nob_model_types.specs.declared.deed.Deed.TheVariants.{Act}
+use Rattle.nob_model_types.specs.Sessions.{item_at, closed}
 use Rattle.nob_model_history.specs.Listing.{is_entered, is_entered_after, is_listed, is_of_listed, is_any_listed}
 
 module _ (s index : ℕ) (D : List Deed) where

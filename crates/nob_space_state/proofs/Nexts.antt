@@ -14,8 +14,8 @@ use Rattle.nob_model_session.specs.End.{transmitted}
 use Rattle.nob_model_session.specs.Right.{right_front, right_transmit}
 use Rattle.nob_session.specs.declared.due.Due.TheVariants.{Nothing}
 use Rattle.nob_session.specs.Dues.{due_of}
-use Rattle.nob_model_words.specs.declared.deed.Deed.{Deed}
-use Rattle.nob_model_words.specs.Sessions.{is_peer}
+use Rattle.nob_model_types.specs.declared.deed.Deed.{Deed}
+use Rattle.nob_model_types.specs.Sessions.{is_peer}
 use Rattle.nob_model_work.specs.declared.work.InHand.{InHand}
 use Rattle.nob_model_history.specs.declared.history.History.{History}
 use Rattle.nob_model_history.specs.Ends.{calls_at}

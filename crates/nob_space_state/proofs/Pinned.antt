@@ -7,7 +7,7 @@ use Rattle.nob_ids.specs.declared.wire_rep.WireRep.{WireRep}
 use Rattle.nob_item.specs.Kinds.{counted_in}
 use Rattle.nob_pins.specs.Bundles as pins
 use Rattle.nob_table_rows.proofs.Same.{same_laws}
-use Rattle.nob_model_words.specs.declared.deed.Deed.{Deed}
+use Rattle.nob_model_types.specs.declared.deed.Deed.{Deed}
 use Rattle.nob_model_history.specs.declared.transit.SentItem.{SentItem}
 use Rattle.nob_model_history.specs.Histories.{history_of}
 use Rattle.nob_model_history.specs.Holds.{times}

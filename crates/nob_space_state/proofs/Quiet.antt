@@ -1,11 +1,11 @@
 -- Deeds that give nothing, act on nothing and close nothing: what they leave as it is.
 use Rattle.std.proofs.Common.{◌≡◌, ℕ, List, ◌∷◌, refl}
 use Rattle.nob_ids.specs.declared.wire_rep.WireRep.{WireRep}
-use Rattle.nob_model_words.specs.declared.deed.Deed.{Deed}
-use Rattle.nob_model_words.specs.declared.deed.Deed.TheVariants.{Export, Dup, Release, Withdraw}
-use Rattle.nob_model_words.specs.Sessions.{closed, payload_at}
-use Rattle.nob_model_words.specs.Turns.{turns}
-use Rattle.nob_model_words.specs.Messages.{copy_after, message_after}
+use Rattle.nob_model_types.specs.declared.deed.Deed.{Deed}
+use Rattle.nob_model_types.specs.declared.deed.Deed.TheVariants.{Export, Dup, Release, Withdraw}
+use Rattle.nob_model_types.specs.Sessions.{closed, payload_at}
+use Rattle.nob_model_types.specs.Turns.{turns}
+use Rattle.nob_model_types.specs.Messages.{copy_after, message_after}
 use Rattle.nob_model_work.specs.Work.{work, work_after, with_loans, run_after}
 use Rattle.nob_model_work.specs.Gifts.{gifts, gifts_of}
 use Rattle.nob_model_history.specs.Histories.{history_of}

@@ -14,9 +14,9 @@ use Rattle.nob_rows.specs.Rows.{row_at, IsOnce}
 use Rattle.nob_table_rows.specs.Standings.{is_live, is_surrogate, own_standing, far_standing, state_of}
 use Rattle.nob_table.specs.Table.{Table, standing, live_reps, was_given, Becomes, SameSurrogates}
 use Rattle.nob_table_rows.proofs.Same.{same_laws, same_is}
-use Rattle.nob_model_words.specs.Objects as objects
-use Rattle.nob_model_words.specs.Turns.{is_own, turns}
-use Rattle.nob_model_words.specs.Sessions.{closed}
+use Rattle.nob_model_types.specs.Objects as objects
+use Rattle.nob_model_types.specs.Turns.{is_own, turns}
+use Rattle.nob_model_types.specs.Sessions.{closed}
 use Rattle.nob_model_history.specs.declared.history.History.{History}
 use Rattle.nob_model_history.specs.Transit as transit
 use Rattle.nob_model.specs.Right.{own_ref}

@@ -19,10 +19,10 @@ use Rattle.nob_table_rows.specs.Standings as standings
 use Rattle.nob_table.specs.Table.{Table, standing}
 use Rattle.nob_pins.specs.Bundles.{Pinned, bundle_of, is_of, has_bundle}
 use Rattle.nob_pins.specs.Bundles as pins
-use Rattle.nob_model_words.specs.declared.deed.Deed.{Deed}
-use Rattle.nob_model_words.specs.Objects as objects
-use Rattle.nob_model_words.specs.Sessions.{closed, payload_at}
-use Rattle.nob_model_words.specs.Turns.{turns}
+use Rattle.nob_model_types.specs.declared.deed.Deed.{Deed}
+use Rattle.nob_model_types.specs.Objects as objects
+use Rattle.nob_model_types.specs.Sessions.{closed, payload_at}
+use Rattle.nob_model_types.specs.Turns.{turns}
 use Rattle.nob_model_work.specs.declared.gifts.Gift.{Gift}
 use Rattle.nob_model_work.specs.declared.work.InHand.{InHand}
 use Rattle.nob_model_work.specs.Work.{work}
@@ -45,7 +45,7 @@ use Rattle.nob_space_holds.specs.Pins.{AddsPins}
 use Rattle.nob_model.specs.Lists.{IsRightDeed}
 use Rattle.nob_space_holds.specs.Shows.{TableShows, TableStands, far_state}
 use Rattle.nob_space_state.specs.Stands.{Stands, EndsStand, PinsStand, AreAwaited, bundle}
-use Rattle.nob_model_words.specs.declared.message.Message.{Message}
+use Rattle.nob_model_types.specs.declared.message.Message.{Message}
 use Rattle.nob_space_state.proofs.Awaited.{same_lost, still_awaited}
 
 -- an item that goes to a peer

@@ -8,10 +8,10 @@ use Rattle.nob_session.specs.Stands.{end_of}
 use Rattle.nob_table_rows.specs.Counts.{is_held}
 use Rattle.nob_table_rows.specs.Standings as standings
 use Rattle.nob_table.specs.Table.{Table, standing}
-use Rattle.nob_model_words.specs.declared.deed.Deed.{Deed}
-use Rattle.nob_model_words.specs.Objects as objects
-use Rattle.nob_model_words.specs.Turns.{turns}
-use Rattle.nob_model_words.specs.Sessions.{closed}
+use Rattle.nob_model_types.specs.declared.deed.Deed.{Deed}
+use Rattle.nob_model_types.specs.Objects as objects
+use Rattle.nob_model_types.specs.Turns.{turns}
+use Rattle.nob_model_types.specs.Sessions.{closed}
 use Rattle.nob_model_history.specs.Histories.{history_of}
 use Rattle.nob_model_history.specs.Transit as transit
 use Rattle.nob_model.specs.Lists.{IsRightDeed}

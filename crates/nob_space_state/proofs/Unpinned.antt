@@ -6,10 +6,10 @@ use Rattle.std.proofs.lemmas.List.Sums.{sum_by-cons}
 use Rattle.nob_item.specs.Kinds.{counted_in}
 use Rattle.nob_pins.specs.Bundles.{Pinned}
 use Rattle.nob_ids.specs.declared.reason.Reason.TheVariants.{Asked}
-use Rattle.nob_model_words.specs.declared.deed.Cause.TheVariants as causes
-use Rattle.nob_model_words.specs.declared.deed.Deed.{Deed}
-use Rattle.nob_model_words.specs.declared.deed.Deed.TheVariants.{Closing}
-use Rattle.nob_model_words.specs.Sessions.{is_peer, closed}
+use Rattle.nob_model_types.specs.declared.deed.Cause.TheVariants as causes
+use Rattle.nob_model_types.specs.declared.deed.Deed.{Deed}
+use Rattle.nob_model_types.specs.declared.deed.Deed.TheVariants.{Closing}
+use Rattle.nob_model_types.specs.Sessions.{is_peer, closed}
 use Rattle.nob_model_work.specs.declared.gifts.Gift.{Gift}
 use Rattle.nob_model_work.specs.Gifts.{gifts, gifts_of}
 use Rattle.nob_model_work.specs.Work.{work}

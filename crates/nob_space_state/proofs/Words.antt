@@ -5,10 +5,10 @@ use Rattle.nob_model_session.specs.End.{is_open}
 use Rattle.nob_model_session.specs.declared.entry.Arrived.TheVariants as arrived
 use Rattle.nob_model_session.specs.declared.entry.EndEntry.{EndEntry}
 use Rattle.nob_model_session.specs.declared.entry.EndEntry.TheVariants as ends
-use Rattle.nob_model_words.specs.declared.deed.Deed.{Deed}
-use Rattle.nob_model_words.specs.declared.deed.Deed.TheVariants.{Act, Transmit, Arrive, Tick, Closing}
-use Rattle.nob_model_words.specs.declared.deed.Cause.TheVariants as causes
-use Rattle.nob_model_words.specs.Sessions.{closed}
+use Rattle.nob_model_types.specs.declared.deed.Deed.{Deed}
+use Rattle.nob_model_types.specs.declared.deed.Deed.TheVariants.{Act, Transmit, Arrive, Tick, Closing}
+use Rattle.nob_model_types.specs.declared.deed.Cause.TheVariants as causes
+use Rattle.nob_model_types.specs.Sessions.{closed}
 use Rattle.nob_model_work.specs.Work.{work}
 use Rattle.nob_model_work.specs.Gifts.{gifts, all_gifts}
 use Rattle.nob_model_history.specs.Ends.{items_to, with_sends, own_calls, call_of_closing, calls_of, calls_at}

@@ -5,7 +5,7 @@ use Rattle.nob_model_session.specs.Right.{right_transmit}
 use Rattle.nob_session.specs.declared.due.Due.{Due}
 use Rattle.nob_session.specs.declared.due.Due.TheVariants.{Nothing}
 use Rattle.nob_session.specs.Dues.{due_of}
-use Rattle.nob_model_words.specs.Sessions.{is_peer}
+use Rattle.nob_model_types.specs.Sessions.{is_peer}
 use Rattle.nob_model_history.specs.declared.history.History.{History}
 use Rattle.nob_model_history.specs.Ends.{calls_at}
 

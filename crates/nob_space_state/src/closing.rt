@@ -3,10 +3,10 @@
 ghost use Rattle.std.specs.Prelude.{◌≡◌, List, true, false, OnErr, IfOk};
 ghost use Rattle.nob_ids.specs.declared.limits.Limits.{Limits as LimitsOf};
 ghost use Rattle.nob_model_types.specs.declared.answer.Answer.TheVariants as answers;
-ghost use Rattle.nob_model_words.specs.declared.deed.Deed.{Deed};
-ghost use Rattle.nob_model_words.specs.declared.deed.Deed.TheVariants as did;
-ghost use Rattle.nob_model_words.specs.declared.deed.Cause.TheVariants as causes;
-ghost use Rattle.nob_model_words.specs.Sessions.{is_peer};
+ghost use Rattle.nob_model_types.specs.declared.deed.Deed.{Deed};
+ghost use Rattle.nob_model_types.specs.declared.deed.Deed.TheVariants as did;
+ghost use Rattle.nob_model_types.specs.declared.deed.Cause.TheVariants as causes;
+ghost use Rattle.nob_model_types.specs.Sessions.{is_peer};
 ghost use Rattle.nob_model_history.specs.Histories.{history_of};
 ghost use Rattle.nob_model.specs.Right as right;
 ghost use Rattle.nob_space_state.specs.Closing.{lent_in_vain, ClosesDown, Closes};

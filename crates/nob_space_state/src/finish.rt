@@ -2,7 +2,7 @@
 
 ghost use Rattle.std.specs.Prelude.{◌≡◌, ◌-◌, ◌<◌, List, true, Some, None, Ok, Err, find, not, OnErr, IfOk, MatchResult};
 ghost use Rattle.nob_ids.specs.declared.limits.Limits.{Limits as LimitsOf};
-ghost use Rattle.nob_model_words.specs.declared.deed.Deed.{Deed};
+ghost use Rattle.nob_model_types.specs.declared.deed.Deed.{Deed};
 ghost use Rattle.nob_model_work.specs.Gifts as words;
 ghost use Rattle.nob_pickle.specs.Limits.{Fits};
 ghost use Rattle.nob_pickle.specs.declared.value.Value.TheVariants as values;

@@ -2,7 +2,7 @@
 
 ghost use Rattle.std.specs.Prelude.{◌≡◌, ℕ, List};
 ghost use Rattle.nob_ids.specs.declared.limits.Limits.{Limits as LimitsOf};
-ghost use Rattle.nob_model_words.specs.declared.deed.Deed.{Deed};
+ghost use Rattle.nob_model_types.specs.declared.deed.Deed.{Deed};
 ghost use Rattle.nob_model_history.specs.Histories.{history_of};
 ghost use Rattle.nob_model.specs.Next as next;
 ghost use Rattle.nob_space_state.specs.Dues as dues;

@@ -2,11 +2,11 @@
 use Rattle.std.proofs.Common.{◌≡◌, ℕ, ◌+◌, ◌&&◌, Bool, true, false, not, cond, List, [], ◌∷◌, length, filter, map, if◌then◌else◌, refl, sym, ap, ◌∙◌, arith, true≢false}
 use Rattle.nob_ids.specs.declared.wire_rep.WireRep.{WireRep}
 use Rattle.nob_ids.specs.Names.{is_same}
-use Rattle.nob_model_words.specs.declared.message.Loan.{Loan}
-use Rattle.nob_model_words.specs.declared.message.Loan.TheVariants as loans
-use Rattle.nob_model_words.specs.declared.message.Message.{Message}
-use Rattle.nob_model_words.specs.declared.message.RefCopy.{RefCopy}
-use Rattle.nob_model_words.specs.Messages.{loan_after}
+use Rattle.nob_model_types.specs.declared.message.Loan.{Loan}
+use Rattle.nob_model_types.specs.declared.message.Loan.TheVariants as loans
+use Rattle.nob_model_types.specs.declared.message.Message.{Message}
+use Rattle.nob_model_types.specs.declared.message.RefCopy.{RefCopy}
+use Rattle.nob_model_types.specs.Messages.{loan_after}
 use Rattle.nob_space_waiting.specs.Waiting.{due_to, granted_copy, granted_message, is_due, is_due_where, waits_for}
 use Rattle.nob_space_waiting.specs.Lines.{open_in}
 use Rattle.nob_space_waiting.proofs.Counting.{same_is}

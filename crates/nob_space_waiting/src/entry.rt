@@ -6,8 +6,8 @@ ghost use Rattle.nob_slots.specs.Slots.{item_at, is_number, PutsMark};
 ghost use Rattle.nob_space_waiting.specs.declared.entry.Entry.{Entry as EntryOf};
 
 use nob_item::Item;
-use nob_model_words::Message;
-use nob_model_words::message::RefCopies;
+use nob_model_types::Message;
+use nob_model_types::message::RefCopies;
 use nob_slots::Slots;
 use std::alloc::Global;
 

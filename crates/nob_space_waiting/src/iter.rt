@@ -3,7 +3,7 @@
 ghost use Rattle.std.specs.Iterator.{YieldsFirstRef, item_count};
 
 use crate::entry::Entry;
-use nob_model_words::Message;
+use nob_model_types::Message;
 use nob_slots::Slots;
 use std::marker::Model;
 
@@ -17,7 +17,7 @@ pub struct From<'a> {
 
 impl<'a> Model for From<'a> {
     ghost use Rattle.std.specs.Prelude.{List};
-    ghost use Rattle.nob_model_words.specs.declared.message.Message.{Message};
+    ghost use Rattle.nob_model_types.specs.declared.message.Message.{Message};
 
     ghost Value = { List Message };
 

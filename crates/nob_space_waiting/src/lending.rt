@@ -8,8 +8,8 @@ ghost use Rattle.nob_space_waiting.specs.Lines.{AreMarked, IsLined, all_lent, is
 use crate::entry::{Entry, lift, put_back};
 use crate::lines::Lines;
 use nob_ids::WireRep;
-use nob_model_words::message::RefCopy;
-use nob_model_words::{Loan, Message};
+use nob_model_types::message::RefCopy;
+use nob_model_types::{Loan, Message};
 use nob_slots::Slots;
 use std::alloc::Global;
 

@@ -23,8 +23,8 @@ use Rattle.nob_model_types.specs.declared.refusal.Refusal.TheVariants as refusal
 use Rattle.nob_model_session.specs.declared.entry.EndEntry.{EndEntry}
 use Rattle.nob_model_session.specs.End.{is_open, accepted, lowest, data_arrived, unacknowledged, owes_close, ending}
 use Rattle.nob_model_session.specs.Right.{data_frames, open_frames, closed_frames, right_transmit}
-use Rattle.nob_model_words.specs.Deeds.{deed_by, deed_of}
-use Rattle.nob_model_words.specs.Sessions.{is_peer}
+use Rattle.nob_model_types.specs.Deeds.{deed_by, deed_of}
+use Rattle.nob_model_types.specs.Sessions.{is_peer}
 use Rattle.nob_model_history.specs.Histories.{history}
 use Rattle.nob_model_history.specs.Ends.{calls_at}
 use Rattle.nob_model.specs.Right.{right, right_after, right_frames}

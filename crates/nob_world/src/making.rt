@@ -9,7 +9,7 @@ ghost use Rattle.nob_frame.specs.Spelling.{Fits};
 ghost use Rattle.nob_model_types.specs.declared.entry.Entry.{Entry as EntryOf};
 ghost use Rattle.nob_model_types.specs.declared.answer.Answer.{Answer as AnswerOf};
 ghost use Rattle.nob_model.specs.Right.{right};
-ghost use Rattle.nob_model_words.specs.Deeds.{deed_of};
+ghost use Rattle.nob_model_types.specs.Deeds.{deed_of};
 ghost use Rattle.nob_model_journal.specs.Journals.{frames_of};
 ghost use Rattle.nob_model_journal.specs.Runs as runs;
 ghost use Rattle.nob_model_journal.specs.Runs.{ArrivesGiven};

@@ -2,7 +2,7 @@
 
 ghost use Rattle.std.specs.Prelude.{◌≡◌, ◌++◌, ◌+◌, ◌≤◌, ℕ, List, false, length, filter, IfOk, OnOk};
 ghost use Rattle.std.specs.String.{string_bytes};
-ghost use Rattle.nob_model_words.specs.Deeds.{deed_in};
+ghost use Rattle.nob_model_types.specs.Deeds.{deed_in};
 ghost use Rattle.nob_model_journal.specs.Journals as journals;
 ghost use Rattle.nob_model_journal.specs.Journals.{frames_of};
 ghost use Rattle.nob_model_journal.specs.Runs as runs;

@@ -1,8 +1,8 @@
 use Rattle.std.proofs.Common.{◌≡◌, ◌<◌, ◌++◌, List, length, map, take, drop, get_or, ap, subst, ◌∙◌}
-use Rattle.nob_model_words.specs.declared.message.Message.{Message}
-use Rattle.nob_model_words.specs.declared.message.RefCopy.{RefCopy}
-use Rattle.nob_model_words.specs.Messages.{copy_after}
-use Rattle.nob_model_words.proofs.Mapped.{changed_next}
+use Rattle.nob_model_types.specs.declared.message.Message.{Message}
+use Rattle.nob_model_types.specs.declared.message.RefCopy.{RefCopy}
+use Rattle.nob_model_types.specs.Messages.{copy_after}
+use Rattle.nob_model_types.proofs.Mapped.{changed_next}
 use Rattle.nob_check_work.proofs.lending.lend_message.Goals as goal
 
 pub loop-place-preserved : goal.loop-place-preserved

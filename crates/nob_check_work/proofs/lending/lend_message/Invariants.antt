@@ -1,5 +1,5 @@
 use Rattle.std.proofs.Common.{◌≡◌, ◌++◌, map, take, drop}
-use Rattle.nob_model_words.specs.Messages.{copy_after}
+use Rattle.nob_model_types.specs.Messages.{copy_after}
 use Rattle.nob_check_work.proofs.lending.lend_message.Given as goal
 
 -- the copies so far have their loans, the others are as they were

@@ -1,7 +1,7 @@
 use Rattle.std.proofs.Common.{◌<◌, List, length, sym, ap, subst, ◌∙◌}
-use Rattle.nob_model_words.specs.declared.message.Message.{Message}
-use Rattle.nob_model_words.specs.Messages.{message_after}
-use Rattle.nob_model_words.proofs.Mapped.{changed_next}
+use Rattle.nob_model_types.specs.declared.message.Message.{Message}
+use Rattle.nob_model_types.specs.Messages.{message_after}
+use Rattle.nob_model_types.proofs.Mapped.{changed_next}
 use Rattle.nob_check_work.proofs.lending.message_loans.Goals as goal
 
 pub loop-message-preserved : goal.loop-message-preserved

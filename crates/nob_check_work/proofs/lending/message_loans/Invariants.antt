@@ -1,5 +1,5 @@
 use Rattle.std.proofs.Common.{◌≡◌, ◌++◌, map, take, drop}
-use Rattle.nob_model_words.specs.Messages.{message_after}
+use Rattle.nob_model_types.specs.Messages.{message_after}
 use Rattle.nob_check_work.proofs.lending.message_loans.Given as goal
 
 -- the messages so far have their loans, the others are as they were

@@ -1,5 +1,5 @@
 use Rattle.std.proofs.Common.{◌≡◌, ◌++◌, map, drop}
-use Rattle.nob_model_words.specs.Messages.{new_copy}
+use Rattle.nob_model_types.specs.Messages.{new_copy}
 use Rattle.nob_check_work.proofs.lending.new_copies.Given as goal
 
 -- the copies of the references so far, and those of the others

@@ -1,7 +1,7 @@
 use Rattle.std.proofs.Common.{◌<◌, List, length, sym, ap, subst, ◌∙◌}
 use Rattle.nob_model_work.specs.declared.work.Run.{Run}
 use Rattle.nob_model_work.specs.Work.{run_after}
-use Rattle.nob_model_words.proofs.Mapped.{changed_next}
+use Rattle.nob_model_types.proofs.Mapped.{changed_next}
 use Rattle.nob_check_work.proofs.lending.run_loans.Goals as goal
 
 pub loop-run-preserved : goal.loop-run-preserved

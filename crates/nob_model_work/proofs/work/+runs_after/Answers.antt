@@ -1,7 +1,7 @@
 use Rattle.std.proofs.Common.{◌∙◌, ◌==◌, List, length, ap, map}
 use Rattle.nob_model_work.specs.declared.work.Run.{Run}
 use Rattle.nob_model_work.specs.Work as words
-use Rattle.nob_model_words.proofs.Lists.{map_step_by}
+use Rattle.nob_model_types.proofs.Lists.{map_step_by}
 use Rattle.nob_model_work.proofs.work.+runs_after.Goals as goal
 
 pub returns : goal.returns

@@ -1,6 +1,6 @@
 use Rattle.std.proofs.Common.{◌≡◌, ◌∙◌, None, Some, sym, ap}
 use Rattle.std.specs.List.{position}
-use Rattle.nob_model_words.specs.Messages.{is_job}
+use Rattle.nob_model_types.specs.Messages.{is_job}
 use Rattle.nob_model_work.proofs.Firsts.{no_place, at_place, none_taken}
 use Rattle.nob_model_work.proofs.work.take_job.Goals as goal
 

@@ -1,6 +1,6 @@
 use Rattle.std.proofs.Common.{◌∙◌, ap, filter, rules}
 use Rattle.std.proofs.lemmas.Fn.{filter_same}
-use Rattle.nob_model_words.specs.Messages.{is_not_from}
+use Rattle.nob_model_types.specs.Messages.{is_not_from}
 use Rattle.nob_model_work.proofs.work.without_peer.Goals as goal
 
 pub returns : goal.returns

@@ -1,6 +1,6 @@
 use Rattle.std.proofs.Common.{Some, None, inr, refl, sym, ap, subst, ◌∙◌}
 use Rattle.nob_ids.specs.declared.reason.Reason.TheVariants.{BadItem}
-use Rattle.nob_model_words.specs.Sessions.{item_of}
+use Rattle.nob_model_types.specs.Sessions.{item_of}
 use Rattle.nob_item.specs.Judging.{Fails}
 use Rattle.nob_item.specs.declared.fault.ItemError.{ItemError}
 use Rattle.nob_item.specs.Reading.{item_read}

@@ -1,6 +1,6 @@
 use Rattle.std.proofs.Common.{◌≡◌, ◌-◌, List, ◌∷◌, length, take, drop, set, sym, ap, subst, ◌∙◌, arith}
 use Rattle.nob_ids.specs.declared.wire_rep.WireRep.{WireRep}
-use Rattle.nob_model_words.proofs.Lists.{first_and_rest, rest_is}
+use Rattle.nob_model_types.proofs.Lists.{first_and_rest, rest_is}
 use Rattle.nob_space_items.specs.Growing.{AreAmong, SameEnds, HaveRoom}
 use Rattle.nob_space_items.proofs.Grown.{one_grown, same_then, room_first, on_ok, ok_holds}
 use Rattle.nob_space_items.proofs.growing.+grow_sessions.Goals as goal

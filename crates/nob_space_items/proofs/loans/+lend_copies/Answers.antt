@@ -1,8 +1,8 @@
 use Rattle.std.proofs.Common.{◌≡◌, ◌-◌, List, [], ◌∷◌, ◌++◌, length, take, drop, sym, ap, subst, ◌∙◌}
-use Rattle.nob_model_words.specs.declared.message.RefCopy.{RefCopy}
+use Rattle.nob_model_types.specs.declared.message.RefCopy.{RefCopy}
 use Rattle.nob_model_history.specs.Holds.{copies_lent}
 use Rattle.nob_space_holds.proofs.Returned.{copies_both}
-use Rattle.nob_model_words.proofs.Lists.{first_and_rest, rest_is}
+use Rattle.nob_model_types.proofs.Lists.{first_and_rest, rest_is}
 use Rattle.nob_space_items.specs.Lending.{Lends}
 use Rattle.nob_space_items.proofs.Lends.{lends_then}
 use Rattle.nob_space_items.proofs.loans.+lend_copies.Goals as goal

@@ -5,7 +5,7 @@ use Rattle.nob_item.specs.Judging.{is_call_number}
 use Rattle.nob_model_session.specs.Right.{last_item}
 use Rattle.nob_model_history.specs.Ends.{calls_at}
 use Rattle.nob_model_history.specs.Histories.{history_of}
-use Rattle.nob_model_words.specs.declared.deed.Deed.TheVariants as did
+use Rattle.nob_model_types.specs.declared.deed.Deed.TheVariants as did
 use Rattle.nob_ids.specs.declared.wire_rep.WireRep.{WireRep}
 use Rattle.nob_model_work.specs.declared.work.InHand.{InHand}
 use Rattle.nob_model_work.specs.Work.{after_settlement}

@@ -1,9 +1,9 @@
 use Rattle.std.proofs.Common.{◌≡◌, ◌+◌, ◌<◌, ◌++◌, List, length, map, take, drop, rules, true, false, get_or, sym, ap, subst, ◌∙◌, arith}
-use Rattle.nob_model_words.specs.declared.message.Message.{Message}
-use Rattle.nob_model_words.specs.declared.message.RefCopy.{RefCopy}
-use Rattle.nob_model_words.specs.declared.message.Loan.{Loan}
-use Rattle.nob_model_words.specs.declared.message.Loan.TheVariants as loans
-use Rattle.nob_model_words.proofs.Mapped.{changed_next, here_is}
+use Rattle.nob_model_types.specs.declared.message.Message.{Message}
+use Rattle.nob_model_types.specs.declared.message.RefCopy.{RefCopy}
+use Rattle.nob_model_types.specs.declared.message.Loan.{Loan}
+use Rattle.nob_model_types.specs.declared.message.Loan.TheVariants as loans
+use Rattle.nob_model_types.proofs.Mapped.{changed_next, here_is}
 use Rattle.nob_space_waiting.specs.Waiting.{waits_for, granted_copy}
 use Rattle.nob_space_waiting.proofs.Granting.{few_first, kept_next, pass_next, waits_granted, else_granted}
 use Rattle.nob_space_waiting.proofs.lending.lend_to.Goals as goal

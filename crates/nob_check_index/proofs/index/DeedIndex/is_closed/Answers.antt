@@ -1,5 +1,5 @@
 use Rattle.std.proofs.Common.{ap, ◌∙◌}
-use Rattle.nob_model_words.specs.Sessions.{closed}
+use Rattle.nob_model_types.specs.Sessions.{closed}
 use Rattle.nob_check_index.specs.declared.lists.SpaceDeeds.{SpaceDeeds}
 use Rattle.nob_check_index.proofs.Answering.{closes}
 use Rattle.nob_check_index.proofs.index.DeedIndex.is_closed.Goals as goal

@@ -1,5 +1,5 @@
 use Rattle.std.proofs.Common.{ap, ◌∙◌}
-use Rattle.nob_model_words.specs.Objects.{is_exported}
+use Rattle.nob_model_types.specs.Objects.{is_exported}
 use Rattle.nob_check_index.specs.declared.lists.SpaceDeeds.{SpaceDeeds}
 use Rattle.nob_check_index.proofs.Answering.{exports_it}
 use Rattle.nob_check_index.proofs.index.DeedIndex.is_exported.Goals as goal

@@ -1,5 +1,5 @@
 use Rattle.std.proofs.Common.{ap, ◌∙◌}
-use Rattle.nob_model_words.specs.Objects.{is_live}
+use Rattle.nob_model_types.specs.Objects.{is_live}
 use Rattle.nob_check_index.specs.declared.lists.SpaceDeeds.{SpaceDeeds}
 use Rattle.nob_check_index.proofs.Answering.{lives}
 use Rattle.nob_check_index.proofs.index.DeedIndex.is_live.Goals as goal

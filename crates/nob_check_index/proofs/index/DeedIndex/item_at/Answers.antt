@@ -1,5 +1,5 @@
 use Rattle.std.proofs.Common.{ap, ◌∙◌}
-use Rattle.nob_model_words.specs.Sessions.{item_at}
+use Rattle.nob_model_types.specs.Sessions.{item_at}
 use Rattle.nob_check_index.specs.declared.lists.SpaceDeeds.{SpaceDeeds}
 use Rattle.nob_check_index.proofs.Answering.{item_came}
 use Rattle.nob_check_index.proofs.index.DeedIndex.item_at.Goals as goal

@@ -1,5 +1,5 @@
 use Rattle.std.proofs.Common.{ap, ◌∙◌}
-use Rattle.nob_model_words.specs.Turns.{turns}
+use Rattle.nob_model_types.specs.Turns.{turns}
 use Rattle.nob_check_index.specs.declared.lists.SpaceDeeds.{SpaceDeeds}
 use Rattle.nob_check_index.proofs.Answering.{turned}
 use Rattle.nob_check_index.proofs.index.DeedIndex.turns.Goals as goal

@@ -1,8 +1,8 @@
 use Rattle.std.proofs.Common.{refl}
 use Rattle.nob_model_types.specs.declared.answer.Answer.TheVariants as answers
 use Rattle.nob_model_types.specs.declared.event.Event.TheVariants as events
-use Rattle.nob_model_words.specs.Deeds.{deeds}
-use Rattle.nob_model_words.specs.declared.deed.Deed.TheVariants as did
+use Rattle.nob_model_types.specs.Deeds.{deeds}
+use Rattle.nob_model_types.specs.declared.deed.Deed.TheVariants as did
 use Rattle.nob_space.proofs.Owners.{owner_after}
 use Rattle.nob_space.proofs.space.Space.clean.Goals as goal
 

@@ -1,6 +1,6 @@
 use Rattle.std.proofs.Common.{sym, ap, subst}
 use Rattle.nob_ids.specs.Names.{IsSpace}
-use Rattle.nob_model_words.specs.Deeds.{deeds}
+use Rattle.nob_model_types.specs.Deeds.{deeds}
 use Rattle.nob_space.specs.Spaces.{Owner}
 use Rattle.nob_space.proofs.space.Space.frames.Goals as goal
 

@@ -1,5 +1,5 @@
 use Rattle.std.proofs.Common.{Ok, sym, subst}
-use Rattle.nob_model_words.specs.Deeds.{deeds}
+use Rattle.nob_model_types.specs.Deeds.{deeds}
 use Rattle.nob_space.specs.Spaces.{Owner}
 use Rattle.nob_space.specs.Events.{StepAnswers}
 use Rattle.nob_space.proofs.space.Space.step_twice.Goals as goal

@@ -1,5 +1,5 @@
 use Rattle.nob_model_types.specs.declared.event.Event.TheVariants as events
-use Rattle.nob_model_words.specs.Deeds.{deeds}
+use Rattle.nob_model_types.specs.Deeds.{deeds}
 use Rattle.nob_space_state.specs.Taking.{answer_of}
 use Rattle.nob_space_state.specs.Taking as taking
 use Rattle.nob_space.proofs.Owners.{owner_after, take_did}

@@ -1,11 +1,11 @@
 use Rattle.std.proofs.Common.{◌≡◌, ◌+◌, ◌∷◌, ℕ, IsSome, None, Some, find, sym, ap, ◌∙◌, arith, if◌then◌else◌}
 use Rattle.std.proofs.lemmas.Option.{same_Some}
-use Rattle.nob_model_words.specs.declared.message.Message.{Message}
+use Rattle.nob_model_types.specs.declared.message.Message.{Message}
 use Rattle.nob_model_acting.specs.Candidates.{target_of}
 use Rattle.nob_space_jobs.specs.Jobs.{is_free_of}
 use Rattle.nob_space_jobs.proofs.Counted.{runs_few}
 use Rattle.nob_space_jobs.proofs.Free.{first_same, others_same}
-use Rattle.nob_space_ready.specs.Ready.{is_target, runs_after}
+use Rattle.nob_space_jobs.specs.Ready.{is_target, runs_after}
 use Rattle.nob_space_jobs.proofs.jobs.Jobs.claim.Goals as goal
 
 pub start-requires : goal.start-requires

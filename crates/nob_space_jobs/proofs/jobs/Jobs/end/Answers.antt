@@ -4,7 +4,7 @@ use Rattle.nob_model_acting.specs.Candidates.{target_of}
 use Rattle.nob_space_jobs.specs.Running.{runs_of}
 use Rattle.nob_space_jobs.proofs.Counted.{counted_less, runs_parted, runs_some}
 use Rattle.nob_space_jobs.proofs.Newest.{all_left}
-use Rattle.nob_space_ready.specs.Ready.{is_target, runs_at}
+use Rattle.nob_space_jobs.specs.Ready.{is_target, runs_at}
 use Rattle.nob_space_jobs.proofs.jobs.Jobs.end.Goals as goal
 
 pub returns-in_default-clause-running : goal.returns-in_default-clause-running

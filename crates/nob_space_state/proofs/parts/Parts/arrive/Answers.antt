@@ -6,9 +6,9 @@ use Rattle.nob_model_session.specs.Right.{IsRight}
 use Rattle.nob_session.specs.Answers.{Answered, arrived_of}
 use Rattle.nob_session.specs.Calls.{EndsBy, evidence_of}
 use Rattle.nob_session.specs.Stands as session
-use Rattle.nob_model_words.specs.Sessions.{is_peer}
-use Rattle.nob_model_words.specs.declared.deed.Cause.TheVariants as causes
-use Rattle.nob_model_words.specs.declared.deed.Deed.TheVariants as did
+use Rattle.nob_model_types.specs.Sessions.{is_peer}
+use Rattle.nob_model_types.specs.declared.deed.Cause.TheVariants as causes
+use Rattle.nob_model_types.specs.declared.deed.Deed.TheVariants as did
 use Rattle.nob_model_types.specs.declared.answer.Answer.TheVariants as answers
 use Rattle.nob_model_history.specs.Ends.{calls_at}
 use Rattle.nob_model_history.specs.Histories.{history_of}

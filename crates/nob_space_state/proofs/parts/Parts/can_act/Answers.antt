@@ -1,6 +1,6 @@
 use Rattle.std.proofs.Common.{◌≡◌, ◌-◌, List, true, is_some, get_or, sym, ap, subst, ◌∙◌}
 use Rattle.nob_session.specs.Stands.{Roomy}
-use Rattle.nob_model_words.specs.Sessions.{is_peer}
+use Rattle.nob_model_types.specs.Sessions.{is_peer}
 use Rattle.nob_model_history.specs.Ends.{calls_at}
 use Rattle.nob_model_history.specs.Histories.{history_of}
 use Rattle.nob_space_state.proofs.Ends.{at_peer, end_there}

@@ -1,8 +1,8 @@
 use Rattle.std.proofs.Common.{◌≡◌, ℕ, ◌-◌, true, false, Ok, get_or, refl, subst, ◌∙◌}
 use lib.ListN.{set}
 use Rattle.nob_model_session.specs.declared.entry.EndEntry.TheVariants as ends
-use Rattle.nob_model_words.specs.declared.deed.Cause.{Cause}
-use Rattle.nob_model_words.specs.declared.deed.Cause.TheVariants as causes
+use Rattle.nob_model_types.specs.declared.deed.Cause.{Cause}
+use Rattle.nob_model_types.specs.declared.deed.Cause.TheVariants as causes
 use Rattle.nob_model_history.specs.Ends.{call_of_closing, calls_at}
 use Rattle.nob_model_history.specs.Histories.{history_of}
 use Rattle.nob_space_state.specs.Closing.{ClosesDown, Closes}

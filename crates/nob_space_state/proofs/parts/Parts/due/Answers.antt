@@ -2,7 +2,7 @@ use Rattle.std.proofs.Common.{◌≡◌, ◌-◌, List, true, get_or, sym, ap, s
 use Rattle.nob_session.specs.Calls.{frames_of}
 use Rattle.nob_session.specs.Dues.{due_of}
 use Rattle.nob_session.specs.Stands.{Roomy, End}
-use Rattle.nob_model_words.specs.Sessions.{is_peer}
+use Rattle.nob_model_types.specs.Sessions.{is_peer}
 use Rattle.nob_model_history.specs.Histories.{history_of}
 use Rattle.nob_space_state.proofs.Ends.{at_peer, end_there}
 use Rattle.nob_space_state.proofs.Nexts.{due_no_peer, due_there}

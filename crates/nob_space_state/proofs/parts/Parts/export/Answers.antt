@@ -3,8 +3,8 @@ use Rattle.nob_ids.specs.declared.wire_rep.WireRep.{WireRep}
 use Rattle.nob_table_rows.specs.Standings.{exported_standing}
 use Rattle.nob_table.specs.Table.{Becomes, IsRefusal, export_fault}
 use Rattle.nob_model_types.specs.declared.answer.Answer.TheVariants as answers
-use Rattle.nob_model_words.specs.declared.deed.Deed.TheVariants as did
-use Rattle.nob_model_words.specs.Objects.{exports}
+use Rattle.nob_model_types.specs.declared.deed.Deed.TheVariants as did
+use Rattle.nob_model_types.specs.Objects.{exports}
 use Rattle.nob_model.specs.Right.{own_ref}
 use Rattle.nob_model_acting.specs.Sending.{unless}
 use Rattle.nob_space_state.specs.Parts.{state_of, with_table}

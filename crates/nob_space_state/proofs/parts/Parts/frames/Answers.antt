@@ -6,7 +6,7 @@ use Rattle.nob_ids.specs.Names.{IsSpace}
 use Rattle.nob_session.specs.Items.{IsPair}
 use Rattle.nob_session.specs.Stands.{Roomy, End}
 use Rattle.nob_model_types.specs.declared.answer.Answer.TheVariants as answers
-use Rattle.nob_model_words.specs.Sessions.{is_peer}
+use Rattle.nob_model_types.specs.Sessions.{is_peer}
 use Rattle.nob_model_history.specs.Histories.{history_of}
 use Rattle.nob_space_state.proofs.Passing.{wants_as}
 use Rattle.nob_space_state.proofs.Ends.{at_peer, end_there, frames_right, frames_no_peer}

@@ -1,12 +1,12 @@
 use Rattle.std.proofs.Common.{◌≡◌, List, ◌∷◌, not, true, false, find, filter, Some, sym, ap, subst, ◌∙◌}
-use Rattle.nob_model_words.specs.declared.message.Message.{Message}
-use Rattle.nob_model_words.specs.declared.message.RefCopy.{RefCopy}
+use Rattle.nob_model_types.specs.declared.message.Message.{Message}
+use Rattle.nob_model_types.specs.declared.message.RefCopy.{RefCopy}
 use Rattle.nob_model_work.specs.declared.work.OwnCall.{OwnCall}
 use Rattle.nob_model_work.specs.Work.{is_call, work}
 use Rattle.nob_model.specs.Right.{answer_of_stage}
 use Rattle.nob_model_history.specs.Histories.{history_of}
 use Rattle.nob_model_history.specs.Holds.{hand, times, lent_in}
-use Rattle.nob_model_words.specs.declared.deed.Deed.TheVariants as did
+use Rattle.nob_model_types.specs.declared.deed.Deed.TheVariants as did
 use Rattle.nob_space_calls.specs.Calls.{is_reply}
 use Rattle.nob_space_state.specs.Parts.{state_of}
 use Rattle.nob_space_state.specs.Stands.{Stands}

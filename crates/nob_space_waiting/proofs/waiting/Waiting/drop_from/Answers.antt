@@ -1,5 +1,5 @@
 use Rattle.std.proofs.Common.{◌≡◌, ap, sym, subst, ◌∙◌}
-use Rattle.nob_model_words.specs.Messages.{is_not_from}
+use Rattle.nob_model_types.specs.Messages.{is_not_from}
 use Rattle.nob_slots.specs.Slots.{item_at, IsAbove, IsRising}
 use Rattle.nob_space_waiting.specs.Lines.{items_of, stamps_from, without}
 use Rattle.nob_space_waiting.proofs.Found.{fewer, kept, kept_below, kept_found, kept_items, kept_rising}

@@ -1,4 +1,0 @@
-pub mod Ready
-pub mod Lanes
-pub mod Lines
-pub mod Rows
