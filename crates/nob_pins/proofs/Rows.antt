@@ -6,13 +6,11 @@ use Rattle.std.proofs.lemmas.Cmp.{nat_eq_equiv}
 use Rattle.std.proofs.lemmas.Bool.Decides.{Decides-eqb, Decides-and, nat_tests}
 use Rattle.std.proofs.lemmas.Option.{none-some, same_Some}
 use Rattle.std.proofs.lemmas.List.Elements.{All-head, All-tail, All-nil, filter-append}
-use Rattle.std.proofs.lemmas.List.Sums.{sum_by-append}
 use Rattle.std.proofs.lemmas.List.Sorted.{IsPermutation-refl, IsPermutation-sym, IsPermutation-trans, IsPermutation-append, IsPermutation-middle, All-permutation}
 use Rattle.std.specs.List.{list_any}
 use Rattle.std.specs.Option.{option_map_or}
 use Rattle.std.specs.List.Sorted.{IsPermutation}
-use Rattle.nob_ids.specs.declared.wire_rep.WireRep.{WireRep}
-use Rattle.nob_pins.specs.Bundles.{Pinned, is_of, has_bundle, of_peer, of_others, count_of, times}
+use Rattle.nob_pins.specs.Bundles.{Pinned, is_of, has_bundle, of_peer, of_others}
 use Rattle.nob_pins.specs.Peers.{Row, all_pinned, rooms_of, pinned_at, has_item, AreOfPeer, AreByPeer, KeepsRooms}
 
 -- ---- another element at a place
@@ -177,6 +175,10 @@ taken_at (a ∷ rs) (suc k) p q b got adds =
     (IsPermutation-append a.pinned a.pinned (b ∷ all_pinned (set rs k q)) (all_pinned rs) (IsPermutation-refl a.pinned) (taken_at rs k p q b got adds))
 
 -- ---- a peer's bundles are gone
+-- a row without bundles
+abbrev pub no_row : Row
+no_row = record { pinned = []; room = 0 }
+
 left_after : (n peer : ℕ) (rows : List Row) → AreFrom n rows → peer < n → of_others peer (all_pinned rows) ≡ all_pinned rows
 left_after n peer [] are less = refl
 left_after n peer (r ∷ rs) are less =
@@ -199,28 +201,17 @@ emptied_from n peer (a ∷ rs) are (suc k) p q is got none =
 pub emptied_at : (rows : List Row) → AreByPeer rows → (peer : ℕ) (p q : Row) → slice_get rows peer ≡ Some p → q.pinned ≡ [] → of_others peer (all_pinned rows) ≡ all_pinned (set rows peer q)
 emptied_at rows are peer p q got none = emptied_from 0 peer rows (from_first rows are) peer p q (omega arith) got none
 
-past_from : (n peer : ℕ) (rows : List Row) → AreFrom n rows → n + length rows ≤ peer → of_others peer (all_pinned rows) ≡ all_pinned rows
-past_from n peer [] are past = refl
-past_from n peer (a ∷ rs) are past =
-    let here = all_left n peer (λ e. omega (arith, e, past)) a.pinned (from_here n a rs are) in
-    let rest = past_from (n + 1) peer rs (from_tail n a rs are) (omega (arith, past)) in
-    filter-append (λ (b : Pinned). not (b.peer == peer)) a.pinned (all_pinned rs) ∙ rw (here, rest) refl
+set_again : (rows : List Row) (k : ℕ) (p q : Row) → set (set rows k p) k q ≡ set rows k q
+set_again [] k p q = refl
+set_again (a ∷ rs) zero p q = refl
+set_again (a ∷ rs) (suc k) p q = ap (λ (xs : List Row). a ∷ xs) (set_again rs k p q)
 
--- a peer past all has none
-pub others_past : (rows : List Row) → AreByPeer rows → (peer : ℕ) → length rows ≤ peer → of_others peer (all_pinned rows) ≡ all_pinned rows
-others_past rows are peer past = past_from 0 peer rows (from_first rows are) (omega (arith, past))
-
--- the counts without the bundles that stood at a peer
-pub emptied_count : (rep : WireRep) (rows : List Row) (k : ℕ) (p q : Row) → slice_get rows k ≡ Some p → q.pinned ≡ [] → count_of (all_pinned rows) rep ≡ count_of p.pinned rep + count_of (all_pinned (set rows k q)) rep
-emptied_count rep [] k p q got none = absurd (none-some p got)
-emptied_count rep (a ∷ rs) zero p q got none =
-    let f : Pinned → ℕ = λ b. times rep b.reps in
-    let e : count_of a.pinned rep ≡ count_of p.pinned rep = ap (λ (w : Row). count_of w.pinned rep) (same_Some a p got) in
-    let s : count_of (q.pinned ++ all_pinned rs) rep ≡ count_of (all_pinned rs) rep = ap (λ (bs : List Pinned). count_of (bs ++ all_pinned rs) rep) none in
-    omega (arith, sum_by-append f a.pinned (all_pinned rs), e, s)
-emptied_count rep (a ∷ rs) (suc k) p q got none =
-    let f : Pinned → ℕ = λ b. times rep b.reps in
-    omega (arith, sum_by-append f a.pinned (all_pinned rs), sum_by-append f a.pinned (all_pinned (set rs k q)), emptied_count rep rs k p q got none)
+-- other bundles at a peer leave those of the others
+pub others_at : (rows : List Row) → AreByPeer rows → (peer : ℕ) (p q : Row) → slice_get rows peer ≡ Some p → AreOfPeer peer q.pinned → of_others peer (all_pinned rows) ≡ of_others peer (all_pinned (set rows peer q))
+others_at rows are peer p q got all =
+    emptied_at rows are peer p no_row got refl
+    ∙ ap all_pinned (sym (set_again rows peer q no_row))
+    ∙ sym (emptied_at (set rows peer q) (by_peer_set rows peer p q are got all) peer q no_row (get_set_same rows peer p q got) refl)
 
 -- ---- rooms
 pub room_at : (rows : List Row) (k : ℕ) (p : Row) → slice_get rows k ≡ Some p → get_or (rooms_of rows) k 0 ≡ p.room
@@ -285,14 +276,6 @@ in_both (Some a) P Q F G holds first second = second a holds
 pub either : {A : Type 0} (o : Option A) (P : Type 0) (F : A → Type 0) → MatchOption o P F → (Q : Type 0) → (P → Q) → ((a : A) → F a → Q) → Q
 either None P F holds Q first second = first holds
 either (Some a) P F holds Q first second = second a holds
-
--- a row without bundles
-abbrev pub no_row : Row
-no_row = record { pinned = []; room = 0 }
-
--- a peer's references are among those of all
-pub count_below : (rep : WireRep) (rows : List Row) (k : ℕ) (p : Row) → slice_get rows k ≡ Some p → count_of p.pinned rep ≤ count_of (all_pinned rows) rep
-count_below rep rows k p got = omega (arith, emptied_count rep rows k p no_row got refl)
 
 -- what a peer whose bundle is taken out has left
 pub of_peer_taken : (k : ℕ) (b : Pinned) (old new : List Pinned) → AreOfPeer k old → IsPermutation (b ∷ new) old → (b.peer ≡ k) × AreOfPeer k new

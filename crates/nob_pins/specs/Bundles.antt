@@ -69,6 +69,10 @@ of_others peer bundles = filter (λ bundle. not (bundle.peer == peer)) bundles
 abbrev pub TakesOutAll : List Pinned → List Pinned → ℕ → Type 0
 TakesOutAll old new peer = IsPermutation (of_others peer old) new
 
+-- new has the bundles of other peers that old has
+abbrev pub KeepsOthers : List Pinned → List Pinned → ℕ → Type 0
+KeepsOthers old new peer = IsPermutation (of_others peer old) (of_others peer new)
+
 -- the bundles of a peer
 abbrev pub of_peer : ℕ → List Pinned → List Pinned
 of_peer peer bundles = filter (λ bundle. bundle.peer == peer) bundles

@@ -38,6 +38,10 @@ IsPinOf peer item pin = (pin.peer ≡ peer) × (pin.item ≡ item)
 abbrev pub AreOf : ℕ → ℕ → List Pin → Type 0
 AreOf peer item pins = All (IsPinOf peer item) pins
 
+-- all these pins are to this peer
+abbrev pub AreTo : ℕ → List Pin → Type 0
+AreTo peer pins = All (λ pin. pin.peer ≡ peer) pins
+
 -- the references of the pins
 abbrev pub reps_of : List Pin → List WireRep
 reps_of pins = map (λ pin. pin.rep) pins

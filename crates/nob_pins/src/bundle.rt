@@ -4,10 +4,8 @@ ghost use Rattle.std.specs.Prelude.{◌≡◌};
 ghost use Rattle.nob_pins.specs.Evidence.{AreOf, reps_of};
 ghost use Rattle.nob_pins.specs.Bundles.{bundle_of};
 
-use crate::evidence::Settled;
 use crate::pin::TransitPin;
 use nob_ids::{ItemNo, SpaceId};
-use nob_session::Closed;
 use std::marker::Model;
 
 // The pins that are to a peer in an item.
@@ -51,34 +49,16 @@ impl Bundle {
         &self.pins
     }
 
-    // Ends the pins: their peer has dealt with their item.
-    pub(crate) fn settle(self, settled: &Settled)
-        requires peer { settled.now.peer ≡ self.peer }
-        requires item { settled.now.item ≡ self.item }
+    // The pins, out of their bundle.
+    pub(crate) fn into_pins(self) -> Vec<TransitPin>
+        ensures pins { AreOf self.peer self.item result.items }
+        ensures reps { reps_of result.items ≡ self.reps }
     {
         let Bundle {
             peer: _,
             item: _,
-            mut pins,
+            pins,
         } = self;
-        while let Some(pin) = pins.pop() {
-            pin.spend(settled);
-        }
-        pins.destroy_empty();
-    }
-
-    // Ends the pins: the session with their peer has closed.
-    pub(crate) fn give_up(self, closed: &Closed)
-        requires { closed.now.peer ≡ self.peer }
-    {
-        let Bundle {
-            peer: _,
-            item: _,
-            mut pins,
-        } = self;
-        while let Some(lost) = pins.pop() {
-            lost.give_up(closed);
-        }
-        pins.destroy_empty();
+        pins
     }
 }

@@ -13,5 +13,5 @@ mod table;
 
 pub use evidence::Settled;
 pub use fault::PinFault;
-pub use pin::TransitPin;
+pub use pin::{TransitPin, give_up_all, spend_all};
 pub use table::PinTable;

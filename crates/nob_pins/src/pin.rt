@@ -1,7 +1,7 @@
 //! Pins.
 
 ghost use Rattle.std.specs.Prelude.{◌≡◌};
-ghost use Rattle.nob_pins.specs.Evidence.{pin_of};
+ghost use Rattle.nob_pins.specs.Evidence.{pin_of, AreOf, AreTo};
 
 use crate::evidence::Settled;
 use nob_ids::{ItemNo, SpaceId, WireRep};
@@ -77,4 +77,26 @@ impl TransitPin {
             item: _,
         } = self;
     }
+}
+
+/// Ends these pins: their peer has dealt with their item. Linear in the pins.
+pub fn spend_all(pins: Vec<TransitPin>, settled: &Settled)
+    requires { AreOf settled.now.peer settled.now.item pins.items }
+{
+    let mut left = pins;
+    while let Some(pin) = left.pop() {
+        pin.spend(settled);
+    }
+    left.destroy_empty();
+}
+
+/// Ends these pins: the session with their peer has closed. Linear in the pins.
+pub fn give_up_all(pins: Vec<TransitPin>, closed: &Closed)
+    requires { AreTo closed.now.peer pins.items }
+{
+    let mut left = pins;
+    while let Some(lost) = left.pop() {
+        lost.give_up(closed);
+    }
+    left.destroy_empty();
 }

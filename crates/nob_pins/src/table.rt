@@ -1,11 +1,11 @@
 //! The table of the pins.
 
-ghost use Rattle.std.specs.Prelude.{◌≡◌, ◌≢◌, ◌+◌, ◌<◌, ◌≤◌, ◌-◌, ◌^◌, ◌==◌, ◌++◌, ◌∷◌, [], true, false, not, min, filter, length, vec_len, get_or, slice_get, None, Some, IsOk, OnOk, OnErr, IfErr, MatchOption, MatchResult};
+ghost use Rattle.std.specs.Prelude.{◌≡◌, ◌≢◌, ◌+◌, ◌<◌, ◌≤◌, ◌-◌, ◌^◌, ◌==◌, ◌++◌, ◌∷◌, [], true, false, not, min, filter, length, vec_len, get_or, slice_get, None, Some, ℕ, IsOk, OnOk, OnErr, IfErr, IfSome, MatchOption, MatchResult};
 ghost use Rattle.std.specs.List.{list_any};
 ghost use Rattle.nob_ids.specs.declared.wire_rep.WireRep.{WireRep};
 ghost use Rattle.nob_ids.specs.Names.{most_spaces};
-ghost use Rattle.nob_pins.specs.Evidence.{AreOf, reps_of};
-ghost use Rattle.nob_pins.specs.Bundles.{has_room, KeepsRoom, Unchanged, has_bundle, bundle_of, Adds, TakesOut, TakesOutAll, of_others, of_peer, count_of};
+ghost use Rattle.nob_pins.specs.Evidence.{AreOf, AreTo, reps_of};
+ghost use Rattle.nob_pins.specs.Bundles.{has_room, KeepsRoom, Unchanged, has_bundle, bundle_of, Adds, TakesOut, TakesOutAll, KeepsOthers, of_others, of_peer, count_of};
 ghost use Rattle.nob_pins.specs.Peers.{all_pinned, rooms_of, pinned_at, is_many, count_in, AreByPeer, AreOfPeer, KeepsRooms, has_item};
 
 use crate::bundle::Bundle;
@@ -13,7 +13,7 @@ use crate::counts::{Counts, add_all, take_all};
 use crate::evidence::Settled;
 use crate::fault::PinFault;
 use crate::peer::PeerPins;
-use crate::pin::TransitPin;
+use crate::pin::{TransitPin, give_up_all, spend_all};
 use nob_ids::{ItemNo, SpaceId, WireRep};
 use nob_session::Closed;
 use std::alloc::{AllocError, AllocFailed, Global};
@@ -123,13 +123,16 @@ impl PinTable {
         Ok(())
     }
 
-    /// Ends the one bundle of a peer and item that are settled: the others stay, and none of the
-    /// two is left. G1 where there is none. It takes no memory. Linear in the bundle's pins, on
-    /// average.
+    /// Takes out the one bundle of a peer and item that are settled, and hands its pins back: they
+    /// are counted no longer, and the caller ends them (`spend_all`). G1 where there is none. It
+    /// takes no memory. Linear in the bundle's pins, on average.
     #[tactic(auto, unfolding(crate::specs::Bundles::has_room))]
-    pub fn settle(&mut self, settled: &Settled) -> Result<(), PinFault>
+    pub fn take(&mut self, settled: &Settled) -> Result<Vec<TransitPin>, PinFault>
         ensures answer { MatchResult result
-            (λ _. TakesOut self.old.bundles self.new.bundles settled.now.peer settled.now.item)
+            (λ pins. AreOf settled.now.peer settled.now.item pins.items
+            × Adds self.new.bundles self.old.bundles
+            (bundle_of settled.now.peer settled.now.item (reps_of pins.items))
+            × (has_bundle self.new.bundles settled.now.peer settled.now.item ≡ false))
             (λ fault. (fault ≡ PinFault.NoBundle)
             × (has_bundle self.old.bundles settled.now.peer settled.now.item ≡ false)
             × Unchanged self.old self.new) }
@@ -138,7 +141,40 @@ impl PinTable {
             return Err(PinFault::NoBundle);
         };
         take_all(&mut self.counts, bundle.pins());
-        bundle.settle(settled);
+        Ok(bundle.into_pins())
+    }
+
+    /// Takes out some bundle of a peer, and hands its pins back: they are counted no longer, and
+    /// the caller ends them (`give_up_all`, once the session with the peer has closed). `None` where
+    /// the peer has no bundle. It takes no memory. Linear in the bundle's pins, on average.
+    #[tactic(auto, unfolding(crate::specs::Bundles::has_room))]
+    pub fn pop(&mut self, peer: SpaceId) -> Option<Vec<TransitPin>>
+        ensures answer { MatchOption result
+            ((of_peer peer self.old.bundles ≡ []) × Unchanged self.old self.new)
+            (λ pins. ((item : ℕ) × AreOf peer item pins.items
+            × Adds self.new.bundles self.old.bundles (bundle_of peer item (reps_of pins.items)))
+            × (length (of_peer peer self.old.bundles)
+            ≡ length (of_peer peer self.new.bundles) + 1)) }
+        ensures pins { IfSome result (λ pins. AreTo peer pins.items) }
+        ensures others { KeepsOthers self.old.bundles self.new.bundles peer }
+    {
+        let last = pop_at(&mut self.peers, peer)?;
+        take_all(&mut self.counts, last.pins());
+        Some(last.into_pins())
+    }
+
+    /// Ends the one bundle of a peer and item that are settled: the others stay, and none of the
+    /// two is left. G1 where there is none. It takes no memory. Linear in the bundle's pins, on
+    /// average.
+    pub fn settle(&mut self, settled: &Settled) -> Result<(), PinFault>
+        ensures answer { MatchResult result
+            (λ _. TakesOut self.old.bundles self.new.bundles settled.now.peer settled.now.item)
+            (λ fault. (fault ≡ PinFault.NoBundle)
+            × (has_bundle self.old.bundles settled.now.peer settled.now.item ≡ false)
+            × Unchanged self.old self.new) }
+    {
+        let pins = self.take(settled)?;
+        spend_all(pins, settled);
         Ok(())
     }
 
@@ -147,9 +183,8 @@ impl PinTable {
     pub fn close(&mut self, closed: &Closed)
         ensures { TakesOutAll self.old.bundles self.new.bundles closed.now.peer }
     {
-        let at = number_of(closed.peer());
-        if at < self.peers.len() {
-            give_up_all(&mut self.peers[at], &mut self.counts, closed);
+        while let Some(pins) = self.pop(closed.peer()) {
+            give_up_all(pins, closed);
         }
     }
 
@@ -286,19 +321,23 @@ fn take_at(peers: &mut Vec<PeerPins>, peer: SpaceId, item: ItemNo) -> Option<Bun
     peers[at].take(item)
 }
 
-// Ends these bundles, all of the peer whose session has closed.
-fn give_up_all(row: &mut PeerPins, counts: &mut Counts, closed: &Closed)
-    requires peer { AreOfPeer closed.now.peer row.old.pinned }
-    requires some { (rep : WireRep)
-        → count_of row.old.pinned rep ≤ count_in counts.old.rows rep }
-    ensures pinned { row.new.pinned ≡ [] }
-    ensures count { (rep : WireRep) → count_in counts.old.rows rep
-        ≡ count_in counts.new.rows rep + count_of row.old.pinned rep }
+// Takes out the last bundle of this peer.
+fn pop_at(peers: &mut Vec<PeerPins>, peer: SpaceId) -> Option<Bundle>
+    requires { AreByPeer peers.old.items }
+    ensures popped { MatchOption result
+        ((of_peer peer (all_pinned peers.old.items) ≡ [])
+        × (all_pinned peers.new.items ≡ all_pinned peers.old.items))
+        (λ bundle. (bundle.peer ≡ peer)
+        × Adds (all_pinned peers.new.items) (all_pinned peers.old.items) bundle) }
+    ensures others { KeepsOthers (all_pinned peers.old.items) (all_pinned peers.new.items) peer }
+    ensures peers { AreByPeer peers.new.items }
+    ensures kept { KeepsRooms peers.old.items peers.new.items }
 {
-    while let Some(bundle) = row.pop() {
-        take_all(counts, bundle.pins());
-        bundle.give_up(closed);
+    let at = number_of(peer);
+    if at >= peers.len() {
+        return None;
     }
+    peers[at].pop()
 }
 
 // Ends peers that have no bundle.

@@ -3,7 +3,7 @@ use Rattle.nob_pins.specs.Evidence.{reps_of}
 use Rattle.nob_pins.specs.Bundles.{times}
 use Rattle.nob_pins.specs.Peers.{all_pinned, count_in}
 use Rattle.nob_pins.proofs.Counting.{counted_below, counted_less}
-use Rattle.nob_pins.proofs.table.PinTable.settle.Goals as goal
+use Rattle.nob_pins.proofs.table.PinTable.take.Goals as goal
 
 pub take_all-requires : goal.take_all-requires
 take_all-requires c = record {
