@@ -5,7 +5,7 @@ use nob_bytes::Bytes;
 use nob_exchange::{agent_of, exchange};
 use nob_ids::WireRep;
 use nob_model::{Outcome, Refusal};
-use nob_pickle::Value;
+use nob_pickle::{Value, Values};
 use nob_space::{Space, SpaceError};
 use std::alloc::{AllocError, Global};
 
@@ -19,6 +19,9 @@ const MOST_ITEMS: usize = 64;
 const SMALL: usize = 8;
 
 const LARGE: usize = 8_000;
+
+// How many references a call carries at most.
+const REFS: usize = 32;
 
 /// Has the spaces hold what a task says: the references that the second has in hand then.
 pub(crate) fn hold(
@@ -38,6 +41,12 @@ pub(crate) fn hold(
                 keep(&mut reps, rep)?;
             }
             Kept::Waiting => pass_on(one, two, three)?,
+            Kept::Sent => keep(&mut reps, one.export()?)?,
+            Kept::Pinned => {
+                let rep = pass(one, two)?;
+                one.release(&rep)?;
+                keep(&mut reps, rep)?;
+            }
             Kept::Ready => ask(one, two)?,
             Kept::Running => run(one, two)?,
             Kept::Answered => {
@@ -48,7 +57,39 @@ pub(crate) fn hold(
             Kept::Large => send(alloc, one, two, LARGE)?,
         }
     }
+    match task.kept {
+        Kept::Sent => send_all(alloc, one, three, reps.as_slice())?,
+        Kept::Pinned => send_all(alloc, two, three, reps.as_slice())?,
+        _ => {}
+    }
     Ok(reps)
+}
+
+// A space passes references on to another, some in a call, and holds them no more. It doesn't
+// transmit that.
+fn send_all(
+    alloc: Global,
+    from: &mut Space,
+    to: &Space,
+    reps: &[WireRep],
+) -> Result<(), SpaceError> {
+    for some in reps.chunks(REFS) {
+        let values = Values::from_vec(values_of(alloc, some)?);
+        from.call(&agent_of(to), METHOD, &Value::List(values))?;
+        for rep in some {
+            from.release(rep)?;
+        }
+    }
+    Ok(())
+}
+
+// The references as values.
+fn values_of(alloc: Global, reps: &[WireRep]) -> Result<Vec<Value>, AllocError> {
+    let mut values = Vec::with_capacity(alloc, reps.len())?;
+    for rep in reps {
+        values.push(Value::Ref(*rep))?;
+    }
+    Ok(values)
 }
 
 // Puts a reference to the others.

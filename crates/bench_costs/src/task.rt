@@ -10,6 +10,12 @@ pub(crate) enum Kept {
     /// The first space has passed references to objects of the third on to the second, which waits
     /// for the third's answers.
     Waiting,
+    /// The first space has passed references to objects of its own on to the third, and neither holds
+    /// them nor transmits that.
+    Sent,
+    /// The second space has surrogates of objects of the first, has passed references to them on to
+    /// the third, and neither holds them nor transmits that.
+    Pinned,
     /// Calls that the second space made are ready at the first, and nobody claims them.
     Ready,
     /// Jobs of calls that the second space made run at the first, each at an object of its own.
@@ -71,6 +77,8 @@ fn kept_of(word: &str) -> Option<Kept> {
         "held" => Kept::Held,
         "listed" => Kept::Listed,
         "waiting" => Kept::Waiting,
+        "sent" => Kept::Sent,
+        "pinned" => Kept::Pinned,
         "ready" => Kept::Ready,
         "running" => Kept::Running,
         "answered" => Kept::Answered,

@@ -1,4 +1,4 @@
--- What a table shows doesn't depend on which of its objects are kept from outside, but that each of those has a client.
+-- What a table shows doesn't depend on what it keeps from outside, but that each of those references is used there.
 use Rattle.std.proofs.Common.{◌≡◌, ℕ, true, false, [], if◌then◌else◌, None, refl, sym, ap, subst, ◌∙◌}
 use Rattle.nob_ids.specs.declared.wire_rep.WireRep.{WireRep}
 use Rattle.nob_table_rows.specs.declared.standing.Standing.{Standing}
@@ -9,9 +9,13 @@ use Rattle.nob_table.specs.Table.{Table, stands, standing, is_kept, Unchanged}
 use Rattle.nob_model_types.specs.Sessions.{closed}
 use Rattle.nob_model_types.specs.Turns.{turns}
 use Rattle.nob_model_history.specs.declared.history.History.{History}
+use Rattle.nob_model_history.specs.declared.transit.SentItem.{SentItem}
+use Rattle.nob_model_history.specs.Holds.{times}
+use Rattle.nob_model_history.specs.Listing.{is_listed}
+use Rattle.nob_item.specs.Kinds.{counted_in}
 use Rattle.nob_model_history.specs.Transit as transit
 use Rattle.nob_model.specs.Right.{own_ref}
-use Rattle.nob_space_holds.specs.Shows.{TableShows, AreListed, far_state}
+use Rattle.nob_space_holds.specs.Shows.{TableShows, AreUsed, far_state}
 
 -- the table without a mark
 abbrev pub unmarked : Table → Table
@@ -28,8 +32,8 @@ unmarked t = record {
 }
 
 -- keeps nothing from outside
-pub none_kept : (t : Table) (index : ℕ) → is_kept (unmarked t) index ≡ true → ⊥
-none_kept t index kept = let bad : false ≡ true = kept in absurd (cc)
+pub none_kept : (t : Table) (rep : WireRep) → is_kept (unmarked t) rep ≡ true → ⊥
+none_kept t rep kept = let bad : false ≡ true = kept in absurd (cc)
 
 -- a table has its own items
 pub unchanged : (t : Table) → Unchanged t t
@@ -51,11 +55,11 @@ module _ {s n : ℕ} {t : Table} {h : History} {H L : WireRep → ℕ} where
     loans = shows.loans;
     dirties = shows.dirties;
     places = shows.places;
-    kept = λ index kept. absurd (none_kept t index kept);
+    kept = λ rep kept none. absurd (none_kept t rep kept);
   }
 
-  -- and so does the table with other marks, each of an object that a client is listed for
-  pub shows_marked : {u : Table} → Unchanged t u → AreListed s u h.deeds → TableShows s n (unmarked t) h H L → TableShows s n u h H L
+  -- and so does the table with other marks, each of a reference that is used outside
+  pub shows_marked : {u : Table} → Unchanged t u → AreUsed s u h → TableShows s n (unmarked t) h H L → TableShows s n u h H L
   shows_marked {u} same kept shows = record {
     me = same.me ∙ shows.me;
     exported = same.exported ∙ shows.exported;
@@ -67,3 +71,17 @@ module _ {s n : ℕ} {t : Table} {h : History} {H L : WireRep → ℕ} where
     places = λ rep. (λ i. place_in (same.surrogates i) rep) ∙ shows.places rep ∙ ap (λ (it : Standing). if is_surrogate it.state then transit.place rep h else None) (sym (same_standing same rep));
     kept = kept;
   }
+
+-- bundles that are the same pin the same
+pub same_pins : {h h' : History} → transit.bundles h' ≡ transit.bundles h → (rep : WireRep) → transit.pins rep h ≡ transit.pins rep h'
+same_pins same rep = λ i. times rep (flat_map (λ (item : SentItem). counted_in item.item) (sym same i))
+
+module _ {s : ℕ} {t u : Table} {h h' : History} where
+  -- what is used is used where no more is kept, no pins are less, and the same clients are listed
+  pub used_then : ((rep : WireRep) → is_kept u rep ≡ true → is_kept t rep ≡ true) → ((rep : WireRep) → transit.pins rep h' ≡ 0 → transit.pins rep h ≡ 0)
+      → ((index client : ℕ) → is_listed s index client h'.deeds ≡ is_listed s index client h.deeds) → AreUsed s t h → AreUsed s u h'
+  used_then marks pins listed used rep kept none = (let it = used rep (marks rep kept) (pins rep none) in (it.0, it.1.0, listed rep.index it.1.0 ∙ it.1.1))
+
+  -- and so where the bundles are the same
+  pub used_still : ((rep : WireRep) → is_kept u rep ≡ is_kept t rep) → transit.bundles h' ≡ transit.bundles h → ((index client : ℕ) → is_listed s index client h'.deeds ≡ is_listed s index client h.deeds) → AreUsed s t h → AreUsed s u h'
+  used_still marks bundles listed used = used_then (λ rep kept. sym (marks rep) ∙ kept) (λ rep none. same_pins bundles rep ∙ none) listed used

@@ -101,7 +101,7 @@ module _ (s n : ℕ) (h : History) (H L H' L' : WireRep → ℕ) (t u : Table) (
     loans = one_row (λ other it. is_counted other ≡ true → it.counts.lent ≡ L' other) rep (standing t) (standing u) after becomes lent (λ other differs counted. shows.loans other counted ∙ sym (loans other differs));
     dirties = leaves.surrogates.dirties ∙ shows.dirties;
     places = λ other. leaves.surrogates.places other ∙ shows.places other ∙ ap (λ b. if b then transit.place other h else None) (sym (one_row (λ w it. is_surrogate it.state ≡ is_surrogate (standing t w).state) rep (standing t) (standing u) after becomes surrogate (λ w differs. refl) other));
-    kept = λ index kept. shows.kept index (sym (leaves.objects.kept index) ∙ kept);
+    kept = λ rep kept none. shows.kept rep (sym (leaves.objects.kept rep) ∙ kept) none;
   }
 
 -- what is forgotten was neither live nor a surrogate

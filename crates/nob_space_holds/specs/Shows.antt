@@ -23,13 +23,13 @@ abbrev pub far_state : (has_closed has_holds : Bool) → Turns → TableState
 far_state true has_holds t = if has_holds then states.Lost else states.Unknown
 far_state false has_holds t = if is_pending t then states.Pending else if is_granted t then states.Granted else if is_refused t then states.Refused else states.Unknown
 
--- a client is listed for an index
-abbrev pub IsListed : (s index : ℕ) → List Deed → Type 0
-IsListed s index D = (client : ℕ) × (is_listed s index client D ≡ true)
+-- a reference is to an object of space s that a client is listed for
+abbrev pub IsListed : (s : ℕ) → WireRep → List Deed → Type 0
+IsListed s rep D = (rep.owner ≡ s) × (client : ℕ) × (is_listed s rep.index client D ≡ true)
 
--- for each object that the table keeps from outside a client is listed
-abbrev pub AreListed : (s : ℕ) → Table → List Deed → Type 0
-AreListed s t D = (index : ℕ) → is_kept t index ≡ true → IsListed s index D
+-- what the table keeps from outside is in transit from here, or an object that a client is listed for
+abbrev pub AreUsed : (s : ℕ) → Table → History → Type 0
+AreUsed s t h = (rep : WireRep) → is_kept t rep ≡ true → transit.pins rep h ≡ 0 → IsListed s rep h.deeds
 
 -- the table has the objects and the surrogates of a history, in the order of their Dirties, and these holds: so many in hand and so many lent
 pub record TableShows (s n : ℕ) (t : Table) (h : History) (in_hand on_loan : WireRep → ℕ) : Type 0 where
@@ -42,7 +42,7 @@ pub record TableShows (s n : ℕ) (t : Table) (h : History) (in_hand on_loan : W
   pub loans : (rep : WireRep) → is_counted rep ≡ true → (standing t rep).counts.lent ≡ on_loan rep
   pub dirties : t.dirties ≡ length (transit.dirties h)
   pub places : (rep : WireRep) → place_of t rep ≡ (if standings.is_surrogate (standing t rep).state then transit.place rep h else None)
-  pub kept : AreListed s t h.deeds
+  pub kept : AreUsed s t h
 
 -- the table stands for a history: its holds are those of the history
 abbrev pub TableStands : (s n : ℕ) → Table → History → Type 0

@@ -50,9 +50,14 @@ use Rattle.nob_space_items.specs.Fronts.{IsFront}
 use Rattle.nob_space_items.specs.Notes.{dirty_answer, EntersIf}
 use Rattle.nob_space_items.proofs.Noted.{act_gives, fault_none, listed_is}
 use Rattle.nob_table.specs.Table.{Table, Unchanged, SetsKept, is_kept}
-use Rattle.nob_space_state.specs.Looks.{HaveClients}
-use Rattle.nob_space_state.proofs.Kept.{clients_there}
+use Rattle.nob_space_state.specs.Looks.{HaveUsers}
+use Rattle.nob_space_state.proofs.Kept.{users_there}
 use Rattle.nob_space_items.proofs.Taken.{act_is, front_is, note_stands}
+use Rattle.nob_pins.specs.Bundles.{Pinned}
+use Rattle.nob_model.specs.Right.{own_ref}
+use Rattle.nob_table_rows.proofs.Same.{same_is}
+use Rattle.nob_ids.specs.Names.{is_same}
+use Rattle.nob_ids.specs.declared.wire_rep.WireRep.{WireRep}
 
 -- ---- why it stays in the inbox
 
@@ -150,17 +155,18 @@ entered_if false false false true up = refl
 entered_if false false false false up = refl
 
 -- the object that a client is entered for may be kept from outside
-entered_have : (t u : Table) (old new : List Listing) (index client : ℕ) (live : Bool) → SetsKept t u index live → EntersIf live old new index client → HaveClients t old → HaveClients u new
-entered_have t u old new index client true keeps enters have i kept =
-    elim (i == index) as (λ b. i == index ≡ b → (if b then true else is_kept t i) ≡ true → (c : ℕ) × (lists new i c ≡ true)) [
-      | true ↦ λ here _. (client, enters i client ∙ rw (nat_eq_equiv.symm index i ∙ here, nat_eq_equiv.refl client) (elim (lists old i client) as (λ b. (b || true) ≡ true) [ true ↦ refl | false ↦ refl ]))
-      | false ↦ λ _ before. (let it = have i before in (it.0, enters i it.0 ∙ rw (it.1) refl))
-    ] refl (sym (keeps i) ∙ kept)
-entered_have t u old new index client false keeps same have i kept =
-    elim (i == index) as (λ b. (if b then false else is_kept t i) ≡ true → (c : ℕ) × (lists new i c ≡ true)) [
+entered_have : (s : ℕ) (t u : Table) (bundles : List Pinned) (old new : List Listing) (index client : ℕ) (live : Bool) → SetsKept t u (own_ref s index) live → EntersIf live old new index client → HaveUsers s t bundles old → HaveUsers s u bundles new
+entered_have s t u bundles old new index client true keeps enters have rep kept none =
+    elim (is_same (own_ref s index) rep) as (λ b. is_same (own_ref s index) rep ≡ b → (if b then true else is_kept t rep) ≡ true → (rep.owner ≡ s) × (c : ℕ) × (lists new rep.index c ≡ true)) [
+      | true ↦ λ here _. subst (λ (w : WireRep). (w.owner ≡ s) × (c : ℕ) × (lists new w.index c ≡ true)) (same_is (own_ref s index) rep here)
+          (refl, client, enters index client ∙ rw (nat_eq_equiv.refl index, nat_eq_equiv.refl client) (elim (lists old index client) as (λ b. (b || true) ≡ true) [ true ↦ refl | false ↦ refl ]))
+      | false ↦ λ _ before. (let it = have rep before none in (it.0, it.1.0, enters rep.index it.1.0 ∙ rw (it.1.1) refl))
+    ] refl (sym (keeps rep) ∙ kept)
+entered_have s t u bundles old new index client false keeps same have rep kept none =
+    elim (is_same (own_ref s index) rep) as (λ b. (if b then false else is_kept t rep) ≡ true → (rep.owner ≡ s) × (c : ℕ) × (lists new rep.index c ≡ true)) [
       | true ↦ λ e. absurd (cc)
-      | false ↦ λ before. (let it = have i before in (it.0, same i it.0 ∙ it.1))
-    ] (sym (keeps i) ∙ kept)
+      | false ↦ λ before. (let it = have rep before none in (it.0, it.1.0, same rep.index it.1.0 ∙ it.1.1))
+    ] (sym (keeps rep) ∙ kept)
 
 unentered_if : (here own shut entered : Bool) → (here ≡ true → (not shut && entered) ≡ false) → (not shut && entered) ≡ (not shut && (if own then (if here then false else entered) else entered))
 unentered_if true true shut entered none = none refl ∙ and_false shut
@@ -196,7 +202,7 @@ module _ {s n p k : ℕ} {limits : Limits} {st : State} {D : List Deed} (stands 
 
 module _ {s n p k : ℕ} {limits : Limits} {st : State} {D : List Deed} (stands : Stands s n limits st D) (place : ℕ) (at : place ≡ p) (old new : Roomy) (is : old ≡ get_or st.sessions (place - 1) old) where
   -- after a Dirty
-  pub dirty_stands : (index : ℕ) → IsFront s n p k (items.Dirty index) D → send_refusal p Note st ≡ None → (live : Bool) → live ≡ objects.is_live s index D → (dirty : List Listing) → EntersIf live st.dirty dirty index p → (t : Table) → Unchanged st.table t → SetsKept st.table t index live
+  pub dirty_stands : (index : ℕ) → IsFront s n p k (items.Dirty index) D → send_refusal p Note st ≡ None → (live : Bool) → live ≡ objects.is_live s index D → (dirty : List Listing) → EntersIf live st.dirty dirty index p → (t : Table) → Unchanged st.table t → SetsKept st.table t (own_ref s index) live
       → ((me peer : ℕ) (limits : Limits) (L : List EndEntry) → session.Stands me peer limits old.end L → session.Stands me peer limits new.end (ends.Take ∷ ends.Send (payload_of (dirty_answer live index)) Note (Ok (old.end.handed + 1)) ∷ L))
       → Stands s n limits (record { sessions = set st.sessions (place - 1) new; table = t; dirty = dirty; pins = st.pins; work = st.work; awaited = st.awaited; calls = st.calls; jobs = st.jobs }) (Act p k ∷ D)
   dirty_stands index front free live live_is dirty enters t same keeps answer =
@@ -210,7 +216,7 @@ module _ {s n p k : ℕ} {limits : Limits} {st : State} {D : List Deed} (stands 
       (subst (λ b. session.Stands s p limits new.end (ends.Take ∷ ends.Send (payload_of (dirty_answer b index)) Note (Ok (old.end.handed + 1)) ∷ calls_at p (history_of s n D))) live_is (answer s p limits (calls_at p (history_of s n D)) end.2))) in
       subst (λ q. Stands s n limits (record { sessions = set st.sessions (q - 1) new; table = t; dirty = dirty; pins = st.pins; work = st.work; awaited = st.awaited; calls = st.calls; jobs = st.jobs }) (Act p k ∷ D)) (sym at)
       (note_stands s n p k (items.Dirty index) D there refl (λ rep. ap (λ found. turns_after s n p rep found D (turns s n rep D)) there)
-      (set st.sessions (p - 1) new) dirty st.pins t stands same (entered_have st.table t st.dirty dirty index p live keeps enters (clients_there s st.dirty D stands.listed st.table stands.table.kept))
+      (set st.sessions (p - 1) new) dirty st.pins t stands same (entered_have s st.table t st.pins.bundles st.dirty dirty index p live keeps enters (users_there stands st.table stands.table.kept))
       (ends_changed s n limits st.sessions (history_of s n D) (history_of s n (Act p k ∷ D)) p new stands.ends end.0 after (λ q other. sym (calls_elsewhere front there q (nat_eq_equiv.symm p q ∙ other))))
       (listed_answered stands index front there dirty live (sym live_is) enters)
       (λ f. stands.pins f ∙ ap (λ sent_items. sum_by f (map bundle sent_items)) (sym (bundles_answered front there)))

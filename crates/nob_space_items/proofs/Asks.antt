@@ -41,6 +41,7 @@ use Rattle.nob_space_items.proofs.Among.{any_of, filter_passes}
 use Rattle.nob_space_settling.proofs.Spares.{CanBeAsked, all_once}
 use Rattle.nob_model.proofs.Waiting.{all_filter}
 use Rattle.nob_space_items.proofs.Message.{all_peers, act_turns, wanted_turns, asked_turns, act_dirties, far_by, act_listed}
+use Rattle.nob_space_holds.proofs.Marked.{used_still}
 
 -- nobody holds what the table has nothing of
 unknown_free : (mine given : Bool) (row : Option Counts) (surrogate : Option Surrogate) (counts : Option Counts) → is_unknown (if mine then own_standing given row else far_standing surrogate counts).state ≡ true
@@ -156,5 +157,5 @@ module _ {s n : ℕ} {limits : Limits} {st : State} {D : List Deed} (stands : St
                   ∙ ap (λ found. if is_surrogate (standing st.table rep).state then found else None) (sym (later ∙ place_kept st.table.dirties reps rep (last_place rep ds) none))
                   ∙ sym (ap (λ (it : Standing). if is_surrogate it.state then last_place rep (dirties (history_of s n (Act p k ∷ D))) else None) (asks.standings rep ∙ ap (λ b. if b then pending_standing else standing st.table rep) none))
             ] refl;
-        kept = λ index kept. (let it = shows.kept index (sym (asks.objects.kept index) ∙ kept) in (it.0, act_listed stands p k item front message index it.0 ∙ it.1));
+        kept = used_still asks.objects.kept (act_bundles stands p k item front message) (act_listed stands p k item front message) shows.kept;
       }

@@ -55,6 +55,7 @@ use Rattle.nob_space_items.proofs.Judged.{awaits_there}
 use Rattle.nob_space_items.proofs.Lost.{far_lost, refused_awaited}
 use Rattle.nob_space_items.proofs.Noted.{bundles_stay, fault_none, gives_none, listed_is, not_false}
 use Rattle.nob_space_items.proofs.Taken.{act_is, front_is, ends_taken, note_dirties, note_loans}
+use Rattle.nob_space_holds.proofs.Marked.{used_still}
 
 -- the state of a reference that its owner answered so
 abbrev pub answered_state : OwnerAnswer → TableState
@@ -148,12 +149,16 @@ module _ {s n p k : ℕ} {limits : Limits} {st : State} {D : List Deed} (stands 
   -- the table once it has the answer: the loans are what they were
   pub answered_shows : (u : Table) → ChangeLeaves st.table u → Becomes st.table u (own_ref p index) (in_state (answered_state (said_by granted)) (standing st.table (own_ref p index)))
       → TableShows s n u (history_of s n (Act p k ∷ D)) (λ rep. hand rep D) (λ rep. times rep (lent_in s (work s n D)))
+  unfolding gifts_of_act
   answered_shows u leaves becomes =
       let there : item_at p k D ≡ Some (answer_note granted index) = front_is front limits stands.right in
       let was = pending_is (standing st.table (own_ref p index)).state pending_known.1 in
       let is = answered_is granted in
       let after : Standing = in_state (answered_state (said_by granted)) (standing st.table (own_ref p index)) in
       let dirties = note_dirties s n p k (answer_note granted index) D there (note_is granted index) in
+      let gives : gifts_of_act s n p D (Some (answer_note granted index)) ≡ [] = elim granted as (λ b. gifts_of_act s n p D (Some (answer_note b index)) ≡ []) [ true ↦ refl | false ↦ refl ] in
+      let none = gives_none s n p k (answer_note granted index) D there gives in
+      let settles : (j : ℕ) → transit.is_settle_of j (Some (answer_note granted index)) ≡ false = λ j. elim granted as (λ b. transit.is_settle_of j (Some (answer_note b index)) ≡ false) [ true ↦ refl | false ↦ refl ] in
       record {
         me = leaves.objects.me ∙ stands.table.me;
         exported = leaves.objects.exported ∙ stands.table.exported;
@@ -170,7 +175,7 @@ module _ {s n p k : ℕ} {limits : Limits} {st : State} {D : List Deed} (stands 
         places = λ other. leaves.surrogates.places other ∙ stands.table.places other
             ∙ ap (λ b. if b then transit.place other (history_of s n D) else None) (sym (one_row (λ w it. standings.is_surrogate it.state ≡ standings.is_surrogate (standing st.table w).state) (own_ref p index) (standing st.table) (standing u) after becomes (is.1 ∙ sym was.1) (λ w differs. refl) other))
             ∙ ap (λ reps. if standings.is_surrogate (standing u other).state then transit.last_place other reps else None) (sym dirties);
-        kept = λ i kept. (let it = stands.table.kept i (sym (leaves.objects.kept i) ∙ kept) in (it.0, answer_listed granted index front there i it.0 ∙ it.1));
+        kept = used_still leaves.objects.kept (bundles_stay s n p k (answer_note granted index) D there settles none) (answer_listed granted index front there) stands.table.kept;
       }
     where
       same_self : (rep : WireRep) → is_same rep rep ≡ true

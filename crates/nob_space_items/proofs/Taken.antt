@@ -45,13 +45,13 @@ use Rattle.nob_model.specs.Lists.{IsRightDeed, AreRightDeeds}
 use Rattle.nob_model.proofs.Made.{loans_made}
 use Rattle.nob_model.proofs.Premises.{front_item, in_turn}
 use Rattle.nob_space_state.specs.Parts.{State}
-use Rattle.nob_space_holds.specs.Shows.{TableStands, far_state, AreListed}
+use Rattle.nob_space_holds.specs.Shows.{TableStands, far_state, AreUsed}
 use Rattle.nob_space_state.specs.Stands.{Stands, EndsStand, PinsStand}
 use Rattle.nob_space_state.proofs.Awaited.{same_lost}
 use Rattle.nob_space_state.proofs.Ends.{end_there, ends_changed}
-use Rattle.nob_space_state.specs.Looks.{HaveClients}
+use Rattle.nob_space_state.specs.Looks.{HaveUsers}
 use Rattle.nob_space_holds.proofs.Marked.{none_kept, shows_unmarked, shows_marked}
-use Rattle.nob_space_state.proofs.Kept.{listed_clients}
+use Rattle.nob_space_state.proofs.Kept.{used_of}
 use Rattle.nob_space_items.specs.Fronts.{IsFront}
 
 -- ---- the answer
@@ -161,7 +161,7 @@ module _ (s n p k : ℕ) (item : Item) (D : List Deed) (there : item_at p k D �
     note_work = note_loans ∙ loans_same ∙ loans_made s n D
 
     -- the table shows what it did
-    note_shows : {t : Table} → TableStands s n t (history_of s n D) → AreListed s t (Act p k ∷ D) → TableStands s n t (history_of s n (Act p k ∷ D))
+    note_shows : {t : Table} → TableStands s n t (history_of s n D) → AreUsed s t (history_of s n (Act p k ∷ D)) → TableStands s n t (history_of s n (Act p k ∷ D))
     note_shows {t} shows kept = record {
       me = shows.me;
       exported = shows.exported;
@@ -175,12 +175,12 @@ module _ (s n p k : ℕ) (item : Item) (D : List Deed) (there : item_at p k D �
     }
 
     -- the state with other ends, listings and pins, and other marks in the table
-    pub note_stands : {limits : Limits} {st : State} (sessions : List Roomy) (dirty : List Listing) (table_of_pins : pins.Table) (t : Table) → Stands s n limits st D → Unchanged st.table t → HaveClients t dirty
+    pub note_stands : {limits : Limits} {st : State} (sessions : List Roomy) (dirty : List Listing) (table_of_pins : pins.Table) (t : Table) → Stands s n limits st D → Unchanged st.table t → HaveUsers s t table_of_pins.bundles dirty
         → EndsStand s n limits sessions (history_of s n (Act p k ∷ D)) → ((index client : ℕ) → lists dirty index client ≡ is_listed s index client (Act p k ∷ D)) → PinsStand table_of_pins.bundles (history_of s n (Act p k ∷ D)) → IsRightDeed s n limits (Act p k) D
         → Stands s n limits (record { sessions = sessions; table = t; dirty = dirty; pins = table_of_pins; work = st.work; awaited = st.awaited; calls = st.calls; jobs = st.jobs }) (Act p k ∷ D)
     note_stands {limits} {st} sessions dirty table_of_pins t stands same have ends_stand listed pins_stand its = record {
       ends = ends_stand;
-      table = shows_marked same (listed_clients s dirty (Act p k ∷ D) listed t have) (note_shows (shows_unmarked stands.table) (λ index kept. absurd (none_kept st.table index kept)));
+      table = shows_marked same (used_of s t table_of_pins.bundles dirty (history_of s n (Act p k ∷ D)) pins_stand listed have) (note_shows (shows_unmarked stands.table) (λ rep kept none. absurd (none_kept st.table rep kept)));
       listed = listed;
       pins = pins_stand;
       work = stands.work ∙ sym note_work;

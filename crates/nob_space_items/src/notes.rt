@@ -31,7 +31,7 @@ use nob_model::{Here, Kind};
 use nob_pins::Settled;
 use nob_session::Session;
 use nob_space_holds::send_reserved;
-use nob_space_state::{Parts, SpaceError, unlist};
+use nob_space_state::{Parts, SpaceError, settle_pins, unlist};
 use nob_table::State;
 use std::alloc::{AllocError, Global};
 
@@ -50,12 +50,19 @@ pub(crate) fn act_on_clean(
     ensures stands { Did here.now.space here.now.n (state_of parts.old) (state_of parts.new)
         (did.Act peer number) }
 {
-    unlist(&mut parts.table, &mut parts.dirty, index, peer);
+    unlist(
+        &mut parts.table,
+        &parts.pins,
+        &mut parts.dirty,
+        here.space,
+        index,
+        peer,
+    );
     parts.sessions[peer.get() as usize - 1].take();
 }
 
-// Acts on a Settle: the pins of the item that it settles end. It takes no memory. Linear in the
-// pins of that item.
+// Acts on a Settle: the pins of the item that it settles end, and what nothing outside uses any more
+// isn't kept from there. It takes no memory. Linear in the pins of that item.
 pub(crate) fn act_on_settle(parts: &mut Parts, here: &Here, number: ItemNo, settled: &Settled)
     requires state { IsState here.now.space here.now.n (state_of parts.old) }
     requires front { (limits : LimitsOf) (D : List Deed)
@@ -66,7 +73,14 @@ pub(crate) fn act_on_settle(parts: &mut Parts, here: &Here, number: ItemNo, sett
         (did.Act settled.now.peer number) }
 {
     let peer = settled.peer();
-    match parts.pins.settle(settled) {
+    let ended = settle_pins(
+        &mut parts.table,
+        &mut parts.pins,
+        &parts.dirty,
+        here.space,
+        settled,
+    );
+    match ended {
         Ok(()) => {}
         Err(_) => unreachable!(),
     }
@@ -155,7 +169,10 @@ pub(crate) fn act_on_dirty(
     let live = is_live(parts, here.space, index);
     let session = &mut parts.sessions[peer.get() as usize - 1];
     answer_dirty(alloc, session, &mut parts.dirty, peer, index, live)?;
-    parts.table.keep(index);
+    parts.table.keep(&WireRep {
+        owner: here.space,
+        index,
+    });
     Ok(())
 }
 

@@ -21,7 +21,7 @@ use Rattle.nob_table_rows.specs.declared.standing.State.{State as TableState}
 use Rattle.nob_table_rows.specs.declared.standing.State.TheVariants as states
 use Rattle.nob_table_rows.specs.Standings as standings
 use Rattle.nob_table_rows.specs.Standings.{unknown}
-use Rattle.nob_table.specs.Table.{Table, standing, place_of, Becomes, Places, RemovalLeaves}
+use Rattle.nob_table.specs.Table.{Table, standing, place_of, Becomes, Places, RemovalLeaves, SetsKept, is_kept}
 use Rattle.nob_table_rows.proofs.Same.{same_laws}
 use Rattle.nob_model_types.specs.declared.answer.Answer.TheVariants as answers
 use Rattle.nob_model_types.specs.declared.event.Event.TheVariants as events
@@ -50,9 +50,11 @@ use Rattle.nob_space_state.proofs.Awaited.{still_awaited}
 use Rattle.nob_space_state.proofs.Ends.{end_there}
 use Rattle.nob_space_holds.proofs.Shows.{one_row, no_holds}
 use Rattle.nob_space_settling.specs.Cleaning.{NoneSpareBelow, IsFirstSpare}
-use Rattle.nob_space_settling.proofs.Noting.{GivesNotes, same_dirties, sent_next, stands_noted, open_there}
+use Rattle.nob_space_settling.proofs.Noting.{GivesNotes, same_dirties, sent_next, stands_noted, open_there, same_bundles}
 use Rattle.nob_space_settling.proofs.Resolving.{granted_kept}
 use Rattle.nob_space_settling.proofs.Spares.{asked_there, idle_there, first_there, none_there}
+use Rattle.nob_space_holds.proofs.Marked.{same_pins, used_then}
+use Rattle.nob_space_state.proofs.Exported.{kept_before}
 
 -- ---- what is right
 
@@ -144,8 +146,8 @@ module _ {s n : ℕ} {limits : Limits} {st : State} {D : List Deed} (stands : St
         lost_by t = not (is_own s other) && (not (is_peer s n other.owner) || closed other.owner D || is_refused t)
 
     -- the table without the surrogate
-    clean_shows : (u : Table) → Becomes st.table u rep unknown → Places st.table u rep None → RemovalLeaves st.table u → TableStands s n u (history_of s n (Clean rep ∷ D))
-    clean_shows u becomes places leaves = record {
+    clean_shows : (u : Table) → Becomes st.table u rep unknown → Places st.table u rep None → SetsKept st.table u rep false → RemovalLeaves st.table u → TableStands s n u (history_of s n (Clean rep ∷ D))
+    clean_shows u becomes places unkept leaves = record {
       me = leaves.objects.me ∙ stands.table.me;
       exported = leaves.objects.exported ∙ stands.table.exported;
       live = λ index. one_row (λ other it. standings.is_live it.state ≡ standings.is_live (standing st.table other).state) rep (standing st.table) (standing u) unknown becomes (sym (idle_row.1)) (λ other differs. refl) (own_ref s index) ∙ stands.table.live index;
@@ -171,7 +173,7 @@ module _ {s n : ℕ} {limits : Limits} {st : State} {D : List Deed} (stands : St
             ∙ ap (λ (it : Standing). if standings.is_surrogate it.state then transit.place other (history_of s n D) else None) (sym row)
             ∙ ap (λ reps. if standings.is_surrogate (standing u other).state then transit.last_place other reps else None) (sym (same_dirties clean_notes))
       ] refl;
-      kept = λ index kept. (let it = stands.table.kept index (sym (leaves.objects.kept index) ∙ kept) in (it.0, clean_notes.listed index it.0 ∙ it.1));
+      kept = used_then (λ other kept. kept_before (is_same rep other) (is_kept st.table other) (sym (unkept other) ∙ kept)) (λ other none. same_pins (same_bundles clean_notes) other ∙ none) clean_notes.listed stands.table.kept;
     }
       where
         idle_parts : (state : TableState) (counts : Counts) → standings.is_idle (record { state = state; counts = counts }) ≡ true → (counts ≡ no_counts) × (standings.is_live state ≡ false)
@@ -187,9 +189,9 @@ module _ {s n : ℕ} {limits : Limits} {st : State} {D : List Deed} (stands : St
     -- after a Clean
     pub clean_stands : (new : Roomy) (u : Table) (payload : List ℕ) (number : ℕ) → IsRightDeed s n limits (Clean rep) D → payload ≡ payload_of (items.Clean rep.index) → number ≡ end.end.handed + 1
         → (session.Stands s rep.owner limits end.end (calls_at rep.owner (history_of s n D)) → session.Stands s rep.owner limits new.end (ends.Send payload Note (Ok number) ∷ calls_at rep.owner (history_of s n D)))
-        → Becomes st.table u rep unknown → Places st.table u rep None → RemovalLeaves st.table u
+        → Becomes st.table u rep unknown → Places st.table u rep None → SetsKept st.table u rep false → RemovalLeaves st.table u
         → Stands s n limits (record { sessions = set st.sessions (rep.owner - 1) new; table = u; dirty = st.dirty; pins = st.pins; work = st.work; awaited = st.awaited; calls = st.calls; jobs = st.jobs }) (Clean rep ∷ D)
-    clean_stands new u payload number its spelled next answer becomes places leaves =
+    clean_stands new u payload number its spelled next answer becomes places unkept leaves =
         stands_noted clean_notes end new u st.work stands (asked_there stands rep first).1 is
         (λ before. sent_next s rep.owner limits end.end new.end (calls_at rep.owner (history_of s n D)) (items.Clean rep.index) payload Note number before answer spelled refl next)
-        (clean_shows u becomes places leaves) (stands.work ∙ sym clean_work) (still_awaited s n st.awaited st.work.waiting D (Clean rep ∷ D) stands.awaited clean_lost) its
+        (clean_shows u becomes places unkept leaves) (stands.work ∙ sym clean_work) (still_awaited s n st.awaited st.work.waiting D (Clean rep ∷ D) stands.awaited clean_lost) its

@@ -46,6 +46,7 @@ use Rattle.nob_space_state.specs.Stands.{Stands, AreAwaited, bundle}
 use Rattle.nob_space_state.proofs.Ends.{end_there, ends_changed}
 use Rattle.nob_space_state.proofs.Sent.{gift_to}
 use Rattle.nob_space_state.proofs.Told.{ended_there}
+use Rattle.nob_space_holds.proofs.Marked.{used_still}
 
 -- what a deed leaves that takes nothing, closes nothing and gives one peer items without references
 pub record GivesNotes (s n : ℕ) (deed : Deed) (D : List Deed) (p : ℕ) (items : List Item) : Type 0 where
@@ -108,7 +109,7 @@ module _ {s n p : ℕ} {items : List Item} {deed : Deed} {D : List Deed} (notes 
   pub same_dirties : transit.dirties (history_of s n (deed ∷ D)) ≡ transit.dirties (history_of s n D)
   same_dirties = dirties_same s n deed D notes.asks_nothing
 
-  same_bundles : bundles (history_of s n (deed ∷ D)) ≡ bundles (history_of s n D)
+  pub same_bundles : bundles (history_of s n (deed ∷ D)) ≡ bundles (history_of s n D)
   same_bundles =
       bundles_kept s n deed D notes.settles_nothing notes.closes_nothing
       ∙ ap (λ (more : List Gift). bundles (history_of s n D) ++ filter (is_pinned D) (new_items (sent (history_of s n D)) more)) notes.gives
@@ -130,7 +131,7 @@ module _ {s n p : ℕ} {items : List Item} {deed : Deed} {D : List Deed} (notes 
     loans = λ rep counted. shows.loans rep counted ∙ on_loan rep counted;
     dirties = shows.dirties ∙ ap length (sym same_dirties);
     places = λ rep. shows.places rep ∙ ap (λ reps. if standings.is_surrogate (standing t rep).state then transit.last_place rep reps else None) (sym same_dirties);
-    kept = λ index kept. (let it = shows.kept index kept in (it.0, notes.listed index it.0 ∙ it.1));
+    kept = used_still (λ rep. refl) same_bundles notes.listed shows.kept;
   }
 
   -- the state with another end, table and work in hand

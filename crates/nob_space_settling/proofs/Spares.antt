@@ -3,7 +3,7 @@ use Rattle.std.proofs.Common.{◌≡◌, ℕ, ◌+◌, ◌<◌, ◌≤◌, Bool,
 use Prim.Native.Nat.{suc}
 use Rattle.std.specs.List.{AllByRecursion, list_any}
 use Rattle.std.proofs.lemmas.Bool.{and_parts, both_ways}
-use Rattle.std.proofs.lemmas.Bool.Decides.{nat_tests}
+use Rattle.std.proofs.lemmas.Bool.Decides.{nat_tests, Decides-eqb}
 use Rattle.std.proofs.lemmas.Option.{none-some}
 use Rattle.nob_ids.specs.Names.{is_same, is_counted}
 use Rattle.nob_ids.specs.declared.limits.Limits.{Limits}
@@ -16,7 +16,7 @@ use Rattle.nob_table_rows.specs.Counts.{is_held}
 use Rattle.nob_table_rows.specs.Standings as standings
 use Rattle.nob_table_rows.specs.declared.standing.State.{State as TableState}
 use Rattle.nob_table_rows.specs.declared.standing.State.TheVariants as states
-use Rattle.nob_table.specs.Table.{standing, place_of, NoneIdle}
+use Rattle.nob_table.specs.Table.{standing, place_of, is_kept, is_spare as is_unkept, NoneSpareFrom}
 use Rattle.nob_table_rows.proofs.Same.{same_is, same_laws}
 use Rattle.nob_model_types.specs.declared.deed.Deed.{Deed}
 use Rattle.nob_model_types.specs.declared.deed.Deed.TheVariants as did
@@ -37,19 +37,27 @@ use Rattle.nob_space_holds.specs.Shows.{far_state}
 use Rattle.nob_space_state.specs.Stands.{Stands}
 use Rattle.nob_space_state.proofs.Told.{held_there}
 use Rattle.nob_space_state.proofs.Pinned.{pins_there}
-use Rattle.nob_space_settling.specs.Cleaning.{is_spare, NoneSpareBelow, IsFirstSpare, ArePlacedApart}
+use Rattle.nob_space_state.proofs.Kept.{users_there}
+use Rattle.nob_space_settling.specs.Cleaning.{is_spare, NoneSpareBelow, IsFirstSpare, ArePlacedApart, ArePinned}
+use Rattle.std.proofs.lemmas.Cmp.{nat_eq_equiv}
 
 -- ---- the walk over the surrogates that nothing holds
 
 -- an idle surrogate without pins can be given up
-pub is_unpinned : (st : State) (rep : WireRep) → standings.is_idle (standing st.table rep) ≡ true → not (count_of st.pins.bundles rep == 0) ≡ false → is_spare st rep ≡ true
-is_unpinned st rep idle free = rw idle (elim (count_of st.pins.bundles rep == 0) as (λ b. not b ≡ false → b ≡ true) [ true ↦ λ _. refl | false ↦ λ e. absurd (let bad : true ≡ false = e in cc) ] free)
+pub is_unpinned : (st : State) (rep : WireRep) → is_unkept st.table rep ≡ true → not (count_of st.pins.bundles rep == 0) ≡ false → is_spare st rep ≡ true
+is_unpinned st rep spare free = rw (and_parts _ _ spare).0 (elim (count_of st.pins.bundles rep == 0) as (λ b. not b ≡ false → b ≡ true) [ true ↦ λ _. refl | false ↦ λ e. absurd (let bad : true ≡ false = e in cc) ] free)
 
--- where none before one place can be given up and none is idle from there to another, none before that can
-pub none_next : (st : State) (from to : ℕ) → NoneSpareBelow st from → NoneIdle st.table from to → NoneSpareBelow st to
-none_next st from to before between rep place at under = elim (not (nat_le from place)) as (λ b. not (nat_le from place) ≡ b → is_spare st rep ≡ false) [
+-- what is kept and has pins can't be given up, nor can what isn't kept but held
+unspare : (idle kept free : Bool) → (idle && not kept) ≡ false → (kept ≡ true → free ≡ false) → (idle && free) ≡ false
+unspare true true free e pinned = pinned refl
+unspare true false free e pinned = absurd (let bad : true ≡ false = e in cc)
+unspare false kept free e pinned = refl
+
+-- where none before one place can be given up and the table finds none from there to another, none before that can
+pub none_next : (st : State) (from to : ℕ) → ArePinned st → NoneSpareBelow st from → NoneSpareFrom st.table from to → NoneSpareBelow st to
+none_next st from to pinned before between rep place at under = elim (not (nat_le from place)) as (λ b. not (nat_le from place) ≡ b → is_spare st rep ≡ false) [
   | true ↦ λ e. before rep place at (grind (arith, nat_tests, e))
-  | false ↦ λ e. let low : from ≤ place = grind (arith, nat_tests, e) in rw (between rep place at low under) refl
+  | false ↦ λ e. let low : from ≤ place = grind (arith, nat_tests, e) in unspare (standings.is_idle (standing st.table rep)) (is_kept st.table rep) (count_of st.pins.bundles rep == 0) (between rep place at low under) (pinned rep place at)
 ] refl
 
 -- nor can one that has pins
@@ -289,8 +297,9 @@ module _ {s n : ℕ} {limits : Limits} {st : State} {D : List Deed} (stands : St
   placed_among : (rep : WireRep) (place : ℕ) → place_of st.table rep ≡ Some place → list_any (is_same rep) (by_last_dirty (history_of s n D)) ≡ true
   placed_among rep place at = last_stands rep (dirties (history_of s n D)) (placed_stands rep place (dirties (history_of s n D)) (place_there rep place at))
 
-  pub asked_there : (rep : WireRep) → IsFirstSpare st rep → CanBeAsked s n rep
-  asked_there rep first = among_has rep (by_last_dirty (history_of s n D)) (placed_among rep first.0 first.1) by_order
+  -- and can be asked for
+  placed_asked : (rep : WireRep) (place : ℕ) → place_of st.table rep ≡ Some place → CanBeAsked s n rep
+  placed_asked rep place at = among_has rep (by_last_dirty (history_of s n D)) (placed_among rep place at) by_order
     where
       among_has : (w : WireRep) (reps : List WireRep) → list_any (is_same w) reps ≡ true → AllByRecursion (CanBeAsked s n) reps → CanBeAsked s n w
       among_has w [] there all = let bad : false ≡ true = there in absurd (cc)
@@ -298,6 +307,18 @@ module _ {s n : ℕ} {limits : Limits} {st : State} {D : List Deed} (stands : St
         | true ↦ λ same _. subst (CanBeAsked s n) (sym (same_is w x same)) all.0
         | false ↦ λ _ later. among_has w xs later all.1
       ] refl there
+
+  pub asked_there : (rep : WireRep) → IsFirstSpare st rep → CanBeAsked s n rep
+  asked_there rep first = placed_asked rep first.0 first.1
+
+  -- what is kept from outside is another space's, so it is in transit
+  pub pinned_there : ArePinned st
+  pinned_there rep place at kept = elim (count_of st.pins.bundles rep == 0) as (λ b. count_of st.pins.bundles rep == 0 ≡ b → b ≡ false) [
+    | true ↦ λ none.
+        let own = (users_there stands st.table stands.table.kept rep kept ((Decides-eqb (count_of st.pins.bundles rep) 0).0 none)).0 in
+        let bad : true ≡ false = sym (subst (λ k. rep.owner == k ≡ true) own (nat_eq_equiv.refl rep.owner)) ∙ peer_far rep (placed_asked rep place at).1 in absurd (cc)
+    | false ↦ λ _. refl
+  ] refl
 
   -- it can be given up by the list too
   pub idle_there : (rep : WireRep) → IsFirstSpare st rep → is_idle s n (history_of s n D) rep ≡ true

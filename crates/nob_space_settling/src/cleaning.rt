@@ -1,6 +1,6 @@
 //! Giving surrogates up: Clean.
 
-ghost use Rattle.std.specs.Prelude.{◌≡◌, ◌<◌, ◌≤◌, ℕ, List, ◌∷◌, ◌+◌, vec_len, true, None, Ok, IsOk, IfOk, OnErr, MatchOption};
+ghost use Rattle.std.specs.Prelude.{◌≡◌, ◌<◌, ◌≤◌, ℕ, List, ◌∷◌, ◌+◌, vec_len, true, false, None, Ok, IsOk, IfOk, OnErr, MatchOption};
 ghost use Rattle.nob_ids.specs.declared.limits.Limits.{Limits as LimitsOf};
 ghost use Rattle.nob_item.specs.declared.item.Item.TheVariants as items;
 ghost use Rattle.nob_model_types.specs.declared.answer.Answer.TheVariants as answers;
@@ -16,8 +16,8 @@ ghost use Rattle.nob_model_session.specs.declared.entry.EndEntry.TheVariants.{Se
 ghost use Rattle.nob_session.specs.Calls.{next_of};
 ghost use Rattle.nob_session.specs.Stands as ends;
 ghost use Rattle.nob_table_rows.specs.Standings.{is_idle, unknown};
-ghost use Rattle.nob_table.specs.Table.{standing, Becomes, Places, RemovalLeaves};
-ghost use Rattle.nob_space_settling.specs.Cleaning.{NoneSpareBelow, IsFirstSpare, ArePlacedApart};
+ghost use Rattle.nob_table.specs.Table.{standing, Becomes, Places, RemovalLeaves, SetsKept};
+ghost use Rattle.nob_space_settling.specs.Cleaning.{NoneSpareBelow, IsFirstSpare, ArePlacedApart, ArePinned};
 
 use nob_ids::{ItemNo, WireRep};
 use nob_item::{Item, ItemError, encode};
@@ -29,16 +29,17 @@ use nob_table::ObjectTable;
 use std::alloc::{AllocError, Global};
 
 // The first surrogate, in the order of the last Dirties, that is granted and has neither holds nor
-// pins.
+// pins. The table passes those that it keeps from outside, so it is the first that the table finds.
 pub(crate) fn first_spare(parts: &Parts) -> Option<WireRep>
-    requires { ArePlacedApart parts.now.table }
+    requires apart { ArePlacedApart parts.now.table }
+    requires pinned { ArePinned (state_of parts.now) }
     ensures { MatchOption result (NoneSpareBelow (state_of parts.now) parts.now.table.dirties)
         (λ rep. IsFirstSpare (state_of parts.now) rep) }
 {
     let end = parts.table.dirty_count();
     let mut place = 0;
     while place < end {
-        let Some((at, rep)) = parts.table.first_idle(place) else {
+        let Some((at, rep)) = parts.table.first_spare_surrogate(place) else {
             return None;
         };
         if !parts.is_pinned(&rep) {
@@ -83,6 +84,7 @@ fn forget(table: &mut ObjectTable, rep: &WireRep)
     requires { is_idle (standing table.old rep.now) ≡ true }
     ensures row { Becomes table.old table.new rep.now unknown }
     ensures place { Places table.old table.new rep.now None }
+    ensures unkept { SetsKept table.old table.new rep.now false }
     ensures left { RemovalLeaves table.old table.new }
 {
     match table.remove(*rep) {
@@ -93,8 +95,8 @@ fn forget(table: &mut ObjectTable, rep: &WireRep)
 
 /// Clean: the first surrogate, in the order of the last Dirties, that is granted on an open session
 /// and has neither holds nor pins is given up: its owner is told so by an item. Nothing where there
-/// is none, SeqEnd where the session with its owner has no number left. A few look-ups, and one more
-/// for each surrogate before it that nothing holds but that has pins.
+/// is none, SeqEnd where the session with its owner has no number left. A few look-ups: what is held or
+/// in transit isn't passed.
 pub fn clean(parts: &mut Parts, alloc: Global, here: &Here) -> Result<WireRep, SpaceError>
     requires { IsState here.now.space here.now.n (state_of parts.old) }
     ensures answer { (limits : LimitsOf) (D : List Deed)

@@ -22,8 +22,7 @@ pub fn can_settle(parts: &Parts, here: &Here) -> bool
     parts.waiting.first_settleable().is_some()
 }
 
-/// Whether there is a surrogate to give up. A few look-ups, and one more for each surrogate before
-/// it that nothing holds but that has pins.
+/// Whether there is a surrogate to give up. A few look-ups: what is held or in transit isn't passed.
 pub fn can_clean(parts: &Parts, here: &Here) -> bool
     requires { IsState here.now.space here.now.n (state_of parts.now) }
     ensures { (limits : LimitsOf) (D : List Deed)

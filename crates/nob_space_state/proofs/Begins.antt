@@ -48,7 +48,7 @@ nobody_twice = tt
 
 -- such a state stands for the empty list
 pub begins_stands : (s n : ℕ) (limits : Limits) (st : State) → length st.sessions ≡ n → AreOpened s 1 limits st.sessions
-    → st.table.me ≡ s → st.table.exported ≡ 0 → st.table.dirties ≡ 0 → surrogate_total st.table ≡ 0 → ((rep : WireRep) → standing st.table rep ≡ unknown) → ((index : ℕ) → is_kept st.table index ≡ false)
+    → st.table.me ≡ s → st.table.exported ≡ 0 → st.table.dirties ≡ 0 → surrogate_total st.table ≡ 0 → ((rep : WireRep) → standing st.table rep ≡ unknown) → ((rep : WireRep) → is_kept st.table rep ≡ false)
     → ListsNothing st.dirty → st.pins.bundles ≡ [] → st.work ≡ no_work → st.calls ≡ 0 → st.jobs ≡ 0 → Stands s n limits st []
 begins_stands s n limits st each opened me exported dirties surrogates nothing unkept listed pins work calls jobs = record {
   ends = record {
@@ -64,7 +64,7 @@ begins_stands s n limits st each opened me exported dirties surrogates nothing u
     loans = λ rep counted. rw (nothing rep) refl;
     dirties = dirties;
     places = λ rep. no_place st.table rep surrogates ∙ rw (nothing rep) refl;
-    kept = λ index kept. absurd (let bad : true ≡ false = sym kept ∙ unkept index in cc);
+    kept = λ rep kept none. absurd (let bad : true ≡ false = sym kept ∙ unkept rep in cc);
   };
   listed = λ index client. listed index client;
   pins = λ f. ap (λ bundles. sum_by f bundles) pins;

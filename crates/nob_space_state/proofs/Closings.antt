@@ -56,13 +56,12 @@ use Rattle.nob_model.specs.Lists.{IsRightDeed}
 use Rattle.nob_model.specs.Right.{own_ref, right_closing}
 use Rattle.nob_space_holds.specs.Returns.{is_from, lent_from}
 use Rattle.nob_space_state.specs.Closing.{lent_in_vain, LosesOwner, TableLoses, ClosesDown}
-use Rattle.nob_space_state.specs.Looks.{has_closed, HaveClients}
+use Rattle.nob_space_state.specs.Looks.{has_closed, HaveUsers}
 use Rattle.nob_space_state.specs.Parts.{State, with_sessions}
 use Rattle.nob_space_holds.specs.Returns.{HasLent}
-use Rattle.nob_space_holds.specs.Shows.{TableShows, TableStands, AreListed, far_state}
+use Rattle.nob_space_holds.specs.Shows.{TableShows, TableStands, AreUsed, far_state}
 use Rattle.nob_space_state.specs.Stands.{Stands, EndsStand, PinsStand, AreAwaited, bundle}
 use Rattle.nob_space_state.proofs.Awaited.{closing_awaited}
-use Rattle.nob_space_state.proofs.Kept.{clients_there, listed_clients}
 use Rattle.nob_space_state.proofs.Claiming.{times_lent}
 use Rattle.nob_space_state.proofs.Ends.{end_there, ends_changed}
 use Rattle.nob_space_state.proofs.Finishing.{none_of, counted_append, counted_copies, counted_target, state_sound}
@@ -71,6 +70,7 @@ use Rattle.nob_space_state.proofs.Running.{IsSound, AreSound, all_filter}
 use Rattle.nob_space_holds.proofs.Shows.{no_holds}
 use Rattle.nob_space_state.proofs.Told.{closed_there}
 use Rattle.nob_space_state.proofs.Words.{open_calls}
+use Rattle.nob_space_state.proofs.Kept.{used_of, users_there}
 
 -- ---- what messages from a space have lent
 
@@ -140,7 +140,7 @@ module _ (t u : Table) (p : ℕ) (loses : LosesOwner t u p) where
   ] refl
 
 -- what the table shows once the session with p has closed
-lost_shows : (s n p : ℕ) (reason : Reason) (cause : Cause) (D : List Deed) (H L : WireRep → ℕ) (t u : Table) → is_peer s n p ≡ true → TableShows s n t (history_of s n D) H L → LosesOwner t u p → AreListed s u (Closing p reason cause ∷ D)
+lost_shows : (s n p : ℕ) (reason : Reason) (cause : Cause) (D : List Deed) (H L : WireRep → ℕ) (t u : Table) → is_peer s n p ≡ true → TableShows s n t (history_of s n D) H L → LosesOwner t u p → AreUsed s u (history_of s n (Closing p reason cause ∷ D))
     → TableShows s n u (history_of s n (Closing p reason cause ∷ D)) H L
 unfolding gifts gifts_of
 lost_shows s n p reason cause D H L t u peer shows loses kept =
@@ -290,11 +290,11 @@ module _ {s n : ℕ} {limits : Limits} {st : State} {D : List Deed} (stands : St
   closing_listed reason cause dirty leaves index client = leaves index client ∙ ap (λ b. not (p == client) && b) (stands.listed index client) ∙ listed_less (p == client) (closed client D) (is_entered s index client D)
 
   -- the table after the closing
-  closing_table : (reason : Reason) (cause : Cause) (after : State) → is_peer s n p ≡ true → TableLoses s p st.table st.dirty st.work after.table after.dirty → LeavesAll st.dirty after.dirty p → TableStands s n after.table (history_of s n (Closing p reason cause ∷ D))
-  closing_table reason cause after peer table leaves =
+  closing_table : (reason : Reason) (cause : Cause) (after : State) → is_peer s n p ≡ true → TableLoses s p st.table st.pins.bundles st.dirty st.work after.table after.pins.bundles after.dirty → LeavesAll st.dirty after.dirty p → PinsStand after.pins.bundles (history_of s n (Closing p reason cause ∷ D)) → TableStands s n after.table (history_of s n (Closing p reason cause ∷ D))
+  closing_table reason cause after peer table leaves pinned =
       let before = table.gives.shows s n (history_of s n D) (λ rep. hand rep D) (λ rep. times rep (lent_in s (work s n D))) stands.table in
-      let have : HaveClients table.back st.dirty = clients_there s st.dirty D stands.listed table.back before.kept in
-      let kept : AreListed s after.table (Closing p reason cause ∷ D) = listed_clients s after.dirty (Closing p reason cause ∷ D) (closing_listed reason cause after.dirty leaves) after.table (table.kept have) in
+      let have : HaveUsers s table.back st.pins.bundles st.dirty = users_there stands table.back before.kept in
+      let kept : AreUsed s after.table (history_of s n (Closing p reason cause ∷ D)) = used_of s after.table after.pins.bundles after.dirty (history_of s n (Closing p reason cause ∷ D)) pinned (closing_listed reason cause after.dirty leaves) (table.kept have) in
       let shows = lost_shows s n p reason cause D (λ rep. hand rep D) (λ rep. times rep (lent_in s (work s n D)) - times rep (lent_in_vain s p st.work)) table.back after.table peer before table.loses kept in
       subst (λ (lent : WireRep → ℕ). TableShows s n after.table (history_of s n (Closing p reason cause ∷ D)) (λ rep. hand rep D) lent)
       (λ i rep. less (times rep (lent_in s (work s n D))) (times rep (lent_in_vain s p st.work)) (times rep (lent_in s (work s n (Closing p reason cause ∷ D))))
@@ -315,7 +315,7 @@ module _ {s n : ℕ} {limits : Limits} {st : State} {D : List Deed} (stands : St
             (ends_changed s n limits st.sessions (history_of s n D) (history_of s n (Closing p reason cause ∷ D)) p end stands.ends there.0
             (subst (λ calls. session.Stands s p limits end.end calls) (sym here) stands_closed)
             (λ q other. sym (closing_calls s n p q reason cause D ∙ rw (nat_eq_equiv.symm p q, other) refl)));
-        table = closing_table reason cause after peer down.table down.listed;
+        table = closing_table reason cause after peer down.table down.listed (closing_pins s n p reason cause D st.pins.bundles after.pins.bundles stands.pins down.pins);
         listed = closing_listed reason cause after.dirty down.listed;
         pins = closing_pins s n p reason cause D st.pins.bundles after.pins.bundles stands.pins down.pins;
         work = down.work ∙ ap (work.after_close p) stands.work ∙ sym (closed_work s n p reason cause D);

@@ -46,6 +46,7 @@ use Rattle.nob_space_holds.specs.Shows.{far_state}
 use Rattle.nob_space_state.specs.Stands.{Stands, EndsStand, bundle}
 use Rattle.nob_space_state.proofs.Awaited.{same_lost, still_awaited}
 use Rattle.nob_model.proofs.Made.{loans_made}
+use Rattle.nob_space_holds.proofs.Marked.{used_still}
 
 -- one element changes
 pub set_here : {X : Type 0} (xs : List X) (at : ℕ) (y z : X) → slice_get (set xs at y) at ≡ Some z → z ≡ y
@@ -177,7 +178,7 @@ module _ {s n : ℕ} {limits : Limits} {st : State} {deed : Deed} {D : List Deed
           loans = λ rep counted. stands.table.loans rep counted ∙ ap (λ w. times rep (lent_in s w)) (sym still.work);
           dirties = stands.table.dirties ∙ ap length (sym still.dirties);
           places = λ rep. stands.table.places rep ∙ ap (λ reps. if standings.is_surrogate (standing st.table rep).state then transit.last_place rep reps else None) (sym still.dirties);
-          kept = λ index kept. (let it = stands.table.kept index kept in (it.0, still.listed index it.0 ∙ it.1));
+          kept = used_still (λ rep. refl) still.bundles still.listed stands.table.kept;
         };
         listed = λ index client. stands.listed index client ∙ sym (still.listed index client);
         pins = λ f. stands.pins f ∙ ap (λ items. sum_by f (map bundle items)) (sym still.bundles);

@@ -44,6 +44,7 @@ use Rattle.nob_space_holds.proofs.Counted.{times_more}
 use Rattle.nob_space_holds.proofs.Shows.{no_holds}
 use Rattle.nob_space_state.proofs.Listed.{nobody_listed, somebody_listed}
 use Rattle.nob_space_state.proofs.Pinned.{pins_there}
+use Rattle.nob_space_holds.proofs.Marked.{same_pins, used_still, used_then}
 use Rattle.nob_space_state.proofs.Quiet.{IsQuiet, export_is_quiet, withdraw_is_quiet}
 use Rattle.nob_space_state.proofs.Rows.{live_count, own_row, own_there, differ}
 use Rattle.nob_space_state.proofs.Stood.{stands_quiet}
@@ -95,16 +96,16 @@ module _ {s n : ℕ} {limits : Limits} {st : State} {D : List Deed} (stands : St
   ] refl
 
 -- what a chain that ends in no refusal has passed
-pub withdraw_passes : (agent here held pinned listed : Bool) → (if agent then Some (refusals.StillUsed uses.Agent) else if not agent && (true && not here) then Some refusals.NoObject else if held then Some (refusals.StillUsed uses.Held) else if pinned then Some (refusals.StillUsed uses.InTransit) else if listed then Some (refusals.StillUsed uses.Listed) else None) ≡ None → (here ≡ true) × (held ≡ false) × (listed ≡ false)
+pub withdraw_passes : (agent here held pinned listed : Bool) → (if agent then Some (refusals.StillUsed uses.Agent) else if not agent && (true && not here) then Some refusals.NoObject else if held then Some (refusals.StillUsed uses.Held) else if pinned then Some (refusals.StillUsed uses.InTransit) else if listed then Some (refusals.StillUsed uses.Listed) else None) ≡ None → (here ≡ true) × (held ≡ false) × (pinned ≡ false) × (listed ≡ false)
 withdraw_passes true here held pinned listed e = absurd (none-some _ (sym e))
 withdraw_passes false false held pinned listed e = absurd (none-some _ (sym e))
 withdraw_passes false true true pinned listed e = absurd (none-some _ (sym e))
 withdraw_passes false true false true listed e = absurd (none-some _ (sym e))
 withdraw_passes false true false false true e = absurd (none-some _ (sym e))
-withdraw_passes false true false false false e = (refl, refl, refl)
+withdraw_passes false true false false false e = (refl, refl, refl, refl)
 
 -- what is kept where one object's mark went was kept before
-kept_before : (here before : Bool) → (if here then false else before) ≡ true → before ≡ true
+pub kept_before : (here before : Bool) → (if here then false else before) ≡ true → before ≡ true
 kept_before true before kept = absurd (cc)
 kept_before false before kept = kept
 
@@ -135,10 +136,10 @@ live_exported s D index alive = elim (objects.is_exported s index D) as (λ b. (
 pub withdraw_finds : {s n : ℕ} {limits : Limits} {st : State} {D : List Deed} → Stands s n limits st D → (index : ℕ) → withdraw_refusal s st index ≡ None → (objects.is_live s index D ≡ true) × (has_holds st.table (own_ref s index) ≡ false)
 unfolding withdraw_refusal
 withdraw_finds {s} {n} {limits} {st} {D} stands index free =
-    let passes : (is_live (standing st.table (own_ref s index)).state ≡ true) × (has_holds st.table (own_ref s index) ≡ false) × (has_clients st.dirty index ≡ false) =
+    let passes : (is_live (standing st.table (own_ref s index)).state ≡ true) × (has_holds st.table (own_ref s index) ≡ false) × (not (count_of st.pins.bundles (own_ref s index) == 0) ≡ false) × (has_clients st.dirty index ≡ false) =
     withdraw_passes (index == 0) (is_live (standing st.table (own_ref s index)).state) (has_holds st.table (own_ref s index)) (not (count_of st.pins.bundles (own_ref s index) == 0)) (has_clients st.dirty index)
     (sym (rw (nat_eq_equiv.refl s) refl) ∙ free) in
-    (sym (stands.table.live index) ∙ passes.0, passes.1)
+    (sym (stands.table.live index) ∙ passes.0, passes.1.0)
 
 -- and the table withdraws it
 pub withdraw_free : {s n : ℕ} {limits : Limits} {st : State} {D : List Deed} → Stands s n limits st D → (index : ℕ) → withdraw_refusal s st index ≡ None → withdraw_fault st.table index ≡ None
@@ -196,11 +197,11 @@ module _ {s n : ℕ} {limits : Limits} {st : State} {D : List Deed} (stands : St
       (λ _. sym (ap (λ (c : Counts). c.lent) next_unheld) ∙ stands.table.loans rep counted ∙ ap (λ w. times rep (lent_in s w)) (sym quiet.work))
       (λ other _ differs. ap (λ j. j - times other (releases D)) (sym (times_more rep other (gains D) ∙ rw differs refl)))
       (λ other _ differs. ap (λ w. times other (lent_in s w)) (sym quiet.work))
-      (λ other kept. let it = stands.table.kept other (sym (leaves.kept other) ∙ kept) in (it.0, quiet.listed other it.0 ∙ it.1)))
+      (used_still leaves.kept quiet.bundles quiet.listed stands.table.kept))
       its
 
   -- after a Withdraw
-  pub withdraw_stands : (index : ℕ) → IsRightDeed s n limits (Withdraw index) D → WithdrawalLeaves st.table u → SetsKept st.table u index false → Becomes st.table u (own_ref s index) withdrawn → withdraw_refusal s st index ≡ None → Stands s n limits (with_table u st) (Withdraw index ∷ D)
+  pub withdraw_stands : (index : ℕ) → IsRightDeed s n limits (Withdraw index) D → WithdrawalLeaves st.table u → SetsKept st.table u (own_ref s index) false → Becomes st.table u (own_ref s index) withdrawn → withdraw_refusal s st index ≡ None → Stands s n limits (with_table u st) (Withdraw index ∷ D)
   withdraw_stands index its leaves unkept becomes free =
       let rep : WireRep = own_ref s index in
       let quiet : IsQuiet s n (Withdraw index) D = withdraw_is_quiet s n index D in
@@ -217,7 +218,7 @@ module _ {s n : ℕ} {limits : Limits} {st : State} {D : List Deed} (stands : St
       (λ counted. sym (ap (λ (c : Counts). c.lent) bare) ∙ stands.table.loans rep counted ∙ ap (λ w. times rep (lent_in s w)) (sym quiet.work))
       (λ other _ differs. refl)
       (λ other _ differs. ap (λ w. times other (lent_in s w)) (sym quiet.work))
-      (λ other kept. let it = stands.table.kept other (kept_before (other == index) (is_kept st.table other) (sym (unkept other) ∙ kept)) in (it.0, quiet.listed other it.0 ∙ it.1)))
+      (used_then (λ other kept. kept_before (is_same rep other) (is_kept st.table other) (sym (unkept other) ∙ kept)) (λ other none. same_pins quiet.bundles other ∙ none) quiet.listed stands.table.kept))
       its
 
 -- the table's refusal of an Export is the space's

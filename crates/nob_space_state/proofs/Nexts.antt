@@ -10,6 +10,7 @@ use Rattle.nob_table.specs.Table.{standing, own, is_kept, is_spare_at, NeverSpar
 use Rattle.nob_model_types.specs.declared.answer.Answer.TheVariants as answers
 use Rattle.nob_model_types.specs.declared.refusal.Refusal.{Refusal}
 use Rattle.nob_ids.specs.declared.limits.Limits.{Limits}
+use Rattle.nob_ids.specs.declared.wire_rep.WireRep.{WireRep}
 use Rattle.nob_model_session.specs.End.{transmitted}
 use Rattle.nob_model_session.specs.Right.{right_front, right_transmit}
 use Rattle.nob_session.specs.declared.due.Due.TheVariants.{Nothing}
@@ -26,12 +27,12 @@ use Rattle.nob_model.specs.Right.{own_ref, right_withdraw}
 use Rattle.nob_model_acting.specs.Sending.{unless}
 use Rattle.nob_model.proofs.Possible.{least_law}
 use Rattle.nob_space_state.specs.Judging.{withdraw_refusal}
-use Rattle.nob_space_state.specs.Looks.{has_closed, has_clients, has_holds}
+use Rattle.nob_space_state.specs.Looks.{has_closed, has_clients, has_holds, is_used}
 use Rattle.nob_space_state.specs.Dues.{due}
 use Rattle.nob_space_state.specs.Parts.{State}
 use Rattle.nob_space_state.specs.Stands.{Stands}
-use Rattle.nob_space_state.proofs.Listed.{somebody_listed}
-use Rattle.nob_space_state.proofs.Exported.{listed_there, withdraw_passes, withdraw_right}
+use Rattle.nob_space_state.proofs.Exported.{withdraw_passes, withdraw_right}
+use Rattle.nob_space_state.proofs.Kept.{is_used_there, users_there}
 use Rattle.nob_space_state.proofs.Rows.{differ}
 use Rattle.nob_space_state.proofs.Told.{closed_there}
 
@@ -58,26 +59,27 @@ claim_there {s} {n} {limits} {st} {D} stands = ap (λ (W : InHand). is_some (fin
 
 -- ---- the object to withdraw
 
--- for what is kept from outside there are clients
-abbrev pub KeptAreListed : State → Type 0
-KeptAreListed st = (index : ℕ) → is_kept st.table index ≡ true → has_clients st.dirty index ≡ true
+-- what is kept from outside is used there
+abbrev pub KeptAreUsed : (s : ℕ) → State → Type 0
+KeptAreUsed s st = (rep : WireRep) → is_kept st.table rep ≡ true → is_used s st.pins.bundles st.dirty rep ≡ true
 
 -- an object that may be withdrawn is live, without holds and not kept from outside
-pub spare_where : (s : ℕ) (st : State) (index : ℕ) → st.table.me ≡ s → KeptAreListed st → withdraw_refusal s st index ≡ None → is_spare_at st.table index ≡ true
+pub spare_where : (s : ℕ) (st : State) (index : ℕ) → st.table.me ≡ s → KeptAreUsed s st → withdraw_refusal s st index ≡ None → is_spare_at st.table index ≡ true
 unfolding withdraw_refusal
 spare_where s st index me kept free =
-    let passes : (is_live (standing st.table (own_ref s index)).state ≡ true) × (has_holds st.table (own_ref s index) ≡ false) × (has_clients st.dirty index ≡ false) =
+    let passes : (is_live (standing st.table (own_ref s index)).state ≡ true) × (has_holds st.table (own_ref s index) ≡ false) × (not (count_of st.pins.bundles (own_ref s index) == 0) ≡ false) × (has_clients st.dirty index ≡ false) =
     withdraw_passes (index == 0) (is_live (standing st.table (own_ref s index)).state) (has_holds st.table (own_ref s index)) (not (count_of st.pins.bundles (own_ref s index) == 0)) (has_clients st.dirty index)
     (sym (rw (nat_eq_equiv.refl s) refl) ∙ free) in
-    let unheld : is_unheld (standing st.table (own st.table index)) ≡ true = subst (λ (k : ℕ). is_unheld (standing st.table (own_ref k index)) ≡ true) (sym me) (rw (passes.0, passes.1) refl) in
-    elim (is_kept st.table index) as (λ b. is_kept st.table index ≡ b → (is_unheld (standing st.table (own st.table index)) && not b) ≡ true) [
-      | true ↦ λ is. absurd (differ (kept index is) passes.2)
+    let unheld : is_unheld (standing st.table (own st.table index)) ≡ true = subst (λ (k : ℕ). is_unheld (standing st.table (own_ref k index)) ≡ true) (sym me) (rw (passes.0, passes.1.0) refl) in
+    let unused : is_used s st.pins.bundles st.dirty (own_ref s index) ≡ false = rw (passes.1.1.0, nat_eq_equiv.refl s, passes.1.1.1) refl in
+    elim (is_kept st.table (own st.table index)) as (λ b. is_kept st.table (own st.table index) ≡ b → (is_unheld (standing st.table (own st.table index)) && not b) ≡ true) [
+      | true ↦ λ is. absurd (differ (kept (own_ref s index) (subst (λ (k : ℕ). is_kept st.table (own_ref k index) ≡ true) me is)) unused)
       | false ↦ λ _. rw (unheld) refl
     ] refl
 
 -- every index below one is refused
 abbrev pub AreRefusedBelow : (s : ℕ) → State → ℕ → Type 0
-AreRefusedBelow s st from = st.table.me ≡ s → KeptAreListed st → (index : ℕ) → index < from → withdraw_refusal s st index ≡ None → ⊥
+AreRefusedBelow s st from = st.table.me ≡ s → KeptAreUsed s st → (index : ℕ) → index < from → withdraw_refusal s st index ≡ None → ⊥
 
 -- one step further: the indexes that were passed are refused, and so is the one that was found
 pub refused_more : (s : ℕ) (st : State) (from index : ℕ) (refusal : Refusal) → IsFirstSpare st.table from index → withdraw_refusal s st index ≡ Some refusal → AreRefusedBelow s st from → AreRefusedBelow s st (index + 1)
@@ -99,8 +101,8 @@ module _ {s n : ℕ} {limits : Limits} {st : State} {D : List Deed} (stands : St
   taken_free : (index : ℕ) → right_withdraw s index (history_of s n D) ≡ Ok answers.Withdrawn → withdraw_refusal s st index ≡ None
   taken_free index is = none_unless (withdraw_refusal s st index) (sym (withdraw_right stands index) ∙ is)
 
-  kept_there : KeptAreListed st
-  kept_there index kept = (let it = stands.table.kept index kept in listed_there stands index ∙ somebody_listed s index D it.0 it.1)
+  pub kept_there : KeptAreUsed s st
+  kept_there rep kept = is_used_there s st.pins.bundles st.dirty rep (users_there stands st.table stands.table.kept rep kept)
 
   -- the first one that isn't refused
   pub least_there : (from index : ℕ) → IsFirstSpare st.table from index → withdraw_refusal s st index ≡ None → AreRefusedBelow s st from → to_withdraw s (history_of s n D) ≡ Some index

@@ -8,12 +8,13 @@ use Rattle.nob_item.specs.Kinds.{counted_in}
 use Rattle.nob_pins.specs.Bundles as pins
 use Rattle.nob_table_rows.proofs.Same.{same_laws}
 use Rattle.nob_model_types.specs.declared.deed.Deed.{Deed}
+use Rattle.nob_model_history.specs.declared.history.History.{History}
 use Rattle.nob_model_history.specs.declared.transit.SentItem.{SentItem}
 use Rattle.nob_model_history.specs.Histories.{history_of}
 use Rattle.nob_model_history.specs.Holds.{times}
 use Rattle.nob_model_history.specs.Transit as transit
 use Rattle.nob_space_state.specs.Parts.{State}
-use Rattle.nob_space_state.specs.Stands.{Stands, bundle}
+use Rattle.nob_space_state.specs.Stands.{Stands, PinsStand, bundle}
 use Rattle.nob_space_holds.proofs.Counted.{times_both}
 
 -- the same in whichever order two references are compared
@@ -29,6 +30,10 @@ counted_bundles rep (item ∷ items) =
     ∙ ap (λ k. times rep (counted_in item.item) + k) (counted_bundles rep items)
     ∙ sym (times_both rep (counted_in item.item) (flat_map (λ item. counted_in item.item) items))
 
+-- the pins of a reference, where the bundles are those of a history
+pub pins_of : (bundles : List pins.Pinned) (h : History) → PinsStand bundles h → (rep : WireRep) → pins.count_of bundles rep ≡ transit.pins rep h
+pins_of bundles h stand rep = stand (λ b. pins.times rep b.reps) ∙ counted_bundles rep (transit.bundles h)
+
 -- the pins of a reference
 pub pins_there : {s n : ℕ} {limits : Limits} {st : State} {D : List Deed} → Stands s n limits st D → (rep : WireRep) → pins.count_of st.pins.bundles rep ≡ transit.pins rep (history_of s n D)
-pins_there {s} {n} {limits} {st} {D} stands rep = stands.pins (λ b. pins.times rep b.reps) ∙ counted_bundles rep (transit.bundles (history_of s n D))
+pins_there {s} {n} {limits} {st} {D} stands rep = pins_of st.pins.bundles (history_of s n D) stands.pins rep

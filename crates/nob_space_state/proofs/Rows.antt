@@ -21,7 +21,7 @@ use Rattle.nob_model_history.specs.declared.history.History.{History}
 use Rattle.nob_model_history.specs.Transit as transit
 use Rattle.nob_model.specs.Right.{own_ref}
 use Rattle.nob_table_rows.specs.Counts as counts
-use Rattle.nob_space_holds.specs.Shows.{TableShows, AreListed, far_state}
+use Rattle.nob_space_holds.specs.Shows.{TableShows, AreUsed, far_state}
 use Rattle.nob_space_holds.proofs.Shows.{one_row}
 use Rattle.nob_space_state.proofs.Told.{own_is}
 
@@ -96,7 +96,7 @@ module _ (s n : ℕ) (h h' : History) (H L H' L' : WireRep → ℕ) (t u : Table
       → ((index : ℕ) → is_same rep (own_ref s index) ≡ false → objects.is_live s index h.deeds ≡ objects.is_live s index h'.deeds)
       → (is_counted rep ≡ true → after.counts.hand ≡ H' rep) → (is_counted rep ≡ true → after.counts.lent ≡ L' rep)
       → ((other : WireRep) → is_counted other ≡ true → is_same rep other ≡ false → H other ≡ H' other) → ((other : WireRep) → is_counted other ≡ true → is_same rep other ≡ false → L other ≡ L' other)
-      → AreListed s u h'.deeds → TableShows s n u h' H' L'
+      → AreUsed s u h' → TableShows s n u h' H' L'
   own_row after becomes me exported surrogate live_here live_else hand lent hands loans kept =
       let before : is_surrogate (standing t rep).state ≡ false = (own_there t rep (subst (λ m. rep.owner == m ≡ true) (sym shows.me) own)).0 in
       record {

@@ -1,5 +1,5 @@
 -- A deed that hands one item to one peer: what it sends and pins, and the state that it leaves.
-use Rattle.std.proofs.Common.{◌≡◌, ℕ, ◌+◌, Bool, true, false, cond, not, ◌&&◌, ◌||◌, ◌==◌, List, [], ◌∷◌, ◌++◌, length, map, filter, None, Ok, if◌then◌else◌, refl, sym, ap, subst, ◌∙◌, arith}
+use Rattle.std.proofs.Common.{◌≡◌, ℕ, ◌+◌, Bool, true, false, cond, not, ◌&&◌, ◌||◌, ◌==◌, List, [], ◌∷◌, ◌++◌, length, map, filter, None, Ok, if◌then◌else◌, refl, sym, ap, subst, ◌∙◌, arith, flat_map}
 use Rattle.std.specs.List.{sum_by, list_any}
 use Rattle.std.proofs.lemmas.List.{append-nil, map-append}
 use Rattle.std.proofs.lemmas.List.Sums.{sum_by-cons, sum_by_push}
@@ -30,7 +30,7 @@ use Rattle.nob_model_work.specs.Gifts.{gifts}
 use Rattle.nob_model_history.specs.declared.transit.SentItem.{SentItem}
 use Rattle.nob_model_history.specs.Histories.{history_of}
 use Rattle.nob_model_history.specs.Ends.{items_to, kind_of, payload_of, with_sends, own_calls, calls_at}
-use Rattle.nob_model_history.specs.Holds.{gains, releases}
+use Rattle.nob_model_history.specs.Holds.{gains, releases, times}
 use Rattle.nob_model_history.specs.Listing.{is_listed}
 use Rattle.nob_model_history.specs.Premises.{SettlesSent}
 use Rattle.nob_model_history.specs.Transit as transit
@@ -47,6 +47,8 @@ use Rattle.nob_space_holds.specs.Shows.{TableShows, TableStands, far_state}
 use Rattle.nob_space_state.specs.Stands.{Stands, EndsStand, PinsStand, AreAwaited, bundle}
 use Rattle.nob_model_types.specs.declared.message.Message.{Message}
 use Rattle.nob_space_state.proofs.Awaited.{same_lost, still_awaited}
+use Rattle.nob_space_holds.proofs.Marked.{used_then}
+use Rattle.nob_space_holds.proofs.Counted.{times_both}
 
 -- an item that goes to a peer
 abbrev pub gift_to : ℕ → Item → Gift
@@ -71,6 +73,16 @@ pub record HandsOne (s n : ℕ) (deed : Deed) (D : List Deed) (p : ℕ) (item : 
 and_true : (b : Bool) → (b && true) ≡ b
 and_true true = refl
 and_true false = refl
+
+-- what has no pins in more bundles has none in some of them
+pub fewer_pins : (rep : WireRep) (some more : List SentItem) → times rep (flat_map (λ (item : SentItem). counted_in item.item) (some ++ more)) ≡ 0 → times rep (flat_map (λ (item : SentItem). counted_in item.item) some) ≡ 0
+fewer_pins rep [] more none = refl
+fewer_pins rep (one ∷ some) more none =
+    let all = times_both rep (counted_in one.item) (flat_map (λ (item : SentItem). counted_in item.item) (some ++ more)) in
+    let these = times_both rep (counted_in one.item) (flat_map (λ (item : SentItem). counted_in item.item) some) in
+    let rest : times rep (flat_map (λ (item : SentItem). counted_in item.item) (some ++ more)) ≡ 0 = omega (arith, none, all) in
+    let less = fewer_pins rep some more rest in
+    omega (arith, none, all, these, less)
 
 -- what one bundle more, where there are references, makes of a sum over bundles
 sums_then : (f : Pinned → ℕ) (p number : ℕ) (item : Item) (old new : List Pinned) (items : List SentItem) (reps : List WireRep) → sum_by f old ≡ sum_by f (map bundle items) → AddsPins old new p number reps → counted_in item ≡ reps
@@ -143,7 +155,7 @@ module _ {s n p : ℕ} {item : Item} {deed : Deed} {D : List Deed} (hands : Hand
     loans = λ rep counted. shows.loans rep counted ∙ on_loan rep counted;
     dirties = shows.dirties ∙ ap length (sym dirties_then);
     places = λ rep. shows.places rep ∙ ap (λ reps. if standings.is_surrogate (standing t rep).state then transit.last_place rep reps else None) (sym dirties_then);
-    kept = λ index kept. (let it = shows.kept index kept in (it.0, hands.listed index it.0 ∙ it.1));
+    kept = used_then (λ rep kept. kept) (λ rep none. fewer_pins rep (transit.bundles (history_of s n D)) _ (sym (λ i. times rep (flat_map (λ (item : SentItem). counted_in item.item) (bundles_kept s n deed D hands.settles_nothing hands.closes_nothing i))) ∙ none)) hands.listed shows.kept;
   }
 
   -- the state with other ends, holds, pins and work in hand

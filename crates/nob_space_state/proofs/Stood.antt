@@ -20,6 +20,7 @@ use Rattle.nob_space_holds.specs.Shows.{TableShows, TableStands, far_state}
 use Rattle.nob_space_state.specs.Stands.{Stands, bundle}
 use Rattle.nob_space_state.proofs.Awaited.{same_lost, still_awaited}
 use Rattle.nob_space_state.proofs.Quiet.{IsQuiet}
+use Rattle.nob_space_holds.proofs.Marked.{used_still}
 
 module _ {s n : ℕ} {deed : Deed} {D : List Deed} (quiet : IsQuiet s n deed D) where
   -- what a table shows of a history it shows of one with a quiet deed more that changes no object
@@ -38,7 +39,7 @@ module _ {s n : ℕ} {deed : Deed} {D : List Deed} (quiet : IsQuiet s n deed D) 
     loans = λ rep counted. shows.loans rep counted ∙ loans rep counted;
     dirties = shows.dirties ∙ ap length (sym quiet.dirties);
     places = λ rep. shows.places rep ∙ ap (λ reps. if standings.is_surrogate (standing t rep).state then transit.last_place rep reps else None) (sym quiet.dirties);
-    kept = λ index kept. (let it = shows.kept index kept in (it.0, quiet.listed index it.0 ∙ it.1));
+    kept = used_still (λ rep. refl) quiet.bundles quiet.listed shows.kept;
   }
 
   -- a state with another table

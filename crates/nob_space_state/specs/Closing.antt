@@ -5,7 +5,7 @@ use Rattle.nob_ids.specs.declared.reason.Reason.{Reason}
 use Rattle.nob_ids.specs.declared.wire_rep.WireRep.{WireRep}
 use Rattle.nob_dirty.specs.declared.sets.Listing.{Listing}
 use Rattle.nob_dirty.specs.Sets.{LeavesAll}
-use Rattle.nob_pins.specs.Bundles.{TakesOutAll}
+use Rattle.nob_pins.specs.Bundles.{TakesOutAll, Pinned}
 use Rattle.nob_table_rows.specs.Standings.{after_close}
 use Rattle.nob_table.specs.Table.{Table, standing, place_of, is_of}
 use Rattle.nob_frame.specs.declared.frame.Frame.{Frame}
@@ -23,7 +23,7 @@ use Rattle.nob_model_work.specs.declared.work.InHand.{InHand}
 use Rattle.nob_model_work.specs.Work as work
 use Rattle.nob_model.specs.Lists.{IsRightDeed}
 use Rattle.nob_space_waiting.specs.Waiting.{is_awaited}
-use Rattle.nob_space_state.specs.Looks.{HaveClients}
+use Rattle.nob_space_state.specs.Looks.{HaveUsers}
 use Rattle.nob_space_state.specs.Parts.{State}
 use Rattle.nob_space_holds.specs.Returns.{GivesBack, lent_from}
 use Rattle.nob_space_state.specs.Stands.{Stands}
@@ -41,19 +41,19 @@ pub record LosesOwner (old new : Table) (owner : ℕ) : Type 0 where
   pub dirties : new.dirties ≡ old.dirties
 
 -- what becomes of the table of a space whose session with p closes
-pub record TableLoses (s p : ℕ) (old : Table) (listed : List Listing) (W : InHand) (new : Table) (left : List Listing) : Type 0 where
+pub record TableLoses (s p : ℕ) (old : Table) (pinned : List Pinned) (listed : List Listing) (W : InHand) (new : Table) (pins : List Pinned) (left : List Listing) : Type 0 where
   -- what was lent in vain is given back
   pub back : Table
   pub gives : GivesBack old back (lent_in_vain s p W)
   -- the references to p's objects are lost
   pub loses : LosesOwner back new p
-  -- what only p was listed for is let go
-  pub kept : HaveClients back listed → HaveClients new left
+  -- what only p was listed for or was only in transit to p is let go
+  pub kept : HaveUsers s back pinned listed → HaveUsers s new pins left
 
 -- what the closing of the session with p leaves of the parts, the end itself aside
 pub record ClosesDown (s p : ℕ) (old new : State) : Type 0 where
   pub sessions : new.sessions ≡ old.sessions
-  pub table : TableLoses s p old.table old.dirty old.work new.table new.dirty
+  pub table : TableLoses s p old.table old.pins.bundles old.dirty old.work new.table new.pins.bundles new.dirty
   pub listed : LeavesAll old.dirty new.dirty p
   pub pins : TakesOutAll old.pins.bundles new.pins.bundles p
   pub work : new.work ≡ work.after_close p old.work

@@ -1,9 +1,11 @@
 -- What the state tells of sessions and references.
-use Rattle.std.specs.Prelude.{◌≡◌, ℕ, ◌-◌, Bool, true, false, ◌&&◌, ◌==◌, not, List, slice_get, Option, Some, None, if◌then◌else◌}
+use Rattle.std.specs.Prelude.{◌≡◌, ℕ, ◌-◌, Bool, true, false, ◌&&◌, ◌||◌, ◌==◌, not, List, slice_get, Option, Some, None, if◌then◌else◌}
 use Rattle.nob_ids.specs.declared.wire_rep.WireRep.{WireRep}
 use Rattle.std.specs.List.{list_any, Contains}
+use Rattle.nob_ids.specs.Names.{is_same}
 use Rattle.nob_dirty.specs.declared.sets.Listing.{Listing}
 use Rattle.nob_dirty.specs.Sets.{lists, has_index}
+use Rattle.nob_pins.specs.Bundles.{Pinned, count_of}
 use Rattle.nob_session.specs.Stands.{Roomy, is_open_end}
 use Rattle.nob_table_rows.specs.Standings.{is_live}
 use Rattle.nob_table.specs.Table.{Table, standing, is_kept}
@@ -38,14 +40,26 @@ is_cut s sessions rep = not (rep.owner == s) && has_closed sessions rep.owner
 abbrev pub has_clients : List Listing → ℕ → Bool
 has_clients dirty index = list_any (has_index index) dirty
 
--- each object that the table keeps from outside has a client that the sets list for it
-abbrev pub HaveClients : Table → List Listing → Type 0
-HaveClients t dirty = (index : ℕ) → is_kept t index ≡ true → (client : ℕ) × (lists dirty index client ≡ true)
+-- whether something outside uses a reference: it is in transit from here, or to an object of space s that a client is listed for
+abbrev pub is_used : (s : ℕ) → List Pinned → List Listing → WireRep → Bool
+is_used s bundles dirty rep = not (count_of bundles rep == 0) || (rep.owner == s && has_clients dirty rep.index)
 
--- what new keeps from outside old keeps too, and at this index only where the sets have a client
-abbrev pub LetsGo : (old new : Table) → List Listing → ℕ → Type 0
-LetsGo old new dirty at = (index : ℕ) → is_kept new index ≡ true → (is_kept old index ≡ true) × (index ≡ at → has_clients dirty index ≡ true)
+-- a reference that isn't in transit from here is to an object of space s that the sets list a client for
+abbrev pub IsUsed : (s : ℕ) → List Pinned → List Listing → WireRep → Type 0
+IsUsed s bundles dirty rep = count_of bundles rep ≡ 0 → (rep.owner ≡ s) × (client : ℕ) × (lists dirty rep.index client ≡ true)
 
--- what new keeps from outside old keeps too, and at these indexes only where the sets have a client
-abbrev pub LetAllGo : (old new : Table) → List Listing → List ℕ → Type 0
-LetAllGo old new dirty indexes = (index : ℕ) → is_kept new index ≡ true → (is_kept old index ≡ true) × (Contains indexes index → has_clients dirty index ≡ true)
+-- what the table keeps from outside is used there
+abbrev pub HaveUsers : (s : ℕ) → Table → List Pinned → List Listing → Type 0
+HaveUsers s t bundles dirty = (rep : WireRep) → is_kept t rep ≡ true → IsUsed s bundles dirty rep
+
+-- what new keeps from outside old keeps too, and such references only where they are used outside
+abbrev pub LetsGo : (s : ℕ) → (WireRep → Type 0) → (old new : Table) → List Pinned → List Listing → Type 0
+LetsGo s such old new bundles dirty = (rep : WireRep) → is_kept new rep ≡ true → (is_kept old rep ≡ true) × (such rep → is_used s bundles dirty rep ≡ true)
+
+-- a reference is to an object of space s, with one of these indexes
+abbrev pub IsAmong : (s : ℕ) → List ℕ → WireRep → Type 0
+IsAmong s indexes rep = (rep.owner ≡ s) × Contains indexes rep.index
+
+-- what new keeps from outside old keeps too, or it is one of these references
+abbrev pub KeepsMore : (old new : Table) → List WireRep → Type 0
+KeepsMore old new reps = (rep : WireRep) → is_kept new rep ≡ true → is_kept old rep ≡ false → list_any (is_same rep) reps ≡ true

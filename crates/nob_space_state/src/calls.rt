@@ -14,6 +14,7 @@ ghost use Rattle.nob_space_state.specs.Sending.{call_refusal};
 ghost use Rattle.nob_space_state.specs.Stands.{Stands, IsState, Keeps, Did, AnswersOrWants};
 
 use crate::error::SpaceError;
+use crate::listings::keep_all;
 use crate::parts::Parts;
 use nob_ids::{CallNo, SpaceId, WireRep};
 use nob_item::{ItemError, encode_call};
@@ -102,6 +103,7 @@ impl Parts {
         };
         self.calls.push(own);
         self.calls_made += 1;
+        keep_all(&mut self.table, reps.as_slice());
         Ok(call)
     }
 }

@@ -15,7 +15,7 @@ ghost use Rattle.nob_space_state.specs.Parts.{state_of};
 ghost use Rattle.nob_space_holds.specs.Returns.{HasLent};
 ghost use Rattle.nob_space_state.specs.Stands.{Stands, IsState, Keeps, Did, Answers};
 
-use crate::listings::unlist_all;
+use crate::listings::{close_pins, unlist_all};
 use crate::parts::Parts;
 use nob_ids::{Reason, SpaceId};
 use nob_model::{Here, Refusal};
@@ -37,8 +37,8 @@ impl Parts {
         self.waiting.lose_of(peer);
         throw_ready_away(&mut self.table, &mut self.jobs, me, peer);
         self.table.close(peer);
-        unlist_all(&mut self.table, &mut self.dirty, peer);
-        self.pins.close(closed);
+        unlist_all(&mut self.table, &self.pins, &mut self.dirty, me, peer);
+        close_pins(&mut self.table, &mut self.pins, &self.dirty, me, closed);
         self.calls.close(peer);
     }
 

@@ -16,6 +16,7 @@ ghost use Rattle.nob_space_state.specs.Sending.{reply_refusal, finish_answer, fi
 ghost use Rattle.nob_space_state.specs.Stands.{Stands, IsState, Keeps, Did, AnswersOrWants};
 
 use crate::error::SpaceError;
+use crate::listings::keep_all;
 use crate::parts::Parts;
 use nob_ids::{JobNo, SpaceId};
 use nob_item::{Item, ItemError, encode_reply};
@@ -130,6 +131,7 @@ impl Parts {
             reps.as_slice(),
         )?;
         end_job(&mut self.table, &mut self.jobs, here.space, job);
+        keep_all(&mut self.table, reps.as_slice());
         Ok(ReplyFate::HandedOn)
     }
 }

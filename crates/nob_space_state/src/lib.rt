@@ -19,6 +19,6 @@ mod take;
 
 pub use error::SpaceError;
 pub use finish::ReplyFate;
-pub use listings::unlist;
+pub use listings::{settle_pins, unlist};
 pub use parts::Parts;
 pub use take::CallResult;

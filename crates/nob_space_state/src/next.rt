@@ -75,8 +75,8 @@ impl Parts {
         self.jobs.first_free().is_some()
     }
 
-    /// The least index of a live object that Withdraw would take. A look-up, and one more for each
-    /// object before it that nothing holds and no client is listed for, but that is pinned.
+    /// The least index of a live object that Withdraw would take. A few look-ups: what is held, in
+    /// transit, or listed isn't passed.
     pub fn to_withdraw(&self, here: &Here) -> Option<u64>
         ensures { (limits : LimitsOf) (D : List Deed)
             → Stands here.now.space here.now.n limits (state_of self.now) D

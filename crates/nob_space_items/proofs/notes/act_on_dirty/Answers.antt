@@ -1,4 +1,6 @@
-use Rattle.std.proofs.Common.{◌≡◌, ◌-◌, IsOk, get_or, refl, sym, subst, ◌∙◌, ap}
+use Rattle.std.proofs.Common.{◌≡◌, ◌-◌, ◌||◌, ◌==◌, Bool, true, false, IsOk, get_or, refl, sym, subst, ◌∙◌, ap}
+use Rattle.std.proofs.lemmas.Cmp.{nat_eq_equiv}
+use Rattle.nob_space_state.proofs.Rows.{own_there}
 use Rattle.nob_space_state.proofs.Passing.{refused_as, wants_as, after_error}
 use Rattle.nob_space_state.proofs.Ends.{end_there}
 use Rattle.nob_model_history.specs.Histories.{history_of}
@@ -8,6 +10,11 @@ use Rattle.nob_table.specs.Table.{standing, SetsKept}
 use Rattle.nob_table_rows.specs.Standings.{is_live}
 use Rattle.nob_model.specs.Right.{own_ref}
 use Rattle.nob_space_items.proofs.notes.act_on_dirty.Goals as goal
+
+-- nothing more
+live_or : (b : Bool) → (b || false) ≡ b
+live_or true = refl
+live_or false = refl
 
 pub returns-in_err-refuse_send-clause-answer : goal.returns-in_err-refuse_send-clause-answer
 returns-in_err-refuse_send-clause-answer c limits D stands =
@@ -50,4 +57,6 @@ returns-clause-stands c limits D stands =
     let front = c.requires.front limits D stands in
     let done = c.in_ok-answer_dirty.ensures in
     dirty_stands stands c.get.result c.get.ensures.value c.index_mut-session.result.now c.answer_dirty.new.session c.index_mut-session.ensures.value c.args.index front c.in_ok-refuse_send.ensures c.is_live-live.result (c.is_live-live.ensures ∙ stands.table.live c.args.index) c.answer_dirty.new.dirty done.listed c.keep.new.self c.keep.ensures.left.items
-    (subst (λ live. SetsKept c.args.parts.now.table c.keep.new.self c.args.index live) (ap (λ me. is_live (standing c.args.parts.now.table (own_ref me c.args.index)).state) stands.table.me ∙ sym c.is_live-live.ensures) c.keep.ensures.kept) done.session
+    (subst (λ live. SetsKept c.args.parts.now.table c.keep.new.self (own_ref c.args.here.now.space c.args.index) live)
+    (ap (λ b. is_live (standing c.args.parts.now.table (own_ref c.args.here.now.space c.args.index)).state || b) (own_there c.args.parts.now.table (own_ref c.args.here.now.space c.args.index) (subst (λ k. c.args.here.now.space == k ≡ true) (sym stands.table.me) (nat_eq_equiv.refl c.args.here.now.space))).0
+    ∙ live_or (is_live (standing c.args.parts.now.table (own_ref c.args.here.now.space c.args.index)).state) ∙ sym c.is_live-live.ensures) c.keep.ensures.kept) done.session

@@ -5,10 +5,10 @@ use Rattle.nob_space_items.proofs.notes.act_on_settle.Goals as goal
 pub unreachable-requires : goal.unreachable-requires
 unreachable-requires c =
     let known = settle_known c.requires.state.2 c.args.settled.now.item (c.requires.front c.requires.state.0 c.requires.state.1 c.requires.state.2) in
-    let bad : true ≡ false = sym known ∙ (c.in-Err.ensures {u = tt}).answer.1 in
+    let bad : true ≡ false = sym known ∙ (c.in-Err.ensures {u = tt}).answer.0 in
     absurd (cc)
 
 pub returns : goal.returns
 returns c = record {
-  stands = λ limits D stands. settle_stands stands c.get.result (c.get.ensures.value ∙ c.peer-peer.ensures) c.index_mut.result.now c.take.new.self c.index_mut.ensures.value (λ me peer limits L before. (c.take.ensures.answer me peer limits L before).1) c.args.settled.now.item (c.requires.front limits D stands) c.settle.new.self (c.in-Ok.ensures {u = tt}).answer;
+  stands = λ limits D stands. settle_stands stands c.get.result (c.get.ensures.value ∙ c.peer-peer.ensures) c.index_mut.result.now c.take.new.self c.index_mut.ensures.value (λ me peer limits L before. (c.take.ensures.answer me peer limits L before).1) c.args.settled.now.item (c.requires.front limits D stands) c.settle_pins-ended.new.pins (c.in-Ok.ensures {u = tt}).answer c.settle_pins-ended.new.table (c.in-Ok.ensures {u = tt}).table.items (c.in-Ok.ensures {u = tt}).kept;
 }

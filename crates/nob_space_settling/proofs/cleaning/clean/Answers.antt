@@ -11,12 +11,15 @@ use Rattle.nob_space_state.proofs.Ends.{end_there, stands_kept}
 use Rattle.nob_space_state.proofs.Passing.{wants_as, after_error}
 use Rattle.nob_space_state.proofs.Firsts.{some_same}
 use Rattle.nob_session.specs.Stands.{Roomy}
-use Rattle.nob_space_settling.proofs.Spares.{apart_there, asked_there}
+use Rattle.nob_space_settling.proofs.Spares.{apart_there, asked_there, pinned_there}
 use Rattle.nob_space_settling.proofs.Forgetting.{clean_is, clean_none, clean_full, clean_right, clean_wants, clean_next, clean_stands}
 use Rattle.nob_space_settling.proofs.cleaning.clean.Goals as goal
 
-pub first_spare-requires : goal.first_spare-requires
-first_spare-requires c = apart_there c.requires.2
+pub first_spare-requires-clause-apart : goal.first_spare-requires-clause-apart
+first_spare-requires-clause-apart c = apart_there c.requires.2
+
+pub first_spare-requires-clause-pinned : goal.first_spare-requires-clause-pinned
+first_spare-requires-clause-pinned c = pinned_there c.requires.2
 
 pub returns-in_default-clause-answer : goal.returns-in_default-clause-answer
 returns-in_default-clause-answer c limits D stands = clean_none stands (c.in_default.ensures {u = tt})
@@ -108,4 +111,4 @@ returns-clause-stands c limits D stands =
     (clean_stands stands c.in-Some.rep (c.in-Some.ensures {u = tt}) c.index_mut-session.result.now is c.hand_note.new.session c.forget.new.table c.in_ok-payload.payload.items c.in_ok-hand_note.field-0
     (clean_is c.args.here.now.space c.args.here.now.n limits D c.in-Some.rep (returns-clause-answer c limits D stands)) c.in_ok-payload.ensures.spelled sent.number
     (λ before. sent.answer c.args.here.now.space c.in-Some.rep.owner limits (calls_at c.in-Some.rep.owner (history_of c.args.here.now.space c.args.here.now.n D)) before)
-    c.forget.ensures.row c.forget.ensures.place c.forget.ensures.left)
+    c.forget.ensures.row c.forget.ensures.place c.forget.ensures.unkept c.forget.ensures.left)

@@ -4,11 +4,14 @@ use Rattle.nob_model.specs.Next as next
 use Rattle.nob_model_history.specs.Histories.{history_of}
 use Rattle.nob_space_state.specs.Parts.{state_of}
 use Rattle.nob_space_settling.specs.Cleaning.{NoneSpareBelow, IsFirstSpare}
-use Rattle.nob_space_settling.proofs.Spares.{apart_there, first_there, none_there}
+use Rattle.nob_space_settling.proofs.Spares.{apart_there, first_there, none_there, pinned_there}
 use Rattle.nob_space_settling.proofs.next.can_clean.Goals as goal
 
-pub first_spare-requires : goal.first_spare-requires
-first_spare-requires c = apart_there c.requires.2
+pub first_spare-requires-clause-apart : goal.first_spare-requires-clause-apart
+first_spare-requires-clause-apart c = apart_there c.requires.2
+
+pub first_spare-requires-clause-pinned : goal.first_spare-requires-clause-pinned
+first_spare-requires-clause-pinned c = pinned_there c.requires.2
 
 pub returns : goal.returns
 returns c limits D stands =

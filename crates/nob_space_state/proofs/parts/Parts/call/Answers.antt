@@ -23,6 +23,8 @@ use Rattle.nob_space_state.proofs.Passing.{refused_as, wants_as, after_error}
 use Rattle.nob_space_state.proofs.Ends.{end_there}
 use Rattle.nob_space_state.proofs.Sent.{next_unpinned}
 use Rattle.nob_space_state.proofs.Orderly.{call_is}
+use Rattle.nob_space_state.proofs.Kept.{marked_stands, users_there}
+use Rattle.nob_space_state.proofs.Letting.{kept_have, none_added}
 use Rattle.nob_space_state.proofs.parts.Parts.call.Goals as goal
 
 pub returns-in_err-refuse_call-clause-answer : goal.returns-in_err-refuse_call-clause-answer
@@ -110,7 +112,8 @@ returns-clause-stands c limits D stands =
     let judged = call_judged c.args.here.now.space c.args.here.now.n (state_of c.args.self.now) c.args.target.now c.args.value.now c.in_ok-refuse_call.ensures in
     let is : c.index_mut-session.result.now ≡ get_or c.args.self.now.sessions.items (c.args.target.now.owner - 1) c.index_mut-session.result.now = subst (λ k. c.index_mut-session.result.now ≡ get_or c.args.self.now.sessions.items (k - 1) c.index_mut-session.result.now) c.get.ensures.value c.index_mut-session.ensures.value in
     let sent = c.in_ok-hand.ensures in
-    subst (λ (k : ℕ). Stands c.args.here.now.space c.args.here.now.n limits (record {
+    marked_stands
+    (subst (λ (k : ℕ). Stands c.args.here.now.space c.args.here.now.n limits (record {
       sessions = set c.args.self.now.sessions.items (k - 1) c.hand.new.session;
       table = c.args.self.now.table;
       dirty = c.args.self.now.dirty;
@@ -137,4 +140,8 @@ returns-clause-stands c limits D stands =
     c.new-call.ensures (c.in-Ok.ensures {u = tt}).exact sent.number
     (λ before. sent.answer c.args.here.now.space c.args.target.now.owner limits (calls_at c.args.target.now.owner (history_of c.args.here.now.space c.args.here.now.n D)) before)
     c.in_ok-reps.ensures (subst (λ (reps : List WireRep). AddsPins c.args.self.now.pins.bundles c.hand.new.pins.bundles c.args.target.now.owner (c.index_mut-session.result.now.end.handed + 1) reps) c.as_slice.ensures.value sent.pins)
-    (c.push.ensures.calls ∙ ap (λ (calls : List OwnCall). calls ++ record { call = c.new-call.result; to = c.args.target.now.owner; stage = stages.Sent } ∷ []) c.reserve_calls.ensures.calls)))
+    (c.push.ensures.calls ∙ ap (λ (calls : List OwnCall). calls ++ record { call = c.new-call.result; to = c.args.target.now.owner; stage = stages.Sent } ∷ []) c.reserve_calls.ensures.calls))))
+    c.keep_all.new.table c.keep_all.ensures.table.items
+    (kept_have c.args.here.now.space c.args.self.now.table c.keep_all.new.table c.args.self.now.pins.bundles c.hand.new.pins.bundles c.args.self.now.dirty c.as_slice-2.result.now
+    (none_added c.args.self.now.pins.bundles c.hand.new.pins.bundles c.args.target.now.owner (c.index_mut-session.result.now.end.handed + 1) c.as_slice-2.result.now (subst (λ (reps : List WireRep). AddsPins c.args.self.now.pins.bundles c.hand.new.pins.bundles c.args.target.now.owner (c.index_mut-session.result.now.end.handed + 1) reps) (c.as_slice.ensures.value ∙ sym c.as_slice-2.ensures.value) sent.pins))
+    c.keep_all.ensures.kept (users_there stands c.args.self.now.table stands.table.kept))

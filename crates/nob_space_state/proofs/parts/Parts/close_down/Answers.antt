@@ -5,6 +5,8 @@ use Rattle.nob_space_holds.specs.Returns.{lent_from}
 use Rattle.nob_space_state.specs.Closing.{ClosesDown}
 use Rattle.nob_space_state.specs.Parts.{state_of}
 use Rattle.nob_space_state.proofs.Closings.{thrown_work}
+use Rattle.nob_space_state.proofs.Exported.{kept_before}
+use Rattle.nob_table.specs.Table.{is_kept, is_of}
 use Rattle.nob_table_rows.specs.Order.{place_in}
 use Rattle.nob_space_holds.proofs.Marked.{same_standing}
 use Rattle.nob_space_holds.proofs.Returned.{back_then}
@@ -14,12 +16,12 @@ pub returns : goal.returns
 returns c =
     subst (λ (p : ℕ). ClosesDown c.args.me p (state_of c.args.self.now) (state_of record {
       sessions = c.args.self.now.sessions;
-      table = c.unlist_all.new.table;
+      table = c.close_pins.new.table;
       dirty = c.unlist_all.new.dirty;
-      pins = c.close-2.new.self;
+      pins = c.close_pins.new.pins;
       waiting = c.lose_of.new.self;
       jobs = c.throw_ready_away.new.jobs;
-      calls = c.close-3.new.self;
+      calls = c.close-2.new.self;
       calls_made = c.args.self.now.calls_made;
       jobs_made = c.args.self.now.jobs_made;
     })) c.peer-peer.ensures record {
@@ -28,17 +30,17 @@ returns c =
         back = c.throw_ready_away.new.table;
         gives = back_then c.args.self.now.table c.throw_waiting_away.new.table c.throw_ready_away.new.table (lent_from c.args.me c.peer-peer.result c.args.self.now.waiting.items) (lent_from c.args.me c.peer-peer.result c.args.self.now.jobs.ready) c.throw_waiting_away.ensures.back c.throw_ready_away.ensures.back;
         loses = record {
-          closed = λ rep. same_standing c.unlist_all.ensures.table.items rep ∙ c.close.ensures.closed rep;
-          places = λ rep. (λ i. place_in (c.unlist_all.ensures.table.items.surrogates i) rep) ∙ c.close.ensures.places rep;
-          me = c.unlist_all.ensures.table.items.me ∙ c.close.ensures.left.objects.me;
-          exported = c.unlist_all.ensures.table.items.exported ∙ c.close.ensures.left.objects.exported;
-          dirties = c.unlist_all.ensures.table.items.dirties ∙ c.close.ensures.left.dirties;
+          closed = λ rep. same_standing c.close_pins.ensures.table.items rep ∙ same_standing c.unlist_all.ensures.table.items rep ∙ c.close.ensures.closed rep;
+          places = λ rep. (λ i. place_in (c.close_pins.ensures.table.items.surrogates i) rep) ∙ (λ i. place_in (c.unlist_all.ensures.table.items.surrogates i) rep) ∙ c.close.ensures.places rep;
+          me = c.close_pins.ensures.table.items.me ∙ c.unlist_all.ensures.table.items.me ∙ c.close.ensures.left.objects.me;
+          exported = c.close_pins.ensures.table.items.exported ∙ c.unlist_all.ensures.table.items.exported ∙ c.close.ensures.left.objects.exported;
+          dirties = c.close_pins.ensures.table.items.dirties ∙ c.unlist_all.ensures.table.items.dirties ∙ c.close.ensures.left.dirties;
         };
-        kept = λ have. c.unlist_all.ensures.kept (λ index kept. have index (sym (c.close.ensures.left.objects.kept index) ∙ kept));
+        kept = λ have. c.close_pins.ensures.kept (c.unlist_all.ensures.kept (λ rep kept. have rep (kept_before (is_of c.throw_ready_away.new.table c.peer-peer.result rep) (is_kept c.throw_ready_away.new.table rep) (sym (c.close.ensures.kept rep) ∙ kept))));
       };
       listed = c.unlist_all.ensures.listed;
-      pins = subst (λ (p : ℕ). TakesOutAll c.args.self.now.pins.bundles c.close-2.new.self.bundles p) (sym c.peer-peer.ensures) c.close-2.ensures;
-      work = thrown_work c.peer-peer.result (state_of c.args.self.now).work _ c.throw_ready_away.new.jobs.ready c.throw_ready_away.new.jobs.running c.close-3.new.self.replies c.close-3.new.self.calls (c.lose_of.ensures.items ∙ c.throw_waiting_away.ensures.left) c.throw_ready_away.ensures.left c.throw_ready_away.ensures.running c.close-3.ensures.replies c.close-3.ensures.calls;
+      pins = subst (λ (p : ℕ). TakesOutAll c.args.self.now.pins.bundles c.close_pins.new.pins.bundles p) (sym c.peer-peer.ensures) c.close_pins.ensures.pins;
+      work = thrown_work c.peer-peer.result (state_of c.args.self.now).work _ c.throw_ready_away.new.jobs.ready c.throw_ready_away.new.jobs.running c.close-2.new.self.replies c.close-2.new.self.calls (c.lose_of.ensures.items ∙ c.throw_waiting_away.ensures.left) c.throw_ready_away.ensures.left c.throw_ready_away.ensures.running c.close-2.ensures.replies c.close-2.ensures.calls;
       awaited = λ rep. c.lose_of.ensures.awaited rep ∙ (λ i. not (rep.owner == c.peer-peer.result) && is_awaited (c.throw_waiting_away.ensures.awaited i) rep);
       calls = refl;
       jobs = refl;

@@ -25,6 +25,9 @@ use Rattle.nob_space_state.proofs.Ends.{end_there}
 use Rattle.nob_space_state.proofs.Finishing.{finish_of_none, finish_of_closed, finish_of_open, finish_stands, finish_wants, drop_stands, jobs_lent, limited_status, reply_judged, reply_spelled, run_sound, runs_call, runs_number, still_open}
 use Rattle.nob_space_state.proofs.Sent.{next_unpinned}
 use Rattle.nob_space_state.proofs.Orderly.{drop_is, finish_is}
+use Rattle.nob_space_state.proofs.Finishing.{table_back}
+use Rattle.nob_space_state.proofs.Kept.{marked_stands, users_there}
+use Rattle.nob_space_state.proofs.Letting.{kept_have, none_added}
 use Rattle.nob_space_state.proofs.parts.Parts.finish.Goals as goal
 
 pub returns-in_default-clause-answer : goal.returns-in_default-clause-answer
@@ -154,7 +157,8 @@ returns-clause-stands c limits D stands =
     let still : has_closed c.args.self.now.sessions.items c.in-Some.run'.now.message.from ≡ false = sym c.has_closed.ensures ∙ c.if-has_closed.false in
     let is : c.index_mut-session.result.now ≡ get_or c.args.self.now.sessions.items (c.in-Some.run'.now.message.from - 1) c.index_mut-session.result.now = subst (λ k. c.index_mut-session.result.now ≡ get_or c.args.self.now.sessions.items (k - 1) c.index_mut-session.result.now) c.get.ensures.value c.index_mut-session.ensures.value in
     let sent = c.in_ok-hand.ensures in
-    subst (λ (k : ℕ). Stands c.args.here.now.space c.args.here.now.n limits (record {
+    marked_stands
+    (subst (λ (k : ℕ). Stands c.args.here.now.space c.args.here.now.n limits (record {
       sessions = set c.args.self.now.sessions.items (k - 1) c.hand.new.session;
       table = c.end_job-2.new.table;
       dirty = c.args.self.now.dirty;
@@ -180,7 +184,11 @@ returns-clause-stands c limits D stands =
     c.status_of.ensures c.value_of-value.ensures (c.in-Ok.ensures {u = tt}).exact sent.number
     (λ before. sent.answer c.args.here.now.space c.in-Some.run'.now.message.from limits (calls_at c.in-Some.run'.now.message.from (history_of c.args.here.now.space c.args.here.now.n D)) before)
     c.in_ok-reps.ensures (subst (λ (reps : List WireRep). AddsPins c.args.self.now.pins.bundles c.hand.new.pins.bundles c.in-Some.run'.now.message.from (c.index_mut-session.result.now.end.handed + 1) reps) c.as_slice.ensures.value sent.pins)
-    c.end_job-2.ensures.back c.end_job-2.ensures.ended))
+    c.end_job-2.ensures.back c.end_job-2.ensures.ended)))
+    c.keep_all.new.table c.keep_all.ensures.table.items
+    (kept_have c.args.here.now.space c.end_job-2.new.table c.keep_all.new.table c.args.self.now.pins.bundles c.hand.new.pins.bundles c.args.self.now.dirty c.as_slice-2.result.now
+    (none_added c.args.self.now.pins.bundles c.hand.new.pins.bundles c.in-Some.run'.now.message.from (c.index_mut-session.result.now.end.handed + 1) c.as_slice-2.result.now (subst (λ (reps : List WireRep). AddsPins c.args.self.now.pins.bundles c.hand.new.pins.bundles c.in-Some.run'.now.message.from (c.index_mut-session.result.now.end.handed + 1) reps) (c.as_slice.ensures.value ∙ sym c.as_slice-2.ensures.value) sent.pins))
+    c.keep_all.ensures.kept (users_there stands c.end_job-2.new.table (table_back stands c.args.job c.end_job-2.new.table c.end_job-2.ensures.back).kept))
 
 pub returns-in_default-clause-dropped : goal.returns-in_default-clause-dropped
 returns-in_default-clause-dropped c run found cut = absurd (none-some run ((c.in_default.ensures {u = tt}).found ∙ found))
