@@ -6,6 +6,7 @@ use Rattle.nob_table_rows.specs.declared.counts.Counts.{Counts}
 use Rattle.nob_table_rows.specs.declared.counts.Part.{Part}
 use Rattle.nob_table_rows.specs.declared.standing.Surrogate.{Surrogate}
 use Rattle.nob_table_rows.specs.declared.standing.Standing.{Standing}
+use Rattle.nob_table_rows.specs.declared.standing.State.{State}
 use Rattle.nob_table_rows.specs.declared.fault.TableFault.{TableFault}
 use Rattle.nob_table_rows.specs.declared.fault.TableFault.TheVariants.{Absent, Limit, StillUsed}
 use Rattle.nob_table_rows.specs.declared.fault.TableError.{TableError}
@@ -16,7 +17,7 @@ use Rattle.nob_ids.specs.Names.{is_same}
 use Rattle.nob_table_rows.specs.Objects.{is_marked}
 use Rattle.nob_table_rows.specs.Order.{place_in, IsRising}
 use Rattle.nob_rows.specs.Rows.{row_at, reps_of}
-use Rattle.nob_table_rows.specs.Standings.{is_known, is_unknown, is_live, is_pending, is_granted, is_idle, is_unheld, own_standing, far_standing}
+use Rattle.nob_table_rows.specs.Standings.{is_known, is_unknown, is_live, is_pending, is_granted, is_surrogate, is_idle, is_unheld, own_standing, far_standing}
 
 -- the table of a space, with the room beside its items: how many more exports and surrogates fit without memory
 pub record Table : Type 0 where
@@ -34,6 +35,8 @@ pub record Table : Type 0 where
   pub counted : List (WireRep × Counts)
   -- the surrogates on open sessions with their owners' answers and their places, in no order
   pub surrogates : List (WireRep × Surrogate)
+  -- for each of them whether it is kept from outside
+  pub kept_surrogates : List (WireRep × Bool)
   -- how many more exports fit
   pub export_room : ℕ
   -- how many more surrogates fit, whoever the owners are
@@ -94,13 +97,17 @@ live_reps t = reps_of t.objects
 abbrev pub own : Table → ℕ → WireRep
 own t index = record { owner = t.me; index = index }
 
--- whether the live object of this index is kept from outside
-abbrev pub is_kept : Table → ℕ → Bool
-is_kept t index = is_marked (row_at t.kept (own t index))
+-- whether a reference in this state can be kept from outside: a live object's, or a surrogate's
+abbrev pub is_keepable : State → Bool
+is_keepable state = is_live state || is_surrogate state
 
--- the same objects are kept from outside in both
+-- whether the live object or the surrogate of the reference is kept from outside
+abbrev pub is_kept : Table → WireRep → Bool
+is_kept t rep = is_marked (if rep.owner == t.me then row_at t.kept rep else row_at t.kept_surrogates rep)
+
+-- the same references are kept from outside in both
 abbrev pub SameKept : Table → Table → Type 0
-SameKept old new = (index : ℕ) → is_kept new index ≡ is_kept old index
+SameKept old new = (rep : WireRep) → is_kept new rep ≡ is_kept old rep
 
 -- both have the same items, but for what is kept from outside
 pub record Unchanged (old new : Table) : Type 0 where
@@ -122,7 +129,14 @@ pub record SameSurrogates (old new : Table) : Type 0 where
   pub dirties : new.dirties ≡ old.dirties
   pub room : old.surrogate_room ≤ new.surrogate_room
 
--- new has the same space, indexes given and objects kept from outside, as many live objects, and as much room for exports at least
+-- new has the same space and indexes given, as many live objects, and as much room for exports at least
+pub record SameExports (old new : Table) : Type 0 where
+  pub me : new.me ≡ old.me
+  pub exported : new.exported ≡ old.exported
+  pub live : live new ≡ live old
+  pub room : old.export_room ≤ new.export_room
+
+-- the same, and the same references are kept from outside
 pub record SameObjects (old new : Table) : Type 0 where
   pub me : new.me ≡ old.me
   pub exported : new.exported ≡ old.exported
@@ -130,7 +144,7 @@ pub record SameObjects (old new : Table) : Type 0 where
   pub kept : SameKept old new
   pub room : old.export_room ≤ new.export_room
 
--- what an export leaves: the space, the objects that are kept from outside, and all of the surrogates
+-- what an export leaves: the space, what is kept from outside, and all of the surrogates
 pub record ExportLeaves (old new : Table) : Type 0 where
   pub me : new.me ≡ old.me
   pub kept : SameKept old new
@@ -150,11 +164,11 @@ pub record ChangeLeaves (old new : Table) : Type 0 where
 
 -- what is left where surrogates are taken out: the objects, the Dirties sent, and the room
 pub record RemovalLeaves (old new : Table) : Type 0 where
-  pub objects : SameObjects old new
+  pub objects : SameExports old new
   pub dirties : new.dirties ≡ old.dirties
   pub room : old.surrogate_room ≤ new.surrogate_room
 
--- nothing has changed but which objects are kept from outside, and there is as much room at least
+-- nothing has changed but what is kept from outside, and there is as much room at least
 pub record Marked (old new : Table) : Type 0 where
   pub items : Unchanged old new
   pub export_room : old.export_room ≤ new.export_room
@@ -167,9 +181,9 @@ pub record Stays (old new : Table) : Type 0 where
   pub export_room : old.export_room ≤ new.export_room
   pub surrogate_room : old.surrogate_room ≤ new.surrogate_room
 
--- in new the object of this index is kept from outside or not, as said, and every other one as in old
-abbrev pub SetsKept : Table → Table → ℕ → Bool → Type 0
-SetsKept old new index kept = (other : ℕ) → is_kept new other ≡ (if other == index then kept else is_kept old other)
+-- in new this reference is kept from outside or not, as said, and every other one as in old
+abbrev pub SetsKept : Table → Table → WireRep → Bool → Type 0
+SetsKept old new rep kept = (other : WireRep) → is_kept new other ≡ (if is_same rep other then kept else is_kept old other)
 
 -- this reference has this place in new, and every other one the place that it has in old
 abbrev pub Places : Table → Table → WireRep → Option ℕ → Type 0
@@ -223,6 +237,22 @@ NoneIdle t from to = (rep : WireRep) (place : ℕ) → place_of t rep ≡ Some p
 abbrev pub IsFirstIdle : Table → ℕ → ℕ → WireRep → Type 0
 IsFirstIdle t from place rep = (from ≤ place) × (place_of t rep ≡ Some place) × (is_idle (standing t rep) ≡ true) × NoneIdle t from place
 
+-- whether the surrogate is idle, and isn't kept from outside
+abbrev pub is_spare : Table → WireRep → Bool
+is_spare t rep = is_idle (standing t rep) && not (is_kept t rep)
+
+-- no surrogate with a place from this one on is spare
+abbrev pub NeverSpareFrom : Table → ℕ → Type 0
+NeverSpareFrom t from = (rep : WireRep) (place : ℕ) → place_of t rep ≡ Some place → from ≤ place → is_spare t rep ≡ false
+
+-- no surrogate with a place from one on and below another is spare
+abbrev pub NoneSpareFrom : Table → ℕ → ℕ → Type 0
+NoneSpareFrom t from to = (rep : WireRep) (place : ℕ) → place_of t rep ≡ Some place → from ≤ place → place < to → is_spare t rep ≡ false
+
+-- the surrogate has this place, is spare, and is the first such from the other place on
+abbrev pub IsFirstSpareFrom : Table → ℕ → ℕ → WireRep → Type 0
+IsFirstSpareFrom t from place rep = (from ≤ place) × (place_of t rep ≡ Some place) × (is_spare t rep ≡ true) × NoneSpareFrom t from place
+
 -- no object with an index from this one on is live and without holds
 abbrev pub NeverUnheld : Table → ℕ → Type 0
 NeverUnheld t from = (index : ℕ) → from ≤ index → is_unheld (standing t (own t index)) ≡ false
@@ -233,7 +263,7 @@ IsFirstUnheld t from index = (from ≤ index) × (is_unheld (standing t (own t i
 
 -- whether the object of this index is live and without holds, and isn't kept from outside
 abbrev pub is_spare_at : Table → ℕ → Bool
-is_spare_at t index = is_unheld (standing t (own t index)) && not (is_kept t index)
+is_spare_at t index = is_unheld (standing t (own t index)) && not (is_kept t (own t index))
 
 -- no object with an index from this one on is live, without holds and not kept from outside
 abbrev pub NeverSpare : Table → ℕ → Type 0

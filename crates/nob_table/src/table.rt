@@ -7,7 +7,7 @@ ghost use Rattle.nob_ids.specs.Names.{is_same};
 ghost use Rattle.nob_rows.specs.Rows.{IsOnce};
 ghost use Rattle.std.specs.List.{list_any};
 ghost use Rattle.nob_table_rows.specs.Standings.{unknown, is_known, is_live, is_lost, is_surrogate, state_of, withdrawn, exported_standing, pending_standing, with_counts, in_state, after_hold, after_release, after_close};
-ghost use Rattle.nob_table.specs.Table.{Table, standing, surrogate_total, most_objects, most_surrogates, most_index, surrogate_reps, place_of, IsOrder, live, live_reps, own, export_fault, hold_fault, release_fault, pending_fault, answer_fault, remove_fault, withdraw_fault, Becomes, SetsKept, Marked, is_kept, SameObjects, ExportLeaves, WithdrawalLeaves, ChangeLeaves, RemovalLeaves, Stays, Places, IsRefusal, NoneIdle, IsFirstIdle, NeverUnheld, IsFirstUnheld, NeverSpare, IsFirstSpare, is_of};
+ghost use Rattle.nob_table.specs.Table.{Table, standing, surrogate_total, most_objects, most_surrogates, most_index, surrogate_reps, place_of, IsOrder, live, live_reps, own, export_fault, hold_fault, release_fault, pending_fault, answer_fault, remove_fault, withdraw_fault, Becomes, SetsKept, Marked, is_kept, is_keepable, SameObjects, ExportLeaves, WithdrawalLeaves, ChangeLeaves, RemovalLeaves, Stays, Places, IsRefusal, NoneIdle, IsFirstIdle, NeverUnheld, IsFirstUnheld, NeverSpare, IsFirstSpare, NeverSpareFrom, IsFirstSpareFrom, is_of};
 
 use nob_ids::{SpaceId, WireRep};
 use nob_table_far::Far;
@@ -43,6 +43,7 @@ impl Model for ObjectTable {
       kept = a.objects.kept;
       counted = a.far.counted;
       surrogates = a.far.surrogates;
+      kept_surrogates = a.far.kept;
       export_room = a.objects.room;
       surrogate_room = a.far.room;
     } };
@@ -68,7 +69,7 @@ impl ObjectTable {
         ensures surrogates { surrogate_total result ≡ 0 }
         ensures order { IsOrder result [] }
         ensures nothing { (rep : WireRep) → standing result rep ≡ unknown }
-        ensures kept { (index : ℕ) → is_kept result index ≡ false }
+        ensures kept { (rep : WireRep) → is_kept result rep ≡ false }
     {
         ObjectTable {
             me,
@@ -122,37 +123,29 @@ impl ObjectTable {
         ensures once { IsOnce self.now.objects }
         ensures live { (rep : WireRep) → list_any (is_same rep) (live_reps self.now)
             ≡ is_live (standing self.now rep).state }
-        ensures kept { (index : ℕ) → IsTrue (is_kept self.now index)
+        ensures kept { (index : ℕ) → IsTrue (is_kept self.now (own self.now index))
             → IsTrue (is_live (standing self.now (own self.now index)).state) }
     {
         self.objects.len()
     }
 
-    /// Marks a live object as kept from outside; nothing where no live object has the index. It
-    /// takes no memory. Logarithmic.
-    pub fn keep(&mut self, index: u64)
-        ensures kept { SetsKept self.old self.new index
-            (is_live (standing self.old (own self.old index)).state) }
+    /// Marks a live object or a surrogate as kept from outside; nothing where the reference is
+    /// neither's. It takes no memory. Logarithmic.
+    pub fn keep(&mut self, rep: &WireRep)
+        ensures kept { SetsKept self.old self.new rep.now
+            (is_keepable (standing self.old rep.now).state) }
         ensures left { Marked self.old self.new }
     {
-        let rep = WireRep {
-            owner: self.me,
-            index,
-        };
-        self.objects.mark(&rep, true);
+        self.mark(rep, true);
     }
 
-    /// Takes the mark off: the object of this index isn't kept from outside. It takes no memory.
+    /// Takes the mark off: what the reference is to isn't kept from outside. It takes no memory.
     /// Logarithmic.
-    pub fn let_go(&mut self, index: u64)
-        ensures kept { SetsKept self.old self.new index false }
+    pub fn let_go(&mut self, rep: &WireRep)
+        ensures kept { SetsKept self.old self.new rep.now false }
         ensures left { Marked self.old self.new }
     {
-        let rep = WireRep {
-            owner: self.me,
-            index,
-        };
-        self.objects.mark(&rep, false);
+        self.mark(rep, false);
     }
 
     /// The least index from this one on of a live object that nothing holds. Logarithmic in the
@@ -189,6 +182,8 @@ impl ObjectTable {
             (λ place. place < self.now.dirties) }
         ensures apart { (rep other : WireRep) → IsSome (place_of self.now rep)
             → place_of self.now rep ≡ place_of self.now other → IsTrue (is_same rep other) }
+        ensures kept { (rep : WireRep) → rep.owner == self.now.me ≡ false
+            → IsTrue (is_kept self.now rep) → IsTrue (is_surrogate (standing self.now rep).state) }
     {
         self.far.len()
     }
@@ -294,7 +289,7 @@ impl ObjectTable {
             (λ fault. withdraw_fault self.old index ≡ Some fault) }
         ensures withdrawn { OnOk result (Becomes self.old self.new (own self.old index) withdrawn) }
         ensures live { OnOk result (live self.new + 1 ≡ live self.old) }
-        ensures unkept { OnOk result (SetsKept self.old self.new index false) }
+        ensures unkept { OnOk result (SetsKept self.old self.new (own self.old index) false) }
         ensures left { WithdrawalLeaves self.old self.new }
         ensures err { OnErr result (Stays self.old self.new) }
     {
@@ -381,6 +376,17 @@ impl ObjectTable {
         self.far.first_idle(place)
     }
 
+    /// The first surrogate in the order of the last Dirties, from this place on, that is granted and
+    /// without holds, and isn't kept from outside, with its place. Logarithmic in the surrogates, and
+    /// then a few words of bits: it passes no surrogate.
+    pub fn first_spare_surrogate(&self, place: u128) -> Option<(u128, WireRep)>
+        ensures first { MatchOption result (NeverSpareFrom self.now place)
+            (λ found. IsFirstSpareFrom self.now place found.0 found.1) }
+        ensures sent { IfSome result (λ found. found.0 < self.now.dirties) }
+    {
+        self.far.first_spare(place)
+    }
+
     /// A Clean for the surrogate is sent: the table forgets it, and the others keep their places.
     /// B1 where it isn't granted, B4 where it is held. Logarithmic over all calls: it leaves a gap
     /// in the order, and one that leaves fewer surrogates than gaps closes these, linear in both.
@@ -392,6 +398,7 @@ impl ObjectTable {
         ensures count { OnOk result (surrogate_total self.new + 1 ≡ surrogate_total self.old) }
         ensures order { OnOk result ((reps : List WireRep) → IsOrder self.old reps
             → IsOrder self.new (filter (λ other. not (is_same rep other)) reps)) }
+        ensures unkept { OnOk result (SetsKept self.old self.new rep false) }
         ensures left { RemovalLeaves self.old self.new }
         ensures err { OnErr result (Stays self.old self.new) }
     {
@@ -421,9 +428,25 @@ impl ObjectTable {
             ≡ length (filter (λ rep. not (rep.owner == owner)) (surrogate_reps self.old)) }
         ensures order { (reps : List WireRep) → IsOrder self.old reps
             → IsOrder self.new (filter (λ rep. not (rep.owner == owner)) reps) }
+        ensures kept { (rep : WireRep)
+            → is_kept self.new rep
+            ≡ (if is_of self.old owner rep then false else is_kept self.old rep) }
         ensures left { RemovalLeaves self.old self.new }
     {
         self.far.close(owner);
+    }
+
+    // Writes whether a live object or a surrogate is kept from outside.
+    fn mark(&mut self, rep: &WireRep, kept: bool)
+        ensures kept { SetsKept self.old self.new rep.now
+            (if kept then is_keepable (standing self.old rep.now).state else false) }
+        ensures left { Marked self.old self.new }
+    {
+        if rep.owner == self.me {
+            self.objects.mark(rep, kept);
+        } else {
+            self.far.mark(rep, kept);
+        }
     }
 
     // Writes the owner's answer to a pending reference.

@@ -4,6 +4,8 @@
 mod far;
 mod losing;
 mod order;
+mod surrogates;
 
 pub use far::Far;
 pub use order::{Order, Slot};
+pub use surrogates::{Marked, Surrogates};
