@@ -78,8 +78,7 @@ module _ (s : ℕ) (bundles : List Pinned) (dirty : List Listing) where
   pub lets_fewer : (t u v : Table) (all left : List WireRep) (at : WireRep) → LetsGoBut all (left ++ at ∷ []) t u → LetsGo s (λ rep. at ≡ rep) u v bundles dirty → LetsGoBut all left t v
   lets_fewer t u v all left at before lets rep kept =
       let went = lets rep kept in
-      let it = before rep went.0 in
-      (
+      let it = before rep went.0 in (
         it.0,
         λ among gone. elim (is_same rep at) as (λ b. is_same rep at ≡ b → is_used s bundles dirty rep ≡ true) [
           | true ↦ λ same. went.1 (sym (same_is rep at same))
