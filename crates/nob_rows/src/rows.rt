@@ -1,6 +1,6 @@
 //! The rows.
 
-ghost use Rattle.std.specs.Prelude.{◌≡◌, ℕ, ◌^◌, ◌+◌, ◌<◌, ◌≤◌, ◌++◌, ◌∷◌, [], length, IsSome, None, Some, OnOk, IsOk, if◌then◌else◌, is_some};
+ghost use Rattle.std.specs.Prelude.{◌≡◌, ℕ, ◌^◌, ◌+◌, ◌<◌, ◌≤◌, ◌++◌, ◌∷◌, [], length, IsSome, None, Some, OnOk, IsOk, if◌then◌else◌, is_some, slice_get};
 ghost use Rattle.std.specs.Map.{set_value};
 ghost use Rattle.nob_ids.specs.Names.{is_same};
 ghost use Rattle.nob_ids.specs.declared.wire_rep.WireRep.{WireRep};
@@ -69,6 +69,14 @@ impl<X: Copy + Drop> Rows<X> {
         Some(self.nodes[place].row)
     }
 
+    /// The reference whose row is at a place among the rows. Constant time.
+    pub fn rep_at(&self, at: usize) -> WireRep
+        requires { at < length self.now.rows }
+        ensures { slice_get (reps_of self.now.rows) at ≡ Some result }
+    {
+        self.nodes[at].rep
+    }
+
     /// Writes what stands at a reference that has a row. At most 70 steps.
     pub fn set(&mut self, rep: &WireRep, row: X)
         requires { IsSome (row_at self.old.rows rep.now) }
@@ -120,5 +128,13 @@ impl<X: Copy + Drop> Rows<X> {
             return;
         };
         take_node(&mut self.nodes, place);
+    }
+
+    /// Takes all rows out. It takes no memory. Linear in the rows.
+    pub fn clear(&mut self)
+        ensures rows { self.new.rows ≡ [] }
+        ensures room { self.old.room ≤ self.new.room }
+    {
+        self.nodes.clear();
     }
 }

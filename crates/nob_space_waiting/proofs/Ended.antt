@@ -8,7 +8,7 @@ use Rattle.nob_numbers.specs.Numbers.{NumberLists, numbers_of}
 use Rattle.nob_slots.specs.Slots.{item_at, IsRising, IsAbove}
 use Rattle.nob_space_waiting.specs.declared.entry.Entry.{Entry}
 use Rattle.nob_space_waiting.specs.Waiting.{due_to, due_to_all, is_awaited, is_due_in}
-use Rattle.nob_space_waiting.specs.Lines.{LineList, LineMap, AreAwaited, count_of, lines_of, stamp_at, AreMarked, AreWaiting, IsLined, changed, has_line, items_of, places_for, reps_in, lent_entry, link_at, link_of, open_in, stamps_from, stands, times_in}
+use Rattle.nob_space_waiting.specs.Lines.{LineList, LineMap, AreAwaited, count_of, lines_of, stamp_at, AreMarked, AreWaiting, IsLined, changed, has_line, items_of, places_for, reps_in, lent_entry, link_at, open_in, stamps_from, stands, times_in}
 use Rattle.nob_space_waiting.proofs.Counting.{stands_below}
 use Rattle.nob_space_waiting.proofs.Granted.{but, open_but, open_granted, open_less, open_same}
 use Rattle.nob_space_waiting.proofs.Stamps.{stamps_changed}
@@ -34,7 +34,7 @@ due_few rep (row ∷ rs) s e found =
 
 module _ {rows : List (ℕ × Entry)} {marked : List ℕ} {entries next room : ℕ} {froms : NumberLists} {lines : LineList} (are : AreWaiting rows marked entries froms lines next room) (gone : WireRep → Bool) (new : LineList)
     (counts : (r : WireRep) → places_for new r ≡ (if gone r then 0 else places_for lines r))
-    (links : (r : WireRep) (place : ℕ) → gone r ≡ false → link_at new (link_of r place) ≡ link_at lines (link_of r place))
+    (links : (r : WireRep) (place : ℕ) → gone r ≡ false → link_at new r place ≡ link_at lines r place)
     (reps : AreAwaited new) (kept : lines.room ≤ new.room) where
   -- which are awaited still
   pub lines_but : (r : WireRep) → has_line new r ≡ (has_line lines r && not (gone r))
@@ -154,8 +154,8 @@ pub widened : {rows : List (ℕ × Entry)} {marked : List ℕ} {entries next roo
     → (0 < room' → 0 < entries') → (0 < room' → 0 < froms'.room) → room' ≤ new.room + 1 → next + room' ≤ 2 ^ 62
     → AreWaiting rows marked entries' froms' new next room'
 widened {rows} {marked} {entries} {next} {room} {froms} {lines} are new same reps kept entries' room' froms' numbers entry stamp line small =
-    let counts : (r : WireRep) → places_for new r ≡ places_for lines r = λ r. ap (λ (l : LineMap). count_of l.counts r) (same r.owner) in
-    let links : (r : WireRep) (place : ℕ) → link_at new (link_of r place) ≡ link_at lines (link_of r place) = λ r place. ap (λ (l : LineMap). stamp_at l.links (link_of r place)) (same r.owner) in
+    let counts : (r : WireRep) → places_for new r ≡ places_for lines r = λ r. ap (λ (l : LineMap). count_of l.rows r) (same r.owner) in
+    let links : (r : WireRep) (place : ℕ) → link_at new r place ≡ link_at lines r place = λ r place. ap (λ (l : LineMap). stamp_at l r place) (same r.owner) in
     let awaited : AreAwaited new = λ r. ap (λ rs. is_awaited rs r) reps ∙ are.awaited r ∙ ap (nat_lt 0) (sym (counts r)) in
     let it : AreWaiting rows marked entries froms new next room =
     ended are (λ r. false) new counts (λ r place off. links r place) awaited kept (λ s e. e) rows marked entries (changed_same rows) are.marks refl

@@ -11,8 +11,10 @@ use Rattle.std.specs.List.{IsDistinct, list_any}
 use Rattle.std.specs.Map.{keys_of}
 use Rattle.nob_ids.specs.Names.{is_same}
 use Rattle.nob_ids.specs.declared.wire_rep.WireRep.{WireRep}
+use Rattle.nob_rows.specs.Rows.{IsOnce}
 use Rattle.nob_slots.proofs.Flat.{get_set_other, get_set_same}
-use Rattle.nob_space_waiting.specs.Lines.{AreApart, AreAwaited, AreOf, AreOwners, HavePlaces, HaveRoom, LineList, LineMap, OwnerList, count_of, has_line, lines_of, lines_or_none, reps_in}
+use Rattle.nob_space_waiting.specs.declared.owner_lines.Line.{Line}
+use Rattle.nob_space_waiting.specs.Lines.{AreAwaited, AreOf, AreOwners, HavePlaces, HaveRoom, LineList, LineMap, OwnerList, count_of, has_line, lines_of, lines_or_none, reps_in}
 use Rattle.nob_space_waiting.proofs.Rows.{lower_unlike}
 
 -- the lines of each
@@ -24,15 +26,15 @@ abbrev pub lines_at : List OwnerList → ℕ → LineMap
 lines_at owners place = lines_or_none (slice_get (all_lines owners) place)
 
 -- one more owner, of no lines
-pub one_more : (owners : List OwnerList) (new : OwnerList) → new.lines.counts ≡ [] → new.lines.links ≡ [] → (place : ℕ) → lines_at (owners ++ new ∷ []) place ≡ lines_at owners place
-one_more [] new counts links zero = λ i. record { counts = counts i; links = links i }
-one_more [] new counts links (suc place) = refl
-one_more (first ∷ owners) new counts links zero = refl
-one_more (first ∷ owners) new counts links (suc place) = one_more owners new counts links place
+pub one_more : (owners : List OwnerList) (new : OwnerList) → new.lines.rows ≡ [] → new.lines.links ≡ [] → (place : ℕ) → lines_at (owners ++ new ∷ []) place ≡ lines_at owners place
+one_more [] new rows links zero = λ i. record { rows = rows i; links = links i }
+one_more [] new rows links (suc place) = refl
+one_more (first ∷ owners) new rows links zero = refl
+one_more (first ∷ owners) new rows links (suc place) = one_more owners new rows links place
 
-pub reps_more : (owners : List OwnerList) (new : OwnerList) → new.lines.counts ≡ [] → reps_in (all_lines (owners ++ new ∷ [])) ≡ reps_in (all_lines owners)
-reps_more [] new counts = ap (λ (cs : List (WireRep × ℕ)). keys_of cs ++ []) counts
-reps_more (first ∷ owners) new counts = ap (λ (rs : List WireRep). keys_of first.lines.counts ++ rs) (reps_more owners new counts)
+pub reps_more : (owners : List OwnerList) (new : OwnerList) → new.lines.rows ≡ [] → reps_in (all_lines (owners ++ new ∷ [])) ≡ reps_in (all_lines owners)
+reps_more [] new rows = ap (λ (cs : List (WireRep × Line)). keys_of cs ++ []) rows
+reps_more (first ∷ owners) new rows = ap (λ (rs : List WireRep). keys_of first.lines.rows ++ rs) (reps_more owners new rows)
 
 -- what stands at a place
 pub here : (owners : List OwnerList) (place : ℕ) (owner : OwnerList) → slice_get owners place ≡ Some owner → lines_at owners place ≡ owner.lines
@@ -48,9 +50,9 @@ none_here (first ∷ owners) zero none = absurd (none-some first (sym none))
 none_here (first ∷ owners) (suc place) none = none_here owners place none
 
 -- none are apart
-pub none_apart : AreApart (lines_or_none None).counts
+pub none_once : IsOnce (lines_or_none None).rows
 unfolding IsDistinct
-none_apart = tt
+none_once = tt
 
 -- what stands at another place than the one that changes
 elsewhere : (owners : List OwnerList) (place : ℕ) (new : OwnerList) (other : ℕ) → (other == place) ≡ false → lines_at (set owners place new) other ≡ lines_at owners other
@@ -73,12 +75,12 @@ set_holds owners place old new got P other changed stays =
     ] refl
 
 -- the same lines
-pub same_lines : (owners : List OwnerList) (place : ℕ) (old new : OwnerList) → slice_get owners place ≡ Some old → new.lines.counts ≡ old.lines.counts → new.lines.links ≡ old.lines.links → all_lines (set owners place new) ≡ all_lines owners
-same_lines [] place old new got counts links = absurd (none-some old got)
-same_lines (first ∷ owners) zero old new got counts links =
-    let lines : new.lines ≡ old.lines = λ i. record { counts = counts i; links = links i } in
+pub same_lines : (owners : List OwnerList) (place : ℕ) (old new : OwnerList) → slice_get owners place ≡ Some old → new.lines.rows ≡ old.lines.rows → new.lines.links ≡ old.lines.links → all_lines (set owners place new) ≡ all_lines owners
+same_lines [] place old new got rows links = absurd (none-some old got)
+same_lines (first ∷ owners) zero old new got rows links =
+    let lines : new.lines ≡ old.lines = λ i. record { rows = rows i; links = links i } in
     ap (λ (l : LineMap). l ∷ all_lines owners) (lines ∙ ap (λ (o : OwnerList). o.lines) (sym (same_Some first old got)))
-same_lines (first ∷ owners) (suc place) old new got counts links = ap (λ (ls : List LineMap). first.lines ∷ ls) (same_lines owners place old new got counts links)
+same_lines (first ∷ owners) (suc place) old new got rows links = ap (λ (ls : List LineMap). first.lines ∷ ls) (same_lines owners place old new got rows links)
 
 -- ---- room
 pub room_set : (owners : List OwnerList) (place room : ℕ) (old new : OwnerList) → slice_get owners place ≡ Some old → HaveRoom owners room → room ≤ new.room → HaveRoom (set owners place new) room
@@ -111,17 +113,17 @@ owners_kept owners new room are same lines = record {
   own = λ o. subst (AreOf o) (sym (lines o)) (are.own o);
 }
 
-pub own_set : (owners : List OwnerList) (place : ℕ) (old new : OwnerList) → slice_get owners place ≡ Some old → ((o : ℕ) → AreOf o (lines_at owners o)) → HavePlaces new.lines.counts
-    → ((r : WireRep) → (r.owner == place) ≡ false → count_of old.lines.counts r ≡ 0 → count_of new.lines.counts r ≡ 0) → (o : ℕ) → AreOf o (lines_at (set owners place new) o)
+pub own_set : (owners : List OwnerList) (place : ℕ) (old new : OwnerList) → slice_get owners place ≡ Some old → ((o : ℕ) → AreOf o (lines_at owners o)) → HavePlaces new.lines.rows
+    → ((r : WireRep) → (r.owner == place) ≡ false → count_of old.lines.rows r ≡ 0 → count_of new.lines.rows r ≡ 0) → (o : ℕ) → AreOf o (lines_at (set owners place new) o)
 own_set owners place old new got own have keeps o =
     set_holds owners place old new got (λ a b. AreOf o b → AreOf o a) o
     (λ same are. record { places = have; only = λ r off. keeps r (subst (λ (k : ℕ). (r.owner == k) ≡ false) same off) (are.only r off) })
     (λ off lines are. are) (own o)
 
-keys_have : (owner : ℕ) (lines : LineMap) → AreOf owner lines → (rep : WireRep) → list_any (is_same rep) (keys_of lines.counts) ≡ nat_lt 0 (count_of lines.counts rep)
-keys_have owner lines are rep = sym (is_some-lookup (is_same rep) lines.counts) ∙ are.places rep
+keys_have : (owner : ℕ) (lines : LineMap) → AreOf owner lines → (rep : WireRep) → list_any (is_same rep) (keys_of lines.rows) ≡ nat_lt 0 (count_of lines.rows rep)
+keys_have owner lines are rep = sym (is_some-lookup (is_same rep) lines.rows) ∙ are.places rep
 
-keys_none : (owner : ℕ) (lines : LineMap) → AreOf owner lines → (rep : WireRep) → (rep.owner == owner) ≡ false → list_any (is_same rep) (keys_of lines.counts) ≡ false
+keys_none : (owner : ℕ) (lines : LineMap) → AreOf owner lines → (rep : WireRep) → (rep.owner == owner) ≡ false → list_any (is_same rep) (keys_of lines.rows) ≡ false
 keys_none owner lines are rep off = keys_have owner lines are rep ∙ ap (nat_lt 0) (are.only rep off)
 
 -- the lines from this owner on
@@ -134,7 +136,7 @@ from_next first lines owners own k o is = own (suc k) o (omega (arith, is))
 reps_none : (owners : List LineMap) (first : ℕ) (rep : WireRep) → rep.owner < first → From first owners → list_any (is_same rep) (reps_in owners) ≡ false
 reps_none [] first rep low own = refl
 reps_none (lines ∷ owners) first rep low own =
-    list_any-append (is_same rep) (keys_of lines.counts) (reps_in owners)
+    list_any-append (is_same rep) (keys_of lines.rows) (reps_in owners)
     ∙ ap (λ b. b || list_any (is_same rep) (reps_in owners)) (keys_none first lines (own zero first (omega arith)) rep (lower_unlike rep.owner first low))
     ∙ reps_none owners (suc first) rep (omega (arith, low)) (from_next first lines owners own)
 
@@ -142,16 +144,16 @@ or_false : (b : Bool) → (b || false) ≡ b
 or_false true = refl
 or_false false = refl
 
-reps_at : (owners : List LineMap) (first place : ℕ) (rep : WireRep) → rep.owner ≡ first + place → From first owners → list_any (is_same rep) (reps_in owners) ≡ nat_lt 0 (count_of (lines_or_none (slice_get owners place)).counts rep)
+reps_at : (owners : List LineMap) (first place : ℕ) (rep : WireRep) → rep.owner ≡ first + place → From first owners → list_any (is_same rep) (reps_in owners) ≡ nat_lt 0 (count_of (lines_or_none (slice_get owners place)).rows rep)
 reps_at [] first zero rep is own = refl
 reps_at [] first (suc place) rep is own = refl
 reps_at (lines ∷ owners) first zero rep is own =
-    list_any-append (is_same rep) (keys_of lines.counts) (reps_in owners)
-    ∙ ap (λ b. list_any (is_same rep) (keys_of lines.counts) || b) (reps_none owners (suc first) rep (omega (arith, is)) (from_next first lines owners own))
-    ∙ or_false (list_any (is_same rep) (keys_of lines.counts)) ∙ keys_have first lines (own zero first (omega arith)) rep
+    list_any-append (is_same rep) (keys_of lines.rows) (reps_in owners)
+    ∙ ap (λ b. list_any (is_same rep) (keys_of lines.rows) || b) (reps_none owners (suc first) rep (omega (arith, is)) (from_next first lines owners own))
+    ∙ or_false (list_any (is_same rep) (keys_of lines.rows)) ∙ keys_have first lines (own zero first (omega arith)) rep
 reps_at (lines ∷ owners) first (suc place) rep is own =
     let off : (rep.owner == first) ≡ false = nat_eq_equiv.symm rep.owner first ∙ lower_unlike first rep.owner (omega (arith, is)) in
-    list_any-append (is_same rep) (keys_of lines.counts) (reps_in owners)
+    list_any-append (is_same rep) (keys_of lines.rows) (reps_in owners)
     ∙ ap (λ b. b || list_any (is_same rep) (reps_in owners)) (keys_none first lines (own zero first (omega arith)) rep off)
     ∙ reps_at owners (suc first) place rep (omega (arith, is)) (from_next first lines owners own)
 
@@ -159,10 +161,10 @@ module _ (lines : LineList) (own : (owner : ℕ) → AreOf owner (lines_of lines
   pub all_awaited : AreAwaited lines
   all_awaited rep = reps_at lines.owners 0 rep.owner rep (omega arith) (λ k o is. let same : k ≡ o = omega (arith, is) in subst (λ (n : ℕ). AreOf n (lines_of lines k)) same (own k))
 
-  pub reps_own : (owner : ℕ) (rep : WireRep) → list_any (is_same rep) (keys_of (lines_of lines owner).counts) ≡ (rep.owner == owner && has_line lines rep)
+  pub reps_own : (owner : ℕ) (rep : WireRep) → list_any (is_same rep) (keys_of (lines_of lines owner).rows) ≡ (rep.owner == owner && has_line lines rep)
   reps_own owner rep =
-      elim (rep.owner == owner) as (λ b. (rep.owner == owner) ≡ b → list_any (is_same rep) (keys_of (lines_of lines owner).counts) ≡ (b && has_line lines rep)) [
-        | true ↦ λ t. keys_have owner (lines_of lines owner) (own owner) rep ∙ ap (λ (k : ℕ). nat_lt 0 (count_of (lines_of lines k).counts rep)) (sym (eqb-true rep.owner owner t))
+      elim (rep.owner == owner) as (λ b. (rep.owner == owner) ≡ b → list_any (is_same rep) (keys_of (lines_of lines owner).rows) ≡ (b && has_line lines rep)) [
+        | true ↦ λ t. keys_have owner (lines_of lines owner) (own owner) rep ∙ ap (λ (k : ℕ). nat_lt 0 (count_of (lines_of lines k).rows rep)) (sym (eqb-true rep.owner owner t))
         | false ↦ λ u. keys_none owner (lines_of lines owner) (own owner) rep u
       ] refl
 

@@ -8,7 +8,7 @@ use Rattle.nob_ids.specs.declared.wire_rep.WireRep.{WireRep}
 use Rattle.nob_slots.specs.Slots.{item_at, is_number, IsRising}
 use Rattle.nob_space_waiting.specs.declared.entry.Entry.{Entry}
 use Rattle.nob_space_waiting.specs.Waiting.{due_to, due_to_all, granted_message}
-use Rattle.nob_space_waiting.specs.Lines.{LineList, all_lent, is_standing, items_of, lent_entry, lent_where, link_at, link_of, once, stands}
+use Rattle.nob_space_waiting.specs.Lines.{LineList, all_lent, is_standing, items_of, lent_entry, lent_where, link_at, once, stands}
 use Rattle.nob_space_waiting.proofs.Granted.{granted_still, granted_twice, none_due}
 use Rattle.nob_space_waiting.proofs.Rows.{changed_as, changed_ext, changed_twice}
 
@@ -53,7 +53,7 @@ some_or : (b : Bool) (n : ℕ) → (b || nat_lt 0 n) ≡ nat_lt 0 ((if b then 1 
 some_or true n = let more : 0 < 1 + n = omega arith in grind (arith, nat_tests, more)
 some_or false n = let same : n ≡ 0 + n = omega arith in ap (nat_lt 0) same
 
-pub lent_next : (rep : WireRep) (lines : LineList) (place : ℕ) (standing : Option ℕ) (rows0 rows new : List (ℕ × Entry)) → standing ≡ link_at lines (link_of rep place) → rows ≡ lent_where rep (λ s. nat_lt 0 (stands lines rep place s)) rows0 → new ≡ lent_where rep (is_standing standing) rows → new ≡ lent_where rep (λ s. nat_lt 0 (stands lines rep (place + 1) s)) rows0
+pub lent_next : (rep : WireRep) (lines : LineList) (place : ℕ) (standing : Option ℕ) (rows0 rows new : List (ℕ × Entry)) → standing ≡ link_at lines rep place → rows ≡ lent_where rep (λ s. nat_lt 0 (stands lines rep place s)) rows0 → new ≡ lent_where rep (is_standing standing) rows → new ≡ lent_where rep (λ s. nat_lt 0 (stands lines rep (place + 1) s)) rows0
 lent_next rep lines place standing rows0 rows new is was now =
     now ∙ ap (lent_where rep (is_standing standing)) was
     ∙ lent_both rep (λ s. nat_lt 0 (stands lines rep place s)) (is_standing standing) (λ s. nat_lt 0 (once standing s + stands lines rep place s)) rows0 (λ s. some_or (is_standing standing s) (stands lines rep place s))

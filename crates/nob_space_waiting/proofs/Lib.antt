@@ -1,5 +1,6 @@
 pub mod Granting
 pub mod Rows
+pub mod Numbered
 pub mod Stamps
 pub mod Counting
 pub mod Granted

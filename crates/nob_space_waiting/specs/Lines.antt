@@ -1,22 +1,24 @@
 -- A line for each reference that messages wait for, and how many such copies each has. No public clause cites this module.
 use Rattle.std.specs.Prelude.{◌≡◌, ℕ, ◌+◌, ◌-◌, ◌^◌, ◌<◌, ◌≤◌, ◌==◌, nat_lt, Bool, true, false, ◌&&◌, List, [], ◌∷◌, ◌++◌, length, map, filter, Option, Some, None, IsSome, is_some, slice_get, if◌then◌else◌}
 use Prim.Native.Nat.{zero, suc}
-use Rattle.std.specs.List.{AllByRecursion, IsDistinct}
+use Rattle.std.specs.List.{AllByRecursion}
 use Rattle.std.specs.Map.{lookup, keys_of, remove_entry}
-use Rattle.std.specs.Option.{unwrap_or, option_map_or}
+use Rattle.std.specs.Option.{option_map_or}
 use Rattle.nob_ids.specs.Names.{is_same}
 use Rattle.nob_ids.specs.declared.wire_rep.WireRep.{WireRep}
 use Rattle.nob_model_types.specs.declared.message.Message.{Message}
 use Rattle.nob_numbers.specs.Numbers.{NumberLists, numbers_of}
+use Rattle.nob_rows.specs.Rows.{row_at}
 use Rattle.nob_slots.specs.Slots.{item_at, is_number, IsAbove, IsRising, is_marked}
 use Rattle.nob_space_waiting.specs.declared.entry.Entry.{Entry}
-use Rattle.nob_space_waiting.specs.declared.owner_lines.Link.{Link}
+use Rattle.nob_space_waiting.specs.declared.owner_lines.Line.{Line}
+use Rattle.nob_space_waiting.specs.declared.owner_lines.Place.{Place}
 use Rattle.nob_space_waiting.specs.Waiting.{due_to, granted_message, is_awaited, is_due_where}
 
--- the lines of some references: how many places each has, and who stands at each place
+-- the lines of some references: the number of each and how many places it has, and who stands at each place
 pub record LineMap : Type 0 where
-  pub counts : List (WireRep × ℕ)
-  pub links : List (Link × ℕ)
+  pub rows : List (WireRep × Line)
+  pub links : List (Place × ℕ)
 
 -- the lines of an owner's references, and for how many more places there is room
 pub record OwnerList : Type 0 where
@@ -30,7 +32,7 @@ pub record LineList : Type 0 where
 
 -- lines that there may be
 abbrev pub lines_or_none : Option LineMap → LineMap
-lines_or_none None = record { counts = []; links = [] }
+lines_or_none None = record { rows = []; links = [] }
 lines_or_none (Some lines) = lines
 
 -- the lines of an owner's references
@@ -40,35 +42,61 @@ lines_of lines owner = lines_or_none (slice_get lines.owners owner)
 -- the references that have a line, owner by owner
 abbrev pub reps_in : List LineMap → List WireRep
 reps_in [] = []
-reps_in (lines ∷ owners) = keys_of lines.counts ++ reps_in owners
+reps_in (lines ∷ owners) = keys_of lines.rows ++ reps_in owners
 
--- whether two places are one
-abbrev pub is_link : Link → Link → Bool
-is_link link other = is_same link.rep other.rep && link.place == other.place
+-- whether two places in lines are one, each with the number of its line
+abbrev pub is_place : Place → Place → Bool
+is_place place other = place.line == other.line && place.place == other.place
 
--- the place in the line of a reference
-abbrev pub link_of : WireRep → ℕ → Link
-link_of rep place = record { rep = rep; place = place }
+-- a place of a line
+abbrev pub place_of : Line → ℕ → Place
+place_of line place = record { line = line.number; place = place }
 
--- how many places are counted for a reference
-abbrev pub count_of : List (WireRep × ℕ) → WireRep → ℕ
-count_of counts rep = unwrap_or (lookup (is_same rep) counts) 0
+-- whether a line has a place
+abbrev pub has_place : Line → Place → Bool
+has_place line place = line.number == place.line && nat_lt place.place line.count
+
+-- the line with one place more
+abbrev pub longer : Line → Line
+longer line = record { number = line.number; count = line.count + 1 }
+
+-- a line that there may be, or one without a place that has this number
+abbrev pub line_or : ℕ → Option Line → Line
+line_or number None = record { number = number; count = 0 }
+line_or number (Some line) = line
 
 -- how many places the line of a reference has
+abbrev pub count_of : List (WireRep × Line) → WireRep → ℕ
+count_of rows rep = option_map_or (λ line. line.count) (row_at rows rep) 0
+
+-- how many places the line of a reference has, of whichever owner
 abbrev pub places_for : LineList → WireRep → ℕ
-places_for lines rep = count_of (lines_of lines rep.owner).counts rep
+places_for lines rep = count_of (lines_of lines rep.owner).rows rep
 
 -- whether a reference has a line
 abbrev pub has_line : LineList → WireRep → Bool
 has_line lines rep = nat_lt 0 (places_for lines rep)
 
--- which stamp is linked to a place
-abbrev pub stamp_at : List (Link × ℕ) → Link → Option ℕ
-stamp_at links link = lookup (is_link link) links
+-- whether two places, each in the line of a reference, are one
+abbrev pub is_link : WireRep → ℕ → WireRep → ℕ → Bool
+is_link rep place other at = is_same rep other && place == at
 
--- who stands at a place in line
-abbrev pub link_at : LineList → Link → Option ℕ
-link_at lines link = stamp_at (lines_of lines link.rep.owner).links link
+-- which stamp is linked to a place
+abbrev pub stamp_of : List (Place × ℕ) → Place → Option ℕ
+stamp_of links place = lookup (is_place place) links
+
+-- which stamp is linked to a place of a line that there may be
+abbrev pub stamp_in : List (Place × ℕ) → Option Line → ℕ → Option ℕ
+stamp_in links None place = None
+stamp_in links (Some line) place = stamp_of links (place_of line place)
+
+-- who stands at a place in the line of a reference
+abbrev pub stamp_at : LineMap → WireRep → ℕ → Option ℕ
+stamp_at lines rep place = stamp_in lines.links (row_at lines.rows rep) place
+
+-- who stands at a place in the line of a reference, of whichever owner
+abbrev pub link_at : LineList → WireRep → ℕ → Option ℕ
+link_at lines rep place = stamp_at (lines_of lines rep.owner) rep place
 
 -- whether a stamp is the one that stands there, if there is any
 abbrev pub is_standing : Option ℕ → ℕ → Bool
@@ -82,7 +110,7 @@ once standing stamp = if is_standing standing stamp then 1 else 0
 -- how often a stamp stands among the first so many places in the line of a reference
 abbrev pub stands : LineList → WireRep → ℕ → ℕ → ℕ
 stands lines rep zero stamp = 0
-stands lines rep (suc count) stamp = once (link_at lines (link_of rep count)) stamp + stands lines rep count stamp
+stands lines rep (suc count) stamp = once (link_at lines rep count) stamp + stands lines rep count stamp
 
 -- how often a stamp stands in the line of a reference
 abbrev pub times_in : LineList → WireRep → ℕ → ℕ
@@ -168,18 +196,25 @@ abbrev pub times_of : LineList → List WireRep → ℕ → ℕ
 times_of lines [] stamp = 0
 times_of lines (rep ∷ reps) stamp = times_in lines rep stamp + times_of lines reps stamp
 
--- no reference has two lines
-abbrev pub AreApart : List (WireRep × ℕ) → Type 0
-AreApart counts = IsDistinct is_same (keys_of counts)
+-- each reference that has a line has a place in it
+abbrev pub HavePlaces : List (WireRep × Line) → Type 0
+HavePlaces rows = (rep : WireRep) → is_some (row_at rows rep) ≡ nat_lt 0 (count_of rows rep)
 
--- each reference that is counted has a place
-abbrev pub HavePlaces : List (WireRep × ℕ) → Type 0
-HavePlaces counts = (rep : WireRep) → is_some (lookup (is_same rep) counts) ≡ nat_lt 0 (count_of counts rep)
+-- no line has a place
+abbrev pub IsFree : List (WireRep × Line) → Place → Type 0
+IsFree rows place = (rep : WireRep) (line : Line) → row_at rows rep ≡ Some line → has_place line place ≡ false
+
+-- each line has a number of its own, below the next, and has places; nothing is linked to a place that no line has
+pub record AreNumbered (rows : List (WireRep × Line)) (links : List (Place × ℕ)) (next : ℕ) : Type 0 where
+  pub places : HavePlaces rows
+  pub below : (rep : WireRep) (line : Line) → row_at rows rep ≡ Some line → line.number < next
+  pub own : (rep other : WireRep) (line second : Line) → row_at rows rep ≡ Some line → row_at rows other ≡ Some second → line.number ≡ second.number → is_same rep other ≡ true
+  pub held : (place : Place) → IsFree rows place → stamp_of links place ≡ None
 
 -- each reference with a line is of this owner, and has a place
 pub record AreOf (owner : ℕ) (lines : LineMap) : Type 0 where
-  pub places : HavePlaces lines.counts
-  pub only : (rep : WireRep) → (rep.owner == owner) ≡ false → count_of lines.counts rep ≡ 0
+  pub places : HavePlaces lines.rows
+  pub only : (rep : WireRep) → (rep.owner == owner) ≡ false → count_of lines.rows rep ≡ 0
 
 -- the lines of each owner, with so much room
 abbrev pub lists_of : List OwnerList → ℕ → LineList

@@ -5,8 +5,9 @@ ghost use Rattle.std.specs.List.{list_any};
 ghost use Rattle.std.specs.Map.{keys_of};
 ghost use Rattle.nob_ids.specs.Names.{is_same};
 ghost use Rattle.nob_ids.specs.declared.wire_rep.WireRep.{WireRep as WireRepOf};
+ghost use Rattle.nob_rows.specs.Rows.{IsOnce};
 ghost use Rattle.nob_slots.specs.Slots.{IsRising};
-ghost use Rattle.nob_space_waiting.specs.Lines.{AreApart, AreMarked, has_line, lines_of, lowered, once, times_in, times_of};
+ghost use Rattle.nob_space_waiting.specs.Lines.{AreMarked, has_line, lines_of, lowered, once, times_in, times_of};
 
 use crate::entry::{Entry, lift, put_back};
 use crate::lines::Lines;
@@ -63,11 +64,11 @@ pub fn lower_all(slots: &mut Slots<Entry>, alloc: Global, lines: &Lines, owner: 
     requires rising { IsRising slots.old.rows }
     requires marked { AreMarked slots.old.rows slots.old.marked }
     ensures rows { slots.new.rows
-        ≡ lowered (times_of lines.now (keys_of (lines_of lines.now owner).counts)) slots.old.rows }
+        ≡ lowered (times_of lines.now (keys_of (lines_of lines.now owner).rows)) slots.old.rows }
     ensures marked { AreMarked slots.new.rows slots.new.marked }
-    ensures apart { AreApart (lines_of lines.now owner).counts }
+    ensures once { IsOnce (lines_of lines.now owner).rows }
     ensures reps { (rep : WireRepOf) → list_any (is_same rep)
-        (keys_of (lines_of lines.now owner).counts) ≡ (rep.owner == owner && has_line lines.now rep) }
+        (keys_of (lines_of lines.now owner).rows) ≡ (rep.owner == owner && has_line lines.now rep) }
     ensures room { slots.new.room ≡ slots.old.room }
 {
     for at in 0..lines.len_of(owner) {

@@ -25,8 +25,8 @@ pub fn make_owners(alloc: Global, owners: &mut Vec<OwnerLines>) -> Result<(), Al
     Ok(())
 }
 
-/// Makes room for so many more places in the lines of each owner. Only memory fails it, and what had
-/// room before has it still.
+/// Makes room for so many more places in the lines of each owner. Only memory fails it, or that more
+/// places were taken in all than can be counted; what had room before has it still.
 pub fn widen(owners: &mut Vec<OwnerLines>, additional: usize) -> Result<(), AllocError>
     ensures lines { (room : ℕ) → lists_of owners.new.items room ≡ lists_of owners.old.items room }
     ensures ok { OnOk result (HaveRoom owners.new.items additional) }

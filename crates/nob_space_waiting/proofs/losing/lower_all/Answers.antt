@@ -13,6 +13,6 @@ pub loop-at-preserved : goal.loop-at-preserved
 loop-at-preserved c = (
   subst IsRising (sym c.lower_line.ensures.rows) (changed_rising (λ s e. lowered_entry (times_in c.args.lines.now c.rep_at-rep.result s) e) c.loop-at.slots.rows c.loop-at.invariant.0),
   c.lower_line.ensures.marked,
-  times_next c.args.lines.now (keys_of (lines_of c.args.lines.now c.args.owner).counts) c.loop-at.at c.rep_at-rep.result c.args.slots.now.rows c.loop-at.slots.rows c.lower_line.new.slots.rows c.rep_at-rep.ensures c.loop-at.invariant.2 c.lower_line.ensures.rows,
+  times_next c.args.lines.now (keys_of (lines_of c.args.lines.now c.args.owner).rows) c.loop-at.at c.rep_at-rep.result c.args.slots.now.rows c.loop-at.slots.rows c.lower_line.new.slots.rows c.rep_at-rep.ensures c.loop-at.invariant.2 c.lower_line.ensures.rows,
   c.lower_line.ensures.room ∙ c.loop-at.invariant.3,
 )

@@ -11,8 +11,8 @@ pub loop-made-preserved : goal.loop-made-preserved
 loop-made-preserved c =
     let more = c.in_ok-push.ensures.items in
     let longer : length c.push.new.self.items ≡ length c.loop-made.owners.items + 1 = ap length more ∙ length_push c.loop-made.owners.items c.new.result ∙ (omega arith) in (
-      λ owner. ap (λ (owners : List OwnerList). lines_at owners owner) more ∙ one_more c.loop-made.owners.items c.new.result c.new.ensures.counts c.new.ensures.links owner ∙ c.loop-made.invariant.0 owner,
-      ap (λ (owners : List OwnerList). reps_in (all_lines owners)) more ∙ reps_more c.loop-made.owners.items c.new.result c.new.ensures.counts ∙ c.loop-made.invariant.1,
+      λ owner. ap (λ (owners : List OwnerList). lines_at owners owner) more ∙ one_more c.loop-made.owners.items c.new.result c.new.ensures.rows c.new.ensures.links owner ∙ c.loop-made.invariant.0 owner,
+      ap (λ (owners : List OwnerList). reps_in (all_lines owners)) more ∙ reps_more c.loop-made.owners.items c.new.result c.new.ensures.rows ∙ c.loop-made.invariant.1,
       omega (arith, c.loop-made.invariant.2),
       omega (arith, c.loop-made.invariant.3, longer),
       λ all. absurd (omega (arith, all, c.loop-made.invariant.2, c.loop-made-test.true)),

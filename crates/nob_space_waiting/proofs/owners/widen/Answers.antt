@@ -9,7 +9,7 @@ pub returns-in_err-reserve-clause-lines : goal.returns-in_err-reserve-clause-lin
 returns-in_err-reserve-clause-lines c room =
     let at = c.loop-place in
     let got = slice_get_read at.owners.items (length at.owners.items) at.place c.index_mut.result.now refl (omega (arith, c.loop-place-test.true, c.len-place-end.ensures, at.invariant.1)) c.index_mut.ensures.value in
-    ap (λ (owners : List LineMap). record { owners = owners; room = room }) (same_lines at.owners.items at.place c.index_mut.result.now c.reserve.new.self got c.reserve.ensures.counts c.reserve.ensures.links ∙ at.invariant.0)
+    ap (λ (owners : List LineMap). record { owners = owners; room = room }) (same_lines at.owners.items at.place c.index_mut.result.now c.reserve.new.self got c.reserve.ensures.rows c.reserve.ensures.links ∙ at.invariant.0)
 
 pub returns-in_err-reserve-clause-kept : goal.returns-in_err-reserve-clause-kept
 returns-in_err-reserve-clause-kept c room rooms =
@@ -22,7 +22,7 @@ pub loop-place-preserved : goal.loop-place-preserved
 loop-place-preserved c =
     let at = c.loop-place in
     let got = slice_get_read at.owners.items (length at.owners.items) at.place c.index_mut.result.now refl (omega (arith, c.loop-place-test.true, c.len-place-end.ensures, at.invariant.1)) c.index_mut.ensures.value in (
-      same_lines at.owners.items at.place c.index_mut.result.now c.reserve.new.self got c.reserve.ensures.counts c.reserve.ensures.links ∙ at.invariant.0,
+      same_lines at.owners.items at.place c.index_mut.result.now c.reserve.new.self got c.reserve.ensures.rows c.reserve.ensures.links ∙ at.invariant.0,
       length-set at.owners.items at.place c.reserve.new.self ∙ at.invariant.1,
       λ room rooms. let now = at.invariant.2 room rooms in
           room_set at.owners.items at.place room c.index_mut.result.now c.reserve.new.self got now (omega (arith, now at.place c.index_mut.result.now got, c.reserve.ensures.room)),

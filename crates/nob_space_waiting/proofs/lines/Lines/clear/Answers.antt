@@ -3,7 +3,7 @@ use Rattle.std.proofs.Math.ListN.{length-set}
 use lib.ListN.{set}
 use Rattle.std.proofs.lemmas.Option.{slice_get_read}
 use Rattle.nob_ids.specs.Names.{is_same}
-use Rattle.nob_space_waiting.specs.Lines.{AreOf, count_of, link_of, lists_of, stamp_at}
+use Rattle.nob_space_waiting.specs.Lines.{AreOf, count_of, lists_of, stamp_at}
 use Rattle.nob_space_waiting.proofs.Kept.{all_awaited, lines_at, other_rep, own_set, room_set, set_holds}
 use Rattle.nob_space_waiting.proofs.lines.Lines.clear.Goals as goal
 
@@ -16,7 +16,7 @@ own c =
     let owners = c.self.inside.owners.items in let place = c.get-place.result in let old = c.index_mut.result.now in let new = c.clear.new.self in
     let got = slice_get_read owners (length owners) place old refl (omega (arith, c.if-place-len.false, c.len.ensures)) c.index_mut.ensures.value in
     own_set owners place old new got c.self.invariant.own c.clear.ensures.places
-    (λ r off zero. c.clear.ensures.counts r ∙ elim (is_same c.args.rep.now r) as (λ b. (if b then 0 else count_of old.lines.counts r) ≡ 0) [ true ↦ refl | false ↦ zero ])
+    (λ r off zero. c.clear.ensures.counts r ∙ elim (is_same c.args.rep.now r) as (λ b. (if b then 0 else count_of old.lines.rows r) ≡ 0) [ true ↦ refl | false ↦ zero ])
 
 pub invariant_of-self : goal.invariant_of-self
 invariant_of-self c =
@@ -33,16 +33,16 @@ returns-clause-counts c other =
     let owners = c.self.inside.owners.items in let place = c.get-place.result in let old = c.index_mut.result.now in let new = c.clear.new.self in
     let got = slice_get_read owners (length owners) place old refl (omega (arith, c.if-place-len.false, c.len.ensures)) c.index_mut.ensures.value in
     rw (← c.self.view_is) (
-    set_holds owners place old new got (λ a b. count_of a.counts other ≡ (if is_same c.args.rep.now other then 0 else count_of b.counts other)) other.owner
+    set_holds owners place old new got (λ a b. count_of a.rows other ≡ (if is_same c.args.rep.now other then 0 else count_of b.rows other)) other.owner
     (λ same. c.clear.ensures.counts other)
-    (λ off lines. sym (ap (λ b. if b then 0 else count_of lines.counts other) (other_rep c.args.rep.now other (ap (λ k. other.owner == k) (sym c.get-place.ensures.value) ∙ off)))))
+    (λ off lines. sym (ap (λ b. if b then 0 else count_of lines.rows other) (other_rep c.args.rep.now other (ap (λ k. other.owner == k) (sym c.get-place.ensures.value) ∙ off)))))
 
 pub returns-clause-links : goal.returns-clause-links
 returns-clause-links c other at differs =
     let owners = c.self.inside.owners.items in let place = c.get-place.result in let old = c.index_mut.result.now in let new = c.clear.new.self in
     let got = slice_get_read owners (length owners) place old refl (omega (arith, c.if-place-len.false, c.len.ensures)) c.index_mut.ensures.value in
     rw (← c.self.view_is) (
-    set_holds owners place old new got (λ a b. stamp_at a.links (link_of other at) ≡ stamp_at b.links (link_of other at)) other.owner
+    set_holds owners place old new got (λ a b. stamp_at a other at ≡ stamp_at b other at) other.owner
     (λ same. c.clear.ensures.links other at differs) (λ off lines. refl))
 
 pub returns-clause-awaited : goal.returns-clause-awaited

@@ -3,7 +3,7 @@ use Rattle.std.proofs.Math.ListN.{length-set}
 use lib.ListN.{set}
 use Rattle.std.proofs.lemmas.Cmp.{nat_eq_equiv}
 use Rattle.std.proofs.lemmas.Option.{slice_get_read}
-use Rattle.nob_space_waiting.specs.Lines.{AreOf, HavePlaces, count_of, link_of, lists_of, stamp_at}
+use Rattle.nob_space_waiting.specs.Lines.{AreOf, HavePlaces, count_of, lists_of, stamp_at}
 use Rattle.nob_space_waiting.proofs.Kept.{all_awaited, lines_at, own_set, room_set, set_holds}
 use Rattle.nob_space_waiting.proofs.lines.Lines.clear_of.Goals as goal
 
@@ -15,7 +15,7 @@ own : (c : goal.After-self-1) → (o : ℕ) → AreOf o (lines_at (set c.self.in
 own c =
     let owners = c.self.inside.owners.items in let place = c.get-place.result in let old = c.index_mut.result.now in let new = c.clear_all.new.self in
     let got = slice_get_read owners (length owners) place old refl (omega (arith, c.if-place-len.false, c.len.ensures)) c.index_mut.ensures.value in
-    own_set owners place old new got c.self.invariant.own (subst HavePlaces (sym c.clear_all.ensures.counts) (λ r. refl)) (λ r off zero. ap (λ cs. count_of cs r) c.clear_all.ensures.counts)
+    own_set owners place old new got c.self.invariant.own (subst HavePlaces (sym c.clear_all.ensures.rows) (λ r. refl)) (λ r off zero. ap (λ cs. count_of cs r) c.clear_all.ensures.rows)
 
 pub invariant_of-self : goal.invariant_of-self
 invariant_of-self c =
@@ -32,16 +32,16 @@ returns-clause-counts c other =
     let owners = c.self.inside.owners.items in let place = c.get-place.result in let old = c.index_mut.result.now in let new = c.clear_all.new.self in
     let got = slice_get_read owners (length owners) place old refl (omega (arith, c.if-place-len.false, c.len.ensures)) c.index_mut.ensures.value in
     rw (← c.self.view_is, ← c.get-place.ensures.value) (
-    set_holds owners place old new got (λ a b. count_of a.counts other ≡ (if other.owner == place then 0 else count_of b.counts other)) other.owner
-    (λ same. ap (λ cs. count_of cs other) c.clear_all.ensures.counts ∙ sym (ap (λ b. if b then 0 else count_of old.lines.counts other) (ap (λ k. k == place) same ∙ nat_eq_equiv.refl place)))
-    (λ off lines. sym (ap (λ b. if b then 0 else count_of lines.counts other) off)))
+    set_holds owners place old new got (λ a b. count_of a.rows other ≡ (if other.owner == place then 0 else count_of b.rows other)) other.owner
+    (λ same. ap (λ cs. count_of cs other) c.clear_all.ensures.rows ∙ sym (ap (λ b. if b then 0 else count_of old.lines.rows other) (ap (λ k. k == place) same ∙ nat_eq_equiv.refl place)))
+    (λ off lines. sym (ap (λ b. if b then 0 else count_of lines.rows other) off)))
 
 pub returns-clause-links : goal.returns-clause-links
 returns-clause-links c other at differs =
     let owners = c.self.inside.owners.items in let place = c.get-place.result in let old = c.index_mut.result.now in let new = c.clear_all.new.self in
     let got = slice_get_read owners (length owners) place old refl (omega (arith, c.if-place-len.false, c.len.ensures)) c.index_mut.ensures.value in
     rw (← c.self.view_is) (
-    set_holds owners place old new got (λ a b. stamp_at a.links (link_of other at) ≡ stamp_at b.links (link_of other at)) other.owner
+    set_holds owners place old new got (λ a b. stamp_at a other at ≡ stamp_at b other at) other.owner
     (λ same. absurd (true≢false (sym (ap (λ k. k == c.args.owner) (same ∙ c.get-place.ensures.value) ∙ nat_eq_equiv.refl c.args.owner) ∙ differs)))
     (λ off lines. refl))
 

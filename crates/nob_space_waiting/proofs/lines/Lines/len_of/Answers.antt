@@ -1,8 +1,9 @@
 use Rattle.std.proofs.Common.{◌≡◌, nat_lt, false, length, None, ap, sym, subst, arith}
 use Rattle.std.proofs.lemmas.Bool.Decides.{nat_tests}
 use Rattle.std.proofs.lemmas.Option.{slice_get_past}
-use Rattle.nob_space_waiting.specs.Lines.{AreApart, LineMap, lists_of, lines_or_none}
-use Rattle.nob_space_waiting.proofs.Kept.{lines_at, none_apart, none_here, reps_own}
+use Rattle.nob_rows.specs.Rows.{IsOnce}
+use Rattle.nob_space_waiting.specs.Lines.{LineMap, lists_of, lines_or_none}
+use Rattle.nob_space_waiting.proofs.Kept.{lines_at, none_once, none_here, reps_own}
 use Rattle.nob_space_waiting.proofs.lines.Lines.len_of.Goals as goal
 
 pub returns-in-Some-clause-reps : goal.returns-in-Some-clause-reps
@@ -20,7 +21,7 @@ none c =
     none_here c.self.inside.owners.items c.args.owner (slice_get_past c.self.inside.owners.items c.args.owner (grind (arith, nat_tests, off, all, place)))
 
 pub returns-in-None-clause-count : goal.returns-in-None-clause-count
-returns-in-None-clause-count c = rw (← c.self.view_is) (ap (λ (l : LineMap). length l.counts) (sym (none c)))
+returns-in-None-clause-count c = rw (← c.self.view_is) (ap (λ (l : LineMap). length l.rows) (sym (none c)))
 
-pub returns-in-None-clause-apart : goal.returns-in-None-clause-apart
-returns-in-None-clause-apart c = rw (← c.self.view_is) (subst (λ (l : LineMap). AreApart l.counts) (sym (none c)) none_apart)
+pub returns-in-None-clause-once : goal.returns-in-None-clause-once
+returns-in-None-clause-once c = rw (← c.self.view_is) (subst (λ (l : LineMap). IsOnce l.rows) (sym (none c)) none_once)

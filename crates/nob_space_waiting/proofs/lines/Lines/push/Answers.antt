@@ -3,7 +3,7 @@ use Rattle.std.proofs.Math.ListN.{length-set}
 use lib.ListN.{set}
 use Rattle.std.proofs.lemmas.Option.{slice_get_read}
 use Rattle.nob_ids.specs.Names.{is_same}
-use Rattle.nob_space_waiting.specs.Lines.{AreOf, LineList, LineMap, count_of, is_link, link_of, lists_of, stamp_at}
+use Rattle.nob_space_waiting.specs.Lines.{AreOf, LineList, LineMap, count_of, is_link, lists_of, stamp_at}
 use Rattle.nob_space_waiting.proofs.Kept.{all_awaited, here, lines_at, other_rep, own_set, room_set, set_holds}
 use Rattle.nob_space_waiting.proofs.lines.Lines.push.Goals as goal
 
@@ -15,7 +15,7 @@ own c =
     let got = slice_get_read owners (length owners) place old refl (omega (arith, c.self.invariant.all some, c.get-place.ensures.in_range.1)) c.index_mut.ensures.value in
     own_set owners place old new got c.self.invariant.own c.push.ensures.places
     (λ r off zero.
-    let same = c.push.ensures.counts r ∙ ap (λ b. (if b then 1 else 0) + count_of old.lines.counts r) (other_rep c.args.rep.now r (ap (λ k. r.owner == k) (sym c.get-place.ensures.value) ∙ off)) in
+    let same = c.push.ensures.counts r ∙ ap (λ b. (if b then 1 else 0) + count_of old.lines.rows r) (other_rep c.args.rep.now r (ap (λ k. r.owner == k) (sym c.get-place.ensures.value) ∙ off)) in
     omega (arith, same, zero))
 
 pub invariant_of-self : goal.invariant_of-self
@@ -36,10 +36,10 @@ returns-clause-counts c other =
     let some = subst (λ (l : LineList). 0 < l.room) (sym c.self.view_is) c.requires.room in
     let got = slice_get_read owners (length owners) place old refl (omega (arith, c.self.invariant.all some, c.get-place.ensures.in_range.1)) c.index_mut.ensures.value in
     rw (← c.self.view_is) (
-    set_holds owners place old new got (λ a b. count_of a.counts other ≡ (if is_same c.args.rep.now other then 1 else 0) + count_of b.counts other) other.owner
+    set_holds owners place old new got (λ a b. count_of a.rows other ≡ (if is_same c.args.rep.now other then 1 else 0) + count_of b.rows other) other.owner
     (λ same. c.push.ensures.counts other)
     (λ off lines.
-    let same = ap (λ b. (if b then 1 else 0) + count_of lines.counts other) (other_rep c.args.rep.now other (ap (λ k. other.owner == k) (sym c.get-place.ensures.value) ∙ off)) in
+    let same = ap (λ b. (if b then 1 else 0) + count_of lines.rows other) (other_rep c.args.rep.now other (ap (λ k. other.owner == k) (sym c.get-place.ensures.value) ∙ off)) in
     omega (arith, same)))
 
 pub returns-clause-links : goal.returns-clause-links
@@ -48,11 +48,11 @@ returns-clause-links c other at =
     let some = subst (λ (l : LineList). 0 < l.room) (sym c.self.view_is) c.requires.room in
     let got = slice_get_read owners (length owners) place old refl (omega (arith, c.self.invariant.all some, c.get-place.ensures.in_range.1)) c.index_mut.ensures.value in
     let rep = c.args.rep.now in
-    let stamped : ℕ → LineMap → LineMap → Type 0 = λ n a b. stamp_at a.links (link_of other at) ≡ (if is_link (link_of rep n) (link_of other at) then Some c.args.stamp else stamp_at b.links (link_of other at)) in
-    let places : count_of old.lines.counts rep ≡ count_of (lines_at owners rep.owner).counts rep = ap (λ (l : LineMap). count_of l.counts rep) (sym (here owners place old got) ∙ ap (lines_at owners) c.get-place.ensures.value) in
+    let stamped : ℕ → LineMap → LineMap → Type 0 = λ n a b. stamp_at a other at ≡ (if is_link rep n other at then Some c.args.stamp else stamp_at b other at) in
+    let places : count_of old.lines.rows rep ≡ count_of (lines_at owners rep.owner).rows rep = ap (λ (l : LineMap). count_of l.rows rep) (sym (here owners place old got) ∙ ap (lines_at owners) c.get-place.ensures.value) in
     rw (← c.self.view_is) (
     subst (λ n. stamped n (lines_at (set owners place new) other.owner) (lines_at owners other.owner)) places (
-    set_holds owners place old new got (stamped (count_of old.lines.counts rep)) other.owner
+    set_holds owners place old new got (stamped (count_of old.lines.rows rep)) other.owner
     (λ same. c.push.ensures.links other at)
     (λ off lines.
     let apart = other_rep rep other (ap (λ k. other.owner == k) (sym c.get-place.ensures.value) ∙ off) in

@@ -1,29 +1,21 @@
-use Rattle.std.proofs.Common.{◌≡◌, ◌+◌, arith, sym, ap, subst, Some, if◌then◌else◌}
-use Rattle.nob_space_waiting.specs.Lines.{HavePlaces, count_of, is_link, stamp_at, link_of}
-use Rattle.nob_space_waiting.proofs.Counting.{one_more, places_written}
-use Rattle.nob_space_waiting.proofs.Pushed.{some_more}
+use Rattle.std.proofs.Common.{◌≡◌, ◌∙◌, Some, ap, sym, if◌then◌else◌}
+use Rattle.nob_space_waiting.specs.Lines.{is_place, place_of, stamp_of}
+use Rattle.nob_space_waiting.specs.declared.owner_lines.Place.{Place}
+use Rattle.nob_space_waiting.proofs.Numbered.{lengthened, mine, mine_count, stamped}
 use Rattle.nob_space_waiting.proofs.owner_lines.OwnerLines.push.Goals as goal
 
--- what is counted has a place
-have : (c : goal.After-unwrap-before) → HavePlaces c.insert-2.new.self.entries
-have c =
-    let k = rw c.unwrap-before.ensures at c.insert-2.ensures.updates in
-    places_written c.self.inside.counts.entries c.insert-2.new.self.entries c.args.rep.now (Some (c.count-place.result + 1)) k.0 (sym (some_more (c.count-place.result + 1) (omega arith))) c.self.invariant.1
+-- what is linked to each place
+linked : (c : goal.After-self-1) (place : Place) → stamp_of c.insert.new.self.entries place
+    ≡ (if is_place (place_of (mine c.self.inside.lines.rows c.self.inside.links.entries c.self.inside.next c.self.invariant c.args.rep.now) (mine c.self.inside.lines.rows c.self.inside.links.entries c.self.inside.next c.self.invariant c.args.rep.now).count) place then Some c.args.stamp else stamp_of c.self.inside.links.entries place)
+linked c place =
+    let rows = c.self.inside.lines.rows in let links = c.self.inside.links.entries in let next = c.self.inside.next in let rep = c.args.rep.now in
+    let k = rw c.unwrap-none.ensures at c.insert.ensures.updates in
+    k.0 place ∙ ap (λ (p : Place). if is_place p place then Some c.args.stamp else stamp_of links place)
+    (c.lengthen-place.ensures.place ∙ ap (place_of (mine rows links next c.self.invariant rep)) (sym (mine_count rows links next c.self.invariant rep)))
 
 pub invariant_of-self : goal.invariant_of-self
-invariant_of-self c = (c.insert-2.ensures.unique, have c)
-
-pub returns-clause-places : goal.returns-clause-places
-returns-clause-places c = have c
-
-pub returns-clause-counts : goal.returns-clause-counts
-returns-clause-counts c =
-    let before : c.count-place.result ≡ count_of c.self.inside.counts.entries c.args.rep.now = rw (← c.self.view_is) at c.count-place.ensures.count in
-    let k = rw c.unwrap-before.ensures at c.insert-2.ensures.updates in
-    rw (← c.self.view_is) (one_more c.self.inside.counts.entries c.insert-2.new.self.entries c.args.rep.now (c.count-place.result + 1) k.0 (ap (λ n. n + 1) before))
+invariant_of-self c = lengthened c.self.inside.lines.rows c.self.inside.links.entries c.self.inside.next c.self.invariant c.args.rep.now c.lengthen-place.new.lines.rows c.lengthen-place.ensures.puts c.insert.new.self.entries c.args.stamp (linked c)
 
 pub returns-clause-links : goal.returns-clause-links
 returns-clause-links c other place =
-    let before : c.count-place.result ≡ count_of c.self.inside.counts.entries c.args.rep.now = rw (← c.self.view_is) at c.count-place.ensures.count in
-    let k = rw c.unwrap-none.ensures at c.insert.ensures.updates in
-    rw (← c.self.view_is) (subst (λ n. stamp_at c.insert.new.self.entries (link_of other place) ≡ (if is_link (link_of c.args.rep.now n) (link_of other place) then Some c.args.stamp else stamp_at c.self.inside.links.entries (link_of other place))) before (k.0 (link_of other place)))
+    rw (← c.self.view_is) (stamped c.self.inside.lines.rows c.self.inside.links.entries c.self.inside.next c.self.invariant c.args.rep.now c.lengthen-place.new.lines.rows c.lengthen-place.ensures.puts c.insert.new.self.entries c.args.stamp (linked c) other place)
