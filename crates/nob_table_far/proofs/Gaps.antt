@@ -12,7 +12,7 @@ use Rattle.nob_ids.specs.declared.wire_rep.WireRep.{WireRep}
 use Rattle.nob_table_rows.specs.declared.counts.Counts.{Counts}
 use Rattle.nob_table_far.specs.declared.order.Slot.{Slot}
 use Rattle.nob_table_rows.specs.declared.standing.Surrogate.{Surrogate}
-use Rattle.nob_table_far.specs.Far.{is_current, AreInOrder, AreSent, AreMarked, AreLinked, AreEnds, IsOrdered}
+use Rattle.nob_table_far.specs.Far.{is_current, is_idle_in, is_spare_in, AreInOrder, AreSent, ArePassing, AreLinked, AreEnds, IsOrdered}
 use Rattle.nob_table_rows.specs.Order.{place_in}
 use Rattle.nob_table_rows.proofs.Flat.{filter_had, filter_has}
 use Rattle.nob_rows.specs.Rows.{row_at, reps_of}
@@ -42,17 +42,18 @@ module _ (test : Slot → Bool) where
   sent_filter xs dirties sent at slot got = let had = filter_had test xs at slot got in sent had.0 slot had.1
 
 -- the slots that are left, with their bits and ties made anew
-pub ordered_closed : (counted : List (WireRep × Counts)) (surrogates : List (WireRep × Surrogate)) (slots : List Slot) (before ends idle : List ℕ) → IsOrdered counted surrogates slots before ends idle
-    → (slots' : List Slot) (before' ends' idle' : List ℕ) → slots' ≡ filter (is_current surrogates) slots → AreMarked counted surrogates slots' idle' → AreLinked slots' surrogates before' (length slots')
-    → AreEnds slots' surrogates ends' (length slots') → length before' ≡ length slots' → IsOrdered counted surrogates slots' before' ends' idle'
-ordered_closed counted surrogates slots before ends idle ordered slots' before' ends' idle' left marked linked ended same = record {
+pub ordered_closed : (counted : List (WireRep × Counts)) (surrogates : List (WireRep × Surrogate)) (kept : List (WireRep × Bool)) (slots : List Slot) (before ends idle spare : List ℕ) → IsOrdered counted surrogates kept slots before ends idle spare
+    → (slots' : List Slot) (before' ends' idle' spare' : List ℕ) → slots' ≡ filter (is_current surrogates) slots → ArePassing (is_idle_in counted surrogates) surrogates slots' idle' → ArePassing (is_spare_in counted surrogates kept) surrogates slots' spare'
+    → AreLinked slots' surrogates before' (length slots') → AreEnds slots' surrogates ends' (length slots') → length before' ≡ length slots' → IsOrdered counted surrogates kept slots' before' ends' idle' spare'
+ordered_closed counted surrogates kept slots before ends idle spare ordered slots' before' ends' idle' spare' left idle_are spare_are linked ended same = record {
   in_order = subst AreInOrder (sym left) (in_order_filter (is_current surrogates) slots ordered.in_order);
   have_slots = λ rep place is.
       let found = ordered.have_slots rep place is in
       let e : Slot = record { place = place; rep = rep } in
-      let kept = filter_has (is_current surrogates) slots found.0 e found.1 (placed (place_in surrogates rep) place is) in
-      (kept.0, ap (λ (xs : List Slot). slice_get xs kept.0) left ∙ kept.1);
-  marked = marked;
+      let still = filter_has (is_current surrogates) slots found.0 e found.1 (placed (place_in surrogates rep) place is) in
+      (still.0, ap (λ (xs : List Slot). slice_get xs still.0) left ∙ still.1);
+  idle_are = idle_are;
+  spare_are = spare_are;
   linked = linked;
   ended = ended;
   same = same;

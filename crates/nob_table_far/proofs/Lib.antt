@@ -1,7 +1,7 @@
 pub mod Gaps
-pub mod Idle
 pub mod Kept
 pub mod Linked
 pub mod Lost
+pub mod Marks
 pub mod Pushed
 pub mod Slotted

@@ -1,5 +1,5 @@
 -- Slots after one Dirty more.
-use Rattle.std.proofs.Common.{◌≡◌, ℕ, ◌<◌, ◌≤◌, ◌+◌, ◌-◌, inl, inr, Bool, true, false, ◌&&◌, ◌==◌, List, [], ◌∷◌, ◌++◌, length, Option, Some, None, slice_get, refl, sym, ap, ap₂, subst, ◌∙◌, arith}
+use Rattle.std.proofs.Common.{◌≡◌, ℕ, ◌<◌, ◌≤◌, ◌+◌, ◌-◌, inl, inr, Bool, true, false, ◌&&◌, ◌==◌, not, List, [], ◌∷◌, ◌++◌, length, Option, Some, None, slice_get, refl, sym, ap, ap₂, subst, ◌∙◌, arith}
 use Rattle.std.proofs.lemmas.Option.{none-some, same_Some, slice_get_within, slice_get_past}
 use Rattle.std.specs.Option.{option_map}
 use Rattle.nob_ids.specs.declared.wire_rep.WireRep.{WireRep}
@@ -8,13 +8,14 @@ use Rattle.nob_table_rows.specs.declared.counts.Counts.{Counts}
 use Rattle.nob_table_far.specs.declared.order.Slot.{Slot}
 use Rattle.nob_table_rows.specs.declared.standing.Surrogate.{Surrogate}
 use Rattle.nob_table_rows.specs.Counts.{no_counts}
-use Rattle.nob_table_far.specs.Far.{has_place, is_current, is_idle_in, is_idle_slot, is_idle_at, AreInOrder, AreSent, HaveSlots, AreMarked, Covers, AreLinked, AreEnds}
+use Rattle.nob_table_far.specs.Far.{has_place, is_current, is_idle_in, is_spare_in, passes_slot, passes_at, AreInOrder, AreSent, HaveSlots, ArePassing, Covers, AreLinked, AreEnds}
 use Rattle.nob_rows.specs.Rows.{row_at, Puts}
-use Rattle.nob_table_rows.specs.Standings.{waiting_surrogate, far_standing, is_idle}
+use Rattle.nob_table_rows.specs.Objects.{is_marked, SameMarks}
+use Rattle.nob_table_rows.specs.Standings.{waiting_surrogate}
 use Rattle.nob_table_rows.proofs.Flat.{get_push_low, get_push_here, push_cases}
 use Rattle.nob_table_rows.proofs.Keys.{put_there}
 use Rattle.nob_table_rows.proofs.Same.{same_is}
-use Rattle.nob_table_far.proofs.Slotted.{not_equal}
+use Rattle.nob_table_far.proofs.Slotted.{AgreeElsewhere, same_elsewhere, idle_agree, spare_agree, not_equal}
 
 and_false : (b : Bool) → (b && false) ≡ false
 and_false true = refl
@@ -77,42 +78,57 @@ module _ (counted counted' : List (WireRep × Counts)) (surrogates surrogates' :
         | false ↦ λ u. ap (λ (o : Option Surrogate). has_place (option_map (λ (s : Surrogate). s.place) o) f.place) (row_same f.rep u)
       ] refl
 
-  same_idle : (k : ℕ) (f : Slot) → slice_get slots k ≡ Some f → is_idle_slot counted surrogates f ≡ is_idle_slot counted' surrogates' f
-  same_idle k f got =
-      elim (is_same rep f.rep) as (λ b. is_same rep f.rep ≡ b → is_idle_slot counted surrogates f ≡ is_idle_slot counted' surrogates' f) [
-        | true ↦ λ t.
-            let gone : row_at surrogates f.rep ≡ None = ap (λ (w : WireRep). row_at surrogates w) (sym (same_is rep f.rep t)) ∙ none in
-            let before : is_current surrogates f ≡ false = ap (λ (o : Option Surrogate). has_place (option_map (λ (s : Surrogate). s.place) o) f.place) gone in
-            let after : is_current surrogates' f ≡ false = same_current k f got ∙ before in
-            rw (before, after) refl
-        | false ↦ λ u.
-            let at : row_at counted' f.rep ≡ row_at counted f.rep = counts f.rep ∙ rw u refl in
-            ap₂ (λ (o : Option Surrogate) (p : Option Counts). has_place (option_map (λ (s : Surrogate). s.place) o) f.place && is_idle (far_standing o p)) (sym (row_same f.rep u)) (sym at)
-      ] refl
+  -- a test that says the same of the others, and not of the new one
+  module _ (test test' : WireRep → Bool) (agree : AgreeElsewhere rep test test') (waits : test' rep ≡ false) where
+    same_passing : (k : ℕ) (f : Slot) → slice_get slots k ≡ Some f → passes_slot test surrogates f ≡ passes_slot test' surrogates' f
+    same_passing k f got =
+        elim (is_same rep f.rep) as (λ b. is_same rep f.rep ≡ b → passes_slot test surrogates f ≡ passes_slot test' surrogates' f) [
+          | true ↦ λ t.
+              let gone : row_at surrogates f.rep ≡ None = ap (λ (w : WireRep). row_at surrogates w) (sym (same_is rep f.rep t)) ∙ none in
+              let before : is_current surrogates f ≡ false = ap (λ (o : Option Surrogate). has_place (option_map (λ (s : Surrogate). s.place) o) f.place) gone in
+              let after : is_current surrogates' f ≡ false = same_current k f got ∙ before in
+              rw (before, after) refl
+          | false ↦ λ u. ap₂ (λ (o : Option Surrogate) (b : Bool). has_place (option_map (λ (s : Surrogate). s.place) o) f.place && b) (sym (row_same f.rep u)) (sym (agree f.rep u))
+        ] refl
 
-  last_waits : is_idle_slot counted' surrogates' last ≡ false
-  last_waits =
+    last_waits : passes_slot test' surrogates' last ≡ false
+    last_waits = rw waits (and_false (is_current surrogates' last))
+
+    marked_pushed : (marks : List ℕ) → ArePassing test surrogates slots marks → ArePassing test' surrogates' more marks
+    marked_pushed marks marked k =
+        marked k ∙ elim (slice_get more k) as (λ o. slice_get more k ≡ o → passes_at test surrogates (slice_get slots k) ≡ passes_at test' surrogates' o) [
+          | None ↦ λ e.
+              elim (slice_get slots k) as (λ o. slice_get slots k ≡ o → passes_at test surrogates o ≡ false) [
+                | None ↦ λ x. refl
+                | Some f ↦ λ x. absurd (none-some f (sym e ∙ get_push_low slots last k (slice_get_within slots k f x) ∙ x))
+              ] refl
+          | Some f ↦ λ e.
+              elim (push_cases slots last k f e) as (λ _. passes_at test surrogates (slice_get slots k) ≡ passes_slot test' surrogates' f) [
+                | inl low ↦ ap (passes_at test surrogates) low.1 ∙ same_passing k f low.1
+                | inr here ↦
+                    let past : slice_get slots k ≡ None = slice_get_past slots k (omega (arith, here.0)) in
+                    ap (passes_at test surrogates) past ∙ sym (ap (passes_slot test' surrogates') (sym here.1) ∙ last_waits)
+              ]
+        ] refl
+
+  -- a reference that waits isn't idle
+  not_idle : is_idle_in counted' surrogates' rep ≡ false
+  not_idle =
       let row : row_at surrogates' rep ≡ Some (waiting_surrogate n) = put_there surrogates surrogates' rep (Some (waiting_surrogate n)) puts in
       let count : row_at counted' rep ≡ Some no_counts = put_there counted counted' rep (Some no_counts) counts in
-      let waits : is_idle_in counted' surrogates' rep ≡ false = rw (row, count) refl in
-      rw waits (and_false (is_current surrogates' last))
+      rw (row, count) refl
 
-  pub marked_pushed : (idle : List ℕ) → AreMarked counted surrogates slots idle → AreMarked counted' surrogates' more idle
-  marked_pushed idle marked k =
-      marked k ∙ elim (slice_get more k) as (λ o. slice_get more k ≡ o → is_idle_at counted surrogates (slice_get slots k) ≡ is_idle_at counted' surrogates' o) [
-        | None ↦ λ e.
-            elim (slice_get slots k) as (λ o. slice_get slots k ≡ o → is_idle_at counted surrogates o ≡ false) [
-              | None ↦ λ x. refl
-              | Some f ↦ λ x. absurd (none-some f (sym e ∙ get_push_low slots last k (slice_get_within slots k f x) ∙ x))
-            ] refl
-        | Some f ↦ λ e.
-            elim (push_cases slots last k f e) as (λ _. is_idle_at counted surrogates (slice_get slots k) ≡ is_idle_slot counted' surrogates' f) [
-              | inl low ↦ ap (is_idle_at counted surrogates) low.1 ∙ same_idle k f low.1
-              | inr here ↦
-                  let past : slice_get slots k ≡ None = slice_get_past slots k (omega (arith, here.0)) in
-                  ap (is_idle_at counted surrogates) past ∙ sym (ap (is_idle_slot counted' surrogates') (sym here.1) ∙ last_waits)
-            ]
-      ] refl
+  pub idle_pushed : (idle : List ℕ) → ArePassing (is_idle_in counted surrogates) surrogates slots idle → ArePassing (is_idle_in counted' surrogates') surrogates' more idle
+  idle_pushed =
+      marked_pushed (is_idle_in counted surrogates) (is_idle_in counted' surrogates')
+      (idle_agree rep counted counted' surrogates surrogates' (same_elsewhere rep counted counted' (Some no_counts) counts) (same_elsewhere rep surrogates surrogates' (Some (waiting_surrogate n)) puts)) not_idle
+
+  pub spare_pushed : (kept kept' : List (WireRep × Bool)) → SameMarks kept kept' → (spare : List ℕ) → ArePassing (is_spare_in counted surrogates kept) surrogates slots spare
+      → ArePassing (is_spare_in counted' surrogates' kept') surrogates' more spare
+  spare_pushed kept kept' marks =
+      marked_pushed (is_spare_in counted surrogates kept) (is_spare_in counted' surrogates' kept')
+      (spare_agree rep counted counted' surrogates surrogates' (same_elsewhere rep counted counted' (Some no_counts) counts) (same_elsewhere rep surrogates surrogates' (Some (waiting_surrogate n)) puts) kept kept' (λ other u. marks other))
+      (ap (λ (b : Bool). b && not (is_marked (row_at kept' rep))) not_idle)
 
   covers_pushed : (owner upto few : ℕ) → upto ≤ length slots → Covers slots surrogates owner upto few → Covers more surrogates' owner upto few
   covers_pushed owner upto few short covers = record {

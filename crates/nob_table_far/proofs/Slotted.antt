@@ -1,5 +1,5 @@
 -- Slots beside the rows: where a surrogate's slot is, and what a change of one reference's rows makes of them.
-use Rattle.std.proofs.Common.{◌≡◌, ℕ, ◌<◌, ◌≤◌, Bool, true, false, ◌==◌, ◌&&◌, List, length, Option, Some, None, IfSome, slice_get, refl, sym, ap, ap₂, subst, ◌∙◌, if◌then◌else◌, eqb-true, true≢false}
+use Rattle.std.proofs.Common.{◌≡◌, ℕ, ◌<◌, ◌≤◌, Bool, true, false, ◌==◌, ◌&&◌, not, List, length, Option, Some, None, IfSome, slice_get, refl, sym, ap, ap₂, subst, ◌∙◌, if◌then◌else◌, eqb-true, true≢false}
 use Rattle.std.proofs.lemmas.Cmp.{nat_eq_equiv}
 use Rattle.std.specs.Option.{option_map}
 use Rattle.nob_ids.specs.declared.wire_rep.WireRep.{WireRep}
@@ -8,7 +8,8 @@ use Rattle.nob_marks.specs.Marks.{has}
 use Rattle.nob_table_rows.specs.declared.counts.Counts.{Counts}
 use Rattle.nob_table_far.specs.declared.order.Slot.{Slot}
 use Rattle.nob_table_rows.specs.declared.standing.Surrogate.{Surrogate}
-use Rattle.nob_table_far.specs.Far.{has_place, is_current, is_idle_slot, is_idle_at, AreInOrder, AreMarked, Covers, IsOrdered}
+use Rattle.nob_table_far.specs.Far.{has_place, is_current, is_idle_in, is_spare_in, passes_slot, passes_at, AreInOrder, HaveSlots, ArePassing, Covers, IsOrdered}
+use Rattle.nob_table_rows.specs.Objects.{is_marked}
 use Rattle.nob_table_rows.specs.Order.{place_in}
 use Rattle.nob_rows.specs.Rows.{row_at, Puts}
 use Rattle.nob_table_rows.specs.Standings.{far_standing, is_idle}
@@ -37,6 +38,22 @@ SameElsewhere rep old new = (other : WireRep) → is_same rep other ≡ false �
 pub same_elsewhere : {X : Type 0} (rep : WireRep) (old new : List (WireRep × X)) (row : Option X) → Puts old new rep row → SameElsewhere rep old new
 same_elsewhere rep old new row puts other u = puts other ∙ rw u refl
 
+-- every other reference has the same mark in both
+abbrev pub SameMarksElsewhere : WireRep → List (WireRep × Bool) → List (WireRep × Bool) → Type 0
+SameMarksElsewhere rep old new = (other : WireRep) → is_same rep other ≡ false → is_marked (row_at new other) ≡ is_marked (row_at old other)
+
+-- both tests say the same of every other reference
+abbrev pub AgreeElsewhere : WireRep → (WireRep → Bool) → (WireRep → Bool) → Type 0
+AgreeElsewhere rep old new = (other : WireRep) → is_same rep other ≡ false → new other ≡ old other
+
+-- what is idle and what is spare, where one reference's rows were changed
+module _ (rep : WireRep) (counted counted' : List (WireRep × Counts)) (surrogates surrogates' : List (WireRep × Surrogate)) (counts : SameElsewhere rep counted counted') (rows : SameElsewhere rep surrogates surrogates') where
+  pub idle_agree : AgreeElsewhere rep (is_idle_in counted surrogates) (is_idle_in counted' surrogates')
+  idle_agree other u = ap₂ (λ (o : Option Surrogate) (p : Option Counts). is_idle (far_standing o p)) (rows other u) (counts other u)
+
+  pub spare_agree : (kept kept' : List (WireRep × Bool)) → SameMarksElsewhere rep kept kept' → AgreeElsewhere rep (is_spare_in counted surrogates kept) (is_spare_in counted' surrogates' kept')
+  spare_agree kept kept' marks other u = ap₂ (λ (idle mark : Bool). idle && not mark) (idle_agree other u) (marks other u)
+
 -- the surrogates of new are ones of old, at the same places
 abbrev pub Fewer : List (WireRep × Surrogate) → List (WireRep × Surrogate) → Type 0
 Fewer old new = (rep : WireRep) (place : ℕ) → place_in new rep ≡ Some place → place_in old rep ≡ Some place
@@ -52,34 +69,34 @@ module _ (slots : List Slot) (rise : AreInOrder slots) where
   position_is = point_is (λ (s : Slot). s.place) slots rise
 
   -- a change of one reference's rows, and of the bit of its slot
-  module _ (counted counted' : List (WireRep × Counts)) (surrogates surrogates' : List (WireRep × Surrogate)) (at : ℕ) (e : Slot) (got : slice_get slots at ≡ Some e)
+  module _ (test test' : WireRep → Bool) (surrogates surrogates' : List (WireRep × Surrogate)) (at : ℕ) (e : Slot) (got : slice_get slots at ≡ Some e)
       (was : IfSome (place_in surrogates e.rep) (λ p. p ≡ e.place)) (is : IfSome (place_in surrogates' e.rep) (λ p. p ≡ e.place))
-      (counts : SameElsewhere e.rep counted counted') (rows : SameElsewhere e.rep surrogates surrogates') where
+      (agree : AgreeElsewhere e.rep test test') (rows : SameElsewhere e.rep surrogates surrogates') where
     not_there : (some : List (WireRep × Surrogate)) → IfSome (place_in some e.rep) (λ p. p ≡ e.place) → (f : Slot) → e.rep ≡ f.rep → (e.place ≡ f.place → ⊥) → is_current some f ≡ false
     not_there some here f same apart = misplaced (place_in some f.rep) e.place f.place (subst (λ (w : WireRep). IfSome (place_in some w) (λ p. p ≡ e.place)) same here) apart
 
-    other_slot : (f : Slot) → (e.place ≡ f.place → ⊥) → is_idle_slot counted surrogates f ≡ is_idle_slot counted' surrogates' f
+    other_slot : (f : Slot) → (e.place ≡ f.place → ⊥) → passes_slot test surrogates f ≡ passes_slot test' surrogates' f
     other_slot f apart =
-        elim (is_same e.rep f.rep) as (λ b. is_same e.rep f.rep ≡ b → is_idle_slot counted surrogates f ≡ is_idle_slot counted' surrogates' f) [
+        elim (is_same e.rep f.rep) as (λ b. is_same e.rep f.rep ≡ b → passes_slot test surrogates f ≡ passes_slot test' surrogates' f) [
           | true ↦ λ t.
               let same : e.rep ≡ f.rep = same_is e.rep f.rep t in
               let before : is_current surrogates f ≡ false = not_there surrogates was f same apart in
               let after : is_current surrogates' f ≡ false = not_there surrogates' is f same apart in rw (before, after) refl
           | false ↦ λ u.
-              ap₂ (λ (o : Option Surrogate) (p : Option Counts). has_place (option_map (λ (s : Surrogate). s.place) o) f.place && is_idle (far_standing o p)) (sym (rows f.rep u)) (sym (counts f.rep u))
+              ap₂ (λ (o : Option Surrogate) (b : Bool). has_place (option_map (λ (s : Surrogate). s.place) o) f.place && b) (sym (rows f.rep u)) (sym (agree f.rep u))
         ] refl
 
-    others : (k : ℕ) → (k ≡ at → ⊥) → is_idle_at counted surrogates (slice_get slots k) ≡ is_idle_at counted' surrogates' (slice_get slots k)
+    others : (k : ℕ) → (k ≡ at → ⊥) → passes_at test surrogates (slice_get slots k) ≡ passes_at test' surrogates' (slice_get slots k)
     others k apart =
-        elim (slice_get slots k) as (λ o. slice_get slots k ≡ o → is_idle_at counted surrogates o ≡ is_idle_at counted' surrogates' o) [
+        elim (slice_get slots k) as (λ o. slice_get slots k ≡ o → passes_at test surrogates o ≡ passes_at test' surrogates' o) [
           | None ↦ λ x. refl
           | Some f ↦ λ x. other_slot f (λ same. apart (same_slot k at f e x got (sym same)))
         ] refl
 
-    pub remarked : (idle idle' : List ℕ) (b : Bool) → AreMarked counted surrogates slots idle → ((k : ℕ) → has idle' k ≡ (if k == at then b else has idle k)) → b ≡ is_idle_slot counted' surrogates' e
-        → AreMarked counted' surrogates' slots idle'
-    remarked idle idle' b marked written says k =
-        elim (k == at) as (λ t. (k == at) ≡ t → has idle' k ≡ is_idle_at counted' surrogates' (slice_get slots k)) [
+    pub remarked : (marks marks' : List ℕ) (b : Bool) → ArePassing test surrogates slots marks → ((k : ℕ) → has marks' k ≡ (if k == at then b else has marks k)) → b ≡ passes_slot test' surrogates' e
+        → ArePassing test' surrogates' slots marks'
+    remarked marks marks' b marked written says k =
+        elim (k == at) as (λ t. (k == at) ≡ t → has marks' k ≡ passes_at test' surrogates' (slice_get slots k)) [
           | true ↦ λ t.
               let there : slice_get slots k ≡ Some e = ap (λ (j : ℕ). slice_get slots j) (eqb-true k at t) ∙ got in
               written k ∙ rw (t, there) says
@@ -88,17 +105,17 @@ module _ (slots : List Slot) (rise : AreInOrder slots) where
               written k ∙ (rw u (marked k ∙ others k apart))
         ] refl
 
--- other counts of a reference without a surrogate
-pub marked_without : (counted counted' : List (WireRep × Counts)) (surrogates : List (WireRep × Surrogate)) (slots : List Slot) (idle : List ℕ) (rep : WireRep) → row_at surrogates rep ≡ None
-    → SameElsewhere rep counted counted' → AreMarked counted surrogates slots idle → AreMarked counted' surrogates slots idle
-marked_without counted counted' surrogates slots idle rep none counts marked k =
-    marked k ∙ elim (slice_get slots k) as (λ o. is_idle_at counted surrogates o ≡ is_idle_at counted' surrogates o) [
+-- another test, of a reference without a surrogate
+pub marked_without : (test test' : WireRep → Bool) (surrogates : List (WireRep × Surrogate)) (slots : List Slot) (marks : List ℕ) (rep : WireRep) → row_at surrogates rep ≡ None
+    → AgreeElsewhere rep test test' → ArePassing test surrogates slots marks → ArePassing test' surrogates slots marks
+marked_without test test' surrogates slots marks rep none agree marked k =
+    marked k ∙ elim (slice_get slots k) as (λ o. passes_at test surrogates o ≡ passes_at test' surrogates o) [
       | None ↦ refl
-      | Some f ↦ elim (is_same rep f.rep) as (λ b. is_same rep f.rep ≡ b → is_idle_slot counted surrogates f ≡ is_idle_slot counted' surrogates f) [
+      | Some f ↦ elim (is_same rep f.rep) as (λ b. is_same rep f.rep ≡ b → passes_slot test surrogates f ≡ passes_slot test' surrogates f) [
         | true ↦ λ t.
             let gone : row_at surrogates f.rep ≡ None = ap (λ (w : WireRep). row_at surrogates w) (sym (same_is rep f.rep t)) ∙ none in
             let no : is_current surrogates f ≡ false = ap (λ (o : Option Surrogate). has_place (option_map (λ (s : Surrogate). s.place) o) f.place) gone in rw no refl
-        | false ↦ λ u. ap (λ (p : Option Counts). is_current surrogates f && is_idle (far_standing (row_at surrogates f.rep) p)) (sym (counts f.rep u))
+        | false ↦ λ u. ap (λ (b : Bool). is_current surrogates f && b) (sym (agree f.rep u))
       ] refl
     ]
 
@@ -114,48 +131,39 @@ module _ (slots : List Slot) (surrogates surrogates' : List (WireRep × Surrogat
   }
 
   -- where surrogates go and the bits are right
-  pub ordered_fewer : (counted counted' : List (WireRep × Counts)) (before ends idle idle' : List ℕ) → IsOrdered counted surrogates slots before ends idle → AreMarked counted' surrogates' slots idle' → IsOrdered counted' surrogates' slots before ends idle'
-  ordered_fewer counted counted' before ends idle idle' ordered marked = record {
+  pub ordered_fewer : (counted counted' : List (WireRep × Counts)) (kept kept' : List (WireRep × Bool)) (before ends idle spare idle' spare' : List ℕ) → IsOrdered counted surrogates kept slots before ends idle spare
+      → ArePassing (is_idle_in counted' surrogates') surrogates' slots idle' → ArePassing (is_spare_in counted' surrogates' kept') surrogates' slots spare' → IsOrdered counted' surrogates' kept' slots before ends idle' spare'
+  ordered_fewer counted counted' kept kept' before ends idle spare idle' spare' ordered idle_are spare_are = record {
     in_order = ordered.in_order;
     have_slots = λ rep place is. ordered.have_slots rep place (fewer rep place is);
-    marked = marked;
+    idle_are = idle_are;
+    spare_are = spare_are;
     linked = λ at few slot less got b. covers_fewer slot.rep.owner at few (ordered.linked at few slot less got b);
     ended = λ owner few is. covers_fewer owner (length slots) few (ordered.ended owner few is);
     same = ordered.same;
   }
 
--- where the bits are the same
-pub ordered_bits : (counted : List (WireRep × Counts)) (surrogates : List (WireRep × Surrogate)) (slots : List Slot) (before ends idle idle' : List ℕ) → IsOrdered counted surrogates slots before ends idle
-    → ((at : ℕ) → has idle' at ≡ has idle at) → IsOrdered counted surrogates slots before ends idle'
-ordered_bits counted surrogates slots before ends idle idle' ordered same = record {
-  in_order = ordered.in_order;
-  have_slots = ordered.have_slots;
-  marked = λ at. same at ∙ ordered.marked at;
-  linked = ordered.linked;
-  ended = ordered.ended;
-  same = ordered.same;
-}
-
--- where one row is put, at the place that the reference had
-pub fewer_put : (surrogates surrogates' : List (WireRep × Surrogate)) (rep : WireRep) (row : Option Surrogate) → Puts surrogates surrogates' rep row
-    → IfSome (option_map (λ (s : Surrogate). s.place) row) (λ p. place_in surrogates rep ≡ Some p) → Fewer surrogates surrogates'
-fewer_put surrogates surrogates' rep row puts had other place is =
-    elim (is_same rep other) as (λ b. is_same rep other ≡ b → place_in surrogates other ≡ Some place) [
+-- where one reference's row is another, at the place that it had, or gone
+pub fewer_at : (surrogates surrogates' : List (WireRep × Surrogate)) (rep : WireRep) (place : ℕ) → place_in surrogates rep ≡ Some place → IfSome (place_in surrogates' rep) (λ p. p ≡ place)
+    → SameElsewhere rep surrogates surrogates' → Fewer surrogates surrogates'
+fewer_at surrogates surrogates' rep place had has' rows other number is =
+    elim (is_same rep other) as (λ b. is_same rep other ≡ b → place_in surrogates other ≡ Some number) [
       | true ↦ λ t.
-          let there : row_at surrogates' other ≡ row = puts other ∙ rw t refl in
-          let number : option_map (λ (s : Surrogate). s.place) row ≡ Some place = sym (ap (option_map (λ (s : Surrogate). s.place)) there) ∙ is in
-          let here : place_in surrogates rep ≡ Some place = subst (λ (o : Option ℕ). IfSome o (λ p. place_in surrogates rep ≡ Some p)) number had in
-          ap (λ (w : WireRep). place_in surrogates w) (sym (same_is rep other t)) ∙ here
-      | false ↦ λ u. let there : row_at surrogates' other ≡ row_at surrogates other = puts other ∙ rw u refl in sym (ap (option_map (λ (s : Surrogate). s.place)) there) ∙ is
+          let same : rep ≡ other = same_is rep other t in
+          let there : place_in surrogates' rep ≡ Some number = ap (λ (w : WireRep). place_in surrogates' w) same ∙ is in
+          let equal : number ≡ place = subst (λ (o : Option ℕ). IfSome o (λ p. p ≡ place)) there has' in
+          ap (λ (w : WireRep). place_in surrogates w) (sym same) ∙ had ∙ ap (λ (n : ℕ). Some n) (sym equal)
+      | false ↦ λ u. sym (ap (option_map (λ (s : Surrogate). s.place)) (rows other u)) ∙ is
     ] refl
 
 -- the bits after the bit of a surrogate's slot was written
-pub marked_at : (counted counted' : List (WireRep × Counts)) (surrogates surrogates' : List (WireRep × Surrogate)) (slots : List Slot) (before ends idle idle' : List ℕ) → IsOrdered counted surrogates slots before ends idle
-    → (rep : WireRep) (place : ℕ) → place_in surrogates rep ≡ Some place → IfSome (place_in surrogates' rep) (λ p. p ≡ place) → SameElsewhere rep counted counted' → SameElsewhere rep surrogates surrogates'
+pub marked_at : (test test' : WireRep → Bool) (surrogates surrogates' : List (WireRep × Surrogate)) (slots : List Slot) → AreInOrder slots → HaveSlots surrogates slots
+    → (rep : WireRep) (place : ℕ) → place_in surrogates rep ≡ Some place → IfSome (place_in surrogates' rep) (λ p. p ≡ place) → AgreeElsewhere rep test test' → SameElsewhere rep surrogates surrogates'
+    → (marks marks' : List ℕ) → ArePassing test surrogates slots marks
     → ((at : ℕ) → slice_get slots at ≡ Some (record { place = place; rep = rep })
-    → (other : ℕ) → has idle' other ≡ (if other == at then is_idle_slot counted' surrogates' (record { place = place; rep = rep }) else has idle other)) → AreMarked counted' surrogates' slots idle'
-marked_at counted counted' surrogates surrogates' slots before ends idle idle' ordered rep place is now counts rows written =
+    → (other : ℕ) → has marks' other ≡ (if other == at then passes_slot test' surrogates' (record { place = place; rep = rep }) else has marks other)) → ArePassing test' surrogates' slots marks'
+marked_at test test' surrogates surrogates' slots in_order have rep place is now agree rows marks marks' marked written =
     let e : Slot = record { place = place; rep = rep } in
-    let found = ordered.have_slots rep place is in
+    let found = have rep place is in
     let was : IfSome (place_in surrogates rep) (λ p. p ≡ place) = subst (λ (o : Option ℕ). IfSome o (λ p. p ≡ place)) (sym is) refl in
-    remarked slots ordered.in_order counted counted' surrogates surrogates' found.0 e found.1 was now counts rows idle idle' (is_idle_slot counted' surrogates' e) ordered.marked (written found.0 found.1) refl
+    remarked slots in_order test test' surrogates surrogates' found.0 e found.1 was now agree rows marks marks' (passes_slot test' surrogates' e) marked (written found.0 found.1) refl

@@ -44,6 +44,14 @@ surrogates_in rows = each_row (λ marked. marked.surrogate) rows
 abbrev pub marks_in : List (WireRep × Marked) → List (WireRep × Bool)
 marks_in rows = each_row (λ marked. marked.kept) rows
 
+-- a reference has a mark exactly where it has a surrogate
+abbrev pub HaveMarks : List (WireRep × Surrogate) → List (WireRep × Bool) → Type 0
+HaveMarks surrogates kept = (rep : WireRep) → is_some (row_at kept rep) ≡ is_some (row_at surrogates rep)
+
+-- the references of other owners have the marks that they had
+abbrev pub KeepMarks : ℕ → List (WireRep × Bool) → List (WireRep × Bool) → Type 0
+KeepMarks owner old new = (rep : WireRep) → (rep.owner == owner) ≡ false → row_at new rep ≡ row_at old rep
+
 -- the surrogate with this reference is idle
 abbrev pub is_idle_in : List (WireRep × Counts) → List (WireRep × Surrogate) → WireRep → Bool
 is_idle_in counted surrogates rep = is_idle (far_standing (row_at surrogates rep) (row_at counted rep))

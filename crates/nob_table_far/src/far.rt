@@ -248,12 +248,12 @@ impl Far {
         ensures dirties { self.new.dirties ≡ self.old.dirties }
         ensures room { self.new.room ≡ self.old.room }
     {
-        let Some(surrogate) = self.surrogates.get(*rep) else {
+        let Some(marked) = self.surrogates.row(*rep) else {
             return;
         };
         self.surrogates.mark(rep, kept);
         let slot = Slot {
-            place: surrogate.place,
+            place: marked.surrogate.place,
             rep: *rep,
         };
         self.order.mark(&self.counted, &self.surrogates, &slot);

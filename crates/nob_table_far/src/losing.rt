@@ -4,7 +4,7 @@ ghost use Rattle.std.specs.Prelude.{◌≡◌, ℕ, ◌==◌, ◌&&◌, ◌+◌,
 ghost use Rattle.nob_marks.specs.Marks.{has, bound};
 ghost use Rattle.nob_ids.specs.declared.wire_rep.WireRep.{WireRep};
 ghost use Rattle.nob_table_rows.specs.Counts.{is_held};
-ghost use Rattle.nob_table_far.specs.Far.{IsOrdered, is_closed};
+ghost use Rattle.nob_table_far.specs.Far.{IsOrdered, KeepMarks, is_closed};
 ghost use Rattle.nob_rows.specs.Rows.{row_at, Puts, IsOnce, keep_if};
 
 use crate::order::{Order, is_current, number_of};
@@ -71,8 +71,7 @@ pub fn lose_all(
     ensures spare_bound { bound order.new.spare ≡ bound order.old.spare }
     ensures surrogates { (rep : WireRep) → row_at surrogates.new.rows rep
         ≡ (if rep.owner == owner then None else row_at surrogates.old.rows rep) }
-    ensures kept { (rep : WireRep) → row_at surrogates.new.kept rep
-        ≡ (if rep.owner == owner then None else row_at surrogates.old.kept rep) }
+    ensures kept { KeepMarks owner surrogates.old.kept surrogates.new.kept }
     ensures counted { (rep : WireRep) → row_at counted.new.rows rep
         ≡ (if is_closed surrogates.old.rows owner rep
         then keep_if is_held (row_at counted.old.rows rep) else row_at counted.old.rows rep) }

@@ -6,7 +6,7 @@ ghost use Rattle.nob_marks.specs.Marks.{has, bound};
 ghost use Rattle.nob_ids.specs.declared.wire_rep.WireRep.{WireRep};
 ghost use Rattle.nob_table_rows.specs.declared.counts.Counts.{Counts};
 ghost use Rattle.nob_table_rows.specs.declared.standing.Surrogate.{Surrogate};
-ghost use Rattle.nob_table_far.specs.Far.{most_owners, AreInOrder, AreSent, HaveSlots, AreLinked, AreEnds, ArePassing, NonePassing, IsFirstPassing, IsOrdered, is_current, is_idle_in, is_spare_in, passes_slot, passes_at};
+ghost use Rattle.nob_table_far.specs.Far.{most_owners, AreInOrder, AreSent, HaveMarks, HaveSlots, AreLinked, AreEnds, ArePassing, NonePassing, IsFirstPassing, IsOrdered, is_current, is_idle_in, is_spare_in, passes_slot, passes_at};
 
 use crate::surrogates::Surrogates;
 use nob_ids::{SpaceId, WireRep};
@@ -246,6 +246,7 @@ impl Order {
             → AreSent self.new.slots.items dirties }
         ensures len { length self.new.slots.items ≤ length self.old.slots.items }
         ensures few { length self.new.slots.items ≤ 2 * length surrogates.now.rows + 1 }
+        ensures marks { HaveMarks surrogates.now.rows surrogates.now.kept }
         ensures slots_kept { vec_capacity self.new.slots ≡ vec_capacity self.old.slots }
         ensures before_kept { vec_capacity self.new.before ≡ vec_capacity self.old.before }
         ensures idle_kept { bound self.new.idle ≡ bound self.old.idle }

@@ -1,7 +1,7 @@
 use Rattle.std.proofs.Common.{◌≡◌, ◌==◌, ◌&&◌, Bool, not, true, false, Option, None, is_some, if◌then◌else◌, refl, ap, ◌∙◌, arith}
 use Rattle.nob_ids.specs.declared.wire_rep.WireRep.{WireRep}
 use Rattle.nob_table_rows.specs.declared.standing.Surrogate.{Surrogate}
-use Rattle.nob_table_far.proofs.Lost.{closed_all}
+use Rattle.nob_table_far.proofs.Lost.{closed_all, marks_left}
 use Rattle.nob_table_rows.proofs.Same.{left_length}
 use Rattle.nob_table_far.proofs.far.Far.close.Goals as goal
 
@@ -21,7 +21,8 @@ invariant_of-self c = record {
             let fewer = rw after.slots at c.tidy.ensures.len in
             let kept = rw after.before at c.tidy.ensures.before_kept in
             omega (arith, fewer, kept, far.before_room, far.ordered.same, c.tidy.ensures.ordered.same);
-        idle_room = let fewer = rw after.slots at c.tidy.ensures.len in omega (arith, fewer, c.tidy.ensures.idle_kept, after.bound, far.idle_room);
+        idle_room = let fewer = rw after.slots at c.tidy.ensures.len in omega (arith, fewer, c.tidy.ensures.idle_kept, after.idle_bound, far.idle_room);
+        spare_room = let fewer = rw after.slots at c.tidy.ensures.len in omega (arith, fewer, c.tidy.ensures.spare_kept, after.spare_bound, far.spare_room);
       };
   few = c.tidy.ensures.few;
 }
@@ -38,3 +39,7 @@ returns-clause-len c =
 pub returns-clause-counted : goal.returns-clause-counted
 returns-clause-counted c =
     rw (← c.self.view_is) (closed_all c.self.inside.counted.rows c.lose_all.new.counted.rows c.self.inside.surrogates.rows c.args.owner (rw (← c.self.view_is) at c.requires.held) c.lose_all.ensures.counted)
+
+pub returns-clause-kept : goal.returns-clause-kept
+returns-clause-kept c =
+    rw (← c.self.view_is) (marks_left c.args.owner c.self.inside.surrogates.rows c.lose_all.new.surrogates.rows c.self.inside.surrogates.kept c.lose_all.new.surrogates.kept c.lose_all.ensures.surrogates c.tidy.ensures.marks c.lose_all.ensures.kept)

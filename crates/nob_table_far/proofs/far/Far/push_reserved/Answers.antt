@@ -7,7 +7,7 @@ use Rattle.nob_table_rows.specs.Counts.{no_counts}
 use Rattle.nob_rows.specs.Rows.{row_at, Puts}
 use Rattle.nob_table_rows.specs.Standings.{waiting_surrogate}
 use Rattle.nob_table_rows.proofs.Flat.{length_push}
-use Rattle.nob_table_far.proofs.Pushed.{in_order_pushed, sent_pushed, have_pushed, marked_pushed, linked_pushed, ends_pushed}
+use Rattle.nob_table_far.proofs.Pushed.{in_order_pushed, sent_pushed, have_pushed, idle_pushed, spare_pushed, linked_pushed, ends_pushed}
 use Rattle.nob_table_far.proofs.far.Far.push_reserved.Goals as goal
 
 pub invariant_of-self : goal.invariant_of-self
@@ -27,13 +27,16 @@ invariant_of-self c =
     (linked_pushed counted c.push.new.self.rows surrogates c.push-2.new.self.rows slots rep n far.sent none counts puts c.self.inside.order.before.items far.ordered.linked)
     (ends_pushed counted c.push.new.self.rows surrogates c.push-2.new.self.rows slots rep n far.sent none counts puts c.self.inside.order.ends far.ordered.ended) in
     let longer : length c.push-3.new.self.slots.items ≡ length slots + 1 = rw c.push-3.ensures.slots (omega (arith, length_push slots slot)) in
-    let more : length c.push-2.new.self.rows ≡ length surrogates + 1 = rw c.push-2.ensures.rows (omega (arith, length_push surrogates (rep, c.waiting_surrogate.result))) in
+    let more : length c.push-2.new.self.rows ≡ length surrogates + 1 = c.push-2.ensures.len in
     record {
       far = record {
         ordered = record {
           in_order = rw c.push-3.ensures.slots (in_order_pushed counted c.push.new.self.rows surrogates c.push-2.new.self.rows slots rep n far.sent none counts puts far.ordered.in_order);
           have_slots = rw c.push-3.ensures.slots (have_pushed counted c.push.new.self.rows surrogates c.push-2.new.self.rows slots rep n far.sent none counts puts far.ordered.have_slots);
-          marked = rw (c.push-3.ensures.slots, c.push-3.ensures.idle) (marked_pushed counted c.push.new.self.rows surrogates c.push-2.new.self.rows slots rep n far.sent none counts puts c.self.inside.order.idle far.ordered.marked);
+          idle_are = rw (c.push-3.ensures.slots, c.push-3.ensures.idle) (idle_pushed counted c.push.new.self.rows surrogates c.push-2.new.self.rows slots rep n far.sent none counts puts c.self.inside.order.idle far.ordered.idle_are);
+          spare_are =
+              rw (c.push-3.ensures.slots, c.push-3.ensures.spare) (spare_pushed counted c.push.new.self.rows surrogates c.push-2.new.self.rows slots rep n far.sent none counts puts
+              c.self.inside.surrogates.kept c.push-2.new.self.kept c.push-2.ensures.kept c.self.inside.order.spare far.ordered.spare_are);
           linked = tied.0;
           ended = tied.1;
           same = omega (arith, c.push-3.ensures.len, longer, far.ordered.same);
@@ -45,6 +48,7 @@ invariant_of-self c =
         slots_room = omega (arith, longer, c.push-3.ensures.slots_kept, far.slots_room, some);
         before_room = omega (arith, c.push-3.ensures.len, c.push-3.ensures.before_kept, far.before_room, some);
         idle_room = rw c.push-3.ensures.idle (omega (arith, longer, far.idle_room, some));
+        spare_room = rw c.push-3.ensures.spare (omega (arith, longer, far.spare_room, some));
       };
       few = omega (arith, longer, more, c.self.invariant.few);
     }

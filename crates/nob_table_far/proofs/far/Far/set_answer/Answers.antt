@@ -4,9 +4,9 @@ use Rattle.nob_ids.specs.declared.wire_rep.WireRep.{WireRep}
 use Rattle.nob_table_rows.specs.declared.standing.Surrogate.{Surrogate}
 use Rattle.nob_table_rows.specs.Order.{place_in}
 use Rattle.nob_rows.specs.Rows.{row_at, Puts}
-use Rattle.nob_table_far.proofs.Kept.{far_marked}
+use Rattle.nob_table_far.proofs.Kept.{far_written}
 use Rattle.nob_table_rows.proofs.Keys.{put_there}
-use Rattle.nob_table_far.proofs.Slotted.{fewer_put, same_elsewhere, marked_at}
+use Rattle.nob_table_far.proofs.Slotted.{same_elsewhere}
 use Rattle.nob_table_far.proofs.far.Far.set_answer.Goals as goal
 
 pub invariant_of-self : goal.invariant_of-self
@@ -22,11 +22,9 @@ invariant_of-self c = record {
       let puts : Puts surrogates c.set.new.self.rows rep (Some c.with_grant.result) = c.set.ensures.rows in
       let after : place_in c.set.new.self.rows rep ≡ Some c.with_grant.result.place = ap (option_map (λ (s : Surrogate). s.place)) (put_there surrogates c.set.new.self.rows rep (Some c.with_grant.result) puts) in
       let now : IfSome (place_in c.set.new.self.rows rep) (λ p. p ≡ place) = subst (λ (o : Option ℕ). IfSome o (λ p. p ≡ place)) (sym after) same in
-      far_marked c.self.inside.counted c.self.inside.surrogates c.self.inside.dirties c.self.inside.order c.self.inside.room far c.self.inside.counted c.set.new.self c.mark.new.self c.set.ensures.once far.counted_room
-      (omega (arith, c.set.ensures.room, far.surrogates_room)) c.mark.ensures.slots c.mark.ensures.before c.mark.ensures.ends c.mark.ensures.bound
-      (fewer_put surrogates c.set.new.self.rows rep (Some c.with_grant.result) puts (is ∙ ap (λ (n : ℕ). Some n) (sym same)))
-      (marked_at c.self.inside.counted.rows c.self.inside.counted.rows surrogates c.set.new.self.rows c.self.inside.order.slots.items c.self.inside.order.before.items c.self.inside.order.ends c.self.inside.order.idle c.mark.new.self.idle far.ordered
-      rep place is now (λ other u. refl) (same_elsewhere rep surrogates c.set.new.self.rows (Some c.with_grant.result) puts) c.mark.ensures.written);
+      far_written c.self.inside.counted c.self.inside.surrogates c.self.inside.dirties c.self.inside.order c.self.inside.room far rep place is c.self.inside.counted c.set.new.self c.mark.new.self c.set.ensures.once far.counted_room
+      (omega (arith, c.set.ensures.room, far.surrogates_room)) c.mark.ensures.slots c.mark.ensures.before c.mark.ensures.ends c.mark.ensures.idle_bound c.mark.ensures.spare_bound now (λ other u. refl)
+      (same_elsewhere rep surrogates c.set.new.self.rows (Some c.with_grant.result) puts) (λ other u. c.set.ensures.kept other) c.mark.ensures.idle c.mark.ensures.spare;
   few = rw c.mark.ensures.slots (omega (arith, c.set.ensures.len, c.self.invariant.few));
 }
 

@@ -5,10 +5,11 @@ use Rattle.nob_table_far.proofs.Linked.{ends_none, linked_none}
 use Rattle.nob_table_far.proofs.order.Order.new.Goals as goal
 
 pub returns-clause-ordered : goal.returns-clause-ordered
-returns-clause-ordered c = rw (c.new.ensures.items, c.new-2.ensures.items, c.new-3.ensures) (record {
+returns-clause-ordered c = rw (c.new.ensures.items, c.new-2.ensures.items, c.new-3.ensures, c.new-4.ensures) (record {
   in_order = λ i j e f less got. absurd (none-some e got);
   have_slots = λ rep place is. absurd (none-some place is);
-  marked = λ at. rw (bit_at-zero (at % 64)) refl;
+  idle_are = λ at. rw (bit_at-zero (at % 64)) refl;
+  spare_are = λ at. rw (bit_at-zero (at % 64)) refl;
   linked = linked_none [] [] [];
   ended = ends_none [] [] 33;
   same = refl;
