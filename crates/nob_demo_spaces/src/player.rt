@@ -3,8 +3,7 @@
 use crate::meeting::{MEETINGS, Meeting};
 use nob_demo_scenes::{Counter, Stop, Tally};
 use nob_ids::SpaceId;
-use nob_keeper::KeeperError;
-use nob_node::{App, Hold, Node, NodeError, Returned};
+use nob_node::{App, Hold, KeeperError, Node, NodeError, Returned};
 use nob_pickle::Value;
 use std::sync::Wait;
 

@@ -11,6 +11,7 @@ mod running;
 pub use app::App;
 pub use error::NodeError;
 pub use hold::{Hold, Returned};
-pub use nob_node_site::{Config, Ends, Left};
+pub use nob_keeper::KeeperError;
+pub use nob_node_site::{Config, Ends, Gate, Left, OpenGate};
 pub use node::Node;
 pub use running::{Report, run};

@@ -6,7 +6,7 @@ use Rattle.nob_pickle.specs.declared.value.Value.TheVariants as values
 use Rattle.nob_model_types.specs.declared.event.Event.{Event}
 use Rattle.nob_model_types.specs.declared.answer.Answer.{Answer}
 use Rattle.nob_model_types.specs.declared.refusal.Refusal.{Refusal}
-use Rattle.nob_keeper.specs.declared.receipt.Receipt.{Receipt}
+use Rattle.nob_node.specs.Receipt.{Receipt}
 use Rattle.nob_node.specs.Calls as calls
 use Rattle.nob_node.specs.declared.error.NodeError.{NodeError}
 use Rattle.nob_node.specs.declared.hold.Returned.{Returned}

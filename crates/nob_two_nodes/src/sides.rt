@@ -2,12 +2,11 @@
 
 use crate::partner::Partner;
 use crate::player::{Played, Player, Playing};
-use nob_dispatch::OpenGate;
 use nob_dispatch_objects::Object;
 use nob_fault::Shim;
 use nob_ids::{Limits, SpaceId};
 use nob_link::link;
-use nob_node::{App, Config, Ends, Report, run};
+use nob_node::{App, Config, Ends, OpenGate, Report, run};
 use std::alloc::Global;
 use std::sync::{Barrier, Wait};
 use std::thread::Threads;

@@ -1,7 +1,7 @@
 //! What the threads of a scene share.
 
-use nob_dispatch::Gate;
 use nob_ids::JobNo;
+use nob_node::Gate;
 use std::sync::atomic::{AtomicBool, Ordering};
 use std::sync::{Condvar, Mutex, Wait};
 use std::thread;
