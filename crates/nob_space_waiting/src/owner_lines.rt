@@ -22,7 +22,7 @@ pub struct Line {
     pub count: u64,
 }
 
-/// A place in a line, by the number of the line: no stranger chooses what is hashed.
+/// A place in a line, by the number of the line, which no stranger chooses.
 #[derive(Clone, Copy, Debug, PartialEq, Eq, Hash)]
 pub struct Place {
     pub line: u64,
