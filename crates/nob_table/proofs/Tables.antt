@@ -1,5 +1,5 @@
 -- What holds of every table: after a close, and of its surrogates.
-use Rattle.std.proofs.Common.{◌≡◌, ℕ, ◌<◌, ◌≤◌, Bool, true, false, ◌==◌, cond, List, [], ◌∷◌, length, filter, Option, Some, None, IsSome, IfSome, MatchOption, refl, sym, ap, subst, ◌∙◌, arith, is_some, if◌then◌else◌, true≢false}
+use Rattle.std.proofs.Common.{◌≡◌, ℕ, ◌<◌, ◌≤◌, Bool, true, false, ◌==◌, ◌&&◌, not, cond, List, [], ◌∷◌, length, filter, Option, Some, None, IsSome, IfSome, MatchOption, refl, sym, ap, ap₂, subst, ◌∙◌, arith, is_some, if◌then◌else◌, true≢false}
 use Rattle.std.proofs.lemmas.Option.{none-some}
 use Rattle.std.specs.Option.{option_map}
 use Rattle.nob_ids.specs.declared.wire_rep.WireRep.{WireRep}
@@ -7,11 +7,12 @@ use Rattle.nob_ids.specs.Names.{is_same}
 use Rattle.nob_table_rows.specs.declared.counts.Counts.{Counts}
 use Rattle.nob_table_rows.specs.declared.standing.Surrogate.{Surrogate}
 use Rattle.nob_table_rows.specs.Counts.{is_held}
+use Rattle.nob_table_rows.specs.Objects.{is_marked}
 use Rattle.nob_table_rows.specs.Order.{place_in}
-use Rattle.nob_table_far.specs.Far.{is_idle_in, NeverIdleIn, IsFirstIn}
+use Rattle.nob_table_far.specs.Far.{is_idle_in, is_spare_in, NeverIdleIn, IsFirstIn, NeverSpareIn, IsFirstSpareIn}
 use Rattle.nob_rows.specs.Rows.{row_at, Puts, keep_if}
 use Rattle.nob_table_rows.specs.Standings.{far_standing, is_idle}
-use Rattle.nob_table.specs.Table.{Table, IsTable, standing, NoneIdle, IsFirstIdle}
+use Rattle.nob_table.specs.Table.{Table, IsTable, standing, is_kept, is_spare, NoneIdle, IsFirstIdle, NeverSpareFrom, IsFirstSpareFrom}
 use Rattle.nob_table_rows.proofs.Keys.{kept_some}
 
 -- a filter is no longer
@@ -109,16 +110,32 @@ module _ (me exported dirties : ℕ) (objects counted : List (WireRep × Counts)
 
 -- a surrogate stands by its rows
 module _ (t : Table) (table : IsTable t.me t.exported t.dirties t.objects t.counted t.surrogates) where
-  far_same : (rep : WireRep) (place : ℕ) → place_in t.surrogates rep ≡ Some place → is_idle (standing t rep) ≡ is_idle_in t.counted t.surrogates rep
-  far_same rep place is =
+  -- it is another space's
+  not_own : (rep : WireRep) (place : ℕ) → place_in t.surrogates rep ≡ Some place → rep.owner == t.me ≡ false
+  not_own rep place is =
       let has : IsSome (row_at t.surrogates rep) =
       elim (row_at t.surrogates rep) as (λ o. option_map (λ s. s.place) o ≡ Some place → is_some o ≡ true) [ None ↦ λ e. absurd (none-some place e) | Some s ↦ λ e. refl ] is in
-      let far : rep.owner == t.me ≡ false = table.far rep (table.counts rep has) in
-      let same : standing t rep ≡ far_standing (row_at t.surrogates rep) (row_at t.counted rep) = rw far refl in
+      table.far rep (table.counts rep has)
+
+  far_same : (rep : WireRep) (place : ℕ) → place_in t.surrogates rep ≡ Some place → is_idle (standing t rep) ≡ is_idle_in t.counted t.surrogates rep
+  far_same rep place is =
+      let same : standing t rep ≡ far_standing (row_at t.surrogates rep) (row_at t.counted rep) = rw (not_own rep place is) refl in
       ap is_idle same
+
+  -- and has the mark of its row
+  spare_same : (rep : WireRep) (place : ℕ) → place_in t.surrogates rep ≡ Some place → is_spare t rep ≡ is_spare_in t.counted t.surrogates t.kept_surrogates rep
+  spare_same rep place is =
+      let mark : is_kept t rep ≡ is_marked (row_at t.kept_surrogates rep) = rw (not_own rep place is) refl in
+      ap₂ (λ (idle kept : Bool). idle && not kept) (far_same rep place is) mark
 
   -- the first idle surrogate among the rows is the table's
   pub first_of_table : (place : ℕ) (found : Option (ℕ × WireRep)) → MatchOption found (NeverIdleIn t.counted t.surrogates place) (λ f. IsFirstIn t.counted t.surrogates place f.0 f.1)
       → MatchOption found (NoneIdle t place t.dirties) (λ f. IsFirstIdle t place f.0 f.1)
   first_of_table place None never = λ rep p is low high. far_same rep p is ∙ never rep p is low
   first_of_table place (Some f) first = (first.0, first.1, far_same f.1 f.0 first.1 ∙ first.2, λ rep p is low high. far_same rep p is ∙ first.3 rep p is low high)
+
+  -- the first spare surrogate among the rows is the table's
+  pub first_spare_of_table : (place : ℕ) (found : Option (ℕ × WireRep)) → MatchOption found (NeverSpareIn t.counted t.surrogates t.kept_surrogates place) (λ f. IsFirstSpareIn t.counted t.surrogates t.kept_surrogates place f.0 f.1)
+      → MatchOption found (NeverSpareFrom t place) (λ f. IsFirstSpareFrom t place f.0 f.1)
+  first_spare_of_table place None never = λ rep p is low. spare_same rep p is ∙ never rep p is low
+  first_spare_of_table place (Some f) first = (first.0, first.1, spare_same f.1 f.0 first.1 ∙ first.2, λ rep p is low high. spare_same rep p is ∙ first.3 rep p is low high)

@@ -51,17 +51,22 @@ module _ (t : Table) (table : IsTable t.me t.exported t.dirties t.objects t.coun
       let given = table.given first.rep (ap is_some first.there) in
       (omega (arith, given.1, first.has), omega (arith, given.2, first.has))
 
+  -- an own reference has the mark of its row
+  own_kept : (index : ℕ) → is_kept t (own t index) ≡ is_marked (row_at t.kept (own t index))
+  own_kept index = rw (nat_eq_equiv.refl t.me) refl
+
   -- a row's object is spare where the row is
   spare_is : (index : ℕ) (counts : Counts) → row_at t.objects (own t index) ≡ Some counts → is_spare_at t index ≡ is_spare_row counts (row_at t.kept (own t index))
   spare_is index counts there =
-      ap (λ (b : Bool). b && not (is_kept t index)) (ap is_unheld (own_is index) ∙ ap (λ (o : Option Counts). is_unheld (own_standing (was_given t.exported index) o)) there)
+      ap (λ (b : Bool). b && not (is_kept t (own t index))) (ap is_unheld (own_is index) ∙ ap (λ (o : Option Counts). is_unheld (own_standing (was_given t.exported index) o)) there)
+      ∙ ap (λ (mark : Bool). not (is_held counts) && not mark) (own_kept index)
 
   -- an own reference isn't spare where its row, if it has one, isn't
   none_spare_at : (index : ℕ) → ((counts : Counts) → row_at t.objects (own t index) ≡ Some counts → is_spare_row counts (row_at t.kept (own t index)) ≡ false) → is_spare_at t index ≡ false
   none_spare_at index never =
       elim (row_at t.objects (own t index)) as (λ o. row_at t.objects (own t index) ≡ o → is_spare_at t index ≡ false) [
         | None ↦ λ e.
-            ap (λ (b : Bool). b && not (is_kept t index)) (ap is_unheld (own_is index) ∙ ap (λ (o : Option Counts). is_unheld (own_standing (was_given t.exported index) o)) e ∙ no_row (was_given t.exported index))
+            ap (λ (b : Bool). b && not (is_kept t (own t index))) (ap is_unheld (own_is index) ∙ ap (λ (o : Option Counts). is_unheld (own_standing (was_given t.exported index) o)) e ∙ no_row (was_given t.exported index))
         | Some counts ↦ λ e. spare_is index counts e ∙ never counts e
       ] refl
 

@@ -12,6 +12,7 @@ returns-clause-first c =
       kept = c.self.inside.objects.kept;
       counted = c.self.inside.far.counted;
       surrogates = c.self.inside.far.surrogates;
+      kept_surrogates = c.self.inside.far.kept;
       export_room = c.self.inside.objects.room;
       surrogate_room = c.self.inside.far.room;
     } in

@@ -11,6 +11,7 @@ table c = record {
   kept = c.self.inside.objects.kept;
   counted = c.self.inside.far.counted;
   surrogates = c.self.inside.far.surrogates;
+  kept_surrogates = c.self.inside.far.kept;
   export_room = c.self.inside.objects.room;
   surrogate_room = c.self.inside.far.room;
 }
