@@ -8,4 +8,3 @@ mod surrogates;
 
 pub use far::Far;
 pub use order::{Order, Slot};
-pub use surrogates::{Marked, Surrogates};
