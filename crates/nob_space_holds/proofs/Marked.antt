@@ -1,8 +1,10 @@
 -- What a table shows doesn't depend on what it keeps from outside, but that each of those references is used there.
-use Rattle.std.proofs.Common.{◌≡◌, ℕ, true, false, [], if◌then◌else◌, None, refl, sym, ap, subst, ◌∙◌}
+use Rattle.std.proofs.Common.{◌≡◌, ℕ, true, false, [], if◌then◌else◌, None, refl, sym, ap, subst, ◌∙◌, flat_map, List, Bool, ◌==◌}
 use Rattle.nob_ids.specs.declared.wire_rep.WireRep.{WireRep}
 use Rattle.nob_table_rows.specs.declared.standing.Standing.{Standing}
 use Rattle.nob_table_rows.specs.Counts.{is_held}
+use Rattle.nob_rows.specs.Rows.{row_at}
+use Rattle.nob_table_rows.specs.Objects.{is_marked}
 use Rattle.nob_table_rows.specs.Order.{place_in}
 use Rattle.nob_table_rows.specs.Standings.{is_live, is_surrogate}
 use Rattle.nob_table.specs.Table.{Table, stands, standing, is_kept, Unchanged}
@@ -25,6 +27,7 @@ unmarked t = record {
   dirties = t.dirties;
   objects = t.objects;
   kept = [];
+  kept_surrogates = [];
   counted = t.counted;
   surrogates = t.surrogates;
   export_room = t.export_room;
@@ -33,7 +36,10 @@ unmarked t = record {
 
 -- keeps nothing from outside
 pub none_kept : (t : Table) (rep : WireRep) → is_kept (unmarked t) rep ≡ true → ⊥
-none_kept t rep kept = let bad : false ≡ true = kept in absurd (cc)
+none_kept t rep kept = elim (rep.owner == t.me) as (λ b. is_marked (if b then row_at none rep else row_at none rep) ≡ true → ⊥) [ true ↦ λ e. absurd (let bad : false ≡ true = e in cc) | false ↦ λ e. absurd (let bad : false ≡ true = e in cc) ] kept
+  where
+    none : List (WireRep × Bool)
+    none = []
 
 -- a table has its own items
 pub unchanged : (t : Table) → Unchanged t t
@@ -73,15 +79,15 @@ module _ {s n : ℕ} {t : Table} {h : History} {H L : WireRep → ℕ} where
   }
 
 -- bundles that are the same pin the same
-pub same_pins : {h h' : History} → transit.bundles h' ≡ transit.bundles h → (rep : WireRep) → transit.pins rep h ≡ transit.pins rep h'
-same_pins same rep = λ i. times rep (flat_map (λ (item : SentItem). counted_in item.item) (sym same i))
+pub same_pins : (h h' : History) → transit.bundles h' ≡ transit.bundles h → (rep : WireRep) → transit.pins rep h ≡ transit.pins rep h'
+same_pins h h' same rep = λ i. times rep (flat_map (λ (item : SentItem). counted_in item.item) (sym same i))
 
-module _ {s : ℕ} {t u : Table} {h h' : History} where
+module _ (s : ℕ) (t u : Table) (h h' : History) where
   -- what is used is used where no more is kept, no pins are less, and the same clients are listed
   pub used_then : ((rep : WireRep) → is_kept u rep ≡ true → is_kept t rep ≡ true) → ((rep : WireRep) → transit.pins rep h' ≡ 0 → transit.pins rep h ≡ 0)
       → ((index client : ℕ) → is_listed s index client h'.deeds ≡ is_listed s index client h.deeds) → AreUsed s t h → AreUsed s u h'
-  used_then marks pins listed used rep kept none = (let it = used rep (marks rep kept) (pins rep none) in (it.0, it.1.0, listed rep.index it.1.0 ∙ it.1.1))
+  used_then marks pins listed used rep kept none = (let it = used rep (marks rep kept) (pins rep none) in (it.0, it.1, listed rep.index it.1 ∙ it.2))
 
   -- and so where the bundles are the same
   pub used_still : ((rep : WireRep) → is_kept u rep ≡ is_kept t rep) → transit.bundles h' ≡ transit.bundles h → ((index client : ℕ) → is_listed s index client h'.deeds ≡ is_listed s index client h.deeds) → AreUsed s t h → AreUsed s u h'
-  used_still marks bundles listed used = used_then (λ rep kept. sym (marks rep) ∙ kept) (λ rep none. same_pins bundles rep ∙ none) listed used
+  used_still marks bundles listed used = used_then (λ rep kept. sym (marks rep) ∙ kept) (λ rep none. same_pins h h' bundles rep ∙ none) listed used

@@ -26,7 +26,7 @@ use Rattle.nob_model_work.specs.declared.work.Run.{Run}
 use Rattle.nob_model_work.specs.Work.{is_run}
 use Rattle.nob_model_history.specs.Holds.{times, is_lent, copies_lent, target_lent, loans_of}
 use Rattle.nob_space_holds.specs.Holds.{one_fewer}
-use Rattle.nob_space_holds.specs.Returns.{HasLent, GivesBack, is_from, lent_from}
+use Rattle.nob_space_holds.specs.Returns.{HasLent, GivesBack}
 use Rattle.nob_space_holds.specs.Shows.{TableShows}
 use Rattle.nob_space_holds.proofs.Counted.{held_known}
 use Rattle.nob_space_holds.proofs.Counted.{times_both}

@@ -160,12 +160,12 @@ entered_have s t u bundles old new index client true keeps enters have rep kept 
     elim (is_same (own_ref s index) rep) as (λ b. is_same (own_ref s index) rep ≡ b → (if b then true else is_kept t rep) ≡ true → (rep.owner ≡ s) × (c : ℕ) × (lists new rep.index c ≡ true)) [
       | true ↦ λ here _. subst (λ (w : WireRep). (w.owner ≡ s) × (c : ℕ) × (lists new w.index c ≡ true)) (same_is (own_ref s index) rep here)
           (refl, client, enters index client ∙ rw (nat_eq_equiv.refl index, nat_eq_equiv.refl client) (elim (lists old index client) as (λ b. (b || true) ≡ true) [ true ↦ refl | false ↦ refl ]))
-      | false ↦ λ _ before. (let it = have rep before none in (it.0, it.1.0, enters rep.index it.1.0 ∙ rw (it.1.1) refl))
+      | false ↦ λ _ before. (let it = have rep before none in (it.0, it.1, enters rep.index it.1 ∙ rw (it.2) refl))
     ] refl (sym (keeps rep) ∙ kept)
 entered_have s t u bundles old new index client false keeps same have rep kept none =
     elim (is_same (own_ref s index) rep) as (λ b. (if b then false else is_kept t rep) ≡ true → (rep.owner ≡ s) × (c : ℕ) × (lists new rep.index c ≡ true)) [
       | true ↦ λ e. absurd (cc)
-      | false ↦ λ before. (let it = have rep before none in (it.0, it.1.0, same rep.index it.1.0 ∙ it.1.1))
+      | false ↦ λ before. (let it = have rep before none in (it.0, it.1, same rep.index it.1 ∙ it.2))
     ] (sym (keeps rep) ∙ kept)
 
 unentered_if : (here own shut entered : Bool) → (here ≡ true → (not shut && entered) ≡ false) → (not shut && entered) ≡ (not shut && (if own then (if here then false else entered) else entered))

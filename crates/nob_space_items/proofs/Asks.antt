@@ -157,5 +157,5 @@ module _ {s n : ℕ} {limits : Limits} {st : State} {D : List Deed} (stands : St
                   ∙ ap (λ found. if is_surrogate (standing st.table rep).state then found else None) (sym (later ∙ place_kept st.table.dirties reps rep (last_place rep ds) none))
                   ∙ sym (ap (λ (it : Standing). if is_surrogate it.state then last_place rep (dirties (history_of s n (Act p k ∷ D))) else None) (asks.standings rep ∙ ap (λ b. if b then pending_standing else standing st.table rep) none))
             ] refl;
-        kept = used_still asks.objects.kept (act_bundles stands p k item front message) (act_listed stands p k item front message) shows.kept;
+        kept = used_still s st.table mid (history_of s n D) (history_of s n (Act p k ∷ D)) asks.objects.kept (act_bundles stands p k item front message) (act_listed stands p k item front message) shows.kept;
       }

@@ -175,7 +175,7 @@ module _ {s n p k : ℕ} {limits : Limits} {st : State} {D : List Deed} (stands 
         places = λ other. leaves.surrogates.places other ∙ stands.table.places other
             ∙ ap (λ b. if b then transit.place other (history_of s n D) else None) (sym (one_row (λ w it. standings.is_surrogate it.state ≡ standings.is_surrogate (standing st.table w).state) (own_ref p index) (standing st.table) (standing u) after becomes (is.1 ∙ sym was.1) (λ w differs. refl) other))
             ∙ ap (λ reps. if standings.is_surrogate (standing u other).state then transit.last_place other reps else None) (sym dirties);
-        kept = used_still leaves.objects.kept (bundles_stay s n p k (answer_note granted index) D there settles none) (answer_listed granted index front there) stands.table.kept;
+        kept = used_still s st.table u (history_of s n D) (history_of s n (Act p k ∷ D)) leaves.objects.kept (bundles_stay s n p k (answer_note granted index) D there settles none) (answer_listed granted index front there) stands.table.kept;
       }
     where
       same_self : (rep : WireRep) → is_same rep rep ≡ true

@@ -173,7 +173,7 @@ module _ {s n : ℕ} {limits : Limits} {st : State} {D : List Deed} (stands : St
             ∙ ap (λ (it : Standing). if standings.is_surrogate it.state then transit.place other (history_of s n D) else None) (sym row)
             ∙ ap (λ reps. if standings.is_surrogate (standing u other).state then transit.last_place other reps else None) (sym (same_dirties clean_notes))
       ] refl;
-      kept = used_then (λ other kept. kept_before (is_same rep other) (is_kept st.table other) (sym (unkept other) ∙ kept)) (λ other none. same_pins (same_bundles clean_notes) other ∙ none) clean_notes.listed stands.table.kept;
+      kept = used_then s st.table u (history_of s n D) (history_of s n (Clean rep ∷ D)) (λ other kept. kept_before (is_same rep other) (is_kept st.table other) (sym (unkept other) ∙ kept)) (λ other none. same_pins (history_of s n D) (history_of s n (Clean rep ∷ D)) (same_bundles clean_notes) other ∙ none) clean_notes.listed stands.table.kept;
     }
       where
         idle_parts : (state : TableState) (counts : Counts) → standings.is_idle (record { state = state; counts = counts }) ≡ true → (counts ≡ no_counts) × (standings.is_live state ≡ false)

@@ -131,7 +131,7 @@ module _ {s n p : ℕ} {items : List Item} {deed : Deed} {D : List Deed} (notes 
     loans = λ rep counted. shows.loans rep counted ∙ on_loan rep counted;
     dirties = shows.dirties ∙ ap length (sym same_dirties);
     places = λ rep. shows.places rep ∙ ap (λ reps. if standings.is_surrogate (standing t rep).state then transit.last_place rep reps else None) (sym same_dirties);
-    kept = used_still (λ rep. refl) same_bundles notes.listed shows.kept;
+    kept = used_still s t t (history_of s n D) (history_of s n (deed ∷ D)) (λ rep. refl) same_bundles notes.listed shows.kept;
   }
 
   -- the state with another end, table and work in hand

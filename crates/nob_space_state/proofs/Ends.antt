@@ -178,7 +178,7 @@ module _ {s n : ℕ} {limits : Limits} {st : State} {deed : Deed} {D : List Deed
           loans = λ rep counted. stands.table.loans rep counted ∙ ap (λ w. times rep (lent_in s w)) (sym still.work);
           dirties = stands.table.dirties ∙ ap length (sym still.dirties);
           places = λ rep. stands.table.places rep ∙ ap (λ reps. if standings.is_surrogate (standing st.table rep).state then transit.last_place rep reps else None) (sym still.dirties);
-          kept = used_still (λ rep. refl) still.bundles still.listed stands.table.kept;
+          kept = used_still s st.table st.table (history_of s n D) (history_of s n (deed ∷ D)) (λ rep. refl) still.bundles still.listed stands.table.kept;
         };
         listed = λ index client. stands.listed index client ∙ sym (still.listed index client);
         pins = λ f. stands.pins f ∙ ap (λ items. sum_by f (map bundle items)) (sym still.bundles);

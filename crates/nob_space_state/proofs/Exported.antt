@@ -139,7 +139,7 @@ withdraw_finds {s} {n} {limits} {st} {D} stands index free =
     let passes : (is_live (standing st.table (own_ref s index)).state ≡ true) × (has_holds st.table (own_ref s index) ≡ false) × (not (count_of st.pins.bundles (own_ref s index) == 0) ≡ false) × (has_clients st.dirty index ≡ false) =
     withdraw_passes (index == 0) (is_live (standing st.table (own_ref s index)).state) (has_holds st.table (own_ref s index)) (not (count_of st.pins.bundles (own_ref s index) == 0)) (has_clients st.dirty index)
     (sym (rw (nat_eq_equiv.refl s) refl) ∙ free) in
-    (sym (stands.table.live index) ∙ passes.0, passes.1.0)
+    (sym (stands.table.live index) ∙ passes.0, passes.1)
 
 -- and the table withdraws it
 pub withdraw_free : {s n : ℕ} {limits : Limits} {st : State} {D : List Deed} → Stands s n limits st D → (index : ℕ) → withdraw_refusal s st index ≡ None → withdraw_fault st.table index ≡ None
@@ -197,7 +197,7 @@ module _ {s n : ℕ} {limits : Limits} {st : State} {D : List Deed} (stands : St
       (λ _. sym (ap (λ (c : Counts). c.lent) next_unheld) ∙ stands.table.loans rep counted ∙ ap (λ w. times rep (lent_in s w)) (sym quiet.work))
       (λ other _ differs. ap (λ j. j - times other (releases D)) (sym (times_more rep other (gains D) ∙ rw differs refl)))
       (λ other _ differs. ap (λ w. times other (lent_in s w)) (sym quiet.work))
-      (used_still leaves.kept quiet.bundles quiet.listed stands.table.kept))
+      (used_still s st.table u (history_of s n D) (history_of s n (Export rep ∷ D)) leaves.kept quiet.bundles quiet.listed stands.table.kept))
       its
 
   -- after a Withdraw
@@ -218,7 +218,7 @@ module _ {s n : ℕ} {limits : Limits} {st : State} {D : List Deed} (stands : St
       (λ counted. sym (ap (λ (c : Counts). c.lent) bare) ∙ stands.table.loans rep counted ∙ ap (λ w. times rep (lent_in s w)) (sym quiet.work))
       (λ other _ differs. refl)
       (λ other _ differs. ap (λ w. times other (lent_in s w)) (sym quiet.work))
-      (used_then (λ other kept. kept_before (is_same rep other) (is_kept st.table other) (sym (unkept other) ∙ kept)) (λ other none. same_pins quiet.bundles other ∙ none) quiet.listed stands.table.kept))
+      (used_then s st.table u (history_of s n D) (history_of s n (Withdraw index ∷ D)) (λ other kept. kept_before (is_same rep other) (is_kept st.table other) (sym (unkept other) ∙ kept)) (λ other none. same_pins (history_of s n D) (history_of s n (Withdraw index ∷ D)) quiet.bundles other ∙ none) quiet.listed stands.table.kept))
       its
 
 -- the table's refusal of an Export is the space's

@@ -1,12 +1,12 @@
 -- What is kept from outside is used there: by the sets and the bundles, and by what was done.
-use Rattle.std.proofs.Common.{◌≡◌, ℕ, Bool, true, false, not, ◌&&◌, ◌||◌, ◌==◌, List, [], ◌∷◌, refl, sym, ap, subst, ◌∙◌}
+use Rattle.std.proofs.Common.{◌≡◌, ℕ, true, false, not, ◌&&◌, ◌||◌, ◌==◌, List, [], ◌∷◌, refl, sym, subst, ◌∙◌}
 use Rattle.std.proofs.lemmas.Bool.Decides.{Decides-eqb}
 use Rattle.std.proofs.lemmas.Cmp.{nat_eq_equiv}
 use Rattle.nob_ids.specs.declared.wire_rep.WireRep.{WireRep}
 use Rattle.nob_dirty.specs.declared.sets.Listing.{Listing}
 use Rattle.nob_dirty.specs.Sets.{lists}
 use Rattle.nob_pins.specs.Bundles.{Pinned, count_of}
-use Rattle.nob_table.specs.Table.{Table, Unchanged, is_kept}
+use Rattle.nob_table.specs.Table.{Table, Unchanged}
 use Rattle.nob_ids.specs.declared.limits.Limits.{Limits}
 use Rattle.nob_model_types.specs.declared.deed.Deed.{Deed}
 use Rattle.nob_model_history.specs.declared.history.History.{History}
@@ -44,7 +44,7 @@ client_had index client (one ∷ dirty) listed =
 pub used_is : (s : ℕ) (bundles : List Pinned) (dirty : List Listing) (rep : WireRep) → is_used s bundles dirty rep ≡ true → IsUsed s bundles dirty rep
 used_is s bundles dirty rep used none =
     elim (rep.owner == s) as (λ b. rep.owner == s ≡ b → (not (0 == 0) || (b && has_clients dirty rep.index)) ≡ true → (rep.owner ≡ s) × (client : ℕ) × (lists dirty rep.index client ≡ true)) [
-      | true ↦ λ own has. ((Decides-eqb rep.owner s).0 own, some_client rep.index dirty has)
+      | true ↦ λ own has. let it = some_client rep.index dirty has in ((Decides-eqb rep.owner s).0 own, it.0, it.1)
       | false ↦ λ _ has. absurd (cc)
     ] refl (subst (λ (k : ℕ). (not (k == 0) || (rep.owner == s && has_clients dirty rep.index)) ≡ true) none used)
 
@@ -54,18 +54,18 @@ is_used_there s bundles dirty rep used =
       | true ↦ λ none.
           let it = used ((Decides-eqb (count_of bundles rep) 0).0 none) in
           let own : rep.owner == s ≡ true = subst (λ k. rep.owner == k ≡ true) it.0 (nat_eq_equiv.refl rep.owner) in
-          rw (own, client_had rep.index it.1.0 dirty it.1.1) refl
+          rw (own, client_had rep.index it.1 dirty it.2) refl
       | false ↦ λ _. refl
     ] refl
 
 -- what is used by the sets and the bundles is used by what was done, where these stand for it
 pub used_of : (s : ℕ) (t : Table) (bundles : List Pinned) (dirty : List Listing) (h : History) → PinsStand bundles h → ((index client : ℕ) → lists dirty index client ≡ is_listed s index client h.deeds) → HaveUsers s t bundles dirty → AreUsed s t h
-used_of s t bundles dirty h stand listed have rep kept none = (let it = have rep kept (pins_of bundles h stand rep ∙ none) in (it.0, it.1.0, sym (listed rep.index it.1.0) ∙ it.1.1))
+used_of s t bundles dirty h stand listed have rep kept none = (let it = have rep kept (pins_of bundles h stand rep ∙ none) in (it.0, it.1, sym (listed rep.index it.1) ∙ it.2))
 
 module _ {s n : ℕ} {limits : Limits} {st : State} {D : List Deed} (stands : Stands s n limits st D) (t : Table) where
   -- what is used by what was done is used by the sets and the bundles
   pub users_there : AreUsed s t (history_of s n D) → HaveUsers s t st.pins.bundles st.dirty
-  users_there used rep kept none = (let it = used rep kept (sym (pins_there stands rep) ∙ none) in (it.0, it.1.0, stands.listed rep.index it.1.0 ∙ it.1.1))
+  users_there used rep kept none = (let it = used rep kept (sym (pins_there stands rep) ∙ none) in (it.0, it.1, stands.listed rep.index it.1 ∙ it.2))
 
   -- and the other way round
   pub used_there : HaveUsers s t st.pins.bundles st.dirty → AreUsed s t (history_of s n D)

@@ -70,8 +70,8 @@ spare_where s st index me kept free =
     let passes : (is_live (standing st.table (own_ref s index)).state ≡ true) × (has_holds st.table (own_ref s index) ≡ false) × (not (count_of st.pins.bundles (own_ref s index) == 0) ≡ false) × (has_clients st.dirty index ≡ false) =
     withdraw_passes (index == 0) (is_live (standing st.table (own_ref s index)).state) (has_holds st.table (own_ref s index)) (not (count_of st.pins.bundles (own_ref s index) == 0)) (has_clients st.dirty index)
     (sym (rw (nat_eq_equiv.refl s) refl) ∙ free) in
-    let unheld : is_unheld (standing st.table (own st.table index)) ≡ true = subst (λ (k : ℕ). is_unheld (standing st.table (own_ref k index)) ≡ true) (sym me) (rw (passes.0, passes.1.0) refl) in
-    let unused : is_used s st.pins.bundles st.dirty (own_ref s index) ≡ false = rw (passes.1.1.0, nat_eq_equiv.refl s, passes.1.1.1) refl in
+    let unheld : is_unheld (standing st.table (own st.table index)) ≡ true = subst (λ (k : ℕ). is_unheld (standing st.table (own_ref k index)) ≡ true) (sym me) (rw (passes.0, passes.1) refl) in
+    let unused : is_used s st.pins.bundles st.dirty (own_ref s index) ≡ false = rw (passes.2, nat_eq_equiv.refl s, passes.3) refl in
     elim (is_kept st.table (own st.table index)) as (λ b. is_kept st.table (own st.table index) ≡ b → (is_unheld (standing st.table (own st.table index)) && not b) ≡ true) [
       | true ↦ λ is. absurd (differ (kept (own_ref s index) (subst (λ (k : ℕ). is_kept st.table (own_ref k index) ≡ true) me is)) unused)
       | false ↦ λ _. rw (unheld) refl

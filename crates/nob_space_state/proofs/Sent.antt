@@ -155,7 +155,7 @@ module _ {s n p : ℕ} {item : Item} {deed : Deed} {D : List Deed} (hands : Hand
     loans = λ rep counted. shows.loans rep counted ∙ on_loan rep counted;
     dirties = shows.dirties ∙ ap length (sym dirties_then);
     places = λ rep. shows.places rep ∙ ap (λ reps. if standings.is_surrogate (standing t rep).state then transit.last_place rep reps else None) (sym dirties_then);
-    kept = used_then (λ rep kept. kept) (λ rep none. fewer_pins rep (transit.bundles (history_of s n D)) _ (sym (λ i. times rep (flat_map (λ (item : SentItem). counted_in item.item) (bundles_kept s n deed D hands.settles_nothing hands.closes_nothing i))) ∙ none)) hands.listed shows.kept;
+    kept = used_then s t t (history_of s n D) (history_of s n (deed ∷ D)) (λ rep kept. kept) (λ rep none. fewer_pins rep (transit.bundles (history_of s n D)) _ (sym (λ i. times rep (flat_map (λ (item : SentItem). counted_in item.item) (bundles_kept s n deed D hands.settles_nothing hands.closes_nothing i))) ∙ none)) hands.listed shows.kept;
   }
 
   -- the state with other ends, holds, pins and work in hand

@@ -1,5 +1,5 @@
 -- A state that stands for a list stands for it with a quiet deed more, once its table does.
-use Rattle.std.proofs.Common.{◌≡◌, ℕ, ◌+◌, true, List, ◌∷◌, length, map, if◌then◌else◌, None, sym, ap, ◌∙◌}
+use Rattle.std.proofs.Common.{◌≡◌, ℕ, ◌+◌, true, List, ◌∷◌, length, map, if◌then◌else◌, None, refl, sym, ap, ◌∙◌}
 use Rattle.std.specs.List.{sum_by}
 use Rattle.nob_ids.specs.Names.{is_counted}
 use Rattle.nob_ids.specs.declared.limits.Limits.{Limits}
@@ -39,7 +39,7 @@ module _ {s n : ℕ} {deed : Deed} {D : List Deed} (quiet : IsQuiet s n deed D) 
     loans = λ rep counted. shows.loans rep counted ∙ loans rep counted;
     dirties = shows.dirties ∙ ap length (sym quiet.dirties);
     places = λ rep. shows.places rep ∙ ap (λ reps. if standings.is_surrogate (standing t rep).state then transit.last_place rep reps else None) (sym quiet.dirties);
-    kept = used_still (λ rep. refl) quiet.bundles quiet.listed shows.kept;
+    kept = used_still s t t (history_of s n D) (history_of s n (deed ∷ D)) (λ rep. refl) quiet.bundles quiet.listed shows.kept;
   }
 
   -- a state with another table

@@ -1,11 +1,11 @@
 //! Who is listed for an object and what is in transit, and what the table keeps from outside for that.
 
 ghost use Rattle.std.specs.Prelude.{◌≡◌, MatchResult, true, false};
-ghost use Rattle.std.specs.List.{All, list_any};
+ghost use Rattle.std.specs.List.{list_any};
 ghost use Rattle.nob_ids.specs.Names.{is_same};
 ghost use Rattle.nob_dirty.specs.Sets.{Leaves, LeavesAll};
 ghost use Rattle.nob_pins.specs.Bundles.{TakesOut, TakesOutAll, has_bundle, Unchanged};
-ghost use Rattle.nob_pins.specs.Evidence.{AreOf, reps_of};
+ghost use Rattle.nob_pins.specs.Evidence.{AreOf, AreTo, reps_of};
 ghost use Rattle.nob_table.specs.Table.{Marked};
 ghost use Rattle.nob_space_state.specs.Looks.{has_clients, is_used, HaveUsers, IsAmong, KeepsMore, LetsGo};
 
@@ -169,7 +169,7 @@ fn give_up_all(
     lost: Vec<TransitPin>,
     closed: &Closed,
 )
-    requires { All (λ pin. pin.peer ≡ closed.now.peer) lost.items }
+    requires { AreTo closed.now.peer lost.items }
     ensures table { Marked table.old table.new }
     ensures kept { LetsGo me (λ rep. list_any (is_same rep) (reps_of lost.items) ≡ true) table.old table.new
         pins.now.bundles dirty.now }

@@ -1,7 +1,6 @@
-use Rattle.std.proofs.Common.{◌≡◌, List, [], filter, flat_map, ap, sym, subst}
+use Rattle.std.proofs.Common.{flat_map, ap, sym, subst}
 use Rattle.nob_model_history.specs.Holds.{loans_of}
 use Rattle.nob_model_work.specs.declared.work.Run.{Run}
-use Rattle.nob_model_work.specs.Work.{is_run}
 use Rattle.nob_space_holds.specs.Returns.{HasLent, GivesBack}
 use Rattle.nob_space_holds.proofs.Returned.{back_none, run_lends}
 use Rattle.nob_space_holds.proofs.returns.give_back_job.Goals as goal

@@ -1,6 +1,6 @@
-use Rattle.std.proofs.Common.{sym, ap, subst, ◌∙◌}
+use Rattle.std.proofs.Common.{false, sym, ap, subst, ◌∙◌}
 use Rattle.std.proofs.lemmas.Option.{none-some}
-use Rattle.nob_table.specs.Table.{Becomes}
+use Rattle.nob_table.specs.Table.{Becomes, SetsKept}
 use Rattle.nob_table_rows.specs.Standings.{withdrawn}
 use Rattle.nob_model_types.specs.declared.answer.Answer.TheVariants as answers
 use Rattle.nob_model_acting.specs.Sending.{unless}
@@ -22,6 +22,7 @@ returns-clause-answer c limits D stands = withdraw_right stands c.args.index ∙
 
 pub returns-clause-stands : goal.returns-clause-stands
 returns-clause-stands c limits D stands =
-    withdraw_stands stands c.withdraw.new.self c.args.index (withdraw_is c.args.here.now.space c.args.here.now.n limits D c.args.index (returns-clause-answer c limits D stands)) (c.in-Ok.ensures {u = tt}).left (c.in-Ok.ensures {u = tt}).unkept
+    withdraw_stands stands c.withdraw.new.self c.args.index (withdraw_is c.args.here.now.space c.args.here.now.n limits D c.args.index (returns-clause-answer c limits D stands)) (c.in-Ok.ensures {u = tt}).left
+    (subst (λ me. SetsKept c.args.self.now.table c.withdraw.new.self (record { owner = me; index = c.args.index }) false) stands.table.me (c.in-Ok.ensures {u = tt}).unkept)
     (subst (λ me. Becomes c.args.self.now.table c.withdraw.new.self (record { owner = me; index = c.args.index }) withdrawn) stands.table.me (c.in-Ok.ensures {u = tt}).withdrawn)
     c.in_ok-refuse_withdraw.ensures
