@@ -45,7 +45,7 @@ use Rattle.std.proofs.lemmas.Cmp.{nat_eq_equiv}
 
 -- an idle surrogate without pins can be given up
 pub is_unpinned : (st : State) (rep : WireRep) → is_unkept st.table rep ≡ true → not (count_of st.pins.bundles rep == 0) ≡ false → is_spare st rep ≡ true
-is_unpinned st rep spare free = rw (and_parts _ _ spare).0 (elim (count_of st.pins.bundles rep == 0) as (λ b. not b ≡ false → b ≡ true) [ true ↦ λ _. refl | false ↦ λ e. absurd (let bad : true ≡ false = e in cc) ] free)
+is_unpinned st rep spare free = let idle : standings.is_idle (standing st.table rep) ≡ true = (and_parts (standings.is_idle (standing st.table rep)) (not (is_kept st.table rep)) spare).0 in rw idle (elim (count_of st.pins.bundles rep == 0) as (λ b. not b ≡ false → b ≡ true) [ true ↦ λ _. refl | false ↦ λ e. absurd (let bad : true ≡ false = e in cc) ] free)
 
 -- what is kept and has pins can't be given up, nor can what isn't kept but held
 unspare : (idle kept free : Bool) → (idle && not kept) ≡ false → (kept ≡ true → free ≡ false) → (idle && free) ≡ false
