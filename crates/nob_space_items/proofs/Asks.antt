@@ -40,7 +40,7 @@ use Rattle.nob_space_items.specs.Placing.{IsMessage}
 use Rattle.nob_space_items.proofs.Among.{any_of, filter_passes}
 use Rattle.nob_space_settling.proofs.Spares.{CanBeAsked, all_once}
 use Rattle.nob_model.proofs.Waiting.{all_filter}
-use Rattle.nob_space_items.proofs.Message.{all_peers, act_turns, wanted_turns, asked_turns, act_dirties, far_by, act_listed}
+use Rattle.nob_space_items.proofs.Message.{all_peers, act_turns, wanted_turns, asked_turns, act_dirties, far_by, act_listed, act_bundles}
 use Rattle.nob_space_holds.proofs.Marked.{used_still}
 
 -- nobody holds what the table has nothing of
