@@ -58,7 +58,7 @@ pub(crate) fn hold(
         }
     }
     match task.kept {
-        Kept::Sent => send_all(alloc, one, three, reps.as_slice())?,
+        Kept::Sent => send_all(alloc, one, two, reps.as_slice())?,
         Kept::Pinned => send_all(alloc, two, three, reps.as_slice())?,
         _ => {}
     }

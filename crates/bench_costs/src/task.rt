@@ -10,8 +10,8 @@ pub(crate) enum Kept {
     /// The first space has passed references to objects of the third on to the second, which waits
     /// for the third's answers.
     Waiting,
-    /// The first space has passed references to objects of its own on to the third, and neither holds
-    /// them nor transmits that.
+    /// The first space has passed references to objects of its own on to the second, and neither
+    /// holds them nor transmits that.
     Sent,
     /// The second space has surrogates of objects of the first, has passed references to them on to
     /// the third, and neither holds them nor transmits that.
