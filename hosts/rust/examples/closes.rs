@@ -7,6 +7,10 @@
 //! its own; `ready`, ready jobs that space 2 called; `running`, such jobs that run, each at an object
 //! of its own; or `waiting`, messages of space 2 that wait for the answers of space 3. It prints how
 //! many nanoseconds a close took: the one in the middle, by their time, and the longest.
+//!
+//! Or KIND is `surrogates`, of space 2's objects, which nothing holds; or `pins`, references to space
+//! 1's own objects that are under way to space 2, and which nothing holds either. Then it closes its
+//! session with space 2, and prints how many nanoseconds that took for each of them.
 
 use masttomato::{Limits, Outcome, Reference, Space, SpaceError, SpaceId, Value};
 use std::env;
@@ -18,42 +22,68 @@ type Fallible<T> = Result<T, Box<dyn Error>>;
 /// The spaces that there are. Those above 3 never come.
 const SPACES: u16 = 32;
 
+/// So many references are sent in a call.
+const TOGETHER: u64 = 32;
+
+const USAGE: &str = "closes called|ready|running|waiting|surrogates|pins HELD";
+
 fn main() -> Fallible<()> {
     let words: Vec<String> = env::args().skip(1).collect();
     let [kind, held] = &words[..] else {
-        return Err("closes called|ready|running|waiting HELD".into());
+        return Err(USAGE.into());
     };
-    let mut one = new_space(1)?;
-    let mut two = new_space(2)?;
-    let mut three = new_space(3)?;
-    for _ in 0..held.parse::<u64>()? {
-        match kind.as_str() {
-            "called" => call(&mut one, two.id().agent(), &Value::Unit)?,
-            "ready" => ask(&mut two, &mut one, space_id(1).agent())?,
-            "running" => {
-                let object = pass(&mut one, &mut two)?;
-                ask(&mut two, &mut one, object)?;
-                one.claim()?;
-            }
-            "waiting" => {
-                let object = pass(&mut three, &mut two)?;
-                call(&mut two, one.id().agent(), &Value::Ref(object))?;
-                bring(&mut two, &mut one)?;
-                bring(&mut one, &mut two)?;
-            }
-            _ => return Err("closes called|ready|running|waiting HELD".into()),
-        }
+    let held = held.parse::<u64>()?;
+    let mut spaces = [new_space(1)?, new_space(2)?, new_space(3)?];
+    for number in 0..held {
+        hold(kind, &mut spaces, held - number)?;
+    }
+    let [mut one, two, _] = spaces;
+    if matches!(kind.as_str(), "surrogates" | "pins") {
+        let taken = close(&mut one, two.id())?;
+        println!("{}", taken / u128::from(held.max(1)));
+        return Ok(());
     }
     let mut times = Vec::new();
     for number in 4..=SPACES {
-        let peer = space_id(number);
-        let started = Instant::now();
-        one.close(peer)?;
-        times.push(started.elapsed().as_nanos());
+        times.push(close(&mut one, space_id(number))?);
     }
     times.sort_unstable();
     println!("{} {}", times[times.len() / 2], times[times.len() - 1]);
     Ok(())
+}
+
+/// Space 1 comes to have one more of what a word says, where so many are left.
+fn hold(kind: &str, [one, two, three]: &mut [Space; 3], left: u64) -> Fallible<()> {
+    match kind {
+        "called" => call(one, two.id().agent(), &Value::Unit)?,
+        "ready" => ask(two, one, space_id(1).agent())?,
+        "running" => {
+            let object = pass(one, two)?;
+            ask(two, one, object)?;
+            one.claim()?;
+        }
+        "waiting" => {
+            let object = pass(three, two)?;
+            call(two, one.id().agent(), &Value::Ref(object))?;
+            bring(two, one)?;
+            bring(one, two)?;
+        }
+        "surrogates" => {
+            let object = pass(two, one)?;
+            one.release(object)?;
+        }
+        "pins" if left % TOGETHER == 0 => send(one, two.id().agent())?,
+        "pins" => {}
+        _ => return Err(USAGE.into()),
+    }
+    Ok(())
+}
+
+/// How many nanoseconds the close of a session takes.
+fn close(space: &mut Space, peer: SpaceId) -> Result<u128, SpaceError> {
+    let started = Instant::now();
+    space.close(peer)?;
+    Ok(started.elapsed().as_nanos())
 }
 
 fn space_id(number: u16) -> SpaceId {
@@ -67,6 +97,21 @@ fn new_space(number: u16) -> Result<Space, SpaceError> {
 /// A space calls an object.
 fn call(space: &mut Space, object: Reference, value: &Value) -> Result<(), SpaceError> {
     space.call(object, 0, value)?;
+    Ok(())
+}
+
+/// A space makes as many objects as a call carries references to, sends those, and holds none. The
+/// call isn't transmitted.
+fn send(from: &mut Space, agent: Reference) -> Result<(), SpaceError> {
+    let mut objects = Vec::new();
+    for _ in 0..TOGETHER {
+        objects.push(from.export()?);
+    }
+    let value = Value::List(objects.iter().map(|object| Value::Ref(*object)).collect());
+    call(from, agent, &value)?;
+    for object in objects {
+        from.release(object)?;
+    }
     Ok(())
 }
 
