@@ -3,7 +3,7 @@ use Rattle.std.proofs.Common.{◌≡◌, ◌↔◌, ℕ, ◌+◌, Bool, true, fa
 use Rattle.nob_ids.specs.declared.limits.Limits.{Limits}
 use Rattle.nob_model_types.specs.declared.entry.Entry.{Entry}
 use Rattle.nob_model.specs.Right.{IsRight}
-use Rattle.nob_model_safety.specs.Typed.{IsOfTypes, AreOfTypes}
+use Rattle.nob_model_invariant.specs.Typed.{IsOfTypes, AreOfTypes}
 use Rattle.nob_space.specs.Spaces.{Owner, StandsFor, SameSpace}
 use Rattle.nob_trace.specs.declared.stamped.Stamped.{Stamped}
 use Rattle.nob_trace.specs.declared.trace.Trace.{Trace}

@@ -10,7 +10,7 @@ use Rattle.nob_model_types.specs.declared.entry.Entry.{Entry}
 use Rattle.nob_model.specs.Right.{IsRight}
 use Rattle.nob_model_journal.specs.Journals.{at, Each}
 use Rattle.nob_model_journal.specs.Runs.{ArrivesGiven, WorldRun}
-use Rattle.nob_model_safety.specs.Typed.{IsOfTypes, AreOfTypes}
+use Rattle.nob_model_invariant.specs.Typed.{IsOfTypes, AreOfTypes}
 use Rattle.nob_trace.specs.declared.stamped.Stamped.{Stamped}
 use Rattle.nob_trace.specs.declared.trace.Trace.{Trace}
 use Rattle.nob_model_traces.specs.Apart.{entry_at, are_apart}

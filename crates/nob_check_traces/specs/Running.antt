@@ -2,7 +2,7 @@
 use Rattle.std.specs.Prelude.{◌≡◌, ℕ, List, []}
 use Rattle.std.specs.List.{AllByRecursion}
 use Rattle.nob_ids.specs.declared.limits.Limits.{Limits}
-use Rattle.nob_model_safety.specs.Typed.{AreOfTypes}
+use Rattle.nob_model_invariant.specs.Typed.{AreOfTypes}
 use Rattle.nob_space.specs.Spaces.{Owner, StandsFor}
 use Rattle.nob_trace.specs.declared.trace.Trace.{Trace}
 use Rattle.nob_model_traces.specs.Traces.{IsRightTrace, journal_at}

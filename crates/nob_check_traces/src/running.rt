@@ -3,13 +3,13 @@
 ghost use Rattle.std.specs.Prelude.{◌≡◌, ◌↔◌, ◌∷◌, [], List, true, Ok, Err, IfOk, MatchOption};
 ghost use Rattle.nob_model_types.specs.declared.entry.Entry.{Entry as EntryOf};
 ghost use Rattle.nob_model.specs.Right.{IsRight};
-ghost use Rattle.nob_model_safety.specs.Typed.{IsOfTypes};
+ghost use Rattle.nob_model_invariant.specs.Typed.{IsOfTypes};
 ghost use Rattle.nob_space.specs.Spaces.{StandsFor, SameSpace};
 ghost use Rattle.nob_model_traces.specs.Apart.{entry_at};
 ghost use Rattle.nob_model_traces.specs.Traces.{IsFirstWrong};
 ghost use Rattle.nob_check_traces.specs.Running as words;
 
-use nob_model_same::same_answer;
+use nob_model::same_answer;
 use nob_model_types::{Answer, Refusal};
 use nob_space::{Space, SpaceError};
 use nob_trace::{Stamped, Trace};

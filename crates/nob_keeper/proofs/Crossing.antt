@@ -37,7 +37,7 @@ use Rattle.nob_space_calls.specs.contracts.calls.Calls as Calls
 use Rattle.nob_space_calls.specs.contracts.calls.Calls.TheInside as CallsInside
 use Rattle.nob_space_calls.specs.contracts.ready.Ready as Ready
 use Rattle.nob_space_calls.specs.contracts.ready.Ready.TheInside as ReadyInside
-use Rattle.nob_numbers.proofs.numbers.Numbers.TheSendSync as space_numbers
+use Rattle.nob_slots.proofs.numbers.Numbers.TheSendSync as space_numbers
 use Rattle.nob_space_jobs.specs.contracts.jobs.Jobs as Jobs
 use Rattle.nob_space_jobs.specs.contracts.jobs.Jobs.TheInside as JobsInside
 use Rattle.nob_space_jobs.specs.contracts.running.Running as Running

@@ -9,7 +9,7 @@ ghost use Rattle.nob_keeper.specs.declared.receipt.Receipt.{Receipt as ReceiptOf
 use crate::error::KeeperError;
 use crate::receipt::Receipt;
 use crate::seat::Seat;
-use nob_model_same::{same_event, same_result};
+use nob_model::{same_event, same_result};
 use nob_trace::Stamped;
 use std::alloc::{AllocError, Global};
 

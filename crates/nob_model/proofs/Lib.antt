@@ -11,3 +11,4 @@ pub mod Lending
 pub mod Waiting
 pub mod Calling
 pub mod Guarding
+pub mod SameValues

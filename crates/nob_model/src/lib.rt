@@ -4,10 +4,17 @@
 //! the crates below are passed on.
 #![tactic(auto)]
 
+mod answers;
+mod events;
+mod frames;
 pub mod laws;
 pub mod next;
 pub mod right;
+mod values;
 
+pub use answers::{same_answer, same_job, same_refusal, same_result};
+pub use events::{same_event, same_outcome};
+pub use frames::{same_frame, same_frames};
 pub use nob_model_history::{History, SentItem, history_of, make_history};
 pub use nob_model_session::{Arrived, EndEntry, EndRefusal, Ending, Frames, Kind, PairEntry};
 pub use nob_model_types::{
@@ -15,3 +22,4 @@ pub use nob_model_types::{
     Refusal, Turns, Use, WorldStep,
 };
 pub use nob_model_work::{Gift, InHand, OwnCall, Run, Stage};
+pub use values::same_value;

@@ -13,12 +13,12 @@ use Rattle.nob_model_work.specs.Work.{work}
 use Rattle.nob_model_acting.specs.Acting.{awaits_reply}
 use Rattle.nob_model_journal.specs.Journals.{deeds_at, closed_at, sent_to, acted_from}
 use Rattle.nob_model_journal.specs.Runs.{WorldRun}
-use Rattle.nob_model_safety.specs.Typed.{AreOfTypes}
-use Rattle.nob_model_safety.specs.Asking.{items_among}
-use Rattle.nob_model_safety.proofs.Entries.{right_deeds_at}
-use Rattle.nob_model_safety.proofs.Listings.{items_split}
-use Rattle.nob_model_safety.proofs.Order.{in_order}
-use Rattle.nob_model_safety.proofs.Places.{IsNext, rest_next}
+use Rattle.nob_model_invariant.specs.Typed.{AreOfTypes}
+use Rattle.nob_model_invariant.specs.Asking.{items_among}
+use Rattle.nob_model_invariant.proofs.Entries.{right_deeds_at}
+use Rattle.nob_model_invariant.proofs.Listings.{items_split}
+use Rattle.nob_model_invariant.proofs.Order.{in_order}
+use Rattle.nob_model_invariant.proofs.Places.{IsNext, rest_next}
 use Rattle.nob_model_invariant.specs.Counting.{count_of, makes_call, calls_in_hand}
 use Rattle.nob_model_invariant.specs.ArrivalLaws.{AnswersLaw}
 use Rattle.nob_model_invariant.proofs.Counts.{one_if, count_first, count_append}

@@ -37,7 +37,7 @@ use Rattle.nob_model.specs.Lists.{AreRightDeeds}
 use Rattle.nob_model.proofs.Doing.{was_answered}
 use Rattle.nob_model.proofs.Accepted.{call_tells, take_tells, take_end_tells}
 use Rattle.nob_model.proofs.Replying.{is_asked, replies_in, AreOneEach, AreAnsweredOnce, answered_once}
-use Rattle.nob_model_safety.specs.Asking.{items_among}
+use Rattle.nob_model_invariant.specs.Asking.{items_among}
 use Rattle.nob_model_invariant.specs.Counting.{count_of, makes_call}
 use Rattle.nob_model_invariant.proofs.Counts.{none_some, one_if, count_first, count_append, count_found, any_mapped, any_weaker, any_kept, any_before, any_last}
 use Rattle.nob_model_invariant.proofs.Fair.{gives, no_second, count_given, notes_give}

@@ -28,9 +28,9 @@ use Rattle.nob_model.proofs.Carrying.{Carries, all_carry, all_found}
 use Rattle.nob_model.proofs.Premises.{took_turns}
 use Rattle.nob_model.proofs.Waiting.{settled_message, act_number, all_weaker}
 use Rattle.nob_model_journal.specs.Losses.{is_carried, sources}
-use Rattle.nob_model_safety.proofs.Clients.{asks_peer}
-use Rattle.nob_model_safety.proofs.Lists.{all_both, place_in_whole, some_same}
-use Rattle.nob_model_safety.proofs.Settling.{waits_more}
+use Rattle.nob_model_invariant.proofs.Clients.{asks_peer}
+use Rattle.nob_model_invariant.proofs.Lists.{all_both, place_in_whole, some_same}
+use Rattle.nob_model_invariant.proofs.Settling.{waits_more}
 use Rattle.nob_model_invariant.specs.Copies.{copies}
 use Rattle.nob_model_invariant.proofs.Denied.{carried_some}
 use Rattle.nob_model_invariant.proofs.Resting.{rests, rests_on, rests_new, open_before}

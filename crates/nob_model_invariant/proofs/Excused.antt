@@ -35,17 +35,17 @@ use Rattle.nob_model_journal.specs.Fronts.{with_numbers, ActsInOrder}
 use Rattle.nob_model_journal.specs.Journals.{deeds_at, history_at, closed_at, both_open, sent_to, acted_from}
 use Rattle.nob_model_journal.specs.Losses.{is_carried, is_loss, is_excuse, sources, LosesExcused}
 use Rattle.nob_model_journal.specs.Runs.{WorldRun}
-use Rattle.nob_model_safety.specs.Asking.{answer_in, answers_among, items_among, last_word, word_of, turns_by, has_no, asked, heard, gave}
-use Rattle.nob_model_safety.specs.Settles.{settle_in, settles_among, is_in}
-use Rattle.nob_model_safety.specs.Typed.{AreOfTypes}
-use Rattle.nob_model_safety.proofs.Bundles.{up_to_at, settled_in}
-use Rattle.nob_model_safety.proofs.Entries.{grows, grows_own, right_deeds_at}
-use Rattle.nob_model_safety.proofs.Holdings.{pins_stand}
-use Rattle.nob_model_safety.proofs.Listings.{items_begin, answers_begin, listings}
-use Rattle.nob_model_safety.proofs.Lists.{all_at, all_both, all_map, all_pass, numbered_at, place_before, place_in_whole, some_same}
-use Rattle.nob_model_safety.proofs.Bundles.{numbered_item}
-use Rattle.nob_model_safety.proofs.Order.{acts_on_next, all_fit, in_order}
-use Rattle.nob_model_safety.proofs.Points.{clients, owners, holdings, living, settlements}
+use Rattle.nob_model_invariant.specs.Asking.{answer_in, answers_among, items_among, last_word, word_of, turns_by, has_no, asked, heard, gave}
+use Rattle.nob_model_invariant.specs.Settles.{settle_in, settles_among, is_in}
+use Rattle.nob_model_invariant.specs.Typed.{AreOfTypes}
+use Rattle.nob_model_invariant.proofs.Bundles.{up_to_at, settled_in}
+use Rattle.nob_model_invariant.proofs.Entries.{grows, grows_own, right_deeds_at}
+use Rattle.nob_model_invariant.proofs.Holdings.{pins_stand}
+use Rattle.nob_model_invariant.proofs.Listings.{items_begin, answers_begin, listings}
+use Rattle.nob_model_invariant.proofs.Lists.{all_at, all_both, all_map, all_pass, numbered_at, place_before, place_in_whole, some_same}
+use Rattle.nob_model_invariant.proofs.Bundles.{numbered_item}
+use Rattle.nob_model_invariant.proofs.Order.{acts_on_next, all_fit, in_order}
+use Rattle.nob_model_invariant.proofs.SafetyPoints.{clients, owners, holdings, living, settlements}
 use Rattle.nob_model_invariant.specs.Copies.{copies, is_waiting}
 use Rattle.nob_model_invariant.specs.LossLaws.{LossesLaw}
 use Rattle.nob_model_invariant.proofs.Copied.{IsCopyOf, Rests, are_copied, copies_acted, sources_are}

@@ -28,7 +28,7 @@ use Rattle.nob_model_history.specs.Transit.{sent}
 use Rattle.nob_model_history.proofs.Numbered.{items_sent_to, gifts_sent_to}
 use Rattle.nob_model.proofs.Accepted.{found_passes}
 use Rattle.nob_model.proofs.Waiting.{all_weaker}
-use Rattle.nob_model_safety.specs.Asking.{items_among}
+use Rattle.nob_model_invariant.specs.Asking.{items_among}
 use Rattle.nob_model_invariant.specs.Counting.{count_of, makes_call, brings_call, runs_call, calls_in_hand}
 use Rattle.nob_model_invariant.proofs.Counts.{one_if, count_first, count_append, count_push, count_filter, count_without, count_dropped, count_mapped, count_none}
 use Rattle.nob_model_invariant.proofs.Notes.{may_speak, gives_notes}

@@ -42,14 +42,14 @@ use Rattle.nob_model.proofs.Waiting.{all_weaker}
 use Rattle.nob_model_journal.specs.Journals.{deeds_at, history_at, closed_at, sent_to, acted_from}
 use Rattle.nob_model_journal.specs.Runs.{WorldRun}
 use Rattle.nob_model_journal.specs.Findings.{is_fault, is_fault_found, Found}
-use Rattle.nob_model_safety.specs.Typed.{AreOfTypes}
-use Rattle.nob_model_safety.specs.Invariant.{is_bad_item}
-use Rattle.nob_model_safety.proofs.Bad.{readings}
-use Rattle.nob_model_safety.proofs.Closing.{Closes, others_keep}
-use Rattle.nob_model_safety.proofs.Order.{all_fit, front_is_next, self_peer}
-use Rattle.nob_model_safety.proofs.Places.{IsNext, note_in_place}
-use Rattle.nob_model_safety.proofs.Points.{living}
-use Rattle.nob_model_safety.proofs.Unsettled.{settle_bundle}
+use Rattle.nob_model_invariant.specs.Typed.{AreOfTypes}
+use Rattle.nob_model_invariant.specs.SafetyInvariant.{is_bad_item}
+use Rattle.nob_model_invariant.proofs.Bad.{readings}
+use Rattle.nob_model_invariant.proofs.Closing.{Closes, others_keep}
+use Rattle.nob_model_invariant.proofs.Order.{all_fit, front_is_next, self_peer}
+use Rattle.nob_model_invariant.proofs.Places.{IsNext, note_in_place}
+use Rattle.nob_model_invariant.proofs.SafetyPoints.{living}
+use Rattle.nob_model_invariant.proofs.Unsettled.{settle_bundle}
 use Rattle.nob_model_invariant.specs.Underway.{calls_object, needs_object, AreGuarded}
 use Rattle.nob_model_invariant.specs.ArrivalLaws.{FoundLaw}
 use Rattle.nob_model_invariant.proofs.Guarding.{next_behind, all_guarded}

@@ -41,11 +41,11 @@ use Rattle.nob_model_journal.specs.Fronts.{with_numbers}
 use Rattle.nob_model_journal.specs.Journals.{deeds_at, history_at, closed_at, both_open, sent_to, acted_from}
 use Rattle.nob_model_journal.specs.Runs.{WorldRun}
 use Rattle.nob_model_journal.specs.Safety.{can_use}
-use Rattle.nob_model_safety.specs.Asking.{answers_among, asks_among, items_among, dirties_in, last_or, last_word, turns_by, asked, heard, was_asked, gave}
-use Rattle.nob_model_safety.specs.Settles.{settle_in, settles_among, is_in}
-use Rattle.nob_model_safety.proofs.Entries.{grows, right_deeds_at}
-use Rattle.nob_model_safety.proofs.Lists.{all_at, all_both, numbered_at}
-use Rattle.nob_model_safety.proofs.Points.{clients, owners}
+use Rattle.nob_model_invariant.specs.Asking.{answers_among, asks_among, items_among, dirties_in, last_or, last_word, turns_by, asked, heard, was_asked, gave}
+use Rattle.nob_model_invariant.specs.Settles.{settle_in, settles_among, is_in}
+use Rattle.nob_model_invariant.proofs.Entries.{grows, right_deeds_at}
+use Rattle.nob_model_invariant.proofs.Lists.{all_at, all_both, numbered_at}
+use Rattle.nob_model_invariant.proofs.SafetyPoints.{clients, owners}
 use Rattle.nob_model_invariant.specs.Copies.{carries_any, is_waiting}
 use Rattle.nob_model_invariant.specs.LossInvariant.{is_known}
 use Rattle.nob_model_invariant.specs.LossLaws.{LeaksLaw}

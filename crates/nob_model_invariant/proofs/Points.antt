@@ -5,9 +5,9 @@ use Rattle.nob_model_types.specs.Sessions.{closed, acted}
 use Rattle.nob_model_work.specs.Work.{work}
 use Rattle.nob_model.proofs.Waiting.{all_weaker}
 use Rattle.nob_model_journal.specs.Journals.{deeds_at}
-use Rattle.nob_model_safety.specs.Settles.{is_in}
-use Rattle.nob_model_safety.proofs.Entries.{right_deeds_at}
-use Rattle.nob_model_safety.proofs.Settling.{settles_of}
+use Rattle.nob_model_invariant.specs.Settles.{is_in}
+use Rattle.nob_model_invariant.proofs.Entries.{right_deeds_at}
+use Rattle.nob_model_invariant.proofs.Settling.{settles_of}
 use Rattle.nob_model_invariant.specs.Copies.{carries_any, is_waiting}
 use Rattle.nob_model_invariant.specs.LossLaws.{SettledLaw, WaitingLaw, DenialsLaw, CopiesLaw}
 use Rattle.nob_model_invariant.proofs.Done.{IsDone, all_done}

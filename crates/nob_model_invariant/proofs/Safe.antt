@@ -1,6 +1,6 @@
 -- Every run of a world is safe.
-use Rattle.nob_model_safety.proofs.Fronts.{fronts_law}
-use Rattle.nob_model_safety.proofs.Withdrawing.{safe_withdraw}
+use Rattle.nob_model_invariant.proofs.Fronts.{fronts_law}
+use Rattle.nob_model_invariant.proofs.Withdrawing.{safe_withdraw}
 use Rattle.nob_model_invariant.proofs.Finding.{found_law}
 use Rattle.nob_model_invariant.proofs.Excused.{losses}
 use Rattle.nob_model_invariant.proofs.Leaking.{leaks}

@@ -5,12 +5,12 @@ use Rattle.nob_model_types.specs.declared.entry.Entry.{Entry}
 use Rattle.nob_model_journal.specs.Journals.{deeds_at}
 use Rattle.nob_model_journal.specs.Runs.{WorldRun}
 use Rattle.nob_model.proofs.Lending.{all_lent}
-use Rattle.nob_model_safety.proofs.Entries.{right_deeds_at}
-use Rattle.nob_model_safety.proofs.Order.{sessions}
-use Rattle.nob_model_safety.proofs.Bad.{readings}
-use Rattle.nob_model_safety.proofs.Points as points
-use Rattle.nob_model_safety.proofs.Naming.{names}
-use Rattle.nob_model_safety.proofs.Listings.{listings}
+use Rattle.nob_model_invariant.proofs.Entries.{right_deeds_at}
+use Rattle.nob_model_invariant.proofs.Order.{sessions}
+use Rattle.nob_model_invariant.proofs.Bad.{readings}
+use Rattle.nob_model_invariant.proofs.SafetyPoints as points
+use Rattle.nob_model_invariant.proofs.Naming.{names}
+use Rattle.nob_model_invariant.proofs.Listings.{listings}
 use Rattle.nob_model_invariant.proofs.Guarding.{guarded_law}
 use Rattle.nob_model_invariant.proofs.Answering.{answers_law}
 use Rattle.nob_model_invariant.proofs.Points as losses

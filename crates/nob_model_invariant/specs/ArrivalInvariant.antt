@@ -8,7 +8,7 @@ use Rattle.nob_model_work.specs.Work.{work}
 use Rattle.nob_model_history.specs.Listing.{is_entered}
 use Rattle.nob_model_acting.specs.Acting.{awaits_reply}
 use Rattle.nob_model_journal.specs.Journals.{deeds_at, closed_at, sent_to, acted_from}
-use Rattle.nob_model_safety.specs.Asking.{items_among}
+use Rattle.nob_model_invariant.specs.Asking.{items_among}
 use Rattle.nob_model_invariant.specs.Underway.{under_way, AreGuarded}
 use Rattle.nob_model_invariant.specs.Counting.{count_of, makes_call, calls_in_hand}
 

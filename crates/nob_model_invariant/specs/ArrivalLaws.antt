@@ -4,7 +4,7 @@ use Rattle.nob_ids.specs.declared.limits.Limits.{Limits}
 use Rattle.nob_model_types.specs.declared.entry.Entry.{Entry}
 use Rattle.nob_model_journal.specs.Runs.{WorldRun}
 use Rattle.nob_model_journal.specs.Findings.{Found}
-use Rattle.nob_model_safety.specs.Typed.{AreOfTypes}
+use Rattle.nob_model_invariant.specs.Typed.{AreOfTypes}
 use Rattle.nob_model_invariant.specs.ArrivalInvariant.{Guarded, Answers}
 
 -- in every run of a world what is under way is guarded

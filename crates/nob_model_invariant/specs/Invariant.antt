@@ -8,7 +8,7 @@ use Rattle.nob_model_types.specs.declared.message.Loan.TheVariants as loans
 use Rattle.nob_model_work.specs.declared.work.Run.{Run}
 use Rattle.nob_model_work.specs.Work.{work}
 use Rattle.nob_model_journal.specs.Journals.{deeds_at}
-use Rattle.nob_model_safety.specs.Invariant.{Sessions, Clients, Owners, Names, Listings, Holdings, Living, Settlements, Readings}
+use Rattle.nob_model_invariant.specs.SafetyInvariant.{Sessions, Clients, Owners, Names, Listings, Holdings, Living, Settlements, Readings}
 use Rattle.nob_model_invariant.specs.ArrivalInvariant.{Guarded, Answers}
 use Rattle.nob_model_invariant.specs.LossInvariant.{Settled, Waiting, Denials, Copies}
 

@@ -1,8 +1,10 @@
 pub use Rattle.nob_model_journal.specs.Journals
 pub use Rattle.nob_model_journal.specs.Runs
-pub use Rattle.nob_model_safety.specs.Typed
 pub use Rattle.nob_model_journal.specs.Findings
 pub use Rattle.nob_model_journal.specs.Losses
+pub use Rattle.nob_model_journal.specs.Fronts
+pub use Rattle.nob_model_journal.specs.Safety
+pub use Rattle.nob_model_journal.specs.Verdicts
 pub mod Invariant
 pub mod Laws
 pub mod Safe
@@ -14,3 +16,11 @@ pub mod Copies
 pub mod LossInvariant
 pub mod Leaks
 pub mod LossLaws
+pub mod Typed
+pub mod Asking
+pub mod Naming
+pub mod Settles
+pub mod SafetyInvariant
+pub mod SafetyLaws
+pub mod FirstSpaces
+pub mod AlikeLaws

@@ -12,8 +12,8 @@ use Rattle.nob_model_history.specs.Transit.{sent, is_settled}
 use Rattle.nob_model.specs.Right.{own_ref}
 use Rattle.nob_model_journal.specs.Journals.{deeds_at, history_at, closed_at, sent_to, acted_from}
 use Rattle.nob_model_journal.specs.Losses.{sources, is_excuse}
-use Rattle.nob_model_safety.specs.Asking.{has_no, gave}
-use Rattle.nob_model_safety.specs.Settles.{settles_among, is_in}
+use Rattle.nob_model_invariant.specs.Asking.{has_no, gave}
+use Rattle.nob_model_invariant.specs.Settles.{settles_among, is_in}
 use Rattle.nob_model_invariant.specs.Copies.{carries_any, is_waiting, copies}
 
 -- while b has not closed its session with a, each item from a that b acted on and that carries counted references waits in its message or was settled

@@ -4,7 +4,7 @@ use Rattle.nob_ids.specs.declared.limits.Limits.{Limits}
 use Rattle.nob_model_types.specs.declared.entry.Entry.{Entry}
 use Rattle.nob_model_journal.specs.Runs.{WorldRun}
 use Rattle.nob_model_journal.specs.Losses.{NoFalseLoss}
-use Rattle.nob_model_safety.specs.Typed.{AreOfTypes}
+use Rattle.nob_model_invariant.specs.Typed.{AreOfTypes}
 use Rattle.nob_model_invariant.specs.LossInvariant.{Settled, Waiting, Denials, Copies}
 use Rattle.nob_model_invariant.specs.Leaks.{NoLeak}
 

@@ -8,7 +8,7 @@ use Rattle.nob_model_journal.specs.Losses.{NoFalseLoss}
 use Rattle.nob_model_journal.specs.Findings.{Found}
 use Rattle.nob_model_journal.specs.Runs.{WorldRun}
 use Rattle.nob_model_invariant.specs.Leaks.{NoLeak}
-use Rattle.nob_model_safety.specs.Typed.{AreOfTypes}
+use Rattle.nob_model_invariant.specs.Typed.{AreOfTypes}
 
 -- what is proved of all that happens in a world of n spaces
 pub record IsSafe (n : ℕ) (J : List Entry) : Type 0 where

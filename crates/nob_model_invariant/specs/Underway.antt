@@ -6,7 +6,7 @@ use Rattle.nob_model_types.specs.declared.entry.Entry.{Entry}
 use Rattle.nob_model_types.specs.Turns.{carries}
 use Rattle.nob_model.specs.Right.{own_ref}
 use Rattle.nob_model_journal.specs.Journals.{sent_to, acted_from}
-use Rattle.nob_model_safety.specs.Asking.{ask_in}
+use Rattle.nob_model_invariant.specs.Asking.{ask_in}
 
 -- the items that b hasn't acted on of those that a sent it, the first first
 abbrev pub under_way : (n a b : ℕ) → List Entry → List Item

@@ -3,6 +3,8 @@
 //! stand in the crates below; here are the statements and their proofs.
 #![tactic(auto)]
 
+pub mod alike;
 pub mod arrivals;
 pub mod laws;
 pub mod losses;
+pub mod safety;

@@ -12,7 +12,7 @@ ghost use Rattle.nob_model_traces.specs.Origins as words;
 use crate::fault::CheckFault;
 use nob_frame::Frame;
 use nob_ids::SpaceId;
-use nob_model_same::same_frame;
+use nob_model::same_frame;
 use nob_model_types::{Answer, Entry, Event};
 
 /// The frames that an entry transmitted.

@@ -2,7 +2,7 @@
 use Rattle.std.proofs.Common.{◌≡◌, ℕ, ◌+◌, ◌-◌, ◌*◌, ◌<◌, ◌≤◌, false, List, [], ◌∷◌, ◌++◌, length, Option, Some, None, is_some, slice_get, refl, sym, ap, subst, ◌∙◌, arith}
 use lib.ListN.{set}
 use Rattle.std.proofs.Math.ListN.{length-set}
-use Rattle.nob_marks.specs.Marks.{bound}
+use Rattle.nob_slots.specs.Marks.{bound}
 use Rattle.nob_slots.specs.Slots.{IsAbove, IsRising}
 use Rattle.nob_slots.specs.Places.{live_rows, is_marked_at, AreMarked, IsPlace, is_last_empty, Trims, Thins, AreSlots}
 use Rattle.nob_slots.specs.declared.kept.Kept.{Kept}

@@ -2,7 +2,7 @@
 use Rattle.std.proofs.Common.{◌≡◌, ℕ, ◌+◌, ◌<◌, ◌≤◌, true, false, ◌==◌, List, length, Option, slice_get, nat_lt, refl, sym, ap, ◌∙◌, arith, if◌then◌else◌, eqb-true}
 use Rattle.std.proofs.lemmas.Bool.Decides.{Decides-ltb, nat_tests}
 use Rattle.std.proofs.lemmas.Option.{slice_get_past}
-use Rattle.nob_marks.specs.Marks.{has}
+use Rattle.nob_slots.specs.Marks.{has}
 use Rattle.nob_slots.specs.Places.{is_marked_at, AreMarked}
 use Rattle.nob_slots.specs.declared.kept.Kept.{Kept}
 

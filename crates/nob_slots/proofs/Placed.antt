@@ -4,13 +4,13 @@ use lib.ListN.{set}
 use Rattle.std.proofs.lemmas.Bool.Decides.{Decides-ltb, nat_tests}
 use Rattle.std.proofs.lemmas.Cmp.{nat_eq_equiv}
 use Rattle.std.proofs.lemmas.Option.{none-some, same_Some, slice_get_past, slice_get_within, get_or_from_slice_get}
-use Rattle.nob_marks.specs.Marks.{has, NoneFrom, IsFirst}
+use Rattle.nob_slots.specs.Marks.{has, NoneFrom, IsFirst}
 use Rattle.nob_slots.specs.Slots.{item_at, is_number, is_marked, IsRising, NoneMarked, IsFirstMarked}
 use Rattle.nob_slots.specs.Places.{is_marked_at, is_marked_slot, marked_numbers, live_rows, AreMarked, IsPoint, IsPlace}
 use Rattle.nob_slots.specs.declared.kept.Kept.{Kept}
 use Rattle.nob_slots.proofs.Flat.{get_set_same, get_set_other, get_push_here, get_push_other}
 use Rattle.nob_slots.proofs.Live.{none_there, item_there, NotBefore}
-use Rattle.nob_slots.proofs.Numbers.{none_marked, some_marked, lower_differs}
+use Rattle.nob_slots.proofs.Numbering.{none_marked, some_marked, lower_differs}
 use Rattle.nob_slots.proofs.Parted.{point_is, rows_before}
 use Rattle.nob_slots.proofs.Rising.{rises}
 

@@ -7,7 +7,7 @@ use Rattle.std.specs.List.{AllByRecursion}
 use Rattle.nob_slots.specs.Slots.{item_at, is_number, is_marked, IsRising}
 use Rattle.nob_slots.specs.Places.{with_slot, live_rows, is_marked_slot, marked_numbers, Thins}
 use Rattle.nob_slots.specs.declared.kept.Kept.{Kept}
-use Rattle.nob_slots.proofs.Numbers.{lower_differs, differs_turned, above_unmarked}
+use Rattle.nob_slots.proofs.Numbering.{lower_differs, differs_turned, above_unmarked}
 
 module _ {T : Type 0} where
   pub thins_same : (es : List (ℕ × Option (Kept T))) → Thins es es

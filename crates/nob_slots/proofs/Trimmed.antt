@@ -10,7 +10,7 @@ use Rattle.nob_slots.specs.Places.{with_slot, live_rows, marked_numbers, is_mark
 use Rattle.nob_slots.specs.declared.kept.Kept.{Kept}
 use Rattle.nob_slots.proofs.Flat.{length_push, get_push_here, get_set_same, get_set_other}
 use Rattle.nob_slots.proofs.Live.{filled, live_push_empty, item_there, none_there}
-use Rattle.nob_slots.proofs.Numbers.{numbers_push}
+use Rattle.nob_slots.proofs.Numbering.{numbers_push}
 use Rattle.nob_slots.proofs.Parted.{rows_before}
 use Rattle.nob_slots.proofs.Placed.{mark_push, not_before}
 use Rattle.nob_slots.proofs.Rising.{rising_front, rises}

@@ -1,2 +1,5 @@
 pub mod Slots
 pub mod Places
+pub mod Marks
+pub mod Numbers
+pub mod Lists

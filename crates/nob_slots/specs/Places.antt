@@ -1,7 +1,7 @@
 -- The slots that items stand in: each has a number, and is empty once its item is taken out. No public clause cites this module.
 use Rattle.std.specs.Prelude.{◌≡◌, ℕ, ◌+◌, ◌*◌, ◌^◌, ◌<◌, ◌≤◌, ◌⊎◌, Bool, false, not, if◌then◌else◌, List, [], ◌∷◌, length, slice_get, is_none, ◌-◌, Option, Some, None}
 use Prim.Native.Nat.{zero, suc}
-use Rattle.nob_marks.specs.Marks.{has, bound}
+use Rattle.nob_slots.specs.Marks.{has, bound}
 use Rattle.nob_slots.specs.Slots.{IsRising}
 use Rattle.nob_slots.specs.declared.kept.Kept.{Kept}
 

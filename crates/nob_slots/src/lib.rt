@@ -4,11 +4,19 @@
 
 mod iter;
 mod kept;
+mod lists;
+mod marks;
+mod number_iter;
+mod numbers;
 mod place;
 mod slots;
 mod sweep;
 mod tidy;
+mod words;
 mod write;
 
 pub use iter::Iter;
+pub use marks::Marks;
+pub use number_iter::NumberIter;
+pub use numbers::Numbers;
 pub use slots::Slots;

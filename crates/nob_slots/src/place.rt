@@ -1,12 +1,12 @@
 //! Where the slots of a number stand.
 
 ghost use Rattle.std.specs.Prelude.{◌≡◌, [], false, ◌<◌, ◌≤◌, ℕ, None, Some, Option, MatchOption, nat_lt, option_copied, slice_get};
-ghost use Rattle.nob_marks.specs.Marks.{has};
+ghost use Rattle.nob_slots.specs.Marks.{has};
 ghost use Rattle.nob_slots.specs.Slots.{item_at, IsRising, IsGreatest, NoneMarked, IsFirstMarked};
 ghost use Rattle.nob_slots.specs.Places.{IsPoint, IsPlace, AreMarked, live_rows, marked_numbers, is_marked_at, is_last_empty};
 
+use crate::Marks;
 use crate::kept::Kept;
-use nob_marks::Marks;
 
 /// How many slots have a number below this one: the first ones. Logarithmic in the slots.
 pub fn count_below<T>(slots: &[(u64, Option<Kept<T>>)], number: u64) -> usize

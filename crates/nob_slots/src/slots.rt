@@ -5,13 +5,13 @@ ghost use Rattle.std.specs.Fn.{ComputesKey};
 ghost use Rattle.std.specs.Map.{remove_entry, set_value};
 ghost use Rattle.nob_slots.specs.Slots.{item_at, IsAbove, IsRising, IsGreatest, is_number, PutsMark, is_marked, NoneMarked, IsFirstMarked};
 
+use crate::Marks;
 use crate::iter::Iter;
 use crate::kept::Kept;
 use crate::place::{find, first_marked_of, last_number, place_of};
 use crate::sweep::empty_failing;
 use crate::tidy::{clear_empty, drop_last_empty};
 use crate::write::{empty_slot, write_item, write_mark};
-use nob_marks::Marks;
 use std::alloc::{AllocError, Global};
 use std::marker::Model;
 

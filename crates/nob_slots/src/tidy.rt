@@ -2,13 +2,13 @@
 
 ghost use Rattle.std.specs.Prelude.{◌≡◌, ◌<◌, ◌≤◌, ℕ, length, filter, is_some, false, slice_get};
 ghost use Rattle.std.specs.Vec.{vec_capacity};
-ghost use Rattle.nob_marks.specs.Marks.{has, bound};
+ghost use Rattle.nob_slots.specs.Marks.{has, bound};
 ghost use Rattle.nob_slots.specs.Slots.{IsRising};
 ghost use Rattle.nob_slots.specs.Places.{AreMarked, Trims, is_marked_at, is_last_empty};
 
+use crate::Marks;
 use crate::kept::Kept;
 use crate::place::is_marked_at;
-use nob_marks::Marks;
 
 // Whether the last slot is empty.
 fn is_last_empty<T>(slots: &[(u64, Option<Kept<T>>)]) -> bool

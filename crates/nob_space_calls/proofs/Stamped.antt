@@ -12,7 +12,7 @@ use Rattle.nob_model_types.specs.Messages.{replies_to}
 use Rattle.nob_model_work.specs.Work.{is_reply_from, without_first}
 use Rattle.nob_slots.specs.Slots as slots
 use Rattle.nob_slots.specs.Slots.{item_at, is_number, IsRising}
-use Rattle.nob_slots.proofs.Numbers.{lower_differs}
+use Rattle.nob_slots.proofs.Numbering.{lower_differs}
 use Rattle.nob_slots.proofs.Rising as rising
 use Rattle.nob_space_calls.proofs.Numbered.{all_removed, rising_removed}
 use Rattle.nob_space_calls.specs.Calls.{is_reply}

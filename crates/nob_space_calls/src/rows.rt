@@ -11,8 +11,7 @@ ghost use Rattle.nob_space_calls.specs.Rows.{changed_at, changed};
 use crate::ready::Ready;
 use nob_ids::{CallNo, SpaceId};
 use nob_model_work::{OwnCall, Stage};
-use nob_numbers::{Iter, Numbers};
-use nob_slots::Slots;
+use nob_slots::{NumberIter, Numbers, Slots};
 use std::alloc::{AllocError, Global};
 use std::marker::Model;
 
@@ -131,7 +130,7 @@ fn end_call(peer: SpaceId, ready: &Ready, calls: &mut Slots<OwnCall>, call: u64)
 }
 
 // Ends those of the calls of these numbers that were made to a space and have no ready reply.
-fn end_calls(peer: SpaceId, ready: &Ready, numbers: Iter<'_>, calls: &mut Slots<OwnCall>)
+fn end_calls(peer: SpaceId, ready: &Ready, numbers: NumberIter<'_>, calls: &mut Slots<OwnCall>)
     requires { length numbers < 2 ^ 64 }
     ensures rows { calls.new.rows ≡ changed (call_after_close peer ready.now.replies) numbers.entry
         calls.old.rows }

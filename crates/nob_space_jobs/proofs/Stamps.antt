@@ -7,7 +7,7 @@ use Rattle.std.specs.List.{AllByRecursion}
 use Rattle.std.specs.Map.{remove_entry}
 use Rattle.nob_model_types.specs.declared.message.Message.{Message}
 use Rattle.nob_model_types.specs.Messages.{is_not_from}
-use Rattle.nob_numbers.specs.Numbers.{IsAboveAll}
+use Rattle.nob_slots.specs.Numbers.{IsAboveAll}
 use Rattle.nob_slots.specs.Slots.{item_at, is_number, IsAbove, IsRising}
 use Rattle.nob_space_jobs.specs.Rows.{messages_at, messages_in, stamps_from, without_all}
 

@@ -5,7 +5,7 @@ use Rattle.std.specs.Map.{remove_entry}
 use Rattle.std.specs.Option.{option_map}
 use Rattle.nob_model_types.specs.declared.message.Message.{Message}
 use Rattle.nob_model_acting.specs.Candidates.{target_of}
-use Rattle.nob_numbers.specs.Numbers.{NumberLists, numbers_of}
+use Rattle.nob_slots.specs.Numbers.{NumberLists, numbers_of}
 use Rattle.nob_slots.specs.Slots.{SlotList, item_at, is_number, IsAbove, IsRising}
 use Rattle.nob_space_jobs.specs.declared.links.Link.{Link}
 use Rattle.nob_space_jobs.specs.Lanes.{LaneList}

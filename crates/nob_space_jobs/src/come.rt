@@ -13,7 +13,7 @@ use std::marker::Model;
 #[derive(Drop)]
 pub struct MessagesFrom<'a> {
     // The stamps that are left.
-    pub(crate) stamps: nob_numbers::Iter<'a>,
+    pub(crate) stamps: nob_slots::NumberIter<'a>,
     pub(crate) messages: &'a Slots<Message>,
 }
 
@@ -36,7 +36,7 @@ impl<'a> Model for MessagesFrom<'a> {
 // The first message under some stamps, and the stamps behind it.
 fn first_of<'a>(
     messages: &'a Slots<Message>,
-    stamps: &mut nob_numbers::Iter<'_>,
+    stamps: &mut nob_slots::NumberIter<'_>,
 ) -> Option<&'a Message>
     ensures first { MatchOption result (messages_at messages.now.rows stamps.old ≡ [])
         (λ message. messages_at messages.now.rows stamps.old

@@ -12,8 +12,7 @@ use crate::taking::{take_all, take_job};
 use nob_ids::SpaceId;
 use nob_model_acting::candidates::target_of;
 use nob_model_types::Message;
-use nob_numbers::Numbers;
-use nob_slots::Slots;
+use nob_slots::{Numbers, Slots};
 use std::alloc::{AllocError, Global};
 use std::marker::Model;
 

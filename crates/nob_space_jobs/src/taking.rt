@@ -2,7 +2,7 @@
 
 ghost use Rattle.std.specs.Prelude.{◌≡◌, ℕ, ◌≤◌};
 ghost use Rattle.std.specs.Map.{remove_entry};
-ghost use Rattle.nob_numbers.specs.Numbers.{numbers_of};
+ghost use Rattle.nob_slots.specs.Numbers.{numbers_of};
 ghost use Rattle.nob_slots.specs.Slots.{item_at, is_number, IsRising};
 ghost use Rattle.nob_space_jobs.specs.Lanes.{lane_at, runs_in};
 ghost use Rattle.nob_space_jobs.specs.Lines.{AreLinked};
@@ -11,8 +11,7 @@ ghost use Rattle.nob_space_jobs.specs.Rows.{SameTargets, without_all};
 use crate::lines::Lines;
 use nob_ids::SpaceId;
 use nob_model_types::Message;
-use nob_numbers::Numbers;
-use nob_slots::Slots;
+use nob_slots::{Numbers, Slots};
 
 /// Takes the job under a stamp out.
 pub fn take_job(messages: &mut Slots<Message>, lines: &mut Lines, stamp: u64) -> Option<Message>

@@ -4,7 +4,7 @@ use Prim.Native.Nat.{zero, suc}
 use Rattle.std.proofs.lemmas.Bool.Decides.{nat_tests}
 use Rattle.std.proofs.lemmas.Option.{none-some, same_Some}
 use Rattle.nob_ids.specs.declared.wire_rep.WireRep.{WireRep}
-use Rattle.nob_numbers.specs.Numbers.{NumberLists, numbers_of}
+use Rattle.nob_slots.specs.Numbers.{NumberLists, numbers_of}
 use Rattle.nob_slots.specs.Slots.{item_at, IsRising, IsAbove}
 use Rattle.nob_space_waiting.specs.declared.entry.Entry.{Entry}
 use Rattle.nob_space_waiting.specs.Waiting.{due_to, due_to_all, is_awaited, is_due_in}

@@ -9,7 +9,7 @@ use Rattle.nob_ids.specs.declared.wire_rep.WireRep.{WireRep}
 use Rattle.nob_model_types.specs.declared.message.Message.{Message}
 use Rattle.nob_model_types.specs.declared.message.RefCopy.{RefCopy}
 use Rattle.nob_model_work.specs.Work.{without_first}
-use Rattle.nob_numbers.specs.Numbers.{NumberLists, numbers_of}
+use Rattle.nob_slots.specs.Numbers.{NumberLists, numbers_of}
 use Rattle.nob_slots.specs.Slots.{item_at, is_marked, is_number, IsAbove, IsFirstMarked, IsRising, NoneMarked}
 use Rattle.nob_space_waiting.specs.declared.entry.Entry.{Entry}
 use Rattle.nob_space_waiting.specs.Waiting.{is_awaited, is_due_where}

@@ -8,7 +8,7 @@ use Rattle.std.specs.List.{AllByRecursion}
 use Rattle.nob_ids.specs.declared.wire_rep.WireRep.{WireRep}
 use Rattle.nob_model_types.specs.declared.message.Message.{Message}
 use Rattle.nob_model_types.specs.declared.message.RefCopy.{RefCopy}
-use Rattle.nob_numbers.specs.Numbers.{NumberLists, numbers_of, Puts}
+use Rattle.nob_slots.specs.Numbers.{NumberLists, numbers_of, Puts}
 use Rattle.nob_slots.specs.Slots.{item_at, is_marked, is_number, IsAbove, IsRising, PutsMark}
 use Rattle.nob_space_waiting.specs.declared.entry.Entry.{Entry}
 use Rattle.nob_space_waiting.specs.Waiting.{due_to, due_to_all, is_awaited, is_due, is_due_in, is_due_where, waits_for}

@@ -4,7 +4,7 @@ use Rattle.std.specs.List.{AllByRecursion, IsDistinct, list_any}
 use Rattle.nob_ids.specs.declared.wire_rep.WireRep.{WireRep}
 use Rattle.nob_ids.specs.Names.{is_same}
 use Rattle.nob_model_types.specs.declared.message.Message.{Message}
-use Rattle.nob_numbers.specs.Numbers.{NumberLists}
+use Rattle.nob_slots.specs.Numbers.{NumberLists}
 use Rattle.nob_slots.specs.Slots.{item_at}
 use Rattle.nob_space_waiting.specs.declared.entry.Entry.{Entry}
 use Rattle.nob_space_waiting.specs.Waiting.{due_to}

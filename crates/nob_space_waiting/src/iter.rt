@@ -12,7 +12,7 @@ use std::marker::Model;
 pub struct From<'a> {
     pub(crate) slots: &'a Slots<Entry>,
     // The stamps of those that are left.
-    pub(crate) stamps: nob_numbers::Iter<'a>,
+    pub(crate) stamps: nob_slots::NumberIter<'a>,
 }
 
 impl<'a> Model for From<'a> {

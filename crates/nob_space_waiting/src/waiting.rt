@@ -6,7 +6,7 @@ ghost use Rattle.nob_ids.specs.Names.{is_same};
 ghost use Rattle.nob_ids.specs.declared.wire_rep.WireRep.{WireRep as WireRepOf};
 ghost use Rattle.nob_model_types.specs.Messages.{is_not_from};
 ghost use Rattle.nob_model_work.specs.Work.{without_first};
-ghost use Rattle.nob_numbers.specs.Numbers.{numbers_of};
+ghost use Rattle.nob_slots.specs.Numbers.{numbers_of};
 ghost use Rattle.nob_slots.specs.Slots.{is_number, IsRising, PutsMark};
 ghost use Rattle.nob_space_waiting.specs.Waiting.{due_to_all, granted_message, is_awaited, is_due_in, is_settleable_in, IsNew, waits_for, is_due};
 ghost use Rattle.nob_space_waiting.specs.Lines.{AreAwaited, AreMarked, LineList, places_for, times_in, without};
@@ -19,8 +19,7 @@ use crate::losing::{lower_all, lower_line};
 use nob_ids::{SpaceId, WireRep};
 use nob_model_types::Message;
 use nob_model_types::message::RefCopy;
-use nob_numbers::Numbers;
-use nob_slots::Slots;
+use nob_slots::{Numbers, Slots};
 use std::alloc::{AllocError, Global};
 use std::marker::Model;
 

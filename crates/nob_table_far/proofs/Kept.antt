@@ -1,6 +1,6 @@
 -- What holds of the references to other spaces' objects still holds.
 use Rattle.std.proofs.Common.{◌≡◌, ℕ, ◌≤◌, ◌+◌, ◌==◌, length, Option, Some, None, IfSome, slice_get, if◌then◌else◌, refl, sym, ap, subst, ◌∙◌, arith, vec_capacity}
-use Rattle.nob_marks.specs.Marks.{has, bound}
+use Rattle.nob_slots.specs.Marks.{has, bound}
 use Rattle.nob_ids.specs.declared.wire_rep.WireRep.{WireRep}
 use Rattle.nob_table_rows.specs.declared.counts.Counts.{Counts}
 use Rattle.nob_table_far.specs.declared.order.Order.{Order}

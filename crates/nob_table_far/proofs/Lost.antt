@@ -7,7 +7,7 @@ use Rattle.std.proofs.lemmas.Option.{none-some, same_Some, slice_get_within}
 use Rattle.std.specs.Option.{option_map}
 use Rattle.nob_ids.specs.declared.wire_rep.WireRep.{WireRep}
 use Rattle.nob_ids.specs.Names.{is_same}
-use Rattle.nob_marks.specs.Marks.{has}
+use Rattle.nob_slots.specs.Marks.{has}
 use Rattle.nob_table_rows.specs.declared.counts.Counts.{Counts}
 use Rattle.nob_table_far.specs.declared.order.Slot.{Slot}
 use Rattle.nob_table_rows.specs.declared.standing.Surrogate.{Surrogate}

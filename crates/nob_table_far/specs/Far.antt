@@ -3,7 +3,7 @@ use Rattle.std.specs.Prelude.{◌≡◌, ℕ, ◌+◌, ◌-◌, ◌*◌, ◌<◌
 use Rattle.std.specs.Vec.{vec_capacity}
 use Rattle.nob_ids.specs.Names.{most_spaces}
 use Rattle.nob_ids.specs.declared.wire_rep.WireRep.{WireRep}
-use Rattle.nob_marks.specs.Marks.{has, bound}
+use Rattle.nob_slots.specs.Marks.{has, bound}
 use Rattle.nob_table_rows.specs.declared.counts.Counts.{Counts}
 use Rattle.nob_table_far.specs.declared.order.Order.{Order}
 use Rattle.nob_table_far.specs.declared.order.Slot.{Slot}

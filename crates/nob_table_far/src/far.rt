@@ -50,7 +50,7 @@ impl Model for Far {
 
     ghost use Rattle.std.specs.Prelude.{length};
     ghost use Rattle.std.specs.Vec.{vec_capacity};
-    ghost use Rattle.nob_marks.specs.Marks.{bound};
+    ghost use Rattle.nob_slots.specs.Marks.{bound};
     ghost use Rattle.nob_table_far.specs.Far.{IsTidyFar};
 
     ghost invariant = { λ a. IsTidyFar a.counted a.surrogates a.dirties a.order a.room };

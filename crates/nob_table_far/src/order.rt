@@ -2,7 +2,7 @@
 
 ghost use Rattle.std.specs.Prelude.{◌≡◌, ℕ, ◌==◌, ◌+◌, ◌*◌, ◌<◌, ◌≤◌, ◌^◌, ◌++◌, ◌∷◌, [], length, slice_get, Bool, Some, OnOk, MatchOption, filter, nat_lt, false, if◌then◌else◌, List};
 ghost use Rattle.std.specs.Vec.{vec_capacity};
-ghost use Rattle.nob_marks.specs.Marks.{has, bound};
+ghost use Rattle.nob_slots.specs.Marks.{has, bound};
 ghost use Rattle.nob_ids.specs.declared.wire_rep.WireRep.{WireRep};
 ghost use Rattle.nob_table_rows.specs.declared.counts.Counts.{Counts};
 ghost use Rattle.nob_table_rows.specs.declared.standing.Surrogate.{Surrogate};
@@ -10,8 +10,8 @@ ghost use Rattle.nob_table_far.specs.Far.{most_owners, AreInOrder, AreSent, Have
 
 use crate::surrogates::Surrogates;
 use nob_ids::{SpaceId, WireRep};
-use nob_marks::Marks;
 use nob_rows::Rows;
+use nob_slots::Marks;
 use nob_table_rows::{Counts, Standing};
 use std::alloc::{AllocError, Global};
 

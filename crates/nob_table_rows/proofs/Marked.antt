@@ -9,7 +9,7 @@ use Rattle.std.proofs.lemmas.Option.{none-some, same_Some, slice_get_within}
 use Rattle.std.specs.Map.{set_value}
 use Rattle.nob_ids.specs.Names.{is_same}
 use Rattle.nob_ids.specs.declared.wire_rep.WireRep.{WireRep}
-use Rattle.nob_marks.specs.Marks.{has, NoneIn, NoneFrom, IsFirst}
+use Rattle.nob_slots.specs.Marks.{has, NoneIn, NoneFrom, IsFirst}
 use Rattle.nob_table_rows.specs.declared.object.Object.{Object}
 use Rattle.nob_table_rows.specs.Objects.{live_rows, passes_slot, passes_at, ArePassing, NonePassing, IsFirstPassing}
 use Rattle.nob_table_rows.specs.Order.{IsByIndex}

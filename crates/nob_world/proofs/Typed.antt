@@ -9,7 +9,7 @@ use Rattle.nob_model_types.specs.Deeds.{deed_of}
 use Rattle.nob_model_types.specs.declared.deed.Deed.{Deed}
 use Rattle.nob_model_types.specs.declared.deed.Deed.TheVariants as did
 use Rattle.nob_model_types.specs.declared.deed.Cause.TheVariants as causes
-use Rattle.nob_model_safety.specs.Typed.{HandsTyped, IsOfTypes}
+use Rattle.nob_model_invariant.specs.Typed.{HandsTyped, IsOfTypes}
 use Rattle.nob_space.specs.Steps.{HandsOnFitting}
 use Rattle.nob_world.specs.Worlds.{entry_of}
 

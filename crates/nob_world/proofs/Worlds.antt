@@ -30,7 +30,7 @@ use Rattle.nob_model_history.specs.Ends.{calls_at}
 use Rattle.nob_model.specs.Right.{right, right_after, right_frames}
 use Rattle.nob_model_journal.specs.Journals.{at, transmitted_frames, frames_of}
 use Rattle.nob_model_journal.specs.Runs.{ArrivesGiven, WorldRun, frame_of}
-use Rattle.nob_model_safety.specs.Typed.{IsOfTypes, AreOfTypes}
+use Rattle.nob_model_invariant.specs.Typed.{IsOfTypes, AreOfTypes}
 use Rattle.nob_table_rows.proofs.Flat.{get_set_other}
 use Rattle.nob_space_state.proofs.Ends.{set_here}
 use Rattle.nob_space.specs.Spaces.{Owner, StandsFor, SameSpace}

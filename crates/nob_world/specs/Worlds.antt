@@ -11,7 +11,7 @@ use Rattle.nob_model_types.specs.declared.entry.Entry.{Entry}
 use Rattle.nob_model_types.specs.declared.entry.WorldStep.{WorldStep}
 use Rattle.nob_model_types.specs.declared.entry.WorldStep.TheVariants.{Do, Deliver}
 use Rattle.nob_model_journal.specs.Journals.{at, transmitted_frames}
-use Rattle.nob_model_safety.specs.Typed.{AreOfTypes}
+use Rattle.nob_model_invariant.specs.Typed.{AreOfTypes}
 pub use Rattle.nob_model_invariant.specs.Safe.{IsSafe}
 use Rattle.nob_model_journal.specs.Runs.{WorldRun, frame_of, IsMadeBy}
 pub use Rattle.nob_model_journal.specs.Runs.{is_arrival}

@@ -4,7 +4,7 @@ ghost use Rattle.std.specs.Prelude.{◌≡◌, ◌≢◌, ◌≤◌, ◌<◌, �
 ghost use Rattle.nob_model_types.specs.declared.entry.WorldStep.{WorldStep as WorldStepOf};
 ghost use Rattle.nob_model_journal.specs.Journals.{transmitted_frames};
 ghost use Rattle.nob_model_journal.specs.Runs.{WorldRun, From};
-ghost use Rattle.nob_model_safety.specs.Typed.{AreOfTypes};
+ghost use Rattle.nob_model_invariant.specs.Typed.{AreOfTypes};
 ghost use Rattle.nob_world.specs.Worlds as spec;
 ghost use Rattle.nob_world.specs.declared.error.WorldError.{WorldError as WorldErrorOf};
 

@@ -1,8 +1,7 @@
 //! Whether events, values and answers are read from their texts alone.
 
-use nob_model::{Answer, Entry, Event, Outcome, WorldStep};
+use nob_model::{Answer, Entry, Event, Outcome, WorldStep, same_answer, same_event, same_value};
 use nob_model_reading::{answer_of, event_of};
-use nob_model_same::{same_answer, same_event, same_value};
 use nob_model_text::{answer_text, value_of, value_text};
 use nob_pickle::Value;
 use std::alloc::{AllocError, Global};

@@ -7,8 +7,7 @@ use crate::frames::{
 use crate::seen::Happenings;
 use nob_frame::{Bytes, Frame, FrameError, FrameKind, decode};
 use nob_ids::{CallNo, JobNo, Limits, SpaceId, WireRep};
-use nob_model::{Answer, Entry, Event, Here, Outcome, Refusal, right};
-use nob_model_same::same_result;
+use nob_model::{Answer, Entry, Event, Here, Outcome, Refusal, right, same_result};
 use nob_pickle::Value;
 use nob_random::Words;
 use nob_space::{Space, SpaceError};

@@ -3,7 +3,7 @@
 
 use crate::frames::{any_frame, change_one, random_bytes, spelling_of};
 use nob_frame::{Feed, Frame, FrameError, FrameFault, decode};
-use nob_model_same::same_frame;
+use nob_model::same_frame;
 use nob_random::Words;
 use std::alloc::{AllocError, Global};
 

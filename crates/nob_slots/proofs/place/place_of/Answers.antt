@@ -1,5 +1,5 @@
 use Rattle.std.proofs.Common.{option_copied, sym, ap, ◌∙◌}
-use Rattle.nob_slots.proofs.Numbers.{unlike}
+use Rattle.nob_slots.proofs.Numbering.{unlike}
 use Rattle.nob_slots.proofs.Placed.{no_slot, other_slot, empty_slot, is_empty, is_filled}
 use Rattle.nob_slots.proofs.place.place_of.Goals as goal
 

@@ -1,5 +1,5 @@
 use Rattle.std.proofs.Common.{◌≡◌, ℕ, ◌<◌, ◌≤◌, slice_get, false}
-use Rattle.nob_marks.specs.Marks.{has, bound}
+use Rattle.nob_slots.specs.Marks.{has, bound}
 use Rattle.nob_slots.specs.Places.{is_marked_at}
 use Rattle.nob_slots.proofs.tidy.mark_all.Given as goal
 

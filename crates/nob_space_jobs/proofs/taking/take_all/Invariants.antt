@@ -1,5 +1,5 @@
 use Rattle.std.proofs.Common.{◌≡◌, ℕ, ◌≤◌}
-use Rattle.nob_numbers.specs.Numbers.{numbers_of}
+use Rattle.nob_slots.specs.Numbers.{numbers_of}
 use Rattle.nob_slots.specs.Slots.{IsRising}
 use Rattle.nob_space_jobs.specs.Lanes.{lane_at, runs_in}
 use Rattle.nob_space_jobs.specs.Lines.{AreLinked}

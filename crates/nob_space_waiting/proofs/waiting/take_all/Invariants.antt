@@ -1,5 +1,5 @@
 use Rattle.std.proofs.Common.{◌≡◌}
-use Rattle.nob_numbers.specs.Numbers.{numbers_of}
+use Rattle.nob_slots.specs.Numbers.{numbers_of}
 use Rattle.nob_slots.specs.Slots.{IsRising}
 use Rattle.nob_space_waiting.specs.Lines.{AreMarked, without}
 use Rattle.nob_space_waiting.proofs.waiting.take_all.Given as goal

@@ -1,5 +1,5 @@
 use Rattle.std.proofs.Common.{◌≡◌, ◌≤◌, length}
-use Rattle.nob_marks.specs.Marks.{bound}
+use Rattle.nob_slots.specs.Marks.{bound}
 use Rattle.nob_table_far.specs.Far.{IsOrdered, Covers, KeepMarks}
 use Rattle.nob_rows.specs.Rows.{IsOnce}
 use Rattle.nob_table_far.proofs.Lost.{AreLost}

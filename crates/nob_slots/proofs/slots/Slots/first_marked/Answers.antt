@@ -1,4 +1,4 @@
-use Rattle.nob_slots.proofs.Numbers.{found_there}
+use Rattle.nob_slots.proofs.Numbering.{found_there}
 use Rattle.nob_slots.proofs.slots.Slots.first_marked.Goals as goal
 
 pub returns-clause-there : goal.returns-clause-there

@@ -1,6 +1,6 @@
 use Rattle.std.proofs.Common.{arith}
 use Rattle.nob_slots.proofs.Live.{live_shorter}
-use Rattle.nob_slots.proofs.Numbers.{marked_there, rising_live}
+use Rattle.nob_slots.proofs.Numbering.{marked_there, rising_live}
 use Rattle.nob_slots.proofs.slots.Slots.len.Goals as goal
 
 pub returns-clause-fits : goal.returns-clause-fits

@@ -3,7 +3,7 @@ use Rattle.std.specs.Vec.{vec_capacity}
 use Rattle.nob_slots.specs.Places.{live_rows}
 use Rattle.nob_slots.proofs.Held.{held_written}
 use Rattle.nob_slots.proofs.Live.{live_same}
-use Rattle.nob_slots.proofs.Numbers.{puts_mark}
+use Rattle.nob_slots.proofs.Numbering.{puts_mark}
 use Rattle.nob_slots.proofs.Placed.{place_in, place_within, lower_before, marked_written}
 use Rattle.nob_slots.proofs.slots.Slots.mark.Goals as goal
 

@@ -3,7 +3,7 @@ use Rattle.std.specs.Vec.{vec_capacity}
 use Rattle.nob_slots.specs.Places.{live_rows, marked_numbers}
 use Rattle.nob_slots.proofs.Held.{held_pushed}
 use Rattle.nob_slots.proofs.Live.{live_push, live_shorter}
-use Rattle.nob_slots.proofs.Numbers.{numbers_push}
+use Rattle.nob_slots.proofs.Numbering.{numbers_push}
 use Rattle.nob_slots.proofs.slots.Slots.push.Goals as goal
 
 pub overflow_add-self : goal.overflow_add-self

@@ -3,7 +3,7 @@ use Rattle.std.specs.Vec.{vec_capacity}
 use Rattle.nob_slots.specs.Places.{live_rows}
 use Rattle.nob_slots.proofs.Held.{held_swept}
 use Rattle.nob_slots.proofs.Live.{live_filled}
-use Rattle.nob_slots.proofs.Numbers.{numbers_filled}
+use Rattle.nob_slots.proofs.Numbering.{numbers_filled}
 use Rattle.nob_slots.proofs.Placed.{marked_past}
 use Rattle.nob_slots.proofs.Swept.{live_swept}
 use Rattle.nob_slots.proofs.Thinned.{thins_long, thins_marked}

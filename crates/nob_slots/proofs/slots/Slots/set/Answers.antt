@@ -3,7 +3,7 @@ use Rattle.std.specs.Vec.{vec_capacity}
 use Rattle.nob_slots.specs.Places.{live_rows, marked_numbers}
 use Rattle.nob_slots.proofs.Held.{held_written}
 use Rattle.nob_slots.proofs.Live.{live_set}
-use Rattle.nob_slots.proofs.Numbers.{numbers_same}
+use Rattle.nob_slots.proofs.Numbering.{numbers_same}
 use Rattle.nob_slots.proofs.Placed.{place_in, item_is, not_before, marked_as_before}
 use Rattle.nob_slots.proofs.slots.Slots.set.Goals as goal
 

@@ -4,7 +4,7 @@ use Rattle.std.specs.Vec.{vec_capacity}
 use Rattle.nob_slots.specs.Places.{live_rows}
 use Rattle.nob_slots.proofs.Held.{held_emptied, held_cleared}
 use Rattle.nob_slots.proofs.Live.{live_emptied, live_filled, one_less}
-use Rattle.nob_slots.proofs.Numbers.{puts_mark, numbers_filled, absent_mark, absent_entry}
+use Rattle.nob_slots.proofs.Numbering.{puts_mark, numbers_filled, absent_mark, absent_entry}
 use Rattle.nob_slots.proofs.Placed.{place_in, place_within, item_is, not_before, lower_before, marked_written, marked_past}
 use Rattle.nob_slots.proofs.Trimmed.{marked_trimmed}
 use Rattle.nob_slots.proofs.slots.Slots.take.Goals as goal

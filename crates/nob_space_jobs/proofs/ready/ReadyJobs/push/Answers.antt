@@ -1,5 +1,5 @@
 use Rattle.std.proofs.Common.{◌<◌, ◌+◌, sym, ap, subst, ◌∙◌, arith}
-use Rattle.nob_numbers.specs.Numbers.{IsAboveAll}
+use Rattle.nob_slots.specs.Numbers.{IsAboveAll}
 use Rattle.nob_slots.specs.Slots.{IsAbove, IsRising}
 use Rattle.nob_slots.proofs.Rising.{rising_push}
 use Rattle.nob_space_jobs.specs.Rows.{SameTargets, stamps_from}

@@ -1,5 +1,5 @@
 use Rattle.std.proofs.Common.{◌==◌, ◌+◌, ◌<◌, length, filter, ap, sym, subst, ◌∙◌, IsSome, if◌then◌else◌}
-use Rattle.nob_numbers.specs.Numbers.{IsAboveAll}
+use Rattle.nob_slots.specs.Numbers.{IsAboveAll}
 use Rattle.nob_slots.specs.Slots.{item_at, PutsMark}
 use Rattle.nob_space_waiting.specs.Waiting.{is_due, waits_for}
 use Rattle.nob_space_waiting.specs.Lines.{places_for, times_in}

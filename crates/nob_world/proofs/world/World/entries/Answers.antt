@@ -1,7 +1,7 @@
 use Rattle.std.proofs.Common.{List, reverse, sym, subst}
 use Rattle.nob_model_types.specs.declared.entry.Entry.{Entry}
 use Rattle.nob_model_journal.specs.Runs.{WorldRun}
-use Rattle.nob_model_safety.specs.Typed.{AreOfTypes}
+use Rattle.nob_model_invariant.specs.Typed.{AreOfTypes}
 use Rattle.nob_world.specs.Worlds.{World, IsSafe, world_of}
 use Rattle.nob_world.proofs.Safe.{safe}
 use Rattle.nob_world.proofs.world.World.entries.Goals as goal

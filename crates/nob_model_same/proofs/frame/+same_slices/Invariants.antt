@@ -1,5 +1,0 @@
-use Rattle.std.proofs.Common.{length}
-use Rattle.nob_model_same.proofs.frame.+same_slices.Given as goal
-
-abbrev pub decreases-same_slices : goal.decreases-same_slices
-decreases-same_slices l = length l.frames.now
