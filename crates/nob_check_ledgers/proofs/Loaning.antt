@@ -2,7 +2,7 @@
 use Rattle.std.proofs.Common.{◌≡◌, ◌∷◌, true}
 use Rattle.nob_model_types.specs.declared.deed.Deed.{Deed}
 use Rattle.nob_model_work.specs.Work.{work_after}
-use Rattle.nob_check_work.proofs.Keeping.{work_made}
+use Rattle.nob_check_ledgers.proofs.Keeping.{work_made}
 use Rattle.nob_check_ledgers.specs.Ledgers.{ledger_after, has_loans_made}
 use Rattle.nob_check_ledgers.specs.declared.ledger.Ledger.{Ledger}
 

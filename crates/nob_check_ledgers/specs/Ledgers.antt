@@ -12,7 +12,7 @@ use Rattle.nob_model_work.specs.declared.work.InHand.{InHand}
 use Rattle.nob_model_history.specs.Holds.{times, gains, releases, lent_in}
 use Rattle.nob_model_history.specs.Transit.{sent_of, with_gifts}
 use Rattle.nob_model_journal.specs.Tests.{acts_while_open, sends_while_open}
-use Rattle.nob_check_work.specs.Making.{all_lent}
+use Rattle.nob_check_ledgers.specs.Making.{all_lent}
 use Rattle.nob_check_ledgers.specs.declared.lists.ActedItem.{ActedItem}
 use Rattle.nob_check_ledgers.specs.declared.ledger.Ledger.{Ledger}
 

@@ -5,6 +5,10 @@ pub use Rattle.nob_model_history.specs.Holds
 pub use Rattle.nob_model_history.specs.Transit
 pub use Rattle.nob_model_journal.specs.Losses
 pub use Rattle.nob_model_journal.specs.Tests
+pub use Rattle.nob_model_types.specs.Turns
+pub use Rattle.nob_model_types.specs.Messages
 pub mod Sent
 pub mod Ledgers
 pub mod Laws
+pub mod Acting
+pub mod Making

@@ -5,8 +5,10 @@ ghost use Rattle.nob_model_types.specs.Sessions.{item_at as item_word};
 ghost use Rattle.nob_model_history.specs.Transit.{count_to as count_word, with_gifts as with_gifts_word};
 ghost use Rattle.nob_check_ledgers.specs.Ledgers as words;
 
+use crate::giving::gifts;
 use crate::lists::{ActedItem, ActedItems};
 use crate::sent::SentItems;
+use crate::working;
 use nob_check_index::DeedIndex;
 use nob_ids::{ItemNo, SpaceId};
 use nob_item::Item;
@@ -122,7 +124,7 @@ fn acts_open_after(deed: &Deed, past: &DeedIndex, before: bool) -> bool
 }
 
 /// The ledger after a deed, where no loan is due before that can be made. Only memory fails it. It
-/// looks up what the deed touches; along what is in hand it looks as `nob_check_work` does.
+/// looks up what the deed touches; along what is in hand it looks as `working` says.
 pub fn with_deed(alloc: Global, deed: Deed, ledger: Ledger) -> Result<Ledger, AllocError>
     requires lent { words.has_loans_made ledger ≡ true }
     ensures step { IfOk result (λ after. after ≡ words.ledger_after deed ledger) }
@@ -135,12 +137,12 @@ pub fn with_deed(alloc: Global, deed: Deed, ledger: Ledger) -> Result<Ledger, Al
         acts_open,
         sends_open,
     } = ledger;
-    let given = nob_check_work::gifts(alloc, &deed, &index, &work)?;
+    let given = gifts(alloc, &deed, &index, &work)?;
     let sends_open = are_open(given.as_slice(), &index) && sends_open;
     let sent_items = with_gifts(alloc, given.as_slice(), sent_items)?;
     let acts_open = acts_open_after(&deed, &index, acts_open);
     let acted_items = acted_after(&deed, &index, acted_items)?;
-    let (index, work) = nob_check_work::with_deed(alloc, deed, index, work)?;
+    let (index, work) = working::with_deed(alloc, deed, index, work)?;
     Ok(Ledger {
         index,
         work,

@@ -3,12 +3,16 @@
 //! sessions; and it goes from one deed to the next. It is kept for every list of deeds, run or not.
 #![tactic(auto)]
 
+mod giving;
 mod held;
 pub mod laws;
 mod ledger;
+mod lending;
 mod lists;
 mod losses;
+mod making;
 mod sent;
+mod working;
 
 pub use held::is_held;
 pub use ledger::{Ledger, new_ledger, with_deed};

@@ -5,10 +5,10 @@ ghost use Rattle.nob_pickle.specs.Shape.{forest};
 ghost use Rattle.nob_pickle.specs.declared.value.Value.TheVariants as values;
 ghost use Rattle.nob_choices.specs.Choices as spec;
 
+use crate::Words;
 use nob_ids::{SpaceId, WireRep};
 use nob_model_types::Outcome;
 use nob_pickle::{Value, Values};
-use nob_random::Words;
 use std::alloc::{AllocError, Global};
 
 // So many of the last objects are chosen from, mostly.

@@ -4,11 +4,11 @@ ghost use Rattle.std.specs.Prelude.{◌≡◌, ◌+◌, ℕ, IfOk};
 ghost use Rattle.nob_model_types.specs.declared.event.Event.TheVariants as events;
 ghost use Rattle.nob_choices.specs.Choices as spec;
 
+use crate::Words;
 use crate::choices::{random_object, random_outcome, random_space, random_value};
 use crate::known::Known;
 use nob_ids::{CallNo, JobNo, SpaceId, WireRep};
 use nob_model_types::{Event, WorldStep};
-use nob_random::Words;
 use std::alloc::{AllocError, Global};
 
 // So many of the last frames are delivered, mostly.

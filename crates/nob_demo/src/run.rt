@@ -178,15 +178,15 @@ fn play<H: Threads + Wait + Sync>(
 }
 
 // The status that the play of a scene ends with.
-fn scene_status_of(ending: nob_demo_scenes::Ending) -> u8
+fn scene_status_of(ending: nob_demo_spaces::Ending) -> u8
     ensures { result ≡ scene_status_of ending }
 {
     match ending {
-        nob_demo_scenes::Ending::Accepted => 0,
-        nob_demo_scenes::Ending::Refused => 1,
-        nob_demo_scenes::Ending::Printed => 0,
-        nob_demo_scenes::Ending::Full => 1,
-        nob_demo_scenes::Ending::OutOfMemory => 1,
+        nob_demo_spaces::Ending::Accepted => 0,
+        nob_demo_spaces::Ending::Refused => 1,
+        nob_demo_spaces::Ending::Printed => 0,
+        nob_demo_spaces::Ending::Full => 1,
+        nob_demo_spaces::Ending::OutOfMemory => 1,
     }
 }
 

@@ -16,7 +16,7 @@ use Rattle.nob_model_traces.specs.Faults.{IsFault, AreAccepted}
 use Rattle.nob_drawing_plan.specs.Laws.{HaveArrows}
 use Rattle.nob_drawing.specs.declared.page.Page.{Page}
 use Rattle.nob_drawing.specs.Layout.{drawing, width_of, height_of}
-use Rattle.nob_shapes.specs.Writing.{svg_text}
+use Rattle.nob_drawing.specs.Writing.{svg_text}
 use Rattle.nob_demo_draw.specs.declared.ending.Ending.{Ending}
 use Rattle.nob_demo_draw.specs.declared.ending.Ending.TheVariants.{Drawn, Refused, OutOfMemory}
 use Rattle.nob_demo_draw.specs.declared.playing.Part.{Part}

@@ -5,10 +5,9 @@ ghost use Rattle.nob_demo_draw.specs.Draws as spec;
 
 use crate::place::fault_row;
 use crate::playing::Part;
-use nob_drawing::{Page, drawing, height_of, width_of};
+use nob_drawing::{Page, drawing, height_of, svg_text, width_of};
 use nob_model_traces::CheckFault;
 use nob_model_types::Entry;
-use nob_shapes::svg_text;
 use std::alloc::{AllocError, Global};
 
 // What is shown of a journal.

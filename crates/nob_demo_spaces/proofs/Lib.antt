@@ -1,1 +1,3 @@
 mod Crossing
+pub mod Turns
+pub mod Told

@@ -2,7 +2,7 @@
 
 use crate::meeting::Meeting;
 use crate::player::{Player, stop_of};
-use nob_demo_scenes::{Counter, Stop, Tally, calls_of};
+use crate::{Counter, Stop, Tally, calls_of};
 use nob_demo_words::Scene;
 use nob_fault::{Shim, words_between};
 use nob_ids::{Limits, SpaceId};

@@ -1,12 +1,12 @@
 //! The scene.
 
 ghost use Rattle.std.specs.Prelude.{◌≡◌, ◌++◌, []};
-ghost use Rattle.nob_demo_scenes.specs.Lines.{last_line};
-ghost use Rattle.nob_demo_scenes.specs.Endings.{Plays};
+ghost use Rattle.nob_demo_spaces.specs.Lines.{last_line};
+ghost use Rattle.nob_demo_spaces.specs.Endings.{Plays};
 
 use crate::meeting::Meeting;
 use crate::places::{Place, Played, places_of};
-use nob_demo_scenes::{Ending, Stop, Tally, graver, say};
+use crate::{Ending, Stop, Tally, graver, say};
 use nob_demo_words::Scene;
 use nob_trace::Trace;
 use std::alloc::Global;

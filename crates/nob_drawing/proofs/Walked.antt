@@ -1,6 +1,6 @@
 -- The entries of a journal that are shown, with one more.
 use Rattle.std.proofs.Common.{◌≡◌, ℕ, List, [], ◌∷◌, ◌++◌, if◌then◌else◌, sym, ap, ◌∙◌}
-use Rattle.nob_shapes.specs.declared.shape.Shape.{Shape}
+use Rattle.nob_drawing.specs.declared.shape.Shape.{Shape}
 use Rattle.nob_model_types.specs.declared.entry.Entry.{Entry}
 use Rattle.nob_drawing.specs.declared.page.Page.{Page}
 use Rattle.nob_drawing_plan.specs.Bars.{row_after}

@@ -14,11 +14,11 @@ use Rattle.nob_drawing_plan.specs.declared.flight.Arrow.{Arrow}
 use Rattle.nob_drawing_plan.specs.Bars.{row_after, bars}
 use Rattle.nob_drawing_plan.specs.Flights.{arrows, departures, lost}
 use Rattle.nob_drawing.specs.declared.page.Page.{Page}
-use Rattle.nob_shapes.specs.declared.shape.Point.{Point}
-use Rattle.nob_shapes.specs.declared.shape.Style.{Style}
-use Rattle.nob_shapes.specs.declared.shape.Style.TheVariants as styles
-use Rattle.nob_shapes.specs.declared.shape.Shape.{Shape}
-use Rattle.nob_shapes.specs.declared.shape.Shape.TheVariants as shapes
+use Rattle.nob_drawing.specs.declared.shape.Point.{Point}
+use Rattle.nob_drawing.specs.declared.shape.Style.{Style}
+use Rattle.nob_drawing.specs.declared.shape.Style.TheVariants as styles
+use Rattle.nob_drawing.specs.declared.shape.Shape.{Shape}
+use Rattle.nob_drawing.specs.declared.shape.Shape.TheVariants as shapes
 use Rattle.nob_drawing.specs.Words.{entry_words, frame_words, mark_words, cut}
 
 -- the place of a row among those that are shown: 0 for one above them, one more than there are for one below

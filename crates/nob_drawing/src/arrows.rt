@@ -7,8 +7,8 @@ use crate::captions::frame_words;
 use crate::labels::cut_label;
 use crate::page::Page;
 use crate::places::{is_seen, is_shown, point_at, x_of, y_of};
+use crate::{Point, Shape, Style};
 use nob_drawing_plan::{Arrow, Departure};
-use nob_shapes::{Point, Shape, Style};
 use std::alloc::{AllocError, Global};
 
 // How an arrow is drawn.

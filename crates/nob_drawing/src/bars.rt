@@ -7,8 +7,8 @@ use crate::captions::mark_words;
 use crate::labels::label;
 use crate::page::Page;
 use crate::places::{is_seen, x_of, y_of};
+use crate::{Point, Shape, Style};
 use nob_drawing_plan::{Bar, Mark};
-use nob_shapes::{Point, Shape, Style};
 use std::alloc::{AllocError, Global};
 
 // How a bar is drawn.

@@ -7,8 +7,8 @@ use crate::captions::entry_words;
 use crate::labels::{cut_label, label, number_label};
 use crate::page::Page;
 use crate::places::{bottom_of, column, is_shown, point_at, x_of, y_of};
+use crate::{Point, Shape, Style};
 use nob_model_types::{Answer, Entry, Refusal};
-use nob_shapes::{Point, Shape, Style};
 use std::alloc::{AllocError, Global};
 
 // The name of a space.

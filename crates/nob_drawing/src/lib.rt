@@ -1,5 +1,5 @@
 //! A drawing of what spaces did: where everything stands of the arrows and bars of nob_drawing_plan,
-//! and of the entries, as shapes of nob_shapes.
+//! and of the entries, as shapes, which are written as SVG.
 #![tactic(auto)]
 
 mod arrows;
@@ -9,8 +9,12 @@ mod entries;
 mod labels;
 mod page;
 mod places;
+mod shape;
 mod whole;
+mod writing;
 
 pub use page::Page;
 pub use places::{height_of, width_of};
+pub use shape::{Point, Shape, Style};
 pub use whole::drawing;
+pub use writing::{LOOKS, svg_text};

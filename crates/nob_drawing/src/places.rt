@@ -3,9 +3,9 @@
 ghost use Rattle.std.specs.Prelude.{◌≡◌, ◌<◌, ◌≤◌, ◌^◌};
 ghost use Rattle.nob_drawing.specs.Layout as spec;
 
+use crate::Point;
 use crate::page::Page;
 use nob_ids::SpaceId;
-use nob_shapes::Point;
 
 // The place of a row among those that are shown.
 fn place_of(page: &Page, row: u128) -> u128

@@ -3,13 +3,13 @@
 ghost use Rattle.std.specs.Prelude.{◌≡◌, IfOk};
 ghost use Rattle.nob_drawing.specs.Layout as spec;
 
+use crate::Shape;
 use crate::arrows::{arrows_lines, arrows_words, losses_shapes};
 use crate::bars::bars_shapes;
 use crate::entries::{entries_shapes, lives_from};
 use crate::page::Page;
 use nob_drawing_plan::{bars, flights, lost};
 use nob_model_types::Entry;
-use nob_shapes::Shape;
 use std::alloc::{AllocError, Global};
 
 /// All that stands in a drawing of a journal, the newest entry of which stands first: a lifeline for

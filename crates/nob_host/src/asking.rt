@@ -9,12 +9,11 @@ ghost use Rattle.nob_model_types.specs.declared.entry.Entry.{Entry};
 ghost use Rattle.nob_model_types.specs.declared.event.Event.TheVariants as events;
 ghost use Rattle.nob_model_types.specs.declared.event.Outcome.TheVariants as outcomes;
 ghost use Rattle.nob_space.specs.Spaces.{StandsFor};
-ghost use Rattle.nob_host_handle.specs.Kept.{Through};
+ghost use Rattle.nob_host_space.specs.Kept.{Through};
 ghost use Rattle.nob_host_space.specs.Numbers.{is_wanted};
 ghost use Rattle.nob_host_space.specs.Asked.{HostAsked, AskedBy, CameBy, Unasked, reference, right_of, answer_after};
 
-use nob_host_handle::Handle;
-use nob_host_space::Told;
+use nob_host_space::{Handle, Told};
 use nob_model_types::Event;
 use std::alloc::Global;
 

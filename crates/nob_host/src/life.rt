@@ -1,11 +1,10 @@
 //! The beginning and the end of a space.
 
 ghost use Rattle.std.specs.Prelude.{◌≡◌, ◌≢◌, IsSome, None};
-ghost use Rattle.nob_host_handle.specs.Kept.{HasSome};
+ghost use Rattle.nob_host_space.specs.Kept.{HasSome};
 ghost use Rattle.nob_host_space.specs.Asked.{AreNumbers, IsNew};
 
-use nob_host_handle::Handle;
-use nob_host_space::Host;
+use nob_host_space::{Handle, Host};
 use std::alloc::Global;
 
 /// Makes a space, which the handle keeps: the status. 60 where a number is outside its range, 14

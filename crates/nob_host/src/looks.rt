@@ -11,12 +11,11 @@ ghost use Rattle.nob_model.specs.Next as next;
 ghost use Rattle.nob_space_state.specs.Dues as dues;
 ghost use Rattle.nob_space.specs.Spaces.{StandsFor};
 ghost use Rattle.nob_host_space.specs.Bits.{bit_of};
-ghost use Rattle.nob_host_handle.specs.Kept.{Through};
+ghost use Rattle.nob_host_space.specs.Kept.{Through};
 ghost use Rattle.nob_host_space.specs.Looks as looks;
 ghost use Rattle.nob_host_space.specs.Looks.{ShowsWork};
 
-use nob_host_handle::Handle;
-use nob_host_space::Work;
+use nob_host_space::{Handle, Work};
 use std::alloc::Global;
 
 /// The number of the space.

@@ -6,13 +6,12 @@ ghost use Rattle.nob_pickle.specs.declared.value.Value.{Value as ValueOf};
 ghost use Rattle.nob_pickle.specs.Writing.{pickle_of};
 ghost use Rattle.nob_frame.specs.declared.frame.Frame.{Frame as FrameOf};
 ghost use Rattle.nob_host_space.specs.Feeds.{feed_at, SameButOf};
-ghost use Rattle.nob_host_handle.specs.Kept.{Through};
+ghost use Rattle.nob_host_space.specs.Kept.{Through};
 ghost use Rattle.nob_host_space.specs.Numbers.{is_done, is_wanted};
 ghost use Rattle.nob_host_space.specs.Asked.{Pickles, SameStreams, Unasked};
 ghost use Rattle.nob_host_space.specs.Streams.{Pushed, BroughtOrWants};
 
-use nob_host_handle::Handle;
-use nob_host_space::Told;
+use nob_host_space::{Handle, Told};
 use std::alloc::Global;
 
 /// The next piece of the stream from a peer: the frames that are whole now wait.

@@ -1,2 +1,4 @@
 pub mod Results
 pub mod Masks
+pub mod Steps
+pub mod Values

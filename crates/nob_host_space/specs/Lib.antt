@@ -4,3 +4,4 @@ pub mod Streams
 pub mod Looks
 pub mod Bits
 pub mod Feeds
+pub mod Kept

@@ -7,13 +7,16 @@ mod bits;
 mod bringing;
 mod bytes;
 mod feeds;
+mod handle;
 mod host;
 mod looks;
+mod loose;
 mod numbers;
 mod streams;
 mod told;
 mod waiting;
 
+pub use handle::Handle;
 pub use host::Host;
 pub use looks::Work;
 pub use told::Told;

@@ -1,7 +1,7 @@
 //! What the parts of the runtime mean: the one right answer of a space to each event, after each
 //! list of entries. In `specs/` are the definitions that contracts cite; the functions here compute
-//! them plainly and slowly from the whole list, for every list. The types and words that stand in
-//! the crates below are passed on.
+//! them plainly and slowly from the whole list, for every list, and compare what has no `==`. The
+//! types and words that stand in the crates below are passed on.
 #![tactic(auto)]
 
 mod answers;

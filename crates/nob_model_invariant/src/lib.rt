@@ -1,6 +1,8 @@
-//! The invariant of all spaces of a run in one, and what it comes to: what comes next can always be
-//! acted on, nothing is lost without a cause, no object leaks. The definitions of runs and promises
-//! stand in the crates below; here are the statements and their proofs.
+//! What is true of every run of a world: the invariant of all spaces together, and what it comes to.
+//! No object goes too early, what comes next can always be acted on, nothing is lost without a cause
+//! and no object leaks; and a run reads the same whoever counts more spaces than there are. The
+//! definitions of runs and promises stand in the crates below; here are the statements and their
+//! proofs.
 #![tactic(auto)]
 
 pub mod alike;

@@ -1,2 +1,4 @@
 mod Repeats
 mod Turns
+mod Numbers
+mod Ends

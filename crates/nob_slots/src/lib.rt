@@ -1,5 +1,6 @@
 //! Items under rising numbers: each is found by its number and taken out at low cost, and the
-//! marked ones are found without passing the others.
+//! marked ones are found without passing the others. What they stand on is here too: sets of
+//! numbers by words of bits, and what stands on them: for each space a list of rising numbers.
 #![tactic(auto)]
 
 mod iter;

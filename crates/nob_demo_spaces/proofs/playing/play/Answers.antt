@@ -1,6 +1,6 @@
 use Rattle.std.proofs.Common.{ℕ, List, [], ◌++◌, Some, ap, refl, codes}
-use Rattle.nob_demo_scenes.specs.Tallies.{empty}
-use Rattle.nob_demo_scenes.specs.declared.ending.Stop.TheVariants as stops
+use Rattle.nob_demo_spaces.specs.Tallies.{empty}
+use Rattle.nob_demo_spaces.specs.declared.ending.Stop.TheVariants as stops
 use Rattle.nob_demo_spaces.proofs.playing.play.Goals as goal
 
 -- there was no memory for the places

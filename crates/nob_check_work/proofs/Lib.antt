@@ -1,4 +1,0 @@
-pub mod Acting
-pub mod Usable
-pub mod Keeping
-pub mod Quiet

@@ -1,0 +1,43 @@
+-- What is written is what is to be written.
+use Rattle.std.proofs.Common.{◌≡◌, ℕ, ◌+◌, ◌<◌, Bool, true, false, List, [], ◌∷◌, ◌++◌, length, take, get_or, reverse, Err, refl, ap, sym, subst, ◌∙◌, add-one}
+use Rattle.std.specs.List.{flat_map}
+use Rattle.std.proofs.Math.Seq.{take-suc}
+use Rattle.std.proofs.lemmas.List.{flat_map_more}
+use Rattle.nob_model_types.specs.declared.entry.Entry.{Entry}
+use Rattle.nob_model_invariant.specs.Safe.{IsSafe}
+use Rattle.nob_trace.specs.declared.trace.Trace.{Trace}
+use Rattle.nob_trace.specs.Traces.{trace_text}
+use Rattle.nob_model_traces.specs.declared.fault.CheckFault.{CheckFault}
+use Rattle.nob_model_traces.specs.declared.fault.CheckError.{CheckError}
+use Rattle.nob_model_traces.specs.declared.fault.CheckError.TheVariants as check_errors
+use Rattle.nob_model_traces.specs.Faults.{IsChecked, AreAccepted}
+use Rattle.nob_demo_words.specs.Scenes.{Setting}
+use Rattle.nob_demo_spaces.specs.Lines.{lines}
+use Rattle.nob_demo_spaces.specs.Endings.{Judges, Tells, TellsBy}
+use Rattle.nob_demo_spaces.specs.declared.tally.Tally.{Tally}
+use Rattle.nob_demo_spaces.specs.declared.ending.Ending.{Ending}
+use Rattle.nob_demo_spaces.specs.declared.ending.Ending.TheVariants.{Accepted, Refused}
+
+-- the text of one trace more
+pub printed_more : (traces : List Trace) (i : ℕ) (item : Trace) (old bytes new : List ℕ) → i < length traces → item ≡ get_or traces i item → old ≡ flat_map trace_text (take i traces) → bytes ≡ trace_text item → new ≡ old ++ bytes → new ≡ flat_map trace_text (take (i + 1) traces)
+printed_more traces i item old bytes new below is before said more =
+    more
+    ∙ ap (λ (text : List ℕ). text ++ bytes) before
+    ∙ ap (λ (text : List ℕ). flat_map trace_text (take i traces) ++ text) said
+    ∙ flat_map_more trace_text [] (take i traces) item
+    ∙ ap (λ (xs : List Trace). flat_map trace_text xs) (sym one_more)
+  where
+    one_more : take (i + 1) traces ≡ take i traces ++ item ∷ []
+    one_more = ap (λ (n : ℕ). take n traces) (add-one i) ∙ take-suc traces i item below ∙ ap (λ (x : Trace). take i traces ++ x ∷ []) (sym is)
+
+-- what is said of traces that are to be checked
+judged : (setting : Setting) (tally : Tally) (traces : List Trace) (text : List ℕ) (ending : Ending) → setting.traces ≡ false → Judges tally traces text ending → Tells setting tally traces text ending
+judged setting tally traces text ending checks judges = subst (λ (prints : Bool). TellsBy prints tally traces text ending) (sym checks) judges
+
+-- the lines of accepted traces
+pub accepted_told : (setting : Setting) (tally : Tally) (traces : List Trace) (merged : List Entry) (text : List ℕ) → setting.traces ≡ false → AreAccepted traces merged → IsSafe (length traces) (reverse merged) → text ≡ lines tally true → Tells setting tally traces text Accepted
+accepted_told setting tally traces merged text checks right safe is = judged setting tally traces text Accepted checks (Judges.accepted merged right safe is refl)
+
+-- the lines of refused traces
+pub refused_told : (setting : Setting) (tally : Tally) (traces : List Trace) (fault : CheckFault) (text : List ℕ) → setting.traces ≡ false → (error : CheckError) → error ≡ check_errors.Fault fault → IsChecked (λ (merged : List Entry). merged) traces (Err error) → text ≡ lines tally false → Tells setting tally traces text Refused
+refused_told setting tally traces fault text checks error error_is wrong is = judged setting tally traces text Refused checks (Judges.refused fault (subst (λ (e : CheckError). IsChecked (λ (merged : List Entry). merged) traces (Err e)) error_is wrong) is refl)

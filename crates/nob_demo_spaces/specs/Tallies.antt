@@ -1,0 +1,27 @@
+-- What callers count.
+use Rattle.std.specs.Prelude.{ℕ, ℤ, pos, ◌+◌, ◌==◌, min, if◌then◌else◌}
+use Rattle.std.specs.Int.{int_max}
+use Rattle.nob_pickle.specs.declared.value.Value.{Value}
+use Rattle.nob_pickle.specs.declared.value.Value.TheVariants as values
+use Rattle.nob_demo_spaces.specs.declared.tally.Tally.{Tally}
+
+-- nothing was answered
+abbrev pub empty : Tally
+empty = record { answered = 0; greatest = pos 0 }
+
+-- a sum, but at most the greatest number of 64 bits
+abbrev pub sum_of : ℕ → ℕ → ℕ
+sum_of m n = min (m + n) 18446744073709551615
+
+-- the greater of a total and a value, where that is a whole number
+abbrev pub greater_of : Value → ℤ → ℤ
+greater_of (values.Int number) total = int_max total number
+greater_of value total = total
+
+-- a tally after a reply of this status and value: where the status is 0 the call was answered, and a whole number is a total
+abbrev pub with_reply : (status : ℕ) → Value → Tally → Tally
+with_reply status value tally = if status == 0 then record { answered = sum_of tally.answered 1; greatest = greater_of value tally.greatest } else tally
+
+-- what two tallies count
+abbrev pub with_tally : Tally → Tally → Tally
+with_tally other tally = record { answered = sum_of tally.answered other.answered; greatest = int_max tally.greatest other.greatest }

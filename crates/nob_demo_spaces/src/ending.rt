@@ -1,0 +1,66 @@
+//! How a scene ends.
+
+ghost use Rattle.std.specs.Prelude.{◌≡◌};
+ghost use Rattle.nob_demo_spaces.specs.Lines as spec;
+
+/// How a scene ends.
+#[derive(Clone, Copy, Debug, PartialEq, Eq)]
+pub enum Ending {
+    /// The traces are together a run of a world.
+    Accepted,
+    /// They aren't, or one that is to be printed has no text.
+    Refused,
+    /// The traces are printed.
+    Printed,
+    /// A trace was full.
+    Full,
+    /// Memory ran out, or a thread couldn't be made.
+    OutOfMemory,
+}
+
+impl Ending {
+    /// The last line, behind what was written before.
+    pub fn last_line(self) -> &'static [u8]
+        ensures { result.now ≡ spec.last_line self }
+    {
+        match self {
+            Ending::Accepted => b"",
+            Ending::Refused => b"",
+            Ending::Printed => b"",
+            Ending::Full => b"full\n",
+            Ending::OutOfMemory => b"memory\n",
+        }
+    }
+}
+
+/// Why a scene stops.
+#[derive(Clone, Copy, Debug, PartialEq, Eq)]
+pub enum Stop {
+    /// A trace was full.
+    Full,
+    /// Memory ran out, or a thread couldn't be made.
+    OutOfMemory,
+}
+
+impl Stop {
+    /// How the scene ends then.
+    pub fn ending(self) -> Ending
+        ensures { result ≡ spec.stopped self }
+    {
+        match self {
+            Stop::Full => Ending::Full,
+            Stop::OutOfMemory => Ending::OutOfMemory,
+        }
+    }
+}
+
+/// Why a scene stops where one space stops for a reason, and one may have stopped before: that a
+/// trace was full goes before want of memory.
+pub fn graver(reason: Stop, before: Option<Stop>) -> Stop
+    ensures { result ≡ spec.graver reason before }
+{
+    match before {
+        Some(Stop::Full) => Stop::Full,
+        _ => reason,
+    }
+}

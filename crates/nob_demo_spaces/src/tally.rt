@@ -1,0 +1,73 @@
+//! What callers count.
+
+ghost use Rattle.std.specs.Prelude.{◌≡◌};
+ghost use Rattle.nob_demo_spaces.specs.Tallies as spec;
+
+use nob_pickle::Value;
+
+/// What callers count: how many calls were answered, and the greatest total that was answered.
+#[derive(Clone, Copy, Debug, PartialEq, Eq)]
+pub struct Tally {
+    answered: u64,
+    greatest: i64,
+}
+
+impl Tally {
+    /// Nothing was answered.
+    pub fn new() -> Tally
+        ensures { result ≡ spec.empty }
+    {
+        Tally {
+            answered: 0,
+            greatest: 0,
+        }
+    }
+
+    /// This tally after a reply: where its status is 0 the call was answered, and a whole number is
+    /// a total.
+    pub fn with_reply(self, status: u8, value: &Value) -> Tally
+        ensures { result ≡ spec.with_reply status value.now self }
+    {
+        if status != 0 {
+            return self;
+        }
+        Tally {
+            answered: self.answered.saturating_add(1),
+            greatest: greater(self.greatest, value),
+        }
+    }
+
+    /// What this and another one count.
+    pub fn with_tally(self, other: Tally) -> Tally
+        ensures { result ≡ spec.with_tally other self }
+    {
+        Tally {
+            answered: self.answered.saturating_add(other.answered),
+            greatest: self.greatest.max(other.greatest),
+        }
+    }
+
+    /// How many calls were answered.
+    pub fn answered(self) -> u64
+        ensures { result ≡ self.answered }
+    {
+        self.answered
+    }
+
+    /// The greatest total that was answered: 0 if there is none.
+    pub fn greatest(self) -> i64
+        ensures { result ≡ self.greatest }
+    {
+        self.greatest
+    }
+}
+
+// The greater of a total and a value that may be one.
+fn greater(total: i64, value: &Value) -> i64
+    ensures { result ≡ spec.greater_of value.now total }
+{
+    match value {
+        Value::Int(number) => total.max(*number),
+        _ => total,
+    }
+}

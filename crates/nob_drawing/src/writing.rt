@@ -1,0 +1,224 @@
+//! A drawing as text.
+
+ghost use Rattle.std.specs.Prelude.{◌≡◌, ◌++◌, ◌∷◌, IfOk, OnOk, codes, flat_map};
+ghost use Rattle.std.specs.String.{string_bytes};
+ghost use Rattle.nob_drawing.specs.Writing as spec;
+
+use crate::shape::{Point, Shape, Style};
+use std::alloc::{AllocError, Global};
+
+/// How the shapes of each style look, the head of an arrow, and what the colours of bars and of
+/// entries mean.
+pub const LOOKS: &[u8] = b"<style>
+svg { background: #fff; font-family: monospace; font-size: 11px; }
+rect { stroke: none; }
+.page { fill: #fff; }
+.life { stroke: #555; stroke-width: 1.5; }
+.guide { stroke: #ddd; stroke-width: 0.7; }
+.name { font-size: 14px; font-weight: bold; text-anchor: middle; }
+.number { fill: #999; text-anchor: end; }
+.answered { fill: #222; }
+.refused { fill: #b06000; }
+.closing { fill: #8000a0; font-weight: bold; }
+.fault { fill: #d00000; font-weight: bold; }
+.sent { stroke: #1c4f9c; stroke-width: 1.6; marker-end: url(#head); }
+.ignored { stroke: #b4b4b4; marker-end: url(#grey); }
+.again { stroke-width: 0.7; }
+.lost { stroke: #1c4f9c; stroke-width: 1.6; }
+.cross { stroke: #d00000; stroke-width: 1.6; }
+.live { fill: #a9d8a0; }
+.listed { fill: #a6cdf0; }
+.pinned { fill: #f4c98a; }
+.held { font-size: 8px; fill: #333; }
+.words { fill: #1c4f9c; paint-order: stroke; stroke: #fff; stroke-width: 3px; }
+.before { text-anchor: end; }
+</style>
+<defs>
+<marker id='head' markerWidth='8' markerHeight='8' refX='7' refY='3' orient='auto' markerUnits='userSpaceOnUse'><path d='M0,0 L7,3 L0,6 z' fill='#1c4f9c'/></marker>
+<marker id='grey' markerWidth='8' markerHeight='8' refX='7' refY='3' orient='auto' markerUnits='userSpaceOnUse'><path d='M0,0 L7,3 L0,6 z' fill='#b4b4b4'/></marker>
+</defs>
+<rect class='page' width='100%' height='100%'/>
+<rect class='live' x='12' y='12' width='9' height='12'/><text x='26' y='22'>an object is live</text>
+<rect class='listed' x='160' y='12' width='9' height='12'/><text x='174' y='22'>a client is listed</text>
+<rect class='pinned' x='314' y='12' width='9' height='12'/><text x='328' y='22'>a reference is pinned</text>
+<text class='refused' x='12' y='42'>refused</text>
+<text class='closing' x='68' y='42'>closes a session</text>
+<text class='fault' x='184' y='42'>wrong</text>
+<text class='words' x='232' y='42'>thin: given before, grey: ignored, cross: lost</text>
+";
+
+// The name of a style.
+fn class_name(style: Style) -> &'static str
+    ensures { result.now ≡ spec.class_name style }
+{
+    match style {
+        Style::Life => "life",
+        Style::Guide => "guide",
+        Style::Name => "name",
+        Style::Number => "number",
+        Style::Answered => "answered",
+        Style::Refused => "refused",
+        Style::Closing => "closing",
+        Style::Fault => "fault",
+        Style::Sent => "sent",
+        Style::Again => "sent again",
+        Style::Ignored => "sent ignored",
+        Style::IgnoredAgain => "sent ignored again",
+        Style::Lost => "lost",
+        Style::LostAgain => "lost again",
+        Style::Cross => "cross",
+        Style::Live => "live",
+        Style::Listed => "listed",
+        Style::Pinned => "pinned",
+        Style::Held => "held",
+        Style::Before => "words before",
+        Style::Behind => "words",
+    }
+}
+
+// Puts a byte of a text behind another text.
+fn put_byte(text: &mut Vec<u8>, byte: u8) -> Result<(), AllocError>
+    ensures { OnOk result (text.new.items ≡ text.old.items ++ spec.escaped_byte byte) }
+{
+    match byte {
+        b'&' => text.extend_from_slice(b"&amp;")?,
+        b'<' => text.extend_from_slice(b"&lt;")?,
+        b'>' => text.extend_from_slice(b"&gt;")?,
+        _ => text.push(byte)?,
+    }
+    Ok(())
+}
+
+// Puts a text behind another.
+fn put_escaped(text: &mut Vec<u8>, words: &[u8]) -> Result<(), AllocError>
+    ensures { OnOk result (text.new.items ≡ text.old.items ++ spec.escaped words.now) }
+{
+    for byte in words {
+        put_byte(text, *byte)?;
+    }
+    Ok(())
+}
+
+// The text of a line.
+fn line_text(alloc: Global, style: Style, from: Point, to: Point) -> Result<String, AllocError>
+    ensures { IfOk result (λ text. string_bytes text ≡ spec.line_text style from to) }
+{
+    let class = class_name(style);
+    let x = from.x;
+    let y = from.y;
+    let end = to.x;
+    let bottom = to.y;
+    format!(in alloc; "<line class='{class}' x1='{x}' y1='{y}' x2='{end}' y2='{bottom}'/>\n")
+}
+
+// The text of a box.
+fn rectangle_text(
+    alloc: Global,
+    style: Style,
+    corner: Point,
+    width: u128,
+    height: u128,
+) -> Result<String, AllocError>
+    ensures { IfOk result (λ text. string_bytes text
+        ≡ spec.rectangle_text style corner width height) }
+{
+    let class = class_name(style);
+    let x = corner.x;
+    let y = corner.y;
+    format!(in alloc; "<rect class='{class}' x='{x}' y='{y}' width='{width}' height='{height}'/>\n")
+}
+
+// What stands before a text.
+fn text_start(alloc: Global, style: Style, at: Point) -> Result<String, AllocError>
+    ensures { IfOk result (λ text. string_bytes text ≡ spec.text_start style at) }
+{
+    let class = class_name(style);
+    let x = at.x;
+    let y = at.y;
+    format!(in alloc; "<text class='{class}' x='{x}' y='{y}'>")
+}
+
+// What stands before a text that goes downwards.
+fn turned_start(alloc: Global, style: Style, at: Point) -> Result<String, AllocError>
+    ensures { IfOk result (λ text. string_bytes text ≡ spec.turned_start style at) }
+{
+    let class = class_name(style);
+    let x = at.x;
+    let y = at.y;
+    format!(in alloc; "<text class='{class}' transform='translate({x} {y}) rotate(90)'>")
+}
+
+// Puts a text with what stands before and behind it.
+fn put_words(text: &mut Vec<u8>, start: &[u8], words: &[u8]) -> Result<(), AllocError>
+    ensures { OnOk result (text.new.items
+        ≡ text.old.items ++ (start.now ++ (spec.escaped words.now ++ codes "</text>\n"))) }
+{
+    text.extend_from_slice(start)?;
+    put_escaped(text, words)?;
+    text.extend_from_slice(b"</text>\n")?;
+    Ok(())
+}
+
+// Puts a shape behind a text.
+fn put_shape(alloc: Global, text: &mut Vec<u8>, shape: &Shape) -> Result<(), AllocError>
+    ensures { OnOk result (text.new.items ≡ text.old.items ++ spec.shape_text shape.now) }
+{
+    match shape {
+        Shape::Line(style, from, to) => {
+            let line = line_text(alloc, *style, *from, *to)?;
+            text.extend_from_slice(line.as_bytes())?;
+            Ok(())
+        }
+        Shape::Rectangle(style, corner, width, height) => {
+            let rectangle = rectangle_text(alloc, *style, *corner, *width, *height)?;
+            text.extend_from_slice(rectangle.as_bytes())?;
+            Ok(())
+        }
+        Shape::Text(style, at, words) => {
+            let start = text_start(alloc, *style, *at)?;
+            put_words(text, start.as_bytes(), words.as_slice())
+        }
+        Shape::Turned(style, at, words) => {
+            let start = turned_start(alloc, *style, *at)?;
+            put_words(text, start.as_bytes(), words.as_slice())
+        }
+    }
+}
+
+// Puts shapes behind a text.
+fn put_shapes(alloc: Global, text: &mut Vec<u8>, shapes: &[Shape]) -> Result<(), AllocError>
+    ensures { OnOk result (text.new.items
+        ≡ text.old.items ++ flat_map spec.shape_text shapes.now) }
+{
+    for shape in shapes {
+        put_shape(alloc, text, shape)?;
+    }
+    Ok(())
+}
+
+// The first line.
+fn head_text(alloc: Global, width: u128, height: u128) -> Result<String, AllocError>
+    ensures { IfOk result (λ text. string_bytes text ≡ spec.head_text width height) }
+{
+    format!(in alloc;
+        "<svg xmlns='http://www.w3.org/2000/svg' width='{width}' height='{height}' viewBox='0 0 {width} {height}'>\n"
+    )
+}
+
+/// The text of a drawing so wide and so high as SVG, for which nothing outside is needed. Linear in
+/// it.
+pub fn svg_text(
+    alloc: Global,
+    width: u128,
+    height: u128,
+    shapes: &[Shape],
+) -> Result<Vec<u8>, AllocError>
+    ensures { IfOk result (λ text. text.items ≡ spec.svg_text width height shapes.now) }
+{
+    let head = head_text(alloc, width, height)?;
+    let mut text = head.into_bytes();
+    text.extend_from_slice(LOOKS)?;
+    put_shapes(alloc, &mut text, shapes)?;
+    text.extend_from_slice(b"</svg>\n")?;
+    Ok(text)
+}

@@ -1,5 +1,0 @@
-use Rattle.std.proofs.Common.{length}
-use Rattle.nob_endings.proofs.askings.+releases.Given as goal
-
-abbrev pub decreases-releases : goal.decreases-releases
-decreases-releases l = length l.spaces.now

@@ -1,4 +1,0 @@
-use Rattle.nob_endings.proofs.askings.+spaces_up_to.Given as goal
-
-abbrev pub decreases-spaces_up_to : goal.decreases-spaces_up_to
-decreases-spaces_up_to l = l.last

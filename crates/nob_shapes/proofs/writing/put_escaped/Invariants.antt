@@ -1,7 +1,0 @@
-use Rattle.std.proofs.Common.{◌≡◌, ◌++◌, drop}
-use Rattle.nob_shapes.specs.Writing.{escaped}
-use Rattle.nob_shapes.proofs.writing.put_escaped.Given as goal
-
--- what is written and what is left are all
-abbrev pub invariant-loop-byte : goal.invariant-loop-byte
-invariant-loop-byte l = l.text.items ++ escaped (drop l.byte-index l.words) ≡ l.initial.text.items ++ escaped l.words
