@@ -10,5 +10,5 @@ pub mod Swept
 pub mod Thinned
 pub mod Trimmed
 mod Bits
-pub mod Kept
+pub mod KeptNumbers
 pub mod Once

@@ -1,7 +1,7 @@
 use Rattle.std.proofs.Common.{◌≡◌, ℕ, ◌+◌, List, length, ◌∙◌, arith, ap}
 use Rattle.nob_slots.specs.Slots.{SlotList}
 use Rattle.nob_slots.proofs.Flat.{length_push}
-use Rattle.nob_slots.proofs.Kept.{numbers_at, one_more}
+use Rattle.nob_slots.proofs.KeptNumbers.{numbers_at, one_more}
 use Rattle.nob_slots.proofs.lists.make_lists.Goals as goal
 
 pub returns-in_err-push-clause-numbers : goal.returns-in_err-push-clause-numbers

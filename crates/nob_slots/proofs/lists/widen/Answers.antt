@@ -1,7 +1,7 @@
 use Rattle.std.proofs.Common.{◌≡◌, ℕ, ◌<◌, List, length, Some, slice_get, refl, ap, ◌∙◌, arith, rules}
 use Rattle.std.proofs.Math.ListN.{length-set}
 use Rattle.std.proofs.lemmas.Option.{slice_get_read, slice_get_within}
-use Rattle.nob_slots.proofs.Kept.{same_list, room_set, room_below}
+use Rattle.nob_slots.proofs.KeptNumbers.{same_list, room_set, room_below}
 use Rattle.nob_slots.proofs.lists.widen.Goals as goal
 
 pub returns-in_err-reserve-clause-numbers : goal.returns-in_err-reserve-clause-numbers

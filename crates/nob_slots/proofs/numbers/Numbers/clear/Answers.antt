@@ -2,7 +2,7 @@ use Rattle.std.proofs.Common.{◌≡◌, ◌==◌, ℕ, ◌<◌, List, [], false
 use Rattle.std.proofs.lemmas.Fn.{always_returns_same}
 use Rattle.std.proofs.lemmas.Option.{slice_get_read}
 use Rattle.nob_slots.specs.Lists.{numbers_in}
-use Rattle.nob_slots.proofs.Kept.{other_list, none_left, numbers_at}
+use Rattle.nob_slots.proofs.KeptNumbers.{other_list, none_left, numbers_at}
 use Rattle.nob_slots.proofs.numbers.Numbers.clear.Goals as goal
 
 pub returns-clause-numbers : goal.returns-clause-numbers

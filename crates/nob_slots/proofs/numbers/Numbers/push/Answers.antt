@@ -4,7 +4,7 @@ use Rattle.std.proofs.lemmas.Option.{slice_get_read}
 use Rattle.std.specs.List.{AllByRecursion}
 use Rattle.nob_slots.specs.Numbers.{NumberLists, numbers_of}
 use Rattle.nob_slots.specs.Lists.{numbers_in}
-use Rattle.nob_slots.proofs.Kept.{other_list, here, numbers_at, pushed, above_rows, room_set}
+use Rattle.nob_slots.proofs.KeptNumbers.{other_list, here, numbers_at, pushed, above_rows, room_set}
 use Rattle.nob_slots.proofs.numbers.Numbers.push.Goals as goal
 
 pub push-requires-clause-above : goal.push-requires-clause-above

@@ -2,7 +2,7 @@ use Rattle.std.proofs.Common.{◌≡◌, ◌==◌, ℕ, ◌<◌, List, not, filt
 use Rattle.std.proofs.lemmas.Option.{same_Some, slice_get_read}
 use Rattle.nob_slots.specs.Slots.{SlotList, IsRising}
 use Rattle.nob_slots.specs.Lists.{numbers_in}
-use Rattle.nob_slots.proofs.Kept.{other_list, here, numbers_at}
+use Rattle.nob_slots.proofs.KeptNumbers.{other_list, here, numbers_at}
 use Rattle.nob_slots.proofs.Once.{taken}
 use Rattle.nob_slots.proofs.numbers.Numbers.take.Goals as goal
 
