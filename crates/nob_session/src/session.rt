@@ -540,7 +540,7 @@ fn data_frames(
     ensures frames { IfOk result (λ frames. frames.items
         ≡ right.data_frames me peer ack first (take count payloads.now.items)) }
 {
-    let mut frames = Vec::new(alloc);
+    let mut frames = Vec::with_capacity(alloc, count)?;
     for i in 0..count {
         frames.push(Frame {
             kind: FrameKind::Data,
@@ -568,7 +568,7 @@ fn lone_frame(
         ≡ record { kind = kind; from = me; to = peer; seq = 0; ack = ack; payload = payload.now } ∷
         []) }
 {
-    let mut frames = Vec::new(alloc);
+    let mut frames = Vec::with_capacity(alloc, 1)?;
     frames.push(Frame {
         kind,
         from: me,
