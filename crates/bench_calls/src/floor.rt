@@ -1,5 +1,6 @@
 //! The floor: frames that go to and fro between threads, over links alone.
 
+use crate::saying::{BEGIN, END, say};
 use nob_bytes::Bytes;
 use nob_frame::{Frame, FrameKind};
 use nob_ids::SpaceId;
@@ -71,7 +72,7 @@ impl Wall {
 
 // So many pairs of threads send a frame to and fro, each so many times: how often it came back.
 // `None` where memory is wanted.
-pub(crate) fn run_floor<R: Threads + Wait + Sync>(
+pub(crate) fn run_floor<R: Threads + Wait + Sync + Print>(
     rt: &R,
     alloc: Global,
     pairs: u16,
@@ -98,7 +99,9 @@ pub(crate) fn run_floor<R: Threads + Wait + Sync>(
             })
             .ok()?;
     }
+    say(rt, BEGIN);
     play_all(rt, players.as_mut_slice(), walls.as_mut_slice());
+    say(rt, END);
     let mut answered: u64 = 0;
     for player in &players {
         answered = answered.saturating_add(player.answered);

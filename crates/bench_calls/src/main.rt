@@ -8,6 +8,7 @@ mod meeting;
 mod owner;
 mod player;
 mod running;
+mod saying;
 mod task;
 mod thing;
 

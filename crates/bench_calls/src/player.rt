@@ -38,7 +38,7 @@ pub(crate) struct Player<'m> {
 }
 
 /// How often applications meet.
-const MEETINGS: u64 = 2;
+pub(crate) const MEETINGS: u64 = 2;
 
 impl<'m> Player<'m> {
     pub(crate) fn new(

@@ -4,7 +4,8 @@ ghost use Rattle.std.specs.Prelude.{◌≡◌, IfSome};
 ghost use Rattle.nob_fault.specs.Shims.{opening};
 
 use crate::meeting::Meeting;
-use crate::player::{Part, Player};
+use crate::player::{MEETINGS, Part, Player};
+use crate::saying::{BEGIN, END, say};
 use crate::task::{Kind, Task};
 use crate::thing::Thing;
 use nob_fault::{Shim, words_between};
@@ -73,7 +74,11 @@ impl Place {
 
 // Runs a task: how many calls were answered. `None` where memory is wanted, or a thread can't be
 // made.
-pub(crate) fn run_all<R: Threads + Wait + Sync>(rt: &R, alloc: Global, task: Task) -> Option<u64> {
+pub(crate) fn run_all<R: Threads + Wait + Sync + Print>(
+    rt: &R,
+    alloc: Global,
+    task: Task,
+) -> Option<u64> {
     let mut places = places_of(alloc, task)?;
     let meeting = Meeting::new();
     play_all(rt, &meeting, places.as_mut_slice());
@@ -84,14 +89,20 @@ pub(crate) fn run_all<R: Threads + Wait + Sync>(rt: &R, alloc: Global, task: Tas
     Some(answered)
 }
 
-// Runs all nodes, a thread each.
-fn play_all<R: Threads + Wait + Sync>(rt: &R, meeting: &Meeting, places: &mut [Place]) {
+// Runs all nodes, a thread each, and says when all are there to call or to be called, and when all
+// calls are answered: so who measures can leave out how the nodes begin and end.
+fn play_all<R: Threads + Wait + Sync + Print>(rt: &R, meeting: &Meeting, places: &mut [Place]) {
+    let players = places.len() as u64;
     thread::scope(thread::scope_env(), rt, |scope| {
         for place in places {
             if scope.spawn(move || place.play(rt, meeting)).is_err() {
-                meeting.come(rt, 2);
+                meeting.come(rt, MEETINGS);
             }
         }
+        meeting.wait(rt, players);
+        say(rt, BEGIN);
+        meeting.wait(rt, players.saturating_mul(MEETINGS));
+        say(rt, END);
     });
 }
 
