@@ -3,7 +3,7 @@
 ghost use Rattle.std.specs.Prelude.{◌≡◌, OnOk, OnErr};
 ghost use Rattle.nob_keeper.specs.Seats as seats;
 
-use crate::desk::{Desk, REPLY_PLACES, reply_place};
+use crate::desk::{Desk, reply_place};
 use crate::error::KeeperError;
 use crate::kept::Kept;
 use crate::receipt::Receipt;
@@ -19,14 +19,15 @@ pub(crate) struct Held {
     pub(crate) desk: Desk,
 }
 
-/// Whom to wake once the lock is let go.
+/// Whom to wake once the lock is let go, and what the entry may have made possible.
 #[derive(Clone, Copy, Debug)]
 pub(crate) struct Notice {
     pub(crate) send: bool,
     pub(crate) care: bool,
     pub(crate) claim: bool,
-    // At each place at which one waits for replies.
-    pub(crate) replies: [bool; REPLY_PLACES],
+    // A bit for each place at which one waits for replies.
+    pub(crate) replies: u32,
+    pub(crate) wakes: Wakes,
 }
 
 impl Notice {
@@ -36,9 +37,27 @@ impl Notice {
             send: all,
             care: all,
             claim: all,
-            replies: [all; REPLY_PLACES],
+            replies: if all { u32::MAX } else { 0 },
+            wakes: Wakes {
+                send: all,
+                care: all,
+                claim: all,
+                reply: all,
+            },
         }
     }
+}
+
+/// What an event made possible or left possible, read under the lock under which it happened.
+#[derive(Clone, Copy, Debug, PartialEq, Eq)]
+pub struct Prospects {
+    /// Whether there is something new to transmit, and the event may have made it so.
+    pub send: bool,
+    /// Whether there is something to settle, to clean or to withdraw, and the event may have made it
+    /// so.
+    pub care: bool,
+    /// Whether there is a job to claim, and the event may have made it so.
+    pub claim: bool,
 }
 
 /// What a space could do next, read under the lock.
@@ -117,6 +136,7 @@ impl Held {
         let wakes = wakes_of(&receipt.event, answer);
         self.desk.note(wakes, receipt.place);
         let mut notice = Notice::of_all(false);
+        notice.wakes = wakes;
         notice.send = wakes.send && self.desk.is_parked(WorkKind::Send);
         self.look_for_work(wakes, &mut notice);
         if wakes.reply {
@@ -135,9 +155,27 @@ impl Held {
     fn look_for_replies(&self, notice: &mut Notice) {
         for call in self.desk.waiting() {
             if self.kept.reply_ready(*call) {
-                notice.replies[reply_place(*call)] = true;
+                notice.replies |= 1 << reply_place(*call);
             }
         }
+    }
+
+    // What there is of what may have been made possible. Where the trace is full all that may.
+    pub(crate) fn prospects(&self, wakes: Wakes) -> Prospects {
+        let is_full = self.kept.is_full();
+        Prospects {
+            send: wakes.send && (is_full || self.has_news()),
+            care: wakes.care && (is_full || self.kept.can_care()),
+            claim: wakes.claim && (is_full || self.kept.can_claim()),
+        }
+    }
+
+    // Whether a Transmit to some peer would give something that was never transmitted.
+    fn has_news(&self) -> bool {
+        (1..=self.kept.n().get()).any(|number| match SpaceId::new(number) {
+            Some(peer) => is_news(self.kept.due(peer)),
+            None => false,
+        })
     }
 
     // Whether the reply to a call isn't ready and may still come.
@@ -190,5 +228,14 @@ impl Held {
             place: self.kept.len() as u64,
             due,
         }
+    }
+}
+
+// Whether what is due was never transmitted.
+fn is_news(due: Due) -> bool {
+    match due {
+        Due::New => true,
+        Due::Close => true,
+        _ => false,
     }
 }

@@ -9,7 +9,7 @@ ghost use Rattle.nob_keeper.specs.Seats as seats;
 
 use crate::desk::{Desk, REPLY_PLACES, reply_place};
 use crate::error::KeeperError;
-use crate::held::{Chores, Dues, Held, Look, Notice, Wake};
+use crate::held::{Chores, Dues, Held, Look, Notice, Prospects, Wake};
 use crate::kept::Kept;
 use crate::seat::Seat;
 use crate::waking::WorkKind;
@@ -93,6 +93,29 @@ impl Keeper {
         Ok(())
     }
 
+    /// The same call, and what it made possible, read before another call could change it: so who
+    /// goes on with that need not take the lock again to look. It costs a few look-ups more than
+    /// `call`, under the lock.
+    pub fn call_and_look<R: Wait>(
+        &self,
+        rt: &R,
+        seat: &mut Seat,
+        event: &Event,
+        seen: u64,
+    ) -> Result<Prospects, KeeperError>
+        ensures adds { OnOk result (seats.Adds seat.old seat.new event.now seen) }
+        ensures next { OnOk result (seats.AddsNext seat.old seat.new event.now seen) }
+        ensures err { OnErr result (seat.new ≡ seat.old) }
+    {
+        let _room = seat.make_room();
+        let mut held = self.held.lock(rt);
+        let notice = held.call(seat, event, seen)?;
+        let prospects = held.prospects(notice.wakes);
+        drop(held);
+        self.wake(&notice);
+        Ok(prospects)
+    }
+
     /// Waits until TakeReply of a call would say anything but that the reply isn't ready, or the
     /// trace is full, and then makes the call of that TakeReply, with `seen` 0. It doesn't wait
     /// where the reply is ready. Whoever makes an entry after which it is ready wakes it, and who
@@ -107,6 +130,21 @@ impl Keeper {
         ensures next { OnOk result (seats.AddsNext seat.old seat.new (events.TakeReply call) 0) }
         ensures err { OnErr result (seat.new ≡ seat.old) }
     {
+        self.wait_reply_and_look(rt, seat, call)?;
+        Ok(())
+    }
+
+    /// The same, and what the TakeReply made possible, read before another call could change it.
+    pub fn wait_reply_and_look<R: Wait>(
+        &self,
+        rt: &R,
+        seat: &mut Seat,
+        call: CallNo,
+    ) -> Result<Prospects, KeeperError>
+        ensures adds { OnOk result (seats.Adds seat.old seat.new (events.TakeReply call) 0) }
+        ensures next { OnOk result (seats.AddsNext seat.old seat.new (events.TakeReply call) 0) }
+        ensures err { OnErr result (seat.new ≡ seat.old) }
+    {
         let mut held = self.held.lock(rt);
         if held.awaits(call) {
             held.kept.check(seat)?;
@@ -115,9 +153,10 @@ impl Keeper {
             held.desk.leave(call);
         }
         let notice = held.call(seat, &Event::TakeReply(call), 0)?;
+        let prospects = held.prospects(notice.wakes);
         drop(held);
         self.wake(&notice);
-        Ok(())
+        Ok(prospects)
     }
 
     /// What the space could do next. It costs what `Space::work` costs, under the lock.
@@ -240,8 +279,11 @@ impl Keeper {
         if notice.claim {
             self.to_claim.notify_all();
         }
-        for (place, ready) in notice.replies.iter().enumerate() {
-            if *ready && let Some(waiters) = self.replies.get(place) {
+        if notice.replies == 0 {
+            return;
+        }
+        for (place, waiters) in self.replies.iter().enumerate() {
+            if notice.replies & (1 << place) != 0 {
                 waiters.notify_all();
             }
         }

@@ -12,7 +12,7 @@ mod seat;
 mod waking;
 
 pub use error::KeeperError;
-pub use held::{Chores, Dues, Look, Wake};
+pub use held::{Chores, Dues, Look, Prospects, Wake};
 pub use keeper::Keeper;
 pub use kept::Kept;
 pub use nob_space::{Due, Space};
