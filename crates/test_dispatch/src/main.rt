@@ -1,7 +1,11 @@
-//! The program `test_dispatch`: the dispatchers and workers of two spaces, in one thread. No clause
-//! says that jobs are carried out: this run shows it.
+//! The program `test_dispatch`: the dispatchers and workers of two spaces, in one thread, and then each
+//! line of the agent's table, told of each hold that it was made. No clause says that jobs are carried
+//! out: this run shows it.
 #![tactic(auto)]
 
+mod cases;
+mod name_rows;
+mod names;
 mod node;
 mod objects;
 mod rows;
@@ -19,8 +23,14 @@ fn main(rt: HostRuntime) -> ExitCode {
     }
 }
 
-// Runs the rows, and prints what was told.
+// Runs the dispatchers and workers, and then the agent alone.
 fn run<R: Wait + Print>(rt: &R, alloc: Global) -> io::Result<()> {
+    print_jobs(rt, alloc)?;
+    print_names(rt, alloc)
+}
+
+// Runs the rows, and prints what was told.
+fn print_jobs<R: Wait + Print>(rt: &R, alloc: Global) -> io::Result<()> {
     let Some(ran) = rows::run(rt, alloc) else {
         return println!(rt; "failed");
     };
@@ -41,6 +51,17 @@ fn run<R: Wait + Print>(rt: &R, alloc: Global) -> io::Result<()> {
         said(has_ended)
     )?;
     println!(rt; "each entry has its receipt: {}", said(ran.is_whole))
+}
+
+// Runs the lines of the agent's table, and prints what they say.
+fn print_names<R: Print>(rt: &R, alloc: Global) -> io::Result<()> {
+    let Some(rows) = cases::run(alloc) else {
+        return println!(rt; "failed");
+    };
+    for row in rows.iter() {
+        name_rows::print(rt, row)?;
+    }
+    Ok(())
 }
 
 // Yes or no.

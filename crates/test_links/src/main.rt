@@ -1,12 +1,17 @@
-//! The program `test_links`: what links and shims do when they run, and what no clause says: that a
-//! call succeeds, that threads get on, that an end which is gone is heard.
+//! The program `test_links`: what links, shims, offers and bells do when they run, and what no clause
+//! says: that a call succeeds, that threads get on, that an end which is gone is heard, that what two
+//! threads hand is seen once both rest, and that a sleeper hears of what is put.
 #![tactic(auto)]
 
+mod bells;
 mod carrying;
 mod digests;
+mod meeting;
+mod offers;
 mod parcels;
 mod rows;
 mod threads;
+mod turns;
 
 use std::alloc::Global;
 use std::process::ExitCode;
@@ -39,5 +44,6 @@ fn run<R: Threads + Wait + Sync + Print>(rt: &R, alloc: Global, is_short: bool) 
         return Ok(());
     }
     digests::print(rt, alloc)?;
-    threads::print(rt, alloc)
+    threads::print(rt, alloc)?;
+    turns::print(rt)
 }

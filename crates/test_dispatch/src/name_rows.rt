@@ -1,7 +1,8 @@
-//! What the run says.
+//! What the lines of the agent's table say.
 
 use crate::names::second;
 use nob_pickle::Value;
+use std::io;
 
 /// What is said of a row.
 #[derive(Clone, Copy, Debug, PartialEq, Eq)]
@@ -41,5 +42,21 @@ pub(crate) fn said_by(status: u8, value: &Value) -> Said {
         Value::Int(number) => Said::Number(status, *number),
         Value::Ref(rep) if rep.owner == second() => Said::Object(status, rep.index),
         _ => Said::Other(status),
+    }
+}
+
+/// Prints a row.
+pub(crate) fn print<R: Print>(rt: &R, row: &Row) -> io::Result<()> {
+    match row.said {
+        Said::Count(count) => println!(rt; "{}: {count}", row.name),
+        Said::Unit(status) => println!(rt; "{}: status {status}, unit", row.name),
+        Said::Number(status, number) => println!(rt; "{}: status {status}, {number}", row.name),
+        Said::Object(status, index) => println!(rt;
+            "{}: status {status}, object 2.{index}",
+            row.name
+        ),
+        Said::Other(status) => println!(rt; "{}: status {status}", row.name),
+        Said::Dup(index) => println!(rt; "{}: asks for a hold of 2.{index}", row.name),
+        Said::Release(index) => println!(rt; "{}: gives a hold of 2.{index} back", row.name),
     }
 }

@@ -1,7 +1,7 @@
 //! Each line of the agent's table: what its methods come to, told of each hold that it was made.
 
+use crate::name_rows::{Row, Said, said_by, say};
 use crate::names::{first, name, named, object, pair, second};
-use crate::rows::{Row, Said, said_by, say};
 use nob_dispatch_objects::{Agent, Done, Object, Outcome};
 use nob_ids::WireRep;
 use nob_model_types::Refusal;
