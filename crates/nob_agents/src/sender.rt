@@ -233,9 +233,14 @@ impl<P: PutParcel + Drop> Sender<P> {
     /// Whether nothing is left for it to do, by what the keeper says: all that it transmitted is put,
     /// and a Transmit would give a frame to no peer whose link's other end is there.
     pub fn is_done(&self, dues: &Dues) -> bool {
-        let is_clear = has_gone_on(&self.seat, self.handled)
-            && kept_behind(self.ways.as_slice()).is_none();
-        is_clear && self.gone.is_none() && self.known(dues).iter().all(|due| *due == Due::Nothing)
+        self.is_clear()
+            && self.gone.is_none()
+            && self.known(dues).iter().all(|due| *due == Due::Nothing)
+    }
+
+    /// Whether all that it transmitted is put: nothing waits for room in a link.
+    pub fn is_clear(&self) -> bool {
+        has_gone_on(&self.seat, self.handled) && kept_behind(self.ways.as_slice()).is_none()
     }
 
     /// Its parts, which are tied: what each way put, and then what it keeps behind its shim, is the

@@ -67,6 +67,14 @@ impl Outbox {
         }
     }
 
+    /// Whether all that was transmitted is put: nothing waits for room in a link.
+    pub fn is_clear(&self) -> bool {
+        match &self.sender {
+            Some(sender) => sender.is_clear(),
+            None => self.ways.is_empty(),
+        }
+    }
+
     /// Transmits no more: the Sender ends, and the ways are left.
     pub fn seal(&mut self) {
         if let Some(sender) = self.sender.take() {

@@ -7,7 +7,7 @@ use nob_agents::{Calls, Carer, Turn};
 use nob_dispatch::{Assigned, Desk, JobCalls, Place};
 use nob_dispatch_objects::{Agent, Object};
 use nob_ids::CallNo;
-use nob_keeper::{Dues, Keeper, KeeperError, Look, Receipt, Seat, WorkKind, wakes_of};
+use nob_keeper::{Dues, Keeper, KeeperError, Look, Prospects, Receipt, Seat, WorkKind, wakes_of};
 use nob_model_types::{Answer, Event};
 use nob_node_parts::{Idlers, Kept, Lookout, Outbox, Pulse};
 use nob_offers::Offered;
@@ -74,6 +74,8 @@ pub struct Site<B: Object> {
     pub(crate) keeper: Keeper,
     // Who hands something on offers a turn.
     outbox: Offered<Outbox>,
+    // Whether something that was transmitted waits for room in a link.
+    outbox_is_late: AtomicBool,
     // `None` once the node's jobs have ended.
     desk: Mutex<Option<Desk<Kept<B>>>>,
     // Who waits for an object to come back, or to be withdrawn, waits here.
@@ -124,6 +126,7 @@ impl<B: Object> Site<B> {
         Site {
             keeper,
             outbox: Offered::new(outbox),
+            outbox_is_late: AtomicBool::new(false),
             desk: Mutex::new(Some(desk)),
             returned: Condvar::new(),
             started: Mutex::new(None),
@@ -158,6 +161,7 @@ impl<B: Object> Site<B> {
         let Site {
             keeper,
             outbox,
+            outbox_is_late: _,
             desk,
             returned: _,
             started: _,
@@ -238,6 +242,8 @@ impl<B: Object> Site<B> {
         }
         let is_sealed = self.is_sealed();
         let is_whole = outbox.flush(rt, &self.keeper);
+        self.outbox_is_late
+            .store(!outbox.is_clear(), Ordering::SeqCst);
         if is_sealed && is_whole && outbox.put_ends(rt) {
             self.has_ended.store(true, Ordering::SeqCst);
         }
@@ -251,6 +257,8 @@ impl<B: Object> Site<B> {
         let (done, busy) = (&is_done, &is_busy);
         self.outbox.offer(rt, |outbox: &mut Outbox| {
             let pulse = outbox.turn(rt, &self.keeper, dues);
+            self.outbox_is_late
+                .store(!outbox.is_clear(), Ordering::SeqCst);
             done.store(pulse == Pulse::Done, Ordering::SeqCst);
             busy.store(pulse == Pulse::Busy, Ordering::SeqCst);
         });
@@ -540,7 +548,7 @@ impl<B: Object> Site<B> {
     }
 
     // What the newest entry of a seat made possible for others is done at once.
-    fn follow<R: Wait>(&self, rt: &R, seat: &Seat) {
+    fn follow<R: Wait>(&self, rt: &R, seat: &Seat, prospects: Prospects) {
         let Some(receipt) = seat.newest() else {
             return;
         };
@@ -548,22 +556,18 @@ impl<B: Object> Site<B> {
             return;
         };
         self.count(&receipt.event, answer);
-        let wakes = wakes_of(&receipt.event, answer);
-        if wakes.send && !is_followed(answer) {
+        let makes_room = wakes_of(&receipt.event, answer).send;
+        let may_send = makes_room && self.outbox_is_late.load(Ordering::SeqCst);
+        let may_assign = makes_room && self.desk_is_late.load(Ordering::SeqCst);
+        let may_care = makes_room && self.care_is_late.load(Ordering::SeqCst);
+        if (prospects.send || may_send) && !is_followed(answer) {
             self.transmit(rt);
         }
-        let may_assign = wakes.send && self.desk_is_late.load(Ordering::SeqCst);
-        let may_care = wakes.send && self.care_is_late.load(Ordering::SeqCst);
-        if wakes.claim || wakes.care {
-            let chores = self.keeper.chores(rt);
-            self.attend(
-                rt,
-                chores.claim || may_assign || is_finish(&receipt.event),
-                chores.care || may_care,
-            );
-        } else {
-            self.attend(rt, may_assign, may_care);
-        }
+        self.attend(
+            rt,
+            prospects.claim || may_assign || is_finish(&receipt.event),
+            prospects.care || may_care,
+        );
     }
 
     // Counts the items that may be replies: for who looks for one.
@@ -723,9 +727,9 @@ impl<B: Object> Calls for Site<B> {
         event: &Event,
         seen: u64,
     ) -> Result<(), KeeperError> {
-        match self.keeper.call(rt, seat, event, seen) {
-            Ok(()) => {
-                self.follow(rt, seat);
+        match self.keeper.call_and_look(rt, seat, event, seen) {
+            Ok(prospects) => {
+                self.follow(rt, seat, prospects);
                 Ok(())
             }
             Err(error) => {
@@ -764,9 +768,9 @@ impl<B: Object> JobCalls for Site<B> {
     ) -> Result<(), KeeperError> {
         let asked = self.asked.load(Ordering::SeqCst);
         self.look_for(rt, Sought::Reply(asked));
-        match self.keeper.wait_reply(rt, seat, call) {
-            Ok(()) => {
-                self.follow(rt, seat);
+        match self.keeper.wait_reply_and_look(rt, seat, call) {
+            Ok(prospects) => {
+                self.follow(rt, seat, prospects);
                 Ok(())
             }
             Err(error) => {
