@@ -22,7 +22,7 @@ pub fn fronts()
 /// In every run of a world client and owner took turns, for each reference: a Dirty, a Clean, a
 /// Dirty and so on, each Dirty but the last answered, and what a Clean gave up granted. The turns
 /// that a client is said to have had are what it sent the owner and acted on from it.
-#[tactic(auto, using(crate::proofs::Points::clients))]
+#[tactic(auto, using(crate::proofs::SafetyPoints::clients))]
 pub fn clients()
     ensures { ClientsLaw }
 {}
@@ -31,7 +31,7 @@ pub fn clients()
 /// after a DirtyNo, and DirtyNo only for an object that was withdrawn; and a client is entered for
 /// an object exactly where its last Dirty or Clean that the owner acted on is a Dirty that was
 /// answered by DirtyOk.
-#[tactic(auto, using(crate::proofs::Points::owners))]
+#[tactic(auto, using(crate::proofs::SafetyPoints::owners))]
 pub fn owners()
     ensures { OwnersLaw }
 {}
@@ -54,7 +54,7 @@ pub fn listings()
 {}
 
 /// In every run of a world what a space holds, and what has pins there, is its own or granted.
-#[tactic(auto, using(crate::proofs::Points::holdings))]
+#[tactic(auto, using(crate::proofs::SafetyPoints::holdings))]
 pub fn holdings()
     ensures { HoldingsLaw }
 {}
@@ -77,14 +77,14 @@ pub fn readings()
 
 /// In every run of a world no item is settled twice, none that wasn't acted on, none that carries
 /// no counted reference, and none whose message waits.
-#[tactic(auto, using(crate::proofs::Points::settlements))]
+#[tactic(auto, using(crate::proofs::SafetyPoints::settlements))]
 pub fn settlements()
     ensures { SettlementsLaw }
 {}
 
 /// In every run of a world what an owner holds of its own objects, what has pins there and what any
 /// client is listed for is live: exported and not withdrawn.
-#[tactic(auto, using(crate::proofs::Points::living))]
+#[tactic(auto, using(crate::proofs::SafetyPoints::living))]
 pub fn living()
     ensures { LivingLaw }
 {}
