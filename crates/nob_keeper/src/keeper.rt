@@ -84,18 +84,13 @@ impl Keeper {
         ensures next { OnOk result (seats.AddsNext seat.old seat.new event.now seen) }
         ensures err { OnErr result (seat.new ≡ seat.old) }
     {
-        // Room is made before the lock is taken, if it can be: it is asked for again under it.
-        let _room = seat.make_room();
-        let mut held = self.held.lock(rt);
-        let notice = held.call(seat, event, seen)?;
-        drop(held);
-        self.wake(&notice);
+        self.call_and_look(rt, seat, event, seen)?;
         Ok(())
     }
 
     /// The same call, and what it made possible, read before another call could change it: so who
-    /// goes on with that need not take the lock again to look. It costs a few look-ups more than
-    /// `call`, under the lock.
+    /// goes on with that need not take the lock again to look. An event that may have made something
+    /// possible costs a few look-ups more for it, under the lock.
     pub fn call_and_look<R: Wait>(
         &self,
         rt: &R,
@@ -107,6 +102,7 @@ impl Keeper {
         ensures next { OnOk result (seats.AddsNext seat.old seat.new event.now seen) }
         ensures err { OnErr result (seat.new ≡ seat.old) }
     {
+        // Room is made before the lock is taken, if it can be: it is asked for again under it.
         let _room = seat.make_room();
         let mut held = self.held.lock(rt);
         let notice = held.call(seat, event, seen)?;

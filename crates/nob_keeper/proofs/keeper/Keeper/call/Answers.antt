@@ -1,8 +1,0 @@
-use Rattle.std.proofs.Common.{List, subst}
-use Rattle.nob_keeper.specs.Seats as seats
-use Rattle.nob_keeper.specs.declared.receipt.Receipt.{Receipt}
-use Rattle.nob_keeper.proofs.keeper.Keeper.call.Goals as goal
-
-pub returns-clause-next : goal.returns-clause-next
-returns-clause-next g c =
-    subst (λ (receipts : List Receipt). seats.AddsNext receipts c.call.new.seat c.args.event.now c.args.seen) c.make_room-room.ensures ((c.in_ok-notice.ensures {u = tt}).next)
