@@ -11,6 +11,7 @@ use crate::desk::{Desk, REPLY_PLACES, reply_place};
 use crate::error::KeeperError;
 use crate::held::{Chores, Dues, Held, Look, Notice, Prospects, Wake};
 use crate::kept::Kept;
+use crate::locking::lock_soon;
 use crate::seat::Seat;
 use crate::waking::WorkKind;
 use nob_ids::CallNo;
@@ -104,7 +105,7 @@ impl Keeper {
     {
         // Room is made before the lock is taken, if it can be: it is asked for again under it.
         let _room = seat.make_room();
-        let mut held = self.held.lock(rt);
+        let mut held = lock_soon(rt, &self.held);
         let notice = held.call(seat, event, seen)?;
         let prospects = held.prospects(notice.wakes);
         drop(held);
@@ -141,7 +142,7 @@ impl Keeper {
         ensures next { OnOk result (seats.AddsNext seat.old seat.new (events.TakeReply call) 0) }
         ensures err { OnErr result (seat.new ≡ seat.old) }
     {
-        let mut held = self.held.lock(rt);
+        let mut held = lock_soon(rt, &self.held);
         if held.awaits(call) {
             held.kept.check(seat)?;
             held.desk.wait_for(call)?;
@@ -157,37 +158,37 @@ impl Keeper {
 
     /// What the space could do next. It costs what `Space::work` costs, under the lock.
     pub fn work<R: Wait>(&self, rt: &R) -> Work {
-        self.held.lock(rt).kept.work()
+        lock_soon(rt, &self.held).kept.work()
     }
 
     /// Whether there is a job to claim. A few words of bits, under the lock.
     pub fn can_claim<R: Wait>(&self, rt: &R) -> bool {
-        self.held.lock(rt).kept.can_claim()
+        lock_soon(rt, &self.held).kept.can_claim()
     }
 
     /// Whether there is a job to claim, and something to settle, to clean or to withdraw. It costs
     /// a few look-ups under the lock, where `work` looks at each session.
     pub fn chores<R: Wait>(&self, rt: &R) -> Chores {
-        self.held.lock(rt).chores()
+        lock_soon(rt, &self.held).chores()
     }
 
     /// What the space could do next, with the number of entries after which this was so: what
     /// `wait_past` is given by a thread that found nothing to do.
     pub fn look<R: Wait>(&self, rt: &R) -> Look {
-        self.held.lock(rt).look()
+        lock_soon(rt, &self.held).look()
     }
 
     /// What the space would transmit to each peer, with the number of entries after which this was
     /// so. It costs little, and the same whatever the space has, under the lock.
     pub fn dues<R: Wait>(&self, rt: &R) -> Dues {
-        self.held.lock(rt).dues()
+        lock_soon(rt, &self.held).dues()
     }
 
     /// Waits until an entry behind this place may have made work of a kind possible, the trace is
     /// full, or those who wait for such work are told to stop. It doesn't wait where one of these
     /// is so already.
     pub fn wait_past<R: Wait>(&self, rt: &R, kind: WorkKind, place: u64) -> Wake {
-        let mut held = self.held.lock(rt);
+        let mut held = lock_soon(rt, &self.held);
         held.desk.park(kind);
         let mut held = self
             .place_of(kind)
@@ -198,7 +199,7 @@ impl Keeper {
 
     /// Tells all who wait for work of a kind to stop, now and later.
     pub fn stop<R: Wait>(&self, rt: &R, kind: WorkKind) {
-        let mut held = self.held.lock(rt);
+        let mut held = lock_soon(rt, &self.held);
         held.desk.stop(kind);
         drop(held);
         self.place_of(kind).notify_all();

@@ -402,7 +402,7 @@ impl<B: Object> Site<B> {
 
     /// Claims what jobs there are, and hands each on with its object.
     pub fn assign<R: Wait>(&self, rt: &R) {
-        let mut held = self.desk.lock(rt);
+        let mut held = lock_soon(rt, &self.desk);
         if let Some(desk) = &mut *held {
             self.assign_all(rt, desk);
         }
