@@ -7,7 +7,9 @@ use nob_agents::{Calls, Carer, Turn};
 use nob_dispatch::{Assigned, Desk, JobCalls, Place};
 use nob_dispatch_objects::{Agent, Object};
 use nob_ids::CallNo;
-use nob_keeper::{Dues, Keeper, KeeperError, Look, Prospects, Receipt, Seat, WorkKind, wakes_of};
+use nob_keeper::{
+    Dues, Keeper, KeeperError, Look, Prospects, Receipt, Seat, WorkKind, lock_soon, wakes_of,
+};
 use nob_model_types::{Answer, Event};
 use nob_node_parts::{Idlers, Kept, Lookout, Outbox, Pulse};
 use nob_offers::Offered;
