@@ -1,7 +1,7 @@
 //! When an agent transmits.
 
 use nob_ids::SpaceId;
-use nob_keeper::Due;
+use nob_keeper::{Due, is_new};
 use nob_model_types::Event;
 
 /// So many turns an Ack waits for items that it could go with.
@@ -101,14 +101,5 @@ impl Pace {
                 turns.saturating_add(1)
             };
         }
-    }
-}
-
-// Whether it is to be transmitted at once.
-fn is_new(due: Due) -> bool {
-    match due {
-        Due::New => true,
-        Due::Close => true,
-        _ => false,
     }
 }

@@ -6,11 +6,19 @@ use Rattle.nob_model_types.specs.declared.answer.Answer.{Answer}
 use Rattle.nob_model_types.specs.declared.answer.Answer.TheVariants as answers
 use Rattle.nob_model_history.specs.declared.history.History.{History}
 use Rattle.nob_model.specs.Next.{can_settle, can_clean, to_withdraw}
+use Rattle.nob_session.specs.declared.due.Due.{Due}
+use Rattle.nob_session.specs.declared.due.Due.TheVariants as dues
 use Rattle.nob_keeper.specs.declared.waking.Wakes.{Wakes}
 
 -- whether there is something to settle, to clean or to withdraw
 abbrev pub can_care : (s n : ℕ) → History → Bool
 can_care s n h = can_settle s n h || (can_clean s n h || is_some (to_withdraw s h))
+
+-- whether what a Transmit would give was never given before: an item, or the Close of a session
+abbrev pub is_new : Due → Bool
+is_new dues.New = true
+is_new dues.Close = true
+is_new (_) = false
 
 -- whether an answer says that a session closed
 abbrev pub is_closing : Answer → Bool

@@ -8,7 +8,7 @@ use crate::error::KeeperError;
 use crate::kept::Kept;
 use crate::receipt::Receipt;
 use crate::seat::Seat;
-use crate::waking::{Wakes, WorkKind, wakes_of};
+use crate::waking::{Wakes, WorkKind, is_new, wakes_of};
 use nob_ids::{CallNo, SpaceId};
 use nob_model_types::Event;
 use nob_space::{Due, Work};
@@ -164,16 +164,16 @@ impl Held {
     pub(crate) fn prospects(&self, wakes: Wakes) -> Prospects {
         let is_full = self.kept.is_full();
         Prospects {
-            send: wakes.send && (is_full || self.has_news()),
+            send: wakes.send && (is_full || self.has_new()),
             care: wakes.care && (is_full || self.kept.can_care()),
             claim: wakes.claim && (is_full || self.kept.can_claim()),
         }
     }
 
     // Whether a Transmit to some peer would give something that was never transmitted.
-    fn has_news(&self) -> bool {
+    fn has_new(&self) -> bool {
         (1..=self.kept.n().get()).any(|number| match SpaceId::new(number) {
-            Some(peer) => is_news(self.kept.due(peer)),
+            Some(peer) => is_new(self.kept.due(peer)),
             None => false,
         })
     }
@@ -228,14 +228,5 @@ impl Held {
             place: self.kept.len() as u64,
             due,
         }
-    }
-}
-
-// Whether what is due was never transmitted.
-fn is_news(due: Due) -> bool {
-    match due {
-        Due::New => true,
-        Due::Close => true,
-        _ => false,
     }
 }

@@ -20,4 +20,4 @@ pub use locking::lock_soon;
 pub use nob_space::{Due, Space};
 pub use receipt::Receipt;
 pub use seat::Seat;
-pub use waking::{Wakes, WorkKind, wakes_of};
+pub use waking::{Wakes, WorkKind, is_new, wakes_of};

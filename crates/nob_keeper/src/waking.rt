@@ -4,6 +4,7 @@ ghost use Rattle.std.specs.Prelude.{◌≡◌};
 ghost use Rattle.nob_keeper.specs.Waking as waking;
 
 use nob_model_types::{Answer, Event};
+use nob_space::Due;
 
 /// A kind of work for which a thread may wait.
 #[derive(Clone, Copy, Debug, PartialEq, Eq)]
@@ -38,6 +39,17 @@ pub fn wakes_of(event: &Event, answer: &Answer) -> Wakes
         care: may_care(event, answer),
         claim: may_claim(event, answer),
         reply: may_reply(event),
+    }
+}
+
+/// Whether what a Transmit would give was never given before.
+pub fn is_new(due: Due) -> bool
+    ensures { result ≡ waking.is_new due }
+{
+    match due {
+        Due::New => true,
+        Due::Close => true,
+        _ => false,
     }
 }
 
