@@ -1,5 +1,7 @@
 //! A script that goes on whatever it is answered, with a close at one place.
 
+ghost use Rattle.std.specs.Prelude.{◌≡◌, false};
+
 use crate::script::Move;
 use nob_ids::SpaceId;
 use nob_model::{Answer, Event, WorldStep};
@@ -25,12 +27,15 @@ pub struct Course {
     pub made: usize,
     /// Whether the close was made, and the session was open before it.
     pub is_cut: bool,
-    cut: Option<Cut>,
+    /// The close, if there is one.
+    pub cut: Option<Cut>,
 }
 
 impl Course {
     /// A script that hasn't begun, with this close.
-    pub fn new(cut: Option<Cut>) -> Course {
+    pub fn new(cut: Option<Cut>) -> Course
+        ensures { result ≡ record { made = 0; is_cut = false; cut = cut } }
+    {
         Course {
             made: 0,
             is_cut: false,

@@ -1,5 +1,8 @@
 //! What a space could do next, by the definitions.
 
+ghost use Rattle.std.specs.Prelude.{◌≡◌, IfOk};
+ghost use Rattle.nob_model.specs.Next as words;
+
 use nob_ids::SpaceId;
 use nob_model::next::{can_act, can_claim, can_clean, can_send, can_settle, to_withdraw};
 use nob_model::{Here, History};
@@ -12,7 +15,15 @@ pub fn work_of(
     here: &Here,
     window: u64,
     history: &History,
-) -> Result<Work, AllocError> {
+) -> Result<Work, AllocError>
+    ensures settle { IfOk result (λ work. work.settle
+        ≡ words.can_settle here.now.space here.now.n history.now) }
+    ensures clean { IfOk result (λ work. work.clean
+        ≡ words.can_clean here.now.space here.now.n history.now) }
+    ensures claim { IfOk result (λ work. work.claim ≡ words.can_claim history.now) }
+    ensures withdraw { IfOk result (λ work. work.withdraw
+        ≡ words.to_withdraw here.now.space history.now) }
+{
     let act = acts_of(alloc, here, history)?;
     let send = sends_of(alloc, here, window, history)?;
     let settle = can_settle(alloc, here, history)?;

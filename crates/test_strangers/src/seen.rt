@@ -1,5 +1,7 @@
 //! What happened among strangers, so that it shows where too little did.
 
+ghost use Rattle.std.specs.Prelude.{◌≡◌, [], length, OnErr};
+
 use nob_frame::FrameFault;
 use nob_ids::Reason;
 use nob_model::Answer;
@@ -8,27 +10,35 @@ use std::alloc::{AllocError, Global};
 /// Which numbers were seen, each once.
 #[derive(Drop)]
 pub struct Seen {
-    numbers: Vec<u8>,
+    /// The numbers, in the order in which they were seen first.
+    pub numbers: Vec<u8>,
 }
 
 impl Seen {
     /// None.
-    pub fn new(alloc: Global) -> Seen {
+    pub fn new(alloc: Global) -> Seen
+        ensures { result.numbers.items ≡ [] }
+    {
         Seen {
             numbers: Vec::new(alloc),
         }
     }
 
     /// This one is seen. Only memory fails it.
-    pub fn note(&mut self, number: u8) -> Result<(), AllocError> {
-        if !self.numbers.iter().any(|seen| *seen == number) {
-            self.numbers.push(number)?;
+    pub fn note(&mut self, number: u8) -> Result<(), AllocError>
+        ensures err { OnErr result (self.new.numbers.items ≡ self.old.numbers.items) }
+    {
+        if self.numbers.iter().any(|seen| *seen == number) {
+            return Ok(());
         }
+        self.numbers.push(number)?;
         Ok(())
     }
 
     /// How many were seen.
-    pub fn count(&self) -> usize {
+    pub fn count(&self) -> usize
+        ensures { result ≡ length self.now.numbers.items }
+    {
         self.numbers.len()
     }
 }
