@@ -81,7 +81,7 @@ impl Pace {
 
     // Transmits to a peer what isn't new. A tick follows after every so many repeats.
     fn transmit_again(&mut self, peer: SpaceId, due: Due) -> Event {
-        self.turns[peer.get() as usize - 1] = 0;
+        self.turns[peer.place()] = 0;
         if due == Due::Again && self.tick_every != 0 {
             self.repeats = self.repeats.saturating_add(1);
             if self.repeats >= self.tick_every {

@@ -92,7 +92,7 @@ impl<P: PutParcel + Drop> Sender<P> {
     // Notes whose link's other end was just found to be gone.
     fn note_gone(&mut self) {
         for way in &self.ways {
-            let place = way.peer().get() as usize - 1;
+            let place = way.peer().place();
             if way.has_gone() && !self.told[place] {
                 self.told[place] = true;
                 self.gone = Some(way.peer());
@@ -156,7 +156,7 @@ impl<P: PutParcel + Drop> Sender<P> {
         let mut dues = [Due::Nothing; 32];
         for way in &self.ways {
             if !way.has_gone() {
-                let place = way.peer().get() as usize - 1;
+                let place = way.peer().place();
                 dues[place] = all.due[place];
             }
         }
@@ -180,7 +180,7 @@ impl<P: PutParcel + Drop> Sender<P> {
         }
         let event = self.pace.next_new(dues)?;
         if let Event::Transmit(peer) = &event {
-            dues[peer.get() as usize - 1] = Due::Nothing;
+            dues[peer.place()] = Due::Nothing;
         }
         Some(event)
     }

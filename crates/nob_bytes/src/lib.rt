@@ -2,6 +2,7 @@
 //! The codecs stand on this crate.
 #![tactic(auto)]
 
+mod few;
 mod owned;
 mod placed;
 mod taking;

@@ -1,17 +1,21 @@
 //! Bytes that one owner has, or that several share.
 
 ghost use Rattle.std.specs.Prelude.{◌≡◌, ◌<◌, IfOk, OnErr, length};
+ghost use Rattle.std.specs.Arc.{arc_value};
 
-use bytes::Bytes as SharedBytes;
+use crate::few::Few;
 use std::alloc::{AllocError, AllocFailed, Global};
 use std::marker::Model;
 use std::mem;
+use std::sync::Arc;
 
-// Where bytes stand: with the one owner, or in a block that counts its owners.
+// Where bytes stand: here, where they are few, or else in a vector, of the one owner or of several
+// who are counted.
 #[derive(Debug, Drop)]
 enum Place {
+    Few(Few),
     Owned(Vec<u8>),
-    Shared(SharedBytes),
+    Shared(Arc<Vec<u8>, Global>),
 }
 
 /// Bytes. Contracts see their list. Once they are shared, a copy copies no byte.
@@ -52,8 +56,10 @@ impl Bytes {
         ensures same { IfOk result (λ copy. copy ≡ bytes.now) }
         ensures memory { OnErr result (0 < length bytes.now) }
     {
-        if bytes.is_empty() {
-            return Ok(Bytes::from_vec(Vec::new(alloc)));
+        if let Some(few) = Few::of(bytes) {
+            return Ok(Bytes {
+                place: Place::Few(few),
+            });
         }
         Ok(Bytes::from_vec(Vec::from_slice(alloc, bytes)?))
     }
@@ -63,6 +69,7 @@ impl Bytes {
         ensures { result.now ≡ self.now }
     {
         match &self.place {
+            Place::Few(few) => few.as_slice(),
             Place::Owned(bytes) => bytes.as_slice(),
             Place::Shared(bytes) => bytes.as_slice(),
         }
@@ -77,7 +84,7 @@ impl Bytes {
 
     /// Has these bytes shared by the copies that are made from now on. It costs the same however
     /// many they are, and takes memory for the count of owners: only that fails it, and not where
-    /// they are shared already, nor where there are none.
+    /// they are shared already, nor where they are 23 at most, which a copy has beside its length.
     pub fn share(&mut self) -> Result<(), AllocError>
         ensures same { self.new ≡ self.old }
         ensures memory { OnErr result (0 < length self.old) }
@@ -85,9 +92,13 @@ impl Bytes {
         let Place::Owned(bytes) = &mut self.place else {
             return Ok(());
         };
+        if let Some(few) = Few::of(bytes.as_slice()) {
+            self.place = Place::Few(few);
+            return Ok(());
+        }
         let alloc = *bytes.allocator();
         let owned = mem::replace(bytes, Vec::new(alloc));
-        match SharedBytes::from_vec(owned) {
+        match Arc::new(alloc, owned) {
             Ok(shared) => {
                 self.place = Place::Shared(shared);
                 Ok(())
@@ -106,10 +117,26 @@ impl Bytes {
         ensures memory { OnErr result (0 < length self.now) }
     {
         match &self.place {
-            Place::Owned(bytes) => Bytes::from_slice(*bytes.allocator(), bytes.as_slice()),
-            Place::Shared(bytes) => Ok(Bytes {
-                place: Place::Shared(bytes.slice(0..bytes.len())?),
+            Place::Few(few) => Ok(Bytes {
+                place: Place::Few(*few),
             }),
+            Place::Owned(bytes) => Bytes::from_slice(*bytes.allocator(), bytes.as_slice()),
+            Place::Shared(bytes) => shared_copy(bytes),
         }
     }
+}
+
+// The same bytes for one more owner: only a count that is full fails it.
+fn shared_copy(bytes: &Arc<Vec<u8>, Global>) -> Result<Bytes, AllocError>
+    ensures same { IfOk result (λ copy. copy ≡ (arc_value bytes.now).items) }
+    ensures memory { OnErr result (0 < length (arc_value bytes.now).items) }
+{
+    if bytes.is_empty() {
+        return Ok(Bytes {
+            place: Place::Few(Few::none()),
+        });
+    }
+    Ok(Bytes {
+        place: Place::Shared(Arc::try_clone(bytes)?),
+    })
 }

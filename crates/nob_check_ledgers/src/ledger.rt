@@ -124,7 +124,7 @@ fn acts_open_after(deed: &Deed, past: &DeedIndex, before: bool) -> bool
 }
 
 /// The ledger after a deed, where no loan is due before that can be made. Only memory fails it. It
-/// looks up what the deed touches; along what is in hand it looks as `working` says.
+/// looks up what the deed touches, and what is in hand costs what `working::with_deed` says.
 pub fn with_deed(alloc: Global, deed: Deed, ledger: Ledger) -> Result<Ledger, AllocError>
     requires lent { words.has_loans_made ledger ≡ true }
     ensures step { IfOk result (λ after. after ≡ words.ledger_after deed ledger) }

@@ -1,7 +1,6 @@
 //! Frames and their one spelling in bytes.
 #![tactic(auto)]
 
-pub mod comparing;
 mod fault;
 mod feed;
 mod frame;

@@ -56,7 +56,7 @@ impl Feeds {
             (feed_at self.new peer) }
         ensures others { SameButOf peer self.old self.new }
     {
-        let place = peer.get() as usize - 1;
+        let place = peer.place();
         self.feeds[place].push(piece)
     }
 
@@ -65,7 +65,7 @@ impl Feeds {
         ensures fresh { feed_at self.new peer ≡ Ok [] }
         ensures others { SameButOf peer self.old self.new }
     {
-        let place = peer.get() as usize - 1;
+        let place = peer.place();
         self.feeds[place] = Feed::new(alloc);
     }
 }

@@ -4,7 +4,6 @@
 //! bits.
 #![tactic(auto)]
 
-pub mod comparing;
 mod limits;
 mod numbers;
 mod reason;

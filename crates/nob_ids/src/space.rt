@@ -1,7 +1,7 @@
 //! Spaces.
 
-ghost use Rattle.std.specs.Prelude.{◌≡◌, ◌↔◌, ◌<◌, ◌≤◌, ◌^◌, ℕ, IsSome, IfSome};
-ghost use Rattle.nob_ids.specs.Names.{IsSpace};
+ghost use Rattle.std.specs.Prelude.{◌≡◌, ◌↔◌, ◌<◌, ◌≤◌, ◌^◌, ◌-◌, ◌+◌, ℕ, IsSome, IfSome};
+ghost use Rattle.nob_ids.specs.Names.{IsSpace, most_spaces};
 
 use std::fmt;
 use std::marker::Model;
@@ -45,6 +45,15 @@ impl SpaceId {
         ensures in_range { IsSpace result }
     {
         self.number
+    }
+
+    /// The space's place among spaces that are counted from 0: 0 to 31.
+    pub fn place(self) -> usize
+        ensures value { result ≡ self - 1 }
+        ensures next { 1 + result ≡ self }
+        ensures in_range { result < most_spaces }
+    {
+        self.number as usize - 1
     }
 }
 

@@ -1,7 +1,6 @@
 //! Items: what two spaces send each other, and their one spelling in bytes.
 #![tactic(auto)]
 
-pub mod comparing;
 mod counted;
 mod fault;
 mod item;

@@ -241,7 +241,7 @@ take_end_tells k h e =
 job_tells : (j p : ℕ) (item : Item) (job : Job) → job_of j p item ≡ Ok (answers.Job job) → (job.job ≡ j) × (job.client ≡ p) × (item ≡ items.Call job.call job.target job.method job.value)
 unfolding job_of
 job_tells j p (items.Call call target method value) job e =
-    let same : record { job = j; client = p; call = call; target = target; method = method; value = value } ≡ job = job_same _ job (ok_same _ _ e) in
+    let same : record { job = j; call = call; target = target; client = p; method = method; value = value } ≡ job = job_same _ job (ok_same _ _ e) in
     (ap (λ (one : Job). one.job) (sym same), ap (λ (one : Job). one.client) (sym same), ap (λ (one : Job). items.Call one.call one.target one.method one.value) same)
   where
     job_same : (a b : Job) → answers.Job a ≡ answers.Job b → a ≡ b

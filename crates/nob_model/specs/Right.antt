@@ -140,7 +140,7 @@ jobs_made (_ ∷ D) = jobs_made D
 
 -- the job of this number that an item from p is
 unfoldable pub job_of : (j p : ℕ) → Item → Result Answer Refusal
-job_of j p (items.Call call target method value) = Ok (answers.Job (record { job = j; client = p; call = call; target = target; method = method; value = value }))
+job_of j p (items.Call call target method value) = Ok (answers.Job (record { job = j; call = call; target = target; client = p; method = method; value = value }))
 job_of j p (items.Reply call status value) = Err refusals.Nothing
 job_of j p (items.Settle item) = Err refusals.Nothing
 job_of j p (items.Dirty index) = Err refusals.Nothing

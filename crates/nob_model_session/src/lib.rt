@@ -4,7 +4,6 @@
 //! bodies are compared with them in tests.
 #![tactic(auto)]
 
-pub mod comparing;
 pub mod end;
 mod entry;
 pub mod laws;

@@ -12,12 +12,12 @@ use std::alloc::AllocError;
 pub struct Job {
     /// The number of the job at this space.
     pub job: JobNo,
-    /// The space that calls.
-    pub client: SpaceId,
-    /// The number of the call at that space.
+    /// The number of the call at the space that calls.
     pub call: CallNo,
     /// The index of the object that is called.
     pub target: u64,
+    /// The space that calls.
+    pub client: SpaceId,
     /// The number of the method.
     pub method: u16,
     /// The argument.
@@ -28,9 +28,9 @@ impl Drop for Job {
     fn drop(self) {
         let Job {
             job: _,
-            client: _,
             call: _,
             target: _,
+            client: _,
             method: _,
             value,
         } = self;
@@ -45,9 +45,9 @@ impl Job {
     {
         Ok(Job {
             job: self.job,
-            client: self.client,
             call: self.call,
             target: self.target,
+            client: self.client,
             method: self.method,
             value: self.value.copy()?,
         })

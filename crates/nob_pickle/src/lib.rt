@@ -1,7 +1,6 @@
 //! Values as bytes: the pickles that calls and replies carry. Each value has one spelling.
 #![tactic(auto)]
 
-pub mod comparing;
 mod fault;
 mod judging;
 pub mod laws;

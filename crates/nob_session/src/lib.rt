@@ -3,7 +3,6 @@
 #![tactic(auto)]
 
 mod closed;
-pub mod comparing;
 mod due;
 mod error;
 mod session;

@@ -1,6 +1,6 @@
 //! Items under rising numbers: each is found by its number and taken out at low cost, and the
-//! marked ones are found without passing the others. What they stand on is here too: sets of
-//! numbers by words of bits, and what stands on them: for each space a list of rising numbers.
+//! marked ones are found without passing the others. Beside them stand the sets of numbers that
+//! mark them, by words of bits, and a list of rising numbers for each space.
 #![tactic(auto)]
 
 mod iter;

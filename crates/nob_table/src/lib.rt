@@ -8,7 +8,6 @@
 //! knows no sessions: the space above says what happened.
 #![tactic(auto)]
 
-pub mod comparing;
 mod table;
 
 pub use nob_table_rows::{Counts, Part, Standing, State, TableError, TableFault};

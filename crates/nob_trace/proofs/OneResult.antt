@@ -146,7 +146,7 @@ settled_is p q n m is was same =
 
 same_job : (j k : Job) → j.job ≡ k.job → j.client ≡ k.client → j.call ≡ k.call → j.target ≡ k.target → j.method ≡ k.method → j.value ≡ k.value → j ≡ k
 same_job j k a b c d e f =
-    let made : ℕ → ℕ → ℕ → ℕ → ℕ → Value → Job = λ n p c t m v. record { job = n; client = p; call = c; target = t; method = m; value = v } in
+    let made : ℕ → ℕ → ℕ → ℕ → ℕ → Value → Job = λ n p c t m v. record { job = n; call = c; target = t; client = p; method = m; value = v } in
     ap (λ (x : ℕ). made x j.client j.call j.target j.method j.value) a
     ∙ ap (λ (x : ℕ). made k.job x j.call j.target j.method j.value) b
     ∙ ap (λ (x : ℕ). made k.job k.client x j.target j.method j.value) c

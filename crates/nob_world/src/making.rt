@@ -122,7 +122,7 @@ pub(crate) fn make(
     let Ok(()) = entries.reserve(1) else {
         return Err(WorldError::OutOfMemory);
     };
-    let place = space.get() as usize - 1;
+    let place = space.place();
     let Ok(more) = frames_due(alloc, &spaces[place], &event) else {
         return Err(WorldError::OutOfMemory);
     };

@@ -124,7 +124,7 @@ impl World {
             (λ space. spec.IsSpaceOf self.now.n self.now.limits
             (spec.journal self.now) id space.now) }
     {
-        let Some(space) = self.spaces.get(id.get() as usize - 1) else {
+        let Some(space) = self.spaces.get(id.place()) else {
             return None;
         };
         Some(space)

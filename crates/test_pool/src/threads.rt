@@ -149,7 +149,7 @@ fn carry<R: Wait>(rt: &R, from: &Keeper, to: &Keeper, peer: SpaceId, way: &mut W
 
 // Whether a Transmit would give something that didn't arrive yet.
 fn is_due(dues: &Dues, peer: SpaceId) -> bool {
-    match dues.due[peer.get() as usize - 1] {
+    match dues.due[peer.place()] {
         Due::Nothing => false,
         Due::Again => false,
         _ => true,
