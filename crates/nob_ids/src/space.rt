@@ -53,7 +53,7 @@ impl SpaceId {
         ensures next { 1 + result ≡ self }
         ensures in_range { result < most_spaces }
     {
-        self.number as usize - 1
+        self.get() as usize - 1
     }
 }
 

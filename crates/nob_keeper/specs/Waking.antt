@@ -1,5 +1,5 @@
 -- What an answered event may have made possible at its space, and what there is to take care of.
-use Rattle.std.specs.Prelude.{ℕ, Bool, true, false, ◌||◌, is_some}
+use Rattle.std.specs.Prelude.{◌≡◌, ◌≤◌, ℕ, Bool, true, false, ◌||◌, is_some}
 use Rattle.nob_model_types.specs.declared.event.Event.{Event}
 use Rattle.nob_model_types.specs.declared.event.Event.TheVariants as events
 use Rattle.nob_model_types.specs.declared.answer.Answer.{Answer}
@@ -8,6 +8,8 @@ use Rattle.nob_model_history.specs.declared.history.History.{History}
 use Rattle.nob_model.specs.Next.{can_settle, can_clean, to_withdraw}
 use Rattle.nob_session.specs.declared.due.Due.{Due}
 use Rattle.nob_session.specs.declared.due.Due.TheVariants as dues
+use Rattle.nob_space_state.specs.Dues.{due}
+use Rattle.nob_keeper.specs.Accounts.{Account, history_in}
 use Rattle.nob_keeper.specs.declared.waking.Wakes.{Wakes}
 
 -- whether there is something to settle, to clean or to withdraw
@@ -19,6 +21,14 @@ abbrev pub is_new : Due → Bool
 is_new dues.New = true
 is_new dues.Close = true
 is_new (_) = false
+
+-- whether a Transmit to a space would give something that was never given
+abbrev pub is_new_to : Account → ℕ → Bool
+is_new_to account peer = is_new (due account.id account.n peer account.limits.window (history_in account))
+
+-- a Transmit to some space would give something that was never given
+abbrev pub HasNew : Account → Type 0
+HasNew account = (peer : ℕ) × (1 ≤ peer) × (peer ≤ account.n) × (is_new_to account peer ≡ true)
 
 -- whether an answer says that a session closed
 abbrev pub is_closing : Answer → Bool

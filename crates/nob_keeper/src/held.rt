@@ -8,7 +8,7 @@ use crate::error::KeeperError;
 use crate::kept::Kept;
 use crate::receipt::Receipt;
 use crate::seat::Seat;
-use crate::waking::{Wakes, WorkKind, is_new, wakes_of};
+use crate::waking::{Wakes, WorkKind, wakes_of};
 use nob_ids::{CallNo, SpaceId};
 use nob_model_types::Event;
 use nob_space::{Due, Work};
@@ -46,18 +46,6 @@ impl Notice {
             },
         }
     }
-}
-
-/// What an event made possible or left possible, read under the lock under which it happened.
-#[derive(Clone, Copy, Debug, PartialEq, Eq)]
-pub struct Prospects {
-    /// Whether there is something new to transmit, and the event may have made it so.
-    pub send: bool,
-    /// Whether there is something to settle, to clean or to withdraw, and the event may have made it
-    /// so.
-    pub care: bool,
-    /// Whether there is a job to claim, and the event may have made it so.
-    pub claim: bool,
 }
 
 /// What a space could do next, read under the lock.
@@ -158,24 +146,6 @@ impl Held {
                 notice.replies |= 1 << reply_place(*call);
             }
         }
-    }
-
-    // What there is of what may have been made possible. Where the trace is full all that may.
-    pub(crate) fn prospects(&self, wakes: Wakes) -> Prospects {
-        let is_full = self.kept.is_full();
-        Prospects {
-            send: wakes.send && (is_full || self.has_new()),
-            care: wakes.care && (is_full || self.kept.can_care()),
-            claim: wakes.claim && (is_full || self.kept.can_claim()),
-        }
-    }
-
-    // Whether a Transmit to some peer would give something that was never transmitted.
-    fn has_new(&self) -> bool {
-        (1..=self.kept.n().get()).any(|number| match SpaceId::new(number) {
-            Some(peer) => is_new(self.kept.due(peer)),
-            None => false,
-        })
     }
 
     // Whether the reply to a call isn't ready and may still come.

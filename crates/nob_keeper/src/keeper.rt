@@ -9,11 +9,11 @@ ghost use Rattle.nob_keeper.specs.Seats as seats;
 
 use crate::desk::{Desk, REPLY_PLACES, reply_place};
 use crate::error::KeeperError;
-use crate::held::{Chores, Dues, Held, Look, Notice, Prospects, Wake};
+use crate::held::{Chores, Dues, Held, Look, Notice, Wake};
 use crate::kept::Kept;
 use crate::locking::lock_soon;
 use crate::seat::Seat;
-use crate::waking::WorkKind;
+use crate::waking::{Prospects, WorkKind};
 use nob_ids::CallNo;
 use nob_model_types::Event;
 use nob_space::{Space, Work};
@@ -107,7 +107,7 @@ impl Keeper {
         let _room = seat.make_room();
         let mut held = lock_soon(rt, &self.held);
         let notice = held.call(seat, event, seen)?;
-        let prospects = held.prospects(notice.wakes);
+        let prospects = held.kept.prospects(notice.wakes);
         drop(held);
         self.wake(&notice);
         Ok(prospects)
@@ -150,7 +150,7 @@ impl Keeper {
             held.desk.leave(call);
         }
         let notice = held.call(seat, &Event::TakeReply(call), 0)?;
-        let prospects = held.prospects(notice.wakes);
+        let prospects = held.kept.prospects(notice.wakes);
         drop(held);
         self.wake(&notice);
         Ok(prospects)

@@ -1,6 +1,7 @@
 //! A space with its trace.
 
-ghost use Rattle.std.specs.Prelude.{◌≡◌, ◌≢◌, ◌≤◌, ◌+◌, ◌-◌, ◌⊎◌, ◌++◌, ◌∷◌, [], ℕ, List, Some, None, Err, length, nat_le, slice_get, IfOk, IfErr, OnOk, OnErr};
+ghost use Rattle.std.specs.Prelude.{◌≡◌, ◌≢◌, ◌↔◌, ◌≤◌, ◌+◌, ◌-◌, ◌⊎◌, ◌&&◌, ◌||◌, ◌++◌, ◌∷◌, [], ℕ, List, Some, None, true, Err, length, nat_le, slice_get, IfOk, IfErr, OnOk, OnErr};
+ghost use Rattle.nob_ids.specs.Names.{IsSpace};
 ghost use Rattle.nob_model_types.specs.declared.entry.Entry.{Entry as EntryOf};
 ghost use Rattle.nob_model.specs.Next as next;
 ghost use Rattle.nob_model.specs.Right.{right};
@@ -19,6 +20,7 @@ use crate::closing::{is_told, judge};
 use crate::error::KeeperError;
 use crate::receipt::Receipt;
 use crate::seat::Seat;
+use crate::waking::{Prospects, Wakes, is_new};
 use nob_ids::{CallNo, SpaceId};
 use nob_model_types::{Answer, Event, Refusal};
 use nob_space::{Due, Space, SpaceError, Work};
@@ -209,6 +211,28 @@ impl Kept {
         self.space.due(peer)
     }
 
+    /// What there is of what an event may have made possible. Where the trace is full, all that may:
+    /// who goes on with it sees so. A few look-ups, and one for each space until there is something
+    /// new.
+    pub fn prospects(&self, wakes: Wakes) -> Prospects
+        ensures send { (result.send ≡ true) ↔ ((wakes.send ≡ true)
+            × ((nat_le accounts.most_entries (length self.now.entries) ≡ true)
+            ⊎ waking.HasNew self.now)) }
+        ensures care { result.care ≡ (wakes.care
+            && (nat_le accounts.most_entries (length self.now.entries)
+            || waking.can_care self.now.id self.now.n (accounts.history_in self.now))) }
+        ensures claim { result.claim ≡ (wakes.claim
+            && (nat_le accounts.most_entries (length self.now.entries)
+            || next.can_claim (accounts.history_in self.now))) }
+    {
+        let is_full = self.is_full();
+        Prospects {
+            send: sends(self, wakes.send),
+            care: wakes.care && (is_full || self.can_care()),
+            claim: wakes.claim && (is_full || self.can_claim()),
+        }
+    }
+
     /// The trace, where the seats' receipts are those of its entries, each once: else K4, or K2
     /// where memory is wanted, and all is handed back. The space is ended. Linear in the entries
     /// and what they own, which it compares and doesn't copy.
@@ -248,6 +272,44 @@ impl Kept {
             entries: _entries,
         } = self;
         space.shut();
+    }
+}
+
+// Whether there may be something to transmit and there is something new, or the trace is full.
+fn sends(kept: &Kept, may: bool) -> bool
+    ensures { (result ≡ true) ↔ ((may ≡ true)
+        × ((nat_le accounts.most_entries (length kept.now.entries) ≡ true)
+        ⊎ waking.HasNew kept.now)) }
+{
+    if !may {
+        return false;
+    }
+    if kept.is_full() {
+        return true;
+    }
+    has_new(kept)
+}
+
+// Whether a Transmit to some space would give something that was never given.
+fn has_new(kept: &Kept) -> bool
+    ensures { (result ≡ true) ↔ waking.HasNew kept.now }
+{
+    for number in 1..=kept.n().get() {
+        if is_new_to(kept, number) {
+            return true;
+        }
+    }
+    false
+}
+
+// Whether a Transmit to the space of a number would give something that was never given.
+fn is_new_to(kept: &Kept, number: u16) -> bool
+    requires { IsSpace number }
+    ensures { result ≡ waking.is_new_to kept.now number }
+{
+    match SpaceId::new(number) {
+        Some(peer) => is_new(kept.due(peer)),
+        None => false,
     }
 }
 

@@ -13,11 +13,11 @@ mod seat;
 mod waking;
 
 pub use error::KeeperError;
-pub use held::{Chores, Dues, Look, Prospects, Wake};
+pub use held::{Chores, Dues, Look, Wake};
 pub use keeper::Keeper;
 pub use kept::Kept;
 pub use locking::lock_soon;
 pub use nob_space::{Due, Space};
 pub use receipt::Receipt;
 pub use seat::Seat;
-pub use waking::{Wakes, WorkKind, is_new, wakes_of};
+pub use waking::{Prospects, Wakes, WorkKind, is_new, wakes_of};

@@ -30,6 +30,18 @@ pub struct Wakes {
     pub reply: bool,
 }
 
+/// What an event made possible or left possible, read under the lock under which it happened.
+#[derive(Clone, Copy, Debug, PartialEq, Eq)]
+pub struct Prospects {
+    /// Whether there is something new to transmit, and the event may have made it so.
+    pub send: bool,
+    /// Whether there is something to settle, to clean or to withdraw, and the event may have made it
+    /// so.
+    pub care: bool,
+    /// Whether there is a job to claim, and the event may have made it so.
+    pub claim: bool,
+}
+
 /// What an answered event may have made possible. A refused one changed nothing.
 pub fn wakes_of(event: &Event, answer: &Answer) -> Wakes
     ensures { result ≡ waking.wakes_of event.now answer.now }

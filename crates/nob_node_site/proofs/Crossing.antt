@@ -85,7 +85,7 @@ module _ (B : RattleType) (g : Object.Ghosts B.Denot) (crossing : IsSend B) wher
   site_sync =
       let T = Site.the_type B g in
       recorded_sync (Struct (shape T)) T.D T.to T.to_one (struct_sync (shape T)
-      (keeper_field_sync, (search (outbox_field_send, crosses, sendable) depth 60 fits 20000, (search (crosses, sendable) depth 60 fits 20000, (search (desk_of_node_send, crosses, sendable) depth 60 fits 20000, (condvar_sync, (search (crosses, sendable) depth 60 fits 20000, (condvar_sync, (search (crosses, sendable) depth 60 fits 20000, (search (inbox_send, crosses, sendable) depth 60 fits 20000, (search (crosses, sendable) depth 60 fits 20000, (search (crosses, sendable) depth 60 fits 20000, (search (carer_field_send, crosses, sendable) depth 60 fits 20000, (search (crosses, sendable) depth 60 fits 20000, (search (crosses, sendable) depth 60 fits 20000, (search (crosses, sendable) depth 60 fits 20000, (search (crosses, sendable) depth 60 fits 20000, (search (crosses, sendable) depth 60 fits 20000, (search (crosses, sendable) depth 60 fits 20000, (search (crosses, sendable) depth 60 fits 20000, (search (crosses, sendable) depth 60 fits 20000, (search (crosses, sendable) depth 60 fits 20000, (search (crosses, sendable) depth 60 fits 20000, tt)))))))))))))))))))))))
+      (keeper_field_sync, (search (outbox_field_send, crosses, sendable) depth 60 fits 20000, (search (crosses, sendable) depth 60 fits 20000, (search (desk_of_node_send, crosses, sendable) depth 60 fits 20000, (condvar_sync, (search (crosses, sendable) depth 60 fits 20000, (search (crosses, sendable) depth 60 fits 20000, (condvar_sync, (search (crosses, sendable) depth 60 fits 20000, (search (inbox_send, crosses, sendable) depth 60 fits 20000, (search (crosses, sendable) depth 60 fits 20000, (search (crosses, sendable) depth 60 fits 20000, (search (carer_field_send, crosses, sendable) depth 60 fits 20000, (search (crosses, sendable) depth 60 fits 20000, (search (crosses, sendable) depth 60 fits 20000, (search (crosses, sendable) depth 60 fits 20000, (search (crosses, sendable) depth 60 fits 20000, (search (crosses, sendable) depth 60 fits 20000, (search (crosses, sendable) depth 60 fits 20000, (search (crosses, sendable) depth 60 fits 20000, (search (crosses, sendable) depth 60 fits 20000, (search (crosses, sendable) depth 60 fits 20000, (search (crosses, sendable) depth 60 fits 20000, tt))))))))))))))))))))))))
 
   pub crew_send : IsSend (Crew.the_row B g)
   crew_send =

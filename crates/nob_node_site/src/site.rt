@@ -82,6 +82,9 @@ pub struct Site<B: Object> {
     desk: Mutex<Option<Desk<Kept<B>>>>,
     // Who waits for an object to come back, or to be withdrawn, waits here.
     returned: Condvar,
+    // How many wait for an object to come back. While nobody does, what has come over the lane is put
+    // down when the next job is claimed.
+    awaited: AtomicU64,
     // Whether all threads are made, once that is known.
     started: Mutex<Option<bool>>,
     starts: Condvar,
@@ -131,6 +134,7 @@ impl<B: Object> Site<B> {
             outbox_is_late: AtomicBool::new(false),
             desk: Mutex::new(Some(desk)),
             returned: Condvar::new(),
+            awaited: AtomicU64::new(0),
             started: Mutex::new(None),
             starts: Condvar::new(),
             serving: AtomicU64::new(0),
@@ -166,6 +170,7 @@ impl<B: Object> Site<B> {
             outbox_is_late: _,
             desk,
             returned: _,
+            awaited: _,
             started: _,
             starts: _,
             serving: _,
@@ -446,12 +451,14 @@ impl<B: Object> Site<B> {
     /// nothing more is given to the workers.
     pub fn end_jobs<R: Wait>(&self, rt: &R) -> Option<Desk<Kept<B>>> {
         self.stop_claiming(rt);
+        self.awaited.fetch_add(1, Ordering::SeqCst);
         self.assign(rt);
         let mut held = self
             .returned
             .wait_while(rt, self.desk.lock(rt), |held| self.awaits(held));
         let desk = held.take();
         drop(held);
+        self.awaited.fetch_sub(1, Ordering::SeqCst);
         self.idlers.end();
         desk
     }
@@ -496,6 +503,15 @@ impl<B: Object> Site<B> {
 
     /// The node's agent, once it doesn't run.
     pub fn borrow_agent<R: Wait>(&self, rt: &R) -> Option<Kept<B>> {
+        self.awaited.fetch_add(1, Ordering::SeqCst);
+        self.assign(rt);
+        let agent = self.wait_agent(rt);
+        self.awaited.fetch_sub(1, Ordering::SeqCst);
+        agent
+    }
+
+    // Waits for the node's agent, and takes it out.
+    fn wait_agent<R: Wait>(&self, rt: &R) -> Option<Kept<B>> {
         let mut held = self
             .returned
             .wait_while(rt, self.desk.lock(rt), |held| is_agent_away(held));
@@ -515,10 +531,11 @@ impl<B: Object> Site<B> {
         self.assign(rt);
     }
 
-    /// Lets go of an object that was withdrawn.
+    /// Lets go of an object that was withdrawn, which may still be on its way back.
     pub fn remove<R: Wait>(&self, rt: &R, index: u64) {
         let mut held = self.desk.lock(rt);
         if let Some(desk) = &mut *held {
+            self.assign_all(rt, desk);
             let _ = desk.remove(index);
         }
         drop(held);
@@ -567,9 +584,14 @@ impl<B: Object> Site<B> {
         }
         self.attend(
             rt,
-            prospects.claim || may_assign || is_finish(&receipt.event),
+            prospects.claim || may_assign || self.is_back_for_some(&receipt.event),
             prospects.care || may_care,
         );
+    }
+
+    // Whether an event ended a job, whose object came back before, and somebody waits for objects.
+    fn is_back_for_some(&self, event: &Event) -> bool {
+        is_finish(event) && self.awaited.load(Ordering::SeqCst) > 0
     }
 
     // Counts the items that may be replies: for who looks for one.
