@@ -15,7 +15,8 @@ use Rattle.nob_model_invariant.specs.Safe.{IsSafe}
 use Rattle.nob_model_traces.specs.declared.fault.CheckError.{CheckError}
 use Rattle.nob_model_traces.specs.declared.fault.CheckError.TheVariants as check_errors
 use Rattle.nob_model_traces.specs.Faults.{IsChecked, AreAccepted}
-use Rattle.nob_demo_check.specs.Checks.{Checks, Spells, merged_line, fault_line, last_line}
+use Rattle.nob_model_traces.specs.Traces.{Spells}
+use Rattle.nob_demo_check.specs.Checks.{Checks, merged_line, fault_line, last_line}
 use Rattle.nob_demo_check.specs.declared.ending.Ending.{Ending}
 use Rattle.nob_demo_check.specs.declared.ending.Ending.TheVariants.{Accepted, Refused}
 

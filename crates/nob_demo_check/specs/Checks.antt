@@ -1,20 +1,19 @@
 -- What `nobj check` writes for an input, and how it ends.
 use Rattle.std.specs.Prelude.{◌≡◌, ℕ, List, ◌++◌, length, reverse, codes}
 use Rattle.std.specs.Fmt.{decimal}
-use Rattle.std.specs.List.{AllByRecursion, flat_map}
 use Rattle.nob_model_types.specs.declared.entry.Entry.{Entry}
 use Rattle.nob_model_journal.specs.declared.verdict.Verdict.TheVariants.{Yes}
 use Rattle.nob_script_text.specs.Verdicts.{verdict_line}
 use Rattle.nob_trace.specs.declared.trace.Trace.{Trace}
 use Rattle.nob_trace.specs.declared.fault.TraceFault.{TraceFault}
 use Rattle.nob_trace.specs.declared.fault.TraceError.TheVariants as trace_errors
-use Rattle.nob_trace.specs.Traces.{trace_text, IsTrace}
 use Rattle.nob_trace.specs.Reading.{TracesProblem}
 use Rattle.nob_trace.specs.Faults.{refusal_line}
 use Rattle.nob_model_traces.specs.declared.fault.CheckFault.{CheckFault}
 use Rattle.nob_model_traces.specs.declared.fault.CheckFault.TheVariants as faults
 use Rattle.nob_model_invariant.specs.Safe.{IsSafe}
 use Rattle.nob_model_traces.specs.Faults.{IsFault, AreAccepted}
+use Rattle.nob_model_traces.specs.Traces.{Spells}
 use Rattle.nob_demo_check.specs.declared.ending.Ending.{Ending}
 use Rattle.nob_demo_check.specs.declared.ending.Ending.TheVariants.{Accepted, Refused, OutOfMemory}
 
@@ -38,10 +37,6 @@ abbrev pub last_line : Ending → List ℕ
 last_line Accepted = verdict_line Yes
 last_line Refused = codes ""
 last_line OutOfMemory = codes "memory\n"
-
--- an input is these traces, one after the other
-abbrev pub Spells : List ℕ → List Trace → Type 0
-Spells input traces = AllByRecursion IsTrace traces × (input ≡ flat_map trace_text traces)
 
 -- what is written for an input, and how the check of it ends
 pub data Checks (input text : List ℕ) (ending : Ending) : Type 0 where

@@ -1,6 +1,7 @@
 //! Whole inputs.
 
 ghost use Rattle.std.specs.Prelude.{◌≡◌, ◌++◌, [], ℕ, List, IfOk};
+ghost use Rattle.nob_model_traces.specs.Traces.{Spells};
 ghost use Rattle.nob_demo_check.specs.Checks as spec;
 
 use crate::ending::Ending;
@@ -43,7 +44,7 @@ fn line_of(alloc: Global, input: &[u8]) -> Result<(Vec<u8>, Ending), AllocError>
 
 // The line that is said of traces, and how the check ends.
 fn line_of_traces(alloc: Global, traces: &[Trace]) -> Result<(Vec<u8>, Ending), AllocError>
-    ensures { (input : List ℕ) → spec.Spells input traces.now → IfOk result (λ said.
+    ensures { (input : List ℕ) → Spells input traces.now → IfOk result (λ said.
         spec.Checks input (said.0.items ++ spec.last_line said.1) said.1) }
 {
     match check(alloc, traces) {

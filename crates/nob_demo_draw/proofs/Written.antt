@@ -21,7 +21,8 @@ use Rattle.nob_drawing.specs.declared.page.Page.{Page}
 use Rattle.nob_drawing.specs.Layout.{drawing, width_of, height_of}
 use Rattle.nob_drawing.specs.declared.shape.Shape.{Shape}
 use Rattle.nob_drawing.specs.Writing.{svg_text}
-use Rattle.nob_demo_draw.specs.Draws.{Draws, page_of, Spells, is_of_entry, spaces_of, svg_of, fault_row, last_line}
+use Rattle.nob_model_traces.specs.Traces.{Spells}
+use Rattle.nob_demo_draw.specs.Draws.{Draws, page_of, is_of_entry, spaces_of, svg_of, fault_row, last_line}
 use Rattle.nob_demo_draw.specs.declared.ending.Ending.{Ending}
 use Rattle.nob_demo_draw.specs.declared.ending.Ending.TheVariants.{Drawn, Refused}
 use Rattle.nob_demo_draw.specs.declared.playing.Part.{Part}

@@ -1,18 +1,17 @@
 -- What `nobj draw` writes for an input, and how it ends.
 use Rattle.std.specs.Prelude.{◌≡◌, ℕ, ◌+◌, Bool, true, false, ◌&&◌, ◌==◌, List, [], ◌∷◌, length, reverse, min, max, codes, Option, Some, None, if◌then◌else◌}
-use Rattle.std.specs.List.{AllByRecursion, flat_map}
 use Rattle.nob_model_types.specs.declared.entry.Entry.{Entry}
 use Rattle.nob_model_journal.specs.Journals.{at}
 use Rattle.nob_trace.specs.declared.trace.Trace.{Trace}
 use Rattle.nob_trace.specs.declared.fault.TraceFault.{TraceFault}
 use Rattle.nob_trace.specs.declared.fault.TraceError.TheVariants as trace_errors
-use Rattle.nob_trace.specs.Traces.{trace_text, IsTrace}
 use Rattle.nob_trace.specs.Reading.{TracesProblem}
 use Rattle.nob_trace.specs.Faults.{refusal_line}
 use Rattle.nob_model_traces.specs.Merged.{IsMerged}
 use Rattle.nob_model_traces.specs.declared.fault.CheckFault.{CheckFault}
 use Rattle.nob_model_traces.specs.declared.fault.CheckFault.TheVariants as faults
 use Rattle.nob_model_traces.specs.Faults.{IsFault, AreAccepted}
+use Rattle.nob_model_traces.specs.Traces.{Spells}
 use Rattle.nob_drawing_plan.specs.Laws.{HaveArrows}
 use Rattle.nob_drawing.specs.declared.page.Page.{Page}
 use Rattle.nob_drawing.specs.Layout.{drawing, width_of, height_of}
@@ -62,10 +61,6 @@ page_of n part fault J = record { n = n; from = max part.from 1; to = min part.t
 -- the drawing of a journal
 unfoldable pub svg_of : ℕ → Part → Option ℕ → List Entry → List ℕ
 svg_of n part fault J = svg_text (width_of (page_of n part fault J)) (height_of (page_of n part fault J)) (drawing (page_of n part fault J) J)
-
--- an input is these traces, one after the other
-abbrev pub Spells : List ℕ → List Trace → Type 0
-Spells input traces = AllByRecursion IsTrace traces × (input ≡ flat_map trace_text traces)
 
 -- what is written for an input, and how it ends
 pub data Draws (input : List ℕ) (part : Part) (text : List ℕ) (ending : Ending) : Type 0 where

@@ -2,6 +2,7 @@
 
 ghost use Rattle.std.specs.Prelude.{◌≡◌, ◌++◌, [], ℕ, List, IfOk};
 ghost use Rattle.nob_model_traces.specs.Faults.{IsFault};
+ghost use Rattle.nob_model_traces.specs.Traces.{Spells};
 ghost use Rattle.nob_demo_draw.specs.Draws as spec;
 
 use crate::drawn::{drawn, drawn_wrong};
@@ -60,7 +61,7 @@ fn bytes_of_traces(
     traces: &[Trace],
     part: Part,
 ) -> Result<(Vec<u8>, Ending), AllocError>
-    ensures { (input : List ℕ) → spec.Spells input traces.now → IfOk result (λ said.
+    ensures { (input : List ℕ) → Spells input traces.now → IfOk result (λ said.
         spec.Draws input part (said.0.items ++ spec.last_line said.1) said.1) }
 {
     match check(alloc, traces) {
@@ -81,7 +82,7 @@ fn bytes_of_wrong(
     fault: CheckFault,
 ) -> Result<(Vec<u8>, Ending), AllocError>
     requires { IsFault traces.now fault }
-    ensures { (input : List ℕ) → spec.Spells input traces.now → IfOk result (λ said.
+    ensures { (input : List ℕ) → Spells input traces.now → IfOk result (λ said.
         spec.Draws input part (said.0.items ++ spec.last_line said.1) said.1) }
 {
     if !is_of_entry(fault) {

@@ -1,13 +1,18 @@
 -- What each trace tells of its space, and which traces belong together. A trace stands oldest first, a journal newest FIRST.
 use Rattle.std.specs.Prelude.{◌≡◌, ℕ, ◌+◌, Bool, ◌&&◌, ◌==◌, nat_le, List, ◌∷◌, ◌++◌, length, map, reverse}
-use Rattle.std.specs.List.{list_all}
+use Rattle.std.specs.List.{list_all, AllByRecursion, flat_map}
 use Rattle.nob_ids.specs.declared.limits.Limits.{Limits}
 use Rattle.nob_model_types.specs.declared.entry.Entry.{Entry}
 use Rattle.nob_model.specs.Right.{IsRight}
 use Rattle.nob_model_journal.specs.Journals.{Each}
 use Rattle.nob_trace.specs.declared.stamped.Stamped.{Stamped}
 use Rattle.nob_trace.specs.declared.trace.Trace.{Trace}
+use Rattle.nob_trace.specs.Traces.{trace_text, IsTrace}
 use Rattle.nob_model_traces.specs.Apart.{entry_at, are_apart}
+
+-- an input is these traces, one after the other
+abbrev pub Spells : List ℕ → List Trace → Type 0
+Spells input traces = AllByRecursion IsTrace traces × (input ≡ flat_map trace_text traces)
 
 -- entries of a trace of space s as a journal
 abbrev pub journal_at : ℕ → List Stamped → List Entry
