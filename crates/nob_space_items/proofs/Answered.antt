@@ -200,21 +200,21 @@ module _ {s n p k : ℕ} {limits : Limits} {st : State} {D : List Deed} (stands 
       ∙ ap (λ b. not (closed c D) && (if p == c then (if index == i then b else is_entered s i c D) else is_entered s i c D)) (sym gone)
       ∙ sym (listed_is s n p k (items.Dirty index) D there i c)
 
-module _ {s n p k : ℕ} {limits : Limits} {st : State} {D : List Deed} (stands : Stands s n limits st D) (place : ℕ) (at : place ≡ p) (old new : Roomy) (is : old ≡ get_or st.sessions (place - 1) old) where
+module _ {s n p k : ℕ} {limits : Limits} {st : State} {D : List Deed} (stands : Stands s n limits st D) (place : ℕ) (at : place ≡ p - 1) (old new : Roomy) (is : old ≡ get_or st.sessions place old) where
   -- after a Dirty
   pub dirty_stands : (index : ℕ) → IsFront s n p k (items.Dirty index) D → send_refusal p Note st ≡ None → (live : Bool) → live ≡ objects.is_live s index D → (dirty : List Listing) → EntersIf live st.dirty dirty index p → (t : Table) → Unchanged st.table t → SetsKept st.table t (own_ref s index) live
       → ((me peer : ℕ) (limits : Limits) (L : List EndEntry) → session.Stands me peer limits old.end L → session.Stands me peer limits new.end (ends.Take ∷ ends.Send (payload_of (dirty_answer live index)) Note (Ok (old.end.handed + 1)) ∷ L))
-      → Stands s n limits (record { sessions = set st.sessions (place - 1) new; table = t; dirty = dirty; pins = st.pins; work = st.work; awaited = st.awaited; calls = st.calls; jobs = st.jobs }) (Act p k ∷ D)
+      → Stands s n limits (record { sessions = set st.sessions place new; table = t; dirty = dirty; pins = st.pins; work = st.work; awaited = st.awaited; calls = st.calls; jobs = st.jobs }) (Act p k ∷ D)
   dirty_stands index front free live live_is dirty enters t same keeps answer =
       let there : item_at p k D ≡ Some (items.Dirty index) = front_is front limits stands.right in
-      let seen : old ≡ get_or st.sessions (p - 1) old = subst (λ q. old ≡ get_or st.sessions (q - 1) old) at is in
+      let seen : old ≡ get_or st.sessions (p - 1) old = subst (λ q. old ≡ get_or st.sessions q old) at is in
       let end = end_there s n limits st.sessions (history_of s n D) p old stands.ends front.peer seen in
       let count : old.end.handed ≡ length (handed (calls_at p (history_of s n D))) = ap (λ (e : End). e.handed) end.2 in
       let after : session.Stands s p limits new.end (calls_at p (history_of s n (Act p k ∷ D))) =
       subst (λ calls. session.Stands s p limits new.end calls) (sym (calls_here front there))
       (subst (λ m. session.Stands s p limits new.end (ends.Take ∷ ends.Send (payload_of (dirty_answer (objects.is_live s index D) index)) Note (Ok (m + 1)) ∷ calls_at p (history_of s n D))) count
       (subst (λ b. session.Stands s p limits new.end (ends.Take ∷ ends.Send (payload_of (dirty_answer b index)) Note (Ok (old.end.handed + 1)) ∷ calls_at p (history_of s n D))) live_is (answer s p limits (calls_at p (history_of s n D)) end.2))) in
-      subst (λ q. Stands s n limits (record { sessions = set st.sessions (q - 1) new; table = t; dirty = dirty; pins = st.pins; work = st.work; awaited = st.awaited; calls = st.calls; jobs = st.jobs }) (Act p k ∷ D)) (sym at)
+      subst (λ q. Stands s n limits (record { sessions = set st.sessions q new; table = t; dirty = dirty; pins = st.pins; work = st.work; awaited = st.awaited; calls = st.calls; jobs = st.jobs }) (Act p k ∷ D)) (sym at)
       (note_stands s n p k (items.Dirty index) D there refl (λ rep. ap (λ found. turns_after s n p rep found D (turns s n rep D)) there)
       (set st.sessions (p - 1) new) dirty st.pins t stands same (entered_have s st.table t st.pins.bundles st.dirty dirty index p live keeps enters (users_there stands st.table stands.table.kept))
       (ends_changed s n limits st.sessions (history_of s n D) (history_of s n (Act p k ∷ D)) p new stands.ends end.0 after (λ q other. sym (calls_elsewhere front there q (nat_eq_equiv.symm p q ∙ other))))
@@ -222,14 +222,14 @@ module _ {s n p k : ℕ} {limits : Limits} {st : State} {D : List Deed} (stands 
       (λ f. stands.pins f ∙ ap (λ sent_items. sum_by f (map bundle sent_items)) (sym (bundles_answered front there)))
       (act_is front limits (dirty_refusal stands index front ∙ free)))
 
-module _ {s n p : ℕ} {limits : Limits} {st : State} {D : List Deed} (stands : Stands s n limits st D) (place : ℕ) (at : place ≡ p) (old new : Roomy) (is : old ≡ get_or st.sessions (place - 1) old) where
+module _ {s n : ℕ} {limits : Limits} {st : State} {D : List Deed} (stands : Stands s n limits st D) (p place : ℕ) (at : place ≡ p - 1) (old new : Roomy) (is : old ≡ get_or st.sessions place old) where
   -- where memory is wanted nothing is changed
   pub dirty_kept : is_peer s n p ≡ true → (dirty : List Listing) → ((i c : ℕ) → lists dirty i c ≡ lists st.dirty i c) → new.end ≡ old.end
-      → Stands s n limits (record { sessions = set st.sessions (place - 1) new; table = st.table; dirty = dirty; pins = st.pins; work = st.work; awaited = st.awaited; calls = st.calls; jobs = st.jobs }) D
+      → Stands s n limits (record { sessions = set st.sessions place new; table = st.table; dirty = dirty; pins = st.pins; work = st.work; awaited = st.awaited; calls = st.calls; jobs = st.jobs }) D
   dirty_kept peer dirty same end_same =
-      let seen : old ≡ get_or st.sessions (p - 1) old = subst (λ q. old ≡ get_or st.sessions (q - 1) old) at is in
+      let seen : old ≡ get_or st.sessions (p - 1) old = subst (λ q. old ≡ get_or st.sessions q old) at is in
       let end = end_there s n limits st.sessions (history_of s n D) p old stands.ends peer seen in
-      subst (λ q. Stands s n limits (record { sessions = set st.sessions (q - 1) new; table = st.table; dirty = dirty; pins = st.pins; work = st.work; awaited = st.awaited; calls = st.calls; jobs = st.jobs }) D) (sym at)
+      subst (λ q. Stands s n limits (record { sessions = set st.sessions q new; table = st.table; dirty = dirty; pins = st.pins; work = st.work; awaited = st.awaited; calls = st.calls; jobs = st.jobs }) D) (sym at)
       record {
         ends = ends_kept s n limits st.sessions (history_of s n D) p old new stands.ends end.0 end.1 end_same;
         table = stands.table;

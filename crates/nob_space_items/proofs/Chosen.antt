@@ -66,14 +66,14 @@ module _ {s n : ℕ} {limits : Limits} {st : State} {D : List Deed} (stands : St
   pub act_of_closed : has_closed st.sessions p ≡ true → right_act s n p (history_of s n D) ≡ Err refusals.Closed
   act_of_closed cut = act_cut s n p (history_of s n D) peer (sym (closed_there stands p) ∙ cut)
 
-  module _ (still : has_closed st.sessions p ≡ false) (place : ℕ) (at : place ≡ p) (end : Roomy) (is : end ≡ get_or st.sessions (place - 1) end) (front : Option (ℕ × List ℕ))
+  module _ (still : has_closed st.sessions p ≡ false) (place : ℕ) (at : place ≡ p - 1) (end : Roomy) (is : end ≡ get_or st.sessions place end) (front : Option (ℕ × List ℕ))
       (tells : (me other : ℕ) (limits : Limits) (L : List EndEntry) → session.Stands me other limits end.end L → front ≡ right_front L) where
     open_here : closed p D ≡ false
     open_here = sym (closed_there stands p) ∙ still
 
     -- the front of the inbox
     pub front_there : right_front (calls_at p (history_of s n D)) ≡ front
-    front_there = sym (tells s p limits (calls_at p (history_of s n D)) (end_there s n limits st.sessions (history_of s n D) p end stands.ends peer (subst (λ q. end ≡ get_or st.sessions (q - 1) end) at is)).2)
+    front_there = sym (tells s p limits (calls_at p (history_of s n D)) (end_there s n limits st.sessions (history_of s n D) p end stands.ends peer (subst (λ q. end ≡ get_or st.sessions q end) at is)).2)
 
     -- the inbox is empty
     pub act_of_none : front ≡ None → right_act s n p (history_of s n D) ≡ Err refusals.Nothing

@@ -83,19 +83,19 @@ unlisted true false shut entered = refl
 unlisted false true shut entered = refl
 unlisted false false shut entered = refl
 
-module _ {s n p k : ℕ} {limits : Limits} {st : State} {D : List Deed} (stands : Stands s n limits st D) (place : ℕ) (at : place ≡ p) (old new : Roomy) (is : old ≡ get_or st.sessions (place - 1) old)
+module _ {s n p k : ℕ} {limits : Limits} {st : State} {D : List Deed} (stands : Stands s n limits st D) (place : ℕ) (at : place ≡ p - 1) (old new : Roomy) (is : old ≡ get_or st.sessions place old)
     (take : (me peer : ℕ) (limits : Limits) (L : List EndEntry) → session.Stands me peer limits old.end L → session.Stands me peer limits new.end (ends.Take ∷ L)) where
   -- after a Clean
   pub clean_stands : (index : ℕ) → IsFront s n p k (items.Clean index) D → (dirty : List Listing) → Leaves st.dirty dirty index p → (t : Table) → Unchanged st.table t → (HaveUsers s st.table st.pins.bundles st.dirty → HaveUsers s t st.pins.bundles dirty)
-      → Stands s n limits (record { sessions = set st.sessions (place - 1) new; table = t; dirty = dirty; pins = st.pins; work = st.work; awaited = st.awaited; calls = st.calls; jobs = st.jobs }) (Act p k ∷ D)
+      → Stands s n limits (record { sessions = set st.sessions place new; table = t; dirty = dirty; pins = st.pins; work = st.work; awaited = st.awaited; calls = st.calls; jobs = st.jobs }) (Act p k ∷ D)
   unfolding gifts_of_act act_refusal
   clean_stands index front dirty leaves t same have =
       let there : item_at p k D ≡ Some (items.Clean index) = front_is front limits stands.right in
       let none = gives_none s n p k (items.Clean index) D there refl in
-      subst (λ q. Stands s n limits (record { sessions = set st.sessions (q - 1) new; table = t; dirty = dirty; pins = st.pins; work = st.work; awaited = st.awaited; calls = st.calls; jobs = st.jobs }) (Act p k ∷ D)) (sym at)
+      subst (λ q. Stands s n limits (record { sessions = set st.sessions q new; table = t; dirty = dirty; pins = st.pins; work = st.work; awaited = st.awaited; calls = st.calls; jobs = st.jobs }) (Act p k ∷ D)) (sym at)
       (note_stands s n p k (items.Clean index) D there refl (λ rep. ap (λ found. turns_after s n p rep found D (turns s n rep D)) there)
       (set st.sessions (p - 1) new) dirty st.pins t stands same (have (users_there stands st.table stands.table.kept))
-      (ends_taken s n p k D limits st.sessions old new none stands.ends front.peer (subst (λ q. old ≡ get_or st.sessions (q - 1) old) at is) (λ before. take s p limits (calls_at p (history_of s n D)) before))
+      (ends_taken s n p k D limits st.sessions old new none stands.ends front.peer (subst (λ q. old ≡ get_or st.sessions q old) at is) (λ before. take s p limits (calls_at p (history_of s n D)) before))
       (λ i c. leaves i c ∙ ap (λ b. not (index == i && p == c) && b) (stands.listed i c) ∙ unlisted (index == i) (p == c) (closed c D) (is_entered s i c D) ∙ sym (listed_is s n p k (items.Clean index) D there i c))
       (λ f. stands.pins f ∙ ap (λ sent_items. sum_by f (map bundle sent_items)) (sym (bundles_stay s n p k (items.Clean index) D there (λ j. refl) none)))
       (act_is front limits refl))
@@ -144,20 +144,20 @@ pub settle_known : {s n p k : ℕ} {limits : Limits} {st : State} {D : List Deed
 unfolding fault_of
 settle_known {s} {n} {p} {k} {limits} {st} {D} stands number front = bundle_there stands p number ∙ not_false (transit.has_bundle p number (history_of s n D)) (fault_none _ OutOfPlace front.sound)
 
-module _ {s n p k : ℕ} {limits : Limits} {st : State} {D : List Deed} (stands : Stands s n limits st D) (place : ℕ) (at : place ≡ p) (old new : Roomy) (is : old ≡ get_or st.sessions (place - 1) old)
+module _ {s n p k : ℕ} {limits : Limits} {st : State} {D : List Deed} (stands : Stands s n limits st D) (place : ℕ) (at : place ≡ p - 1) (old new : Roomy) (is : old ≡ get_or st.sessions place old)
     (take : (me peer : ℕ) (limits : Limits) (L : List EndEntry) → session.Stands me peer limits old.end L → session.Stands me peer limits new.end (ends.Take ∷ L)) where
   -- after a Settle
   pub settle_stands : (number : ℕ) → IsFront s n p k (items.Settle number) D → (table_of_pins : pins.Table) → TakesOut st.pins.bundles table_of_pins.bundles p number → (t : Table) → Unchanged st.table t → (HaveUsers s st.table st.pins.bundles st.dirty → HaveUsers s t table_of_pins.bundles st.dirty)
-      → Stands s n limits (record { sessions = set st.sessions (place - 1) new; table = t; dirty = st.dirty; pins = table_of_pins; work = st.work; awaited = st.awaited; calls = st.calls; jobs = st.jobs }) (Act p k ∷ D)
+      → Stands s n limits (record { sessions = set st.sessions place new; table = t; dirty = st.dirty; pins = table_of_pins; work = st.work; awaited = st.awaited; calls = st.calls; jobs = st.jobs }) (Act p k ∷ D)
   unfolding gifts_of_act act_refusal
   settle_stands number front table_of_pins takes_out t same have =
       let there : item_at p k D ≡ Some (items.Settle number) = front_is front limits stands.right in
       let none = gives_none s n p k (items.Settle number) D there refl in
       let listed : (b : Bool) (client index : ℕ) → is_entered s index client D ≡ (if b then is_entered s index client D else is_entered s index client D) = λ b client index. elim b as (λ b. is_entered s index client D ≡ (if b then is_entered s index client D else is_entered s index client D)) [ true ↦ refl | false ↦ refl ] in
-      subst (λ q. Stands s n limits (record { sessions = set st.sessions (q - 1) new; table = t; dirty = st.dirty; pins = table_of_pins; work = st.work; awaited = st.awaited; calls = st.calls; jobs = st.jobs }) (Act p k ∷ D)) (sym at)
+      subst (λ q. Stands s n limits (record { sessions = set st.sessions q new; table = t; dirty = st.dirty; pins = table_of_pins; work = st.work; awaited = st.awaited; calls = st.calls; jobs = st.jobs }) (Act p k ∷ D)) (sym at)
       (note_stands s n p k (items.Settle number) D there refl (λ rep. ap (λ found. turns_after s n p rep found D (turns s n rep D)) there)
       (set st.sessions (p - 1) new) st.dirty table_of_pins t stands same (have (users_there stands st.table stands.table.kept))
-      (ends_taken s n p k D limits st.sessions old new none stands.ends front.peer (subst (λ q. old ≡ get_or st.sessions (q - 1) old) at is) (λ before. take s p limits (calls_at p (history_of s n D)) before))
+      (ends_taken s n p k D limits st.sessions old new none stands.ends front.peer (subst (λ q. old ≡ get_or st.sessions q old) at is) (λ before. take s p limits (calls_at p (history_of s n D)) before))
       (λ i c. stands.listed i c ∙ ap (λ b. not (closed c D) && b) (listed (p == c) c i) ∙ sym (listed_is s n p k (items.Settle number) D there i c))
       (λ f. sym (sum_left p number f st.pins.bundles table_of_pins.bundles takes_out) ∙ stands.pins (without p number f) ∙ sum_others p number f (transit.bundles (history_of s n D)) ∙ ap (λ sent_items. sum_by f (map bundle sent_items)) (sym (bundles_settled s n p k number D there)))
       (act_is front limits refl))

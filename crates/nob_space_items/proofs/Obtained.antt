@@ -113,13 +113,13 @@ module _ {s n p k : ℕ} {limits : Limits} {st : State} {D : List Deed} (stands 
         ∙ sym (granted_lends s (own_ref p index) rep st.work)) i)
         (lends.shows s n (history_of s n (Act p k ∷ D)) (λ rep. hand rep D) (λ rep. times rep (lent_in s (work s n D))) (answered_shows stands true index front u leaves becomes))
 
-module _ {s n p k : ℕ} {limits : Limits} {st : State} {D : List Deed} (stands : Stands s n limits st D) (place : ℕ) (at : place ≡ p) (old new : Roomy) (is : old ≡ get_or st.sessions (place - 1) old)
+module _ {s n p k : ℕ} {limits : Limits} {st : State} {D : List Deed} (stands : Stands s n limits st D) (place : ℕ) (at : place ≡ p - 1) (old new : Roomy) (is : old ≡ get_or st.sessions place old)
     (take : (me peer : ℕ) (limits : Limits) (L : List EndEntry) → session.Stands me peer limits old.end L → session.Stands me peer limits new.end (ends.Take ∷ L)) where
   -- after a DirtyOk
   pub granted_stands : (index : ℕ) → IsFront s n p k (items.DirtyOk index) D → (u v : Table) → ChangeLeaves st.table u → Becomes st.table u (own_ref p index) (in_state states.Granted (standing st.table (own_ref p index)))
       → (count : ℕ) → count ≡ due_to_all (own_ref p index) st.work.waiting → Lends u v (replicate count (own_ref p index)) → (waiting : List Message) → waiting ≡ map (granted_message (own_ref p index)) st.work.waiting
       → (awaits : List WireRep) → ((other : WireRep) → is_awaited awaits other ≡ (not (is_same (own_ref p index) other) && is_awaited st.awaited other))
-      → Stands s n limits (record { sessions = set st.sessions (place - 1) new; table = v; dirty = st.dirty; pins = st.pins; work = record { waiting = waiting; ready = st.work.ready; running = st.work.running; replies = st.work.replies; calls = st.work.calls }; awaited = awaits; calls = st.calls; jobs = st.jobs }) (Act p k ∷ D)
+      → Stands s n limits (record { sessions = set st.sessions place new; table = v; dirty = st.dirty; pins = st.pins; work = record { waiting = waiting; ready = st.work.ready; running = st.work.running; replies = st.work.replies; calls = st.work.calls }; awaited = awaits; calls = st.calls; jobs = st.jobs }) (Act p k ∷ D)
   granted_stands index front u v leaves becomes count due lends waiting made awaits ends =
       let there : item_at p k D ≡ Some (items.DirtyOk index) = front_is front limits stands.right in
       let W : InHand = record { waiting = waiting; ready = st.work.ready; running = st.work.running; replies = st.work.replies; calls = st.work.calls } in

@@ -181,12 +181,12 @@ module _ {s n p k : ℕ} {limits : Limits} {st : State} {D : List Deed} (stands 
       same_self : (rep : WireRep) → is_same rep rep ≡ true
       same_self rep = rw (nat_eq_equiv.refl rep.owner) (nat_eq_equiv.refl rep.index)
 
-module _ {s n p k : ℕ} {limits : Limits} {st : State} {D : List Deed} (stands : Stands s n limits st D) (place : ℕ) (at : place ≡ p) (old new : Roomy) (is : old ≡ get_or st.sessions (place - 1) old)
+module _ {s n p k : ℕ} {limits : Limits} {st : State} {D : List Deed} (stands : Stands s n limits st D) (place : ℕ) (at : place ≡ p - 1) (old new : Roomy) (is : old ≡ get_or st.sessions place old)
     (take : (me peer : ℕ) (limits : Limits) (L : List EndEntry) → session.Stands me peer limits old.end L → session.Stands me peer limits new.end (ends.Take ∷ L)) where
   -- the state with the answer, once its loans are made
   pub answer_stands : (granted : Bool) (index : ℕ) → IsFront s n p k (answer_note granted index) D → (t : Table) (W : InHand) (awaits : List WireRep)
       → AreAwaited s n awaits W.waiting (Act p k ∷ D) → TableShows s n t (history_of s n (Act p k ∷ D)) (λ rep. hand rep D) (λ rep. times rep (lent_in s W)) → W ≡ with_loans s n (Act p k ∷ D) (work s n D)
-      → Stands s n limits (record { sessions = set st.sessions (place - 1) new; table = t; dirty = st.dirty; pins = st.pins; work = W; awaited = awaits; calls = st.calls; jobs = st.jobs }) (Act p k ∷ D)
+      → Stands s n limits (record { sessions = set st.sessions place new; table = t; dirty = st.dirty; pins = st.pins; work = W; awaited = awaits; calls = st.calls; jobs = st.jobs }) (Act p k ∷ D)
   unfolding gifts_of_act act_refusal
   answer_stands granted index front t W awaits are shows loans =
       let there : item_at p k D ≡ Some (answer_note granted index) = front_is front limits stands.right in
@@ -195,9 +195,9 @@ module _ {s n p k : ℕ} {limits : Limits} {st : State} {D : List Deed} (stands 
       let settles : (j : ℕ) → transit.is_settle_of j (Some (answer_note granted index)) ≡ false = λ j. elim granted as (λ b. transit.is_settle_of j (Some (answer_note b index)) ≡ false) [ true ↦ refl | false ↦ refl ] in
       let free : act_refusal s n p (answer_note granted index) (history_of s n D) ≡ None = elim granted as (λ b. act_refusal s n p (answer_note b index) (history_of s n D) ≡ None) [ true ↦ refl | false ↦ refl ] in
       let in_hand : W ≡ work s n (Act p k ∷ D) = loans ∙ sym (note_loans s n p k (answer_note granted index) D there (note_is granted index)) in
-      subst (λ q. Stands s n limits (record { sessions = set st.sessions (q - 1) new; table = t; dirty = st.dirty; pins = st.pins; work = W; awaited = awaits; calls = st.calls; jobs = st.jobs }) (Act p k ∷ D)) (sym at)
+      subst (λ q. Stands s n limits (record { sessions = set st.sessions q new; table = t; dirty = st.dirty; pins = st.pins; work = W; awaited = awaits; calls = st.calls; jobs = st.jobs }) (Act p k ∷ D)) (sym at)
       record {
-        ends = ends_taken s n p k D limits st.sessions old new none stands.ends front.peer (subst (λ q. old ≡ get_or st.sessions (q - 1) old) at is) (λ before. take s p limits (calls_at p (history_of s n D)) before);
+        ends = ends_taken s n p k D limits st.sessions old new none stands.ends front.peer (subst (λ q. old ≡ get_or st.sessions q old) at is) (λ before. take s p limits (calls_at p (history_of s n D)) before);
         table = subst (λ V. TableShows s n t (history_of s n (Act p k ∷ D)) (λ rep. hand rep D) (λ rep. times rep (lent_in s V))) in_hand shows;
         listed = λ i c. stands.listed i c ∙ sym (answer_listed granted index front there i c);
         pins = λ f. stands.pins f ∙ ap (λ sent_items. sum_by f (map bundle sent_items)) (sym (bundles_stay s n p k (answer_note granted index) D there settles none));
@@ -241,12 +241,12 @@ module _ {s n p k : ℕ} {D : List Deed} (index : ℕ) (front : IsFront s n p k 
       ∙ ap is_refused (turned false index front there (own_ref p index) ∙ ap (λ b. if b then with_answer said.Refused (turns s n (own_ref p index) D) else turns s n (own_ref p index) D) (same_laws.refl (own_ref p index)))
       ∙ (after_answer said.Refused (turns s n (own_ref p index) D) (awaited false index front)).2
 
-module _ {s n p k : ℕ} {limits : Limits} {st : State} {D : List Deed} (stands : Stands s n limits st D) (place : ℕ) (at : place ≡ p) (old new : Roomy) (is : old ≡ get_or st.sessions (place - 1) old)
+module _ {s n p k : ℕ} {limits : Limits} {st : State} {D : List Deed} (stands : Stands s n limits st D) (place : ℕ) (at : place ≡ p - 1) (old new : Roomy) (is : old ≡ get_or st.sessions place old)
     (take : (me peer : ℕ) (limits : Limits) (L : List EndEntry) → session.Stands me peer limits old.end L → session.Stands me peer limits new.end (ends.Take ∷ L)) where
   -- after a DirtyNo
   pub refused_stands : (index : ℕ) → IsFront s n p k (items.DirtyNo index) D → (t : Table) → ChangeLeaves st.table t → Becomes st.table t (own_ref p index) (in_state states.Refused (standing st.table (own_ref p index)))
       → (waiting : List Message) → waiting ≡ st.work.waiting → (awaits : List WireRep) → ((other : WireRep) → is_awaited awaits other ≡ (not (is_same (own_ref p index) other) && is_awaited st.awaited other))
-      → Stands s n limits (record { sessions = set st.sessions (place - 1) new; table = t; dirty = st.dirty; pins = st.pins; work = record { waiting = waiting; ready = st.work.ready; running = st.work.running; replies = st.work.replies; calls = st.work.calls }; awaited = awaits; calls = st.calls; jobs = st.jobs }) (Act p k ∷ D)
+      → Stands s n limits (record { sessions = set st.sessions place new; table = t; dirty = st.dirty; pins = st.pins; work = record { waiting = waiting; ready = st.work.ready; running = st.work.running; replies = st.work.replies; calls = st.work.calls }; awaited = awaits; calls = st.calls; jobs = st.jobs }) (Act p k ∷ D)
   refused_stands index front t leaves becomes waiting same awaits ends =
       let there : item_at p k D ≡ Some (items.DirtyNo index) = front_is front limits stands.right in
       let W : InHand = record { waiting = waiting; ready = st.work.ready; running = st.work.running; replies = st.work.replies; calls = st.work.calls } in

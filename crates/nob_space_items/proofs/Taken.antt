@@ -191,5 +191,5 @@ module _ (s n p k : ℕ) (item : Item) (D : List Deed) (there : item_at p k D �
     }
 
 -- at the place of its sender's end it waits
-pub waits_there : {s n p k : ℕ} {item : Item} {limits : Limits} {st : State} {D : List Deed} → Stands s n limits st D → IsFront s n p k item D → (place : ℕ) → place ≡ p → (old : Roomy) → old ≡ get_or st.sessions (place - 1) old → 0 < length old.end.waiting
-waits_there {s} {n} {p} {k} {item} {limits} {st} {D} stands front place at old is = front_waits front limits old.end (end_there s n limits st.sessions (history_of s n D) p old stands.ends front.peer (subst (λ q. old ≡ get_or st.sessions (q - 1) old) at is)).2
+pub waits_there : {s n p k : ℕ} {item : Item} {limits : Limits} {st : State} {D : List Deed} → Stands s n limits st D → IsFront s n p k item D → (place : ℕ) → place ≡ p - 1 → (old : Roomy) → old ≡ get_or st.sessions place old → 0 < length old.end.waiting
+waits_there {s} {n} {p} {k} {item} {limits} {st} {D} stands front place at old is = front_waits front limits old.end (end_there s n limits st.sessions (history_of s n D) p old stands.ends front.peer (subst (λ q. old ≡ get_or st.sessions q old) at is)).2

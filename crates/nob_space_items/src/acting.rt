@@ -125,7 +125,7 @@ pub fn act(
     if parts.has_closed(peer) {
         return Err(SpaceError::Refused(Refusal::Closed));
     }
-    let Some(front) = parts.sessions[peer.get() as usize - 1].front() else {
+    let Some(front) = parts.sessions[peer.place()].front() else {
         return Err(SpaceError::Refused(Refusal::Nothing));
     };
     let (number, payload) = front;

@@ -14,7 +14,7 @@ use std::alloc::AllocError;
 pub(crate) fn place_of(rep: &WireRep) -> usize
     ensures { result ≡ rep.now.owner - 1 }
 {
-    rep.owner.get() as usize - 1
+    rep.owner.place()
 }
 
 // Makes room for so many items at the sessions with the owners of references.

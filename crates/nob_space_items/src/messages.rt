@@ -121,7 +121,7 @@ fn owner_count(owner: SpaceId, reps: &[WireRep]) -> usize
 fn has_numbers_for(parts: &Parts, reps: &[WireRep], rep: &WireRep) -> bool
     ensures { result ≡ specs.has_numbers_for (state_of parts.now) reps.now rep.now }
 {
-    match parts.sessions.get(rep.owner.get() as usize - 1) {
+    match parts.sessions.get(rep.owner.place()) {
         Some(session) => owner_count(rep.owner, reps) as u64 <= session.free_numbers(),
         None => false,
     }

@@ -58,7 +58,7 @@ pub(crate) fn act_on_clean(
         index,
         peer,
     );
-    parts.sessions[peer.get() as usize - 1].take();
+    parts.sessions[peer.place()].take();
 }
 
 // Acts on a Settle: the pins of the item that it settles end, and what nothing outside uses any more
@@ -84,7 +84,7 @@ pub(crate) fn act_on_settle(parts: &mut Parts, here: &Here, number: ItemNo, sett
         Ok(()) => {}
         Err(_) => unreachable!(),
     }
-    parts.sessions[peer.get() as usize - 1].take();
+    parts.sessions[peer.place()].take();
 }
 
 // Whether the object of an index of this space is live.
@@ -167,7 +167,7 @@ pub(crate) fn act_on_dirty(
 {
     parts.refuse_send(peer, Kind::Note)?;
     let live = is_live(parts, here.space, index);
-    let session = &mut parts.sessions[peer.get() as usize - 1];
+    let session = &mut parts.sessions[peer.place()];
     answer_dirty(alloc, session, &mut parts.dirty, peer, index, live)?;
     parts.table.keep(&WireRep {
         owner: here.space,
@@ -198,7 +198,7 @@ pub(crate) fn act_on_dirty_no(
         Err(_) => unreachable!(),
     }
     parts.waiting.lose(&rep);
-    parts.sessions[peer.get() as usize - 1].take();
+    parts.sessions[peer.place()].take();
 }
 
 // Acts on a DirtyOk: the reference that was asked for is granted, and lent to the messages that
@@ -224,5 +224,5 @@ pub(crate) fn act_on_dirty_ok(
     }
     let due = parts.waiting.lend(&rep);
     lend_times(&mut parts.table, &rep, due);
-    parts.sessions[peer.get() as usize - 1].take();
+    parts.sessions[peer.place()].take();
 }

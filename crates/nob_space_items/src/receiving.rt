@@ -19,7 +19,7 @@ fn take_front(sessions: &mut Vec<Session>, peer: SpaceId)
     requires front { HasFront sessions.old.items peer }
     ensures { Takes sessions.old.items sessions.new.items peer }
 {
-    let session = &mut sessions[peer.get() as usize - 1];
+    let session = &mut sessions[peer.place()];
     session.take();
 }
 

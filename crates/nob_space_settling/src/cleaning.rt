@@ -111,7 +111,7 @@ pub fn clean(parts: &mut Parts, alloc: Global, here: &Here) -> Result<WireRep, S
     let Some(rep) = first_spare(parts) else {
         return Err(SpaceError::Refused(Refusal::Nothing));
     };
-    let place = rep.owner.get() as usize - 1;
+    let place = rep.owner.place();
     if parts.sessions[place].free_numbers() == 0 {
         return Err(SpaceError::Refused(Refusal::SeqEnd));
     }

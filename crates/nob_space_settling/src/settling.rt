@@ -284,7 +284,7 @@ pub fn settle(parts: &mut Parts, alloc: Global, here: &Here) -> Result<SettledIt
     let item = message.number;
     let lost = has_lost(parts, here, message);
     let call = lost_call(&message.item, lost);
-    let at = peer.get() as usize - 1;
+    let at = peer.place();
     if parts.sessions[at].free_numbers() < given_count(&call) {
         return Err(SpaceError::Refused(Refusal::SeqEnd));
     }

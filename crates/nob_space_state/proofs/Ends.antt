@@ -200,8 +200,8 @@ end_there s n limits ends h p end stands peer is =
     (low, there, subst (λ q. session.Stands s q limits end.end (calls_at q h)) at (stands.ends (p - 1) end there))
 
 -- the end that was read at a peer's place
-pub at_peer : (ends : List Roomy) (k p : ℕ) (end : Roomy) → k ≡ p → end ≡ get_or ends (k - 1) end → end ≡ get_or ends (p - 1) end
-at_peer ends k p end same is = subst (λ j. end ≡ get_or ends (j - 1) end) same is
+pub at_peer : (ends : List Roomy) (k p : ℕ) (end : Roomy) → k ≡ p - 1 → end ≡ get_or ends k end → end ≡ get_or ends (p - 1) end
+at_peer ends k p end same is = subst (λ j. end ≡ get_or ends j end) same is
 
 -- what is right for a Transmit
 pub frames_right : (s n p window : ℕ) (h : History) → is_peer s n p ≡ true → right_frames s n p window h ≡ Ok (answers.Frames (right_transmit s p window (calls_at p h)))

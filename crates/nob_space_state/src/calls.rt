@@ -86,7 +86,7 @@ impl Parts {
         let reps = counted(alloc, value)?;
         self.calls.reserve_calls(1)?;
         let peer = target.owner;
-        let session = &mut self.sessions[peer.get() as usize - 1];
+        let session = &mut self.sessions[peer.place()];
         hand(
             alloc,
             session,

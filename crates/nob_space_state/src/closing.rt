@@ -56,7 +56,7 @@ impl Parts {
         ensures asked { Closes here.now.space here.now.n peer reason causes.Asked
             (state_of self.old) (state_of self.new) }
     {
-        match self.sessions[peer.get() as usize - 1].close(reason) {
+        match self.sessions[peer.place()].close(reason) {
             Ok(closed) => self.close_down(here.space, &closed),
             Err(_) => unreachable!(),
         }

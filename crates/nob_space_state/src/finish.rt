@@ -120,7 +120,7 @@ impl Parts {
             Err(ItemError::OutOfMemory) => return Err(SpaceError::OutOfMemory),
         };
         let reps = counted(alloc, value)?;
-        let session = &mut self.sessions[client.get() as usize - 1];
+        let session = &mut self.sessions[client.place()];
         hand(
             alloc,
             session,

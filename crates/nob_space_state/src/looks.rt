@@ -21,7 +21,7 @@ impl Parts {
     pub fn has_closed(&self, other: SpaceId) -> bool
         ensures { result ≡ has_closed self.now.sessions.items other }
     {
-        match self.sessions.get(other.get() as usize - 1) {
+        match self.sessions.get(other.place()) {
             Some(session) => !session.is_open(),
             None => false,
         }

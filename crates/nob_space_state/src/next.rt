@@ -29,7 +29,7 @@ impl Parts {
         if self.has_closed(peer) {
             return false;
         }
-        match self.sessions.get(peer.get() as usize - 1) {
+        match self.sessions.get(peer.place()) {
             Some(session) => session.front().is_some(),
             None => false,
         }
@@ -45,7 +45,7 @@ impl Parts {
         if !here.is_peer(peer) {
             return false;
         }
-        match self.sessions.get(peer.get() as usize - 1) {
+        match self.sessions.get(peer.place()) {
             Some(session) => session.has_frames(),
             None => false,
         }
@@ -61,7 +61,7 @@ impl Parts {
         if !here.is_peer(peer) {
             return Due::Nothing;
         }
-        match self.sessions.get(peer.get() as usize - 1) {
+        match self.sessions.get(peer.place()) {
             Some(session) => session.due(),
             None => Due::Nothing,
         }

@@ -51,7 +51,7 @@ impl Parts {
         ensures { MatchResult result (λ _. send_refusal peer kind (state_of self.now) ≡ None)
             (λ refusal. send_refusal peer kind (state_of self.now) ≡ Some refusal) }
     {
-        match self.sessions.get(peer.get() as usize - 1) {
+        match self.sessions.get(peer.place()) {
             Some(session) => match session.next(kind) {
                 Ok(_) => Ok(()),
                 Err(refusal) => Err(of_end(refusal)),

@@ -40,7 +40,7 @@ impl Parts {
         if !here.is_peer(peer) {
             return Err(SpaceError::Refused(Refusal::NoPeer));
         }
-        match self.sessions[peer.get() as usize - 1].transmit() {
+        match self.sessions[peer.place()].transmit() {
             Ok(frames) => Ok(Frames::from_vec(frames)),
             Err(_) => Err(SpaceError::OutOfMemory),
         }
@@ -60,7 +60,7 @@ impl Parts {
         if !here.is_peer(peer) {
             return Err(SpaceError::Refused(Refusal::NoPeer));
         }
-        let Some(session) = self.sessions.get(peer.get() as usize - 1) else {
+        let Some(session) = self.sessions.get(peer.place()) else {
             return Err(SpaceError::Refused(Refusal::NoPeer));
         };
         Ok(session.frames()?)
@@ -84,7 +84,7 @@ impl Parts {
         if !here.is_peer(peer) {
             return Err(Refusal::NoPeer);
         }
-        match self.sessions[peer.get() as usize - 1].tick() {
+        match self.sessions[peer.place()].tick() {
             Ok(None) => Ok(None),
             Ok(Some(closed)) => {
                 self.close_down(here.space, &closed);
@@ -117,7 +117,7 @@ impl Parts {
         if !here.is_peer(frame.from) {
             return Err(SpaceError::Refused(Refusal::NoPeer));
         }
-        match self.sessions[frame.from.get() as usize - 1].arrive(frame) {
+        match self.sessions[frame.from.place()].arrive(frame) {
             Ok(Arrival::Took(count)) => Ok(Arrived::Took(count)),
             Ok(Arrival::Closed(closed)) => {
                 self.close_down(here.space, &closed);

@@ -19,15 +19,15 @@ returns-then-has_closed-clause-answer c limits D stands = act_of_closed stands c
 
 pub returns-in_default-clause-answer : goal.returns-in_default-clause-answer
 returns-in_default-clause-answer c limits D stands =
-    act_of_none stands c.args.peer (sym c.is_peer.ensures ∙ c.if-not-is_peer.false) (sym c.has_closed.ensures ∙ c.if-has_closed.false) c.get.result c.get.ensures.value c.index.result.now c.index.ensures None c.in_default.ensures.answer refl
+    act_of_none stands c.args.peer (sym c.is_peer.ensures ∙ c.if-not-is_peer.false) (sym c.has_closed.ensures ∙ c.if-has_closed.false) c.place.result c.place.ensures.value c.index.result.now c.index.ensures None c.in_default.ensures.answer refl
 
 pub returns-in-Err-OutOfMemory-clause-answer : goal.returns-in-Err-OutOfMemory-clause-answer
 returns-in-Err-OutOfMemory-clause-answer c limits D stands =
-    inr (subst FrontWants (sym (front_there stands c.args.peer (sym c.is_peer.ensures ∙ c.if-not-is_peer.false) (sym c.has_closed.ensures ∙ c.if-has_closed.false) c.get.result c.get.ensures.value c.index.result.now c.index.ensures (Some (c.in-Some.front.0, c.in-Some.front.1.now)) c.in-Some.ensures.answer)) ((c.in-Err-OutOfMemory.ensures {u = tt}).memory c.in-Err-OutOfMemory.field-0-is))
+    inr (subst FrontWants (sym (front_there stands c.args.peer (sym c.is_peer.ensures ∙ c.if-not-is_peer.false) (sym c.has_closed.ensures ∙ c.if-has_closed.false) c.place.result c.place.ensures.value c.index.result.now c.index.ensures (Some (c.in-Some.front.0, c.in-Some.front.1.now)) c.in-Some.ensures.answer)) ((c.in-Err-OutOfMemory.ensures {u = tt}).memory c.in-Err-OutOfMemory.field-0-is))
 
 pub returns-in-Err-Fault-clause-answer : goal.returns-in-Err-Fault-clause-answer
 returns-in-Err-Fault-clause-answer c limits D stands =
-    act_of_garbled stands c.args.peer (sym c.is_peer.ensures ∙ c.if-not-is_peer.false) (sym c.has_closed.ensures ∙ c.if-has_closed.false) c.get.result c.get.ensures.value c.index.result.now c.index.ensures (Some (c.in-Some.front.0, c.in-Some.front.1.now)) c.in-Some.ensures.answer
+    act_of_garbled stands c.args.peer (sym c.is_peer.ensures ∙ c.if-not-is_peer.false) (sym c.has_closed.ensures ∙ c.if-has_closed.false) c.place.result c.place.ensures.value c.index.result.now c.index.ensures (Some (c.in-Some.front.0, c.in-Some.front.1.now)) c.in-Some.ensures.answer
     c.in-Some.front.0 c.in-Some.front.1.now refl (ap item_of (subst (λ (e : ItemError). Fails e (item_read c.in-Some.front.1.now)) c.in-Err-Fault.field-0-is (c.in-Err-Fault.ensures {u = tt}).exact))
 
 pub returns-in-Err-Fault-clause-stands : goal.returns-in-Err-Fault-clause-stands
@@ -35,7 +35,7 @@ returns-in-Err-Fault-clause-stands c limits D stands = c.close_for.ensures.item 
 
 pub returns-in-Some-fault_of_item-clause-answer : goal.returns-in-Some-fault_of_item-clause-answer
 returns-in-Some-fault_of_item-clause-answer c limits D stands =
-    act_of_faulty stands c.args.peer (sym c.is_peer.ensures ∙ c.if-not-is_peer.false) (sym c.has_closed.ensures ∙ c.if-has_closed.false) c.get.result c.get.ensures.value c.index.result.now c.index.ensures (Some (c.in-Some.front.0, c.in-Some.front.1.now)) c.in-Some.ensures.answer
+    act_of_faulty stands c.args.peer (sym c.is_peer.ensures ∙ c.if-not-is_peer.false) (sym c.has_closed.ensures ∙ c.if-has_closed.false) c.place.result c.place.ensures.value c.index.result.now c.index.ensures (Some (c.in-Some.front.0, c.in-Some.front.1.now)) c.in-Some.ensures.answer
     c.in-Some.front.0 c.in-Some.front.1.now refl c.in-Ok.item (ap item_of (c.in-Ok.ensures {u = tt}).exact) c.in-Some-fault_of_item.reason (sym (c.in-Some-fault_of_item.ensures {u = tt}))
 
 pub returns-in-Some-fault_of_item-clause-stands : goal.returns-in-Some-fault_of_item-clause-stands
@@ -43,7 +43,7 @@ returns-in-Some-fault_of_item-clause-stands c limits D stands = c.close_for-in-S
 
 pub act_on-requires-clause-front : goal.act_on-requires-clause-front
 act_on-requires-clause-front c limits D stands =
-    is_front stands c.args.peer (sym c.is_peer.ensures ∙ c.if-not-is_peer.false) (sym c.has_closed.ensures ∙ c.if-has_closed.false) c.get.result c.get.ensures.value c.index.result.now c.index.ensures (Some (c.in-Some.front.0, c.in-Some.front.1.now)) c.in-Some.ensures.answer
+    is_front stands c.args.peer (sym c.is_peer.ensures ∙ c.if-not-is_peer.false) (sym c.has_closed.ensures ∙ c.if-has_closed.false) c.place.result c.place.ensures.value c.index.result.now c.index.ensures (Some (c.in-Some.front.0, c.in-Some.front.1.now)) c.in-Some.ensures.answer
     c.in-Some.front.0 c.in-Some.front.1.now refl c.in-Ok.item (ap item_of (c.in-Ok.ensures {u = tt}).exact) (sym (c.in_default-fault_of_item.ensures {u = tt}))
 
 pub returns-in_err-act_on-clause-answer : goal.returns-in_err-act_on-clause-answer

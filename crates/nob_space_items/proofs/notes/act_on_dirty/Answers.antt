@@ -26,13 +26,13 @@ pub answer_dirty-requires-clause-next : goal.answer_dirty-requires-clause-next
 answer_dirty-requires-clause-next c =
     let stands = c.requires.state.2 in
     dirty_next stands c.args.index (c.requires.front c.requires.state.0 c.requires.state.1 stands) c.index_mut-session.result.now
-    (subst (λ k. c.index_mut-session.result.now ≡ get_or c.args.parts.now.sessions.items (k - 1) c.index_mut-session.result.now) c.get.ensures.value c.index_mut-session.ensures.value) c.in_ok-refuse_send.ensures
+    (subst (λ k. c.index_mut-session.result.now ≡ get_or c.args.parts.now.sessions.items k c.index_mut-session.result.now) c.place.ensures.value c.index_mut-session.ensures.value) c.in_ok-refuse_send.ensures
 
 pub answer_dirty-requires-clause-waits : goal.answer_dirty-requires-clause-waits
 answer_dirty-requires-clause-waits c =
     let stands = c.requires.state.2 in
     let front = c.requires.front c.requires.state.0 c.requires.state.1 stands in
-    let is : c.index_mut-session.result.now ≡ get_or c.args.parts.now.sessions.items (c.args.peer - 1) c.index_mut-session.result.now = subst (λ k. c.index_mut-session.result.now ≡ get_or c.args.parts.now.sessions.items (k - 1) c.index_mut-session.result.now) c.get.ensures.value c.index_mut-session.ensures.value in
+    let is : c.index_mut-session.result.now ≡ get_or c.args.parts.now.sessions.items (c.args.peer - 1) c.index_mut-session.result.now = subst (λ k. c.index_mut-session.result.now ≡ get_or c.args.parts.now.sessions.items k c.index_mut-session.result.now) c.place.ensures.value c.index_mut-session.ensures.value in
     front_waits front c.requires.state.0 c.index_mut-session.result.now.end (end_there c.args.here.now.space c.args.here.now.n c.requires.state.0 c.args.parts.now.sessions.items (history_of c.args.here.now.space c.args.here.now.n c.requires.state.1) c.args.peer c.index_mut-session.result.now stands.ends front.peer is).2
 
 pub returns-in_err-answer_dirty-clause-answer : goal.returns-in_err-answer_dirty-clause-answer
@@ -45,7 +45,7 @@ pub returns-in_err-answer_dirty-clause-err : goal.returns-in_err-answer_dirty-cl
 returns-in_err-answer_dirty-clause-err c = after_error _ c.from_residual-in_err-answer_dirty.result (λ limits D stands.
     let front = c.requires.front limits D stands in
     let kept = c.in_err-answer_dirty.ensures.err in
-    dirty_kept stands c.get.result c.get.ensures.value c.index_mut-session.result.now c.answer_dirty.new.session c.index_mut-session.ensures.value front.peer c.answer_dirty.new.dirty kept.1 kept.0)
+    dirty_kept stands c.args.peer c.place.result c.place.ensures.value c.index_mut-session.result.now c.answer_dirty.new.session c.index_mut-session.ensures.value front.peer c.answer_dirty.new.dirty kept.1 kept.0)
 
 pub returns-clause-answer : goal.returns-clause-answer
 returns-clause-answer c limits D stands =
@@ -56,7 +56,7 @@ pub returns-clause-stands : goal.returns-clause-stands
 returns-clause-stands c limits D stands =
     let front = c.requires.front limits D stands in
     let done = c.in_ok-answer_dirty.ensures in
-    dirty_stands stands c.get.result c.get.ensures.value c.index_mut-session.result.now c.answer_dirty.new.session c.index_mut-session.ensures.value c.args.index front c.in_ok-refuse_send.ensures c.is_live-live.result (c.is_live-live.ensures ∙ stands.table.live c.args.index) c.answer_dirty.new.dirty done.listed c.keep.new.self c.keep.ensures.left.items
+    dirty_stands stands c.place.result c.place.ensures.value c.index_mut-session.result.now c.answer_dirty.new.session c.index_mut-session.ensures.value c.args.index front c.in_ok-refuse_send.ensures c.is_live-live.result (c.is_live-live.ensures ∙ stands.table.live c.args.index) c.answer_dirty.new.dirty done.listed c.keep.new.self c.keep.ensures.left.items
     (subst (λ live. SetsKept c.args.parts.now.table c.keep.new.self (own_ref c.args.here.now.space c.args.index) live)
     (ap (λ b. is_live (standing c.args.parts.now.table (own_ref c.args.here.now.space c.args.index)).state || b) (own_there c.args.parts.now.table (own_ref c.args.here.now.space c.args.index) (subst (λ k. c.args.here.now.space == k ≡ true) (sym stands.table.me) (nat_eq_equiv.refl c.args.here.now.space))).0
     ∙ live_or (is_live (standing c.args.parts.now.table (own_ref c.args.here.now.space c.args.index)).state) ∙ sym c.is_live-live.ensures) c.keep.ensures.kept) done.session

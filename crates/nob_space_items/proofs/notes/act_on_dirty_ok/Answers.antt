@@ -27,10 +27,10 @@ lend_times-requires c =
     (can_lend c.requires.state.2 c.args.index (c.requires.front c.requires.state.0 c.requires.state.1 c.requires.state.2) c.grant.new.self c.grant.ensures.left (c.in-Ok.ensures {u = tt}).granted)
 
 pub take-requires : goal.take-requires
-take-requires c = waits_there c.requires.state.2 (c.requires.front c.requires.state.0 c.requires.state.1 c.requires.state.2) c.get.result c.get.ensures.value c.index_mut.result.now c.index_mut.ensures.value
+take-requires c = waits_there c.requires.state.2 (c.requires.front c.requires.state.0 c.requires.state.1 c.requires.state.2) c.place.result c.place.ensures.value c.index_mut.result.now c.index_mut.ensures.value
 
 pub returns : goal.returns
 returns c = record {
-  stands = λ limits D stands. granted_stands stands c.get.result c.get.ensures.value c.index_mut.result.now c.take.new.self c.index_mut.ensures.value (λ me peer limits L before. (c.take.ensures.answer me peer limits L before).1)
+  stands = λ limits D stands. granted_stands stands c.place.result c.place.ensures.value c.index_mut.result.now c.take.new.self c.index_mut.ensures.value (λ me peer limits L before. (c.take.ensures.answer me peer limits L before).1)
       c.args.index (c.requires.front limits D stands) c.grant.new.self c.lend_times.new.table c.grant.ensures.left (c.in-Ok.ensures {u = tt}).granted c.lend-due.result c.lend-due.ensures.count c.lend_times.ensures c.lend-due.new.self.items c.lend-due.ensures.items c.lend-due.new.self.awaited c.lend-due.ensures.awaited;
 }

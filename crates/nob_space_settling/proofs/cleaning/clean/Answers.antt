@@ -29,18 +29,18 @@ index-requires c =
     let peer = (asked_there c.requires.2 c.in-Some.rep (c.in-Some.ensures {u = tt})).1 in
     let range = peer_range c.args.here.now.space c.args.here.now.n c.in-Some.rep.owner peer in
     let each = c.requires.2.ends.each in
-    let owner = c.get.ensures.value in
+    let owner = c.place-place.ensures.value in
     omega (arith, range.0, range.1, each, owner)
 
 pub returns-then-free_numbers-eq0-clause-answer : goal.returns-then-free_numbers-eq0-clause-answer
 returns-then-free_numbers-eq0-clause-answer c limits D stands =
-    clean_full stands c.in-Some.rep (c.in-Some.ensures {u = tt}) c.index.result.now (subst (λ (k : ℕ). c.index.result.now ≡ get_or c.args.parts.now.sessions.items (k - 1) c.index.result.now) c.get.ensures.value c.index.ensures)
+    clean_full stands c.in-Some.rep (c.in-Some.ensures {u = tt}) c.index.result.now (subst (λ (k : ℕ). c.index.result.now ≡ get_or c.args.parts.now.sessions.items k c.index.result.now) c.place-place.ensures.value c.index.ensures)
     (sym c.free_numbers.ensures ∙ c.if-free_numbers-eq0.true)
 
 pub returns-in_err-payload-clause-answer : goal.returns-in_err-payload-clause-answer
 returns-in_err-payload-clause-answer c limits D stands =
     wants_as _ c.from_residual.result _ c.from_residual.ensures.1
-    (clean_wants stands c.in-Some.rep (c.in-Some.ensures {u = tt}) c.index.result.now (subst (λ (k : ℕ). c.index.result.now ≡ get_or c.args.parts.now.sessions.items (k - 1) c.index.result.now) c.get.ensures.value c.index.ensures)
+    (clean_wants stands c.in-Some.rep (c.in-Some.ensures {u = tt}) c.index.result.now (subst (λ (k : ℕ). c.index.result.now ≡ get_or c.args.parts.now.sessions.items k c.index.result.now) c.place-place.ensures.value c.index.ensures)
     (let free = c.free_numbers.ensures in let some = c.if-free_numbers-eq0.false in omega (arith, free, some)))
 
 pub index_mut-session-requires : goal.index_mut-session-requires
@@ -48,13 +48,13 @@ index_mut-session-requires c =
     let peer = (asked_there c.requires.2 c.in-Some.rep (c.in-Some.ensures {u = tt})).1 in
     let range = peer_range c.args.here.now.space c.args.here.now.n c.in-Some.rep.owner peer in
     let each = c.requires.2.ends.each in
-    let owner = c.get.ensures.value in
+    let owner = c.place-place.ensures.value in
     omega (arith, range.0, range.1, each, owner)
 
 pub hand_note-requires-clause-next : goal.hand_note-requires-clause-next
 hand_note-requires-clause-next c =
-    let is : c.index_mut-session.result.now ≡ get_or c.args.parts.now.sessions.items (c.in-Some.rep.owner - 1) c.index_mut-session.result.now = subst (λ (k : ℕ). c.index_mut-session.result.now ≡ get_or c.args.parts.now.sessions.items (k - 1) c.index_mut-session.result.now) c.get.ensures.value c.index_mut-session.ensures.value in
-    let seen : c.index.result.now ≡ get_or c.args.parts.now.sessions.items (c.in-Some.rep.owner - 1) c.index.result.now = subst (λ (k : ℕ). c.index.result.now ≡ get_or c.args.parts.now.sessions.items (k - 1) c.index.result.now) c.get.ensures.value c.index.ensures in
+    let is : c.index_mut-session.result.now ≡ get_or c.args.parts.now.sessions.items (c.in-Some.rep.owner - 1) c.index_mut-session.result.now = subst (λ (k : ℕ). c.index_mut-session.result.now ≡ get_or c.args.parts.now.sessions.items k c.index_mut-session.result.now) c.place-place.ensures.value c.index_mut-session.ensures.value in
+    let seen : c.index.result.now ≡ get_or c.args.parts.now.sessions.items (c.in-Some.rep.owner - 1) c.index.result.now = subst (λ (k : ℕ). c.index.result.now ≡ get_or c.args.parts.now.sessions.items k c.index.result.now) c.place-place.ensures.value c.index.ensures in
     let peer = (asked_there c.requires.2 c.in-Some.rep (c.in-Some.ensures {u = tt})).1 in
     let here = end_there c.args.here.now.space c.args.here.now.n c.requires.0 c.args.parts.now.sessions.items (history_of c.args.here.now.space c.args.here.now.n c.requires.1) c.in-Some.rep.owner c.index_mut-session.result.now c.requires.2.ends peer is in
     let there = end_there c.args.here.now.space c.args.here.now.n c.requires.0 c.args.parts.now.sessions.items (history_of c.args.here.now.space c.args.here.now.n c.requires.1) c.in-Some.rep.owner c.index.result.now c.requires.2.ends peer seen in
@@ -66,20 +66,20 @@ hand_note-requires-clause-next c =
 pub returns-in_err-hand_note-clause-answer : goal.returns-in_err-hand_note-clause-answer
 returns-in_err-hand_note-clause-answer c limits D stands =
     wants_as _ c.from_residual-in_err-hand_note.result _ c.from_residual-in_err-hand_note.ensures.1
-    (clean_wants stands c.in-Some.rep (c.in-Some.ensures {u = tt}) c.index.result.now (subst (λ (k : ℕ). c.index.result.now ≡ get_or c.args.parts.now.sessions.items (k - 1) c.index.result.now) c.get.ensures.value c.index.ensures)
+    (clean_wants stands c.in-Some.rep (c.in-Some.ensures {u = tt}) c.index.result.now (subst (λ (k : ℕ). c.index.result.now ≡ get_or c.args.parts.now.sessions.items k c.index.result.now) c.place-place.ensures.value c.index.ensures)
     (let free = c.free_numbers.ensures in let some = c.if-free_numbers-eq0.false in omega (arith, free, some)))
 
 pub returns-in_err-hand_note-clause-err : goal.returns-in_err-hand_note-clause-err
 returns-in_err-hand_note-clause-err c = after_error _ c.from_residual-in_err-hand_note.result (λ limits D stands.
-    let is : c.index_mut-session.result.now ≡ get_or c.args.parts.now.sessions.items (c.in-Some.rep.owner - 1) c.index_mut-session.result.now = subst (λ (k : ℕ). c.index_mut-session.result.now ≡ get_or c.args.parts.now.sessions.items (k - 1) c.index_mut-session.result.now) c.get.ensures.value c.index_mut-session.ensures.value in
+    let is : c.index_mut-session.result.now ≡ get_or c.args.parts.now.sessions.items (c.in-Some.rep.owner - 1) c.index_mut-session.result.now = subst (λ (k : ℕ). c.index_mut-session.result.now ≡ get_or c.args.parts.now.sessions.items k c.index_mut-session.result.now) c.place-place.ensures.value c.index_mut-session.ensures.value in
     let peer = (asked_there stands c.in-Some.rep (c.in-Some.ensures {u = tt})).1 in
-    subst (λ (k : ℕ). Stands c.args.here.now.space c.args.here.now.n limits (after k) D) (sym c.get.ensures.value)
+    subst (λ (k : ℕ). Stands c.args.here.now.space c.args.here.now.n limits (after k) D) (sym c.place-place.ensures.value)
     (stands_kept stands c.in-Some.rep.owner c.index_mut-session.result.now c.hand_note.new.session peer is c.in_err-hand_note.ensures.err))
   where
     after : ℕ → State
     after k =
         record {
-          sessions = set c.args.parts.now.sessions.items (k - 1) c.hand_note.new.session;
+          sessions = set c.args.parts.now.sessions.items k c.hand_note.new.session;
           table = c.args.parts.now.table;
           dirty = c.args.parts.now.dirty;
           pins = c.args.parts.now.pins;
@@ -91,15 +91,15 @@ returns-in_err-hand_note-clause-err c = after_error _ c.from_residual-in_err-han
 
 pub returns-clause-answer : goal.returns-clause-answer
 returns-clause-answer c limits D stands =
-    clean_right stands c.in-Some.rep (c.in-Some.ensures {u = tt}) c.index.result.now (subst (λ (k : ℕ). c.index.result.now ≡ get_or c.args.parts.now.sessions.items (k - 1) c.index.result.now) c.get.ensures.value c.index.ensures)
+    clean_right stands c.in-Some.rep (c.in-Some.ensures {u = tt}) c.index.result.now (subst (λ (k : ℕ). c.index.result.now ≡ get_or c.args.parts.now.sessions.items k c.index.result.now) c.place-place.ensures.value c.index.ensures)
     (let free = c.free_numbers.ensures in let some = c.if-free_numbers-eq0.false in omega (arith, free, some))
 
 pub returns-clause-stands : goal.returns-clause-stands
 returns-clause-stands c limits D stands =
-    let is : c.index_mut-session.result.now ≡ get_or c.args.parts.now.sessions.items (c.in-Some.rep.owner - 1) c.index_mut-session.result.now = subst (λ (k : ℕ). c.index_mut-session.result.now ≡ get_or c.args.parts.now.sessions.items (k - 1) c.index_mut-session.result.now) c.get.ensures.value c.index_mut-session.ensures.value in
+    let is : c.index_mut-session.result.now ≡ get_or c.args.parts.now.sessions.items (c.in-Some.rep.owner - 1) c.index_mut-session.result.now = subst (λ (k : ℕ). c.index_mut-session.result.now ≡ get_or c.args.parts.now.sessions.items k c.index_mut-session.result.now) c.place-place.ensures.value c.index_mut-session.ensures.value in
     let sent = c.in_ok-hand_note.ensures in
     subst (λ (k : ℕ). Stands c.args.here.now.space c.args.here.now.n limits (record {
-      sessions = set c.args.parts.now.sessions.items (k - 1) c.hand_note.new.session;
+      sessions = set c.args.parts.now.sessions.items k c.hand_note.new.session;
       table = c.forget.new.table;
       dirty = c.args.parts.now.dirty;
       pins = c.args.parts.now.pins;
@@ -107,7 +107,7 @@ returns-clause-stands c limits D stands =
       awaited = c.args.parts.now.waiting.awaited;
       calls = c.args.parts.now.calls_made;
       jobs = c.args.parts.now.jobs_made;
-    }) (did.Clean c.in-Some.rep ∷ D)) (sym c.get.ensures.value)
+    }) (did.Clean c.in-Some.rep ∷ D)) (sym c.place-place.ensures.value)
     (clean_stands stands c.in-Some.rep (c.in-Some.ensures {u = tt}) c.index_mut-session.result.now is c.hand_note.new.session c.forget.new.table c.in_ok-payload.payload.items c.in_ok-hand_note.field-0
     (clean_is c.args.here.now.space c.args.here.now.n limits D c.in-Some.rep (returns-clause-answer c limits D stands)) c.in_ok-payload.ensures.spelled sent.number
     (λ before. sent.answer c.args.here.now.space c.in-Some.rep.owner limits (calls_at c.in-Some.rep.owner (history_of c.args.here.now.space c.args.here.now.n D)) before)

@@ -32,13 +32,13 @@ index-requires c =
     let seen : find (is_settleable (state_of c.args.parts.now)) c.args.parts.now.waiting.items ≡ Some c.in-Some.message.now = sym c.first_settleable.ensures ∙ ap option_copied c.in-Some.is in
     let range = peer_range c.args.here.now.space c.args.here.now.n c.in-Some.message.now.from (message_sound c.requires.2 c.in-Some.message.now seen).peer in
     let each = c.requires.2.ends.each in
-    let owner = c.get.ensures.value in
+    let owner = c.place-at.ensures.value in
     omega (arith, range.0, range.1, each, owner)
 
 pub returns-then-free_numbers-given_count-clause-answer : goal.returns-then-free_numbers-given_count-clause-answer
 returns-then-free_numbers-given_count-clause-answer c limits D stands =
     let seen : find (is_settleable (state_of c.args.parts.now)) c.args.parts.now.waiting.items ≡ Some c.in-Some.message.now = sym c.first_settleable.ensures ∙ ap option_copied c.in-Some.is in
-    let looked : c.index.result.now ≡ get_or c.args.parts.now.sessions.items (c.in-Some.message.now.from - 1) c.index.result.now = subst (λ (k : ℕ). c.index.result.now ≡ get_or c.args.parts.now.sessions.items (k - 1) c.index.result.now) c.get.ensures.value c.index.ensures in
+    let looked : c.index.result.now ≡ get_or c.args.parts.now.sessions.items (c.in-Some.message.now.from - 1) c.index.result.now = subst (λ (k : ℕ). c.index.result.now ≡ get_or c.args.parts.now.sessions.items k c.index.result.now) c.place-at.ensures.value c.index.ensures in
     let call : c.lost_call-call.result ≡ lost_call c.in-Some.message.now.item (has_lost c.args.here.now.space c.args.here.now.n (state_of c.args.parts.now) c.in-Some.message.now) = c.lost_call-call.ensures ∙ ap (lost_call c.in-Some.message.now.item) c.has_lost-lost.ensures in
     let count : c.given_count.result ≡ given_count (lost_call c.in-Some.message.now.item (has_lost c.args.here.now.space c.args.here.now.n (state_of c.args.parts.now) c.in-Some.message.now)) = c.given_count.ensures ∙ ap given_count call in
     let numbers = c.free_numbers.ensures in
@@ -62,19 +62,19 @@ index_mut-session-requires c =
     let seen : find (is_settleable (state_of c.args.parts.now)) c.args.parts.now.waiting.items ≡ Some c.in-Some.message.now = sym c.first_settleable.ensures ∙ ap option_copied c.in-Some.is in
     let range = peer_range c.args.here.now.space c.args.here.now.n c.in-Some.message.now.from (message_sound c.requires.2 c.in-Some.message.now seen).peer in
     let each = c.requires.2.ends.each in
-    let owner = c.get.ensures.value in
+    let owner = c.place-at.ensures.value in
     omega (arith, range.0, range.1, each, owner)
 
 pub hand_notes-requires-clause-open : goal.hand_notes-requires-clause-open
 hand_notes-requires-clause-open c =
     let seen : find (is_settleable (state_of c.args.parts.now)) c.args.parts.now.waiting.items ≡ Some c.in-Some.message.now = sym c.first_settleable.ensures ∙ ap option_copied c.in-Some.is in
-    let looked : c.index.result.now ≡ get_or c.args.parts.now.sessions.items (c.in-Some.message.now.from - 1) c.index.result.now = subst (λ (k : ℕ). c.index.result.now ≡ get_or c.args.parts.now.sessions.items (k - 1) c.index.result.now) c.get.ensures.value c.index.ensures in
+    let looked : c.index.result.now ≡ get_or c.args.parts.now.sessions.items (c.in-Some.message.now.from - 1) c.index.result.now = subst (λ (k : ℕ). c.index.result.now ≡ get_or c.args.parts.now.sessions.items k c.index.result.now) c.place-at.ensures.value c.index.ensures in
     let call : c.lost_call-call.result ≡ lost_call c.in-Some.message.now.item (has_lost c.args.here.now.space c.args.here.now.n (state_of c.args.parts.now) c.in-Some.message.now) = c.lost_call-call.ensures ∙ ap (lost_call c.in-Some.message.now.item) c.has_lost-lost.ensures in
     let count : c.given_count.result ≡ given_count (lost_call c.in-Some.message.now.item (has_lost c.args.here.now.space c.args.here.now.n (state_of c.args.parts.now) c.in-Some.message.now)) = c.given_count.ensures ∙ ap given_count call in
     let numbers = c.free_numbers.ensures in
     let few = c.if-free_numbers-given_count.false in
     let free : given_count (lost_call c.in-Some.message.now.item (has_lost c.args.here.now.space c.args.here.now.n (state_of c.args.parts.now) c.in-Some.message.now)) ≤ last_item - c.index.result.now.end.handed = omega (arith, count, numbers, few) in
-    let is : c.index_mut-session.result.now ≡ get_or c.args.parts.now.sessions.items (c.in-Some.message.now.from - 1) c.index_mut-session.result.now = subst (λ (k : ℕ). c.index_mut-session.result.now ≡ get_or c.args.parts.now.sessions.items (k - 1) c.index_mut-session.result.now) c.get.ensures.value c.index_mut-session.ensures.value in
+    let is : c.index_mut-session.result.now ≡ get_or c.args.parts.now.sessions.items (c.in-Some.message.now.from - 1) c.index_mut-session.result.now = subst (λ (k : ℕ). c.index_mut-session.result.now ≡ get_or c.args.parts.now.sessions.items k c.index_mut-session.result.now) c.place-at.ensures.value c.index_mut-session.ensures.value in
     let peer = (message_sound c.requires.2 c.in-Some.message.now seen).peer in
     let one = end_there c.args.here.now.space c.args.here.now.n c.requires.0 c.args.parts.now.sessions.items (history_of c.args.here.now.space c.args.here.now.n c.requires.1) c.in-Some.message.now.from c.index.result.now c.requires.2.ends peer looked in
     let two = end_there c.args.here.now.space c.args.here.now.n c.requires.0 c.args.parts.now.sessions.items (history_of c.args.here.now.space c.args.here.now.n c.requires.1) c.in-Some.message.now.from c.index_mut-session.result.now c.requires.2.ends peer is in
@@ -85,13 +85,13 @@ hand_notes-requires-clause-open c =
 pub hand_notes-requires-clause-free : goal.hand_notes-requires-clause-free
 hand_notes-requires-clause-free c =
     let seen : find (is_settleable (state_of c.args.parts.now)) c.args.parts.now.waiting.items ≡ Some c.in-Some.message.now = sym c.first_settleable.ensures ∙ ap option_copied c.in-Some.is in
-    let looked : c.index.result.now ≡ get_or c.args.parts.now.sessions.items (c.in-Some.message.now.from - 1) c.index.result.now = subst (λ (k : ℕ). c.index.result.now ≡ get_or c.args.parts.now.sessions.items (k - 1) c.index.result.now) c.get.ensures.value c.index.ensures in
+    let looked : c.index.result.now ≡ get_or c.args.parts.now.sessions.items (c.in-Some.message.now.from - 1) c.index.result.now = subst (λ (k : ℕ). c.index.result.now ≡ get_or c.args.parts.now.sessions.items k c.index.result.now) c.place-at.ensures.value c.index.ensures in
     let call : c.lost_call-call.result ≡ lost_call c.in-Some.message.now.item (has_lost c.args.here.now.space c.args.here.now.n (state_of c.args.parts.now) c.in-Some.message.now) = c.lost_call-call.ensures ∙ ap (lost_call c.in-Some.message.now.item) c.has_lost-lost.ensures in
     let count : c.given_count.result ≡ given_count (lost_call c.in-Some.message.now.item (has_lost c.args.here.now.space c.args.here.now.n (state_of c.args.parts.now) c.in-Some.message.now)) = c.given_count.ensures ∙ ap given_count call in
     let numbers = c.free_numbers.ensures in
     let few = c.if-free_numbers-given_count.false in
     let free : given_count (lost_call c.in-Some.message.now.item (has_lost c.args.here.now.space c.args.here.now.n (state_of c.args.parts.now) c.in-Some.message.now)) ≤ last_item - c.index.result.now.end.handed = omega (arith, count, numbers, few) in
-    let is : c.index_mut-session.result.now ≡ get_or c.args.parts.now.sessions.items (c.in-Some.message.now.from - 1) c.index_mut-session.result.now = subst (λ (k : ℕ). c.index_mut-session.result.now ≡ get_or c.args.parts.now.sessions.items (k - 1) c.index_mut-session.result.now) c.get.ensures.value c.index_mut-session.ensures.value in
+    let is : c.index_mut-session.result.now ≡ get_or c.args.parts.now.sessions.items (c.in-Some.message.now.from - 1) c.index_mut-session.result.now = subst (λ (k : ℕ). c.index_mut-session.result.now ≡ get_or c.args.parts.now.sessions.items k c.index_mut-session.result.now) c.place-at.ensures.value c.index_mut-session.ensures.value in
     let peer = (message_sound c.requires.2 c.in-Some.message.now seen).peer in
     let one = end_there c.args.here.now.space c.args.here.now.n c.requires.0 c.args.parts.now.sessions.items (history_of c.args.here.now.space c.args.here.now.n c.requires.1) c.in-Some.message.now.from c.index.result.now c.requires.2.ends peer looked in
     let two = end_there c.args.here.now.space c.args.here.now.n c.requires.0 c.args.parts.now.sessions.items (history_of c.args.here.now.space c.args.here.now.n c.requires.1) c.in-Some.message.now.from c.index_mut-session.result.now c.requires.2.ends peer is in
@@ -105,9 +105,9 @@ hand_notes-requires-clause-free c =
 pub returns-in_err-hand_notes-clause-err : goal.returns-in_err-hand_notes-clause-err
 returns-in_err-hand_notes-clause-err c = after_error _ c.from_residual-in_err-hand_notes.result (λ limits D stands.
     let seen : find (is_settleable (state_of c.args.parts.now)) c.args.parts.now.waiting.items ≡ Some c.in-Some.message.now = sym c.first_settleable.ensures ∙ ap option_copied c.in-Some.is in
-    let is : c.index_mut-session.result.now ≡ get_or c.args.parts.now.sessions.items (c.in-Some.message.now.from - 1) c.index_mut-session.result.now = subst (λ (k : ℕ). c.index_mut-session.result.now ≡ get_or c.args.parts.now.sessions.items (k - 1) c.index_mut-session.result.now) c.get.ensures.value c.index_mut-session.ensures.value in
-    subst (λ (k : ℕ). Stands c.args.here.now.space c.args.here.now.n limits (after k work_then) D) (sym c.get.ensures.value)
-    (subst (λ (W : InHand). Stands c.args.here.now.space c.args.here.now.n limits (after c.in-Some.message.now.from W) D) (sym work_same)
+    let is : c.index_mut-session.result.now ≡ get_or c.args.parts.now.sessions.items (c.in-Some.message.now.from - 1) c.index_mut-session.result.now = subst (λ (k : ℕ). c.index_mut-session.result.now ≡ get_or c.args.parts.now.sessions.items k c.index_mut-session.result.now) c.place-at.ensures.value c.index_mut-session.ensures.value in
+    subst (λ (k : ℕ). Stands c.args.here.now.space c.args.here.now.n limits (after k work_then) D) (sym c.place-at.ensures.value)
+    (subst (λ (W : InHand). Stands c.args.here.now.space c.args.here.now.n limits (after (c.in-Some.message.now.from - 1) W) D) (sym work_same)
     (stands_kept stands c.in-Some.message.now.from c.index_mut-session.result.now c.hand_notes.new.session (message_sound stands c.in-Some.message.now seen).peer is c.in_err-hand_notes.ensures.err)))
   where
     work_then : InHand
@@ -119,7 +119,7 @@ returns-in_err-hand_notes-clause-err c = after_error _ c.from_residual-in_err-ha
     after : ℕ → InHand → State
     after k W =
         record {
-          sessions = set c.args.parts.now.sessions.items (k - 1) c.hand_notes.new.session;
+          sessions = set c.args.parts.now.sessions.items k c.hand_notes.new.session;
           table = c.args.parts.now.table;
           dirty = c.args.parts.now.dirty;
           pins = c.args.parts.now.pins;
@@ -140,7 +140,7 @@ put_settled-requires-clause-lent c =
 pub returns-in_err-settle-clause-answer : goal.returns-in_err-settle-clause-answer
 returns-in_err-settle-clause-answer c limits D stands =
     let seen : find (is_settleable (state_of c.args.parts.now)) c.args.parts.now.waiting.items ≡ Some c.in-Some.message.now = sym c.first_settleable.ensures ∙ ap option_copied c.in-Some.is in
-    let looked : c.index.result.now ≡ get_or c.args.parts.now.sessions.items (c.in-Some.message.now.from - 1) c.index.result.now = subst (λ (k : ℕ). c.index.result.now ≡ get_or c.args.parts.now.sessions.items (k - 1) c.index.result.now) c.get.ensures.value c.index.ensures in
+    let looked : c.index.result.now ≡ get_or c.args.parts.now.sessions.items (c.in-Some.message.now.from - 1) c.index.result.now = subst (λ (k : ℕ). c.index.result.now ≡ get_or c.args.parts.now.sessions.items k c.index.result.now) c.place-at.ensures.value c.index.ensures in
     let call : c.lost_call-call.result ≡ lost_call c.in-Some.message.now.item (has_lost c.args.here.now.space c.args.here.now.n (state_of c.args.parts.now) c.in-Some.message.now) = c.lost_call-call.ensures ∙ ap (lost_call c.in-Some.message.now.item) c.has_lost-lost.ensures in
     let count : c.given_count.result ≡ given_count (lost_call c.in-Some.message.now.item (has_lost c.args.here.now.space c.args.here.now.n (state_of c.args.parts.now) c.in-Some.message.now)) = c.given_count.ensures ∙ ap given_count call in
     let numbers = c.free_numbers.ensures in
@@ -152,7 +152,7 @@ returns-in_err-settle-clause-answer c limits D stands =
 pub returns-in_err-reply-clause-answer : goal.returns-in_err-reply-clause-answer
 returns-in_err-reply-clause-answer c limits D stands =
     let seen : find (is_settleable (state_of c.args.parts.now)) c.args.parts.now.waiting.items ≡ Some c.in-Some.message.now = sym c.first_settleable.ensures ∙ ap option_copied c.in-Some.is in
-    let looked : c.index.result.now ≡ get_or c.args.parts.now.sessions.items (c.in-Some.message.now.from - 1) c.index.result.now = subst (λ (k : ℕ). c.index.result.now ≡ get_or c.args.parts.now.sessions.items (k - 1) c.index.result.now) c.get.ensures.value c.index.ensures in
+    let looked : c.index.result.now ≡ get_or c.args.parts.now.sessions.items (c.in-Some.message.now.from - 1) c.index.result.now = subst (λ (k : ℕ). c.index.result.now ≡ get_or c.args.parts.now.sessions.items k c.index.result.now) c.place-at.ensures.value c.index.ensures in
     let call : c.lost_call-call.result ≡ lost_call c.in-Some.message.now.item (has_lost c.args.here.now.space c.args.here.now.n (state_of c.args.parts.now) c.in-Some.message.now) = c.lost_call-call.ensures ∙ ap (lost_call c.in-Some.message.now.item) c.has_lost-lost.ensures in
     let count : c.given_count.result ≡ given_count (lost_call c.in-Some.message.now.item (has_lost c.args.here.now.space c.args.here.now.n (state_of c.args.parts.now) c.in-Some.message.now)) = c.given_count.ensures ∙ ap given_count call in
     let numbers = c.free_numbers.ensures in
@@ -164,7 +164,7 @@ returns-in_err-reply-clause-answer c limits D stands =
 pub returns-in_err-reserve_ready-clause-answer : goal.returns-in_err-reserve_ready-clause-answer
 returns-in_err-reserve_ready-clause-answer c limits D stands =
     let seen : find (is_settleable (state_of c.args.parts.now)) c.args.parts.now.waiting.items ≡ Some c.in-Some.message.now = sym c.first_settleable.ensures ∙ ap option_copied c.in-Some.is in
-    let looked : c.index.result.now ≡ get_or c.args.parts.now.sessions.items (c.in-Some.message.now.from - 1) c.index.result.now = subst (λ (k : ℕ). c.index.result.now ≡ get_or c.args.parts.now.sessions.items (k - 1) c.index.result.now) c.get.ensures.value c.index.ensures in
+    let looked : c.index.result.now ≡ get_or c.args.parts.now.sessions.items (c.in-Some.message.now.from - 1) c.index.result.now = subst (λ (k : ℕ). c.index.result.now ≡ get_or c.args.parts.now.sessions.items k c.index.result.now) c.place-at.ensures.value c.index.ensures in
     let call : c.lost_call-call.result ≡ lost_call c.in-Some.message.now.item (has_lost c.args.here.now.space c.args.here.now.n (state_of c.args.parts.now) c.in-Some.message.now) = c.lost_call-call.ensures ∙ ap (lost_call c.in-Some.message.now.item) c.has_lost-lost.ensures in
     let count : c.given_count.result ≡ given_count (lost_call c.in-Some.message.now.item (has_lost c.args.here.now.space c.args.here.now.n (state_of c.args.parts.now) c.in-Some.message.now)) = c.given_count.ensures ∙ ap given_count call in
     let numbers = c.free_numbers.ensures in
@@ -176,7 +176,7 @@ returns-in_err-reserve_ready-clause-answer c limits D stands =
 pub returns-in_err-reserve_replies-clause-answer : goal.returns-in_err-reserve_replies-clause-answer
 returns-in_err-reserve_replies-clause-answer c limits D stands =
     let seen : find (is_settleable (state_of c.args.parts.now)) c.args.parts.now.waiting.items ≡ Some c.in-Some.message.now = sym c.first_settleable.ensures ∙ ap option_copied c.in-Some.is in
-    let looked : c.index.result.now ≡ get_or c.args.parts.now.sessions.items (c.in-Some.message.now.from - 1) c.index.result.now = subst (λ (k : ℕ). c.index.result.now ≡ get_or c.args.parts.now.sessions.items (k - 1) c.index.result.now) c.get.ensures.value c.index.ensures in
+    let looked : c.index.result.now ≡ get_or c.args.parts.now.sessions.items (c.in-Some.message.now.from - 1) c.index.result.now = subst (λ (k : ℕ). c.index.result.now ≡ get_or c.args.parts.now.sessions.items k c.index.result.now) c.place-at.ensures.value c.index.ensures in
     let call : c.lost_call-call.result ≡ lost_call c.in-Some.message.now.item (has_lost c.args.here.now.space c.args.here.now.n (state_of c.args.parts.now) c.in-Some.message.now) = c.lost_call-call.ensures ∙ ap (lost_call c.in-Some.message.now.item) c.has_lost-lost.ensures in
     let count : c.given_count.result ≡ given_count (lost_call c.in-Some.message.now.item (has_lost c.args.here.now.space c.args.here.now.n (state_of c.args.parts.now) c.in-Some.message.now)) = c.given_count.ensures ∙ ap given_count call in
     let numbers = c.free_numbers.ensures in
@@ -188,7 +188,7 @@ returns-in_err-reserve_replies-clause-answer c limits D stands =
 pub returns-in_err-hand_notes-clause-answer : goal.returns-in_err-hand_notes-clause-answer
 returns-in_err-hand_notes-clause-answer c limits D stands =
     let seen : find (is_settleable (state_of c.args.parts.now)) c.args.parts.now.waiting.items ≡ Some c.in-Some.message.now = sym c.first_settleable.ensures ∙ ap option_copied c.in-Some.is in
-    let looked : c.index.result.now ≡ get_or c.args.parts.now.sessions.items (c.in-Some.message.now.from - 1) c.index.result.now = subst (λ (k : ℕ). c.index.result.now ≡ get_or c.args.parts.now.sessions.items (k - 1) c.index.result.now) c.get.ensures.value c.index.ensures in
+    let looked : c.index.result.now ≡ get_or c.args.parts.now.sessions.items (c.in-Some.message.now.from - 1) c.index.result.now = subst (λ (k : ℕ). c.index.result.now ≡ get_or c.args.parts.now.sessions.items k c.index.result.now) c.place-at.ensures.value c.index.ensures in
     let call : c.lost_call-call.result ≡ lost_call c.in-Some.message.now.item (has_lost c.args.here.now.space c.args.here.now.n (state_of c.args.parts.now) c.in-Some.message.now) = c.lost_call-call.ensures ∙ ap (lost_call c.in-Some.message.now.item) c.has_lost-lost.ensures in
     let count : c.given_count.result ≡ given_count (lost_call c.in-Some.message.now.item (has_lost c.args.here.now.space c.args.here.now.n (state_of c.args.parts.now) c.in-Some.message.now)) = c.given_count.ensures ∙ ap given_count call in
     let numbers = c.free_numbers.ensures in
@@ -200,7 +200,7 @@ returns-in_err-hand_notes-clause-answer c limits D stands =
 pub returns-clause-answer : goal.returns-clause-answer
 returns-clause-answer c limits D stands =
     let seen : find (is_settleable (state_of c.args.parts.now)) c.args.parts.now.waiting.items ≡ Some c.in-Some.message.now = sym c.first_settleable.ensures ∙ ap option_copied c.in-Some.is in
-    let looked : c.index.result.now ≡ get_or c.args.parts.now.sessions.items (c.in-Some.message.now.from - 1) c.index.result.now = subst (λ (k : ℕ). c.index.result.now ≡ get_or c.args.parts.now.sessions.items (k - 1) c.index.result.now) c.get.ensures.value c.index.ensures in
+    let looked : c.index.result.now ≡ get_or c.args.parts.now.sessions.items (c.in-Some.message.now.from - 1) c.index.result.now = subst (λ (k : ℕ). c.index.result.now ≡ get_or c.args.parts.now.sessions.items k c.index.result.now) c.place-at.ensures.value c.index.ensures in
     let call : c.lost_call-call.result ≡ lost_call c.in-Some.message.now.item (has_lost c.args.here.now.space c.args.here.now.n (state_of c.args.parts.now) c.in-Some.message.now) = c.lost_call-call.ensures ∙ ap (lost_call c.in-Some.message.now.item) c.has_lost-lost.ensures in
     let count : c.given_count.result ≡ given_count (lost_call c.in-Some.message.now.item (has_lost c.args.here.now.space c.args.here.now.n (state_of c.args.parts.now) c.in-Some.message.now)) = c.given_count.ensures ∙ ap given_count call in
     let numbers = c.free_numbers.ensures in
@@ -211,13 +211,13 @@ returns-clause-answer c limits D stands =
 pub returns-clause-stands : goal.returns-clause-stands
 returns-clause-stands c limits D stands =
     let seen : find (is_settleable (state_of c.args.parts.now)) c.args.parts.now.waiting.items ≡ Some c.in-Some.message.now = sym c.first_settleable.ensures ∙ ap option_copied c.in-Some.is in
-    let looked : c.index.result.now ≡ get_or c.args.parts.now.sessions.items (c.in-Some.message.now.from - 1) c.index.result.now = subst (λ (k : ℕ). c.index.result.now ≡ get_or c.args.parts.now.sessions.items (k - 1) c.index.result.now) c.get.ensures.value c.index.ensures in
+    let looked : c.index.result.now ≡ get_or c.args.parts.now.sessions.items (c.in-Some.message.now.from - 1) c.index.result.now = subst (λ (k : ℕ). c.index.result.now ≡ get_or c.args.parts.now.sessions.items k c.index.result.now) c.place-at.ensures.value c.index.ensures in
     let call : c.lost_call-call.result ≡ lost_call c.in-Some.message.now.item (has_lost c.args.here.now.space c.args.here.now.n (state_of c.args.parts.now) c.in-Some.message.now) = c.lost_call-call.ensures ∙ ap (lost_call c.in-Some.message.now.item) c.has_lost-lost.ensures in
     let count : c.given_count.result ≡ given_count (lost_call c.in-Some.message.now.item (has_lost c.args.here.now.space c.args.here.now.n (state_of c.args.parts.now) c.in-Some.message.now)) = c.given_count.ensures ∙ ap given_count call in
     let numbers = c.free_numbers.ensures in
     let few = c.if-free_numbers-given_count.false in
     let free : given_count (lost_call c.in-Some.message.now.item (has_lost c.args.here.now.space c.args.here.now.n (state_of c.args.parts.now) c.in-Some.message.now)) ≤ last_item - c.index.result.now.end.handed = omega (arith, count, numbers, few) in
-    let is : c.index_mut-session.result.now ≡ get_or c.args.parts.now.sessions.items (c.in-Some.message.now.from - 1) c.index_mut-session.result.now = subst (λ (k : ℕ). c.index_mut-session.result.now ≡ get_or c.args.parts.now.sessions.items (k - 1) c.index_mut-session.result.now) c.get.ensures.value c.index_mut-session.ensures.value in
+    let is : c.index_mut-session.result.now ≡ get_or c.args.parts.now.sessions.items (c.in-Some.message.now.from - 1) c.index_mut-session.result.now = subst (λ (k : ℕ). c.index_mut-session.result.now ≡ get_or c.args.parts.now.sessions.items k c.index_mut-session.result.now) c.place-at.ensures.value c.index_mut-session.ensures.value in
     let peer = (message_sound c.requires.2 c.in-Some.message.now seen).peer in
     let one = end_there c.args.here.now.space c.args.here.now.n c.requires.0 c.args.parts.now.sessions.items (history_of c.args.here.now.space c.args.here.now.n c.requires.1) c.in-Some.message.now.from c.index.result.now c.requires.2.ends peer looked in
     let two = end_there c.args.here.now.space c.args.here.now.n c.requires.0 c.args.parts.now.sessions.items (history_of c.args.here.now.space c.args.here.now.n c.requires.1) c.in-Some.message.now.from c.index_mut-session.result.now c.requires.2.ends peer is in
@@ -228,7 +228,7 @@ returns-clause-stands c limits D stands =
     let reply = c.in_ok-reply.ensures.spelled in
     subst (λ (after : State). Stands c.args.here.now.space c.args.here.now.n limits after (did.Settle c.in-Some.message.now.from c.in-Some.message.now.number ∷ D)) (sym c.put_settled.ensures.put)
     (subst (λ (awaited : List WireRep). Stands c.args.here.now.space c.args.here.now.n limits (record {
-      sessions = set c.args.parts.now.sessions.items (c.get.result - 1) c.hand_notes.new.session;
+      sessions = set c.args.parts.now.sessions.items c.place-at.result c.hand_notes.new.session;
       table = c.put_settled.new.parts.table;
       dirty = c.args.parts.now.dirty;
       pins = c.args.parts.now.pins;
@@ -238,7 +238,7 @@ returns-clause-stands c limits D stands =
       jobs = c.args.parts.now.jobs_made;
     }) (did.Settle c.in-Some.message.now.from c.in-Some.message.now.number ∷ D)) (sym c.take_settleable.ensures.awaited)
     (subst (λ (k : ℕ). Stands c.args.here.now.space c.args.here.now.n limits (record {
-      sessions = set c.args.parts.now.sessions.items (k - 1) c.hand_notes.new.session;
+      sessions = set c.args.parts.now.sessions.items k c.hand_notes.new.session;
       table = c.put_settled.new.parts.table;
       dirty = c.args.parts.now.dirty;
       pins = c.args.parts.now.pins;
@@ -246,7 +246,7 @@ returns-clause-stands c limits D stands =
       awaited = c.args.parts.now.waiting.awaited;
       calls = c.args.parts.now.calls_made;
       jobs = c.args.parts.now.jobs_made;
-    }) (did.Settle c.in-Some.message.now.from c.in-Some.message.now.number ∷ D)) (sym c.get.ensures.value)
+    }) (did.Settle c.in-Some.message.now.from c.in-Some.message.now.number ∷ D)) (sym c.place-at.ensures.value)
     (settle_stands stands c.in-Some.message.now seen c.index_mut-session.result.now is left c.hand_notes.new.session c.put_settled.new.parts.table _ c.in_ok-settle.settle.items (option_map (λ payload. payload.items) c.in_ok-reply.reply)
     c.in_ok-settle.ensures.spelled (reply ∙ ap (option_map _) call)
     (λ before. c.in_ok-hand_notes.ensures.answer c.args.here.now.space c.in-Some.message.now.from limits (calls_at c.in-Some.message.now.from (history_of c.args.here.now.space c.args.here.now.n D)) before)

@@ -61,37 +61,37 @@ index_mut-session-requires c =
     let judged = call_judged c.args.here.now.space c.args.here.now.n (state_of c.args.self.now) c.args.target.now c.args.value.now c.in_ok-refuse_call.ensures in
     let range = peer_range c.args.here.now.space c.args.here.now.n c.args.target.now.owner judged.peer in
     let each = c.requires.2.ends.each in
-    let peer = c.get.ensures.value in
+    let peer = c.place.ensures.value in
     omega (arith, range.0, range.1, each, peer)
 
 pub hand-requires-clause-next : goal.hand-requires-clause-next
 hand-requires-clause-next c =
     let judged = call_judged c.args.here.now.space c.args.here.now.n (state_of c.args.self.now) c.args.target.now c.args.value.now c.in_ok-refuse_call.ensures in
-    let is : c.index_mut-session.result.now ≡ get_or c.args.self.now.sessions.items (c.args.target.now.owner - 1) c.index_mut-session.result.now = subst (λ k. c.index_mut-session.result.now ≡ get_or c.args.self.now.sessions.items (k - 1) c.index_mut-session.result.now) c.get.ensures.value c.index_mut-session.ensures.value in
+    let is : c.index_mut-session.result.now ≡ get_or c.args.self.now.sessions.items (c.args.target.now.owner - 1) c.index_mut-session.result.now = subst (λ k. c.index_mut-session.result.now ≡ get_or c.args.self.now.sessions.items k c.index_mut-session.result.now) c.place.ensures.value c.index_mut-session.ensures.value in
     let there = end_there c.args.here.now.space c.args.here.now.n c.requires.0 c.args.self.now.sessions.items (history_of c.args.here.now.space c.args.here.now.n c.requires.1) c.args.target.now.owner c.index_mut-session.result.now c.requires.2.ends judged.peer is in
     next_free c.args.target.now.owner Limited (state_of c.args.self.now) c.index_mut-session.result.now there.0 there.1 judged.free
 
 pub hand-requires-clause-new : goal.hand-requires-clause-new
 hand-requires-clause-new c =
     let judged = call_judged c.args.here.now.space c.args.here.now.n (state_of c.args.self.now) c.args.target.now c.args.value.now c.in_ok-refuse_call.ensures in
-    let is : c.index_mut-session.result.now ≡ get_or c.args.self.now.sessions.items (c.args.target.now.owner - 1) c.index_mut-session.result.now = subst (λ k. c.index_mut-session.result.now ≡ get_or c.args.self.now.sessions.items (k - 1) c.index_mut-session.result.now) c.get.ensures.value c.index_mut-session.ensures.value in
+    let is : c.index_mut-session.result.now ≡ get_or c.args.self.now.sessions.items (c.args.target.now.owner - 1) c.index_mut-session.result.now = subst (λ k. c.index_mut-session.result.now ≡ get_or c.args.self.now.sessions.items k c.index_mut-session.result.now) c.place.ensures.value c.index_mut-session.ensures.value in
     let there = end_there c.args.here.now.space c.args.here.now.n c.requires.0 c.args.self.now.sessions.items (history_of c.args.here.now.space c.args.here.now.n c.requires.1) c.args.target.now.owner c.index_mut-session.result.now c.requires.2.ends judged.peer is in
     next_unpinned c.args.target.now.owner (c.index_mut-session.result.now.end.handed + 1) c.requires.2 (ap (λ (end : End). end.handed + 1) there.2)
 
 pub returns-in_err-hand-clause-err : goal.returns-in_err-hand-clause-err
 returns-in_err-hand-clause-err c = after_error _ c.from_residual-in_err-hand.result (λ limits D stands.
     let judged = call_judged c.args.here.now.space c.args.here.now.n (state_of c.args.self.now) c.args.target.now c.args.value.now c.in_ok-refuse_call.ensures in
-    let is : c.index_mut-session.result.now ≡ get_or c.args.self.now.sessions.items (c.args.target.now.owner - 1) c.index_mut-session.result.now = subst (λ k. c.index_mut-session.result.now ≡ get_or c.args.self.now.sessions.items (k - 1) c.index_mut-session.result.now) c.get.ensures.value c.index_mut-session.ensures.value in
+    let is : c.index_mut-session.result.now ≡ get_or c.args.self.now.sessions.items (c.args.target.now.owner - 1) c.index_mut-session.result.now = subst (λ k. c.index_mut-session.result.now ≡ get_or c.args.self.now.sessions.items k c.index_mut-session.result.now) c.place.ensures.value c.index_mut-session.ensures.value in
     let same = c.in_err-hand.ensures.err in
-    subst (λ (k : ℕ). Stands c.args.here.now.space c.args.here.now.n limits (after k c.args.self.now.calls.calls c.args.self.now.calls.replies) D → Stands c.args.here.now.space c.args.here.now.n limits (after c.get.result c.reserve_calls.new.self.calls c.reserve_calls.new.self.replies) D) c.get.ensures.value
-    (λ st. subst (λ (calls : List OwnCall). Stands c.args.here.now.space c.args.here.now.n limits (after c.get.result calls c.reserve_calls.new.self.replies) D) (sym c.reserve_calls.ensures.calls)
-    (subst (λ (replies : List Message). Stands c.args.here.now.space c.args.here.now.n limits (after c.get.result c.args.self.now.calls.calls replies) D) (sym c.reserve_calls.ensures.replies) st))
+    subst (λ (k : ℕ). Stands c.args.here.now.space c.args.here.now.n limits (after k c.args.self.now.calls.calls c.args.self.now.calls.replies) D → Stands c.args.here.now.space c.args.here.now.n limits (after c.place.result c.reserve_calls.new.self.calls c.reserve_calls.new.self.replies) D) c.place.ensures.value
+    (λ st. subst (λ (calls : List OwnCall). Stands c.args.here.now.space c.args.here.now.n limits (after c.place.result calls c.reserve_calls.new.self.replies) D) (sym c.reserve_calls.ensures.calls)
+    (subst (λ (replies : List Message). Stands c.args.here.now.space c.args.here.now.n limits (after c.place.result c.args.self.now.calls.calls replies) D) (sym c.reserve_calls.ensures.replies) st))
     (stands_unsent stands c.args.target.now.owner c.index_mut-session.result.now c.hand.new.session c.hand.new.pins judged.peer is same.0 same.1))
   where
     after : ℕ → List OwnCall → List Message → State
     after k calls replies =
         record {
-          sessions = set c.args.self.now.sessions.items (k - 1) c.hand.new.session;
+          sessions = set c.args.self.now.sessions.items k c.hand.new.session;
           table = c.args.self.now.table;
           dirty = c.args.self.now.dirty;
           pins = c.hand.new.pins;
@@ -110,11 +110,11 @@ returns-clause-answer c limits D stands = call_ok stands c.args.target.now c.arg
 pub returns-clause-stands : goal.returns-clause-stands
 returns-clause-stands c limits D stands =
     let judged = call_judged c.args.here.now.space c.args.here.now.n (state_of c.args.self.now) c.args.target.now c.args.value.now c.in_ok-refuse_call.ensures in
-    let is : c.index_mut-session.result.now ≡ get_or c.args.self.now.sessions.items (c.args.target.now.owner - 1) c.index_mut-session.result.now = subst (λ k. c.index_mut-session.result.now ≡ get_or c.args.self.now.sessions.items (k - 1) c.index_mut-session.result.now) c.get.ensures.value c.index_mut-session.ensures.value in
+    let is : c.index_mut-session.result.now ≡ get_or c.args.self.now.sessions.items (c.args.target.now.owner - 1) c.index_mut-session.result.now = subst (λ k. c.index_mut-session.result.now ≡ get_or c.args.self.now.sessions.items k c.index_mut-session.result.now) c.place.ensures.value c.index_mut-session.ensures.value in
     let sent = c.in_ok-hand.ensures in
     marked_stands
     (subst (λ (k : ℕ). Stands c.args.here.now.space c.args.here.now.n limits (record {
-      sessions = set c.args.self.now.sessions.items (k - 1) c.hand.new.session;
+      sessions = set c.args.self.now.sessions.items k c.hand.new.session;
       table = c.args.self.now.table;
       dirty = c.args.self.now.dirty;
       pins = c.hand.new.pins;
@@ -122,7 +122,7 @@ returns-clause-stands c limits D stands =
       awaited = c.args.self.now.waiting.awaited;
       calls = c.args.self.now.calls_made + 1;
       jobs = c.args.self.now.jobs_made;
-    }) (did.Call c.args.target.now c.args.method c.args.value.now c.new-call.result ∷ D)) (sym c.get.ensures.value)
+    }) (did.Call c.args.target.now c.args.method c.args.value.now c.new-call.result ∷ D)) (sym c.place.ensures.value)
     (subst (λ (replies : List Message). Stands c.args.here.now.space c.args.here.now.n limits (record {
       sessions = set c.args.self.now.sessions.items (c.args.target.now.owner - 1) c.hand.new.session;
       table = c.args.self.now.table;

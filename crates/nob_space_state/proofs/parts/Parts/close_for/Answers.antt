@@ -16,18 +16,18 @@ close_down-requires c = vain_lent c.requires.state.2 c.in-Ok.closed.peer
 
 pub unreachable-requires : goal.unreachable-requires
 unreachable-requires c =
-    let is : c.index_mut.result.now ≡ get_or c.args.self.now.sessions.items (c.args.peer - 1) c.index_mut.result.now = subst (λ k. c.index_mut.result.now ≡ get_or c.args.self.now.sessions.items (k - 1) c.index_mut.result.now) c.get.ensures.value c.index_mut.ensures.value in
+    let is : c.index_mut.result.now ≡ get_or c.args.self.now.sessions.items (c.args.peer - 1) c.index_mut.result.now = subst (λ k. c.index_mut.result.now ≡ get_or c.args.self.now.sessions.items k c.index_mut.result.now) c.place.ensures.value c.index_mut.ensures.value in
     let there = end_there c.args.here.now.space c.args.here.now.n c.requires.state.0 c.args.self.now.sessions.items (history_of c.args.here.now.space c.args.here.now.n c.requires.state.1) c.args.peer c.index_mut.result.now c.requires.state.2.ends c.requires.peer is in
     let bad : false ≡ true = (c.in-Err.ensures {u = tt}).open ∙ open_end c.args.self.now.sessions.items c.args.peer c.index_mut.result.now there.0 there.1 c.requires.open in
     cc
 
 closed_by : (c : goal.After-close_down) (cause : Cause) → call_of_closing c.args.peer c.args.reason cause ≡ ends.Close c.args.reason (Ok (record { peer = c.args.peer; reason = c.args.reason })) → Closes c.args.here.now.space c.args.here.now.n c.args.peer c.args.reason cause (state_of c.args.self.now) (state_of c.close_down.new.self)
 closed_by c cause call_is = λ limits D stands its.
-    let is : c.index_mut.result.now ≡ get_or c.args.self.now.sessions.items (c.args.peer - 1) c.index_mut.result.now = subst (λ k. c.index_mut.result.now ≡ get_or c.args.self.now.sessions.items (k - 1) c.index_mut.result.now) c.get.ensures.value c.index_mut.ensures.value in
+    let is : c.index_mut.result.now ≡ get_or c.args.self.now.sessions.items (c.args.peer - 1) c.index_mut.result.now = subst (λ k. c.index_mut.result.now ≡ get_or c.args.self.now.sessions.items k c.index_mut.result.now) c.place.ensures.value c.index_mut.ensures.value in
     ended_stands stands c.args.peer c.args.reason cause (λ e. ends.Close c.args.reason (Ok e)) call_is c.index_mut.result.now c.close.new.self (state_of c.close_down.new.self) c.in-Ok.closed c.requires.peer is
     (c.in-Ok.ensures {u = tt}).reason (c.in-Ok.ensures {u = tt}).ends.1
     (λ before. ((c.in-Ok.ensures {u = tt}).answer c.args.here.now.space c.args.peer limits (calls_at c.args.peer (history_of c.args.here.now.space c.args.here.now.n D)) before).1)
-    (subst (λ (k : ℕ). ClosesDown c.args.here.now.space c.in-Ok.closed.peer (with_sessions (set c.args.self.now.sessions.items (k - 1) c.close.new.self) (state_of c.args.self.now)) (state_of c.close_down.new.self)) c.get.ensures.value c.close_down.ensures) its
+    (subst (λ (k : ℕ). ClosesDown c.args.here.now.space c.in-Ok.closed.peer (with_sessions (set c.args.self.now.sessions.items k c.close.new.self) (state_of c.args.self.now)) (state_of c.close_down.new.self)) c.place.ensures.value c.close_down.ensures) its
 
 pub returns-clause-item : goal.returns-clause-item
 returns-clause-item c = closed_by c causes.Item refl

@@ -113,7 +113,7 @@ index_mut-session-requires c =
     let sound = run_sound c.requires.2 c.args.job c.args.outcome.now c.in-Some.run'.now found in
     let range = peer_range c.args.here.now.space c.args.here.now.n c.in-Some.run'.now.message.from sound.0.peer in
     let each = c.requires.2.ends.each in
-    let client = c.get.ensures.value in
+    let client = c.place.ensures.value in
     omega (arith, range.0, range.1, each, client)
 
 pub hand-requires-clause-next : goal.hand-requires-clause-next
@@ -121,7 +121,7 @@ hand-requires-clause-next c =
     let found : find (is_run c.args.job) c.args.self.now.jobs.running ≡ Some c.in-Some.run'.now = sym (c.in-Some.ensures {u = tt}).found in
     let sound = run_sound c.requires.2 c.args.job c.args.outcome.now c.in-Some.run'.now found in
     let judged = reply_judged c.args.here.now.space c.in-Some.run'.now.message.from (state_of c.args.self.now) c.value_of-value.result.now c.in_ok-refuse_reply.ensures in
-    let is : c.index_mut-session.result.now ≡ get_or c.args.self.now.sessions.items (c.in-Some.run'.now.message.from - 1) c.index_mut-session.result.now = subst (λ k. c.index_mut-session.result.now ≡ get_or c.args.self.now.sessions.items (k - 1) c.index_mut-session.result.now) c.get.ensures.value c.index_mut-session.ensures.value in
+    let is : c.index_mut-session.result.now ≡ get_or c.args.self.now.sessions.items (c.in-Some.run'.now.message.from - 1) c.index_mut-session.result.now = subst (λ k. c.index_mut-session.result.now ≡ get_or c.args.self.now.sessions.items k c.index_mut-session.result.now) c.place.ensures.value c.index_mut-session.ensures.value in
     let there = end_there c.args.here.now.space c.args.here.now.n c.requires.0 c.args.self.now.sessions.items (history_of c.args.here.now.space c.args.here.now.n c.requires.1) c.in-Some.run'.now.message.from c.index_mut-session.result.now c.requires.2.ends sound.0.peer is in
     next_free c.in-Some.run'.now.message.from Limited (state_of c.args.self.now) c.index_mut-session.result.now there.0 there.1 judged.1
 
@@ -129,7 +129,7 @@ pub hand-requires-clause-new : goal.hand-requires-clause-new
 hand-requires-clause-new c =
     let found : find (is_run c.args.job) c.args.self.now.jobs.running ≡ Some c.in-Some.run'.now = sym (c.in-Some.ensures {u = tt}).found in
     let sound = run_sound c.requires.2 c.args.job c.args.outcome.now c.in-Some.run'.now found in
-    let is : c.index_mut-session.result.now ≡ get_or c.args.self.now.sessions.items (c.in-Some.run'.now.message.from - 1) c.index_mut-session.result.now = subst (λ k. c.index_mut-session.result.now ≡ get_or c.args.self.now.sessions.items (k - 1) c.index_mut-session.result.now) c.get.ensures.value c.index_mut-session.ensures.value in
+    let is : c.index_mut-session.result.now ≡ get_or c.args.self.now.sessions.items (c.in-Some.run'.now.message.from - 1) c.index_mut-session.result.now = subst (λ k. c.index_mut-session.result.now ≡ get_or c.args.self.now.sessions.items k c.index_mut-session.result.now) c.place.ensures.value c.index_mut-session.ensures.value in
     let there = end_there c.args.here.now.space c.args.here.now.n c.requires.0 c.args.self.now.sessions.items (history_of c.args.here.now.space c.args.here.now.n c.requires.1) c.in-Some.run'.now.message.from c.index_mut-session.result.now c.requires.2.ends sound.0.peer is in
     next_unpinned c.in-Some.run'.now.message.from (c.index_mut-session.result.now.end.handed + 1) c.requires.2 (ap (λ (end : End). end.handed + 1) there.2)
 
@@ -137,10 +137,10 @@ pub returns-in_err-hand-clause-err : goal.returns-in_err-hand-clause-err
 returns-in_err-hand-clause-err c = after_error _ c.from_residual-in_err-hand.result (λ limits D stands.
     let found : find (is_run c.args.job) c.args.self.now.jobs.running ≡ Some c.in-Some.run'.now = sym (c.in-Some.ensures {u = tt}).found in
     let sound = run_sound c.requires.2 c.args.job c.args.outcome.now c.in-Some.run'.now found in
-    let is : c.index_mut-session.result.now ≡ get_or c.args.self.now.sessions.items (c.in-Some.run'.now.message.from - 1) c.index_mut-session.result.now = subst (λ k. c.index_mut-session.result.now ≡ get_or c.args.self.now.sessions.items (k - 1) c.index_mut-session.result.now) c.get.ensures.value c.index_mut-session.ensures.value in
+    let is : c.index_mut-session.result.now ≡ get_or c.args.self.now.sessions.items (c.in-Some.run'.now.message.from - 1) c.index_mut-session.result.now = subst (λ k. c.index_mut-session.result.now ≡ get_or c.args.self.now.sessions.items k c.index_mut-session.result.now) c.place.ensures.value c.index_mut-session.ensures.value in
     let same = c.in_err-hand.ensures.err in
     subst (λ (k : ℕ). Stands c.args.here.now.space c.args.here.now.n limits (record {
-      sessions = set c.args.self.now.sessions.items (k - 1) c.hand.new.session;
+      sessions = set c.args.self.now.sessions.items k c.hand.new.session;
       table = c.args.self.now.table;
       dirty = c.args.self.now.dirty;
       pins = c.hand.new.pins;
@@ -148,18 +148,18 @@ returns-in_err-hand-clause-err c = after_error _ c.from_residual-in_err-hand.res
       awaited = c.args.self.now.waiting.awaited;
       calls = c.args.self.now.calls_made;
       jobs = c.args.self.now.jobs_made;
-    }) D) (sym c.get.ensures.value)
+    }) D) (sym c.place.ensures.value)
     (stands_unsent stands c.in-Some.run'.now.message.from c.index_mut-session.result.now c.hand.new.session c.hand.new.pins sound.0.peer is same.0 same.1))
 
 pub returns-clause-stands : goal.returns-clause-stands
 returns-clause-stands c limits D stands =
     let found : find (is_run c.args.job) c.args.self.now.jobs.running ≡ Some c.in-Some.run'.now = sym (c.in-Some.ensures {u = tt}).found in
     let still : has_closed c.args.self.now.sessions.items c.in-Some.run'.now.message.from ≡ false = sym c.has_closed.ensures ∙ c.if-has_closed.false in
-    let is : c.index_mut-session.result.now ≡ get_or c.args.self.now.sessions.items (c.in-Some.run'.now.message.from - 1) c.index_mut-session.result.now = subst (λ k. c.index_mut-session.result.now ≡ get_or c.args.self.now.sessions.items (k - 1) c.index_mut-session.result.now) c.get.ensures.value c.index_mut-session.ensures.value in
+    let is : c.index_mut-session.result.now ≡ get_or c.args.self.now.sessions.items (c.in-Some.run'.now.message.from - 1) c.index_mut-session.result.now = subst (λ k. c.index_mut-session.result.now ≡ get_or c.args.self.now.sessions.items k c.index_mut-session.result.now) c.place.ensures.value c.index_mut-session.ensures.value in
     let sent = c.in_ok-hand.ensures in
     marked_stands
     (subst (λ (k : ℕ). Stands c.args.here.now.space c.args.here.now.n limits (record {
-      sessions = set c.args.self.now.sessions.items (k - 1) c.hand.new.session;
+      sessions = set c.args.self.now.sessions.items k c.hand.new.session;
       table = c.end_job-2.new.table;
       dirty = c.args.self.now.dirty;
       pins = c.hand.new.pins;
@@ -167,7 +167,7 @@ returns-clause-stands c limits D stands =
       awaited = c.args.self.now.waiting.awaited;
       calls = c.args.self.now.calls_made;
       jobs = c.args.self.now.jobs_made;
-    }) (did.Finish c.args.job c.args.outcome.now ∷ D)) (sym c.get.ensures.value)
+    }) (did.Finish c.args.job c.args.outcome.now ∷ D)) (sym c.place.ensures.value)
     (subst (λ (ready : List Message). Stands c.args.here.now.space c.args.here.now.n limits (record {
       sessions = set c.args.self.now.sessions.items (c.in-Some.run'.now.message.from - 1) c.hand.new.session;
       table = c.end_job-2.new.table;
