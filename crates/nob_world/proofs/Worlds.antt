@@ -84,8 +84,8 @@ spaces_changed n limits spaces J J' p old new stand low there same stands others
 }
 
 -- an element that was read stands at its place
-pub read_there : {X : Type 0} (xs : List X) (p k : ℕ) (x : X) → k ≡ p → 1 ≤ p → p ≤ length xs → x ≡ get_or xs (k - 1) x → slice_get xs (p - 1) ≡ Some x
-read_there xs p k x same low high is = slice_get_read xs (length xs) (p - 1) x refl (omega (arith, low, high)) (subst (λ j. x ≡ get_or xs (j - 1) x) same is)
+pub read_there : {X : Type 0} (xs : List X) (p k : ℕ) (x : X) → k ≡ p - 1 → 1 ≤ p → p ≤ length xs → x ≡ get_or xs k x → slice_get xs (p - 1) ≡ Some x
+read_there xs p k x same low high is = slice_get_read xs (length xs) (p - 1) x refl (omega (arith, low, high)) (subst (λ j. x ≡ get_or xs j x) same is)
 
 -- what was answered at a space of a world is the right answer by the world's own numbers
 right_there : {n p : ℕ} {limits : Limits} {J : List Entry} {old : Owner} (event : Event) (result : Result Answer Refusal) → 1 ≤ p → IsSpaceOf n limits J (p - 1 + 1) old
@@ -99,11 +99,11 @@ right_there {n} {p} {limits} {J} {old} event result low place told =
 -- what a step at one space leaves of a world: the space that was asked, what it answered, and what it was to give
 pub record Asked (n : ℕ) (limits : Limits) (spaces : List Owner) (entries : List Entry) (frames : List Frame) (p k : ℕ) (event : Event) (old new looked : Owner) : Type 0 where
   pub world : IsWorld (world_of n limits spaces entries frames)
-  pub number : k ≡ p
+  pub number : k ≡ p - 1
   pub low : 1 ≤ p
   pub high : p ≤ length spaces
-  pub old_is : old ≡ get_or spaces (k - 1) old
-  pub looked_is : looked ≡ get_or spaces (k - 1) looked
+  pub old_is : old ≡ get_or spaces k old
+  pub looked_is : looked ≡ get_or spaces k looked
   pub same : SameSpace old new
   pub arrives : ArrivesGiven event (reverse entries)
 
@@ -124,10 +124,10 @@ module _ {n : ℕ} {limits : Limits} {spaces : List Owner} {entries : List Entry
   stood = subst (λ q. StandsFor old (at q (reverse entries))) (let same : p - 1 + 1 ≡ p = omega (arith, asked.low) in same) place_of.stands
 
   -- where memory is wanted the world is as it was
-  pub world_kept : (entries' : List Entry) (frames' : List Frame) → ((L : List Entry) → StandsFor old L → StandsFor new L) → entries' ≡ entries → frames' ≡ frames → IsWorld (world_of n limits (set spaces (k - 1) new) entries' frames')
+  pub world_kept : (entries' : List Entry) (frames' : List Frame) → ((L : List Entry) → StandsFor old L → StandsFor new L) → entries' ≡ entries → frames' ≡ frames → IsWorld (world_of n limits (set spaces k new) entries' frames')
   world_kept entries' frames' stands same_entries same_frames =
       let spaces' = spaces_changed n limits spaces (reverse entries) (reverse entries) p old new asked.world.spaces asked.low old_there asked.same (stands (at p (reverse entries)) stood) (λ q other. refl) in
-      subst (λ j. IsWorld (world_of n limits (set spaces (j - 1) new) entries' frames')) (sym asked.number)
+      subst (λ j. IsWorld (world_of n limits (set spaces j new) entries' frames')) (sym asked.number)
       (subst (λ (es : List Entry). IsWorld (world_of n limits (set spaces (p - 1) new) es frames')) (sym same_entries)
       (subst (λ (fs : List Frame). IsWorld (world_of n limits (set spaces (p - 1) new) entries fs)) (sym same_frames)
       (record { some = asked.world.some; few = asked.world.few; spaces = spaces'; run = asked.world.run; frames = asked.world.frames; spelt = asked.world.spelt; for_spaces = asked.world.for_spaces; typed = asked.world.typed })))
@@ -138,7 +138,7 @@ module _ {n : ℕ} {limits : Limits} {spaces : List Owner} {entries : List Entry
       → ((L : List Entry) → StandsFor old L → StandsFor new (entry_of old.id event result ∷ L))
       → more ≡ frames_of (deed_by event result) → AllByRecursion Fits more → AllByRecursion (λ frame. frame.to ≤ n) more → IsOfTypes (entry_of p event result)
       → entries' ≡ entries ++ entry_of p event result ∷ [] → frames' ≡ frames ++ more
-      → IsWorld (world_of n limits (set spaces (k - 1) new) entries' frames')
+      → IsWorld (world_of n limits (set spaces k new) entries' frames')
   world_made result more entries' frames' answered stands gives spelt for_spaces typed entries_is frames_is =
       let J = reverse entries in
       let entry = entry_of p event result in
@@ -147,7 +147,7 @@ module _ {n : ℕ} {limits : Limits} {spaces : List Owner} {entries : List Entry
       let is_right = right_there event result asked.low place_of (answered (at p J) stood) in
       let spaces' : SpacesStand n limits (set spaces (p - 1) new) (entry ∷ J) = spaces_changed n limits spaces J (entry ∷ J) p old new asked.world.spaces asked.low old_there asked.same new_stands (λ q other. at_other p q event result J other) in
       let high : p ≤ n = subst (λ m. p ≤ m) asked.world.spaces.each asked.high in
-      subst (λ j. IsWorld (world_of n limits (set spaces (j - 1) new) entries' frames')) (sym asked.number)
+      subst (λ j. IsWorld (world_of n limits (set spaces j new) entries' frames')) (sym asked.number)
       (subst (λ (es : List Entry). IsWorld (world_of n limits (set spaces (p - 1) new) es frames')) (sym entries_is)
       (subst (λ (fs : List Frame). IsWorld (world_of n limits (set spaces (p - 1) new) (entries ++ entry ∷ []) fs)) (sym frames_is) (record {
         some = asked.world.some;

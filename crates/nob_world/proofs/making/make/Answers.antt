@@ -1,4 +1,4 @@
-use Rattle.std.proofs.Common.{◌≡◌, ◌≤◌, ◌++◌, ◌∷◌, [], List, Ok, Err, refl, sym, ap, subst, ◌∙◌}
+use Rattle.std.proofs.Common.{◌≡◌, ◌≤◌, ◌++◌, ◌∷◌, [], List, Ok, Err, refl, sym, ap, subst, ◌∙◌, arith}
 use Rattle.std.proofs.lemmas.List.{append-nil}
 use Rattle.nob_model_types.specs.declared.answer.Answer.{Answer}
 use Rattle.nob_model_types.specs.declared.entry.Entry.{Entry}
@@ -15,10 +15,10 @@ use Rattle.nob_world.proofs.making.make.Goals as goal
 
 pub returns-in-Ok-step_twice-clause-world : goal.returns-in-Ok-step_twice-clause-world
 returns-in-Ok-step_twice-clause-world c n limits world arrives =
-    let asked : Asked n limits c.args.spaces.now.items c.args.entries.now.items c.args.frames.now.items c.args.space c.get.result c.args.event c.index_mut.result.now c.step_twice.new.self c.index.result.now = record {
+    let asked : Asked n limits c.args.spaces.now.items c.args.entries.now.items c.args.frames.now.items c.args.space c.place-place.result c.args.event c.index_mut.result.now c.step_twice.new.self c.index.result.now = record {
       world = world;
-      number = c.get.ensures.value;
-      low = subst (λ k. 1 ≤ k) c.get.ensures.value c.get.ensures.in_range.0;
+      number = c.place-place.ensures.value;
+      low = omega (arith, c.place-place.ensures.next);
       high = c.requires;
       old_is = c.index_mut.ensures.value;
       looked_is = c.index.ensures;
@@ -40,10 +40,10 @@ returns-in-Ok-step_twice-clause-world c n limits world arrives =
 
 pub returns-in-Err-Refused-clause-world : goal.returns-in-Err-Refused-clause-world
 returns-in-Err-Refused-clause-world c n limits world arrives =
-    let asked : Asked n limits c.args.spaces.now.items c.args.entries.now.items c.args.frames.now.items c.args.space c.get.result c.args.event c.index_mut.result.now c.step_twice.new.self c.index.result.now = record {
+    let asked : Asked n limits c.args.spaces.now.items c.args.entries.now.items c.args.frames.now.items c.args.space c.place-place.result c.args.event c.index_mut.result.now c.step_twice.new.self c.index.result.now = record {
       world = world;
-      number = c.get.ensures.value;
-      low = subst (λ k. 1 ≤ k) c.get.ensures.value c.get.ensures.in_range.0;
+      number = c.place-place.ensures.value;
+      low = omega (arith, c.place-place.ensures.next);
       high = c.requires;
       old_is = c.index_mut.ensures.value;
       looked_is = c.index.ensures;
@@ -63,10 +63,10 @@ returns-in-Err-Refused-clause-world c n limits world arrives =
 
 pub returns-in-Err-OutOfMemory-clause-world : goal.returns-in-Err-OutOfMemory-clause-world
 returns-in-Err-OutOfMemory-clause-world c n limits world arrives =
-    let asked : Asked n limits c.args.spaces.now.items c.args.entries.now.items c.args.frames.now.items c.args.space c.get.result c.args.event c.index_mut.result.now c.step_twice.new.self c.index.result.now = record {
+    let asked : Asked n limits c.args.spaces.now.items c.args.entries.now.items c.args.frames.now.items c.args.space c.place-place.result c.args.event c.index_mut.result.now c.step_twice.new.self c.index.result.now = record {
       world = world;
-      number = c.get.ensures.value;
-      low = subst (λ k. 1 ≤ k) c.get.ensures.value c.get.ensures.in_range.0;
+      number = c.place-place.ensures.value;
+      low = omega (arith, c.place-place.ensures.next);
       high = c.requires;
       old_is = c.index_mut.ensures.value;
       looked_is = c.index.ensures;
