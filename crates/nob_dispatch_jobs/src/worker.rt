@@ -115,13 +115,24 @@ impl<O: Object> Worker<O> {
         self.step(rt, keeper, gate)
     }
 
-    // The object comes back from a method that has ended.
+    // Whether the method has ended, and its object hasn't come back.
+    fn has_returned(&self) -> bool {
+        match &self.keeping {
+            Keeping::Running(_, Stage::End(_)) => true,
+            _ => false,
+        }
+    }
+
+    // The object comes back from a method that has ended. Else nothing is moved.
     fn hand_back(&mut self) -> Option<Return<O>>
         ensures back { IfSome result (λ back. (self.old.job ≡ Some back.job)
             × (self.old.object ≡ Some back.index)) }
         ensures given { MatchOption result (self.new ≡ self.old)
             (λ _. self.new ≡ working.without_object self.old) }
     {
+        if !self.has_returned() {
+            return None;
+        }
         let keeping = std::mem::replace(&mut self.keeping, Keeping::Nothing);
         match keeping {
             Keeping::Running(errand, stage) => match stage {

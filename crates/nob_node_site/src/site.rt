@@ -249,8 +249,7 @@ impl<B: Object> Site<B> {
         }
         let is_sealed = self.is_sealed();
         let is_whole = outbox.flush(rt, &self.keeper);
-        self.outbox_is_late
-            .store(!outbox.is_clear(), Ordering::SeqCst);
+        set_to(&self.outbox_is_late, !outbox.is_clear());
         if is_sealed && is_whole && outbox.put_ends(rt) {
             self.has_ended.store(true, Ordering::SeqCst);
         }
@@ -264,8 +263,7 @@ impl<B: Object> Site<B> {
         let (done, busy) = (&is_done, &is_busy);
         self.outbox.offer(rt, |outbox: &mut Outbox| {
             let pulse = outbox.turn(rt, &self.keeper, dues);
-            self.outbox_is_late
-                .store(!outbox.is_clear(), Ordering::SeqCst);
+            set_to(&self.outbox_is_late, !outbox.is_clear());
             done.store(pulse == Pulse::Done, Ordering::SeqCst);
             busy.store(pulse == Pulse::Busy, Ordering::SeqCst);
         });
@@ -427,7 +425,7 @@ impl<B: Object> Site<B> {
             is_late = self.assign_some(rt, desk);
         }
         if !is_late {
-            self.desk_is_late.store(false, Ordering::SeqCst);
+            set_to(&self.desk_is_late, false);
         }
     }
 
@@ -689,6 +687,13 @@ impl<B: Object> Site<B> {
         if error == KeeperError::TraceFull {
             self.fail(rt);
         }
+    }
+}
+
+// Sets a flag that only who has the turn sets: most times it stands already, and to read it costs less.
+fn set_to(flag: &AtomicBool, is_set: bool) {
+    if flag.load(Ordering::SeqCst) != is_set {
+        flag.store(is_set, Ordering::SeqCst);
     }
 }
 
