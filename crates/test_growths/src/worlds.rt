@@ -1,5 +1,11 @@
 //! Scripts on worlds, where a step that wanted memory is made once more.
 
+ghost use Rattle.std.specs.Prelude.{◌≡◌, List, true, length, reverse, IfOk};
+ghost use Rattle.nob_model_types.specs.declared.entry.Entry.{Entry as EntryOf};
+ghost use Rattle.nob_model_journal.specs.Runs.{WorldRun};
+ghost use Rattle.nob_trace.specs.declared.trace.Trace.{Trace as TraceOf};
+ghost use Rattle.nob_model_traces.specs.Faults.{AreAccepted};
+
 use crate::script::Script;
 use nob_check_traces::{CheckError, check};
 use nob_ids::SpaceId;
@@ -17,15 +23,27 @@ pub enum Way {
     AllAtOnce,
 }
 
-/// The entries that a script makes in a new world. Only memory fails it, twice in one place.
-pub fn entries_of(alloc: Global, script: &Script, way: Way) -> Result<Vec<Entry>, AllocError> {
-    let mut world = match World::new(alloc, script.n.get(), script.limits) {
-        Ok(world) => world,
-        Err(_) => World::new(alloc, script.n.get(), script.limits)?,
-    };
+/// The entries that a script makes in a new world, the first first: a run of a world of as many spaces
+/// with these limits. Only memory fails it, twice in one place.
+pub fn entries_of(alloc: Global, script: &Script, way: Way) -> Result<Vec<Entry>, AllocError>
+    ensures { IfOk result (λ entries.
+        WorldRun script.now.n (λ _. script.now.limits) (reverse entries.items)) }
+{
+    let mut world = new_world(alloc, script)?;
     let entries = entries_in(alloc, &mut world, script, way);
     world.shut();
     entries
+}
+
+// A new world of a script's spaces, with its limits.
+fn new_world(alloc: Global, script: &Script) -> Result<World, AllocError>
+    ensures n { IfOk result (λ world. world.n ≡ script.now.n) }
+    ensures limits { IfOk result (λ world. world.limits ≡ script.now.limits) }
+{
+    match World::new(alloc, script.n.get(), script.limits) {
+        Ok(world) => Ok(world),
+        Err(_) => World::new(alloc, script.n.get(), script.limits),
+    }
 }
 
 // The same in a world that is new.
@@ -34,19 +52,54 @@ fn entries_in(
     world: &mut World,
     script: &Script,
     way: Way,
-) -> Result<Vec<Entry>, AllocError> {
+) -> Result<Vec<Entry>, AllocError>
+    ensures run { IfOk result (λ entries.
+        WorldRun world.new.n (λ _. world.new.limits) (reverse entries.items)) }
+    ensures n { world.new.n ≡ world.old.n }
+    ensures limits { world.new.limits ≡ world.old.limits }
+{
+    make_steps(world, script.steps.as_slice(), way)?;
+    entries_made(alloc, world)
+}
+
+// Makes steps in a way.
+fn make_steps(world: &mut World, steps: &[WorldStep], way: Way) -> Result<(), AllocError>
+    ensures n { world.new.n ≡ world.old.n }
+    ensures limits { world.new.limits ≡ world.old.limits }
+{
     match way {
-        Way::StepByStep => make_each(world, script.steps.as_slice())?,
-        Way::AllAtOnce => make_all(world, script.steps.as_slice())?,
+        Way::StepByStep => make_each(world, steps),
+        Way::AllAtOnce => make_all(world, steps),
     }
-    match copy_of(alloc, world.entries()) {
-        Ok(entries) => Ok(entries),
-        Err(_) => copy_of(alloc, world.entries()),
+}
+
+// The entries that were made.
+fn entries_made(alloc: Global, world: &World) -> Result<Vec<Entry>, AllocError>
+    ensures { IfOk result (λ entries.
+        WorldRun world.now.n (λ _. world.now.limits) (reverse entries.items)) }
+{
+    let made = world.entries();
+    let Ok(entries) = copy_by_two(alloc, made) else {
+        return Err(AllocError);
+    };
+    Ok(entries)
+}
+
+// The same entries once more, by two tries.
+fn copy_by_two(alloc: Global, entries: &[Entry]) -> Result<Vec<Entry>, AllocError>
+    ensures { IfOk result (λ copy. copy.items ≡ entries.now) }
+{
+    match copy_of(alloc, entries) {
+        Ok(copy) => Ok(copy),
+        Err(_) => copy_of(alloc, entries),
     }
 }
 
 // Makes steps one after the other.
-fn make_each(world: &mut World, steps: &[WorldStep]) -> Result<(), AllocError> {
+fn make_each(world: &mut World, steps: &[WorldStep]) -> Result<(), AllocError>
+    ensures n { world.new.n ≡ world.old.n }
+    ensures limits { world.new.limits ≡ world.old.limits }
+{
     for step in steps {
         match make(world, step) {
             Err(WorldError::OutOfMemory) => return Err(AllocError),
@@ -59,7 +112,10 @@ fn make_each(world: &mut World, steps: &[WorldStep]) -> Result<(), AllocError> {
 
 // Makes steps as whole lists: behind one that there is no space or no frame for it goes on with the next,
 // at one that wanted memory with that one. So each list but one leaves a step out.
-fn make_all(world: &mut World, steps: &[WorldStep]) -> Result<(), AllocError> {
+fn make_all(world: &mut World, steps: &[WorldStep]) -> Result<(), AllocError>
+    ensures n { world.new.n ≡ world.old.n }
+    ensures limits { world.new.limits ≡ world.old.limits }
+{
     let mut left = steps;
     for _ in 0..steps.len().saturating_add(2) {
         left = match world.run(left) {
@@ -80,7 +136,10 @@ fn from_place(steps: &[WorldStep], place: usize) -> &[WorldStep] {
 }
 
 // Makes a step, once more where it wanted memory.
-fn make(world: &mut World, step: &WorldStep) -> Result<Answer, WorldError> {
+fn make(world: &mut World, step: &WorldStep) -> Result<Answer, WorldError>
+    ensures n { world.new.n ≡ world.old.n }
+    ensures limits { world.new.limits ≡ world.old.limits }
+{
     match world.step(step) {
         Err(WorldError::OutOfMemory) => world.step(step),
         result => result,
@@ -88,7 +147,9 @@ fn make(world: &mut World, step: &WorldStep) -> Result<Answer, WorldError> {
 }
 
 // The same entries once more.
-fn copy_of(alloc: Global, entries: &[Entry]) -> Result<Vec<Entry>, AllocError> {
+fn copy_of(alloc: Global, entries: &[Entry]) -> Result<Vec<Entry>, AllocError>
+    ensures { IfOk result (λ copy. copy.items ≡ entries.now) }
+{
     let mut copy = Vec::new(alloc);
     for entry in entries {
         copy.push(entry.copy()?)?;
@@ -96,9 +157,13 @@ fn copy_of(alloc: Global, entries: &[Entry]) -> Result<Vec<Entry>, AllocError> {
     Ok(copy)
 }
 
-/// Whether `check` accepts the traces that the entries of a script are, and finds just them. Only
-/// memory fails it.
-pub fn is_accepted(alloc: Global, script: &Script, entries: &[Entry]) -> Result<bool, AllocError> {
+/// Whether `check` accepts the traces that the entries of a script are, and finds as many. Only memory
+/// fails it.
+pub fn is_accepted(alloc: Global, script: &Script, entries: &[Entry]) -> Result<bool, AllocError>
+    ensures { IfOk result (λ is_accepted. is_accepted ≡ true → (traces : List TraceOf)
+        × (merged : List EntryOf) × AreAccepted traces merged
+        × (length merged ≡ length entries.now)) }
+{
     let mut traces = Vec::new(alloc);
     for place in 0..script.n.get() {
         if let Some(space) = SpaceId::new(place.saturating_add(1)) {
