@@ -46,7 +46,7 @@ fn new_world(alloc: Global, script: &Script) -> Result<World, AllocError>
     }
 }
 
-// The same in a world that is new.
+// The same in a world that has made no step.
 fn entries_in(
     alloc: Global,
     world: &mut World,
@@ -79,14 +79,14 @@ fn entries_made(alloc: Global, world: &World) -> Result<Vec<Entry>, AllocError>
         WorldRun world.now.n (λ _. world.now.limits) (reverse entries.items)) }
 {
     let made = world.entries();
-    let Ok(entries) = copy_by_two(alloc, made) else {
+    let Ok(entries) = copy_with_retry(alloc, made) else {
         return Err(AllocError);
     };
     Ok(entries)
 }
 
-// The same entries once more, by two tries.
-fn copy_by_two(alloc: Global, entries: &[Entry]) -> Result<Vec<Entry>, AllocError>
+// The same entries once more. One of the two runs of a script may want memory once.
+fn copy_with_retry(alloc: Global, entries: &[Entry]) -> Result<Vec<Entry>, AllocError>
     ensures { IfOk result (λ copy. copy.items ≡ entries.now) }
 {
     match copy_of(alloc, entries) {
