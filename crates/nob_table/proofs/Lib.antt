@@ -1,4 +1,11 @@
+pub mod Gaps
+pub mod Kept
+pub mod Linked
+pub mod Lost
+pub mod Marks
 pub mod Ordered
+pub mod Pushed
+pub mod Slotted
 pub mod Stands
 pub mod Tables
 pub mod Unheld

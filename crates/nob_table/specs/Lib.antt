@@ -3,4 +3,5 @@ pub use Rattle.nob_table_rows.specs.Counts
 pub use Rattle.nob_table_rows.specs.Order
 pub use Rattle.nob_rows.specs.Rows
 pub use Rattle.nob_table_rows.specs.Standings
+pub mod Far
 pub mod Table

@@ -8,6 +8,10 @@
 //! knows no sessions: the space above says what happened.
 #![tactic(auto)]
 
+mod far;
+mod losing;
+mod order;
+mod surrogates;
 mod table;
 
 pub use nob_table_rows::{Counts, Part, Standing, State, TableError, TableFault};

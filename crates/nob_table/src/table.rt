@@ -9,8 +9,8 @@ ghost use Rattle.std.specs.List.{list_any};
 ghost use Rattle.nob_table_rows.specs.Standings.{unknown, is_known, is_live, is_lost, is_surrogate, state_of, withdrawn, exported_standing, pending_standing, with_counts, in_state, after_hold, after_release, after_close};
 ghost use Rattle.nob_table.specs.Table.{Table, standing, surrogate_total, most_objects, most_surrogates, most_index, surrogate_reps, place_of, IsOrder, live, live_reps, own, export_fault, hold_fault, release_fault, pending_fault, answer_fault, remove_fault, withdraw_fault, Becomes, SetsKept, Marked, is_kept, is_keepable, SameObjects, ExportLeaves, WithdrawalLeaves, ChangeLeaves, RemovalLeaves, Stays, Places, IsRefusal, NoneIdle, IsFirstIdle, NeverUnheld, IsFirstUnheld, NeverSpare, IsFirstSpare, NeverSpareFrom, IsFirstSpareFrom, is_of};
 
+use crate::far::Far;
 use nob_ids::{SpaceId, WireRep};
-use nob_table_far::Far;
 use nob_table_rows::{Counts, Grant, Objects, Part, Standing, State, TableError, TableFault};
 use std::alloc::{AllocError, Global};
 use std::marker::Model;

@@ -1,2 +1,0 @@
-pub use Rattle.nob_ids.specs.Names
-pub mod Far
