@@ -2,7 +2,7 @@
 //! one SVG. Two numbers on its command line are the first and the last row that are drawn.
 #![tactic(auto)]
 
-use nob_demo_draw::{Ending, Part, play};
+use nob_demo_traces::drawing::{Ending, Part, play};
 use std::alloc::Global;
 use std::io::{Read, Write};
 use std::process::ExitCode;

@@ -7,8 +7,8 @@ ghost use Rattle.nob_demo.specs.Program.{Ended, Does, Goes, IsInput, IsReadingFa
 
 use crate::reading::read_all;
 use crate::streams::{Sink, Source};
-use nob_demo_draw::Part;
 use nob_demo_pair::Outcome;
+use nob_demo_traces::drawing::Part;
 use nob_demo_words::{Fault, Subcommand, judge};
 use nob_model_journal::Verdict;
 use nob_script_text::Ending;
@@ -163,11 +163,11 @@ fn play<H: Threads + Wait + Sync>(
             (ending.last_line(), world_status_of(ending))
         }
         Subcommand::Check => {
-            let ending = nob_demo_check::play(alloc, input, text);
+            let ending = nob_demo_traces::checking::play(alloc, input, text);
             (ending.last_line(), check_status_of(ending))
         }
         Subcommand::Draw { from, to } => {
-            let ending = nob_demo_draw::play(alloc, input, Part { from, to }, text);
+            let ending = nob_demo_traces::drawing::play(alloc, input, Part { from, to }, text);
             (ending.last_line(), draw_status_of(ending))
         }
         Subcommand::Spaces(scene) => {
@@ -191,24 +191,24 @@ fn scene_status_of(ending: nob_demo_spaces::Ending) -> u8
 }
 
 // The status that a drawing of traces ends with.
-fn draw_status_of(ending: nob_demo_draw::Ending) -> u8
+fn draw_status_of(ending: nob_demo_traces::drawing::Ending) -> u8
     ensures { result ≡ draw_status_of ending }
 {
     match ending {
-        nob_demo_draw::Ending::Drawn => 0,
-        nob_demo_draw::Ending::Refused => 1,
-        nob_demo_draw::Ending::OutOfMemory => 1,
+        nob_demo_traces::drawing::Ending::Drawn => 0,
+        nob_demo_traces::drawing::Ending::Refused => 1,
+        nob_demo_traces::drawing::Ending::OutOfMemory => 1,
     }
 }
 
 // The status that a check of traces ends with.
-fn check_status_of(ending: nob_demo_check::Ending) -> u8
+fn check_status_of(ending: nob_demo_traces::checking::Ending) -> u8
     ensures { result ≡ check_status_of ending }
 {
     match ending {
-        nob_demo_check::Ending::Accepted => 0,
-        nob_demo_check::Ending::Refused => 1,
-        nob_demo_check::Ending::OutOfMemory => 1,
+        nob_demo_traces::checking::Ending::Accepted => 0,
+        nob_demo_traces::checking::Ending::Refused => 1,
+        nob_demo_traces::checking::Ending::OutOfMemory => 1,
     }
 }
 

@@ -1,8 +1,8 @@
 use Rattle.std.proofs.Common.{ℕ, List, ◌++◌, subst, sym}
 use Rattle.nob_demo_words.specs.declared.command_line.Subcommand.{Subcommand}
-use Rattle.nob_demo_check.specs.Checks as checks
-use Rattle.nob_demo_draw.specs.Draws as drawings
-use Rattle.nob_demo_draw.specs.declared.playing.Part.{Part}
+use Rattle.nob_demo_traces.specs.Checks as checks
+use Rattle.nob_demo_traces.specs.Draws as drawings
+use Rattle.nob_demo_traces.specs.declared.drawing.Part.{Part}
 use Rattle.nob_demo.specs.Program.{Does}
 use Rattle.nob_demo.proofs.run.play.Goals as goal
 

@@ -1,8 +1,0 @@
-use Rattle.std.proofs.Common.{◌≡◌, ℕ, List, IfOk, subst, ◌∙◌}
-use Rattle.nob_demo_draw.proofs.Written.{svg_is}
-use Rattle.nob_demo_draw.proofs.drawn.svg_of.Goals as goal
-
-pub returns : goal.returns
-returns c = subst (λ (bytes : List ℕ). IfOk c.svg_text.result (λ text. text.items ≡ bytes))
-    (svg_is c.args.n c.args.part c.args.fault c.args.journal.now c.page_of-page.result _ _ _ c.page_of-page.ensures c.width_of.ensures c.height_of.ensures (c.as_slice.ensures.value ∙ c.in_ok-shapes.ensures))
-    c.svg_text.ensures
