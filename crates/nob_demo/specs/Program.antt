@@ -1,13 +1,13 @@
 -- What a run of the program does, where its reader and its writers tell their bytes.
 use Rattle.std.specs.Prelude.{◌≡◌, ℕ, ◌^◌, ◌<◌, ◌≤◌, ◌+◌, Bool, true, false, List, [], length, Option, IfSome, Result, Ok, Err, codes}
 use Rattle.std.specs.Io.KnownBytes.{Appends, Keeps}
-use Rattle.nob_demo_pair.specs.declared.script.Outcome.{Outcome}
-use Rattle.nob_demo_pair.specs.declared.script.Outcome.TheVariants.{Fronts, BadStep, OutOfMemory}
-use Rattle.nob_demo_pair.specs.Scripts.{Plays}
+use Rattle.nob_demo_scripts.specs.declared.pair_script.Outcome.{Outcome}
+use Rattle.nob_demo_scripts.specs.declared.pair_script.Outcome.TheVariants.{Fronts, BadStep, OutOfMemory}
+use Rattle.nob_demo_scripts.specs.PairScripts.{Plays}
 use Rattle.nob_model_journal.specs.declared.verdict.Verdict.TheVariants.{Yes, No}
 use Rattle.nob_script_text.specs.declared.ending.Ending.{Ending}
 use Rattle.nob_script_text.specs.declared.ending.Ending.TheVariants as endings
-use Rattle.nob_script.specs.Plays as worlds
+use Rattle.nob_demo_scripts.specs.WorldScripts as worlds
 use Rattle.nob_demo_traces.specs.Checks as checks
 use Rattle.nob_demo_traces.specs.declared.checking.Ending.{Ending as CheckEnding}
 use Rattle.nob_demo_traces.specs.declared.checking.Ending.TheVariants as check_endings

@@ -7,7 +7,7 @@ ghost use Rattle.nob_demo.specs.Program.{Ended, Does, Goes, IsInput, IsReadingFa
 
 use crate::reading::read_all;
 use crate::streams::{Sink, Source};
-use nob_demo_pair::Outcome;
+use nob_demo_scripts::pair_script::Outcome;
 use nob_demo_traces::drawing::Part;
 use nob_demo_words::{Fault, Subcommand, judge};
 use nob_model_journal::Verdict;
@@ -155,11 +155,11 @@ fn play<H: Threads + Wait + Sync>(
 {
     match subcommand {
         Subcommand::Pair => {
-            let outcome = nob_demo_pair::play(alloc, input, text);
+            let outcome = nob_demo_scripts::pair_script::play(alloc, input, text);
             (outcome.last_line(), status_of(outcome))
         }
         Subcommand::Script => {
-            let ending = nob_script::play(alloc, input, text);
+            let ending = nob_demo_scripts::world_script::play(alloc, input, text);
             (ending.last_line(), world_status_of(ending))
         }
         Subcommand::Check => {

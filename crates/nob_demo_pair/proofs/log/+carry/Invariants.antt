@@ -1,5 +1,0 @@
-use Rattle.std.proofs.Common.{length}
-use Rattle.nob_demo_pair.proofs.log.+carry.Given as goal
-
-abbrev pub decreases-carry : goal.decreases-carry
-decreases-carry l = length l.frames.now

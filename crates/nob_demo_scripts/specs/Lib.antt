@@ -1,0 +1,10 @@
+pub use Rattle.nob_text.specs.Lines
+pub use Rattle.nob_model_session.specs.Pair
+pub use Rattle.nob_frame.specs.Spelling
+pub mod Grammar
+pub mod Fronts
+pub mod Run
+pub mod Log
+pub mod Pairs
+pub mod PairScripts
+pub mod WorldScripts
