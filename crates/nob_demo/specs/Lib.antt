@@ -1,3 +1,3 @@
 pub use Rattle.nob_demo_scripts.specs.PairScripts
-pub use Rattle.nob_demo_words.specs.Words
+pub use Rattle.nob_demo_spaces.specs.Words
 pub mod Program

@@ -14,13 +14,13 @@ use Rattle.nob_demo_traces.specs.declared.checking.Ending.TheVariants as check_e
 use Rattle.nob_demo_traces.specs.Draws as drawings
 use Rattle.nob_demo_traces.specs.declared.drawing.Ending.{Ending as DrawEnding}
 use Rattle.nob_demo_traces.specs.declared.drawing.Ending.TheVariants as draw_endings
-use Rattle.nob_demo_words.specs.declared.command_line.Subcommand.{Subcommand}
+use Rattle.nob_demo_spaces.specs.declared.command_line.Subcommand.{Subcommand}
 use Rattle.nob_demo_spaces.specs.declared.ending.Ending.{Ending as SceneEnding}
 use Rattle.nob_demo_spaces.specs.declared.ending.Ending.TheVariants as scene_endings
 use Rattle.nob_demo_spaces.specs.Endings as scenes
-use Rattle.nob_demo_words.specs.declared.command_line.Subcommand.TheVariants.{Pair, Script, Check, Draw, Spaces}
-use Rattle.nob_demo_words.specs.declared.fault.Fault.{Fault}
-use Rattle.nob_demo_words.specs.declared.fault.Fault.TheVariants.{Words, Read, Write, Memory}
+use Rattle.nob_demo_spaces.specs.declared.command_line.Subcommand.TheVariants.{Pair, Script, Check, Draw, Spaces}
+use Rattle.nob_demo_spaces.specs.declared.fault.Fault.{Fault}
+use Rattle.nob_demo_spaces.specs.declared.fault.Fault.TheVariants.{Words, Read, Write, Memory}
 
 -- so many reads at most
 abbrev pub most_reads : ℕ

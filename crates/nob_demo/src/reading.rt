@@ -5,7 +5,7 @@ ghost use Rattle.std.specs.Io.KnownBytes.{Consumes};
 ghost use Rattle.nob_demo.specs.Program.{IsWhole, IsReadingFault, most_bytes, most_reads};
 
 use crate::streams::{MOST_READS, Source};
-use nob_demo_words::Fault;
+use nob_demo_spaces::Fault;
 use std::alloc::Global;
 use std::io::Read;
 

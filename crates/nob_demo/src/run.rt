@@ -2,14 +2,14 @@
 
 ghost use Rattle.std.specs.Prelude.{◌≡◌, ◌++◌, [], ℕ, true, false, map, not, IsOk, IsErr, IfOk, IfErr};
 ghost use Rattle.std.specs.Io.KnownBytes.{Appends};
-ghost use Rattle.nob_demo_words.specs.Words.{subcommand_in, word_faults, takes_words};
+ghost use Rattle.nob_demo_spaces.specs.Words.{subcommand_in, word_faults, takes_words};
 ghost use Rattle.nob_demo.specs.Program.{Ended, Does, Goes, IsInput, IsReadingFault, reads_input, status_of, world_status_of, check_status_of, draw_status_of, scene_status_of};
 
 use crate::reading::read_all;
 use crate::streams::{Sink, Source};
 use nob_demo_scripts::pair_script::Outcome;
+use nob_demo_spaces::{Fault, Subcommand, judge};
 use nob_demo_traces::drawing::Part;
-use nob_demo_words::{Fault, Subcommand, judge};
 use nob_model_journal::Verdict;
 use nob_script_text::Ending;
 use std::alloc::Global;

@@ -1,3 +1,7 @@
 mod Crossing
 pub mod Turns
 pub mod Told
+pub mod Faults
+pub mod Readings
+pub mod Taken
+pub mod Within

@@ -11,7 +11,7 @@ use Rattle.nob_model_traces.specs.declared.fault.CheckFault.{CheckFault}
 use Rattle.nob_model_traces.specs.declared.fault.CheckError.{CheckError}
 use Rattle.nob_model_traces.specs.declared.fault.CheckError.TheVariants as check_errors
 use Rattle.nob_model_traces.specs.Faults.{IsChecked, AreAccepted}
-use Rattle.nob_demo_words.specs.Scenes.{Setting}
+use Rattle.nob_demo_spaces.specs.Scenes.{Setting}
 use Rattle.nob_demo_spaces.specs.Lines.{lines}
 use Rattle.nob_demo_spaces.specs.Endings.{Judges, Tells, TellsBy}
 use Rattle.nob_demo_spaces.specs.declared.tally.Tally.{Tally}

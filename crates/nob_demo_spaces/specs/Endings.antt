@@ -7,7 +7,7 @@ use Rattle.nob_trace.specs.declared.trace.Trace.{Trace}
 use Rattle.nob_trace.specs.Traces.{trace_text, IsWritable}
 use Rattle.nob_model_traces.specs.declared.fault.CheckFault.{CheckFault}
 use Rattle.nob_model_traces.specs.Faults.{IsFault, AreAccepted}
-use Rattle.nob_demo_words.specs.Scenes.{Setting}
+use Rattle.nob_demo_spaces.specs.Scenes.{Setting}
 use Rattle.nob_demo_spaces.specs.Lines.{lines, last_line, stopped}
 use Rattle.nob_demo_spaces.specs.declared.tally.Tally.{Tally}
 use Rattle.nob_demo_spaces.specs.declared.ending.Ending.{Ending}

@@ -1,4 +1,6 @@
-pub use Rattle.nob_demo_words.specs.Scenes
+pub mod Options
+pub mod Scenes
+pub mod Words
 pub mod Counters
 pub mod Shares
 pub mod Tallies

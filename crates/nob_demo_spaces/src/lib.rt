@@ -1,21 +1,30 @@
-//! What `nobj spaces` does: spaces in threads of one process, of which the first exports a counter
-//! that the others call; and then their traces are checked.
+//! The words of the command line of `nobj`, and why a run ends before its input does. And what
+//! `nobj spaces` does: spaces in threads of one process, of which the first exports a counter that
+//! the others call; and then their traces are checked.
 #![tactic(auto)]
 
+mod command_line;
 mod counter;
 mod ending;
+mod fault;
+pub mod laws;
 mod meeting;
+mod options;
 mod places;
 mod player;
 mod playing;
+mod scene;
 mod shares;
 mod tally;
 mod telling;
 mod texts;
 
+pub use command_line::{Subcommand, judge};
 pub use counter::Counter;
 pub use ending::{Ending, Stop, graver};
+pub use fault::Fault;
 pub use playing::play;
+pub use scene::Scene;
 pub use shares::calls_of;
 pub use tally::Tally;
 pub use telling::say;

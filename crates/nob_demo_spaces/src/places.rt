@@ -2,8 +2,8 @@
 
 use crate::meeting::Meeting;
 use crate::player::{Player, stop_of};
+use crate::scene::Scene;
 use crate::{Counter, Stop, Tally, calls_of};
-use nob_demo_words::Scene;
 use nob_fault::{Shim, words_between};
 use nob_ids::{Limits, SpaceId};
 use nob_link::link;

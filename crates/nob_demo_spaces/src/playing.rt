@@ -6,8 +6,8 @@ ghost use Rattle.nob_demo_spaces.specs.Endings.{Plays};
 
 use crate::meeting::Meeting;
 use crate::places::{Place, Played, places_of};
+use crate::scene::Scene;
 use crate::{Ending, Stop, Tally, graver, say};
-use nob_demo_words::Scene;
 use nob_trace::Trace;
 use std::alloc::Global;
 use std::sync::Wait;

@@ -3,7 +3,7 @@
 ghost use Rattle.std.specs.Prelude.{◌≡◌};
 ghost use Rattle.nob_demo_spaces.specs.Shares as spec;
 
-use nob_demo_words::Scene;
+use crate::scene::Scene;
 
 /// How many calls a space makes: all spaces but the first take turns.
 #[tactic(auto, using(crate::proofs::Turns::shared, crate::proofs::Turns::none_below, crate::proofs::Turns::none_above))]

@@ -5,10 +5,10 @@ ghost use Rattle.nob_demo_spaces.specs.Endings as spec;
 ghost use Rattle.nob_demo_spaces.specs.Lines.{last_line};
 
 use crate::ending::{Ending, Stop};
+use crate::scene::Scene;
 use crate::tally::Tally;
 use crate::texts::lines;
 use nob_check_traces::{CheckError, check};
-use nob_demo_words::Scene;
 use nob_trace::{Trace, TraceError, encode, refusal_line};
 use std::alloc::{AllocError, Global};
 

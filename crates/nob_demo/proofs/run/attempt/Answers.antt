@@ -1,8 +1,8 @@
 use Rattle.std.proofs.Common.{◌++◌, List, ℕ, map, subst}
 use Rattle.std.specs.Io.KnownBytes.{Appends}
-use Rattle.nob_demo_words.specs.Words.{subcommand_in}
+use Rattle.nob_demo_spaces.specs.Words.{subcommand_in}
 use Rattle.nob_demo.specs.Program.{Does, IsInput, reads_input}
-use Rattle.nob_demo_words.specs.declared.command_line.Subcommand.{Subcommand}
+use Rattle.nob_demo_spaces.specs.declared.command_line.Subcommand.{Subcommand}
 use Rattle.nob_demo.proofs.Known.{appends_more}
 use Rattle.nob_demo.proofs.run.attempt.Goals as goal
 

@@ -1,5 +1,5 @@
 use Rattle.std.proofs.Common.{ℕ, List, ◌++◌, subst, sym}
-use Rattle.nob_demo_words.specs.declared.command_line.Subcommand.{Subcommand}
+use Rattle.nob_demo_spaces.specs.declared.command_line.Subcommand.{Subcommand}
 use Rattle.nob_demo_traces.specs.Checks as checks
 use Rattle.nob_demo_traces.specs.Draws as drawings
 use Rattle.nob_demo_traces.specs.declared.drawing.Part.{Part}

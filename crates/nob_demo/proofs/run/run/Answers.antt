@@ -1,7 +1,7 @@
 use Rattle.std.proofs.Common.{Err, map, subst}
-use Rattle.nob_demo_words.specs.Words.{subcommand_in, takes_words, word_faults}
+use Rattle.nob_demo_spaces.specs.Words.{subcommand_in, takes_words, word_faults}
 use Rattle.nob_demo.specs.Program.{Attempt, Ended, Goes}
-use Rattle.nob_demo_words.specs.declared.fault.Fault.{Fault}
+use Rattle.nob_demo_spaces.specs.declared.fault.Fault.{Fault}
 use Rattle.nob_demo.proofs.Known.{keeps_same, kept_then_appends}
 use Rattle.nob_demo.proofs.Endings.{refused_goes, unread_goes, stopped_goes}
 use Rattle.nob_demo.proofs.run.run.Goals as goal

@@ -1,0 +1,87 @@
+-- The options of the subcommands `spaces` and `draw`, and what they say.
+use Rattle.std.specs.Prelude.{◌≡◌, ℕ, Bool, false, List, [], ◌∷◌, codes, Option, Some, None, IfSome}
+use Rattle.std.specs.Option.{option_map_or}
+use Rattle.std.specs.Str.{bytes_eq}
+use Rattle.std.specs.Str.Parse.{digits_value, without_leading_plus}
+use Rattle.clap.specs.Words.{Row, Rule, Shape, Text, new_rule, one_of}
+use Rattle.clap.specs.Simple.{new_shape}
+use Rattle.clap.specs.Values.{IsUnsignedIn}
+use Rattle.clap.specs.declared.builder.action.ArgAction.TheVariants.{SetTrue}
+use Rattle.clap.specs.declared.builder.value_parser.ValueParser.TheVariants.{Unsigned}
+use Rattle.nob_demo_spaces.specs.Scenes.{Setting}
+use Rattle.nob_demo_spaces.specs.declared.command_line.Subcommand.{Subcommand}
+use Rattle.nob_demo_spaces.specs.declared.command_line.Subcommand.TheVariants.{Draw}
+
+-- the option `--NAME N`, where N is a number from the lowest to the highest, as clap sees it
+abbrev pub number_rule : (name : Text) (lowest highest : ℕ) → Rule
+number_rule name lowest highest = record (new_rule name) { long = Some name; value_names = 1; parser = Some (Unsigned lowest highest) }
+
+-- the flag `--NAME`, as clap sees it
+abbrev pub flag_rule : (name : Text) → Rule
+flag_rule name = record (new_rule name) { long = Some name; action = Some SetTrue }
+
+-- the greatest number of 64 bits
+abbrev pub greatest : ℕ
+greatest = 18446744073709551615
+
+-- the options of `spaces`: five with a number in its range, and a flag
+abbrev pub spaces_rules : List Rule
+spaces_rules = number_rule (codes "spaces") 2 8 ∷ number_rule (codes "workers") 1 16 ∷ number_rule (codes "calls") 0 10000 ∷ number_rule (codes "loss") 0 9 ∷ number_rule (codes "seed") 0 greatest ∷ flag_rule (codes "traces") ∷ []
+
+-- the subcommand `spaces` as clap sees it
+abbrev pub spaces_shape : Shape
+spaces_shape = record (new_shape (codes "spaces")) { rules = spaces_rules }
+
+-- the options of `draw`: the numbers of two rows, which count from 1
+abbrev pub draw_rules : List Rule
+draw_rules = number_rule (codes "from") 1 greatest ∷ number_rule (codes "to") 1 greatest ∷ []
+
+-- the subcommand `draw` as clap sees it
+abbrev pub draw_shape : Shape
+draw_shape = record (new_shape (codes "draw")) { rules = draw_rules }
+
+-- the number that the text of an option says; where the option isn't there, the number that stands by default
+abbrev pub number_said : (default : ℕ) → Option Text → ℕ
+number_said default None = default
+number_said default (Some text) = digits_value 10 (without_leading_plus text)
+
+-- whether the text of a flag says that it is set: `true`
+abbrev pub is_said : Option Text → Bool
+is_said text = option_map_or (λ t. bytes_eq t (codes "true")) text false
+
+-- the scene that the options say of which clap found these rows: 3 spaces, 2 workers, 50 calls, no loss and seed 1, where an option isn't there
+abbrev pub setting_in : List Row → Setting
+setting_in rows = record {
+  spaces = number_said 3 (one_of (codes "spaces") rows);
+  workers = number_said 2 (one_of (codes "workers") rows);
+  calls = number_said 50 (one_of (codes "calls") rows);
+  loss = number_said 0 (one_of (codes "loss") rows);
+  seed = number_said 1 (one_of (codes "seed") rows);
+  traces = is_said (one_of (codes "traces") rows);
+}
+
+-- the drawing that the options say of which clap found these rows: from the first row, and to the last that there may be, where an option isn't there
+abbrev pub draw_in : List Row → Subcommand
+draw_in rows = Draw (number_said 1 (one_of (codes "from") rows)) (number_said greatest (one_of (codes "to") rows))
+
+-- where the option has a text, it is a number from the lowest to the highest
+abbrev pub IsWithin : (lowest highest : ℕ) → Option Text → Type 0
+IsWithin lowest highest text = IfSome text (IsUnsignedIn lowest highest)
+
+-- the options of `spaces` of which clap found these rows say numbers in range
+pub record SceneIsWithin (rows : List Row) : Type 0 where
+  pub spaces : IsWithin 2 8 (one_of (codes "spaces") rows)
+  pub workers : IsWithin 1 16 (one_of (codes "workers") rows)
+  pub calls : IsWithin 0 10000 (one_of (codes "calls") rows)
+  pub loss : IsWithin 0 9 (one_of (codes "loss") rows)
+  pub seed : IsWithin 0 greatest (one_of (codes "seed") rows)
+
+-- the options of `draw` of which clap found these rows say numbers in range
+pub record DrawIsWithin (rows : List Row) : Type 0 where
+  pub from : IsWithin 1 greatest (one_of (codes "from") rows)
+  pub to : IsWithin 1 greatest (one_of (codes "to") rows)
+
+-- the options of the subcommand of this name, of which clap found these rows, say numbers in range
+pub record AreWithin (name : Text) (rows : List Row) : Type 0 where
+  pub scene : name ≡ codes "spaces" → SceneIsWithin rows
+  pub draw : name ≡ codes "draw" → DrawIsWithin rows

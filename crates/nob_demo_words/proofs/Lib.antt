@@ -1,4 +1,0 @@
-pub mod Faults
-pub mod Readings
-pub mod Taken
-pub mod Within
