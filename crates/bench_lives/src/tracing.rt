@@ -1,7 +1,7 @@
 //! The traces of what happened in a world.
 
 use crate::world::{SPACES, space_at};
-use nob_check_traces::{CheckError, check};
+use nob_check::{CheckError, check};
 use nob_ids::{Limits, SpaceId};
 use nob_model::{Answer, Entry, Refusal};
 use nob_trace::{Entries, Stamped, Trace};

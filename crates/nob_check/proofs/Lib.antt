@@ -6,3 +6,8 @@ pub mod Passing
 pub mod Fronting
 pub mod Opening
 pub mod Judged
+pub mod Typed
+pub mod Answering
+pub mod Worlds
+pub mod Accepting
+pub mod Signs

@@ -1,7 +1,13 @@
 pub use Rattle.nob_model_types.specs.Sessions
+pub use Rattle.nob_model_journal.specs.Journals
 pub use Rattle.nob_model_journal.specs.Losses
+pub use Rattle.nob_model_journal.specs.Runs
 pub use Rattle.nob_model_journal.specs.Tests
+pub use Rattle.nob_model_traces.specs.Faults
 pub use Rattle.nob_check_ledgers.specs.Ledgers
 pub mod Books
 pub mod Checks
 pub mod Judging
+pub mod Running
+pub mod Accepting
+pub mod Marks

@@ -8,7 +8,7 @@ use crate::ending::{Ending, Stop};
 use crate::scene::Scene;
 use crate::tally::Tally;
 use crate::texts::lines;
-use nob_check_traces::{CheckError, check};
+use nob_check::{CheckError, check};
 use nob_trace::{Trace, TraceError, encode, refusal_line};
 use std::alloc::{AllocError, Global};
 

@@ -5,7 +5,7 @@ ghost use Rattle.nob_model_traces.specs.Traces.{Spells};
 ghost use Rattle.nob_demo_traces.specs.Checks as spec;
 
 use crate::texts::{fault_line, merged_line};
-use nob_check_traces::{CheckError, check};
+use nob_check::{CheckError, check};
 use nob_model_journal::Verdict;
 use nob_script_text::verdict_line;
 use nob_trace::{Trace, TraceError, decode_all, refusal_line};

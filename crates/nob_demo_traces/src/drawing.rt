@@ -8,7 +8,7 @@ ghost use Rattle.nob_demo_traces.specs.Draws as spec;
 use crate::drawn::{drawn, drawn_wrong};
 use crate::place::is_of_entry;
 use crate::set::{entries_of, spaces_of};
-use nob_check_traces::check;
+use nob_check::check;
 use nob_model_traces::{CheckError, CheckFault};
 use nob_trace::{Trace, TraceError, decode_all, refusal_line};
 use std::alloc::{AllocError, Global};

@@ -4,7 +4,7 @@ ghost use Rattle.std.specs.Prelude.{◌≡◌, IfOk};
 ghost use Rattle.std.specs.String.{string_bytes};
 ghost use Rattle.nob_demo_traces.specs.Checks as spec;
 
-use nob_check_traces::CheckFault;
+use nob_check::CheckFault;
 use std::alloc::{AllocError, Global};
 
 // The line that says how many entries were merged.

@@ -2,7 +2,7 @@
 
 use crate::node::{Agents, Ends, agents_of, ends_of_both, keeper_of};
 use crate::rounds::begin;
-use nob_check_traces::check;
+use nob_check::check;
 use nob_ids::SpaceId;
 use nob_keeper::{Keeper, Seat};
 use nob_trace::Trace;

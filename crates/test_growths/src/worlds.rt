@@ -7,7 +7,7 @@ ghost use Rattle.nob_trace.specs.declared.trace.Trace.{Trace as TraceOf};
 ghost use Rattle.nob_model_traces.specs.Faults.{AreAccepted};
 
 use crate::script::Script;
-use nob_check_traces::{CheckError, check};
+use nob_check::{CheckError, check};
 use nob_ids::SpaceId;
 use nob_model::{Answer, Entry, Refusal, WorldStep};
 use nob_trace::{Entries, Stamped, Trace};

@@ -1,5 +1,0 @@
-pub mod Typed
-pub mod Answering
-pub mod Worlds
-pub mod Accepting
-pub mod Signs

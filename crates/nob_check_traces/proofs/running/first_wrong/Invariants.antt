@@ -1,6 +1,0 @@
-use Rattle.nob_check_traces.proofs.Answering.{IsAt}
-use Rattle.nob_check_traces.proofs.running.first_wrong.Given as goal
-
--- the space answered the entries so far
-abbrev pub invariant-loop-place : goal.invariant-loop-place
-invariant-loop-place l = IsAt l.trace l.place l.space
