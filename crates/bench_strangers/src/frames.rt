@@ -2,11 +2,11 @@
 
 use crate::task::Sort;
 use nob_bytes::Bytes;
-use nob_choices::Words;
 use nob_frame::{Frame, FrameError, FrameKind, encode};
 use nob_ids::{CallNo, ItemNo, SpaceId, WireRep};
 use nob_item::{Item, ItemError};
 use nob_pickle::{Value, Values};
+use nob_rounds::Words;
 use std::alloc::{AllocError, Global};
 
 // So many bytes a frame has beside its payload.

@@ -4,10 +4,10 @@ use crate::frames::{Making, bytes_of};
 use crate::held::{SPACES, export, hold, new_space};
 use crate::tally::Tally;
 use crate::task::{Stage, Task};
-use nob_choices::Words;
 use nob_frame::{Frame, FrameError, decode};
 use nob_ids::SpaceId;
 use nob_model::Event;
+use nob_rounds::Words;
 use nob_space::Space;
 use std::alloc::{AllocError, Global};
 

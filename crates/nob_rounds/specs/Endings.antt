@@ -6,7 +6,7 @@ use Rattle.nob_model_types.specs.declared.event.Outcome.TheVariants as outcomes
 use Rattle.nob_model_types.specs.declared.event.Event.{Event}
 use Rattle.nob_model_types.specs.declared.event.Event.TheVariants as events
 use Rattle.nob_model_types.specs.declared.entry.Entry.{Entry}
-use Rattle.nob_choices.specs.Shown.{objects_of, greatest_call, greatest_job}
+use Rattle.nob_rounds.specs.Shown.{objects_of, greatest_call, greatest_job}
 use Rattle.nob_rounds.specs.declared.closings.ClosedEnd.{ClosedEnd}
 use Rattle.nob_rounds.specs.Notes.{closed_ends, news_in}
 use Rattle.nob_rounds.specs.declared.asking.Asking.{Asking}

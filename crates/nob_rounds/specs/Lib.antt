@@ -1,3 +1,6 @@
 pub mod Rounds
 pub mod Endings
 pub mod Notes
+pub mod Choices
+pub mod Shown
+pub mod Row

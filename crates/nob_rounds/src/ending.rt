@@ -8,8 +8,8 @@ ghost use Rattle.nob_rounds.specs.Endings as spec;
 use crate::askings::{claims, closes, ends_of_calls, releases, spaces_up_to, withdrawals};
 use crate::closings::closed_ends;
 use crate::facts::news_in;
+use crate::known::{known_of, objects_of};
 use crate::{ask_each, repeat_each, round, spaces_in};
-use nob_choices::{known_of, objects_of};
 use nob_world::World;
 use std::alloc::{AllocError, Global};
 

@@ -1,11 +1,11 @@
 //! What strangers send: frames and items with small numbers, bytes of no meaning, and spellings in
 //! which one byte is changed.
 
-use nob_choices::Words;
 use nob_frame::{Bytes, Frame, FrameError, FrameKind, encode};
 use nob_ids::{CallNo, ItemNo, SpaceId, WireRep};
 use nob_item::{Item, ItemError};
 use nob_pickle::{Value, Values};
+use nob_rounds::Words;
 use std::alloc::{AllocError, Global};
 
 // The highest number of an object, of a call or of an item that strangers speak of, and one more.

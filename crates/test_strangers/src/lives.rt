@@ -5,11 +5,11 @@ use crate::frames::{
     spelling_of,
 };
 use crate::seen::Happenings;
-use nob_choices::Words;
 use nob_frame::{Bytes, Frame, FrameError, FrameKind, decode};
 use nob_ids::{CallNo, JobNo, Limits, SpaceId, WireRep};
 use nob_model::{Answer, Entry, Event, Here, Outcome, Refusal, right, same_result};
 use nob_pickle::Value;
+use nob_rounds::Words;
 use nob_space::{Space, SpaceError};
 use std::alloc::{AllocError, Global};
 

@@ -2,9 +2,9 @@
 //! each place.
 
 use crate::frames::{any_frame, change_one, random_bytes, spelling_of};
-use nob_choices::Words;
 use nob_frame::{Feed, Frame, FrameError, FrameFault, decode};
 use nob_model::same_frame;
+use nob_rounds::Words;
 use std::alloc::{AllocError, Global};
 
 // The longest piece.

@@ -4,11 +4,10 @@
 #![tactic(auto)]
 
 use nob_check::judge;
-use nob_choices::{Words, known_of, random_step};
 use nob_ids::Limits;
 use nob_model::WorldStep;
 use nob_model_journal::{Promise, Verdict};
-use nob_rounds::{end, facts_of};
+use nob_rounds::{Words, end, facts_of, known_of, random_step};
 use nob_world::{World, WorldError};
 use std::alloc::{AllocError, Global};
 use std::io;

@@ -1,7 +1,7 @@
 //! What a choice looks at.
 
 ghost use Rattle.std.specs.Prelude.{◌≡◌, IfOk};
-ghost use Rattle.nob_choices.specs.Shown as spec;
+ghost use Rattle.nob_rounds.specs.Shown as spec;
 
 use nob_ids::WireRep;
 use nob_model_types::{Answer, Entry};

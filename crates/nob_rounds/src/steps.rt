@@ -2,7 +2,7 @@
 
 ghost use Rattle.std.specs.Prelude.{◌≡◌, ◌+◌, ℕ, IfOk};
 ghost use Rattle.nob_model_types.specs.declared.event.Event.TheVariants as events;
-ghost use Rattle.nob_choices.specs.Choices as spec;
+ghost use Rattle.nob_rounds.specs.Choices as spec;
 
 use crate::Words;
 use crate::choices::{random_object, random_outcome, random_space, random_value};

@@ -1,7 +1,7 @@
 -- What a random choice is: a word of a row for each thing that is chosen. `x` is the row's number before the choice, `next x` that of its first word.
 use Prim.Native.Nat.{zero}
 use Rattle.std.specs.Prelude.{ℕ, suc, ◌+◌, ◌-◌, ◌%◌, ◌==◌, ◌&&◌, nat_le, List, [], ◌∷◌, length, slice_get, Option, Some, None, if◌then◌else◌}
-use Rattle.nob_choices.specs.Row.{next, below}
+use Rattle.nob_rounds.specs.Row.{next, below}
 use Rattle.nob_ids.specs.declared.wire_rep.WireRep.{WireRep}
 use Rattle.nob_pickle.specs.declared.value.Value.{Value}
 use Rattle.nob_pickle.specs.declared.value.Value.TheVariants as values

@@ -3,7 +3,7 @@
 ghost use Rattle.std.specs.Prelude.{◌≡◌, ◌∷◌, [], IfOk, OnOk};
 ghost use Rattle.nob_pickle.specs.Shape.{forest};
 ghost use Rattle.nob_pickle.specs.declared.value.Value.TheVariants as values;
-ghost use Rattle.nob_choices.specs.Choices as spec;
+ghost use Rattle.nob_rounds.specs.Choices as spec;
 
 use crate::Words;
 use nob_ids::{SpaceId, WireRep};

@@ -2,7 +2,7 @@
 //! divided by 2^33.
 
 ghost use Rattle.std.specs.Prelude.{◌≡◌};
-ghost use Rattle.nob_choices.specs.Row as row;
+ghost use Rattle.nob_rounds.specs.Row as row;
 
 // The factor and the summand of the step from one to the next.
 const FACTOR: u64 = 6_364_136_223_846_793_005;
