@@ -1,7 +1,9 @@
 //! The program `test_definitions`: the definitions of a space and of a journal as something one can run.
 //! It reads a script of a world, one trace, or the entries of a journal, from standard input; it
 //! answers each step by the plain program of nob_model, and says of a journal by that of
-//! nob_model_journal which promise isn't kept. It is slow on purpose.
+//! nob_model_journal which promise isn't kept. It is slow on purpose. With the word `copy` it writes
+//! traces again, with `check` it checks them by the definitions, and with `space` it runs a trace on a
+//! space.
 #![tactic(auto)]
 
 ghost use Rattle.std.specs.Prelude.{◌≡◌, true, false};
@@ -9,7 +11,9 @@ ghost use Rattle.nob_trace.specs.Reading.{Answers};
 ghost use Rattle.nob_text.specs.Lines.{lines_of};
 ghost use Rattle.test_definitions.specs.Outputs.{BeginsAsTrace, IsOutput, IsRefused, has_equals_sign as has_equals_sign_in, has_results as has_results_of};
 
+mod checking;
 mod entries;
+mod replay;
 mod script;
 mod trace;
 
@@ -19,6 +23,19 @@ use std::alloc::Global;
 use std::io::{Read, Write};
 use std::process::ExitCode;
 use std::{env, io};
+
+// What is done with an input.
+#[derive(Clone, Copy)]
+enum Task {
+    // It is answered by the definitions.
+    Answer,
+    // Traces are written as they were read.
+    Copy,
+    // Traces are checked by the definitions.
+    Check,
+    // A trace is run on a space.
+    Replay,
+}
 
 fn main(rt: HostRuntime) -> ExitCode {
     match run(&rt) {
@@ -30,21 +47,42 @@ fn main(rt: HostRuntime) -> ExitCode {
 // Reads all of standard input and writes what it gives.
 fn run(rt: &HostRuntime) -> io::Result<()> {
     let alloc = rt.alloc();
-    let is_copy = has_words(rt)?;
+    let task = task_of(rt)?;
     let mut input = Vec::new(alloc);
     rt.stdin().read_to_end(&mut input)?;
-    match output_of(alloc, input.as_slice(), is_copy) {
+    match written_for(alloc, input.as_slice(), task) {
         Ok(text) => rt.stdout().write_all(text.as_slice()),
         Err(error) => rt.stdout().write_all(refusal_line(error)),
     }
 }
 
-// Whether the command line has words beside the program's name: then traces are written as they
-// were read.
-fn has_words(rt: &HostRuntime) -> io::Result<bool> {
+// The task that the first word of the command line names, the program's name aside.
+fn task_of(rt: &HostRuntime) -> io::Result<Task> {
     let mut words = env::args(rt)?;
     words.next();
-    Ok(words.next().is_some())
+    let Some(word) = words.next() else {
+        return Ok(Task::Answer);
+    };
+    Ok(task_named(word.as_str()))
+}
+
+// The task that a word names.
+fn task_named(word: &str) -> Task {
+    match word {
+        "check" => Task::Check,
+        "space" => Task::Replay,
+        _ => Task::Copy,
+    }
+}
+
+// What is written for an input, by its task.
+fn written_for(alloc: Global, input: &[u8], task: Task) -> Result<Vec<u8>, TraceError> {
+    match task {
+        Task::Answer => output_of(alloc, input, false),
+        Task::Copy => output_of(alloc, input, true),
+        Task::Check => checking::output_of(alloc, input),
+        Task::Replay => replay::verdict_of(alloc, input),
+    }
 }
 
 // What is written for an input: a trace is judged or written again, entries are judged, and any

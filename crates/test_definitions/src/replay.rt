@@ -1,34 +1,12 @@
-//! The program `test_replay`: a trace, read from standard input, run on a space.
-#![tactic(auto)]
+//! A trace, run on a space.
 
 use nob_model::{Answer, Event};
 use nob_space::{Space, SpaceError};
-use nob_trace::{Stamped, TraceError, decode, have_one_text, refusal_line, right_line, wrong_line};
+use nob_trace::{Stamped, TraceError, decode, have_one_text, right_line, wrong_line};
 use std::alloc::{AllocError, Global};
-use std::io;
-use std::io::{Read, Write};
-use std::process::ExitCode;
 
-fn main(rt: HostRuntime) -> ExitCode {
-    match run(&rt) {
-        Ok(()) => ExitCode::from(0),
-        Err(_) => ExitCode::from(1),
-    }
-}
-
-// Reads all of standard input and writes what is said of it.
-fn run(rt: &HostRuntime) -> io::Result<()> {
-    let alloc = rt.alloc();
-    let mut input = Vec::new(alloc);
-    rt.stdin().read_to_end(&mut input)?;
-    match verdict_of(alloc, input.as_slice()) {
-        Ok(text) => rt.stdout().write_all(text.as_slice()),
-        Err(error) => rt.stdout().write_all(refusal_line(error)),
-    }
-}
-
-// What is said of a trace: whether a space answers each event as the trace has it.
-fn verdict_of(alloc: Global, input: &[u8]) -> Result<Vec<u8>, TraceError> {
+/// What is said of a trace: whether a space answers each event as the trace has it.
+pub fn verdict_of(alloc: Global, input: &[u8]) -> Result<Vec<u8>, TraceError> {
     let trace = decode(alloc, input)?;
     let mut space = Space::new(alloc, trace.space, trace.n.get(), trace.limits)?;
     let text = verdict_on(alloc, &mut space, trace.entries.as_slice());

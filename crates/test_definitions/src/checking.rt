@@ -1,39 +1,17 @@
-//! The program `test_traces`: traces, read one after the other from standard input, checked by
-//! the definitions. It is slow on purpose.
-#![tactic(auto)]
+//! Traces of several spaces, one after the other, checked by the definitions.
 
 use nob_model_journal::verdict_of;
 use nob_model_traces::{CheckError, CheckFault, check_plainly};
 use nob_script_text::verdict_line;
-use nob_trace::{Trace, TraceError, decode_all, refusal_line};
+use nob_trace::{Trace, TraceError, decode_all};
 use std::alloc::{AllocError, Global};
-use std::io;
-use std::io::{Read, Write};
-use std::process::ExitCode;
 
-fn main(rt: HostRuntime) -> ExitCode {
-    match run(&rt) {
-        Ok(()) => ExitCode::from(0),
-        Err(_) => ExitCode::from(1),
-    }
-}
-
-// Reads all of standard input and writes what is said of it.
-fn run(rt: &HostRuntime) -> io::Result<()> {
-    let alloc = rt.alloc();
-    let mut input = Vec::new(alloc);
-    rt.stdin().read_to_end(&mut input)?;
-    match output_of(alloc, input.as_slice()) {
-        Ok(text) => rt.stdout().write_all(text.as_bytes()),
-        Err(error) => rt.stdout().write_all(refusal_line(error)),
-    }
-}
-
-// What is said of an input: of the traces in it, or what the first line is refused for that isn't
-// as it should be.
-fn output_of(alloc: Global, input: &[u8]) -> Result<String, TraceError> {
+/// What is said of the traces in an input: how many entries they have together, and the verdict on
+/// these; or what is wrong with the traces; or what the first line is refused for that isn't as it
+/// should be. It is slow on purpose.
+pub fn output_of(alloc: Global, input: &[u8]) -> Result<Vec<u8>, TraceError> {
     let traces = decode_all(alloc, input)?;
-    Ok(said_of(alloc, traces.as_slice())?)
+    Ok(said_of(alloc, traces.as_slice())?.into_bytes())
 }
 
 // What is said of traces: how many entries they have and the verdict on these, or what is wrong.
