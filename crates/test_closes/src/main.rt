@@ -1,22 +1,27 @@
 //! The program `test_closes`: a script of a world, and at each of its places, between each two
-//! spaces, a close that the script knows nothing of.
+//! spaces, a close that the script knows nothing of. With a word on the command line, lists of random
+//! steps in worlds too.
 #![tactic(auto)]
 
 mod course;
+mod lists;
 mod script;
+mod verdicts;
 
 use crate::course::{Course, Cut};
+use crate::lists::try_lists;
 use crate::script::{Script, script_of};
+use crate::verdicts::verdict_text;
 use nob_check::judge;
 use nob_ids::SpaceId;
 use nob_model::{Answer, Entry};
-use nob_model_journal::{Promise, Verdict};
+use nob_model_journal::Verdict;
 use nob_rounds::round;
 use nob_world::World;
 use std::alloc::{AllocError, Global};
-use std::io;
 use std::io::Read;
 use std::process::ExitCode;
+use std::{env, io};
 
 // So many rounds follow a script.
 const ROUNDS: u32 = 10;
@@ -52,8 +57,25 @@ fn main(rt: HostRuntime) -> ExitCode {
     }
 }
 
-// Reads a script, makes its runs, and writes which aren't as they should be, and how many are.
+// Tries closes in a script, and lists of steps where the command line asks for them.
 fn run(rt: &HostRuntime) -> io::Result<()> {
+    let has_lists = has_words(rt)?;
+    try_closes(rt)?;
+    if !has_lists {
+        return Ok(());
+    }
+    try_lists(rt)
+}
+
+// Whether the command line has words beside the program's name.
+fn has_words(rt: &HostRuntime) -> io::Result<bool> {
+    let mut words = env::args(rt)?;
+    words.next();
+    Ok(words.next().is_some())
+}
+
+// Reads a script, makes its runs, and writes which aren't as they should be, and how many are.
+fn try_closes(rt: &HostRuntime) -> io::Result<()> {
     let alloc = rt.alloc();
     let mut input = Vec::new(alloc);
     rt.stdin().read_to_end(&mut input)?;
@@ -129,13 +151,7 @@ fn try_cut(rt: &HostRuntime, script: &Script, cut: &Cut, tally: &mut Tally) -> i
 
 // What is wrong with a script with a close.
 fn text_of(alloc: Global, cut: &Cut, outcome: &Outcome) -> Result<String, AllocError> {
-    let verdict = match outcome.verdict {
-        Verdict::Yes => "yes",
-        Verdict::No(Promise::Fronts) => "no fronts",
-        Verdict::No(Promise::Withdraws) => "no withdraws",
-        Verdict::No(Promise::Losses) => "no losses",
-        Verdict::No(Promise::Found) => "no found",
-    };
+    let verdict = verdict_text(outcome.verdict);
     let place = cut.place;
     let space = cut.space.get();
     let peer = cut.peer.get();

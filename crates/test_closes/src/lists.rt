@@ -1,17 +1,15 @@
-//! The program `test_trials`: lists of random steps in worlds of three and four spaces. What
-//! happened is judged; and once what is closed, called and held has been ended, and all is quiet,
-//! each object must have been withdrawn.
-#![tactic(auto)]
+//! Lists of random steps in worlds of three and four spaces. What happened is judged; and once what
+//! is closed, called and held has been ended, and all is quiet, each object must have been withdrawn.
 
+use crate::verdicts::verdict_text;
 use nob_check::judge;
 use nob_ids::Limits;
 use nob_model::WorldStep;
-use nob_model_journal::{Promise, Verdict};
+use nob_model_journal::Verdict;
 use nob_rounds::{Words, end, facts_of, known_of, random_step};
 use nob_world::{World, WorldError};
 use std::alloc::{AllocError, Global};
 use std::io;
-use std::process::ExitCode;
 
 // So many lists are tried.
 const LISTS: u64 = 200;
@@ -29,15 +27,8 @@ struct Trial {
     is_busy: bool,
 }
 
-fn main(rt: HostRuntime) -> ExitCode {
-    match run(&rt) {
-        Ok(()) => ExitCode::from(0),
-        Err(_) => ExitCode::from(1),
-    }
-}
-
-// Tries all lists, and writes what is wrong with one, and how many are as they should be.
-fn run(rt: &HostRuntime) -> io::Result<()> {
+/// Tries all lists, and writes what is wrong with one, and how many are as they should be.
+pub fn try_lists(rt: &HostRuntime) -> io::Result<()> {
     let mut right: u64 = 0;
     let mut busy: u64 = 0;
     for place in 0..LISTS {
@@ -68,13 +59,7 @@ fn run(rt: &HostRuntime) -> io::Result<()> {
 
 // What is wrong with a list.
 fn text_of(alloc: Global, seed: u64, trial: &Trial) -> Result<String, AllocError> {
-    let verdict = match trial.verdict {
-        Verdict::Yes => "yes",
-        Verdict::No(Promise::Fronts) => "no fronts",
-        Verdict::No(Promise::Withdraws) => "no withdraws",
-        Verdict::No(Promise::Losses) => "no losses",
-        Verdict::No(Promise::Found) => "no found",
-    };
+    let verdict = verdict_text(trial.verdict);
     let kept = trial.kept;
     format!(in alloc; "seed {seed}: verdict {verdict}, objects kept {kept}")
 }
