@@ -10,8 +10,9 @@ use Rattle.nob_model_types.specs.declared.refusal.Refusal.{Refusal}
 use Rattle.nob_model_types.specs.Deeds.{deeds}
 use Rattle.nob_space_state.specs.declared.error.SpaceError.{SpaceError}
 use Rattle.nob_space_state.specs.declared.error.SpaceError.TheVariants as errors
+use Rattle.nob_space_state.specs.declared.parts.Parts.{Parts}
 use Rattle.nob_space_state.specs.Parts.{State}
-use Rattle.nob_space_state.specs.Stands.{Stands}
+use Rattle.nob_space_state.specs.Stands.{Stands, StandFor}
 
 -- a space: its number, how many spaces there are, the limits of its sessions, and its state
 pub record Owner : Type 0 where
@@ -24,9 +25,9 @@ pub record Owner : Type 0 where
 abbrev pub StandsFor : Owner → List Entry → Type 0
 StandsFor space L = Stands space.id space.n space.limits space.state (deeds L)
 
--- there are no more spaces than there may be, and there is a list of entries that the state stands for
-abbrev pub IsOwner : (s n : ℕ) → Limits → State → Type 0
-IsOwner s n limits state = (n ≤ 32) × (L : List Entry) × Stands s n limits state (deeds L)
+-- there are no more spaces than there may be, and there is a list of entries that the parts stand for
+abbrev pub IsOwner : Limits → Parts → Type 0
+IsOwner limits parts = (parts.here.n ≤ 32) × (L : List Entry) × StandFor limits parts (deeds L)
 
 -- the entry of an event with its result
 abbrev pub entry_of : ℕ → Event → Result Answer Refusal → Entry

@@ -34,8 +34,7 @@ impl Space {
             (answered (λ rep. answers.Exported rep) result) }
         ensures same { SameSpace self.old self.new }
     {
-        let here = self.here;
-        let rep = self.parts.export(&here)?;
+        let rep = self.parts.export()?;
         Ok(rep)
     }
 
@@ -51,8 +50,7 @@ impl Space {
             (answered_or_refused (λ _. answers.Done) result) }
         ensures same { SameSpace self.old self.new }
     {
-        let here = self.here;
-        self.parts.dup(&here, rep)?;
+        self.parts.dup(rep)?;
         Ok(())
     }
 
@@ -66,8 +64,7 @@ impl Space {
             (answered_or_refused (λ _. answers.Done) result) }
         ensures same { SameSpace self.old self.new }
     {
-        let here = self.here;
-        self.parts.release(&here, rep)?;
+        self.parts.release(rep)?;
         Ok(())
     }
 
@@ -91,9 +88,8 @@ impl Space {
             (answered (λ call. answers.Called call) result) }
         ensures same { SameSpace self.old self.new }
     {
-        let here = self.here;
         let alloc = self.alloc;
-        let call = self.parts.call(alloc, &here, target, method, value)?;
+        let call = self.parts.call(alloc, target, method, value)?;
         Ok(call)
     }
 
@@ -109,8 +105,7 @@ impl Space {
             (answered_or_refused answer_of result) }
         ensures same { SameSpace self.old self.new }
     {
-        let here = self.here;
-        let brought = self.parts.take_reply(&here, call)?;
+        let brought = self.parts.take_reply(call)?;
         Ok(brought)
     }
 
@@ -125,8 +120,7 @@ impl Space {
             (answered (λ job. answers.Job job) result) }
         ensures same { SameSpace self.old self.new }
     {
-        let here = self.here;
-        let job = self.parts.claim(&here)?;
+        let job = self.parts.claim()?;
         Ok(job)
     }
 
@@ -145,9 +139,8 @@ impl Space {
             (answered finish_answer result) }
         ensures same { SameSpace self.old self.new }
     {
-        let here = self.here;
         let alloc = self.alloc;
-        let fate = self.parts.finish(alloc, &here, job, outcome)?;
+        let fate = self.parts.finish(alloc, job, outcome)?;
         Ok(fate)
     }
 
@@ -164,9 +157,8 @@ impl Space {
             (answered act_answer result) }
         ensures same { SameSpace self.old self.new }
     {
-        let here = self.here;
         let alloc = self.alloc;
-        let done = nob_space_items::act(&mut self.parts, alloc, &here, peer)?;
+        let done = nob_space_items::act(&mut self.parts, alloc, peer)?;
         Ok(done)
     }
 
@@ -181,9 +173,8 @@ impl Space {
             (answered (λ settled. answers.Settled settled.peer settled.item) result) }
         ensures same { SameSpace self.old self.new }
     {
-        let here = self.here;
         let alloc = self.alloc;
-        let settled = nob_space_items::settle(&mut self.parts, alloc, &here)?;
+        let settled = nob_space_items::settle(&mut self.parts, alloc)?;
         Ok(settled)
     }
 
@@ -199,9 +190,8 @@ impl Space {
             (answered (λ rep. answers.Cleaned rep) result) }
         ensures same { SameSpace self.old self.new }
     {
-        let here = self.here;
         let alloc = self.alloc;
-        let rep = nob_space_items::clean(&mut self.parts, alloc, &here)?;
+        let rep = nob_space_items::clean(&mut self.parts, alloc)?;
         Ok(rep)
     }
 
@@ -215,8 +205,7 @@ impl Space {
             (answered_or_refused (λ _. answers.Withdrawn) result) }
         ensures same { SameSpace self.old self.new }
     {
-        let here = self.here;
-        self.parts.withdraw(&here, index)?;
+        self.parts.withdraw(index)?;
         Ok(())
     }
 
@@ -231,8 +220,7 @@ impl Space {
             (answered (λ frames. answers.Frames frames) result) }
         ensures same { SameSpace self.old self.new }
     {
-        let here = self.here;
-        let frames = self.parts.transmit(&here, peer)?;
+        let frames = self.parts.transmit(peer)?;
         Ok(frames)
     }
 
@@ -249,8 +237,7 @@ impl Space {
         ensures memory { is_data frame.now.kind ≡ false → result ≢ Err SpaceError.OutOfMemory }
         ensures same { SameSpace self.old self.new }
     {
-        let here = self.here;
-        let arrived = self.parts.arrive(&here, frame)?;
+        let arrived = self.parts.arrive(frame)?;
         Ok(arrived)
     }
 
@@ -265,8 +252,7 @@ impl Space {
             (answered_or_refused tick_answer result) }
         ensures same { SameSpace self.old self.new }
     {
-        let here = self.here;
-        let reason = self.parts.tick(&here, peer)?;
+        let reason = self.parts.tick(peer)?;
         Ok(reason)
     }
 
@@ -281,8 +267,7 @@ impl Space {
             (answered_or_refused (λ reason. answers.Closed reason) result) }
         ensures same { SameSpace self.old self.new }
     {
-        let here = self.here;
-        let reason = self.parts.close(&here, peer)?;
+        let reason = self.parts.close(peer)?;
         Ok(reason)
     }
 }

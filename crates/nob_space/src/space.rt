@@ -35,7 +35,6 @@ use std::marker::Model;
 /// and has a session with each other space. Contracts see its number, its limits and its state, and
 /// for which lists of entries that stands. It holds pins, so it can't be let go: `shut` ends it.
 pub struct Space {
-    pub(crate) here: Here,
     limits: Limits,
     pub(crate) alloc: Global,
     pub(crate) parts: Parts,
@@ -53,14 +52,13 @@ impl Model for Space {
     ghost coded = { Prim.hlevel (codes, trees_code) };
 
     ghost view = { λ space. record {
-      id = space.here.space;
-      n = space.here.n;
+      id = space.parts.here.space;
+      n = space.parts.here.n;
       limits = space.limits;
       state = state_of space.parts;
     } };
 
-    ghost invariant = { λ space. IsOwner space.here.space space.here.n space.limits
-        (state_of space.parts) };
+    ghost invariant = { λ space. IsOwner space.limits space.parts };
 }
 
 impl Space {
@@ -76,7 +74,6 @@ impl Space {
         let here = Here { space: id, n };
         let parts = Parts::new(alloc, &here, limits)?;
         Ok(Space {
-            here,
             limits,
             alloc,
             parts,
@@ -87,14 +84,14 @@ impl Space {
     pub fn id(&self) -> SpaceId
         ensures { result ≡ self.now.id }
     {
-        self.here.space
+        self.parts.here.space
     }
 
     /// How many spaces there are.
     pub fn n(&self) -> u16
         ensures { result ≡ self.now.n }
     {
-        self.here.n
+        self.parts.here.n
     }
 
     /// The limits of its sessions.
@@ -128,7 +125,7 @@ impl Space {
         ensures { (L : List Entry) → StandsFor self.now L
             → result ≡ next.can_settle self.now.id self.now.n (history self.now.id self.now.n L) }
     {
-        can_settle(&self.parts, &self.here)
+        can_settle(&self.parts)
     }
 
     /// Whether there is a surrogate to give up, free numbers and want of memory aside. It takes no
@@ -137,7 +134,7 @@ impl Space {
         ensures { (L : List Entry) → StandsFor self.now L
             → result ≡ next.can_clean self.now.id self.now.n (history self.now.id self.now.n L) }
     {
-        can_clean(&self.parts, &self.here)
+        can_clean(&self.parts)
     }
 
     /// Whether there is a job to claim, want of memory aside. It takes no memory. A few words of
@@ -155,7 +152,7 @@ impl Space {
         ensures { (L : List Entry) → StandsFor self.now L
             → result ≡ next.to_withdraw self.now.id (history self.now.id self.now.n L) }
     {
-        self.parts.to_withdraw(&self.here)
+        self.parts.to_withdraw()
     }
 
     /// What the space could do next: to ask it that would be no refusal, limits, free numbers and
@@ -180,8 +177,8 @@ impl Space {
         ensures withdraw { (L : List Entry) → StandsFor self.now L
             → result.withdraw ≡ next.to_withdraw self.now.id (history self.now.id self.now.n L) }
     {
-        let act = acts(&self.parts, &self.here);
-        let send = sends(&self.parts, &self.here);
+        let act = acts(&self.parts);
+        let send = sends(&self.parts);
         let settle = self.can_settle();
         let clean = self.can_clean();
         let claim = self.can_claim();
@@ -203,7 +200,7 @@ impl Space {
             → result ≡ dues.due self.now.id self.now.n peer self.now.limits.window
             (history self.now.id self.now.n L) }
     {
-        self.parts.due(&self.here, peer)
+        self.parts.due(peer)
     }
 
     /// The frames that a Transmit to a peer would give now, each of which has a spelling. It is
@@ -216,7 +213,7 @@ impl Space {
         ensures spelt { IsSpace self.now.id
             → IfOk result (λ frames. AllByRecursion Fits frames.items) }
     {
-        self.parts.frames(&self.here, peer)
+        self.parts.frames(peer)
     }
 
     /// One event: its answer, or why the space refuses it. After a refusal, or where memory was
@@ -281,7 +278,7 @@ impl Space {
         ensures memory { wants_memory_twice event.now ≡ false
             → result ≢ Err SpaceError.OutOfMemory }
     {
-        let spare = spare_of(&self.parts, &self.here, event)?;
+        let spare = spare_of(&self.parts, event)?;
         let answer = self.step(event)?;
         let second = again(&answer, spare);
         Ok((answer, second))
@@ -291,11 +288,10 @@ impl Space {
     /// pins is given up. It takes no memory, and tells no peer.
     pub fn shut(self) {
         let Space {
-            here,
             limits: _,
             alloc: _,
             parts,
         } = self;
-        parts.shut(&here);
+        parts.shut();
     }
 }

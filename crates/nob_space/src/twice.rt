@@ -4,13 +4,12 @@ ghost use Rattle.std.specs.Prelude.{◌≡◌, List, false, IsOk, IfOk, OnErr};
 ghost use Rattle.nob_ids.specs.declared.limits.Limits.{Limits as LimitsOf};
 ghost use Rattle.nob_model_types.specs.declared.answer.Answer.{Answer as AnswerOf};
 ghost use Rattle.nob_model_types.specs.declared.deed.Deed.{Deed};
-ghost use Rattle.nob_model_history.specs.Histories.{history_of};
 ghost use Rattle.nob_model.specs.Right.{right_after};
 ghost use Rattle.nob_space_state.specs.Parts.{state_of};
-ghost use Rattle.nob_space_state.specs.Stands.{Stands, IsState};
+ghost use Rattle.nob_space_state.specs.Stands.{StandFor, IsState, history_for};
 ghost use Rattle.nob_space.specs.Twice.{Fits, IsComing, wants_memory_twice};
 
-use nob_model::{Answer, Event, Frames, Here, Job};
+use nob_model::{Answer, Event, Frames, Job};
 use nob_pickle::Value;
 use nob_space_state::{Parts, SpaceError};
 use std::alloc::AllocError;
@@ -30,16 +29,16 @@ pub enum Spare {
 
 // What the answer to an event owns, copied. Memory is wanted only where nothing refuses the event.
 #[tactic(auto, unfolding(nob_model::specs::Right::right_after))]
-pub(crate) fn spare_of(parts: &Parts, here: &Here, event: &Event) -> Result<Spare, AllocError>
-    requires { IsState here.now.space here.now.n (state_of parts.now) }
+pub(crate) fn spare_of(parts: &Parts, event: &Event) -> Result<Spare, AllocError>
+    requires { IsState parts.now }
     ensures fits { IfOk result (λ spare. (answer : AnswerOf)
-        → IsComing here.now.space here.now.n (state_of parts.now) event.now answer
+        → IsComing parts.now.here.space parts.now.here.n (state_of parts.now) event.now answer
         → Fits spare answer) }
     ensures only { wants_memory_twice event.now ≡ false → IsOk result }
     ensures memory { OnErr result ((limits : LimitsOf) (D : List Deed)
-        → Stands here.now.space here.now.n limits (state_of parts.now) D
-        → IsOk (right_after here.now.space here.now.n limits
-        (history_of here.now.space here.now.n D) event.now)) }
+        → StandFor limits parts.now D
+        → IsOk (right_after parts.now.here.space parts.now.here.n limits
+        (history_for parts.now D) event.now)) }
 {
     match event {
         Event::TakeReply(call) => match parts.reply_value(*call)? {
@@ -51,7 +50,7 @@ pub(crate) fn spare_of(parts: &Parts, here: &Here, event: &Event) -> Result<Spar
             Err(SpaceError::Refused(_)) => Ok(Spare::Nothing),
             Err(SpaceError::OutOfMemory) => Err(AllocError),
         },
-        Event::Transmit(peer) => match parts.frames(here, *peer) {
+        Event::Transmit(peer) => match parts.frames(*peer) {
             Ok(frames) => Ok(Spare::Frames(Frames::from_vec(frames))),
             Err(SpaceError::Refused(_)) => Ok(Spare::Nothing),
             Err(SpaceError::OutOfMemory) => Err(AllocError),

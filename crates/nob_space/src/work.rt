@@ -3,13 +3,10 @@
 ghost use Rattle.std.specs.Prelude.{◌≡◌, ◌≤◌, ◌-◌, ℕ, List, Some, slice_get};
 ghost use Rattle.nob_ids.specs.declared.limits.Limits.{Limits as LimitsOf};
 ghost use Rattle.nob_model_types.specs.declared.deed.Deed.{Deed};
-ghost use Rattle.nob_model_history.specs.Histories.{history_of};
 ghost use Rattle.nob_model.specs.Next as next;
-ghost use Rattle.nob_space_state.specs.Parts.{state_of};
-ghost use Rattle.nob_space_state.specs.Stands.{Stands};
+ghost use Rattle.nob_space_state.specs.Stands.{StandFor, history_for};
 
 use nob_ids::SpaceId;
-use nob_model::Here;
 use nob_space_state::Parts;
 
 /// What a space could do next, limits, free numbers and want of memory aside.
@@ -31,36 +28,36 @@ pub struct Work {
 }
 
 // Whether there is an item to act on, from each space.
-pub(crate) fn acts(parts: &Parts, here: &Here) -> [bool; 32]
+pub(crate) fn acts(parts: &Parts) -> [bool; 32]
     ensures { (limits : LimitsOf) (D : List Deed)
-        → Stands here.now.space here.now.n limits (state_of parts.now) D → (p : ℕ) → 1 ≤ p → p ≤ 32
+        → StandFor limits parts.now D → (p : ℕ) → 1 ≤ p → p ≤ 32
         → slice_get result (p - 1) ≡ Some
-        (next.can_act here.now.space here.now.n p (history_of here.now.space here.now.n D)) }
+        (next.can_act parts.now.here.space parts.now.here.n p (history_for parts.now D)) }
 {
     let mut all = [false; 32];
     for place in 0..32 {
         let Some(peer) = SpaceId::new(place as u16 + 1) else {
             unreachable!();
         };
-        all[place] = parts.can_act(here, peer);
+        all[place] = parts.can_act(peer);
     }
     all
 }
 
 // Whether a Transmit would give a frame, to each space.
-pub(crate) fn sends(parts: &Parts, here: &Here) -> [bool; 32]
+pub(crate) fn sends(parts: &Parts) -> [bool; 32]
     ensures { (limits : LimitsOf) (D : List Deed)
-        → Stands here.now.space here.now.n limits (state_of parts.now) D → (p : ℕ) → 1 ≤ p → p ≤ 32
+        → StandFor limits parts.now D → (p : ℕ) → 1 ≤ p → p ≤ 32
         → slice_get result (p - 1) ≡ Some
-        (next.can_send here.now.space here.now.n p limits.window
-        (history_of here.now.space here.now.n D)) }
+        (next.can_send parts.now.here.space parts.now.here.n p limits.window
+        (history_for parts.now D)) }
 {
     let mut all = [false; 32];
     for place in 0..32 {
         let Some(peer) = SpaceId::new(place as u16 + 1) else {
             unreachable!();
         };
-        all[place] = parts.can_send(here, peer);
+        all[place] = parts.can_send(peer);
     }
     all
 }

@@ -2,6 +2,8 @@
 
 ghost use Rattle.std.specs.Prelude.{◌≡◌, ◌+◌, ◌<◌, ◌≤◌, ℕ, List, [], ◌∷◌, Ok, false, length, vec_len, IsOk, IfOk, OnOk, OnErr};
 ghost use Rattle.nob_ids.specs.declared.limits.Limits.{Limits as LimitsOf};
+ghost use Rattle.nob_item.specs.Writing.{bytes_of};
+ghost use Rattle.nob_model_history.specs.Ends.{payload_of};
 ghost use Rattle.nob_model_session.specs.declared.entry.EndEntry.{EndEntry};
 ghost use Rattle.nob_model_session.specs.declared.entry.EndEntry.TheVariants.{Send};
 ghost use Rattle.nob_session.specs.Calls.{next_of, with_item};
@@ -12,10 +14,26 @@ ghost use Rattle.nob_pins.specs.Evidence.{AreOf, reps_of};
 ghost use Rattle.nob_space_holds.specs.Pins.{AddsPins};
 
 use nob_ids::{ItemNo, SpaceId, WireRep};
+use nob_item::{Item, ItemError, encode};
 use nob_model::Kind;
 use nob_pins::{PinTable, TransitPin};
 use nob_session::Session;
 use std::alloc::{AllocError, Global};
+
+/// The payload that carries an item which the space itself has to tell, a note or the Reply to a
+/// Call with a lost reference: such an item has a spelling, so only memory fails it. Constant time
+/// for a note.
+pub fn encode_note(alloc: Global, note: &Item) -> Result<Vec<u8>, AllocError>
+    requires { IsOk (bytes_of note.now) }
+    ensures spelled { IfOk result (λ payload. payload.items ≡ payload_of note.now) }
+    ensures size { IfOk result (λ payload. (0 < vec_len payload) × (vec_len payload ≤ 16384)) }
+{
+    match encode(alloc, note) {
+        Ok(payload) => Ok(payload),
+        Err(ItemError::Fault(_)) => unreachable!(),
+        Err(ItemError::OutOfMemory) => Err(AllocError),
+    }
+}
 
 /// Hands an item to the peer of a session that has room for it: the number that it gets. The caller
 /// has seen by `next` that it gets one. Constant time.

@@ -8,10 +8,8 @@ ghost use Rattle.nob_model_types.specs.declared.answer.Answer.TheVariants as ans
 ghost use Rattle.nob_model_types.specs.declared.deed.Deed.{Deed};
 ghost use Rattle.nob_model_types.specs.declared.deed.Deed.TheVariants as did;
 ghost use Rattle.nob_model_history.specs.Ends.{calls_at};
-ghost use Rattle.nob_model_history.specs.Histories.{history_of};
 ghost use Rattle.nob_model.specs.Right as right;
-ghost use Rattle.nob_space_state.specs.Parts.{state_of};
-ghost use Rattle.nob_space_state.specs.Stands.{Stands, IsState, Keeps, Did, AnswersOrWants};
+ghost use Rattle.nob_space_state.specs.Stands.{StandFor, IsState, Keeps, Did, AnswersOrWants, history_for};
 ghost use Rattle.nob_space_items.specs.Acts.{ActsOrWants, act_answer, act_deed};
 ghost use Rattle.nob_space_items.specs.Fronts.{IsFront};
 
@@ -20,7 +18,7 @@ use crate::messages::act_on_message;
 use crate::notes::{act_on_clean, act_on_dirty, act_on_dirty_no, act_on_dirty_ok, act_on_settle};
 use nob_ids::{ItemNo, Reason, SpaceId};
 use nob_item::{Item, ItemError, decode};
-use nob_model::{Answer, Here, Refusal};
+use nob_model::{Answer, Refusal};
 use nob_pins::Settled;
 use nob_space_state::{Parts, SpaceError};
 use std::alloc::Global;
@@ -50,23 +48,21 @@ impl ActResult {
 fn act_on(
     parts: &mut Parts,
     alloc: Global,
-    here: &Here,
     peer: SpaceId,
     number: ItemNo,
     item: Item,
 ) -> Result<(), SpaceError>
-    requires state { IsState here.now.space here.now.n (state_of parts.old) }
+    requires state { IsState parts.old }
     requires front { (limits : LimitsOf) (D : List Deed)
-        → Stands here.now.space here.now.n limits (state_of parts.old) D
-        → IsFront here.now.space here.now.n peer number item D }
+        → StandFor limits parts.old D
+        → IsFront parts.old.here.space parts.old.here.n peer number item D }
     ensures answer { (limits : LimitsOf) (D : List Deed)
-        → Stands here.now.space here.now.n limits (state_of parts.old) D
+        → StandFor limits parts.old D
         → AnswersOrWants (λ _. answers.Acted number) result
-        (right.right_act here.now.space here.now.n peer (history_of here.now.space here.now.n D)) }
-    ensures stands { OnOk result (Did here.now.space here.now.n (state_of parts.old)
-        (state_of parts.new) (did.Act peer number)) }
-    ensures err { OnErr result (Keeps here.now.space here.now.n (state_of parts.old)
-        (state_of parts.new)) }
+        (right.right_act parts.old.here.space parts.old.here.n peer (history_for parts.old D)) }
+    ensures stands { OnOk result (Did parts.old parts.new (did.Act peer number)) }
+    ensures err { OnErr result (Keeps parts.old parts.new) }
+    ensures here { parts.new.here ≡ parts.old.here }
 {
     match &item {
         Item::Call { .. } | Item::Reply { .. } => {}
@@ -74,24 +70,24 @@ fn act_on(
             let Some(settled) = Settled::of_note(peer, &item) else {
                 unreachable!();
             };
-            act_on_settle(parts, here, number, &settled);
+            act_on_settle(parts, number, &settled);
             return Ok(());
         }
-        Item::Dirty(index) => return act_on_dirty(parts, alloc, here, peer, number, *index),
+        Item::Dirty(index) => return act_on_dirty(parts, alloc, peer, number, *index),
         Item::DirtyOk(index) => {
-            act_on_dirty_ok(parts, here, peer, number, *index);
+            act_on_dirty_ok(parts, peer, number, *index);
             return Ok(());
         }
         Item::DirtyNo(index) => {
-            act_on_dirty_no(parts, here, peer, number, *index);
+            act_on_dirty_no(parts, peer, number, *index);
             return Ok(());
         }
         Item::Clean(index) => {
-            act_on_clean(parts, here, peer, number, *index);
+            act_on_clean(parts, peer, number, *index);
             return Ok(());
         }
     }
-    act_on_message(parts, alloc, here, peer, number, item)
+    act_on_message(parts, alloc, peer, number, item)
 }
 
 /// Act: the item at the front of the inbox from a peer is acted on. One with a fault closes the
@@ -102,24 +98,19 @@ fn act_on(
 /// takes none. Linear in the bytes, the pins of the item that a Settle names, and the copies of the
 /// messages that wait for what a DirtyOk or a DirtyNo names, and logarithmic in the calls and the
 /// listings; a fault costs what `close_for` does.
-pub fn act(
-    parts: &mut Parts,
-    alloc: Global,
-    here: &Here,
-    peer: SpaceId,
-) -> Result<ActResult, SpaceError>
-    requires { IsState here.now.space here.now.n (state_of parts.old) }
+pub fn act(parts: &mut Parts, alloc: Global, peer: SpaceId) -> Result<ActResult, SpaceError>
+    requires { IsState parts.old }
     ensures answer { (limits : LimitsOf) (D : List Deed)
-        → Stands here.now.space here.now.n limits (state_of parts.old) D
-        → ActsOrWants (right_front (calls_at peer (history_of here.now.space here.now.n D))) result
-        (right.right_act here.now.space here.now.n peer (history_of here.now.space here.now.n D)) }
+        → StandFor limits parts.old D
+        → ActsOrWants (right_front (calls_at peer (history_for parts.old D))) result
+        (right.right_act parts.old.here.space parts.old.here.n peer (history_for parts.old D)) }
     ensures stands { IfOk result (λ done.
-        Did here.now.space here.now.n (state_of parts.old) (state_of parts.new)
+        Did parts.old parts.new
         (act_deed peer done)) }
-    ensures err { OnErr result (Keeps here.now.space here.now.n (state_of parts.old)
-        (state_of parts.new)) }
+    ensures err { OnErr result (Keeps parts.old parts.new) }
+    ensures here { parts.new.here ≡ parts.old.here }
 {
-    if !here.is_peer(peer) {
+    if !parts.here.is_peer(peer) {
         return Err(SpaceError::Refused(Refusal::NoPeer));
     }
     if parts.has_closed(peer) {
@@ -133,14 +124,14 @@ pub fn act(
         Ok(item) => item,
         Err(ItemError::OutOfMemory) => return Err(SpaceError::OutOfMemory),
         Err(ItemError::Fault(_)) => {
-            parts.close_for(here, peer, Reason::BadItem);
+            parts.close_for(peer, Reason::BadItem);
             return Ok(ActResult::Closed(Reason::BadItem));
         }
     };
-    if let Some(reason) = fault_of_item(parts, here.space, peer, &item) {
-        parts.close_for(here, peer, reason);
+    if let Some(reason) = fault_of_item(parts, peer, &item) {
+        parts.close_for(peer, reason);
         return Ok(ActResult::Closed(reason));
     }
-    act_on(parts, alloc, here, peer, number, item)?;
+    act_on(parts, alloc, peer, number, item)?;
     Ok(ActResult::Acted(number))
 }

@@ -8,7 +8,7 @@ ghost use Rattle.nob_space_items.specs.Messages as specs;
 
 use nob_ids::WireRep;
 use nob_item::{Item, counted_refs};
-use nob_model::{Here, Loan, RefCopy};
+use nob_model::{Loan, RefCopy};
 use nob_model_types::message::RefCopies;
 use nob_space_settling::is_lost;
 use nob_space_state::Parts;
@@ -31,42 +31,37 @@ fn is_granted(state: State) -> bool
 }
 
 // Whether a reference is own or usable.
-fn is_at_hand(parts: &Parts, here: &Here, rep: &WireRep) -> bool
-    ensures { result ≡ specs.is_at_hand here.now.space (state_of parts.now) rep.now }
+fn is_at_hand(parts: &Parts, rep: &WireRep) -> bool
+    ensures { result ≡ specs.is_at_hand parts.now.here.space (state_of parts.now) rep.now }
 {
     let standing = parts.table.state(*rep);
-    rep.owner == here.space || is_granted(standing.state)
+    rep.owner == parts.here.space || is_granted(standing.state)
 }
 
 // The loan of a reference as it comes in a message.
-fn new_loan(parts: &Parts, here: &Here, rep: &WireRep) -> Loan
-    ensures { result ≡ specs.new_loan here.now.space here.now.n (state_of parts.now) rep.now }
+fn new_loan(parts: &Parts, rep: &WireRep) -> Loan
+    ensures { result ≡ specs.new_loan parts.now.here.space parts.now.here.n (state_of parts.now) rep.now }
 {
-    if is_lost(parts, here, rep) {
+    if is_lost(parts, rep) {
         return Loan::Never;
     }
-    if is_at_hand(parts, here, rep) {
+    if is_at_hand(parts, rep) {
         return Loan::Lent;
     }
     Loan::Due
 }
 
 // The copies of an item's references as they come in it. Only memory fails it.
-pub(crate) fn new_copies(
-    parts: &Parts,
-    alloc: Global,
-    here: &Here,
-    item: &Item,
-) -> Result<RefCopies, AllocError>
+pub(crate) fn new_copies(parts: &Parts, alloc: Global, item: &Item) -> Result<RefCopies, AllocError>
     ensures { IfOk result (λ copies. copies
-        ≡ specs.new_copies here.now.space here.now.n (state_of parts.now) (counted_in item.now)) }
+        ≡ specs.new_copies parts.now.here.space parts.now.here.n (state_of parts.now) (counted_in item.now)) }
 {
     let reps = counted_refs(alloc, item)?;
     let mut copies = Vec::with_capacity(alloc, reps.len())?;
     for rep in reps.as_slice() {
         copies.push(RefCopy {
             rep: *rep,
-            loan: new_loan(parts, here, rep),
+            loan: new_loan(parts, rep),
         })?;
     }
     Ok(RefCopies::from_vec(copies))

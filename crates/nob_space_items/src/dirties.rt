@@ -7,10 +7,10 @@ ghost use Rattle.nob_space_items.specs.Asking.{CanAsk, AsksFor, CanSend, CanSend
 
 use crate::growing::place_of;
 use nob_ids::WireRep;
-use nob_item::{Item, ItemError, encode};
+use nob_item::Item;
 use nob_model::Kind;
 use nob_session::Session;
-use nob_space_holds::send_reserved;
+use nob_space_holds::{encode_note, send_reserved};
 use nob_table::ObjectTable;
 use std::alloc::{AllocError, Global};
 use std::marker::Model;
@@ -24,16 +24,16 @@ pub struct NewDirty {
 }
 
 impl Model for NewDirty {
-    ghost use Rattle.std.specs.Prelude.{◌≡◌, ◌<◌, ◌≤◌, vec_len, Ok};
+    ghost use Rattle.std.specs.Prelude.{◌≡◌, ◌<◌, ◌≤◌, vec_len};
     ghost use Rattle.nob_ids.specs.declared.wire_rep.WireRep.{WireRep};
-    ghost use Rattle.nob_item.specs.Writing.{bytes_of};
+    ghost use Rattle.nob_model_history.specs.Ends.{payload_of};
     ghost use Rattle.nob_item.specs.declared.item.Item.TheVariants as items;
 
     ghost Value = { WireRep };
 
     ghost view = { λ dirty. dirty.rep };
 
-    ghost invariant = { λ dirty. (bytes_of (items.Dirty dirty.rep.index) ≡ Ok dirty.payload.items)
+    ghost invariant = { λ dirty. (dirty.payload.items ≡ payload_of (items.Dirty dirty.rep.index))
         × (0 < vec_len dirty.payload) × (vec_len dirty.payload ≤ 16384) };
 }
 
@@ -42,11 +42,8 @@ impl NewDirty {
     pub fn new(alloc: Global, rep: WireRep) -> Result<NewDirty, AllocError>
         ensures { IfOk result (λ dirty. dirty ≡ rep) }
     {
-        match encode(alloc, &Item::Dirty(rep.index)) {
-            Ok(payload) => Ok(NewDirty { rep, payload }),
-            Err(ItemError::Fault(_)) => unreachable!(),
-            Err(ItemError::OutOfMemory) => Err(AllocError),
-        }
+        let payload = encode_note(alloc, &Item::Dirty(rep.index))?;
+        Ok(NewDirty { rep, payload })
     }
 
     // The reference.

@@ -15,13 +15,13 @@ use nob_space_state::Parts;
 use nob_table::State;
 
 // Whether an item carries a reference to an object of this space that isn't live.
-fn carries_none(parts: &Parts, me: SpaceId, item: &Item) -> bool
+fn carries_none(parts: &Parts, item: &Item) -> bool
     requires { Fits item.now }
-    ensures { result ≡ carries_none me (state_of parts.now) item.now }
+    ensures { result ≡ carries_none parts.now.here.space (state_of parts.now) item.now }
 {
     let mut number = 0;
     while let Some(rep) = counted_ref(item, number) {
-        if parts.is_gone(me, &rep) {
+        if parts.is_gone(&rep) {
             return true;
         }
         number += 1;
@@ -30,10 +30,13 @@ fn carries_none(parts: &Parts, me: SpaceId, item: &Item) -> bool
 }
 
 // Whether an index was never given to an object of this space.
-fn was_never_given(parts: &Parts, me: SpaceId, index: u64) -> bool
-    ensures { result ≡ was_never_given me index (state_of parts.now) }
+fn was_never_given(parts: &Parts, index: u64) -> bool
+    ensures { result ≡ was_never_given parts.now.here.space index (state_of parts.now) }
 {
-    let standing = parts.table.state(WireRep { owner: me, index });
+    let standing = parts.table.state(WireRep {
+        owner: parts.here.space,
+        index,
+    });
     matches!(standing.state, State::Unknown)
 }
 
@@ -54,59 +57,48 @@ fn fault_if(test: bool, reason: Reason) -> Option<Reason>
 }
 
 // The fault of a Call of a target.
-fn fault_of_call(parts: &Parts, me: SpaceId, target: u64, item: &Item) -> Option<Reason>
+fn fault_of_call(parts: &Parts, target: u64, item: &Item) -> Option<Reason>
     requires { Fits item.now }
     ensures { result ≡ words.first_fault
-        (words.fault_if (is_gone me parts.now.table (own_ref me target)) Reason.BadReference)
-        (words.fault_if (carries_none me (state_of parts.now) item.now) Reason.BadReference) }
+        (words.fault_if (is_gone parts.now.here.space parts.now.table (own_ref parts.now.here.space target)) Reason.BadReference)
+        (words.fault_if (carries_none parts.now.here.space (state_of parts.now) item.now) Reason.BadReference) }
 {
     let rep = WireRep {
-        owner: me,
+        owner: parts.here.space,
         index: target,
     };
-    if parts.is_gone(me, &rep) {
+    if parts.is_gone(&rep) {
         return Some(Reason::BadReference);
     }
-    fault_if(carries_none(parts, me, item), Reason::BadReference)
+    fault_if(carries_none(parts, item), Reason::BadReference)
 }
 
 // The fault of a Reply to a call.
-fn fault_of_reply(
-    parts: &Parts,
-    me: SpaceId,
-    peer: SpaceId,
-    call: CallNo,
-    item: &Item,
-) -> Option<Reason>
+fn fault_of_reply(parts: &Parts, peer: SpaceId, call: CallNo, item: &Item) -> Option<Reason>
     requires { Fits item.now }
     ensures { result ≡ words.first_fault
         (words.fault_if (not (list_any (words.awaits_reply peer call) parts.now.calls.calls))
         Reason.OutOfPlace) (words.fault_if
-        (carries_none me (state_of parts.now) item.now) Reason.BadReference) }
+        (carries_none parts.now.here.space (state_of parts.now) item.now) Reason.BadReference) }
 {
     if !parts.calls.awaits(peer, call) {
         return Some(Reason::OutOfPlace);
     }
-    fault_if(carries_none(parts, me, item), Reason::BadReference)
+    fault_if(carries_none(parts, item), Reason::BadReference)
 }
 
 // The first fault of an item from a peer. Linear in the item, and logarithmic in the calls.
 #[tactic(auto, unfolding(crate::specs::Judging::item_fault))]
-pub(crate) fn fault_of_item(
-    parts: &Parts,
-    me: SpaceId,
-    peer: SpaceId,
-    item: &Item,
-) -> Option<Reason>
+pub(crate) fn fault_of_item(parts: &Parts, peer: SpaceId, item: &Item) -> Option<Reason>
     requires { Fits item.now }
-    ensures { result ≡ item_fault me peer item.now (state_of parts.now) }
+    ensures { result ≡ item_fault parts.now.here.space peer item.now (state_of parts.now) }
 {
     match item {
-        Item::Call { target, .. } => fault_of_call(parts, me, *target, item),
-        Item::Reply { call, .. } => fault_of_reply(parts, me, peer, *call, item),
+        Item::Call { target, .. } => fault_of_call(parts, *target, item),
+        Item::Reply { call, .. } => fault_of_reply(parts, peer, *call, item),
         Item::Settle(sent) => fault_if(!parts.pins.has(peer, *sent), Reason::OutOfPlace),
         Item::Dirty(index) | Item::Clean(index) => fault_if(
-            was_never_given(parts, me, *index),
+            was_never_given(parts, *index),
             Reason::BadReference,
         ),
         Item::DirtyOk(index) | Item::DirtyNo(index) => fault_if(

@@ -49,6 +49,7 @@ pub(crate) fn grow(parts: &mut Parts, reps: &[WireRep], copies: usize) -> Result
     ensures waiting { OnOk result (copies < parts.new.waiting.room) }
     ensures ready { OnOk result (0 < parts.new.jobs.ready_room) }
     ensures replies { OnOk result (0 < parts.new.calls.replies_room) }
+    ensures here { parts.new.here ≡ parts.old.here }
 {
     parts.table.reserve(0, reps.len())?;
     grow_sessions(&mut parts.sessions, reps, reps.len())?;

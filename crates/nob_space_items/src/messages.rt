@@ -8,12 +8,11 @@ ghost use Rattle.nob_item.specs.Kinds.{counted_in};
 ghost use Rattle.nob_model_types.specs.declared.answer.Answer.TheVariants as answers;
 ghost use Rattle.nob_model_types.specs.declared.deed.Deed.{Deed};
 ghost use Rattle.nob_model_types.specs.declared.deed.Deed.TheVariants as did;
-ghost use Rattle.nob_model_history.specs.Histories.{history_of};
 ghost use Rattle.nob_model.specs.Right as right;
 ghost use Rattle.nob_model_acting.specs.Acting as acting;
 ghost use Rattle.nob_table_rows.specs.Standings as standings;
 ghost use Rattle.nob_space_state.specs.Parts.{state_of};
-ghost use Rattle.nob_space_state.specs.Stands.{Stands, IsState, Keeps, Did, AnswersOrWants};
+ghost use Rattle.nob_space_state.specs.Stands.{StandFor, IsState, Keeps, Did, AnswersOrWants, history_for};
 ghost use Rattle.nob_space_items.specs.Fronts.{IsFront};
 ghost use Rattle.nob_space_items.specs.Messages as specs;
 ghost use Rattle.nob_space_items.specs.Messages.{KnowsSurrogates};
@@ -26,7 +25,7 @@ use crate::growing::grow;
 use crate::receiving::receive;
 use nob_ids::{ItemNo, SpaceId, WireRep};
 use nob_item::{Item, counted_ref};
-use nob_model::{Here, Message, Refusal};
+use nob_model::{Message, Refusal};
 use nob_model_acting::acting::{MOST_MESSAGES, MOST_SURROGATES};
 use nob_space_state::{Parts, SpaceError};
 use nob_table::State;
@@ -43,13 +42,13 @@ fn is_surrogate(state: State) -> bool
 }
 
 // Whether a reference gets a Dirty.
-fn is_wanted(parts: &Parts, here: &Here, rep: &WireRep) -> bool
-    ensures { result ≡ specs.is_wanted here.now.space here.now.n (state_of parts.now) rep.now }
+fn is_wanted(parts: &Parts, rep: &WireRep) -> bool
+    ensures { result ≡ specs.is_wanted parts.now.here.space parts.now.here.n (state_of parts.now) rep.now }
 {
     let standing = parts.table.state(*rep);
     let surrogate = is_surrogate(standing.state);
     let closed = parts.has_closed(rep.owner);
-    here.is_peer(rep.owner) && !closed && !surrogate
+    parts.here.is_peer(rep.owner) && !closed && !surrogate
 }
 
 // Whether a reference stands among some.
@@ -60,27 +59,27 @@ fn has(reps: &[WireRep], rep: &WireRep) -> bool
 }
 
 // Whether a reference gets a Dirty that none of those before got.
-fn is_next(parts: &Parts, here: &Here, before: &[WireRep], rep: &WireRep) -> bool
-    ensures { result ≡ (specs.is_wanted here.now.space here.now.n
+fn is_next(parts: &Parts, before: &[WireRep], rep: &WireRep) -> bool
+    ensures { result ≡ (specs.is_wanted parts.now.here.space parts.now.here.n
         (state_of parts.now) rep.now && not (list_any (is_same rep.now) before.now)) }
 {
-    is_wanted(parts, here, rep) && !has(before, rep)
+    is_wanted(parts, rep) && !has(before, rep)
 }
 
 // The references of an item that get Dirties, each once, in reading order. An item carries 32 at
 // most.
-fn wanted_refs(parts: &Parts, here: &Here, item: &Item) -> FewRefs
+fn wanted_refs(parts: &Parts, item: &Item) -> FewRefs
     requires { length (counted_in item.now) ≤ 32 }
-    ensures { result ≡ specs.wanted_refs here.now.space here.now.n (state_of parts.now)
+    ensures { result ≡ specs.wanted_refs parts.now.here.space parts.now.here.n (state_of parts.now)
         (counted_in item.now) }
 {
     let mut wanted = FewRefs::new(WireRep {
-        owner: here.space,
+        owner: parts.here.space,
         index: 0,
     });
     let mut number = 0;
     while let Some(rep) = counted_ref(item, number) {
-        if is_next(parts, here, wanted.as_slice(), &rep) {
+        if is_next(parts, wanted.as_slice(), &rep) {
             wanted.push(rep);
         }
         number += 1;
@@ -157,19 +156,19 @@ fn refuse_message(parts: &Parts, reps: &[WireRep]) -> Result<(), Refusal>
 
 // The references of a Call or a Reply that get Dirties, or why it stays in the inbox. It takes no
 // memory.
-fn judge_message(parts: &Parts, here: &Here, item: &Item) -> Result<FewRefs, Refusal>
+fn judge_message(parts: &Parts, item: &Item) -> Result<FewRefs, Refusal>
     requires few { length (counted_in item.now) ≤ 32 }
     ensures wanted { IfOk result (λ reps. reps
-        ≡ specs.wanted_refs here.now.space here.now.n (state_of parts.now) (counted_in item.now)) }
+        ≡ specs.wanted_refs parts.now.here.space parts.now.here.n (state_of parts.now) (counted_in item.now)) }
     ensures free { IfOk result (λ reps. specs.message_refusal (state_of parts.now) reps ≡ None) }
     ensures answer { (limits : LimitsOf) (D : List Deed)
-        → Stands here.now.space here.now.n limits (state_of parts.now) D
-        → MatchResult result (λ _. acting.message_refusal here.now.space here.now.n item.now
-        (history_of here.now.space here.now.n D) ≡ None)
-        (λ refusal. acting.message_refusal here.now.space here.now.n item.now
-        (history_of here.now.space here.now.n D) ≡ Some refusal) }
+        → StandFor limits parts.now D
+        → MatchResult result (λ _. acting.message_refusal parts.now.here.space parts.now.here.n item.now
+        (history_for parts.now D) ≡ None)
+        (λ refusal. acting.message_refusal parts.now.here.space parts.now.here.n item.now
+        (history_for parts.now D) ≡ Some refusal) }
 {
-    let wanted = wanted_refs(parts, here, item);
+    let wanted = wanted_refs(parts, item);
     refuse_message(parts, wanted.as_slice())?;
     Ok(wanted)
 }
@@ -182,28 +181,26 @@ fn judge_message(parts: &Parts, here: &Here, item: &Item) -> Result<FewRefs, Ref
 pub(crate) fn act_on_message(
     parts: &mut Parts,
     alloc: Global,
-    here: &Here,
     peer: SpaceId,
     number: ItemNo,
     item: Item,
 ) -> Result<(), SpaceError>
-    requires state { IsState here.now.space here.now.n (state_of parts.old) }
+    requires state { IsState parts.old }
     requires message { IsMessage item }
     requires front { (limits : LimitsOf) (D : List Deed)
-        → Stands here.now.space here.now.n limits (state_of parts.old) D
-        → IsFront here.now.space here.now.n peer number item D }
+        → StandFor limits parts.old D
+        → IsFront parts.old.here.space parts.old.here.n peer number item D }
     ensures answer { (limits : LimitsOf) (D : List Deed)
-        → Stands here.now.space here.now.n limits (state_of parts.old) D
+        → StandFor limits parts.old D
         → AnswersOrWants (λ _. answers.Acted number) result
-        (right.right_act here.now.space here.now.n peer (history_of here.now.space here.now.n D)) }
-    ensures stands { OnOk result (Did here.now.space here.now.n (state_of parts.old)
-        (state_of parts.new) (did.Act peer number)) }
-    ensures err { OnErr result (Keeps here.now.space here.now.n (state_of parts.old)
-        (state_of parts.new)) }
+        (right.right_act parts.old.here.space parts.old.here.n peer (history_for parts.old D)) }
+    ensures stands { OnOk result (Did parts.old parts.new (did.Act peer number)) }
+    ensures err { OnErr result (Keeps parts.old parts.new) }
+    ensures here { parts.new.here ≡ parts.old.here }
 {
-    let wanted = judge_message(parts, here, &item)?;
+    let wanted = judge_message(parts, &item)?;
     let dirties = new_dirties(alloc, wanted.as_slice())?;
-    let copies = new_copies(parts, alloc, here, &item)?;
+    let copies = new_copies(parts, alloc, &item)?;
     grow(parts, wanted.as_slice(), copies.as_slice().len())?;
     let message = Message {
         from: peer,
@@ -211,6 +208,6 @@ pub(crate) fn act_on_message(
         item,
         copies,
     };
-    receive(parts, here, message, dirties);
+    receive(parts, message, dirties);
     Ok(())
 }

@@ -14,47 +14,40 @@ ghost use Rattle.nob_table.specs.Table.{standing};
 ghost use Rattle.nob_model_types.specs.declared.answer.Answer.TheVariants as answers;
 ghost use Rattle.nob_model_types.specs.declared.deed.Deed.{Deed};
 ghost use Rattle.nob_model_types.specs.declared.deed.Deed.TheVariants as did;
-ghost use Rattle.nob_model_history.specs.Histories.{history_of};
 ghost use Rattle.nob_model_history.specs.Ends.{payload_of};
 ghost use Rattle.nob_model.specs.Right as right;
 ghost use Rattle.nob_model.specs.Right.{own_ref};
-ghost use Rattle.nob_space_state.specs.Parts.{state_of};
-ghost use Rattle.nob_space_state.specs.Stands.{Stands, IsState, Keeps, Did, AnswersOrWants};
+ghost use Rattle.nob_space_state.specs.Stands.{StandFor, IsState, Keeps, Did, AnswersOrWants, history_for};
 ghost use Rattle.nob_space_items.specs.Fronts.{IsFront};
 ghost use Rattle.nob_space_items.specs.Notes.{dirty_answer, EntersIf};
 
 use crate::grants::lend_times;
 use nob_dirty::DirtySets;
 use nob_ids::{ItemNo, SpaceId, WireRep};
-use nob_item::{Item, encode};
-use nob_model::{Here, Kind};
+use nob_item::Item;
+use nob_model::Kind;
 use nob_pins::Settled;
 use nob_session::Session;
-use nob_space_holds::send_reserved;
+use nob_space_holds::{encode_note, send_reserved};
 use nob_space_state::{Parts, SpaceError, settle_pins, unlist};
 use nob_table::State;
 use std::alloc::{AllocError, Global};
 
 // Acts on a Clean: its sender is listed no longer at the index. It takes no memory.
-pub(crate) fn act_on_clean(
-    parts: &mut Parts,
-    here: &Here,
-    peer: SpaceId,
-    number: ItemNo,
-    index: u64,
-)
-    requires state { IsState here.now.space here.now.n (state_of parts.old) }
+pub(crate) fn act_on_clean(parts: &mut Parts, peer: SpaceId, number: ItemNo, index: u64)
+    requires state { IsState parts.old }
     requires front { (limits : LimitsOf) (D : List Deed)
-        → Stands here.now.space here.now.n limits (state_of parts.old) D
-        → IsFront here.now.space here.now.n peer number (items.Clean index) D }
-    ensures stands { Did here.now.space here.now.n (state_of parts.old) (state_of parts.new)
+        → StandFor limits parts.old D
+        → IsFront parts.old.here.space parts.old.here.n peer number (items.Clean index) D }
+    ensures stands { Did parts.old parts.new
         (did.Act peer number) }
+    ensures here { parts.new.here ≡ parts.old.here }
 {
     unlist(
         &mut parts.table,
         &parts.pins,
         &mut parts.dirty,
-        here.space,
+        parts.here.space,
         index,
         peer,
     );
@@ -63,21 +56,22 @@ pub(crate) fn act_on_clean(
 
 // Acts on a Settle: the pins of the item that it settles end, and what nothing outside uses any more
 // isn't kept from there. It takes no memory. Linear in the pins of that item.
-pub(crate) fn act_on_settle(parts: &mut Parts, here: &Here, number: ItemNo, settled: &Settled)
-    requires state { IsState here.now.space here.now.n (state_of parts.old) }
+pub(crate) fn act_on_settle(parts: &mut Parts, number: ItemNo, settled: &Settled)
+    requires state { IsState parts.old }
     requires front { (limits : LimitsOf) (D : List Deed)
-        → Stands here.now.space here.now.n limits (state_of parts.old) D
-        → IsFront here.now.space here.now.n settled.now.peer number
+        → StandFor limits parts.old D
+        → IsFront parts.old.here.space parts.old.here.n settled.now.peer number
         (items.Settle settled.now.item) D }
-    ensures stands { Did here.now.space here.now.n (state_of parts.old) (state_of parts.new)
+    ensures stands { Did parts.old parts.new
         (did.Act settled.now.peer number) }
+    ensures here { parts.new.here ≡ parts.old.here }
 {
     let peer = settled.peer();
     let ended = settle_pins(
         &mut parts.table,
         &mut parts.pins,
         &parts.dirty,
-        here.space,
+        parts.here.space,
         settled,
     );
     match ended {
@@ -88,10 +82,13 @@ pub(crate) fn act_on_settle(parts: &mut Parts, here: &Here, number: ItemNo, sett
 }
 
 // Whether the object of an index of this space is live.
-fn is_live(parts: &Parts, me: SpaceId, index: u64) -> bool
-    ensures { result ≡ standings.is_live (standing parts.now.table (own_ref me index)).state }
+fn is_live(parts: &Parts, index: u64) -> bool
+    ensures { result ≡ standings.is_live (standing parts.now.table (own_ref parts.now.here.space index)).state }
 {
-    let standing = parts.table.state(WireRep { owner: me, index });
+    let standing = parts.table.state(WireRep {
+        owner: parts.here.space,
+        index,
+    });
     matches!(standing.state, State::Live)
 }
 
@@ -127,9 +124,7 @@ fn answer_dirty(
     ensures err { OnErr result ((session.new.end ≡ session.old.end)
         × ListsSame dirty.old dirty.new) }
 {
-    let Ok(payload) = encode(alloc, &dirty_answer(live, index)) else {
-        return Err(AllocError);
-    };
+    let payload = encode_note(alloc, &dirty_answer(live, index))?;
     if session.reserve(1).is_err() {
         return Err(AllocError);
     }
@@ -147,30 +142,28 @@ fn answer_dirty(
 pub(crate) fn act_on_dirty(
     parts: &mut Parts,
     alloc: Global,
-    here: &Here,
     peer: SpaceId,
     number: ItemNo,
     index: u64,
 ) -> Result<(), SpaceError>
-    requires state { IsState here.now.space here.now.n (state_of parts.old) }
+    requires state { IsState parts.old }
     requires front { (limits : LimitsOf) (D : List Deed)
-        → Stands here.now.space here.now.n limits (state_of parts.old) D
-        → IsFront here.now.space here.now.n peer number (items.Dirty index) D }
+        → StandFor limits parts.old D
+        → IsFront parts.old.here.space parts.old.here.n peer number (items.Dirty index) D }
     ensures answer { (limits : LimitsOf) (D : List Deed)
-        → Stands here.now.space here.now.n limits (state_of parts.old) D
+        → StandFor limits parts.old D
         → AnswersOrWants (λ _. answers.Acted number) result
-        (right.right_act here.now.space here.now.n peer (history_of here.now.space here.now.n D)) }
-    ensures stands { OnOk result (Did here.now.space here.now.n (state_of parts.old)
-        (state_of parts.new) (did.Act peer number)) }
-    ensures err { OnErr result (Keeps here.now.space here.now.n (state_of parts.old)
-        (state_of parts.new)) }
+        (right.right_act parts.old.here.space parts.old.here.n peer (history_for parts.old D)) }
+    ensures stands { OnOk result (Did parts.old parts.new (did.Act peer number)) }
+    ensures err { OnErr result (Keeps parts.old parts.new) }
+    ensures here { parts.new.here ≡ parts.old.here }
 {
     parts.refuse_send(peer, Kind::Note)?;
-    let live = is_live(parts, here.space, index);
+    let live = is_live(parts, index);
     let session = &mut parts.sessions[peer.place()];
     answer_dirty(alloc, session, &mut parts.dirty, peer, index, live)?;
     parts.table.keep(&WireRep {
-        owner: here.space,
+        owner: parts.here.space,
         index,
     });
     Ok(())
@@ -178,19 +171,14 @@ pub(crate) fn act_on_dirty(
 
 // Acts on a DirtyNo: the reference that was asked for is refused, and lost to the messages that wait
 // for it. It takes no memory. Linear in the copies of it that are due.
-pub(crate) fn act_on_dirty_no(
-    parts: &mut Parts,
-    here: &Here,
-    peer: SpaceId,
-    number: ItemNo,
-    index: u64,
-)
-    requires state { IsState here.now.space here.now.n (state_of parts.old) }
+pub(crate) fn act_on_dirty_no(parts: &mut Parts, peer: SpaceId, number: ItemNo, index: u64)
+    requires state { IsState parts.old }
     requires front { (limits : LimitsOf) (D : List Deed)
-        → Stands here.now.space here.now.n limits (state_of parts.old) D
-        → IsFront here.now.space here.now.n peer number (items.DirtyNo index) D }
-    ensures stands { Did here.now.space here.now.n (state_of parts.old) (state_of parts.new)
+        → StandFor limits parts.old D
+        → IsFront parts.old.here.space parts.old.here.n peer number (items.DirtyNo index) D }
+    ensures stands { Did parts.old parts.new
         (did.Act peer number) }
+    ensures here { parts.new.here ≡ parts.old.here }
 {
     let rep = WireRep { owner: peer, index };
     match parts.table.refuse(rep) {
@@ -203,19 +191,14 @@ pub(crate) fn act_on_dirty_no(
 
 // Acts on a DirtyOk: the reference that was asked for is granted, and lent to the messages that
 // wait for it. It takes no memory. Linear in the copies of the messages that wait for it.
-pub(crate) fn act_on_dirty_ok(
-    parts: &mut Parts,
-    here: &Here,
-    peer: SpaceId,
-    number: ItemNo,
-    index: u64,
-)
-    requires state { IsState here.now.space here.now.n (state_of parts.old) }
+pub(crate) fn act_on_dirty_ok(parts: &mut Parts, peer: SpaceId, number: ItemNo, index: u64)
+    requires state { IsState parts.old }
     requires front { (limits : LimitsOf) (D : List Deed)
-        → Stands here.now.space here.now.n limits (state_of parts.old) D
-        → IsFront here.now.space here.now.n peer number (items.DirtyOk index) D }
-    ensures stands { Did here.now.space here.now.n (state_of parts.old) (state_of parts.new)
+        → StandFor limits parts.old D
+        → IsFront parts.old.here.space parts.old.here.n peer number (items.DirtyOk index) D }
+    ensures stands { Did parts.old parts.new
         (did.Act peer number) }
+    ensures here { parts.new.here ≡ parts.old.here }
 {
     let rep = WireRep { owner: peer, index };
     match parts.table.grant(rep) {

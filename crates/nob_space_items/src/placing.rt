@@ -41,6 +41,7 @@ pub(crate) fn put_message(parts: &mut Parts, message: Message)
         (state_of parts.old).jobs (state_of parts.old)) }
     ensures awaited { (rep : WireRepOf) → is_awaited parts.new.waiting.awaited rep
         ≡ (is_awaited parts.old.waiting.awaited rep || is_due_in (message ∷ []) rep) }
+    ensures here { parts.new.here ≡ parts.old.here }
 {
     let waits = !message.copies.as_slice().is_empty();
     let Some(call) = answered_call(&message.item) else {

@@ -9,7 +9,7 @@ use crate::dirties::{NewDirty, send_dirties};
 use crate::loans::lend_message;
 use crate::placing::put_message;
 use nob_ids::SpaceId;
-use nob_model::{Here, Message};
+use nob_model::Message;
 use nob_session::Session;
 use nob_space_state::Parts;
 
@@ -25,18 +25,19 @@ fn take_front(sessions: &mut Vec<Session>, peer: SpaceId)
 
 // Receives a message for which there is room: the Dirties are sent, its loans are made, and it is
 // put where it goes.
-pub(crate) fn receive(parts: &mut Parts, here: &Here, message: Message, dirties: Vec<NewDirty>)
-    requires can { CanReceive here.now.space (state_of parts.old) message dirties.items }
+pub(crate) fn receive(parts: &mut Parts, message: Message, dirties: Vec<NewDirty>)
+    requires can { CanReceive parts.old.here.space (state_of parts.old) message dirties.items }
     requires waiting { length message.copies < parts.old.waiting.room }
     requires ready { 0 < parts.old.jobs.ready_room }
     requires replies { 0 < parts.old.calls.replies_room }
     requires new { IsNew parts.old.waiting message }
-    ensures { Receives here.now.space (state_of parts.old)
+    ensures receives { Receives parts.old.here.space (state_of parts.old)
         (state_of parts.new) message dirties.items }
+    ensures here { parts.new.here ≡ parts.old.here }
 {
     let peer = message.from;
     send_dirties(&mut parts.sessions, &mut parts.table, dirties);
-    lend_message(&mut parts.table, here.space, &message);
+    lend_message(&mut parts.table, parts.here.space, &message);
     put_message(parts, message);
     take_front(&mut parts.sessions, peer);
 }

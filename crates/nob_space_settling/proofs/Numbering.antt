@@ -1,5 +1,5 @@
 -- A message that waits has the number of an item.
-use Rattle.std.proofs.Common.{◌≡◌, ℕ, ◌+◌, ◌≤◌, ◌<◌, Bool, true, false, not, nat_le, nat_lt, ◌&&◌, ◌==◌, List, [], ◌∷◌, ◌++◌, length, drop, find, Option, Some, None, Ok, Err, IsSome, if◌then◌else◌, refl, arith}
+use Rattle.std.proofs.Common.{◌≡◌, ℕ, ◌+◌, ◌≤◌, ◌<◌, Bool, true, false, not, nat_le, nat_lt, ◌&&◌, ◌==◌, List, [], ◌∷◌, ◌++◌, length, drop, find, Option, Some, None, Ok, Err, IsOk, IsSome, if◌then◌else◌, refl, arith}
 use Prim.Native.Nat.{zero, suc}
 use Rattle.std.specs.List.{AllByRecursion}
 use Rattle.std.proofs.lemmas.Bool.{and_parts}
@@ -8,6 +8,7 @@ use Rattle.std.proofs.lemmas.List.{length-append}
 use Rattle.nob_ids.specs.declared.limits.Limits.{Limits}
 use Rattle.nob_frame.specs.Kinds.{is_data, is_close}
 use Rattle.nob_item.specs.Judging.{is_item_number}
+use Rattle.nob_item.specs.Writing.{bytes_of}
 use Rattle.nob_item.specs.declared.item.Item.{Item}
 use Rattle.nob_item.specs.declared.item.Item.TheVariants as items
 use Rattle.nob_model_session.specs.End.{is_open, accepted, takes, waiting, transmitted}
@@ -148,3 +149,7 @@ module _ (s n : ℕ) (limits : Limits) where
       let under = counts.1 in
       let high : m.number ≤ last_item = omega (arith, taken, few, under) in
       grind (arith, nat_tests, low, high)
+
+-- a Settle of an item's number has a spelling
+pub settle_spelled : (k : ℕ) → is_item_number k ≡ true → IsOk (bytes_of (items.Settle k))
+settle_spelled k number = rw number refl

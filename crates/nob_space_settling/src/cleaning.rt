@@ -2,15 +2,12 @@
 
 ghost use Rattle.std.specs.Prelude.{◌≡◌, ◌<◌, ◌≤◌, ℕ, List, ◌∷◌, ◌+◌, vec_len, true, false, None, Ok, IsOk, IfOk, OnErr, MatchOption};
 ghost use Rattle.nob_ids.specs.declared.limits.Limits.{Limits as LimitsOf};
-ghost use Rattle.nob_item.specs.declared.item.Item.TheVariants as items;
 ghost use Rattle.nob_model_types.specs.declared.answer.Answer.TheVariants as answers;
 ghost use Rattle.nob_model_types.specs.declared.deed.Deed.{Deed};
 ghost use Rattle.nob_model_types.specs.declared.deed.Deed.TheVariants as did;
-ghost use Rattle.nob_model_history.specs.Histories.{history_of};
-ghost use Rattle.nob_model_history.specs.Ends.{payload_of};
 ghost use Rattle.nob_model.specs.Right as right;
 ghost use Rattle.nob_space_state.specs.Parts.{state_of};
-ghost use Rattle.nob_space_state.specs.Stands.{Stands, IsState, Keeps, Did, AnswersOrWants};
+ghost use Rattle.nob_space_state.specs.Stands.{StandFor, IsState, Keeps, Did, AnswersOrWants, history_for};
 ghost use Rattle.nob_model_session.specs.declared.entry.EndEntry.{EndEntry};
 ghost use Rattle.nob_model_session.specs.declared.entry.EndEntry.TheVariants.{Send};
 ghost use Rattle.nob_session.specs.Calls.{next_of};
@@ -20,10 +17,10 @@ ghost use Rattle.nob_table.specs.Table.{standing, Becomes, Places, RemovalLeaves
 ghost use Rattle.nob_space_settling.specs.Cleaning.{NoneSpareBelow, IsFirstSpare, ArePlacedApart, ArePinned};
 
 use nob_ids::{ItemNo, WireRep};
-use nob_item::{Item, ItemError, encode};
-use nob_model::{Here, Kind, Refusal};
+use nob_item::Item;
+use nob_model::{Kind, Refusal};
 use nob_session::Session;
-use nob_space_holds::send_reserved;
+use nob_space_holds::{encode_note, send_reserved};
 use nob_space_state::{Parts, SpaceError};
 use nob_table::ObjectTable;
 use std::alloc::{AllocError, Global};
@@ -48,18 +45,6 @@ pub(crate) fn first_spare(parts: &Parts) -> Option<WireRep>
         place = at + 1;
     }
     None
-}
-
-// The payload that carries a Clean. Only memory fails it.
-fn payload_of_clean(alloc: Global, index: u64) -> Result<Vec<u8>, AllocError>
-    ensures spelled { IfOk result (λ payload. payload.items ≡ payload_of (items.Clean index)) }
-    ensures size { IfOk result (λ payload. (0 < vec_len payload) × (vec_len payload ≤ 16384)) }
-{
-    match encode(alloc, &Item::Clean(index)) {
-        Ok(payload) => Ok(payload),
-        Err(ItemError::Fault(_)) => unreachable!(),
-        Err(ItemError::OutOfMemory) => Err(AllocError),
-    }
 }
 
 // Hands a note to the peer of a session: the number that it gets. Only memory fails it.
@@ -97,16 +82,16 @@ fn forget(table: &mut ObjectTable, rep: &WireRep)
 /// and has neither holds nor pins is given up: its owner is told so by an item. Nothing where there
 /// is none, SeqEnd where the session with its owner has no number left. A few look-ups: what is held or
 /// in transit isn't passed.
-pub fn clean(parts: &mut Parts, alloc: Global, here: &Here) -> Result<WireRep, SpaceError>
-    requires { IsState here.now.space here.now.n (state_of parts.old) }
+pub fn clean(parts: &mut Parts, alloc: Global) -> Result<WireRep, SpaceError>
+    requires { IsState parts.old }
     ensures answer { (limits : LimitsOf) (D : List Deed)
-        → Stands here.now.space here.now.n limits (state_of parts.old) D
+        → StandFor limits parts.old D
         → AnswersOrWants (λ rep. answers.Cleaned rep) result
-        (right.right_clean here.now.space here.now.n (history_of here.now.space here.now.n D)) }
+        (right.right_clean parts.old.here.space parts.old.here.n (history_for parts.old D)) }
     ensures stands { IfOk result (λ rep.
-        Did here.now.space here.now.n (state_of parts.old) (state_of parts.new) (did.Clean rep)) }
-    ensures err { OnErr result (Keeps here.now.space here.now.n (state_of parts.old)
-        (state_of parts.new)) }
+        Did parts.old parts.new (did.Clean rep)) }
+    ensures err { OnErr result (Keeps parts.old parts.new) }
+    ensures here { parts.new.here ≡ parts.old.here }
 {
     let Some(rep) = first_spare(parts) else {
         return Err(SpaceError::Refused(Refusal::Nothing));
@@ -115,7 +100,7 @@ pub fn clean(parts: &mut Parts, alloc: Global, here: &Here) -> Result<WireRep, S
     if parts.sessions[place].free_numbers() == 0 {
         return Err(SpaceError::Refused(Refusal::SeqEnd));
     }
-    let payload = payload_of_clean(alloc, rep.index)?;
+    let payload = encode_note(alloc, &Item::Clean(rep.index))?;
     let session = &mut parts.sessions[place];
     hand_note(session, payload)?;
     forget(&mut parts.table, &rep);

@@ -3,8 +3,7 @@
 ghost use Rattle.std.specs.Prelude.{◌≡◌, ◌<◌, ◌≤◌, ℕ, ◌+◌, List, [], ◌∷◌, ◌++◌, if◌then◌else◌, true, None, Some, Ok, vec_len, is_some, option_map, IfOk, IfSome, OnOk, OnErr, MatchResult};
 ghost use Rattle.std.specs.List.{list_any};
 ghost use Rattle.nob_ids.specs.declared.limits.Limits.{Limits as LimitsOf};
-ghost use Rattle.nob_item.specs.Judging.{is_call_number, is_item_number};
-ghost use Rattle.nob_item.specs.declared.item.Item.TheVariants as items;
+ghost use Rattle.nob_item.specs.Judging.{is_call_number};
 ghost use Rattle.nob_model_session.specs.Right.{last_item};
 ghost use Rattle.nob_model_session.specs.declared.entry.EndEntry.{EndEntry};
 ghost use Rattle.nob_model_session.specs.declared.entry.EndEntry.TheVariants.{Send};
@@ -12,7 +11,6 @@ ghost use Rattle.nob_model_types.specs.declared.answer.Answer.TheVariants as ans
 ghost use Rattle.nob_model_types.specs.declared.deed.Deed.{Deed};
 ghost use Rattle.nob_model_types.specs.declared.deed.Deed.TheVariants as did;
 ghost use Rattle.nob_model_work.specs.Work.{after_settlement, lost_reply};
-ghost use Rattle.nob_model_history.specs.Histories.{history_of};
 ghost use Rattle.nob_model_history.specs.Ends.{payload_of};
 ghost use Rattle.nob_model_history.specs.Holds.{loans_of};
 ghost use Rattle.nob_model.specs.Right as right;
@@ -20,17 +18,17 @@ ghost use Rattle.nob_session.specs.Stands as ends;
 ghost use Rattle.nob_session.specs.Stands.{is_open_end};
 ghost use Rattle.nob_space_state.specs.Parts.{state_of, with_table, with_work};
 ghost use Rattle.nob_space_holds.specs.Returns.{HasLent, GivesBack};
-ghost use Rattle.nob_space_state.specs.Stands.{Stands, IsState, Keeps, Did, AnswersOrWants};
+ghost use Rattle.nob_space_state.specs.Stands.{StandFor, IsState, Keeps, Did, AnswersOrWants, history_for};
 ghost use Rattle.nob_space_settling.specs.Settling.{is_denied, is_lost_here, has_lost, lost_call, reply_to_lost, items_given, given_count, with_note, loans_ended};
 
 use nob_ids::{CallNo, ItemNo, SpaceId, WireRep};
-use nob_item::{Item, ItemError, encode, encode_reply};
-use nob_model::{Here, Kind, Message, RefCopy, Refusal};
+use nob_item::Item;
+use nob_model::{Kind, Message, RefCopy, Refusal};
 use nob_model_types::message::RefCopies;
 use nob_pickle::Value;
 use nob_session::Session;
 use nob_space_calls::Calls;
-use nob_space_holds::{give_back_message, send_reserved};
+use nob_space_holds::{encode_note, give_back_message, send_reserved};
 use nob_space_jobs::Jobs;
 use nob_space_state::{Parts, SpaceError};
 use nob_table::{ObjectTable, State};
@@ -57,13 +55,13 @@ fn is_denied(state: State) -> bool
 
 /// Whether a reference is lost: it is of another owner, and that is none of the spaces, or their
 /// session has closed, or the owner has refused it.
-pub fn is_lost(parts: &Parts, here: &Here, rep: &WireRep) -> bool
-    ensures { result ≡ is_lost_here here.now.space here.now.n (state_of parts.now) rep.now }
+pub fn is_lost(parts: &Parts, rep: &WireRep) -> bool
+    ensures { result ≡ is_lost_here parts.now.here.space parts.now.here.n (state_of parts.now) rep.now }
 {
-    if rep.owner == here.space {
+    if rep.owner == parts.here.space {
         return false;
     }
-    if !here.is_peer(rep.owner) {
+    if !parts.here.is_peer(rep.owner) {
         return true;
     }
     if parts.has_closed(rep.owner) {
@@ -74,14 +72,14 @@ pub fn is_lost(parts: &Parts, here: &Here, rep: &WireRep) -> bool
 }
 
 // Whether a message carries a reference that is lost.
-fn has_lost(parts: &Parts, here: &Here, message: &Message) -> bool
-    ensures { result ≡ has_lost here.now.space here.now.n (state_of parts.now) message.now }
+fn has_lost(parts: &Parts, message: &Message) -> bool
+    ensures { result ≡ has_lost parts.now.here.space parts.now.here.n (state_of parts.now) message.now }
 {
     message
         .copies
         .as_slice()
         .iter()
-        .any(|copy| is_lost(parts, here, &copy.rep))
+        .any(|copy| is_lost(parts, &copy.rep))
 }
 
 // The number of a Call with a lost reference.
@@ -109,33 +107,19 @@ fn given_count(call: &Option<CallNo>) -> u64
     }
 }
 
-// The payload that carries a Settle. Only memory fails it.
-fn payload_of_settle(alloc: Global, item: ItemNo) -> Result<Vec<u8>, AllocError>
-    requires { is_item_number item ≡ true }
-    ensures spelled { IfOk result (λ payload. payload.items ≡ payload_of (items.Settle item)) }
-    ensures size { IfOk result (λ payload. (0 < vec_len payload) × (vec_len payload ≤ 16384)) }
+// The Reply to a Call with a lost reference.
+fn reply_to_lost(call: CallNo) -> Item
+    ensures { result ≡ reply_to_lost call }
 {
-    match encode(alloc, &Item::Settle(item)) {
-        Ok(payload) => Ok(payload),
-        Err(ItemError::Fault(_)) => unreachable!(),
-        Err(ItemError::OutOfMemory) => Err(AllocError),
+    Item::Reply {
+        call,
+        status: 3,
+        value: Value::Unit,
     }
 }
 
-// The payload that carries the Reply to a Call with a lost reference. Only memory fails it.
-fn payload_of_reply(alloc: Global, call: CallNo) -> Result<Vec<u8>, AllocError>
-    requires { is_call_number call ≡ true }
-    ensures spelled { IfOk result (λ payload. payload.items ≡ payload_of (reply_to_lost call)) }
-    ensures size { IfOk result (λ payload. (0 < vec_len payload) × (vec_len payload ≤ 16384)) }
-{
-    match encode_reply(alloc, call, 3, &Value::Unit) {
-        Ok(payload) => Ok(payload),
-        Err(ItemError::Fault(_)) => unreachable!(),
-        Err(ItemError::OutOfMemory) => Err(AllocError),
-    }
-}
-
-// The same where there is such a Call.
+// The payload that carries the Reply to a Call with a lost reference, where there is one. Only memory
+// fails it.
 fn payload_if(alloc: Global, call: Option<CallNo>) -> Result<Option<Vec<u8>>, AllocError>
     requires { IfSome call (λ k. is_call_number k ≡ true) }
     ensures spelled { IfOk result (λ reply. option_map (λ payload. payload.items) reply
@@ -146,7 +130,7 @@ fn payload_if(alloc: Global, call: Option<CallNo>) -> Result<Option<Vec<u8>>, Al
     let Some(call) = call else {
         return Ok(None);
     };
-    Ok(Some(payload_of_reply(alloc, call)?))
+    Ok(Some(encode_note(alloc, &reply_to_lost(call))?))
 }
 
 // Hands a Settle to the peer of a session, and a Reply where there is one. Only memory fails it.
@@ -231,31 +215,38 @@ fn put_reply(
 }
 
 // Puts a message that is settled where it goes.
-fn put_settled(parts: &mut Parts, alloc: Global, me: SpaceId, message: Message, lost: bool)
-    requires lent { HasLent parts.old.table (loans_ended me message message.item lost) }
+fn put_settled(parts: &mut Parts, alloc: Global, message: Message, lost: bool)
+    requires lent { HasLent parts.old.table (loans_ended parts.old.here.space message message.item lost) }
     requires ready { 0 < parts.old.jobs.ready_room }
     requires replies { 0 < parts.old.calls.replies_room }
     ensures back { GivesBack parts.old.table parts.new.table
-        (loans_ended me message message.item lost) }
+        (loans_ended parts.old.here.space message message.item lost) }
     ensures put { state_of parts.new ≡ with_work
         (after_settlement message message.item lost (state_of parts.old).work) parts.old.calls_made
         parts.old.jobs_made (with_table parts.new.table (state_of parts.old)) }
+    ensures here { parts.new.here ≡ parts.old.here }
 {
     match &message.item {
-        Item::Call { .. } => put_call(&mut parts.table, &mut parts.jobs, me, message, lost),
+        Item::Call { .. } => put_call(
+            &mut parts.table,
+            &mut parts.jobs,
+            parts.here.space,
+            message,
+            lost,
+        ),
         Item::Reply { call, .. } => {
             let call = *call;
             put_reply(
                 alloc,
                 &mut parts.table,
                 &mut parts.calls,
-                me,
+                parts.here.space,
                 message,
                 call,
                 lost,
             )
         }
-        _ => give_back_message(&mut parts.table, me, &message),
+        _ => give_back_message(&mut parts.table, parts.here.space, &message),
     }
 }
 
@@ -265,30 +256,30 @@ fn put_settled(parts: &mut Parts, alloc: Global, me: SpaceId, message: Message, 
 /// Reply of status 3 and is over, a Reply becomes one of status 3, and what they lent is given
 /// back. Nothing where there is none, SeqEnd where the session has too few numbers left. A few words
 /// of bits and a look for the message, however many wait, and linear in its references.
-pub fn settle(parts: &mut Parts, alloc: Global, here: &Here) -> Result<SettledItem, SpaceError>
-    requires { IsState here.now.space here.now.n (state_of parts.old) }
+pub fn settle(parts: &mut Parts, alloc: Global) -> Result<SettledItem, SpaceError>
+    requires { IsState parts.old }
     ensures answer { (limits : LimitsOf) (D : List Deed)
-        → Stands here.now.space here.now.n limits (state_of parts.old) D
+        → StandFor limits parts.old D
         → AnswersOrWants (λ settled. answers.Settled settled.peer settled.item) result
-        (right.right_settle here.now.space here.now.n (history_of here.now.space here.now.n D)) }
+        (right.right_settle parts.old.here.space parts.old.here.n (history_for parts.old D)) }
     ensures stands { IfOk result (λ settled.
-        Did here.now.space here.now.n (state_of parts.old) (state_of parts.new)
+        Did parts.old parts.new
         (did.Settle settled.peer settled.item)) }
-    ensures err { OnErr result (Keeps here.now.space here.now.n (state_of parts.old)
-        (state_of parts.new)) }
+    ensures err { OnErr result (Keeps parts.old parts.new) }
+    ensures here { parts.new.here ≡ parts.old.here }
 {
     let Some(message) = parts.waiting.first_settleable() else {
         return Err(SpaceError::Refused(Refusal::Nothing));
     };
     let peer = message.from;
     let item = message.number;
-    let lost = has_lost(parts, here, message);
+    let lost = has_lost(parts, message);
     let call = lost_call(&message.item, lost);
     let at = peer.place();
     if parts.sessions[at].free_numbers() < given_count(&call) {
         return Err(SpaceError::Refused(Refusal::SeqEnd));
     }
-    let settle = payload_of_settle(alloc, item)?;
+    let settle = encode_note(alloc, &Item::Settle(item))?;
     let reply = payload_if(alloc, call)?;
     parts.jobs.reserve_ready(1)?;
     parts.calls.reserve_replies(1)?;
@@ -297,6 +288,6 @@ pub fn settle(parts: &mut Parts, alloc: Global, here: &Here) -> Result<SettledIt
     let Some(message) = parts.waiting.take_settleable() else {
         unreachable!();
     };
-    put_settled(parts, alloc, here.space, message, lost);
+    put_settled(parts, alloc, message, lost);
     Ok(SettledItem { peer, item })
 }

@@ -1,12 +1,20 @@
 -- Errors that are handed on: what is said of the error holds of the result.
-use Rattle.std.proofs.Common.{◌≡◌, Option, Some, None, Result, Ok, Err, IsOk, IsErrAnd, MatchResult, sym, subst, ap, ◌∙◌}
+use Rattle.std.proofs.Common.{◌≡◌, List, Option, Some, None, Result, Ok, Err, IsOk, IsErrAnd, MatchResult, sym, subst, ap, ◌∙◌}
 use Rattle.std.specs.Prelude.{OnOk, OnErr}
+use Rattle.nob_ids.specs.declared.limits.Limits.{Limits}
 use Rattle.nob_model_types.specs.declared.answer.Answer.{Answer}
+use Rattle.nob_model_types.specs.declared.deed.Deed.{Deed}
+use Rattle.nob_model_types.specs.declared.here.Here.{Here}
 use Rattle.nob_model_types.specs.declared.refusal.Refusal.{Refusal}
 use Rattle.nob_space_state.specs.declared.error.SpaceError.{SpaceError}
 use Rattle.nob_space_state.specs.declared.error.SpaceError.TheVariants as errors
-use Rattle.nob_space_state.specs.Stands.{Answers, AnswersOrWants}
+use Rattle.nob_space_state.specs.Parts.{State}
+use Rattle.nob_space_state.specs.Stands.{Stands, Answers, AnswersOrWants}
 use Rattle.nob_space_state.proofs.Claiming.{wants_same}
+
+-- what stands for a list of a space stands for that of the same space
+pub same_space : {limits : Limits} {st : State} {D : List Deed} (new old : Here) → new ≡ old → Stands old.space old.n limits st D → Stands new.space new.n limits st D
+same_space {limits} {st} {D} new old is stands = subst (λ (here : Here). Stands here.space here.n limits st D) (sym is) stands
 
 -- a refusal that is handed on is the right one
 pub refused_on : {A : Type 0} (answer : A → Answer) (result : Result A Refusal) (right : Result Answer Refusal) (refusal : Refusal) → IsErrAnd result (λ e. e ≡ refusal) → right ≡ Err refusal → Answers answer result right

@@ -10,6 +10,7 @@ use Rattle.nob_model_types.specs.declared.deed.Cause.TheVariants as causes
 use Rattle.nob_model_types.specs.declared.deed.Deed.{Deed}
 use Rattle.nob_model_types.specs.declared.deed.Deed.TheVariants.{Closing}
 use Rattle.nob_model_types.specs.Sessions.{is_peer, closed}
+use Rattle.nob_model_types.specs.declared.here.Here.{Here}
 use Rattle.nob_model_work.specs.declared.gifts.Gift.{Gift}
 use Rattle.nob_model_work.specs.Gifts.{gifts, gifts_of}
 use Rattle.nob_model_work.specs.Work.{work}
@@ -18,7 +19,7 @@ use Rattle.nob_model_history.specs.Histories.{history_of}
 use Rattle.nob_model_history.specs.Transit.{sent, with_gifts, count_to, bundles, is_pinned, is_settled, is_some_of}
 use Rattle.nob_space_state.specs.Closing.{Closes, IsShutBelow}
 use Rattle.nob_space_state.specs.Looks.{has_closed}
-use Rattle.nob_space_state.specs.Parts.{State}
+use Rattle.nob_space_state.specs.declared.parts.Parts.{Parts}
 use Rattle.nob_space_state.specs.Stands.{IsState, bundle}
 use Rattle.nob_space_state.proofs.Closings.{close_of_open}
 use Rattle.nob_space_state.proofs.Orderly.{close_is}
@@ -65,42 +66,44 @@ no_ones [] e = refl
 no_ones (x ∷ xs) e = let more = sum_by-cons (λ (one : Pinned). 1) x xs in absurd (omega (arith, e, more))
 
 -- so the pins of a space that is shut are all spent
-pub shut_unpinned : (s n : ℕ) (st : State) → IsShutBelow s n (n + 1) st → st.pins.bundles ≡ []
-shut_unpinned s n st shut =
+pub shut_unpinned : (parts : Parts) → IsShutBelow (parts.here.n + 1) parts → parts.pins.bundles ≡ []
+shut_unpinned parts shut =
+    let s = parts.here.space in
+    let n = parts.here.n in
     let all_closed : (p : ℕ) → is_peer s n p ≡ true → closed p shut.1 ≡ true = λ p peer. shut.3 p peer (grind (arith, nat_tests, peer)) in
-    no_ones st.pins.bundles (shut.2.pins (λ (one : Pinned). 1) ∙ ap (λ (items : List SentItem). sum_by (λ (one : Pinned). 1) (map bundle items)) (no_bundles s n shut.1 all_closed))
+    no_ones parts.pins.bundles (shut.2.pins (λ (one : Pinned). 1) ∙ ap (λ (items : List SentItem). sum_by (λ (one : Pinned). 1) (map bundle items)) (no_bundles s n shut.1 all_closed))
 
 -- ---- one session after the other
 
 -- a space that is no peer, or whose session has closed
-pub below_more : {s n p : ℕ} {st : State} → (is_peer s n p ≡ true → has_closed st.sessions p ≡ true) → IsShutBelow s n p st → IsShutBelow s n (p + 1) st
-below_more {s} {n} {p} {st} here shut = (
+pub below_more : {p : ℕ} {parts : Parts} → (is_peer parts.here.space parts.here.n p ≡ true → has_closed parts.sessions.items p ≡ true) → IsShutBelow p parts → IsShutBelow (p + 1) parts
+below_more {p} {parts} here shut = (
   shut.0,
   shut.1,
   shut.2,
   λ q peer low.
       elim (q == p) as (λ b. q == p ≡ b → closed q shut.1 ≡ true) [
-        | true ↦ λ same. let is : q ≡ p = (Decides-eqb q p).0 same in subst (λ k. closed k shut.1 ≡ true) (sym is) (sym (closed_there shut.2 p) ∙ here (subst (λ k. is_peer s n k ≡ true) is peer))
+        | true ↦ λ same. let is : q ≡ p = (Decides-eqb q p).0 same in subst (λ k. closed k shut.1 ≡ true) (sym is) (sym (closed_there shut.2 p) ∙ here (subst (λ k. is_peer parts.here.space parts.here.n k ≡ true) is peer))
         | false ↦ λ other. shut.3 q peer (grind (arith, nat_tests, low, other))
       ] refl,
 )
 
 -- a session that closes now
-pub below_closed : {s n p : ℕ} {old new : State} → is_peer s n p ≡ true → has_closed old.sessions p ≡ false → Closes s n p Asked causes.Asked old new → IsShutBelow s n p old → IsShutBelow s n (p + 1) new
-below_closed {s} {n} {p} {old} {new} peer still closes shut =
+pub below_closed : {p : ℕ} {old new : Parts} → new.here ≡ old.here → is_peer old.here.space old.here.n p ≡ true → has_closed old.sessions.items p ≡ false → Closes p Asked causes.Asked old new → IsShutBelow p old → IsShutBelow (p + 1) new
+below_closed {p} {old} {new} same peer still closes shut =
     let D : List Deed = shut.1 in (
       shut.0,
       Closing p Asked causes.Asked ∷ D,
-      closes shut.0 D shut.2 (close_is s n shut.0 D p Asked (close_of_open shut.2 p peer still)),
-      λ q other low. elim (p == q) as (λ b. p == q ≡ b → (b || closed q D) ≡ true) [
+      closes shut.0 D shut.2 (close_is old.here.space old.here.n shut.0 D p Asked (close_of_open shut.2 p peer still)),
+      λ q its low. let other : is_peer old.here.space old.here.n q ≡ true = subst (λ (here : Here). is_peer here.space here.n q ≡ true) same its in elim (p == q) as (λ b. p == q ≡ b → (b || closed q D) ≡ true) [
         | true ↦ λ _. refl
         | false ↦ λ differs. shut.3 q other (grind (arith, nat_tests, low, differs))
       ] refl,
     )
 
 -- at first no session needs to have closed
-pub below_first : {s n : ℕ} {st : State} → IsState s n st → IsShutBelow s n 1 st
-below_first {s} {n} {st} stands = (stands.0, stands.1, stands.2, λ q peer low. absurd (no_peer_below s n q peer low))
+pub below_first : {parts : Parts} → IsState parts → IsShutBelow 1 parts
+below_first {parts} stands = (stands.0, stands.1, stands.2, λ q peer low. absurd (no_peer_below parts.here.space parts.here.n q peer low))
   where
     no_peer_below : (s n q : ℕ) → is_peer s n q ≡ true → q < 1 → ⊥
     no_peer_below s n q peer low = grind (arith, nat_tests, peer, low)

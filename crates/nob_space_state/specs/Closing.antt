@@ -24,9 +24,10 @@ use Rattle.nob_model_work.specs.Work as work
 use Rattle.nob_model.specs.Lists.{IsRightDeed}
 use Rattle.nob_space_waiting.specs.Waiting.{is_awaited}
 use Rattle.nob_space_state.specs.Looks.{HaveUsers}
+use Rattle.nob_space_state.specs.declared.parts.Parts.{Parts}
 use Rattle.nob_space_state.specs.Parts.{State}
 use Rattle.nob_space_holds.specs.Returns.{GivesBack, lent_from}
-use Rattle.nob_space_state.specs.Stands.{Stands}
+use Rattle.nob_space_state.specs.Stands.{StandFor}
 
 -- what the messages from p that wait and the ready jobs from p have lent
 abbrev pub lent_in_vain : (s p : ℕ) → InHand → List WireRep
@@ -62,8 +63,8 @@ pub record ClosesDown (s p : ℕ) (old new : State) : Type 0 where
   pub jobs : new.jobs ≡ old.jobs
 
 -- new stands for every list that old stands for, with the closing of the session with p for a reason, by a cause, after the lists where that is right
-abbrev pub Closes : (s n p : ℕ) → Reason → Cause → State → State → Type 0
-Closes s n p reason cause old new = (limits : Limits) (D : List Deed) → Stands s n limits old D → IsRightDeed s n limits (Closing p reason cause) D → Stands s n limits new (Closing p reason cause ∷ D)
+abbrev pub Closes : (p : ℕ) → Reason → Cause → (old new : Parts) → Type 0
+Closes p reason cause old new = (limits : Limits) (D : List Deed) → StandFor limits old D → IsRightDeed old.here.space old.here.n limits (Closing p reason cause) D → StandFor limits new (Closing p reason cause ∷ D)
 
 -- the answer to a Tick, by the reason for which it closed the session, if it did
 abbrev pub tick_answer : Option Reason → Answer
@@ -85,6 +86,6 @@ abbrev pub arrive_deed : Frame → Arrived → Deed
 arrive_deed frame (arrived.Took count) = did.Arrive frame count
 arrive_deed frame (arrived.Closed ending) = Closing frame.from ending.reason (causes.Frame frame)
 
--- the state stands for a list in which each session of space s among n has closed, with the peers below a number
-abbrev pub IsShutBelow : (s n : ℕ) → ℕ → State → Type 0
-IsShutBelow s n bound state = (limits : Limits) × (D : List Deed) × Stands s n limits state D × ((p : ℕ) → is_peer s n p ≡ true → p < bound → closed p D ≡ true)
+-- the parts stand for a list in which each of their space's sessions has closed, with the peers below a number
+abbrev pub IsShutBelow : ℕ → Parts → Type 0
+IsShutBelow bound parts = (limits : Limits) × (D : List Deed) × StandFor limits parts D × ((p : ℕ) → is_peer parts.here.space parts.here.n p ≡ true → p < bound → closed p D ≡ true)

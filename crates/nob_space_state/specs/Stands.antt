@@ -27,7 +27,8 @@ use Rattle.nob_space_waiting.specs.Waiting.{is_awaited, is_due_in}
 use Rattle.nob_space_holds.specs.Shows.{TableStands}
 use Rattle.nob_space_state.specs.declared.error.SpaceError.{SpaceError}
 use Rattle.nob_space_state.specs.declared.error.SpaceError.TheVariants as errors
-use Rattle.nob_space_state.specs.Parts.{State}
+use Rattle.nob_space_state.specs.declared.parts.Parts.{Parts}
+use Rattle.nob_space_state.specs.Parts.{State, state_of}
 
 -- the ends stand for the calls on them: at place p - 1 the one with space p
 pub record EndsStand (s n : ℕ) (limits : Limits) (sessions : List Roomy) (h : History) : Type 0 where
@@ -58,17 +59,25 @@ pub record Stands (s n : ℕ) (limits : Limits) (state : State) (D : List Deed) 
   pub jobs : state.jobs ≡ jobs_made D
   pub right : AreRightDeeds s n limits D
 
--- a state of space s among n: there is a list that it stands for
-abbrev pub IsState : (s n : ℕ) → State → Type 0
-IsState s n state = (limits : Limits) × (D : List Deed) × Stands s n limits state D
+-- parts stand for a list of what their space did
+abbrev pub StandFor : Limits → Parts → List Deed → Type 0
+StandFor limits parts D = Stands parts.here.space parts.here.n limits (state_of parts) D
+
+-- what a list of deeds comes to for the space of the parts
+abbrev pub history_for : Parts → List Deed → History
+history_for parts D = history_of parts.here.space parts.here.n D
+
+-- the parts are a state of their space: there is a list that they stand for
+abbrev pub IsState : Parts → Type 0
+IsState parts = (limits : Limits) × (D : List Deed) × StandFor limits parts D
 
 -- new stands for every list that old stands for
-abbrev pub Keeps : (s n : ℕ) → State → State → Type 0
-Keeps s n old new = (limits : Limits) (D : List Deed) → Stands s n limits old D → Stands s n limits new D
+abbrev pub Keeps : (old new : Parts) → Type 0
+Keeps old new = (limits : Limits) (D : List Deed) → StandFor limits old D → StandFor limits new D
 
 -- new stands for every list that old stands for, with a deed more
-abbrev pub Did : (s n : ℕ) → State → State → Deed → Type 0
-Did s n old new deed = (limits : Limits) (D : List Deed) → Stands s n limits old D → Stands s n limits new (deed ∷ D)
+abbrev pub Did : (old new : Parts) → Deed → Type 0
+Did old new deed = (limits : Limits) (D : List Deed) → StandFor limits old D → StandFor limits new (deed ∷ D)
 
 -- a result is the right one: what was answered, or the refusal
 abbrev pub Answers : {A : Type 0} → (A → Answer) → Result A Refusal → Result Answer Refusal → Type 0

@@ -7,11 +7,10 @@ ghost use Rattle.nob_item.specs.declared.item.Item.TheVariants as items;
 ghost use Rattle.nob_model_types.specs.declared.answer.Answer.TheVariants as answers;
 ghost use Rattle.nob_model_types.specs.declared.deed.Deed.{Deed};
 ghost use Rattle.nob_model_types.specs.declared.deed.Deed.TheVariants as did;
-ghost use Rattle.nob_model_history.specs.Histories.{history_of};
 ghost use Rattle.nob_model.specs.Right as right;
 ghost use Rattle.nob_space_state.specs.Parts.{state_of};
 ghost use Rattle.nob_space_state.specs.Sending.{call_refusal};
-ghost use Rattle.nob_space_state.specs.Stands.{Stands, IsState, Keeps, Did, AnswersOrWants};
+ghost use Rattle.nob_space_state.specs.Stands.{StandFor, IsState, Keeps, Did, AnswersOrWants, history_for};
 
 use crate::error::SpaceError;
 use crate::listings::keep_all;
@@ -19,7 +18,7 @@ use crate::parts::Parts;
 use nob_ids::{CallNo, SpaceId, WireRep};
 use nob_item::{ItemError, encode_call};
 use nob_model::right::{LAST_NUMBER, MOST_CALLS};
-use nob_model::{Here, Kind, OwnCall, Refusal, Stage};
+use nob_model::{Kind, OwnCall, Refusal, Stage};
 use nob_model_acting::sending::counted;
 use nob_pickle::Value;
 use nob_space_holds::hand;
@@ -28,13 +27,13 @@ use std::alloc::Global;
 impl Parts {
     // Why a Call of a target with a value is refused. It takes no memory.
     #[tactic(auto, unfolding(crate::specs::Sending::call_refusal))]
-    fn refuse_call(&self, here: &Here, target: &WireRep, value: &Value) -> Result<(), Refusal>
+    fn refuse_call(&self, target: &WireRep, value: &Value) -> Result<(), Refusal>
         ensures { MatchResult result (λ _.
-            call_refusal here.now.space here.now.n (state_of self.now) target.now value.now ≡ None)
-            (λ refusal. call_refusal here.now.space here.now.n
+            call_refusal self.now.here.space self.now.here.n (state_of self.now) target.now value.now ≡ None)
+            (λ refusal. call_refusal self.now.here.space self.now.here.n
             (state_of self.now) target.now value.now ≡ Some refusal) }
     {
-        if !here.is_peer(target.owner) {
+        if !self.here.is_peer(target.owner) {
             return Err(Refusal::NoPeer);
         }
         if self.has_closed(target.owner) {
@@ -43,7 +42,7 @@ impl Parts {
         if target.index != 0 && !self.is_held(target) {
             return Err(Refusal::NotHeld);
         }
-        self.refuse_value(here.space, value)?;
+        self.refuse_value(value)?;
         if self.calls.calls_len() >= MOST_CALLS || self.calls_made >= LAST_NUMBER {
             return Err(Refusal::Limit);
         }
@@ -56,27 +55,26 @@ impl Parts {
     pub fn call(
         &mut self,
         alloc: Global,
-        here: &Here,
         target: &WireRep,
         method: u16,
         value: &Value,
     ) -> Result<CallNo, SpaceError>
-        requires { IsState here.now.space here.now.n (state_of self.old) }
+        requires { IsState self.old }
         ensures answer { (limits : LimitsOf) (D : List Deed)
-            → Stands here.now.space here.now.n limits (state_of self.old) D
+            → StandFor limits self.old D
             → AnswersOrWants (λ call. answers.Called call) result
-            (right.right_call here.now.space here.now.n target.now value.now
-            (history_of here.now.space here.now.n D)) }
+            (right.right_call self.old.here.space self.old.here.n target.now value.now
+            (history_for self.old D)) }
         ensures stands { IfOk result (λ call.
-            Did here.now.space here.now.n (state_of self.old) (state_of self.new)
+            Did self.old self.new
             (did.Call target.now method value.now call)) }
         // What is handed on has a spelling.
         ensures fits { IfOk result (λ call.
             Fits (items.Call call target.now.index method value.now)) }
-        ensures err { OnErr result (Keeps here.now.space here.now.n (state_of self.old)
-            (state_of self.new)) }
+        ensures err { OnErr result (Keeps self.old self.new) }
+        ensures here { self.new.here ≡ self.old.here }
     {
-        self.refuse_call(here, target, value)?;
+        self.refuse_call(target, value)?;
         let call = CallNo::new(self.calls_made + 1);
         let payload = match encode_call(alloc, call, target.index, method, value) {
             Ok(payload) => payload,

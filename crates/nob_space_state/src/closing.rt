@@ -7,18 +7,17 @@ ghost use Rattle.nob_model_types.specs.declared.deed.Deed.{Deed};
 ghost use Rattle.nob_model_types.specs.declared.deed.Deed.TheVariants as did;
 ghost use Rattle.nob_model_types.specs.declared.deed.Cause.TheVariants as causes;
 ghost use Rattle.nob_model_types.specs.Sessions.{is_peer};
-ghost use Rattle.nob_model_history.specs.Histories.{history_of};
 ghost use Rattle.nob_model.specs.Right as right;
 ghost use Rattle.nob_space_state.specs.Closing.{lent_in_vain, ClosesDown, Closes};
 ghost use Rattle.nob_space_state.specs.Looks.{has_closed};
 ghost use Rattle.nob_space_state.specs.Parts.{state_of};
 ghost use Rattle.nob_space_holds.specs.Returns.{HasLent};
-ghost use Rattle.nob_space_state.specs.Stands.{Stands, IsState, Keeps, Did, Answers};
+ghost use Rattle.nob_space_state.specs.Stands.{StandFor, IsState, Keeps, Did, Answers, history_for};
 
 use crate::listings::{close_pins, unlist_all};
 use crate::parts::Parts;
 use nob_ids::{Reason, SpaceId};
-use nob_model::{Here, Refusal};
+use nob_model::Refusal;
 use nob_session::Closed;
 use nob_space_holds::{throw_ready_away, throw_waiting_away};
 
@@ -27,18 +26,32 @@ impl Parts {
     // peer are thrown away and what they have lent is given back, its references are lost, it is
     // listed nowhere, what was sent to it has no pins any more, and the calls to it that have no
     // ready reply end.
-    pub(crate) fn close_down(&mut self, me: SpaceId, closed: &Closed)
+    pub(crate) fn close_down(&mut self, closed: &Closed)
         requires { HasLent self.old.table
-            (lent_in_vain me closed.now.peer (state_of self.old).work) }
-        ensures { ClosesDown me closed.now.peer (state_of self.old) (state_of self.new) }
+            (lent_in_vain self.old.here.space closed.now.peer (state_of self.old).work) }
+        ensures closes { ClosesDown self.old.here.space closed.now.peer (state_of self.old)
+            (state_of self.new) }
+        ensures here { self.new.here ≡ self.old.here }
     {
         let peer = closed.peer();
-        throw_waiting_away(&mut self.table, &mut self.waiting, me, peer);
+        throw_waiting_away(&mut self.table, &mut self.waiting, self.here.space, peer);
         self.waiting.lose_of(peer);
-        throw_ready_away(&mut self.table, &mut self.jobs, me, peer);
+        throw_ready_away(&mut self.table, &mut self.jobs, self.here.space, peer);
         self.table.close(peer);
-        unlist_all(&mut self.table, &self.pins, &mut self.dirty, me, peer);
-        close_pins(&mut self.table, &mut self.pins, &self.dirty, me, closed);
+        unlist_all(
+            &mut self.table,
+            &self.pins,
+            &mut self.dirty,
+            self.here.space,
+            peer,
+        );
+        close_pins(
+            &mut self.table,
+            &mut self.pins,
+            &self.dirty,
+            self.here.space,
+            closed,
+        );
         self.calls.close(peer);
     }
 
@@ -47,43 +60,42 @@ impl Parts {
     /// messages that wait from the peer and its ready jobs, what waits for its references, and its
     /// references, listings, pins and calls. The caller's condition: it is a peer, and its session is
     /// open here.
-    pub fn close_for(&mut self, here: &Here, peer: SpaceId, reason: Reason)
-        requires state { IsState here.now.space here.now.n (state_of self.old) }
-        requires peer { is_peer here.now.space here.now.n peer ≡ true }
+    pub fn close_for(&mut self, peer: SpaceId, reason: Reason)
+        requires state { IsState self.old }
+        requires peer { is_peer self.old.here.space self.old.here.n peer ≡ true }
         requires open { has_closed self.old.sessions.items peer ≡ false }
-        ensures item { Closes here.now.space here.now.n peer reason causes.Item (state_of self.old)
-            (state_of self.new) }
-        ensures asked { Closes here.now.space here.now.n peer reason causes.Asked
-            (state_of self.old) (state_of self.new) }
+        ensures item { Closes peer reason causes.Item self.old self.new }
+        ensures asked { Closes peer reason causes.Asked self.old self.new }
+        ensures here { self.new.here ≡ self.old.here }
     {
         match self.sessions[peer.place()].close(reason) {
-            Ok(closed) => self.close_down(here.space, &closed),
+            Ok(closed) => self.close_down(&closed),
             Err(_) => unreachable!(),
         }
     }
 
     /// Close: the session with a peer closes here, because it was asked to: the reason that the
     /// peer is told. It takes no memory. It costs what `close_for` does.
-    pub fn close(&mut self, here: &Here, peer: SpaceId) -> Result<Reason, Refusal>
-        requires { IsState here.now.space here.now.n (state_of self.old) }
+    pub fn close(&mut self, peer: SpaceId) -> Result<Reason, Refusal>
+        requires { IsState self.old }
         ensures answer { (limits : LimitsOf) (D : List Deed)
-            → Stands here.now.space here.now.n limits (state_of self.old) D
+            → StandFor limits self.old D
             → Answers (λ reason. answers.Closed reason) result
-            (right.right_closing here.now.space here.now.n peer
-            (history_of here.now.space here.now.n D)) }
+            (right.right_closing self.old.here.space self.old.here.n peer
+            (history_for self.old D)) }
         ensures stands { IfOk result (λ reason.
-            Did here.now.space here.now.n (state_of self.old) (state_of self.new)
+            Did self.old self.new
             (did.Closing peer reason causes.Asked)) }
-        ensures err { OnErr result (Keeps here.now.space here.now.n (state_of self.old)
-            (state_of self.new)) }
+        ensures err { OnErr result (Keeps self.old self.new) }
+        ensures here { self.new.here ≡ self.old.here }
     {
-        if !here.is_peer(peer) {
+        if !self.here.is_peer(peer) {
             return Err(Refusal::NoPeer);
         }
         if self.has_closed(peer) {
             return Err(Refusal::Closed);
         }
-        self.close_for(here, peer, Reason::Asked);
+        self.close_for(peer, Reason::Asked);
         Ok(Reason::Asked)
     }
 }

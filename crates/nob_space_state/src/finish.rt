@@ -8,19 +8,18 @@ ghost use Rattle.nob_pickle.specs.Limits.{Fits};
 ghost use Rattle.nob_pickle.specs.declared.value.Value.TheVariants as values;
 ghost use Rattle.nob_model_work.specs.declared.work.Run.{Run as RunOf};
 ghost use Rattle.nob_model_work.specs.Work.{is_run};
-ghost use Rattle.nob_model_history.specs.Histories.{history_of};
 ghost use Rattle.nob_model.specs.Right as right;
 ghost use Rattle.nob_space_state.specs.Looks.{has_closed};
 ghost use Rattle.nob_space_state.specs.Parts.{state_of};
 ghost use Rattle.nob_space_state.specs.Sending.{reply_refusal, finish_answer, finish_deed};
-ghost use Rattle.nob_space_state.specs.Stands.{Stands, IsState, Keeps, Did, AnswersOrWants};
+ghost use Rattle.nob_space_state.specs.Stands.{StandFor, IsState, Keeps, Did, AnswersOrWants, history_for};
 
 use crate::error::SpaceError;
 use crate::listings::keep_all;
 use crate::parts::Parts;
 use nob_ids::{JobNo, SpaceId};
 use nob_item::{Item, ItemError, encode_reply};
-use nob_model::{Here, Kind, Outcome, Refusal};
+use nob_model::{Kind, Outcome, Refusal};
 use nob_model_acting::sending::counted;
 use nob_pickle::Value;
 use nob_space_holds::{end_job, hand};
@@ -59,12 +58,12 @@ fn value_of<'a>(outcome: &'a Outcome, unit: &'a Value) -> &'a Value
 
 impl Parts {
     // Why the reply to a client may not be sent. It takes no memory.
-    fn refuse_reply(&self, me: SpaceId, client: SpaceId, value: &Value) -> Result<(), Refusal>
-        ensures { MatchResult result (λ _. reply_refusal me client (state_of self.now) value.now
-            ≡ None) (λ refusal. reply_refusal me client (state_of self.now) value.now
+    fn refuse_reply(&self, client: SpaceId, value: &Value) -> Result<(), Refusal>
+        ensures { MatchResult result (λ _. reply_refusal self.now.here.space client (state_of self.now) value.now
+            ≡ None) (λ refusal. reply_refusal self.now.here.space client (state_of self.now) value.now
             ≡ Some refusal) }
     {
-        self.refuse_value(me, value)?;
+        self.refuse_value(value)?;
         self.refuse_send(client, Kind::Limited)
     }
 
@@ -76,18 +75,17 @@ impl Parts {
     pub fn finish(
         &mut self,
         alloc: Global,
-        here: &Here,
         job: JobNo,
         outcome: &Outcome,
     ) -> Result<ReplyFate, SpaceError>
-        requires { IsState here.now.space here.now.n (state_of self.old) }
+        requires { IsState self.old }
         ensures answer { (limits : LimitsOf) (D : List Deed)
-            → Stands here.now.space here.now.n limits (state_of self.old) D
+            → StandFor limits self.old D
             → AnswersOrWants finish_answer result
-            (right.right_finish here.now.space job outcome.now
-            (history_of here.now.space here.now.n D)) }
+            (right.right_finish self.old.here.space job outcome.now
+            (history_for self.old D)) }
         ensures stands { IfOk result (λ fate.
-            Did here.now.space here.now.n (state_of self.old) (state_of self.new)
+            Did self.old self.new
             (finish_deed job outcome.now fate)) }
         // What is handed on has a spelling.
         ensures fits { IfOk result (λ fate. fate ≡ ReplyFate.HandedOn
@@ -96,8 +94,8 @@ impl Parts {
         ensures dropped { (run : RunOf) → find (is_run job) self.old.jobs.running ≡ Some run
             → has_closed self.old.sessions.items run.message.from ≡ true
             → result ≡ Ok ReplyFate.Dropped }
-        ensures err { OnErr result (Keeps here.now.space here.now.n (state_of self.old)
-            (state_of self.new)) }
+        ensures err { OnErr result (Keeps self.old self.new) }
+        ensures here { self.new.here ≡ self.old.here }
     {
         let Some(run) = self.jobs.find_run(job) else {
             return Err(SpaceError::Refused(Refusal::NoJob));
@@ -108,12 +106,12 @@ impl Parts {
             _ => unreachable!(),
         };
         if self.has_closed(client) {
-            end_job(&mut self.table, &mut self.jobs, here.space, job);
+            end_job(&mut self.table, &mut self.jobs, self.here.space, job);
             return Ok(ReplyFate::Dropped);
         }
         let unit = Value::Unit;
         let value = value_of(outcome, &unit);
-        self.refuse_reply(here.space, client, value)?;
+        self.refuse_reply(client, value)?;
         let payload = match encode_reply(alloc, call, status_of(outcome), value) {
             Ok(payload) => payload,
             Err(ItemError::Fault(_)) => unreachable!(),
@@ -130,7 +128,7 @@ impl Parts {
             Kind::Limited,
             reps.as_slice(),
         )?;
-        end_job(&mut self.table, &mut self.jobs, here.space, job);
+        end_job(&mut self.table, &mut self.jobs, self.here.space, job);
         keep_all(&mut self.table, reps.as_slice());
         Ok(ReplyFate::HandedOn)
     }

@@ -9,14 +9,14 @@ ghost use Rattle.nob_model_history.specs.Histories.{history_of};
 ghost use Rattle.nob_model_acting.specs.Candidates as candidates;
 ghost use Rattle.nob_model.specs.Right as right;
 ghost use Rattle.nob_space_state.specs.Parts.{state_of};
-ghost use Rattle.nob_space_state.specs.Stands.{Stands, IsState, Keeps, Did, AnswersOrWants};
+ghost use Rattle.nob_space_state.specs.Stands.{StandFor, Stands, IsState, Keeps, Did, AnswersOrWants, history_for};
 
 use crate::error::SpaceError;
 use crate::parts::Parts;
 use nob_ids::{JobNo, SpaceId};
 use nob_item::Item;
 use nob_model::right::LAST_NUMBER;
-use nob_model::{Here, Job, Refusal};
+use nob_model::{Job, Refusal};
 
 impl Parts {
     // The ready job that Claim takes; its value is copied.
@@ -50,16 +50,16 @@ impl Parts {
 
     /// Claim: the first ready job, in order of becoming ready, whose target isn't running; its
     /// value is copied. A few words of bits, and linear in the value.
-    pub fn claim(&mut self, here: &Here) -> Result<Job, SpaceError>
-        requires { IsState here.now.space here.now.n (state_of self.old) }
+    pub fn claim(&mut self) -> Result<Job, SpaceError>
+        requires { IsState self.old }
         ensures answer { (limits : LimitsOf) (D : List Deed)
-            → Stands here.now.space here.now.n limits (state_of self.old) D
+            → StandFor limits self.old D
             → AnswersOrWants (λ job. answers.Job job) result
-            (right.right_claim (history_of here.now.space here.now.n D)) }
+            (right.right_claim (history_for self.old D)) }
         ensures stands { IfOk result (λ job.
-            Did here.now.space here.now.n (state_of self.old) (state_of self.new) (did.Claim job)) }
-        ensures err { OnErr result (Keeps here.now.space here.now.n (state_of self.old)
-            (state_of self.new)) }
+            Did self.old self.new (did.Claim job)) }
+        ensures err { OnErr result (Keeps self.old self.new) }
+        ensures here { self.new.here ≡ self.old.here }
     {
         let job = self.next_job()?;
         self.jobs.reserve_running(1)?;

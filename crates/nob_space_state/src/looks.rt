@@ -47,12 +47,12 @@ impl Parts {
 
     /// Whether a reference names an object of this space, not the agent, that isn't live. A
     /// look-up.
-    pub fn is_gone(&self, me: SpaceId, rep: &WireRep) -> bool
-        ensures { result ≡ is_gone me self.now.table rep.now }
+    pub fn is_gone(&self, rep: &WireRep) -> bool
+        ensures { result ≡ is_gone self.now.here.space self.now.table rep.now }
     {
         let standing = self.table.state(*rep);
         let live = is_live(standing.state);
-        rep.index != 0 && rep.owner == me && !live
+        rep.index != 0 && rep.owner == self.here.space && !live
     }
 
     /// Whether a client is listed for an object of this space. Logarithmic in the listings.
@@ -79,11 +79,11 @@ impl Parts {
     }
 
     /// Whether a reference is another space's, and the end with that has closed. Constant time.
-    pub fn is_cut(&self, me: SpaceId, rep: &WireRep) -> bool
-        ensures { result ≡ is_cut me self.now.sessions.items rep.now }
+    pub fn is_cut(&self, rep: &WireRep) -> bool
+        ensures { result ≡ is_cut self.now.here.space self.now.sessions.items rep.now }
     {
         let closed = self.has_closed(rep.owner);
-        rep.owner != me && closed
+        rep.owner != self.here.space && closed
     }
 }
 

@@ -7,23 +7,22 @@ ghost use Rattle.nob_model_history.specs.Histories.{history_of};
 ghost use Rattle.nob_model.specs.Next as next;
 ghost use Rattle.nob_space_state.specs.Dues as dues;
 ghost use Rattle.nob_space_state.specs.Parts.{state_of};
-ghost use Rattle.nob_space_state.specs.Stands.{Stands};
+ghost use Rattle.nob_space_state.specs.Stands.{StandFor, Stands, history_for};
 
 use crate::parts::Parts;
 use nob_ids::SpaceId;
-use nob_model::Here;
 use nob_session::Due;
 
 impl Parts {
     /// Whether there is an item from a peer to act on, also one whose fault closes the session.
     /// Constant time.
-    pub fn can_act(&self, here: &Here, peer: SpaceId) -> bool
+    pub fn can_act(&self, peer: SpaceId) -> bool
         ensures { (limits : LimitsOf) (D : List Deed)
-            → Stands here.now.space here.now.n limits (state_of self.now) D
-            → result ≡ next.can_act here.now.space here.now.n peer
-            (history_of here.now.space here.now.n D) }
+            → StandFor limits self.now D
+            → result ≡ next.can_act self.now.here.space self.now.here.n peer
+            (history_for self.now D) }
     {
-        if !here.is_peer(peer) {
+        if !self.here.is_peer(peer) {
             return false;
         }
         if self.has_closed(peer) {
@@ -36,13 +35,13 @@ impl Parts {
     }
 
     /// Whether a Transmit to a peer would give a frame. Constant time.
-    pub fn can_send(&self, here: &Here, peer: SpaceId) -> bool
+    pub fn can_send(&self, peer: SpaceId) -> bool
         ensures { (limits : LimitsOf) (D : List Deed)
-            → Stands here.now.space here.now.n limits (state_of self.now) D
-            → result ≡ next.can_send here.now.space here.now.n peer limits.window
-            (history_of here.now.space here.now.n D) }
+            → StandFor limits self.now D
+            → result ≡ next.can_send self.now.here.space self.now.here.n peer limits.window
+            (history_for self.now D) }
     {
-        if !here.is_peer(peer) {
+        if !self.here.is_peer(peer) {
             return false;
         }
         match self.sessions.get(peer.place()) {
@@ -52,13 +51,13 @@ impl Parts {
     }
 
     /// What a Transmit to a peer would give. Constant time.
-    pub fn due(&self, here: &Here, peer: SpaceId) -> Due
+    pub fn due(&self, peer: SpaceId) -> Due
         ensures { (limits : LimitsOf) (D : List Deed)
-            → Stands here.now.space here.now.n limits (state_of self.now) D
-            → result ≡ dues.due here.now.space here.now.n peer limits.window
-            (history_of here.now.space here.now.n D) }
+            → StandFor limits self.now D
+            → result ≡ dues.due self.now.here.space self.now.here.n peer limits.window
+            (history_for self.now D) }
     {
-        if !here.is_peer(peer) {
+        if !self.here.is_peer(peer) {
             return Due::Nothing;
         }
         match self.sessions.get(peer.place()) {
@@ -77,14 +76,14 @@ impl Parts {
 
     /// The least index of a live object that Withdraw would take. A few look-ups: what is held, in
     /// transit, or listed isn't passed.
-    pub fn to_withdraw(&self, here: &Here) -> Option<u64>
+    pub fn to_withdraw(&self) -> Option<u64>
         ensures { (limits : LimitsOf) (D : List Deed)
-            → Stands here.now.space here.now.n limits (state_of self.now) D
-            → result ≡ next.to_withdraw here.now.space (history_of here.now.space here.now.n D) }
+            → StandFor limits self.now D
+            → result ≡ next.to_withdraw self.now.here.space (history_for self.now D) }
     {
         let mut from = 0;
         while let Some(index) = self.table.first_spare(from) {
-            match self.refuse_withdraw(here.space, index) {
+            match self.refuse_withdraw(index) {
                 Ok(()) => return Some(index),
                 Err(_) => from = index + 1,
             }

@@ -6,26 +6,25 @@ ghost use Rattle.nob_ids.specs.declared.limits.Limits.{Limits as LimitsOf};
 ghost use Rattle.nob_model_types.specs.declared.answer.Answer.TheVariants as answers;
 ghost use Rattle.nob_model_types.specs.declared.deed.Deed.{Deed};
 ghost use Rattle.nob_model_types.specs.declared.deed.Deed.TheVariants as did;
-ghost use Rattle.nob_model_history.specs.Histories.{history_of};
 ghost use Rattle.nob_model.specs.Right as right;
 ghost use Rattle.nob_space_state.specs.Parts.{state_of};
 ghost use Rattle.nob_space_state.specs.Judging.{dup_refusal, release_refusal, withdraw_refusal};
-ghost use Rattle.nob_space_state.specs.Stands.{Stands, IsState, Keeps, Did, Answers, AnswersOrWants};
+ghost use Rattle.nob_space_state.specs.Stands.{StandFor, IsState, Keeps, Did, Answers, AnswersOrWants, history_for};
 
 use crate::error::SpaceError;
 use crate::parts::Parts;
 use nob_ids::{SpaceId, WireRep};
-use nob_model::{Here, Refusal, Use};
+use nob_model::{Refusal, Use};
 use nob_table::{ObjectTable, Part, TableError};
 
 impl Parts {
     // Why a Dup of a reference is refused.
     #[tactic(auto, unfolding(crate::specs::Judging::dup_refusal))]
-    fn refuse_dup(&self, me: SpaceId, rep: &WireRep) -> Result<(), Refusal>
-        ensures { MatchResult result (λ _. dup_refusal me (state_of self.now) rep.now ≡ None)
-            (λ refusal. dup_refusal me (state_of self.now) rep.now ≡ Some refusal) }
+    fn refuse_dup(&self, rep: &WireRep) -> Result<(), Refusal>
+        ensures { MatchResult result (λ _. dup_refusal self.now.here.space (state_of self.now) rep.now ≡ None)
+            (λ refusal. dup_refusal self.now.here.space (state_of self.now) rep.now ≡ Some refusal) }
     {
-        if self.is_gone(me, rep) {
+        if self.is_gone(rep) {
             return Err(Refusal::NoObject);
         }
         if rep.index == 0 {
@@ -34,7 +33,7 @@ impl Parts {
         if !self.is_held(rep) {
             return Err(Refusal::NotHeld);
         }
-        if self.is_cut(me, rep) {
+        if self.is_cut(rep) {
             return Err(Refusal::Closed);
         }
         if self.hand(rep) == u32::MAX {
@@ -45,11 +44,11 @@ impl Parts {
 
     // Why a Release of a reference is refused.
     #[tactic(auto, unfolding(crate::specs::Judging::release_refusal))]
-    fn refuse_release(&self, me: SpaceId, rep: &WireRep) -> Result<(), Refusal>
-        ensures { MatchResult result (λ _. release_refusal me (state_of self.now) rep.now ≡ None)
-            (λ refusal. release_refusal me (state_of self.now) rep.now ≡ Some refusal) }
+    fn refuse_release(&self, rep: &WireRep) -> Result<(), Refusal>
+        ensures { MatchResult result (λ _. release_refusal self.now.here.space (state_of self.now) rep.now ≡ None)
+            (λ refusal. release_refusal self.now.here.space (state_of self.now) rep.now ≡ Some refusal) }
     {
-        if self.is_gone(me, rep) {
+        if self.is_gone(rep) {
             return Err(Refusal::NoObject);
         }
         if rep.index == 0 {
@@ -62,17 +61,16 @@ impl Parts {
     }
 
     /// Dup: one more hold in hand on a reference. It takes no memory. A look-up.
-    pub fn dup(&mut self, here: &Here, rep: &WireRep) -> Result<(), Refusal>
+    pub fn dup(&mut self, rep: &WireRep) -> Result<(), Refusal>
         ensures answer { (limits : LimitsOf) (D : List Deed)
-            → Stands here.now.space here.now.n limits (state_of self.old) D
+            → StandFor limits self.old D
             → Answers (λ _. answers.Done) result
-            (right.right_dup here.now.space rep.now (history_of here.now.space here.now.n D)) }
-        ensures stands { OnOk result (Did here.now.space here.now.n (state_of self.old)
-            (state_of self.new) (did.Dup rep.now)) }
-        ensures err { OnErr result (Keeps here.now.space here.now.n (state_of self.old)
-            (state_of self.new)) }
+            (right.right_dup self.old.here.space rep.now (history_for self.old D)) }
+        ensures stands { OnOk result (Did self.old self.new (did.Dup rep.now)) }
+        ensures err { OnErr result (Keeps self.old self.new) }
+        ensures here { self.new.here ≡ self.old.here }
     {
-        self.refuse_dup(here.space, rep)?;
+        self.refuse_dup(rep)?;
         match self.table.hold(*rep, Part::Hand) {
             Ok(()) => Ok(()),
             Err(_) => unreachable!(),
@@ -80,17 +78,16 @@ impl Parts {
     }
 
     /// Release: one hold in hand on a reference is given back. It takes no memory. A look-up.
-    pub fn release(&mut self, here: &Here, rep: &WireRep) -> Result<(), Refusal>
+    pub fn release(&mut self, rep: &WireRep) -> Result<(), Refusal>
         ensures answer { (limits : LimitsOf) (D : List Deed)
-            → Stands here.now.space here.now.n limits (state_of self.old) D
+            → StandFor limits self.old D
             → Answers (λ _. answers.Done) result
-            (right.right_release here.now.space rep.now (history_of here.now.space here.now.n D)) }
-        ensures stands { OnOk result (Did here.now.space here.now.n (state_of self.old)
-            (state_of self.new) (did.Release rep.now)) }
-        ensures err { OnErr result (Keeps here.now.space here.now.n (state_of self.old)
-            (state_of self.new)) }
+            (right.right_release self.old.here.space rep.now (history_for self.old D)) }
+        ensures stands { OnOk result (Did self.old self.new (did.Release rep.now)) }
+        ensures err { OnErr result (Keeps self.old self.new) }
+        ensures here { self.new.here ≡ self.old.here }
     {
-        self.refuse_release(here.space, rep)?;
+        self.refuse_release(rep)?;
         match self.table.release(*rep, Part::Hand) {
             Ok(()) => Ok(()),
             Err(_) => unreachable!(),
@@ -99,15 +96,18 @@ impl Parts {
 
     // Why a Withdraw of an index is refused.
     #[tactic(auto, unfolding(crate::specs::Judging::withdraw_refusal))]
-    pub(crate) fn refuse_withdraw(&self, me: SpaceId, index: u64) -> Result<(), Refusal>
-        ensures { MatchResult result (λ _. withdraw_refusal me (state_of self.now) index ≡ None)
-            (λ refusal. withdraw_refusal me (state_of self.now) index ≡ Some refusal) }
+    pub(crate) fn refuse_withdraw(&self, index: u64) -> Result<(), Refusal>
+        ensures { MatchResult result (λ _. withdraw_refusal self.now.here.space (state_of self.now) index ≡ None)
+            (λ refusal. withdraw_refusal self.now.here.space (state_of self.now) index ≡ Some refusal) }
     {
         if index == 0 {
             return Err(Refusal::StillUsed(Use::Agent));
         }
-        let rep = WireRep { owner: me, index };
-        if self.is_gone(me, &rep) {
+        let rep = WireRep {
+            owner: self.here.space,
+            index,
+        };
+        if self.is_gone(&rep) {
             return Err(Refusal::NoObject);
         }
         if self.is_held(&rep) {
@@ -123,18 +123,17 @@ impl Parts {
     }
 
     /// Withdraw: the object of an index is live no more. It takes no memory. A few look-ups.
-    pub fn withdraw(&mut self, here: &Here, index: u64) -> Result<(), Refusal>
-        requires { IsState here.now.space here.now.n (state_of self.old) }
+    pub fn withdraw(&mut self, index: u64) -> Result<(), Refusal>
+        requires { IsState self.old }
         ensures answer { (limits : LimitsOf) (D : List Deed)
-            → Stands here.now.space here.now.n limits (state_of self.old) D
+            → StandFor limits self.old D
             → Answers (λ _. answers.Withdrawn) result
-            (right.right_withdraw here.now.space index (history_of here.now.space here.now.n D)) }
-        ensures stands { OnOk result (Did here.now.space here.now.n (state_of self.old)
-            (state_of self.new) (did.Withdraw index)) }
-        ensures err { OnErr result (Keeps here.now.space here.now.n (state_of self.old)
-            (state_of self.new)) }
+            (right.right_withdraw self.old.here.space index (history_for self.old D)) }
+        ensures stands { OnOk result (Did self.old self.new (did.Withdraw index)) }
+        ensures err { OnErr result (Keeps self.old self.new) }
+        ensures here { self.new.here ≡ self.old.here }
     {
-        self.refuse_withdraw(here.space, index)?;
+        self.refuse_withdraw(index)?;
         match self.table.withdraw(index) {
             Ok(()) => Ok(()),
             Err(_) => unreachable!(),
@@ -142,16 +141,16 @@ impl Parts {
     }
 
     /// Export: the reference to a new object, once in hand. Constant time on average.
-    pub fn export(&mut self, here: &Here) -> Result<WireRep, SpaceError>
+    pub fn export(&mut self) -> Result<WireRep, SpaceError>
         ensures answer { (limits : LimitsOf) (D : List Deed)
-            → Stands here.now.space here.now.n limits (state_of self.old) D
+            → StandFor limits self.old D
             → AnswersOrWants (λ rep. answers.Exported rep) result
-            (right.right_export here.now.space (history_of here.now.space here.now.n D)) }
+            (right.right_export self.old.here.space (history_for self.old D)) }
         ensures stands { IfOk result (λ rep.
-            Did here.now.space here.now.n (state_of self.old) (state_of self.new)
+            Did self.old self.new
             (did.Export rep)) }
-        ensures err { OnErr result (Keeps here.now.space here.now.n (state_of self.old)
-            (state_of self.new)) }
+        ensures err { OnErr result (Keeps self.old self.new) }
+        ensures here { self.new.here ≡ self.old.here }
     {
         prove!(self.table.object_count() <= ObjectTable::MOST_OBJECTS);
         match self.table.export() {

@@ -1,8 +1,7 @@
 //! The parts of a space's state.
 
 ghost use Rattle.std.specs.Prelude.{◌≡◌, ◌≤◌, [], length, IfOk};
-ghost use Rattle.nob_space_state.specs.Parts.{state_of};
-ghost use Rattle.nob_space_state.specs.Stands.{AreOpened, Stands};
+ghost use Rattle.nob_space_state.specs.Stands.{StandFor, AreOpened};
 
 use nob_dirty::DirtySets;
 use nob_ids::{Limits, SpaceId};
@@ -15,9 +14,11 @@ use nob_space_waiting::Waiting;
 use nob_table::ObjectTable;
 use std::alloc::{AllocError, Global};
 
-/// What a space keeps. It holds pins, so it can't be let go: the sessions are closed first, which
+/// What a space keeps, and which it is. It holds pins, so it can't be let go: the sessions are closed first, which
 /// ends the pins.
 pub struct Parts {
+    /// Which space it is, among how many.
+    pub here: Here,
     /// The ends of the sessions: at place p - 1 the one with space p. The space's own place is
     /// never used.
     pub sessions: Vec<Session>,
@@ -42,13 +43,14 @@ pub struct Parts {
 impl Parts {
     /// The state of a space that has done nothing: its sessions with all others are open. Only
     /// memory fails it. The caller's condition: there are 32 spaces at most.
-    pub fn new(alloc: Global, here: &Here, limits: Limits) -> Result<Parts, AllocError>
-        requires { here.now.n ≤ 32 }
-        ensures stands { IfOk result (λ parts.
-            Stands here.now.space here.now.n limits (state_of parts) []) }
+    pub fn new(alloc: Global, here: Here, limits: Limits) -> Result<Parts, AllocError>
+        requires { here.n ≤ 32 }
+        ensures stands { IfOk result (λ parts. StandFor limits parts []) }
+        ensures here { IfOk result (λ parts. parts.here ≡ here) }
     {
         let sessions = open_all(alloc, here.space, here.n, limits)?;
         Ok(Parts {
+            here,
             sessions,
             table: ObjectTable::new(alloc, here.space),
             dirty: DirtySets::new(alloc),

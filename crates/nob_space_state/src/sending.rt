@@ -13,17 +13,17 @@ use nob_pickle::Value;
 impl Parts {
     // Why a counted reference may not be sent.
     #[tactic(auto, unfolding(crate::specs::Sending::ref_refusal))]
-    fn refuse_ref(&self, me: SpaceId, rep: &WireRep) -> Result<(), Refusal>
-        ensures { MatchResult result (λ _. ref_refusal me (state_of self.now) rep.now ≡ None)
-            (λ refusal. ref_refusal me (state_of self.now) rep.now ≡ Some refusal) }
+    fn refuse_ref(&self, rep: &WireRep) -> Result<(), Refusal>
+        ensures { MatchResult result (λ _. ref_refusal self.now.here.space (state_of self.now) rep.now ≡ None)
+            (λ refusal. ref_refusal self.now.here.space (state_of self.now) rep.now ≡ Some refusal) }
     {
-        if self.is_gone(me, rep) {
+        if self.is_gone(rep) {
             return Err(Refusal::NoObject);
         }
         if !self.is_held(rep) {
             return Err(Refusal::NotHeld);
         }
-        if self.is_cut(me, rep) {
+        if self.is_cut(rep) {
             return Err(Refusal::Closed);
         }
         Ok(())
@@ -31,16 +31,16 @@ impl Parts {
 
     /// Why a value may not be sent. It takes no memory. Linear in the value.
     #[tactic(auto, unfolding(crate::specs::Sending::value_refusal))]
-    pub fn refuse_value(&self, me: SpaceId, value: &Value) -> Result<(), Refusal>
-        ensures { MatchResult result (λ _. value_refusal me (state_of self.now) value.now ≡ None)
-            (λ refusal. value_refusal me (state_of self.now) value.now ≡ Some refusal) }
+    pub fn refuse_value(&self, value: &Value) -> Result<(), Refusal>
+        ensures { MatchResult result (λ _. value_refusal self.now.here.space (state_of self.now) value.now ≡ None)
+            (λ refusal. value_refusal self.now.here.space (state_of self.now) value.now ≡ Some refusal) }
     {
         let Ok(()) = nob_pickle::fits(value) else {
             return Err(Refusal::TooBig);
         };
         let mut number = 0;
         while let Some(rep) = nob_pickle::counted_ref(value, number) {
-            self.refuse_ref(me, &rep)?;
+            self.refuse_ref(&rep)?;
             number += 1;
         }
         Ok(())

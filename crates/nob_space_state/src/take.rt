@@ -10,14 +10,14 @@ ghost use Rattle.nob_model_history.specs.Histories.{history_of};
 ghost use Rattle.nob_model.specs.Right as right;
 ghost use Rattle.nob_model.specs.Next.{reply_ready};
 ghost use Rattle.nob_space_state.specs.Parts.{state_of};
-ghost use Rattle.nob_space_state.specs.Stands.{Stands, IsState, Keeps, Did, Answers};
+ghost use Rattle.nob_space_state.specs.Stands.{StandFor, Stands, IsState, Keeps, Did, Answers, history_for};
 ghost use Rattle.nob_space_holds.specs.TakingOver.{reps_of};
 ghost use Rattle.nob_space_state.specs.Taking.{is_full, take_answer, answer_of, deed_of};
 
 use crate::parts::Parts;
 use nob_ids::{CallNo, WireRep};
 use nob_item::Item;
-use nob_model::{Here, Message, RefCopy, Refusal, Stage};
+use nob_model::{Message, RefCopy, Refusal, Stage};
 use nob_pickle::Value;
 use nob_space_holds::{take_over, times};
 use std::alloc::AllocError;
@@ -107,17 +107,17 @@ impl Parts {
     /// TakeReply of a call: its reply, whose references come into the hand, or that there will be
     /// none. It takes no memory. Logarithmic in the calls and the ready replies, and linear in the
     /// value.
-    pub fn take_reply(&mut self, here: &Here, call: CallNo) -> Result<CallResult, Refusal>
-        requires { IsState here.now.space here.now.n (state_of self.old) }
+    pub fn take_reply(&mut self, call: CallNo) -> Result<CallResult, Refusal>
+        requires { IsState self.old }
         ensures answer { (limits : LimitsOf) (D : List Deed)
-            → Stands here.now.space here.now.n limits (state_of self.old) D
+            → StandFor limits self.old D
             → Answers answer_of result (right.right_take_reply call
-            (history_of here.now.space here.now.n D)) }
+            (history_for self.old D)) }
         ensures stands { IfOk result (λ brought.
-            Did here.now.space here.now.n (state_of self.old) (state_of self.new)
+            Did self.old self.new
             (deed_of call brought)) }
-        ensures err { OnErr result (Keeps here.now.space here.now.n (state_of self.old)
-            (state_of self.new)) }
+        ensures err { OnErr result (Keeps self.old self.new) }
+        ensures here { self.new.here ≡ self.old.here }
     {
         let Some(own) = self.calls.call(call) else {
             return Err(Refusal::NoCall);

@@ -14,8 +14,8 @@ loop-place-preserved c =
     let low : c.loop-place.place < 32 = c.loop-place-test.true in
     record {
       each = length-set c.loop-place.all c.loop-place.place c.can_act.result ∙ each;
-      told = λ limits D stands. written_more (λ p. next.can_act c.args.here.now.space c.args.here.now.n p (history_of c.args.here.now.space c.args.here.now.n D)) c.loop-place.place c.loop-place.all c.can_act.result (omega (arith, each, low))
-          (subst (λ (k : ℕ). c.can_act.result ≡ next.can_act c.args.here.now.space c.args.here.now.n k (history_of c.args.here.now.space c.args.here.now.n D)) (c.in-Some.ensures {u = tt}).value (c.can_act.ensures limits D stands))
+      told = λ limits D stands. written_more (λ p. next.can_act c.args.parts.now.here.space c.args.parts.now.here.n p (history_of c.args.parts.now.here.space c.args.parts.now.here.n D)) c.loop-place.place c.loop-place.all c.can_act.result (omega (arith, each, low))
+          (subst (λ (k : ℕ). c.can_act.result ≡ next.can_act c.args.parts.now.here.space c.args.parts.now.here.n k (history_of c.args.parts.now.here.space c.args.parts.now.here.n D)) (c.in-Some.ensures {u = tt}).value (c.can_act.ensures limits D stands))
           (c.loop-place.invariant.told limits D stands);
     }
 

@@ -14,8 +14,8 @@ loop-place-preserved c =
     let low : c.loop-place.place < 32 = c.loop-place-test.true in
     record {
       each = length-set c.loop-place.all c.loop-place.place c.can_send.result ∙ each;
-      told = λ limits D stands. written_more (λ p. next.can_send c.args.here.now.space c.args.here.now.n p limits.window (history_of c.args.here.now.space c.args.here.now.n D)) c.loop-place.place c.loop-place.all c.can_send.result (omega (arith, each, low))
-          (subst (λ (k : ℕ). c.can_send.result ≡ next.can_send c.args.here.now.space c.args.here.now.n k limits.window (history_of c.args.here.now.space c.args.here.now.n D)) (c.in-Some.ensures {u = tt}).value (c.can_send.ensures limits D stands))
+      told = λ limits D stands. written_more (λ p. next.can_send c.args.parts.now.here.space c.args.parts.now.here.n p limits.window (history_of c.args.parts.now.here.space c.args.parts.now.here.n D)) c.loop-place.place c.loop-place.all c.can_send.result (omega (arith, each, low))
+          (subst (λ (k : ℕ). c.can_send.result ≡ next.can_send c.args.parts.now.here.space c.args.parts.now.here.n k limits.window (history_of c.args.parts.now.here.space c.args.parts.now.here.n D)) (c.in-Some.ensures {u = tt}).value (c.can_send.ensures limits D stands))
           (c.loop-place.invariant.told limits D stands);
     }
 

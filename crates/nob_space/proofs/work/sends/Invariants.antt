@@ -11,5 +11,5 @@ use Rattle.nob_space.proofs.work.sends.Given as goal
 abbrev pub invariant-loop-place : goal.invariant-loop-place
 invariant-loop-place l = record {
   each : length l.all ≡ 32;
-  told : (limits : Limits) (D : List Deed) → Stands l.here.space l.here.n limits (state_of l.parts) D → IsWrittenTo (λ p. next.can_send l.here.space l.here.n p limits.window (history_of l.here.space l.here.n D)) l.place l.all;
+  told : (limits : Limits) (D : List Deed) → Stands l.parts.here.space l.parts.here.n limits (state_of l.parts) D → IsWrittenTo (λ p. next.can_send l.parts.here.space l.parts.here.n p limits.window (history_of l.parts.here.space l.parts.here.n D)) l.place l.all;
 }

@@ -31,7 +31,7 @@ returns-in-Err-Fault-clause-answer c limits D stands =
     c.in-Some.front.0 c.in-Some.front.1.now refl (ap item_of (subst (λ (e : ItemError). Fails e (item_read c.in-Some.front.1.now)) c.in-Err-Fault.field-0-is (c.in-Err-Fault.ensures {u = tt}).exact))
 
 pub returns-in-Err-Fault-clause-stands : goal.returns-in-Err-Fault-clause-stands
-returns-in-Err-Fault-clause-stands c limits D stands = c.close_for.ensures.item limits D stands (closing_is c.args.here.now.space c.args.here.now.n limits D c.args.peer BadItem (returns-in-Err-Fault-clause-answer c limits D stands))
+returns-in-Err-Fault-clause-stands c limits D stands = c.close_for.ensures.item limits D stands (closing_is c.args.parts.now.here.space c.args.parts.now.here.n limits D c.args.peer BadItem (returns-in-Err-Fault-clause-answer c limits D stands))
 
 pub returns-in-Some-fault_of_item-clause-answer : goal.returns-in-Some-fault_of_item-clause-answer
 returns-in-Some-fault_of_item-clause-answer c limits D stands =
@@ -39,7 +39,7 @@ returns-in-Some-fault_of_item-clause-answer c limits D stands =
     c.in-Some.front.0 c.in-Some.front.1.now refl c.in-Ok.item (ap item_of (c.in-Ok.ensures {u = tt}).exact) c.in-Some-fault_of_item.reason (sym (c.in-Some-fault_of_item.ensures {u = tt}))
 
 pub returns-in-Some-fault_of_item-clause-stands : goal.returns-in-Some-fault_of_item-clause-stands
-returns-in-Some-fault_of_item-clause-stands c limits D stands = c.close_for-in-Some-fault_of_item.ensures.item limits D stands (closing_is c.args.here.now.space c.args.here.now.n limits D c.args.peer c.in-Some-fault_of_item.reason (returns-in-Some-fault_of_item-clause-answer c limits D stands))
+returns-in-Some-fault_of_item-clause-stands c limits D stands = c.close_for-in-Some-fault_of_item.ensures.item limits D stands (closing_is c.args.parts.now.here.space c.args.parts.now.here.n limits D c.args.peer c.in-Some-fault_of_item.reason (returns-in-Some-fault_of_item-clause-answer c limits D stands))
 
 pub act_on-requires-clause-front : goal.act_on-requires-clause-front
 act_on-requires-clause-front c limits D stands =

@@ -5,7 +5,7 @@ use Rattle.nob_model_session.specs.declared.entry.EndEntry.TheVariants.{Send}
 use Rattle.nob_model_session.specs.declared.entry.Kind.TheVariants.{Note}
 use Rattle.nob_session.specs.Stands as ends
 use Rattle.nob_session.specs.Stands.{End}
-use Rattle.nob_model_history.specs.Ends.{payload_of, bytes_if}
+use Rattle.nob_model_history.specs.Ends.{payload_of}
 use Rattle.nob_space_items.proofs.dirties.send_dirty.Goals as goal
 
 pub returns : goal.returns
@@ -17,5 +17,5 @@ returns c =
       room = c.send_reserved.ensures.left;
       answer = λ me peer limits L stands.
           subst (λ k. ends.Stands me peer limits c.send_reserved.new.session.end (Send (payload_of (items.Dirty c.args.dirty.index)) Note (Ok k) ∷ L)) c.send_reserved.ensures.number
-          (subst (λ bytes. ends.Stands me peer limits c.send_reserved.new.session.end (Send bytes Note (Ok c.send_reserved.result) ∷ L)) (sym (ap bytes_if c.dirty.invariant.0) ∙ ap (λ (rep : WireRep). payload_of (items.Dirty rep.index)) c.dirty.view_is) (c.send_reserved.ensures.answer me peer limits L stands));
+          (subst (λ bytes. ends.Stands me peer limits c.send_reserved.new.session.end (Send bytes Note (Ok c.send_reserved.result) ∷ L)) (c.dirty.invariant.0 ∙ ap (λ (rep : WireRep). payload_of (items.Dirty rep.index)) c.dirty.view_is) (c.send_reserved.ensures.answer me peer limits L stands));
     }

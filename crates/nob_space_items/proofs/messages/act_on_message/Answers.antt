@@ -6,7 +6,8 @@ use Rattle.nob_model_types.specs.declared.message.RefCopy.{RefCopy}
 use Rattle.nob_model_acting.specs.Acting.{answer_of_act}
 use Rattle.nob_space_waiting.specs.Waiting.{IsNew}
 use Rattle.nob_space_state.specs.Parts.{state_of}
-use Rattle.nob_space_state.proofs.Passing.{refused_as, wants_as, after_error}
+use Rattle.nob_space_state.specs.Stands.{Stands}
+use Rattle.nob_space_state.proofs.Passing.{same_space, refused_as, wants_as, after_error}
 use Rattle.nob_space_items.specs.Growing.{AreAmong, HaveRoom}
 use Rattle.nob_space_items.specs.Messages.{wanted_refs, message_refusal}
 use Rattle.nob_space_items.specs.Receiving.{CanReceive, Receives}
@@ -22,19 +23,19 @@ judge_message-requires c = (let front = c.requires.front c.requires.state.0 c.re
 pub returns-in_err-wanted-clause-answer : goal.returns-in_err-wanted-clause-answer
 returns-in_err-wanted-clause-answer c limits D stands =
     refused_as _ c.from_residual.result _ c.in_err-wanted.field-0.0 c.from_residual.ensures.1
-    (message_answer c.args.here.now.space c.args.here.now.n c.args.peer c.args.number c.args.item D (c.requires.front limits D stands) c.requires.message
+    (message_answer c.args.parts.now.here.space c.args.parts.now.here.n c.args.peer c.args.number c.args.item D (c.requires.front limits D stands) c.requires.message
     ∙ ap (answer_of_act c.args.number None) (c.in_err-wanted.ensures.answer limits D stands))
 
 pub returns-in_err-dirties-clause-answer : goal.returns-in_err-dirties-clause-answer
 returns-in_err-dirties-clause-answer c limits D stands =
     wants_as _ c.from_residual-in_err-dirties.result _ c.from_residual-in_err-dirties.ensures.1
-    (subst IsOk (sym (message_answer c.args.here.now.space c.args.here.now.n c.args.peer c.args.number c.args.item D (c.requires.front limits D stands) c.requires.message
+    (subst IsOk (sym (message_answer c.args.parts.now.here.space c.args.parts.now.here.n c.args.peer c.args.number c.args.item D (c.requires.front limits D stands) c.requires.message
     ∙ ap (answer_of_act c.args.number None) (c.in_ok-wanted.ensures.answer limits D stands))) refl)
 
 pub returns-in_err-copies-clause-answer : goal.returns-in_err-copies-clause-answer
 returns-in_err-copies-clause-answer c limits D stands =
     wants_as _ c.from_residual-in_err-copies.result _ c.from_residual-in_err-copies.ensures.1
-    (subst IsOk (sym (message_answer c.args.here.now.space c.args.here.now.n c.args.peer c.args.number c.args.item D (c.requires.front limits D stands) c.requires.message
+    (subst IsOk (sym (message_answer c.args.parts.now.here.space c.args.parts.now.here.n c.args.peer c.args.number c.args.item D (c.requires.front limits D stands) c.requires.message
     ∙ ap (answer_of_act c.args.number None) (c.in_ok-wanted.ensures.answer limits D stands))) refl)
 
 pub grow-requires : goal.grow-requires
@@ -47,13 +48,13 @@ grow-requires c =
 pub returns-in_err-grow-clause-answer : goal.returns-in_err-grow-clause-answer
 returns-in_err-grow-clause-answer c limits D stands =
     wants_as _ c.from_residual-in_err-grow.result _ c.from_residual-in_err-grow.ensures.1
-    (subst IsOk (sym (message_answer c.args.here.now.space c.args.here.now.n c.args.peer c.args.number c.args.item D (c.requires.front limits D stands) c.requires.message
+    (subst IsOk (sym (message_answer c.args.parts.now.here.space c.args.parts.now.here.n c.args.peer c.args.number c.args.item D (c.requires.front limits D stands) c.requires.message
     ∙ ap (answer_of_act c.args.number None) (c.in_ok-wanted.ensures.answer limits D stands))) refl)
 
 pub receive-requires-clause-can : goal.receive-requires-clause-can
 receive-requires-clause-can c =
-    let s = c.args.here.now.space in
-    let n = c.args.here.now.n in
+    let s = c.args.parts.now.here.space in
+    let n = c.args.parts.now.here.n in
     let D : List Deed = c.requires.state.1 in
     let stands = c.requires.state.2 in
     let st = state_of c.args.parts.now in
@@ -74,8 +75,8 @@ receive-requires-clause-can c =
 
 pub receive-requires-clause-new : goal.receive-requires-clause-new
 receive-requires-clause-new c =
-    let s = c.args.here.now.space in
-    let n = c.args.here.now.n in
+    let s = c.args.parts.now.here.space in
+    let n = c.args.parts.now.here.n in
     let D : List Deed = c.requires.state.1 in
     let stands = c.requires.state.2 in
     let st = state_of c.args.parts.now in
@@ -89,13 +90,13 @@ receive-requires-clause-new c =
 
 pub returns-clause-answer : goal.returns-clause-answer
 returns-clause-answer c limits D stands =
-    message_answer c.args.here.now.space c.args.here.now.n c.args.peer c.args.number c.args.item D (c.requires.front limits D stands) c.requires.message
+    message_answer c.args.parts.now.here.space c.args.parts.now.here.n c.args.peer c.args.number c.args.item D (c.requires.front limits D stands) c.requires.message
     ∙ ap (answer_of_act c.args.number None) (c.in_ok-wanted.ensures.answer limits D stands)
 
 pub returns-clause-stands : goal.returns-clause-stands
 returns-clause-stands c limits D stands =
-    let s = c.args.here.now.space in
-    let n = c.args.here.now.n in
+    let s = c.args.parts.now.here.space in
+    let n = c.args.parts.now.here.n in
     let st = state_of c.args.parts.now in
     let grown = state_of c.grow.new.parts in
     let new = state_of c.receive.new.parts in
@@ -107,11 +108,11 @@ returns-clause-stands c limits D stands =
     let dirties_are : c.in_ok-dirties.dirties.items ≡ wanted_refs s n st (counted_in c.args.item) = c.in_ok-dirties.ensures ∙ c.as_slice.ensures ∙ reps_are in
     let receives : Receives s grown new (message_of s n st c.args.peer c.args.number c.args.item) (wanted_refs s n st (counted_in c.args.item)) =
     subst (Receives s grown new (message_of s n st c.args.peer c.args.number c.args.item)) dirties_are
-    (subst (λ (copies : List RefCopy). Receives s grown new (record { from = c.args.peer; number = c.args.number; item = c.args.item; copies = copies }) c.in_ok-dirties.dirties.items) c.in_ok-copies.ensures c.receive.ensures) in
-    receives_stand stands c.args.peer c.args.number c.args.item front c.requires.message
+    (subst (λ (copies : List RefCopy). Receives s grown new (record { from = c.args.peer; number = c.args.number; item = c.args.item; copies = copies }) c.in_ok-dirties.dirties.items) c.in_ok-copies.ensures c.receive.ensures.receives) in
+    same_space c.receive.new.parts.here c.args.parts.now.here (c.receive.ensures.here ∙ c.grow.ensures.here) (receives_stand stands c.args.peer c.args.number c.args.item front c.requires.message
     (grown_receives stands c.args.peer c.args.number c.args.item front c.requires.message
     (subst (λ (reps : List WireRep). message_refusal st reps ≡ None) reps_are c.in_ok-wanted.ensures.free) small grown c.grow.ensures.same new receives)
-    (act_is s n limits D c.args.peer c.args.number (returns-clause-answer c limits D stands))
+    (act_is s n limits D c.args.peer c.args.number (returns-clause-answer c limits D stands)))
 
 pub returns-in_err-grow-clause-err : goal.returns-in_err-grow-clause-err
-returns-in_err-grow-clause-err c = after_error _ c.from_residual-in_err-grow.result (λ limits D stands. search rules)
+returns-in_err-grow-clause-err c = after_error _ c.from_residual-in_err-grow.result (λ limits D stands. let grown : Stands c.args.parts.now.here.space c.args.parts.now.here.n limits (state_of c.grow.new.parts) D = search rules in same_space c.grow.new.parts.here c.args.parts.now.here c.grow.ensures.here grown)

@@ -23,7 +23,7 @@ loop-rep-preserved c =
           record {
             few = omega (arith, within);
             fewer = omega (arith, longer, before);
-            so_far = is ∙ wanted_more c.args.here.now.space c.args.here.now.n (state_of c.args.parts.now) c.loop-rep.wanted (counted_in c.args.item.now) c.loop-rep.number c.in-Some.rep true there c.loop-rep.invariant.so_far (sym w.if-is_next.true ∙ c.is_next.ensures ∙ ap (λ (rs : List WireRep). is_wanted c.args.here.now.space c.args.here.now.n (state_of c.args.parts.now) c.in-Some.rep && not (list_any (is_same c.in-Some.rep) rs)) c.as_slice.ensures);
+            so_far = is ∙ wanted_more c.args.parts.now.here.space c.args.parts.now.here.n (state_of c.args.parts.now) c.loop-rep.wanted (counted_in c.args.item.now) c.loop-rep.number c.in-Some.rep true there c.loop-rep.invariant.so_far (sym w.if-is_next.true ∙ c.is_next.ensures ∙ ap (λ (rs : List WireRep). is_wanted c.args.parts.now.here.space c.args.parts.now.here.n (state_of c.args.parts.now) c.in-Some.rep && not (list_any (is_same c.in-Some.rep) rs)) c.as_slice.ensures);
           }
       | else-is_next w ↦
           let before = c.loop-rep.invariant.fewer in
@@ -31,9 +31,9 @@ loop-rep-preserved c =
           record {
             few = omega (arith, within);
             fewer = omega (arith, same, before);
-            so_far = w.wanted-is ∙ wanted_more c.args.here.now.space c.args.here.now.n (state_of c.args.parts.now) c.loop-rep.wanted (counted_in c.args.item.now) c.loop-rep.number c.in-Some.rep false there c.loop-rep.invariant.so_far (sym w.if-is_next.false ∙ c.is_next.ensures ∙ ap (λ (rs : List WireRep). is_wanted c.args.here.now.space c.args.here.now.n (state_of c.args.parts.now) c.in-Some.rep && not (list_any (is_same c.in-Some.rep) rs)) c.as_slice.ensures);
+            so_far = w.wanted-is ∙ wanted_more c.args.parts.now.here.space c.args.parts.now.here.n (state_of c.args.parts.now) c.loop-rep.wanted (counted_in c.args.item.now) c.loop-rep.number c.in-Some.rep false there c.loop-rep.invariant.so_far (sym w.if-is_next.false ∙ c.is_next.ensures ∙ ap (λ (rs : List WireRep). is_wanted c.args.parts.now.here.space c.args.parts.now.here.n (state_of c.args.parts.now) c.in-Some.rep && not (list_any (is_same c.in-Some.rep) rs)) c.as_slice.ensures);
           }
     ]
 
 pub returns : goal.returns
-returns c = c.loop-rep.invariant.so_far ∙ ap (wanted_refs c.args.here.now.space c.args.here.now.n (state_of c.args.parts.now)) (past_last (counted_in c.args.item.now) c.loop-rep.number (sym (c.in_default.ensures {u = tt})))
+returns c = c.loop-rep.invariant.so_far ∙ ap (wanted_refs c.args.parts.now.here.space c.args.parts.now.here.n (state_of c.args.parts.now)) (past_last (counted_in c.args.item.now) c.loop-rep.number (sym (c.in_default.ensures {u = tt})))

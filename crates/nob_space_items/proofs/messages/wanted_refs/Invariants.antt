@@ -8,7 +8,7 @@ abbrev pub invariant-loop-rep : goal.invariant-loop-rep
 invariant-loop-rep l = record {
   few : l.number ≤ length (counted_in l.item);
   fewer : length l.wanted ≤ l.number;
-  so_far : l.wanted ≡ wanted_refs l.here.space l.here.n (state_of l.parts) (take l.number (counted_in l.item));
+  so_far : l.wanted ≡ wanted_refs l.parts.here.space l.parts.here.n (state_of l.parts) (take l.number (counted_in l.item));
 }
 
 abbrev pub decreases-loop-rep : goal.decreases-loop-rep

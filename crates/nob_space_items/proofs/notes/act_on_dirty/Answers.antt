@@ -33,7 +33,7 @@ answer_dirty-requires-clause-waits c =
     let stands = c.requires.state.2 in
     let front = c.requires.front c.requires.state.0 c.requires.state.1 stands in
     let is : c.index_mut-session.result.now ≡ get_or c.args.parts.now.sessions.items (c.args.peer - 1) c.index_mut-session.result.now = subst (λ k. c.index_mut-session.result.now ≡ get_or c.args.parts.now.sessions.items k c.index_mut-session.result.now) c.place.ensures.value c.index_mut-session.ensures.value in
-    front_waits front c.requires.state.0 c.index_mut-session.result.now.end (end_there c.args.here.now.space c.args.here.now.n c.requires.state.0 c.args.parts.now.sessions.items (history_of c.args.here.now.space c.args.here.now.n c.requires.state.1) c.args.peer c.index_mut-session.result.now stands.ends front.peer is).2
+    front_waits front c.requires.state.0 c.index_mut-session.result.now.end (end_there c.args.parts.now.here.space c.args.parts.now.here.n c.requires.state.0 c.args.parts.now.sessions.items (history_of c.args.parts.now.here.space c.args.parts.now.here.n c.requires.state.1) c.args.peer c.index_mut-session.result.now stands.ends front.peer is).2
 
 pub returns-in_err-answer_dirty-clause-answer : goal.returns-in_err-answer_dirty-clause-answer
 returns-in_err-answer_dirty-clause-answer c limits D stands =
@@ -57,6 +57,6 @@ returns-clause-stands c limits D stands =
     let front = c.requires.front limits D stands in
     let done = c.in_ok-answer_dirty.ensures in
     dirty_stands stands c.place.result c.place.ensures.value c.index_mut-session.result.now c.answer_dirty.new.session c.index_mut-session.ensures.value c.args.index front c.in_ok-refuse_send.ensures c.is_live-live.result (c.is_live-live.ensures ∙ stands.table.live c.args.index) c.answer_dirty.new.dirty done.listed c.keep.new.self c.keep.ensures.left.items
-    (subst (λ live. SetsKept c.args.parts.now.table c.keep.new.self (own_ref c.args.here.now.space c.args.index) live)
-    (ap (λ b. is_live (standing c.args.parts.now.table (own_ref c.args.here.now.space c.args.index)).state || b) (own_there c.args.parts.now.table (own_ref c.args.here.now.space c.args.index) (subst (λ k. c.args.here.now.space == k ≡ true) (sym stands.table.me) (nat_eq_equiv.refl c.args.here.now.space))).0
-    ∙ live_or (is_live (standing c.args.parts.now.table (own_ref c.args.here.now.space c.args.index)).state) ∙ sym c.is_live-live.ensures) c.keep.ensures.kept) done.session
+    (subst (λ live. SetsKept c.args.parts.now.table c.keep.new.self (own_ref c.args.parts.now.here.space c.args.index) live)
+    (ap (λ b. is_live (standing c.args.parts.now.table (own_ref c.args.parts.now.here.space c.args.index)).state || b) (own_there c.args.parts.now.table (own_ref c.args.parts.now.here.space c.args.index) (subst (λ k. c.args.parts.now.here.space == k ≡ true) (sym stands.table.me) (nat_eq_equiv.refl c.args.parts.now.here.space))).0
+    ∙ live_or (is_live (standing c.args.parts.now.table (own_ref c.args.parts.now.here.space c.args.index)).state) ∙ sym c.is_live-live.ensures) c.keep.ensures.kept) done.session

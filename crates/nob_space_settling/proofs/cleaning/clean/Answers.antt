@@ -27,7 +27,7 @@ returns-in_default-clause-answer c limits D stands = clean_none stands (c.in_def
 pub index-requires : goal.index-requires
 index-requires c =
     let peer = (asked_there c.requires.2 c.in-Some.rep (c.in-Some.ensures {u = tt})).1 in
-    let range = peer_range c.args.here.now.space c.args.here.now.n c.in-Some.rep.owner peer in
+    let range = peer_range c.args.parts.now.here.space c.args.parts.now.here.n c.in-Some.rep.owner peer in
     let each = c.requires.2.ends.each in
     let owner = c.place-place.ensures.value in
     omega (arith, range.0, range.1, each, owner)
@@ -46,7 +46,7 @@ returns-in_err-payload-clause-answer c limits D stands =
 pub index_mut-session-requires : goal.index_mut-session-requires
 index_mut-session-requires c =
     let peer = (asked_there c.requires.2 c.in-Some.rep (c.in-Some.ensures {u = tt})).1 in
-    let range = peer_range c.args.here.now.space c.args.here.now.n c.in-Some.rep.owner peer in
+    let range = peer_range c.args.parts.now.here.space c.args.parts.now.here.n c.in-Some.rep.owner peer in
     let each = c.requires.2.ends.each in
     let owner = c.place-place.ensures.value in
     omega (arith, range.0, range.1, each, owner)
@@ -56,8 +56,8 @@ hand_note-requires-clause-next c =
     let is : c.index_mut-session.result.now ≡ get_or c.args.parts.now.sessions.items (c.in-Some.rep.owner - 1) c.index_mut-session.result.now = subst (λ (k : ℕ). c.index_mut-session.result.now ≡ get_or c.args.parts.now.sessions.items k c.index_mut-session.result.now) c.place-place.ensures.value c.index_mut-session.ensures.value in
     let seen : c.index.result.now ≡ get_or c.args.parts.now.sessions.items (c.in-Some.rep.owner - 1) c.index.result.now = subst (λ (k : ℕ). c.index.result.now ≡ get_or c.args.parts.now.sessions.items k c.index.result.now) c.place-place.ensures.value c.index.ensures in
     let peer = (asked_there c.requires.2 c.in-Some.rep (c.in-Some.ensures {u = tt})).1 in
-    let here = end_there c.args.here.now.space c.args.here.now.n c.requires.0 c.args.parts.now.sessions.items (history_of c.args.here.now.space c.args.here.now.n c.requires.1) c.in-Some.rep.owner c.index_mut-session.result.now c.requires.2.ends peer is in
-    let there = end_there c.args.here.now.space c.args.here.now.n c.requires.0 c.args.parts.now.sessions.items (history_of c.args.here.now.space c.args.here.now.n c.requires.1) c.in-Some.rep.owner c.index.result.now c.requires.2.ends peer seen in
+    let here = end_there c.args.parts.now.here.space c.args.parts.now.here.n c.requires.0 c.args.parts.now.sessions.items (history_of c.args.parts.now.here.space c.args.parts.now.here.n c.requires.1) c.in-Some.rep.owner c.index_mut-session.result.now c.requires.2.ends peer is in
+    let there = end_there c.args.parts.now.here.space c.args.parts.now.here.n c.requires.0 c.args.parts.now.sessions.items (history_of c.args.parts.now.here.space c.args.parts.now.here.n c.requires.1) c.in-Some.rep.owner c.index.result.now c.requires.2.ends peer seen in
     let same : c.index.result.now ≡ c.index_mut-session.result.now = some_same (sym there.1 ∙ here.1) in
     let free = c.free_numbers.ensures in
     let some = c.if-free_numbers-eq0.false in
@@ -73,7 +73,7 @@ pub returns-in_err-hand_note-clause-err : goal.returns-in_err-hand_note-clause-e
 returns-in_err-hand_note-clause-err c = after_error _ c.from_residual-in_err-hand_note.result (λ limits D stands.
     let is : c.index_mut-session.result.now ≡ get_or c.args.parts.now.sessions.items (c.in-Some.rep.owner - 1) c.index_mut-session.result.now = subst (λ (k : ℕ). c.index_mut-session.result.now ≡ get_or c.args.parts.now.sessions.items k c.index_mut-session.result.now) c.place-place.ensures.value c.index_mut-session.ensures.value in
     let peer = (asked_there stands c.in-Some.rep (c.in-Some.ensures {u = tt})).1 in
-    subst (λ (k : ℕ). Stands c.args.here.now.space c.args.here.now.n limits (after k) D) (sym c.place-place.ensures.value)
+    subst (λ (k : ℕ). Stands c.args.parts.now.here.space c.args.parts.now.here.n limits (after k) D) (sym c.place-place.ensures.value)
     (stands_kept stands c.in-Some.rep.owner c.index_mut-session.result.now c.hand_note.new.session peer is c.in_err-hand_note.ensures.err))
   where
     after : ℕ → State
@@ -98,7 +98,7 @@ pub returns-clause-stands : goal.returns-clause-stands
 returns-clause-stands c limits D stands =
     let is : c.index_mut-session.result.now ≡ get_or c.args.parts.now.sessions.items (c.in-Some.rep.owner - 1) c.index_mut-session.result.now = subst (λ (k : ℕ). c.index_mut-session.result.now ≡ get_or c.args.parts.now.sessions.items k c.index_mut-session.result.now) c.place-place.ensures.value c.index_mut-session.ensures.value in
     let sent = c.in_ok-hand_note.ensures in
-    subst (λ (k : ℕ). Stands c.args.here.now.space c.args.here.now.n limits (record {
+    subst (λ (k : ℕ). Stands c.args.parts.now.here.space c.args.parts.now.here.n limits (record {
       sessions = set c.args.parts.now.sessions.items k c.hand_note.new.session;
       table = c.forget.new.table;
       dirty = c.args.parts.now.dirty;
@@ -109,6 +109,6 @@ returns-clause-stands c limits D stands =
       jobs = c.args.parts.now.jobs_made;
     }) (did.Clean c.in-Some.rep ∷ D)) (sym c.place-place.ensures.value)
     (clean_stands stands c.in-Some.rep (c.in-Some.ensures {u = tt}) c.index_mut-session.result.now is c.hand_note.new.session c.forget.new.table c.in_ok-payload.payload.items c.in_ok-hand_note.field-0
-    (clean_is c.args.here.now.space c.args.here.now.n limits D c.in-Some.rep (returns-clause-answer c limits D stands)) c.in_ok-payload.ensures.spelled sent.number
-    (λ before. sent.answer c.args.here.now.space c.in-Some.rep.owner limits (calls_at c.in-Some.rep.owner (history_of c.args.here.now.space c.args.here.now.n D)) before)
+    (clean_is c.args.parts.now.here.space c.args.parts.now.here.n limits D c.in-Some.rep (returns-clause-answer c limits D stands)) c.in_ok-payload.ensures.spelled sent.number
+    (λ before. sent.answer c.args.parts.now.here.space c.in-Some.rep.owner limits (calls_at c.in-Some.rep.owner (history_of c.args.parts.now.here.space c.args.parts.now.here.n D)) before)
     c.forget.ensures.row c.forget.ensures.place c.forget.ensures.unkept c.forget.ensures.left)

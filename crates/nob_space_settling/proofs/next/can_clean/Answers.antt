@@ -16,7 +16,7 @@ first_spare-requires-clause-pinned c = pinned_there c.requires.2
 pub returns : goal.returns
 returns c limits D stands =
     c.is_some.ensures
-    ∙ elim c.first_spare.result as (λ found. MatchOption found (NoneSpareBelow (state_of c.args.parts.now) c.args.parts.now.table.dirties) (λ rep. IsFirstSpare (state_of c.args.parts.now) rep) → is_some found ≡ next.can_clean c.args.here.now.space c.args.here.now.n (history_of c.args.here.now.space c.args.here.now.n D)) [
+    ∙ elim c.first_spare.result as (λ found. MatchOption found (NoneSpareBelow (state_of c.args.parts.now) c.args.parts.now.table.dirties) (λ rep. IsFirstSpare (state_of c.args.parts.now) rep) → is_some found ≡ next.can_clean c.args.parts.now.here.space c.args.parts.now.here.n (history_of c.args.parts.now.here.space c.args.parts.now.here.n D)) [
       | Some rep ↦ λ first. sym (ap is_some (first_there stands rep first))
       | None ↦ λ nowhere. sym (ap is_some (none_there stands nowhere))
     ] c.first_spare.ensures

@@ -16,7 +16,7 @@ returns-in-Reply-clause-put c =
 
 pub returns-in_default : goal.returns-in_default
 returns-in_default c =
-    let other = other_put c.args.me c.args.message c.args.message.item c.args.lost (state_of c.args.parts.now).work c.in_default.not-Call c.in_default.not-Reply in
+    let other = other_put c.args.parts.now.here.space c.args.message c.args.message.item c.args.lost (state_of c.args.parts.now).work c.in_default.not-Call c.in_default.not-Reply in
     record {
       back = subst (GivesBack c.args.parts.now.table c.give_back_message.new.table) other.0 c.give_back_message.ensures;
       put = ap (λ W. with_work W c.args.parts.now.calls_made c.args.parts.now.jobs_made (with_table c.give_back_message.new.table (state_of c.args.parts.now))) other.1;

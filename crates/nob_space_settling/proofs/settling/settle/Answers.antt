@@ -15,13 +15,13 @@ use Rattle.nob_space_holds.specs.Returns.{HasLent, GivesBack}
 use Rattle.nob_space_state.specs.Stands.{Stands}
 use Rattle.nob_space_state.proofs.Calling.{peer_range}
 use Rattle.nob_space_state.proofs.Ends.{end_there, stands_kept}
-use Rattle.nob_space_state.proofs.Passing.{wants_as, after_error}
+use Rattle.nob_space_state.proofs.Passing.{same_space, wants_as, after_error}
 use Rattle.nob_space_state.proofs.Firsts.{some_same}
 use Rattle.nob_space_settling.specs.Settling.{has_lost, lost_call, given_count, loans_ended}
 use Rattle.nob_space_settling.proofs.Resolving.{message_sound, settle_none, settle_full, settle_right, settle_wants, some_given}
 use Rattle.nob_space_settling.proofs.Settleable.{is_settleable}
 use Rattle.nob_space_settling.proofs.Settlements.{settle_lent, settle_open, settle_stands, same_count, lost_numbered}
-use Rattle.nob_space_settling.proofs.Numbering.{number_there}
+use Rattle.nob_space_settling.proofs.Numbering.{number_there, settle_spelled}
 use Rattle.nob_space_settling.proofs.settling.settle.Goals as goal
 
 pub returns-in_default-clause-answer : goal.returns-in_default-clause-answer
@@ -30,7 +30,7 @@ returns-in_default-clause-answer c limits D stands = settle_none stands (sym c.f
 pub index-requires : goal.index-requires
 index-requires c =
     let seen : find (is_settleable (state_of c.args.parts.now)) c.args.parts.now.waiting.items ≡ Some c.in-Some.message.now = sym c.first_settleable.ensures ∙ ap option_copied c.in-Some.is in
-    let range = peer_range c.args.here.now.space c.args.here.now.n c.in-Some.message.now.from (message_sound c.requires.2 c.in-Some.message.now seen).peer in
+    let range = peer_range c.args.parts.now.here.space c.args.parts.now.here.n c.in-Some.message.now.from (message_sound c.requires.2 c.in-Some.message.now seen).peer in
     let each = c.requires.2.ends.each in
     let owner = c.place-at.ensures.value in
     omega (arith, range.0, range.1, each, owner)
@@ -39,17 +39,17 @@ pub returns-then-free_numbers-given_count-clause-answer : goal.returns-then-free
 returns-then-free_numbers-given_count-clause-answer c limits D stands =
     let seen : find (is_settleable (state_of c.args.parts.now)) c.args.parts.now.waiting.items ≡ Some c.in-Some.message.now = sym c.first_settleable.ensures ∙ ap option_copied c.in-Some.is in
     let looked : c.index.result.now ≡ get_or c.args.parts.now.sessions.items (c.in-Some.message.now.from - 1) c.index.result.now = subst (λ (k : ℕ). c.index.result.now ≡ get_or c.args.parts.now.sessions.items k c.index.result.now) c.place-at.ensures.value c.index.ensures in
-    let call : c.lost_call-call.result ≡ lost_call c.in-Some.message.now.item (has_lost c.args.here.now.space c.args.here.now.n (state_of c.args.parts.now) c.in-Some.message.now) = c.lost_call-call.ensures ∙ ap (lost_call c.in-Some.message.now.item) c.has_lost-lost.ensures in
-    let count : c.given_count.result ≡ given_count (lost_call c.in-Some.message.now.item (has_lost c.args.here.now.space c.args.here.now.n (state_of c.args.parts.now) c.in-Some.message.now)) = c.given_count.ensures ∙ ap given_count call in
+    let call : c.lost_call-call.result ≡ lost_call c.in-Some.message.now.item (has_lost c.args.parts.now.here.space c.args.parts.now.here.n (state_of c.args.parts.now) c.in-Some.message.now) = c.lost_call-call.ensures ∙ ap (lost_call c.in-Some.message.now.item) c.has_lost-lost.ensures in
+    let count : c.given_count.result ≡ given_count (lost_call c.in-Some.message.now.item (has_lost c.args.parts.now.here.space c.args.parts.now.here.n (state_of c.args.parts.now) c.in-Some.message.now)) = c.given_count.ensures ∙ ap given_count call in
     let numbers = c.free_numbers.ensures in
     let few = c.if-free_numbers-given_count.true in
     settle_full stands c.in-Some.message.now seen c.index.result.now looked (omega (arith, count, numbers, few))
 
-pub payload_of_settle-requires : goal.payload_of_settle-requires
-payload_of_settle-requires c =
+pub encode_note-requires : goal.encode_note-requires
+encode_note-requires c =
     let seen : find (is_settleable (state_of c.args.parts.now)) c.args.parts.now.waiting.items ≡ Some c.in-Some.message.now = sym c.first_settleable.ensures ∙ ap option_copied c.in-Some.is in
-    number_there c.args.here.now.space c.args.here.now.n c.requires.0 c.requires.1 (is_settleable (state_of c.args.parts.now)) c.in-Some.message.now c.requires.2.right
-    (ap (λ W. find (is_settleable (state_of c.args.parts.now)) W.waiting) (sym c.requires.2.work) ∙ seen)
+    settle_spelled c.in-Some.message.now.number (number_there c.args.parts.now.here.space c.args.parts.now.here.n c.requires.0 c.requires.1 (is_settleable (state_of c.args.parts.now)) c.in-Some.message.now c.requires.2.right
+    (ap (λ W. find (is_settleable (state_of c.args.parts.now)) W.waiting) (sym c.requires.2.work) ∙ seen))
 
 pub payload_if-requires : goal.payload_if-requires
 payload_if-requires c =
@@ -60,7 +60,7 @@ payload_if-requires c =
 pub index_mut-session-requires : goal.index_mut-session-requires
 index_mut-session-requires c =
     let seen : find (is_settleable (state_of c.args.parts.now)) c.args.parts.now.waiting.items ≡ Some c.in-Some.message.now = sym c.first_settleable.ensures ∙ ap option_copied c.in-Some.is in
-    let range = peer_range c.args.here.now.space c.args.here.now.n c.in-Some.message.now.from (message_sound c.requires.2 c.in-Some.message.now seen).peer in
+    let range = peer_range c.args.parts.now.here.space c.args.parts.now.here.n c.in-Some.message.now.from (message_sound c.requires.2 c.in-Some.message.now seen).peer in
     let each = c.requires.2.ends.each in
     let owner = c.place-at.ensures.value in
     omega (arith, range.0, range.1, each, owner)
@@ -69,45 +69,45 @@ pub hand_notes-requires-clause-open : goal.hand_notes-requires-clause-open
 hand_notes-requires-clause-open c =
     let seen : find (is_settleable (state_of c.args.parts.now)) c.args.parts.now.waiting.items ≡ Some c.in-Some.message.now = sym c.first_settleable.ensures ∙ ap option_copied c.in-Some.is in
     let looked : c.index.result.now ≡ get_or c.args.parts.now.sessions.items (c.in-Some.message.now.from - 1) c.index.result.now = subst (λ (k : ℕ). c.index.result.now ≡ get_or c.args.parts.now.sessions.items k c.index.result.now) c.place-at.ensures.value c.index.ensures in
-    let call : c.lost_call-call.result ≡ lost_call c.in-Some.message.now.item (has_lost c.args.here.now.space c.args.here.now.n (state_of c.args.parts.now) c.in-Some.message.now) = c.lost_call-call.ensures ∙ ap (lost_call c.in-Some.message.now.item) c.has_lost-lost.ensures in
-    let count : c.given_count.result ≡ given_count (lost_call c.in-Some.message.now.item (has_lost c.args.here.now.space c.args.here.now.n (state_of c.args.parts.now) c.in-Some.message.now)) = c.given_count.ensures ∙ ap given_count call in
+    let call : c.lost_call-call.result ≡ lost_call c.in-Some.message.now.item (has_lost c.args.parts.now.here.space c.args.parts.now.here.n (state_of c.args.parts.now) c.in-Some.message.now) = c.lost_call-call.ensures ∙ ap (lost_call c.in-Some.message.now.item) c.has_lost-lost.ensures in
+    let count : c.given_count.result ≡ given_count (lost_call c.in-Some.message.now.item (has_lost c.args.parts.now.here.space c.args.parts.now.here.n (state_of c.args.parts.now) c.in-Some.message.now)) = c.given_count.ensures ∙ ap given_count call in
     let numbers = c.free_numbers.ensures in
     let few = c.if-free_numbers-given_count.false in
-    let free : given_count (lost_call c.in-Some.message.now.item (has_lost c.args.here.now.space c.args.here.now.n (state_of c.args.parts.now) c.in-Some.message.now)) ≤ last_item - c.index.result.now.end.handed = omega (arith, count, numbers, few) in
+    let free : given_count (lost_call c.in-Some.message.now.item (has_lost c.args.parts.now.here.space c.args.parts.now.here.n (state_of c.args.parts.now) c.in-Some.message.now)) ≤ last_item - c.index.result.now.end.handed = omega (arith, count, numbers, few) in
     let is : c.index_mut-session.result.now ≡ get_or c.args.parts.now.sessions.items (c.in-Some.message.now.from - 1) c.index_mut-session.result.now = subst (λ (k : ℕ). c.index_mut-session.result.now ≡ get_or c.args.parts.now.sessions.items k c.index_mut-session.result.now) c.place-at.ensures.value c.index_mut-session.ensures.value in
     let peer = (message_sound c.requires.2 c.in-Some.message.now seen).peer in
-    let one = end_there c.args.here.now.space c.args.here.now.n c.requires.0 c.args.parts.now.sessions.items (history_of c.args.here.now.space c.args.here.now.n c.requires.1) c.in-Some.message.now.from c.index.result.now c.requires.2.ends peer looked in
-    let two = end_there c.args.here.now.space c.args.here.now.n c.requires.0 c.args.parts.now.sessions.items (history_of c.args.here.now.space c.args.here.now.n c.requires.1) c.in-Some.message.now.from c.index_mut-session.result.now c.requires.2.ends peer is in
+    let one = end_there c.args.parts.now.here.space c.args.parts.now.here.n c.requires.0 c.args.parts.now.sessions.items (history_of c.args.parts.now.here.space c.args.parts.now.here.n c.requires.1) c.in-Some.message.now.from c.index.result.now c.requires.2.ends peer looked in
+    let two = end_there c.args.parts.now.here.space c.args.parts.now.here.n c.requires.0 c.args.parts.now.sessions.items (history_of c.args.parts.now.here.space c.args.parts.now.here.n c.requires.1) c.in-Some.message.now.from c.index_mut-session.result.now c.requires.2.ends peer is in
     let same : c.index.result.now ≡ c.index_mut-session.result.now = some_same (sym one.1 ∙ two.1) in
-    let left : given_count (lost_call c.in-Some.message.now.item (has_lost c.args.here.now.space c.args.here.now.n (state_of c.args.parts.now) c.in-Some.message.now)) ≤ last_item - c.index_mut-session.result.now.end.handed = subst (λ (e : Roomy). given_count (lost_call c.in-Some.message.now.item (has_lost c.args.here.now.space c.args.here.now.n (state_of c.args.parts.now) c.in-Some.message.now)) ≤ last_item - e.end.handed) same free in
+    let left : given_count (lost_call c.in-Some.message.now.item (has_lost c.args.parts.now.here.space c.args.parts.now.here.n (state_of c.args.parts.now) c.in-Some.message.now)) ≤ last_item - c.index_mut-session.result.now.end.handed = subst (λ (e : Roomy). given_count (lost_call c.in-Some.message.now.item (has_lost c.args.parts.now.here.space c.args.parts.now.here.n (state_of c.args.parts.now) c.in-Some.message.now)) ≤ last_item - e.end.handed) same free in
     settle_open c.requires.2 c.in-Some.message.now seen c.index_mut-session.result.now is left
 
 pub hand_notes-requires-clause-free : goal.hand_notes-requires-clause-free
 hand_notes-requires-clause-free c =
     let seen : find (is_settleable (state_of c.args.parts.now)) c.args.parts.now.waiting.items ≡ Some c.in-Some.message.now = sym c.first_settleable.ensures ∙ ap option_copied c.in-Some.is in
     let looked : c.index.result.now ≡ get_or c.args.parts.now.sessions.items (c.in-Some.message.now.from - 1) c.index.result.now = subst (λ (k : ℕ). c.index.result.now ≡ get_or c.args.parts.now.sessions.items k c.index.result.now) c.place-at.ensures.value c.index.ensures in
-    let call : c.lost_call-call.result ≡ lost_call c.in-Some.message.now.item (has_lost c.args.here.now.space c.args.here.now.n (state_of c.args.parts.now) c.in-Some.message.now) = c.lost_call-call.ensures ∙ ap (lost_call c.in-Some.message.now.item) c.has_lost-lost.ensures in
-    let count : c.given_count.result ≡ given_count (lost_call c.in-Some.message.now.item (has_lost c.args.here.now.space c.args.here.now.n (state_of c.args.parts.now) c.in-Some.message.now)) = c.given_count.ensures ∙ ap given_count call in
+    let call : c.lost_call-call.result ≡ lost_call c.in-Some.message.now.item (has_lost c.args.parts.now.here.space c.args.parts.now.here.n (state_of c.args.parts.now) c.in-Some.message.now) = c.lost_call-call.ensures ∙ ap (lost_call c.in-Some.message.now.item) c.has_lost-lost.ensures in
+    let count : c.given_count.result ≡ given_count (lost_call c.in-Some.message.now.item (has_lost c.args.parts.now.here.space c.args.parts.now.here.n (state_of c.args.parts.now) c.in-Some.message.now)) = c.given_count.ensures ∙ ap given_count call in
     let numbers = c.free_numbers.ensures in
     let few = c.if-free_numbers-given_count.false in
-    let free : given_count (lost_call c.in-Some.message.now.item (has_lost c.args.here.now.space c.args.here.now.n (state_of c.args.parts.now) c.in-Some.message.now)) ≤ last_item - c.index.result.now.end.handed = omega (arith, count, numbers, few) in
+    let free : given_count (lost_call c.in-Some.message.now.item (has_lost c.args.parts.now.here.space c.args.parts.now.here.n (state_of c.args.parts.now) c.in-Some.message.now)) ≤ last_item - c.index.result.now.end.handed = omega (arith, count, numbers, few) in
     let is : c.index_mut-session.result.now ≡ get_or c.args.parts.now.sessions.items (c.in-Some.message.now.from - 1) c.index_mut-session.result.now = subst (λ (k : ℕ). c.index_mut-session.result.now ≡ get_or c.args.parts.now.sessions.items k c.index_mut-session.result.now) c.place-at.ensures.value c.index_mut-session.ensures.value in
     let peer = (message_sound c.requires.2 c.in-Some.message.now seen).peer in
-    let one = end_there c.args.here.now.space c.args.here.now.n c.requires.0 c.args.parts.now.sessions.items (history_of c.args.here.now.space c.args.here.now.n c.requires.1) c.in-Some.message.now.from c.index.result.now c.requires.2.ends peer looked in
-    let two = end_there c.args.here.now.space c.args.here.now.n c.requires.0 c.args.parts.now.sessions.items (history_of c.args.here.now.space c.args.here.now.n c.requires.1) c.in-Some.message.now.from c.index_mut-session.result.now c.requires.2.ends peer is in
+    let one = end_there c.args.parts.now.here.space c.args.parts.now.here.n c.requires.0 c.args.parts.now.sessions.items (history_of c.args.parts.now.here.space c.args.parts.now.here.n c.requires.1) c.in-Some.message.now.from c.index.result.now c.requires.2.ends peer looked in
+    let two = end_there c.args.parts.now.here.space c.args.parts.now.here.n c.requires.0 c.args.parts.now.sessions.items (history_of c.args.parts.now.here.space c.args.parts.now.here.n c.requires.1) c.in-Some.message.now.from c.index_mut-session.result.now c.requires.2.ends peer is in
     let same : c.index.result.now ≡ c.index_mut-session.result.now = some_same (sym one.1 ∙ two.1) in
-    let left : given_count (lost_call c.in-Some.message.now.item (has_lost c.args.here.now.space c.args.here.now.n (state_of c.args.parts.now) c.in-Some.message.now)) ≤ last_item - c.index_mut-session.result.now.end.handed = subst (λ (e : Roomy). given_count (lost_call c.in-Some.message.now.item (has_lost c.args.here.now.space c.args.here.now.n (state_of c.args.parts.now) c.in-Some.message.now)) ≤ last_item - e.end.handed) same free in
+    let left : given_count (lost_call c.in-Some.message.now.item (has_lost c.args.parts.now.here.space c.args.parts.now.here.n (state_of c.args.parts.now) c.in-Some.message.now)) ≤ last_item - c.index_mut-session.result.now.end.handed = subst (λ (e : Roomy). given_count (lost_call c.in-Some.message.now.item (has_lost c.args.parts.now.here.space c.args.parts.now.here.n (state_of c.args.parts.now) c.in-Some.message.now)) ≤ last_item - e.end.handed) same free in
     let replies = same_count _ _ c.in_ok-reply.reply c.lost_call-call.result c.in_ok-reply.ensures.spelled in
     let all = ap given_count call in
-    let some = some_given (lost_call c.in-Some.message.now.item (has_lost c.args.here.now.space c.args.here.now.n (state_of c.args.parts.now) c.in-Some.message.now)) in
+    let some = some_given (lost_call c.in-Some.message.now.item (has_lost c.args.parts.now.here.space c.args.parts.now.here.n (state_of c.args.parts.now) c.in-Some.message.now)) in
     omega (arith, left, replies, all, some)
 
 pub returns-in_err-hand_notes-clause-err : goal.returns-in_err-hand_notes-clause-err
 returns-in_err-hand_notes-clause-err c = after_error _ c.from_residual-in_err-hand_notes.result (λ limits D stands.
     let seen : find (is_settleable (state_of c.args.parts.now)) c.args.parts.now.waiting.items ≡ Some c.in-Some.message.now = sym c.first_settleable.ensures ∙ ap option_copied c.in-Some.is in
     let is : c.index_mut-session.result.now ≡ get_or c.args.parts.now.sessions.items (c.in-Some.message.now.from - 1) c.index_mut-session.result.now = subst (λ (k : ℕ). c.index_mut-session.result.now ≡ get_or c.args.parts.now.sessions.items k c.index_mut-session.result.now) c.place-at.ensures.value c.index_mut-session.ensures.value in
-    subst (λ (k : ℕ). Stands c.args.here.now.space c.args.here.now.n limits (after k work_then) D) (sym c.place-at.ensures.value)
-    (subst (λ (W : InHand). Stands c.args.here.now.space c.args.here.now.n limits (after (c.in-Some.message.now.from - 1) W) D) (sym work_same)
+    subst (λ (k : ℕ). Stands c.args.parts.now.here.space c.args.parts.now.here.n limits (after k work_then) D) (sym c.place-at.ensures.value)
+    (subst (λ (W : InHand). Stands c.args.parts.now.here.space c.args.parts.now.here.n limits (after (c.in-Some.message.now.from - 1) W) D) (sym work_same)
     (stands_kept stands c.in-Some.message.now.from c.index_mut-session.result.now c.hand_notes.new.session (message_sound stands c.in-Some.message.now seen).peer is c.in_err-hand_notes.ensures.err)))
   where
     work_then : InHand
@@ -134,18 +134,18 @@ put_settled-requires-clause-lent c =
     let seen : find (is_settleable (state_of c.args.parts.now)) c.args.parts.now.waiting.items ≡ Some c.in-Some.message.now = sym c.first_settleable.ensures ∙ ap option_copied c.in-Some.is in
     let taken : find (is_settleable (state_of c.args.parts.now)) c.args.parts.now.waiting.items ≡ Some c.in-Some-take_settleable.message = sym c.take_settleable.ensures.message ∙ c.in-Some-take_settleable.is in
     let one : c.in-Some.message.now ≡ c.in-Some-take_settleable.message = some_same (sym seen ∙ taken) in
-    let lost : c.has_lost-lost.result ≡ has_lost c.args.here.now.space c.args.here.now.n (state_of c.args.parts.now) c.in-Some-take_settleable.message = c.has_lost-lost.ensures ∙ ap (has_lost c.args.here.now.space c.args.here.now.n (state_of c.args.parts.now)) one in
-    subst (λ b. HasLent c.args.parts.now.table (loans_ended c.args.here.now.space c.in-Some-take_settleable.message c.in-Some-take_settleable.message.item b)) (sym lost) (settle_lent c.requires.2 c.in-Some-take_settleable.message taken)
+    let lost : c.has_lost-lost.result ≡ has_lost c.args.parts.now.here.space c.args.parts.now.here.n (state_of c.args.parts.now) c.in-Some-take_settleable.message = c.has_lost-lost.ensures ∙ ap (has_lost c.args.parts.now.here.space c.args.parts.now.here.n (state_of c.args.parts.now)) one in
+    subst (λ b. HasLent c.args.parts.now.table (loans_ended c.args.parts.now.here.space c.in-Some-take_settleable.message c.in-Some-take_settleable.message.item b)) (sym lost) (settle_lent c.requires.2 c.in-Some-take_settleable.message taken)
 
 pub returns-in_err-settle-clause-answer : goal.returns-in_err-settle-clause-answer
 returns-in_err-settle-clause-answer c limits D stands =
     let seen : find (is_settleable (state_of c.args.parts.now)) c.args.parts.now.waiting.items ≡ Some c.in-Some.message.now = sym c.first_settleable.ensures ∙ ap option_copied c.in-Some.is in
     let looked : c.index.result.now ≡ get_or c.args.parts.now.sessions.items (c.in-Some.message.now.from - 1) c.index.result.now = subst (λ (k : ℕ). c.index.result.now ≡ get_or c.args.parts.now.sessions.items k c.index.result.now) c.place-at.ensures.value c.index.ensures in
-    let call : c.lost_call-call.result ≡ lost_call c.in-Some.message.now.item (has_lost c.args.here.now.space c.args.here.now.n (state_of c.args.parts.now) c.in-Some.message.now) = c.lost_call-call.ensures ∙ ap (lost_call c.in-Some.message.now.item) c.has_lost-lost.ensures in
-    let count : c.given_count.result ≡ given_count (lost_call c.in-Some.message.now.item (has_lost c.args.here.now.space c.args.here.now.n (state_of c.args.parts.now) c.in-Some.message.now)) = c.given_count.ensures ∙ ap given_count call in
+    let call : c.lost_call-call.result ≡ lost_call c.in-Some.message.now.item (has_lost c.args.parts.now.here.space c.args.parts.now.here.n (state_of c.args.parts.now) c.in-Some.message.now) = c.lost_call-call.ensures ∙ ap (lost_call c.in-Some.message.now.item) c.has_lost-lost.ensures in
+    let count : c.given_count.result ≡ given_count (lost_call c.in-Some.message.now.item (has_lost c.args.parts.now.here.space c.args.parts.now.here.n (state_of c.args.parts.now) c.in-Some.message.now)) = c.given_count.ensures ∙ ap given_count call in
     let numbers = c.free_numbers.ensures in
     let few = c.if-free_numbers-given_count.false in
-    let free : given_count (lost_call c.in-Some.message.now.item (has_lost c.args.here.now.space c.args.here.now.n (state_of c.args.parts.now) c.in-Some.message.now)) ≤ last_item - c.index.result.now.end.handed = omega (arith, count, numbers, few) in
+    let free : given_count (lost_call c.in-Some.message.now.item (has_lost c.args.parts.now.here.space c.args.parts.now.here.n (state_of c.args.parts.now) c.in-Some.message.now)) ≤ last_item - c.index.result.now.end.handed = omega (arith, count, numbers, few) in
     wants_as _ c.from_residual.result _ c.from_residual.ensures.1
     (settle_wants stands c.in-Some.message.now seen c.index.result.now looked free (some_given _))
 
@@ -153,11 +153,11 @@ pub returns-in_err-reply-clause-answer : goal.returns-in_err-reply-clause-answer
 returns-in_err-reply-clause-answer c limits D stands =
     let seen : find (is_settleable (state_of c.args.parts.now)) c.args.parts.now.waiting.items ≡ Some c.in-Some.message.now = sym c.first_settleable.ensures ∙ ap option_copied c.in-Some.is in
     let looked : c.index.result.now ≡ get_or c.args.parts.now.sessions.items (c.in-Some.message.now.from - 1) c.index.result.now = subst (λ (k : ℕ). c.index.result.now ≡ get_or c.args.parts.now.sessions.items k c.index.result.now) c.place-at.ensures.value c.index.ensures in
-    let call : c.lost_call-call.result ≡ lost_call c.in-Some.message.now.item (has_lost c.args.here.now.space c.args.here.now.n (state_of c.args.parts.now) c.in-Some.message.now) = c.lost_call-call.ensures ∙ ap (lost_call c.in-Some.message.now.item) c.has_lost-lost.ensures in
-    let count : c.given_count.result ≡ given_count (lost_call c.in-Some.message.now.item (has_lost c.args.here.now.space c.args.here.now.n (state_of c.args.parts.now) c.in-Some.message.now)) = c.given_count.ensures ∙ ap given_count call in
+    let call : c.lost_call-call.result ≡ lost_call c.in-Some.message.now.item (has_lost c.args.parts.now.here.space c.args.parts.now.here.n (state_of c.args.parts.now) c.in-Some.message.now) = c.lost_call-call.ensures ∙ ap (lost_call c.in-Some.message.now.item) c.has_lost-lost.ensures in
+    let count : c.given_count.result ≡ given_count (lost_call c.in-Some.message.now.item (has_lost c.args.parts.now.here.space c.args.parts.now.here.n (state_of c.args.parts.now) c.in-Some.message.now)) = c.given_count.ensures ∙ ap given_count call in
     let numbers = c.free_numbers.ensures in
     let few = c.if-free_numbers-given_count.false in
-    let free : given_count (lost_call c.in-Some.message.now.item (has_lost c.args.here.now.space c.args.here.now.n (state_of c.args.parts.now) c.in-Some.message.now)) ≤ last_item - c.index.result.now.end.handed = omega (arith, count, numbers, few) in
+    let free : given_count (lost_call c.in-Some.message.now.item (has_lost c.args.parts.now.here.space c.args.parts.now.here.n (state_of c.args.parts.now) c.in-Some.message.now)) ≤ last_item - c.index.result.now.end.handed = omega (arith, count, numbers, few) in
     wants_as _ c.from_residual-in_err-reply.result _ c.from_residual-in_err-reply.ensures.1
     (settle_wants stands c.in-Some.message.now seen c.index.result.now looked free (some_given _))
 
@@ -165,11 +165,11 @@ pub returns-in_err-reserve_ready-clause-answer : goal.returns-in_err-reserve_rea
 returns-in_err-reserve_ready-clause-answer c limits D stands =
     let seen : find (is_settleable (state_of c.args.parts.now)) c.args.parts.now.waiting.items ≡ Some c.in-Some.message.now = sym c.first_settleable.ensures ∙ ap option_copied c.in-Some.is in
     let looked : c.index.result.now ≡ get_or c.args.parts.now.sessions.items (c.in-Some.message.now.from - 1) c.index.result.now = subst (λ (k : ℕ). c.index.result.now ≡ get_or c.args.parts.now.sessions.items k c.index.result.now) c.place-at.ensures.value c.index.ensures in
-    let call : c.lost_call-call.result ≡ lost_call c.in-Some.message.now.item (has_lost c.args.here.now.space c.args.here.now.n (state_of c.args.parts.now) c.in-Some.message.now) = c.lost_call-call.ensures ∙ ap (lost_call c.in-Some.message.now.item) c.has_lost-lost.ensures in
-    let count : c.given_count.result ≡ given_count (lost_call c.in-Some.message.now.item (has_lost c.args.here.now.space c.args.here.now.n (state_of c.args.parts.now) c.in-Some.message.now)) = c.given_count.ensures ∙ ap given_count call in
+    let call : c.lost_call-call.result ≡ lost_call c.in-Some.message.now.item (has_lost c.args.parts.now.here.space c.args.parts.now.here.n (state_of c.args.parts.now) c.in-Some.message.now) = c.lost_call-call.ensures ∙ ap (lost_call c.in-Some.message.now.item) c.has_lost-lost.ensures in
+    let count : c.given_count.result ≡ given_count (lost_call c.in-Some.message.now.item (has_lost c.args.parts.now.here.space c.args.parts.now.here.n (state_of c.args.parts.now) c.in-Some.message.now)) = c.given_count.ensures ∙ ap given_count call in
     let numbers = c.free_numbers.ensures in
     let few = c.if-free_numbers-given_count.false in
-    let free : given_count (lost_call c.in-Some.message.now.item (has_lost c.args.here.now.space c.args.here.now.n (state_of c.args.parts.now) c.in-Some.message.now)) ≤ last_item - c.index.result.now.end.handed = omega (arith, count, numbers, few) in
+    let free : given_count (lost_call c.in-Some.message.now.item (has_lost c.args.parts.now.here.space c.args.parts.now.here.n (state_of c.args.parts.now) c.in-Some.message.now)) ≤ last_item - c.index.result.now.end.handed = omega (arith, count, numbers, few) in
     wants_as _ c.from_residual-in_err-reserve_ready.result _ c.from_residual-in_err-reserve_ready.ensures.1
     (settle_wants stands c.in-Some.message.now seen c.index.result.now looked free (some_given _))
 
@@ -177,11 +177,11 @@ pub returns-in_err-reserve_replies-clause-answer : goal.returns-in_err-reserve_r
 returns-in_err-reserve_replies-clause-answer c limits D stands =
     let seen : find (is_settleable (state_of c.args.parts.now)) c.args.parts.now.waiting.items ≡ Some c.in-Some.message.now = sym c.first_settleable.ensures ∙ ap option_copied c.in-Some.is in
     let looked : c.index.result.now ≡ get_or c.args.parts.now.sessions.items (c.in-Some.message.now.from - 1) c.index.result.now = subst (λ (k : ℕ). c.index.result.now ≡ get_or c.args.parts.now.sessions.items k c.index.result.now) c.place-at.ensures.value c.index.ensures in
-    let call : c.lost_call-call.result ≡ lost_call c.in-Some.message.now.item (has_lost c.args.here.now.space c.args.here.now.n (state_of c.args.parts.now) c.in-Some.message.now) = c.lost_call-call.ensures ∙ ap (lost_call c.in-Some.message.now.item) c.has_lost-lost.ensures in
-    let count : c.given_count.result ≡ given_count (lost_call c.in-Some.message.now.item (has_lost c.args.here.now.space c.args.here.now.n (state_of c.args.parts.now) c.in-Some.message.now)) = c.given_count.ensures ∙ ap given_count call in
+    let call : c.lost_call-call.result ≡ lost_call c.in-Some.message.now.item (has_lost c.args.parts.now.here.space c.args.parts.now.here.n (state_of c.args.parts.now) c.in-Some.message.now) = c.lost_call-call.ensures ∙ ap (lost_call c.in-Some.message.now.item) c.has_lost-lost.ensures in
+    let count : c.given_count.result ≡ given_count (lost_call c.in-Some.message.now.item (has_lost c.args.parts.now.here.space c.args.parts.now.here.n (state_of c.args.parts.now) c.in-Some.message.now)) = c.given_count.ensures ∙ ap given_count call in
     let numbers = c.free_numbers.ensures in
     let few = c.if-free_numbers-given_count.false in
-    let free : given_count (lost_call c.in-Some.message.now.item (has_lost c.args.here.now.space c.args.here.now.n (state_of c.args.parts.now) c.in-Some.message.now)) ≤ last_item - c.index.result.now.end.handed = omega (arith, count, numbers, few) in
+    let free : given_count (lost_call c.in-Some.message.now.item (has_lost c.args.parts.now.here.space c.args.parts.now.here.n (state_of c.args.parts.now) c.in-Some.message.now)) ≤ last_item - c.index.result.now.end.handed = omega (arith, count, numbers, few) in
     wants_as _ c.from_residual-in_err-reserve_replies.result _ c.from_residual-in_err-reserve_replies.ensures.1
     (settle_wants stands c.in-Some.message.now seen c.index.result.now looked free (some_given _))
 
@@ -189,11 +189,11 @@ pub returns-in_err-hand_notes-clause-answer : goal.returns-in_err-hand_notes-cla
 returns-in_err-hand_notes-clause-answer c limits D stands =
     let seen : find (is_settleable (state_of c.args.parts.now)) c.args.parts.now.waiting.items ≡ Some c.in-Some.message.now = sym c.first_settleable.ensures ∙ ap option_copied c.in-Some.is in
     let looked : c.index.result.now ≡ get_or c.args.parts.now.sessions.items (c.in-Some.message.now.from - 1) c.index.result.now = subst (λ (k : ℕ). c.index.result.now ≡ get_or c.args.parts.now.sessions.items k c.index.result.now) c.place-at.ensures.value c.index.ensures in
-    let call : c.lost_call-call.result ≡ lost_call c.in-Some.message.now.item (has_lost c.args.here.now.space c.args.here.now.n (state_of c.args.parts.now) c.in-Some.message.now) = c.lost_call-call.ensures ∙ ap (lost_call c.in-Some.message.now.item) c.has_lost-lost.ensures in
-    let count : c.given_count.result ≡ given_count (lost_call c.in-Some.message.now.item (has_lost c.args.here.now.space c.args.here.now.n (state_of c.args.parts.now) c.in-Some.message.now)) = c.given_count.ensures ∙ ap given_count call in
+    let call : c.lost_call-call.result ≡ lost_call c.in-Some.message.now.item (has_lost c.args.parts.now.here.space c.args.parts.now.here.n (state_of c.args.parts.now) c.in-Some.message.now) = c.lost_call-call.ensures ∙ ap (lost_call c.in-Some.message.now.item) c.has_lost-lost.ensures in
+    let count : c.given_count.result ≡ given_count (lost_call c.in-Some.message.now.item (has_lost c.args.parts.now.here.space c.args.parts.now.here.n (state_of c.args.parts.now) c.in-Some.message.now)) = c.given_count.ensures ∙ ap given_count call in
     let numbers = c.free_numbers.ensures in
     let few = c.if-free_numbers-given_count.false in
-    let free : given_count (lost_call c.in-Some.message.now.item (has_lost c.args.here.now.space c.args.here.now.n (state_of c.args.parts.now) c.in-Some.message.now)) ≤ last_item - c.index.result.now.end.handed = omega (arith, count, numbers, few) in
+    let free : given_count (lost_call c.in-Some.message.now.item (has_lost c.args.parts.now.here.space c.args.parts.now.here.n (state_of c.args.parts.now) c.in-Some.message.now)) ≤ last_item - c.index.result.now.end.handed = omega (arith, count, numbers, few) in
     wants_as _ c.from_residual-in_err-hand_notes.result _ c.from_residual-in_err-hand_notes.ensures.1
     (settle_wants stands c.in-Some.message.now seen c.index.result.now looked free (some_given _))
 
@@ -201,33 +201,33 @@ pub returns-clause-answer : goal.returns-clause-answer
 returns-clause-answer c limits D stands =
     let seen : find (is_settleable (state_of c.args.parts.now)) c.args.parts.now.waiting.items ≡ Some c.in-Some.message.now = sym c.first_settleable.ensures ∙ ap option_copied c.in-Some.is in
     let looked : c.index.result.now ≡ get_or c.args.parts.now.sessions.items (c.in-Some.message.now.from - 1) c.index.result.now = subst (λ (k : ℕ). c.index.result.now ≡ get_or c.args.parts.now.sessions.items k c.index.result.now) c.place-at.ensures.value c.index.ensures in
-    let call : c.lost_call-call.result ≡ lost_call c.in-Some.message.now.item (has_lost c.args.here.now.space c.args.here.now.n (state_of c.args.parts.now) c.in-Some.message.now) = c.lost_call-call.ensures ∙ ap (lost_call c.in-Some.message.now.item) c.has_lost-lost.ensures in
-    let count : c.given_count.result ≡ given_count (lost_call c.in-Some.message.now.item (has_lost c.args.here.now.space c.args.here.now.n (state_of c.args.parts.now) c.in-Some.message.now)) = c.given_count.ensures ∙ ap given_count call in
+    let call : c.lost_call-call.result ≡ lost_call c.in-Some.message.now.item (has_lost c.args.parts.now.here.space c.args.parts.now.here.n (state_of c.args.parts.now) c.in-Some.message.now) = c.lost_call-call.ensures ∙ ap (lost_call c.in-Some.message.now.item) c.has_lost-lost.ensures in
+    let count : c.given_count.result ≡ given_count (lost_call c.in-Some.message.now.item (has_lost c.args.parts.now.here.space c.args.parts.now.here.n (state_of c.args.parts.now) c.in-Some.message.now)) = c.given_count.ensures ∙ ap given_count call in
     let numbers = c.free_numbers.ensures in
     let few = c.if-free_numbers-given_count.false in
-    let free : given_count (lost_call c.in-Some.message.now.item (has_lost c.args.here.now.space c.args.here.now.n (state_of c.args.parts.now) c.in-Some.message.now)) ≤ last_item - c.index.result.now.end.handed = omega (arith, count, numbers, few) in
+    let free : given_count (lost_call c.in-Some.message.now.item (has_lost c.args.parts.now.here.space c.args.parts.now.here.n (state_of c.args.parts.now) c.in-Some.message.now)) ≤ last_item - c.index.result.now.end.handed = omega (arith, count, numbers, few) in
     settle_right stands c.in-Some.message.now seen c.index.result.now looked free (some_given _)
 
 pub returns-clause-stands : goal.returns-clause-stands
 returns-clause-stands c limits D stands =
     let seen : find (is_settleable (state_of c.args.parts.now)) c.args.parts.now.waiting.items ≡ Some c.in-Some.message.now = sym c.first_settleable.ensures ∙ ap option_copied c.in-Some.is in
     let looked : c.index.result.now ≡ get_or c.args.parts.now.sessions.items (c.in-Some.message.now.from - 1) c.index.result.now = subst (λ (k : ℕ). c.index.result.now ≡ get_or c.args.parts.now.sessions.items k c.index.result.now) c.place-at.ensures.value c.index.ensures in
-    let call : c.lost_call-call.result ≡ lost_call c.in-Some.message.now.item (has_lost c.args.here.now.space c.args.here.now.n (state_of c.args.parts.now) c.in-Some.message.now) = c.lost_call-call.ensures ∙ ap (lost_call c.in-Some.message.now.item) c.has_lost-lost.ensures in
-    let count : c.given_count.result ≡ given_count (lost_call c.in-Some.message.now.item (has_lost c.args.here.now.space c.args.here.now.n (state_of c.args.parts.now) c.in-Some.message.now)) = c.given_count.ensures ∙ ap given_count call in
+    let call : c.lost_call-call.result ≡ lost_call c.in-Some.message.now.item (has_lost c.args.parts.now.here.space c.args.parts.now.here.n (state_of c.args.parts.now) c.in-Some.message.now) = c.lost_call-call.ensures ∙ ap (lost_call c.in-Some.message.now.item) c.has_lost-lost.ensures in
+    let count : c.given_count.result ≡ given_count (lost_call c.in-Some.message.now.item (has_lost c.args.parts.now.here.space c.args.parts.now.here.n (state_of c.args.parts.now) c.in-Some.message.now)) = c.given_count.ensures ∙ ap given_count call in
     let numbers = c.free_numbers.ensures in
     let few = c.if-free_numbers-given_count.false in
-    let free : given_count (lost_call c.in-Some.message.now.item (has_lost c.args.here.now.space c.args.here.now.n (state_of c.args.parts.now) c.in-Some.message.now)) ≤ last_item - c.index.result.now.end.handed = omega (arith, count, numbers, few) in
+    let free : given_count (lost_call c.in-Some.message.now.item (has_lost c.args.parts.now.here.space c.args.parts.now.here.n (state_of c.args.parts.now) c.in-Some.message.now)) ≤ last_item - c.index.result.now.end.handed = omega (arith, count, numbers, few) in
     let is : c.index_mut-session.result.now ≡ get_or c.args.parts.now.sessions.items (c.in-Some.message.now.from - 1) c.index_mut-session.result.now = subst (λ (k : ℕ). c.index_mut-session.result.now ≡ get_or c.args.parts.now.sessions.items k c.index_mut-session.result.now) c.place-at.ensures.value c.index_mut-session.ensures.value in
     let peer = (message_sound c.requires.2 c.in-Some.message.now seen).peer in
-    let one = end_there c.args.here.now.space c.args.here.now.n c.requires.0 c.args.parts.now.sessions.items (history_of c.args.here.now.space c.args.here.now.n c.requires.1) c.in-Some.message.now.from c.index.result.now c.requires.2.ends peer looked in
-    let two = end_there c.args.here.now.space c.args.here.now.n c.requires.0 c.args.parts.now.sessions.items (history_of c.args.here.now.space c.args.here.now.n c.requires.1) c.in-Some.message.now.from c.index_mut-session.result.now c.requires.2.ends peer is in
+    let one = end_there c.args.parts.now.here.space c.args.parts.now.here.n c.requires.0 c.args.parts.now.sessions.items (history_of c.args.parts.now.here.space c.args.parts.now.here.n c.requires.1) c.in-Some.message.now.from c.index.result.now c.requires.2.ends peer looked in
+    let two = end_there c.args.parts.now.here.space c.args.parts.now.here.n c.requires.0 c.args.parts.now.sessions.items (history_of c.args.parts.now.here.space c.args.parts.now.here.n c.requires.1) c.in-Some.message.now.from c.index_mut-session.result.now c.requires.2.ends peer is in
     let same : c.index.result.now ≡ c.index_mut-session.result.now = some_same (sym one.1 ∙ two.1) in
-    let left : given_count (lost_call c.in-Some.message.now.item (has_lost c.args.here.now.space c.args.here.now.n (state_of c.args.parts.now) c.in-Some.message.now)) ≤ last_item - c.index_mut-session.result.now.end.handed = subst (λ (e : Roomy). given_count (lost_call c.in-Some.message.now.item (has_lost c.args.here.now.space c.args.here.now.n (state_of c.args.parts.now) c.in-Some.message.now)) ≤ last_item - e.end.handed) same free in
+    let left : given_count (lost_call c.in-Some.message.now.item (has_lost c.args.parts.now.here.space c.args.parts.now.here.n (state_of c.args.parts.now) c.in-Some.message.now)) ≤ last_item - c.index_mut-session.result.now.end.handed = subst (λ (e : Roomy). given_count (lost_call c.in-Some.message.now.item (has_lost c.args.parts.now.here.space c.args.parts.now.here.n (state_of c.args.parts.now) c.in-Some.message.now)) ≤ last_item - e.end.handed) same free in
     let taken : find (is_settleable (state_of c.args.parts.now)) c.args.parts.now.waiting.items ≡ Some c.in-Some-take_settleable.message = sym c.take_settleable.ensures.message ∙ c.in-Some-take_settleable.is in
     let one : c.in-Some-take_settleable.message ≡ c.in-Some.message.now = some_same (sym taken ∙ seen) in
     let reply = c.in_ok-reply.ensures.spelled in
-    subst (λ (after : State). Stands c.args.here.now.space c.args.here.now.n limits after (did.Settle c.in-Some.message.now.from c.in-Some.message.now.number ∷ D)) (sym c.put_settled.ensures.put)
-    (subst (λ (awaited : List WireRep). Stands c.args.here.now.space c.args.here.now.n limits (record {
+    same_space c.put_settled.new.parts.here c.args.parts.now.here c.put_settled.ensures.here (subst (λ (after : State). Stands c.args.parts.now.here.space c.args.parts.now.here.n limits after (did.Settle c.in-Some.message.now.from c.in-Some.message.now.number ∷ D)) (sym c.put_settled.ensures.put)
+    (subst (λ (awaited : List WireRep). Stands c.args.parts.now.here.space c.args.parts.now.here.n limits (record {
       sessions = set c.args.parts.now.sessions.items c.place-at.result c.hand_notes.new.session;
       table = c.put_settled.new.parts.table;
       dirty = c.args.parts.now.dirty;
@@ -237,7 +237,7 @@ returns-clause-stands c limits D stands =
       calls = c.args.parts.now.calls_made;
       jobs = c.args.parts.now.jobs_made;
     }) (did.Settle c.in-Some.message.now.from c.in-Some.message.now.number ∷ D)) (sym c.take_settleable.ensures.awaited)
-    (subst (λ (k : ℕ). Stands c.args.here.now.space c.args.here.now.n limits (record {
+    (subst (λ (k : ℕ). Stands c.args.parts.now.here.space c.args.parts.now.here.n limits (record {
       sessions = set c.args.parts.now.sessions.items k c.hand_notes.new.session;
       table = c.put_settled.new.parts.table;
       dirty = c.args.parts.now.dirty;
@@ -249,6 +249,6 @@ returns-clause-stands c limits D stands =
     }) (did.Settle c.in-Some.message.now.from c.in-Some.message.now.number ∷ D)) (sym c.place-at.ensures.value)
     (settle_stands stands c.in-Some.message.now seen c.index_mut-session.result.now is left c.hand_notes.new.session c.put_settled.new.parts.table _ c.in_ok-settle.settle.items (option_map (λ payload. payload.items) c.in_ok-reply.reply)
     c.in_ok-settle.ensures.spelled (reply ∙ ap (option_map _) call)
-    (λ before. c.in_ok-hand_notes.ensures.answer c.args.here.now.space c.in-Some.message.now.from limits (calls_at c.in-Some.message.now.from (history_of c.args.here.now.space c.args.here.now.n D)) before)
-    (subst (GivesBack c.args.parts.now.table c.put_settled.new.parts.table) (λ i. loans_ended c.args.here.now.space (one i) (one i).item (c.has_lost-lost.ensures i)) c.put_settled.ensures.back)
-    (λ i. after_settlement (one i) (one i).item (c.has_lost-lost.ensures i) (record { waiting = c.take_settleable.ensures.items i; ready = c.reserve_ready.ensures.ready i; running = c.reserve_ready.ensures.running i; replies = c.reserve_replies.ensures.replies i; calls = c.reserve_replies.ensures.calls i })))))
+    (λ before. c.in_ok-hand_notes.ensures.answer c.args.parts.now.here.space c.in-Some.message.now.from limits (calls_at c.in-Some.message.now.from (history_of c.args.parts.now.here.space c.args.parts.now.here.n D)) before)
+    (subst (GivesBack c.args.parts.now.table c.put_settled.new.parts.table) (λ i. loans_ended c.args.parts.now.here.space (one i) (one i).item (c.has_lost-lost.ensures i)) c.put_settled.ensures.back)
+    (λ i. after_settlement (one i) (one i).item (c.has_lost-lost.ensures i) (record { waiting = c.take_settleable.ensures.items i; ready = c.reserve_ready.ensures.ready i; running = c.reserve_ready.ensures.running i; replies = c.reserve_replies.ensures.replies i; calls = c.reserve_replies.ensures.calls i }))))))

@@ -7,4 +7,4 @@ use Rattle.nob_space.proofs.Owners.{owner_after}
 use Rattle.nob_space.proofs.space.Space.call.Goals as goal
 
 pub invariant_of-self-2 : goal.invariant_of-self-2
-invariant_of-self-2 c = owner_after (events.Call c.args.target.now c.args.method c.args.value.now) (answers.Called c.in_ok-call.call) (did.Call c.args.target.now c.args.method c.args.value.now c.in_ok-call.call) c.self.invariant.1 c.self.invariant.0 refl (c.in_ok-call.ensures.stands c.self.inside.limits (deeds c.self.invariant.1) c.self.invariant.2)
+invariant_of-self-2 c = owner_after (events.Call c.args.target.now c.args.method c.args.value.now) (answers.Called c.in_ok-call.call) (did.Call c.args.target.now c.args.method c.args.value.now c.in_ok-call.call) c.self.invariant.1 c.in_ok-call.ensures.here c.self.invariant.0 refl (c.in_ok-call.ensures.stands c.self.inside.limits (deeds c.self.invariant.1) c.self.invariant.2)

@@ -7,4 +7,4 @@ use Rattle.nob_space.proofs.Owners.{owner_after}
 use Rattle.nob_space.proofs.space.Space.claim.Goals as goal
 
 pub invariant_of-self-2 : goal.invariant_of-self-2
-invariant_of-self-2 c = owner_after (events.Claim) (answers.Job c.in_ok-job.job) (did.Claim c.in_ok-job.job) c.self.invariant.1 c.self.invariant.0 refl (c.in_ok-job.ensures.stands c.self.inside.limits (deeds c.self.invariant.1) c.self.invariant.2)
+invariant_of-self-2 c = owner_after (events.Claim) (answers.Job c.in_ok-job.job) (did.Claim c.in_ok-job.job) c.self.invariant.1 c.in_ok-job.ensures.here c.self.invariant.0 refl (c.in_ok-job.ensures.stands c.self.inside.limits (deeds c.self.invariant.1) c.self.invariant.2)

@@ -7,4 +7,4 @@ use Rattle.nob_space.proofs.Owners.{owner_after}
 use Rattle.nob_space.proofs.space.Space.clean.Goals as goal
 
 pub invariant_of-self-2 : goal.invariant_of-self-2
-invariant_of-self-2 c = owner_after (events.Clean) (answers.Cleaned c.in_ok-rep.rep) (did.Clean c.in_ok-rep.rep) c.self.invariant.1 c.self.invariant.0 refl (c.in_ok-rep.ensures.stands c.self.inside.limits (deeds c.self.invariant.1) c.self.invariant.2)
+invariant_of-self-2 c = owner_after (events.Clean) (answers.Cleaned c.in_ok-rep.rep) (did.Clean c.in_ok-rep.rep) c.self.invariant.1 c.in_ok-rep.ensures.here c.self.invariant.0 refl (c.in_ok-rep.ensures.stands c.self.inside.limits (deeds c.self.invariant.1) c.self.invariant.2)

@@ -7,4 +7,4 @@ use Rattle.nob_space.proofs.Owners.{owner_after}
 use Rattle.nob_space.proofs.space.Space.settle.Goals as goal
 
 pub invariant_of-self-2 : goal.invariant_of-self-2
-invariant_of-self-2 c = owner_after (events.Settle) (answers.Settled c.in_ok-settled.settled.peer c.in_ok-settled.settled.item) (did.Settle c.in_ok-settled.settled.peer c.in_ok-settled.settled.item) c.self.invariant.1 c.self.invariant.0 refl (c.in_ok-settled.ensures.stands c.self.inside.limits (deeds c.self.invariant.1) c.self.invariant.2)
+invariant_of-self-2 c = owner_after (events.Settle) (answers.Settled c.in_ok-settled.settled.peer c.in_ok-settled.settled.item) (did.Settle c.in_ok-settled.settled.peer c.in_ok-settled.settled.item) c.self.invariant.1 c.in_ok-settled.ensures.here c.self.invariant.0 refl (c.in_ok-settled.ensures.stands c.self.inside.limits (deeds c.self.invariant.1) c.self.invariant.2)

@@ -6,4 +6,4 @@ use Rattle.nob_space.proofs.Owners.{owner_after, take_did}
 use Rattle.nob_space.proofs.space.Space.take_reply.Goals as goal
 
 pub invariant_of-self-2 : goal.invariant_of-self-2
-invariant_of-self-2 c = owner_after (events.TakeReply c.args.call) (answer_of c.in_ok-brought.brought) (taking.deed_of c.args.call c.in_ok-brought.brought) c.self.invariant.1 c.self.invariant.0 (take_did c.args.call c.in_ok-brought.brought) (c.in_ok-brought.ensures.stands c.self.inside.limits (deeds c.self.invariant.1) c.self.invariant.2)
+invariant_of-self-2 c = owner_after (events.TakeReply c.args.call) (answer_of c.in_ok-brought.brought) (taking.deed_of c.args.call c.in_ok-brought.brought) c.self.invariant.1 c.in_ok-brought.ensures.here c.self.invariant.0 (take_did c.args.call c.in_ok-brought.brought) (c.in_ok-brought.ensures.stands c.self.inside.limits (deeds c.self.invariant.1) c.self.invariant.2)

@@ -20,6 +20,7 @@ use Rattle.nob_space_state.proofs.Arrivals.{arrive_elsewhere, arrive_of_none, ar
 use Rattle.nob_space_state.proofs.Closings.{vain_lent, ended_stands}
 use Rattle.nob_space_state.proofs.Ends.{at_peer, end_there, stands_kept, arrive_is_still, arrive_calls, called_stands}
 use Rattle.nob_space_state.proofs.Orderly.{arrive_is, arrive_close_is}
+use Rattle.nob_space_state.proofs.Passing.{same_space}
 use Rattle.nob_space_state.proofs.parts.Parts.arrive.Goals as goal
 
 pub returns-then-ne-clause-answer : goal.returns-then-ne-clause-answer
@@ -33,62 +34,62 @@ close_down-requires c = vain_lent c.requires.2 c.in-Ok-Closed.closed.peer
 
 pub unreachable-requires : goal.unreachable-requires
 unreachable-requires c =
-    let here : c.args.frame.now.to == c.args.here.now.space ≡ true = not_not _ (sym c.ne.ensures ∙ c.if-ne.false) in
-    let peer : is_peer c.args.here.now.space c.args.here.now.n c.args.frame.now.from ≡ true = sym c.is_peer.ensures ∙ c.if-not-is_peer.false in
+    let here : c.args.frame.now.to == c.args.self.now.here.space ≡ true = not_not _ (sym c.ne.ensures ∙ c.if-ne.false) in
+    let peer : is_peer c.args.self.now.here.space c.args.self.now.here.n c.args.frame.now.from ≡ true = sym c.is_peer.ensures ∙ c.if-not-is_peer.false in
     let is = at_peer c.args.self.now.sessions.items c.place.result c.args.frame.now.from c.index_mut.result.now c.place.ensures.value c.index_mut.ensures.value in
-    let there = end_there c.args.here.now.space c.args.here.now.n c.requires.0 c.args.self.now.sessions.items (history_of c.args.here.now.space c.args.here.now.n c.requires.1) c.args.frame.now.from c.index_mut.result.now c.requires.2.ends peer is in
-    never_strange c.args.here.now.space c.args.frame.now (calls_at c.args.frame.now.from (history_of c.args.here.now.space c.args.here.now.n c.requires.1)) c.in-Err-Refused.field-0-0 here (subst (λ e. Answered arrived_of (Err e) (λ answer. IsRight c.args.here.now.space c.args.frame.now.from c.requires.0 (ends.Arrive c.args.frame.now answer) (calls_at c.args.frame.now.from (history_of c.args.here.now.space c.args.here.now.n c.requires.1)) × session.Stands c.args.here.now.space c.args.frame.now.from c.requires.0 c.arrive.new.self.end (ends.Arrive c.args.frame.now answer ∷ (calls_at c.args.frame.now.from (history_of c.args.here.now.space c.args.here.now.n c.requires.1))))) c.in-Err-Refused.field-0-is ((c.in-Err-Refused.ensures {u = tt}).answer c.args.here.now.space c.args.frame.now.from c.requires.0 (calls_at c.args.frame.now.from (history_of c.args.here.now.space c.args.here.now.n c.requires.1)) there.2)).0
+    let there = end_there c.args.self.now.here.space c.args.self.now.here.n c.requires.0 c.args.self.now.sessions.items (history_of c.args.self.now.here.space c.args.self.now.here.n c.requires.1) c.args.frame.now.from c.index_mut.result.now c.requires.2.ends peer is in
+    never_strange c.args.self.now.here.space c.args.frame.now (calls_at c.args.frame.now.from (history_of c.args.self.now.here.space c.args.self.now.here.n c.requires.1)) c.in-Err-Refused.field-0-0 here (subst (λ e. Answered arrived_of (Err e) (λ answer. IsRight c.args.self.now.here.space c.args.frame.now.from c.requires.0 (ends.Arrive c.args.frame.now answer) (calls_at c.args.frame.now.from (history_of c.args.self.now.here.space c.args.self.now.here.n c.requires.1)) × session.Stands c.args.self.now.here.space c.args.frame.now.from c.requires.0 c.arrive.new.self.end (ends.Arrive c.args.frame.now answer ∷ (calls_at c.args.frame.now.from (history_of c.args.self.now.here.space c.args.self.now.here.n c.requires.1))))) c.in-Err-Refused.field-0-is ((c.in-Err-Refused.ensures {u = tt}).answer c.args.self.now.here.space c.args.frame.now.from c.requires.0 (calls_at c.args.frame.now.from (history_of c.args.self.now.here.space c.args.self.now.here.n c.requires.1)) there.2)).0
 
 pub returns-in-Ok-Took-clause-answer : goal.returns-in-Ok-Took-clause-answer
 returns-in-Ok-Took-clause-answer c limits D stands =
-    let here : c.args.frame.now.to == c.args.here.now.space ≡ true = not_not _ (sym c.ne.ensures ∙ c.if-ne.false) in
-    let peer : is_peer c.args.here.now.space c.args.here.now.n c.args.frame.now.from ≡ true = sym c.is_peer.ensures ∙ c.if-not-is_peer.false in
+    let here : c.args.frame.now.to == c.args.self.now.here.space ≡ true = not_not _ (sym c.ne.ensures ∙ c.if-ne.false) in
+    let peer : is_peer c.args.self.now.here.space c.args.self.now.here.n c.args.frame.now.from ≡ true = sym c.is_peer.ensures ∙ c.if-not-is_peer.false in
     let is = at_peer c.args.self.now.sessions.items c.place.result c.args.frame.now.from c.index_mut.result.now c.place.ensures.value c.index_mut.ensures.value in
-    let there = end_there c.args.here.now.space c.args.here.now.n limits c.args.self.now.sessions.items (history_of c.args.here.now.space c.args.here.now.n D) c.args.frame.now.from c.index_mut.result.now stands.ends peer is in
-    arrive_told _ _ _ _ here peer ∙ ap arrival_of (sym (subst (λ a. IsRight c.args.here.now.space c.args.frame.now.from limits (ends.Arrive c.args.frame.now (Ok (arrived_of a))) (calls_at c.args.frame.now.from (history_of c.args.here.now.space c.args.here.now.n D)) × session.Stands c.args.here.now.space c.args.frame.now.from limits c.arrive.new.self.end (ends.Arrive c.args.frame.now (Ok (arrived_of a)) ∷ (calls_at c.args.frame.now.from (history_of c.args.here.now.space c.args.here.now.n D)))) c.in-Ok-Took.field-0-is ((c.in-Ok-Took.ensures {u = tt}).answer c.args.here.now.space c.args.frame.now.from limits (calls_at c.args.frame.now.from (history_of c.args.here.now.space c.args.here.now.n D)) there.2)).0)
+    let there = end_there c.args.self.now.here.space c.args.self.now.here.n limits c.args.self.now.sessions.items (history_of c.args.self.now.here.space c.args.self.now.here.n D) c.args.frame.now.from c.index_mut.result.now stands.ends peer is in
+    arrive_told _ _ _ _ here peer ∙ ap arrival_of (sym (subst (λ a. IsRight c.args.self.now.here.space c.args.frame.now.from limits (ends.Arrive c.args.frame.now (Ok (arrived_of a))) (calls_at c.args.frame.now.from (history_of c.args.self.now.here.space c.args.self.now.here.n D)) × session.Stands c.args.self.now.here.space c.args.frame.now.from limits c.arrive.new.self.end (ends.Arrive c.args.frame.now (Ok (arrived_of a)) ∷ (calls_at c.args.frame.now.from (history_of c.args.self.now.here.space c.args.self.now.here.n D)))) c.in-Ok-Took.field-0-is ((c.in-Ok-Took.ensures {u = tt}).answer c.args.self.now.here.space c.args.frame.now.from limits (calls_at c.args.frame.now.from (history_of c.args.self.now.here.space c.args.self.now.here.n D)) there.2)).0)
 
 pub returns-in-Ok-Took-clause-stands : goal.returns-in-Ok-Took-clause-stands
 returns-in-Ok-Took-clause-stands c limits D stands =
-    let here : c.args.frame.now.to == c.args.here.now.space ≡ true = not_not _ (sym c.ne.ensures ∙ c.if-ne.false) in
-    let peer : is_peer c.args.here.now.space c.args.here.now.n c.args.frame.now.from ≡ true = sym c.is_peer.ensures ∙ c.if-not-is_peer.false in
+    let here : c.args.frame.now.to == c.args.self.now.here.space ≡ true = not_not _ (sym c.ne.ensures ∙ c.if-ne.false) in
+    let peer : is_peer c.args.self.now.here.space c.args.self.now.here.n c.args.frame.now.from ≡ true = sym c.is_peer.ensures ∙ c.if-not-is_peer.false in
     let is = at_peer c.args.self.now.sessions.items c.place.result c.args.frame.now.from c.index_mut.result.now c.place.ensures.value c.index_mut.ensures.value in
-    let there = end_there c.args.here.now.space c.args.here.now.n limits c.args.self.now.sessions.items (history_of c.args.here.now.space c.args.here.now.n D) c.args.frame.now.from c.index_mut.result.now stands.ends peer is in
-    subst (λ (k : ℕ). Stands c.args.here.now.space c.args.here.now.n limits (with_sessions (set c.args.self.now.sessions.items k c.arrive.new.self) (state_of c.args.self.now)) (did.Arrive c.args.frame.now c.in-Ok-Took.count ∷ D)) (sym c.place.ensures.value)
-    (called_stands stands c.args.frame.now.from c.index_mut.result.now c.arrive.new.self peer is (did.Arrive c.args.frame.now c.in-Ok-Took.count) (ends.Arrive c.args.frame.now (Ok (arrived.Took c.in-Ok-Took.count))) (arrive_is_still c.args.here.now.space c.args.here.now.n c.args.frame.now c.in-Ok-Took.count D) (arrive_calls c.args.here.now.space c.args.here.now.n c.args.frame.now c.in-Ok-Took.count D)
-    (arrive_is c.args.here.now.space c.args.here.now.n limits D c.args.frame.now c.in-Ok-Took.count (returns-in-Ok-Took-clause-answer c limits D stands))
-    (subst (λ a. IsRight c.args.here.now.space c.args.frame.now.from limits (ends.Arrive c.args.frame.now (Ok (arrived_of a))) (calls_at c.args.frame.now.from (history_of c.args.here.now.space c.args.here.now.n D)) × session.Stands c.args.here.now.space c.args.frame.now.from limits c.arrive.new.self.end (ends.Arrive c.args.frame.now (Ok (arrived_of a)) ∷ (calls_at c.args.frame.now.from (history_of c.args.here.now.space c.args.here.now.n D)))) c.in-Ok-Took.field-0-is ((c.in-Ok-Took.ensures {u = tt}).answer c.args.here.now.space c.args.frame.now.from limits (calls_at c.args.frame.now.from (history_of c.args.here.now.space c.args.here.now.n D)) there.2)).1)
+    let there = end_there c.args.self.now.here.space c.args.self.now.here.n limits c.args.self.now.sessions.items (history_of c.args.self.now.here.space c.args.self.now.here.n D) c.args.frame.now.from c.index_mut.result.now stands.ends peer is in
+    subst (λ (k : ℕ). Stands c.args.self.now.here.space c.args.self.now.here.n limits (with_sessions (set c.args.self.now.sessions.items k c.arrive.new.self) (state_of c.args.self.now)) (did.Arrive c.args.frame.now c.in-Ok-Took.count ∷ D)) (sym c.place.ensures.value)
+    (called_stands stands c.args.frame.now.from c.index_mut.result.now c.arrive.new.self peer is (did.Arrive c.args.frame.now c.in-Ok-Took.count) (ends.Arrive c.args.frame.now (Ok (arrived.Took c.in-Ok-Took.count))) (arrive_is_still c.args.self.now.here.space c.args.self.now.here.n c.args.frame.now c.in-Ok-Took.count D) (arrive_calls c.args.self.now.here.space c.args.self.now.here.n c.args.frame.now c.in-Ok-Took.count D)
+    (arrive_is c.args.self.now.here.space c.args.self.now.here.n limits D c.args.frame.now c.in-Ok-Took.count (returns-in-Ok-Took-clause-answer c limits D stands))
+    (subst (λ a. IsRight c.args.self.now.here.space c.args.frame.now.from limits (ends.Arrive c.args.frame.now (Ok (arrived_of a))) (calls_at c.args.frame.now.from (history_of c.args.self.now.here.space c.args.self.now.here.n D)) × session.Stands c.args.self.now.here.space c.args.frame.now.from limits c.arrive.new.self.end (ends.Arrive c.args.frame.now (Ok (arrived_of a)) ∷ (calls_at c.args.frame.now.from (history_of c.args.self.now.here.space c.args.self.now.here.n D)))) c.in-Ok-Took.field-0-is ((c.in-Ok-Took.ensures {u = tt}).answer c.args.self.now.here.space c.args.frame.now.from limits (calls_at c.args.frame.now.from (history_of c.args.self.now.here.space c.args.self.now.here.n D)) there.2)).1)
 
 pub returns-in-Ok-Closed-clause-answer : goal.returns-in-Ok-Closed-clause-answer
 returns-in-Ok-Closed-clause-answer c limits D stands =
-    let here : c.args.frame.now.to == c.args.here.now.space ≡ true = not_not _ (sym c.ne.ensures ∙ c.if-ne.false) in
-    let peer : is_peer c.args.here.now.space c.args.here.now.n c.args.frame.now.from ≡ true = sym c.is_peer.ensures ∙ c.if-not-is_peer.false in
+    let here : c.args.frame.now.to == c.args.self.now.here.space ≡ true = not_not _ (sym c.ne.ensures ∙ c.if-ne.false) in
+    let peer : is_peer c.args.self.now.here.space c.args.self.now.here.n c.args.frame.now.from ≡ true = sym c.is_peer.ensures ∙ c.if-not-is_peer.false in
     let is = at_peer c.args.self.now.sessions.items c.place.result c.args.frame.now.from c.index_mut.result.now c.place.ensures.value c.index_mut.ensures.value in
-    let there = end_there c.args.here.now.space c.args.here.now.n limits c.args.self.now.sessions.items (history_of c.args.here.now.space c.args.here.now.n D) c.args.frame.now.from c.index_mut.result.now stands.ends peer is in
-    arrive_told _ _ _ _ here peer ∙ ap arrival_of (sym (subst (λ a. IsRight c.args.here.now.space c.args.frame.now.from limits (ends.Arrive c.args.frame.now (Ok (arrived_of a))) (calls_at c.args.frame.now.from (history_of c.args.here.now.space c.args.here.now.n D)) × session.Stands c.args.here.now.space c.args.frame.now.from limits c.arrive.new.self.end (ends.Arrive c.args.frame.now (Ok (arrived_of a)) ∷ (calls_at c.args.frame.now.from (history_of c.args.here.now.space c.args.here.now.n D)))) c.in-Ok-Closed.field-0-is ((c.in-Ok-Closed.ensures {u = tt}).answer c.args.here.now.space c.args.frame.now.from limits (calls_at c.args.frame.now.from (history_of c.args.here.now.space c.args.here.now.n D)) there.2)).0) ∙ ap (λ reason. Ok (answers.Closed reason)) (sym c.reason.ensures)
+    let there = end_there c.args.self.now.here.space c.args.self.now.here.n limits c.args.self.now.sessions.items (history_of c.args.self.now.here.space c.args.self.now.here.n D) c.args.frame.now.from c.index_mut.result.now stands.ends peer is in
+    arrive_told _ _ _ _ here peer ∙ ap arrival_of (sym (subst (λ a. IsRight c.args.self.now.here.space c.args.frame.now.from limits (ends.Arrive c.args.frame.now (Ok (arrived_of a))) (calls_at c.args.frame.now.from (history_of c.args.self.now.here.space c.args.self.now.here.n D)) × session.Stands c.args.self.now.here.space c.args.frame.now.from limits c.arrive.new.self.end (ends.Arrive c.args.frame.now (Ok (arrived_of a)) ∷ (calls_at c.args.frame.now.from (history_of c.args.self.now.here.space c.args.self.now.here.n D)))) c.in-Ok-Closed.field-0-is ((c.in-Ok-Closed.ensures {u = tt}).answer c.args.self.now.here.space c.args.frame.now.from limits (calls_at c.args.frame.now.from (history_of c.args.self.now.here.space c.args.self.now.here.n D)) there.2)).0) ∙ ap (λ reason. Ok (answers.Closed reason)) (sym c.reason.ensures)
 
 pub returns-in-Ok-Closed-clause-stands : goal.returns-in-Ok-Closed-clause-stands
 returns-in-Ok-Closed-clause-stands c limits D stands =
-    let here : c.args.frame.now.to == c.args.here.now.space ≡ true = not_not _ (sym c.ne.ensures ∙ c.if-ne.false) in
-    let peer : is_peer c.args.here.now.space c.args.here.now.n c.args.frame.now.from ≡ true = sym c.is_peer.ensures ∙ c.if-not-is_peer.false in
+    let here : c.args.frame.now.to == c.args.self.now.here.space ≡ true = not_not _ (sym c.ne.ensures ∙ c.if-ne.false) in
+    let peer : is_peer c.args.self.now.here.space c.args.self.now.here.n c.args.frame.now.from ≡ true = sym c.is_peer.ensures ∙ c.if-not-is_peer.false in
     let is = at_peer c.args.self.now.sessions.items c.place.result c.args.frame.now.from c.index_mut.result.now c.place.ensures.value c.index_mut.ensures.value in
-    ended_stands stands c.args.frame.now.from c.reason.result (causes.Frame c.args.frame.now) (λ e. ends.Arrive c.args.frame.now (Ok (arrived.Closed e))) refl c.index_mut.result.now c.arrive.new.self (state_of c.close_down.new.self) c.in-Ok-Closed.closed peer is
+    same_space c.close_down.new.self.here c.args.self.now.here c.close_down.ensures.here (ended_stands stands c.args.frame.now.from c.reason.result (causes.Frame c.args.frame.now) (λ e. ends.Arrive c.args.frame.now (Ok (arrived.Closed e))) refl c.index_mut.result.now c.arrive.new.self (state_of c.close_down.new.self) c.in-Ok-Closed.closed peer is
     (sym c.reason.ensures) (subst (λ a. EndsBy c.index_mut.result.now.end c.arrive.new.self.end (evidence_of a)) c.in-Ok-Closed.field-0-is (c.in-Ok-Closed.ensures {u = tt}).ends).1
-    (λ before. (subst (λ a. IsRight c.args.here.now.space c.args.frame.now.from limits (ends.Arrive c.args.frame.now (Ok (arrived_of a))) (calls_at c.args.frame.now.from (history_of c.args.here.now.space c.args.here.now.n D)) × session.Stands c.args.here.now.space c.args.frame.now.from limits c.arrive.new.self.end (ends.Arrive c.args.frame.now (Ok (arrived_of a)) ∷ (calls_at c.args.frame.now.from (history_of c.args.here.now.space c.args.here.now.n D)))) c.in-Ok-Closed.field-0-is ((c.in-Ok-Closed.ensures {u = tt}).answer c.args.here.now.space c.args.frame.now.from limits (calls_at c.args.frame.now.from (history_of c.args.here.now.space c.args.here.now.n D)) before)).1)
-    (subst (λ (k : ℕ). ClosesDown c.args.here.now.space c.in-Ok-Closed.closed.peer (with_sessions (set c.args.self.now.sessions.items k c.arrive.new.self) (state_of c.args.self.now)) (state_of c.close_down.new.self)) c.place.ensures.value c.close_down.ensures)
-    (arrive_close_is c.args.here.now.space c.args.here.now.n limits D c.args.frame.now c.reason.result (returns-in-Ok-Closed-clause-answer c limits D stands))
+    (λ before. (subst (λ a. IsRight c.args.self.now.here.space c.args.frame.now.from limits (ends.Arrive c.args.frame.now (Ok (arrived_of a))) (calls_at c.args.frame.now.from (history_of c.args.self.now.here.space c.args.self.now.here.n D)) × session.Stands c.args.self.now.here.space c.args.frame.now.from limits c.arrive.new.self.end (ends.Arrive c.args.frame.now (Ok (arrived_of a)) ∷ (calls_at c.args.frame.now.from (history_of c.args.self.now.here.space c.args.self.now.here.n D)))) c.in-Ok-Closed.field-0-is ((c.in-Ok-Closed.ensures {u = tt}).answer c.args.self.now.here.space c.args.frame.now.from limits (calls_at c.args.frame.now.from (history_of c.args.self.now.here.space c.args.self.now.here.n D)) before)).1)
+    (subst (λ (k : ℕ). ClosesDown c.args.self.now.here.space c.in-Ok-Closed.closed.peer (with_sessions (set c.args.self.now.sessions.items k c.arrive.new.self) (state_of c.args.self.now)) (state_of c.close_down.new.self)) c.place.ensures.value c.close_down.ensures.closes)
+    (arrive_close_is c.args.self.now.here.space c.args.self.now.here.n limits D c.args.frame.now c.reason.result (returns-in-Ok-Closed-clause-answer c limits D stands)))
 
 pub returns-in-Err-OutOfMemory-clause-answer : goal.returns-in-Err-OutOfMemory-clause-answer
 returns-in-Err-OutOfMemory-clause-answer c limits D stands =
-    let here : c.args.frame.now.to == c.args.here.now.space ≡ true = not_not _ (sym c.ne.ensures ∙ c.if-ne.false) in
-    let peer : is_peer c.args.here.now.space c.args.here.now.n c.args.frame.now.from ≡ true = sym c.is_peer.ensures ∙ c.if-not-is_peer.false in
+    let here : c.args.frame.now.to == c.args.self.now.here.space ≡ true = not_not _ (sym c.ne.ensures ∙ c.if-ne.false) in
+    let peer : is_peer c.args.self.now.here.space c.args.self.now.here.n c.args.frame.now.from ≡ true = sym c.is_peer.ensures ∙ c.if-not-is_peer.false in
     let is = at_peer c.args.self.now.sessions.items c.place.result c.args.frame.now.from c.index_mut.result.now c.place.ensures.value c.index_mut.ensures.value in
-    let there = end_there c.args.here.now.space c.args.here.now.n limits c.args.self.now.sessions.items (history_of c.args.here.now.space c.args.here.now.n D) c.args.frame.now.from c.index_mut.result.now stands.ends peer is in
-    subst IsOk (sym (arrive_told _ _ _ _ here peer ∙ ap arrival_of ((c.in-Err-OutOfMemory.ensures {u = tt}).memory_last c.args.here.now.space c.args.frame.now.from limits (calls_at c.args.frame.now.from (history_of c.args.here.now.space c.args.here.now.n D)) there.2 (ap (λ e. Err e) c.in-Err-OutOfMemory.field-0-is)))) refl
+    let there = end_there c.args.self.now.here.space c.args.self.now.here.n limits c.args.self.now.sessions.items (history_of c.args.self.now.here.space c.args.self.now.here.n D) c.args.frame.now.from c.index_mut.result.now stands.ends peer is in
+    subst IsOk (sym (arrive_told _ _ _ _ here peer ∙ ap arrival_of ((c.in-Err-OutOfMemory.ensures {u = tt}).memory_last c.args.self.now.here.space c.args.frame.now.from limits (calls_at c.args.frame.now.from (history_of c.args.self.now.here.space c.args.self.now.here.n D)) there.2 (ap (λ e. Err e) c.in-Err-OutOfMemory.field-0-is)))) refl
 
 pub returns-in-Err-OutOfMemory-clause-err : goal.returns-in-Err-OutOfMemory-clause-err
 returns-in-Err-OutOfMemory-clause-err c limits D stands =
-    let here : c.args.frame.now.to == c.args.here.now.space ≡ true = not_not _ (sym c.ne.ensures ∙ c.if-ne.false) in
-    let peer : is_peer c.args.here.now.space c.args.here.now.n c.args.frame.now.from ≡ true = sym c.is_peer.ensures ∙ c.if-not-is_peer.false in
+    let here : c.args.frame.now.to == c.args.self.now.here.space ≡ true = not_not _ (sym c.ne.ensures ∙ c.if-ne.false) in
+    let peer : is_peer c.args.self.now.here.space c.args.self.now.here.n c.args.frame.now.from ≡ true = sym c.is_peer.ensures ∙ c.if-not-is_peer.false in
     let is = at_peer c.args.self.now.sessions.items c.place.result c.args.frame.now.from c.index_mut.result.now c.place.ensures.value c.index_mut.ensures.value in
-    subst (λ (k : ℕ). Stands c.args.here.now.space c.args.here.now.n limits (with_sessions (set c.args.self.now.sessions.items k c.arrive.new.self) (state_of c.args.self.now)) D) (sym c.place.ensures.value)
+    subst (λ (k : ℕ). Stands c.args.self.now.here.space c.args.self.now.here.n limits (with_sessions (set c.args.self.now.sessions.items k c.arrive.new.self) (state_of c.args.self.now)) D) (sym c.place.ensures.value)
     (stands_kept stands c.args.frame.now.from c.index_mut.result.now c.arrive.new.self peer is (c.in-Err-OutOfMemory.ensures {u = tt}).err)

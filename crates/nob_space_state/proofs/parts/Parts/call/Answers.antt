@@ -34,13 +34,13 @@ returns-in_err-refuse_call-clause-answer c limits D stands =
 
 pub overflow_add-self : goal.overflow_add-self
 overflow_add-self c =
-    let few = few_calls (state_of c.args.self.now) (call_judged c.args.here.now.space c.args.here.now.n (state_of c.args.self.now) c.args.target.now c.args.value.now c.in_ok-refuse_call.ensures).more in
+    let few = few_calls (state_of c.args.self.now) (call_judged c.args.self.now.here.space c.args.self.now.here.n (state_of c.args.self.now) c.args.target.now c.args.value.now c.in_ok-refuse_call.ensures).more in
     omega (arith, few)
 
 pub unreachable-requires : goal.unreachable-requires
 unreachable-requires c =
-    let judged = call_judged c.args.here.now.space c.args.here.now.n (state_of c.args.self.now) c.args.target.now c.args.value.now c.in_ok-refuse_call.ensures in
-    call_spelled c.args.here.now.space (state_of c.args.self.now) c.args.target.now.index c.args.method c.args.value.now c.in-Err-Fault.field-0-0 judged.fits judged.more
+    let judged = call_judged c.args.self.now.here.space c.args.self.now.here.n (state_of c.args.self.now) c.args.target.now c.args.value.now c.in_ok-refuse_call.ensures in
+    call_spelled c.args.self.now.here.space (state_of c.args.self.now) c.args.target.now.index c.args.method c.args.value.now c.in-Err-Fault.field-0-0 judged.fits judged.more
     (subst (λ (k : ℕ). bytes_of (items.Call k c.args.target.now.index c.args.method c.args.value.now) ≡ Err c.in-Err-Fault.field-0-0) c.new-call.ensures
     (subst (λ e. Fails e (bytes_of (items.Call c.new-call.result c.args.target.now.index c.args.method c.args.value.now))) c.in-Err-Fault.field-0-is (c.in-Err-Fault.ensures {u = tt}).exact))
 
@@ -58,34 +58,34 @@ returns-in_err-hand-clause-answer c limits D stands = wants_as _ c.from_residual
 
 pub index_mut-session-requires : goal.index_mut-session-requires
 index_mut-session-requires c =
-    let judged = call_judged c.args.here.now.space c.args.here.now.n (state_of c.args.self.now) c.args.target.now c.args.value.now c.in_ok-refuse_call.ensures in
-    let range = peer_range c.args.here.now.space c.args.here.now.n c.args.target.now.owner judged.peer in
+    let judged = call_judged c.args.self.now.here.space c.args.self.now.here.n (state_of c.args.self.now) c.args.target.now c.args.value.now c.in_ok-refuse_call.ensures in
+    let range = peer_range c.args.self.now.here.space c.args.self.now.here.n c.args.target.now.owner judged.peer in
     let each = c.requires.2.ends.each in
     let peer = c.place.ensures.value in
     omega (arith, range.0, range.1, each, peer)
 
 pub hand-requires-clause-next : goal.hand-requires-clause-next
 hand-requires-clause-next c =
-    let judged = call_judged c.args.here.now.space c.args.here.now.n (state_of c.args.self.now) c.args.target.now c.args.value.now c.in_ok-refuse_call.ensures in
+    let judged = call_judged c.args.self.now.here.space c.args.self.now.here.n (state_of c.args.self.now) c.args.target.now c.args.value.now c.in_ok-refuse_call.ensures in
     let is : c.index_mut-session.result.now ≡ get_or c.args.self.now.sessions.items (c.args.target.now.owner - 1) c.index_mut-session.result.now = subst (λ k. c.index_mut-session.result.now ≡ get_or c.args.self.now.sessions.items k c.index_mut-session.result.now) c.place.ensures.value c.index_mut-session.ensures.value in
-    let there = end_there c.args.here.now.space c.args.here.now.n c.requires.0 c.args.self.now.sessions.items (history_of c.args.here.now.space c.args.here.now.n c.requires.1) c.args.target.now.owner c.index_mut-session.result.now c.requires.2.ends judged.peer is in
+    let there = end_there c.args.self.now.here.space c.args.self.now.here.n c.requires.0 c.args.self.now.sessions.items (history_of c.args.self.now.here.space c.args.self.now.here.n c.requires.1) c.args.target.now.owner c.index_mut-session.result.now c.requires.2.ends judged.peer is in
     next_free c.args.target.now.owner Limited (state_of c.args.self.now) c.index_mut-session.result.now there.0 there.1 judged.free
 
 pub hand-requires-clause-new : goal.hand-requires-clause-new
 hand-requires-clause-new c =
-    let judged = call_judged c.args.here.now.space c.args.here.now.n (state_of c.args.self.now) c.args.target.now c.args.value.now c.in_ok-refuse_call.ensures in
+    let judged = call_judged c.args.self.now.here.space c.args.self.now.here.n (state_of c.args.self.now) c.args.target.now c.args.value.now c.in_ok-refuse_call.ensures in
     let is : c.index_mut-session.result.now ≡ get_or c.args.self.now.sessions.items (c.args.target.now.owner - 1) c.index_mut-session.result.now = subst (λ k. c.index_mut-session.result.now ≡ get_or c.args.self.now.sessions.items k c.index_mut-session.result.now) c.place.ensures.value c.index_mut-session.ensures.value in
-    let there = end_there c.args.here.now.space c.args.here.now.n c.requires.0 c.args.self.now.sessions.items (history_of c.args.here.now.space c.args.here.now.n c.requires.1) c.args.target.now.owner c.index_mut-session.result.now c.requires.2.ends judged.peer is in
+    let there = end_there c.args.self.now.here.space c.args.self.now.here.n c.requires.0 c.args.self.now.sessions.items (history_of c.args.self.now.here.space c.args.self.now.here.n c.requires.1) c.args.target.now.owner c.index_mut-session.result.now c.requires.2.ends judged.peer is in
     next_unpinned c.args.target.now.owner (c.index_mut-session.result.now.end.handed + 1) c.requires.2 (ap (λ (end : End). end.handed + 1) there.2)
 
 pub returns-in_err-hand-clause-err : goal.returns-in_err-hand-clause-err
 returns-in_err-hand-clause-err c = after_error _ c.from_residual-in_err-hand.result (λ limits D stands.
-    let judged = call_judged c.args.here.now.space c.args.here.now.n (state_of c.args.self.now) c.args.target.now c.args.value.now c.in_ok-refuse_call.ensures in
+    let judged = call_judged c.args.self.now.here.space c.args.self.now.here.n (state_of c.args.self.now) c.args.target.now c.args.value.now c.in_ok-refuse_call.ensures in
     let is : c.index_mut-session.result.now ≡ get_or c.args.self.now.sessions.items (c.args.target.now.owner - 1) c.index_mut-session.result.now = subst (λ k. c.index_mut-session.result.now ≡ get_or c.args.self.now.sessions.items k c.index_mut-session.result.now) c.place.ensures.value c.index_mut-session.ensures.value in
     let same = c.in_err-hand.ensures.err in
-    subst (λ (k : ℕ). Stands c.args.here.now.space c.args.here.now.n limits (after k c.args.self.now.calls.calls c.args.self.now.calls.replies) D → Stands c.args.here.now.space c.args.here.now.n limits (after c.place.result c.reserve_calls.new.self.calls c.reserve_calls.new.self.replies) D) c.place.ensures.value
-    (λ st. subst (λ (calls : List OwnCall). Stands c.args.here.now.space c.args.here.now.n limits (after c.place.result calls c.reserve_calls.new.self.replies) D) (sym c.reserve_calls.ensures.calls)
-    (subst (λ (replies : List Message). Stands c.args.here.now.space c.args.here.now.n limits (after c.place.result c.args.self.now.calls.calls replies) D) (sym c.reserve_calls.ensures.replies) st))
+    subst (λ (k : ℕ). Stands c.args.self.now.here.space c.args.self.now.here.n limits (after k c.args.self.now.calls.calls c.args.self.now.calls.replies) D → Stands c.args.self.now.here.space c.args.self.now.here.n limits (after c.place.result c.reserve_calls.new.self.calls c.reserve_calls.new.self.replies) D) c.place.ensures.value
+    (λ st. subst (λ (calls : List OwnCall). Stands c.args.self.now.here.space c.args.self.now.here.n limits (after c.place.result calls c.reserve_calls.new.self.replies) D) (sym c.reserve_calls.ensures.calls)
+    (subst (λ (replies : List Message). Stands c.args.self.now.here.space c.args.self.now.here.n limits (after c.place.result c.args.self.now.calls.calls replies) D) (sym c.reserve_calls.ensures.replies) st))
     (stands_unsent stands c.args.target.now.owner c.index_mut-session.result.now c.hand.new.session c.hand.new.pins judged.peer is same.0 same.1))
   where
     after : ℕ → List OwnCall → List Message → State
@@ -109,11 +109,11 @@ returns-clause-answer c limits D stands = call_ok stands c.args.target.now c.arg
 
 pub returns-clause-stands : goal.returns-clause-stands
 returns-clause-stands c limits D stands =
-    let judged = call_judged c.args.here.now.space c.args.here.now.n (state_of c.args.self.now) c.args.target.now c.args.value.now c.in_ok-refuse_call.ensures in
+    let judged = call_judged c.args.self.now.here.space c.args.self.now.here.n (state_of c.args.self.now) c.args.target.now c.args.value.now c.in_ok-refuse_call.ensures in
     let is : c.index_mut-session.result.now ≡ get_or c.args.self.now.sessions.items (c.args.target.now.owner - 1) c.index_mut-session.result.now = subst (λ k. c.index_mut-session.result.now ≡ get_or c.args.self.now.sessions.items k c.index_mut-session.result.now) c.place.ensures.value c.index_mut-session.ensures.value in
     let sent = c.in_ok-hand.ensures in
     marked_stands
-    (subst (λ (k : ℕ). Stands c.args.here.now.space c.args.here.now.n limits (record {
+    (subst (λ (k : ℕ). Stands c.args.self.now.here.space c.args.self.now.here.n limits (record {
       sessions = set c.args.self.now.sessions.items k c.hand.new.session;
       table = c.args.self.now.table;
       dirty = c.args.self.now.dirty;
@@ -123,7 +123,7 @@ returns-clause-stands c limits D stands =
       calls = c.args.self.now.calls_made + 1;
       jobs = c.args.self.now.jobs_made;
     }) (did.Call c.args.target.now c.args.method c.args.value.now c.new-call.result ∷ D)) (sym c.place.ensures.value)
-    (subst (λ (replies : List Message). Stands c.args.here.now.space c.args.here.now.n limits (record {
+    (subst (λ (replies : List Message). Stands c.args.self.now.here.space c.args.self.now.here.n limits (record {
       sessions = set c.args.self.now.sessions.items (c.args.target.now.owner - 1) c.hand.new.session;
       table = c.args.self.now.table;
       dirty = c.args.self.now.dirty;
@@ -134,14 +134,14 @@ returns-clause-stands c limits D stands =
       jobs = c.args.self.now.jobs_made;
     }) (did.Call c.args.target.now c.args.method c.args.value.now c.new-call.result ∷ D)) (sym (c.push.ensures.replies ∙ c.reserve_calls.ensures.replies))
     (call_stands stands c.args.target.now c.args.method c.args.value.now c.index_mut-session.result.now c.hand.new.session c.hand.new.pins
-    (λ call is_next. call_is c.args.here.now.space c.args.here.now.n limits D c.args.target.now c.args.method c.args.value.now call (call_ok stands c.args.target.now c.args.value.now c.in_ok-refuse_call.ensures ∙ ap (λ (k : ℕ). Ok (answers.Called k)) (sym is_next)))
+    (λ call is_next. call_is c.args.self.now.here.space c.args.self.now.here.n limits D c.args.target.now c.args.method c.args.value.now call (call_ok stands c.args.target.now c.args.value.now c.in_ok-refuse_call.ensures ∙ ap (λ (k : ℕ). Ok (answers.Called k)) (sym is_next)))
     judged is
     c.in-Ok.payload.items c.in_ok-hand.field-0 c.new-call.result c.in_ok-reps.reps.items c.push.new.self.calls
     c.new-call.ensures (c.in-Ok.ensures {u = tt}).exact sent.number
-    (λ before. sent.answer c.args.here.now.space c.args.target.now.owner limits (calls_at c.args.target.now.owner (history_of c.args.here.now.space c.args.here.now.n D)) before)
+    (λ before. sent.answer c.args.self.now.here.space c.args.target.now.owner limits (calls_at c.args.target.now.owner (history_of c.args.self.now.here.space c.args.self.now.here.n D)) before)
     c.in_ok-reps.ensures (subst (λ (reps : List WireRep). AddsPins c.args.self.now.pins.bundles c.hand.new.pins.bundles c.args.target.now.owner (c.index_mut-session.result.now.end.handed + 1) reps) c.as_slice.ensures.value sent.pins)
     (c.push.ensures.calls ∙ ap (λ (calls : List OwnCall). calls ++ record { call = c.new-call.result; to = c.args.target.now.owner; stage = stages.Sent } ∷ []) c.reserve_calls.ensures.calls))))
     c.keep_all.new.table c.keep_all.ensures.table.items
-    (kept_have c.args.here.now.space c.args.self.now.table c.keep_all.new.table c.args.self.now.pins.bundles c.hand.new.pins.bundles c.args.self.now.dirty c.as_slice-2.result.now
+    (kept_have c.args.self.now.here.space c.args.self.now.table c.keep_all.new.table c.args.self.now.pins.bundles c.hand.new.pins.bundles c.args.self.now.dirty c.as_slice-2.result.now
     (none_added c.args.self.now.pins.bundles c.hand.new.pins.bundles c.args.target.now.owner (c.index_mut-session.result.now.end.handed + 1) c.as_slice-2.result.now (subst (λ (reps : List WireRep). AddsPins c.args.self.now.pins.bundles c.hand.new.pins.bundles c.args.target.now.owner (c.index_mut-session.result.now.end.handed + 1) reps) (c.as_slice.ensures.value ∙ sym c.as_slice-2.ensures.value) sent.pins))
     c.keep_all.ensures.kept (users_there stands c.args.self.now.table stands.table.kept))

@@ -9,10 +9,10 @@ use Rattle.nob_space_state.proofs.parts.Parts.can_act.Goals as goal
 
 pub returns-in-Some : goal.returns-in-Some
 returns-in-Some c limits D stands =
-    let peer : is_peer c.args.here.now.space c.args.here.now.n c.args.peer ≡ true = sym c.is_peer.ensures ∙ c.if-not-is_peer.false in
+    let peer : is_peer c.args.self.now.here.space c.args.self.now.here.n c.args.peer ≡ true = sym c.is_peer.ensures ∙ c.if-not-is_peer.false in
     let read : c.in-Some.session.now ≡ get_or c.args.self.now.sessions.items c.place.result c.in-Some.session.now = subst (λ (ends : List Roomy). c.in-Some.session.now ≡ get_or ends c.place.result c.in-Some.session.now) c.deref.ensures.value (c.in-Some.ensures {u = tt}).lookup.1 in
     let is = at_peer c.args.self.now.sessions.items c.place.result c.args.peer c.in-Some.session.now c.place.ensures.value read in
-    let there = end_there c.args.here.now.space c.args.here.now.n limits c.args.self.now.sessions.items (history_of c.args.here.now.space c.args.here.now.n D) c.args.peer c.in-Some.session.now stands.ends peer is in
+    let there = end_there c.args.self.now.here.space c.args.self.now.here.n limits c.args.self.now.sessions.items (history_of c.args.self.now.here.space c.args.self.now.here.n D) c.args.peer c.in-Some.session.now stands.ends peer is in
     c.is_some.ensures ∙ mapped_some _ c.front.result
-    ∙ ap is_some (c.front.ensures.answer c.args.here.now.space c.args.peer limits (calls_at c.args.peer (history_of c.args.here.now.space c.args.here.now.n D)) there.2)
+    ∙ ap is_some (c.front.ensures.answer c.args.self.now.here.space c.args.peer limits (calls_at c.args.peer (history_of c.args.self.now.here.space c.args.self.now.here.n D)) there.2)
     ∙ sym (act_there stands c.args.peer peer (sym c.has_closed.ensures ∙ c.if-has_closed.false))

@@ -14,4 +14,4 @@ pub returns-clause-answer : goal.returns-clause-answer
 returns-clause-answer c limits D stands = close_of_open stands c.args.peer (sym c.is_peer.ensures ∙ c.if-not-is_peer.false) (sym c.has_closed.ensures ∙ c.if-has_closed.false)
 
 pub returns-clause-stands : goal.returns-clause-stands
-returns-clause-stands c limits D stands = c.close_for.ensures.asked limits D stands (close_is c.args.here.now.space c.args.here.now.n limits D c.args.peer Asked (returns-clause-answer c limits D stands))
+returns-clause-stands c limits D stands = c.close_for.ensures.asked limits D stands (close_is c.args.self.now.here.space c.args.self.now.here.n limits D c.args.peer Asked (returns-clause-answer c limits D stands))

@@ -12,9 +12,10 @@ use Rattle.nob_space_holds.proofs.Marked.{same_standing}
 use Rattle.nob_space_holds.proofs.Returned.{back_then}
 use Rattle.nob_space_state.proofs.parts.Parts.close_down.Goals as goal
 
-pub returns : goal.returns
-returns c =
-    subst (λ (p : ℕ). ClosesDown c.args.me p (state_of c.args.self.now) (state_of record {
+pub returns-clause-closes : goal.returns-clause-closes
+returns-clause-closes c =
+    subst (λ (p : ℕ). ClosesDown c.args.self.now.here.space p (state_of c.args.self.now) (state_of record {
+      here = c.args.self.now.here;
       sessions = c.args.self.now.sessions;
       table = c.close_pins.new.table;
       dirty = c.unlist_all.new.dirty;
@@ -28,7 +29,7 @@ returns c =
       sessions = refl;
       table = record {
         back = c.throw_ready_away.new.table;
-        gives = back_then c.args.self.now.table c.throw_waiting_away.new.table c.throw_ready_away.new.table (lent_from c.args.me c.peer-peer.result c.args.self.now.waiting.items) (lent_from c.args.me c.peer-peer.result c.args.self.now.jobs.ready) c.throw_waiting_away.ensures.back c.throw_ready_away.ensures.back;
+        gives = back_then c.args.self.now.table c.throw_waiting_away.new.table c.throw_ready_away.new.table (lent_from c.args.self.now.here.space c.peer-peer.result c.args.self.now.waiting.items) (lent_from c.args.self.now.here.space c.peer-peer.result c.args.self.now.jobs.ready) c.throw_waiting_away.ensures.back c.throw_ready_away.ensures.back;
         loses = record {
           closed = λ rep. same_standing c.close_pins.ensures.table.items rep ∙ same_standing c.unlist_all.ensures.table.items rep ∙ c.close.ensures.closed rep;
           places = λ rep. (λ i. place_in (c.close_pins.ensures.table.items.surrogates i) rep) ∙ (λ i. place_in (c.unlist_all.ensures.table.items.surrogates i) rep) ∙ c.close.ensures.places rep;

@@ -15,12 +15,12 @@ returns-in_err-refuse_dup-clause-answer c limits D stands =
     (dup_right stands c.args.rep.now ∙ ap (λ refusal. unless refusal answers.Done) c.in_err-refuse_dup.ensures)
 
 pub unreachable-requires : goal.unreachable-requires
-unreachable-requires c = none-some _ (sym (dup_finds_room c.args.here.now.space (state_of c.args.self.now) c.args.rep.now c.in_ok-refuse_dup.ensures) ∙ (c.in-Err.ensures {u = tt}).answer)
+unreachable-requires c = none-some _ (sym (dup_finds_room c.args.self.now.here.space (state_of c.args.self.now) c.args.rep.now c.in_ok-refuse_dup.ensures) ∙ (c.in-Err.ensures {u = tt}).answer)
 
 pub returns-clause-answer : goal.returns-clause-answer
 returns-clause-answer c limits D stands = dup_right stands c.args.rep.now ∙ ap (λ refusal. unless refusal answers.Done) c.in_ok-refuse_dup.ensures
 
 pub returns-clause-stands : goal.returns-clause-stands
 returns-clause-stands c limits D stands =
-    dup_stands stands c.args.rep.now c.hold.new.self (dup_is c.args.here.now.space c.args.here.now.n limits D c.args.rep.now (returns-clause-answer c limits D stands))
+    dup_stands stands c.args.rep.now c.hold.new.self (dup_is c.args.self.now.here.space c.args.self.now.here.n limits D c.args.rep.now (returns-clause-answer c limits D stands))
     (shows_hand_more _ _ _ _ _ c.args.self.now.table c.hold.new.self c.args.rep.now stands.table c.hold.ensures.left (c.in-Ok.ensures {u = tt}).answer (c.in-Ok.ensures {u = tt}).held)

@@ -52,7 +52,7 @@ returns-then-has_closed-clause-answer c limits D stands =
 
 pub returns-then-has_closed-clause-stands : goal.returns-then-has_closed-clause-stands
 returns-then-has_closed-clause-stands c limits D stands =
-    subst (λ (ready : List Message). Stands c.args.here.now.space c.args.here.now.n limits (record {
+    subst (λ (ready : List Message). Stands c.args.self.now.here.space c.args.self.now.here.n limits (record {
       sessions = c.args.self.now.sessions.items;
       table = c.end_job.new.table;
       dirty = c.args.self.now.dirty;
@@ -61,7 +61,7 @@ returns-then-has_closed-clause-stands c limits D stands =
       awaited = c.args.self.now.waiting.awaited;
       calls = c.args.self.now.calls_made;
       jobs = c.args.self.now.jobs_made;
-    }) (did.DropReply c.args.job ∷ D)) (sym c.end_job.ensures.ready) (drop_stands stands c.args.job c.end_job.new.table c.end_job.new.jobs.running (drop_is c.args.here.now.space c.args.here.now.n limits D c.args.job c.args.outcome.now (returns-then-has_closed-clause-answer c limits D stands)) c.end_job.ensures.back c.end_job.ensures.ended)
+    }) (did.DropReply c.args.job ∷ D)) (sym c.end_job.ensures.ready) (drop_stands stands c.args.job c.end_job.new.table c.end_job.new.jobs.running (drop_is c.args.self.now.here.space c.args.self.now.here.n limits D c.args.job c.args.outcome.now (returns-then-has_closed-clause-answer c limits D stands)) c.end_job.ensures.back c.end_job.ensures.ended)
 
 pub returns-in_err-refuse_reply-clause-answer : goal.returns-in_err-refuse_reply-clause-answer
 returns-in_err-refuse_reply-clause-answer c limits D stands =
@@ -69,16 +69,16 @@ returns-in_err-refuse_reply-clause-answer c limits D stands =
     let still : has_closed c.args.self.now.sessions.items c.in-Some.run'.now.message.from ≡ false = sym c.has_closed.ensures ∙ c.if-has_closed.false in
     refused_as _ c.from_residual.result _ c.in_err-refuse_reply.field-0.0 c.from_residual.ensures.1
     (finish_of_open stands c.args.job c.args.outcome.now c.in-Some.run'.now found still
-    ∙ ap (λ refusal. unless refusal answers.Finished) (ap (reply_refusal c.args.here.now.space c.in-Some.run'.now.message.from (state_of c.args.self.now)) (sym c.value_of-value.ensures) ∙ c.in_err-refuse_reply.ensures))
+    ∙ ap (λ refusal. unless refusal answers.Finished) (ap (reply_refusal c.args.self.now.here.space c.in-Some.run'.now.message.from (state_of c.args.self.now)) (sym c.value_of-value.ensures) ∙ c.in_err-refuse_reply.ensures))
 
 pub unreachable-requires-in-Err-Fault : goal.unreachable-requires-in-Err-Fault
 unreachable-requires-in-Err-Fault c =
     let found : find (is_run c.args.job) c.args.self.now.jobs.running ≡ Some c.in-Some.run'.now = sym (c.in-Some.ensures {u = tt}).found in
     let sound = run_sound c.requires.2 c.args.job c.args.outcome.now c.in-Some.run'.now found in
-    let judged = reply_judged c.args.here.now.space c.in-Some.run'.now.message.from (state_of c.args.self.now) c.value_of-value.result.now c.in_ok-refuse_reply.ensures in
+    let judged = reply_judged c.args.self.now.here.space c.in-Some.run'.now.message.from (state_of c.args.self.now) c.value_of-value.result.now c.in_ok-refuse_reply.ensures in
     let number = runs_number c.in-Some.run'.now.message.item c.in-Call.call c.in-Call.target c.in-Call.method c.in-Call.value sound.0.number c.in-Call.is in
     let low : nat_le c.status_of.result 2 ≡ true = ap (λ (k : ℕ). nat_le k 2) c.status_of.ensures ∙ limited_status c.args.outcome.now in
-    reply_spelled c.args.here.now.space (state_of c.args.self.now) c.in-Call.call c.status_of.result c.value_of-value.result.now c.in-Err-Fault.field-0-0 number low judged.0
+    reply_spelled c.args.self.now.here.space (state_of c.args.self.now) c.in-Call.call c.status_of.result c.value_of-value.result.now c.in-Err-Fault.field-0-0 number low judged.0
     (subst (λ e. Fails e (bytes_of (items.Reply c.in-Call.call c.status_of.result c.value_of-value.result.now))) c.in-Err-Fault.field-0-is (c.in-Err-Fault.ensures {u = tt}).exact)
 
 pub returns-in-Err-OutOfMemory-clause-answer : goal.returns-in-Err-OutOfMemory-clause-answer
@@ -111,7 +111,7 @@ pub index_mut-session-requires : goal.index_mut-session-requires
 index_mut-session-requires c =
     let found : find (is_run c.args.job) c.args.self.now.jobs.running ≡ Some c.in-Some.run'.now = sym (c.in-Some.ensures {u = tt}).found in
     let sound = run_sound c.requires.2 c.args.job c.args.outcome.now c.in-Some.run'.now found in
-    let range = peer_range c.args.here.now.space c.args.here.now.n c.in-Some.run'.now.message.from sound.0.peer in
+    let range = peer_range c.args.self.now.here.space c.args.self.now.here.n c.in-Some.run'.now.message.from sound.0.peer in
     let each = c.requires.2.ends.each in
     let client = c.place.ensures.value in
     omega (arith, range.0, range.1, each, client)
@@ -120,9 +120,9 @@ pub hand-requires-clause-next : goal.hand-requires-clause-next
 hand-requires-clause-next c =
     let found : find (is_run c.args.job) c.args.self.now.jobs.running ≡ Some c.in-Some.run'.now = sym (c.in-Some.ensures {u = tt}).found in
     let sound = run_sound c.requires.2 c.args.job c.args.outcome.now c.in-Some.run'.now found in
-    let judged = reply_judged c.args.here.now.space c.in-Some.run'.now.message.from (state_of c.args.self.now) c.value_of-value.result.now c.in_ok-refuse_reply.ensures in
+    let judged = reply_judged c.args.self.now.here.space c.in-Some.run'.now.message.from (state_of c.args.self.now) c.value_of-value.result.now c.in_ok-refuse_reply.ensures in
     let is : c.index_mut-session.result.now ≡ get_or c.args.self.now.sessions.items (c.in-Some.run'.now.message.from - 1) c.index_mut-session.result.now = subst (λ k. c.index_mut-session.result.now ≡ get_or c.args.self.now.sessions.items k c.index_mut-session.result.now) c.place.ensures.value c.index_mut-session.ensures.value in
-    let there = end_there c.args.here.now.space c.args.here.now.n c.requires.0 c.args.self.now.sessions.items (history_of c.args.here.now.space c.args.here.now.n c.requires.1) c.in-Some.run'.now.message.from c.index_mut-session.result.now c.requires.2.ends sound.0.peer is in
+    let there = end_there c.args.self.now.here.space c.args.self.now.here.n c.requires.0 c.args.self.now.sessions.items (history_of c.args.self.now.here.space c.args.self.now.here.n c.requires.1) c.in-Some.run'.now.message.from c.index_mut-session.result.now c.requires.2.ends sound.0.peer is in
     next_free c.in-Some.run'.now.message.from Limited (state_of c.args.self.now) c.index_mut-session.result.now there.0 there.1 judged.1
 
 pub hand-requires-clause-new : goal.hand-requires-clause-new
@@ -130,7 +130,7 @@ hand-requires-clause-new c =
     let found : find (is_run c.args.job) c.args.self.now.jobs.running ≡ Some c.in-Some.run'.now = sym (c.in-Some.ensures {u = tt}).found in
     let sound = run_sound c.requires.2 c.args.job c.args.outcome.now c.in-Some.run'.now found in
     let is : c.index_mut-session.result.now ≡ get_or c.args.self.now.sessions.items (c.in-Some.run'.now.message.from - 1) c.index_mut-session.result.now = subst (λ k. c.index_mut-session.result.now ≡ get_or c.args.self.now.sessions.items k c.index_mut-session.result.now) c.place.ensures.value c.index_mut-session.ensures.value in
-    let there = end_there c.args.here.now.space c.args.here.now.n c.requires.0 c.args.self.now.sessions.items (history_of c.args.here.now.space c.args.here.now.n c.requires.1) c.in-Some.run'.now.message.from c.index_mut-session.result.now c.requires.2.ends sound.0.peer is in
+    let there = end_there c.args.self.now.here.space c.args.self.now.here.n c.requires.0 c.args.self.now.sessions.items (history_of c.args.self.now.here.space c.args.self.now.here.n c.requires.1) c.in-Some.run'.now.message.from c.index_mut-session.result.now c.requires.2.ends sound.0.peer is in
     next_unpinned c.in-Some.run'.now.message.from (c.index_mut-session.result.now.end.handed + 1) c.requires.2 (ap (λ (end : End). end.handed + 1) there.2)
 
 pub returns-in_err-hand-clause-err : goal.returns-in_err-hand-clause-err
@@ -139,7 +139,7 @@ returns-in_err-hand-clause-err c = after_error _ c.from_residual-in_err-hand.res
     let sound = run_sound c.requires.2 c.args.job c.args.outcome.now c.in-Some.run'.now found in
     let is : c.index_mut-session.result.now ≡ get_or c.args.self.now.sessions.items (c.in-Some.run'.now.message.from - 1) c.index_mut-session.result.now = subst (λ k. c.index_mut-session.result.now ≡ get_or c.args.self.now.sessions.items k c.index_mut-session.result.now) c.place.ensures.value c.index_mut-session.ensures.value in
     let same = c.in_err-hand.ensures.err in
-    subst (λ (k : ℕ). Stands c.args.here.now.space c.args.here.now.n limits (record {
+    subst (λ (k : ℕ). Stands c.args.self.now.here.space c.args.self.now.here.n limits (record {
       sessions = set c.args.self.now.sessions.items k c.hand.new.session;
       table = c.args.self.now.table;
       dirty = c.args.self.now.dirty;
@@ -158,7 +158,7 @@ returns-clause-stands c limits D stands =
     let is : c.index_mut-session.result.now ≡ get_or c.args.self.now.sessions.items (c.in-Some.run'.now.message.from - 1) c.index_mut-session.result.now = subst (λ k. c.index_mut-session.result.now ≡ get_or c.args.self.now.sessions.items k c.index_mut-session.result.now) c.place.ensures.value c.index_mut-session.ensures.value in
     let sent = c.in_ok-hand.ensures in
     marked_stands
-    (subst (λ (k : ℕ). Stands c.args.here.now.space c.args.here.now.n limits (record {
+    (subst (λ (k : ℕ). Stands c.args.self.now.here.space c.args.self.now.here.n limits (record {
       sessions = set c.args.self.now.sessions.items k c.hand.new.session;
       table = c.end_job-2.new.table;
       dirty = c.args.self.now.dirty;
@@ -168,7 +168,7 @@ returns-clause-stands c limits D stands =
       calls = c.args.self.now.calls_made;
       jobs = c.args.self.now.jobs_made;
     }) (did.Finish c.args.job c.args.outcome.now ∷ D)) (sym c.place.ensures.value)
-    (subst (λ (ready : List Message). Stands c.args.here.now.space c.args.here.now.n limits (record {
+    (subst (λ (ready : List Message). Stands c.args.self.now.here.space c.args.self.now.here.n limits (record {
       sessions = set c.args.self.now.sessions.items (c.in-Some.run'.now.message.from - 1) c.hand.new.session;
       table = c.end_job-2.new.table;
       dirty = c.args.self.now.dirty;
@@ -178,15 +178,15 @@ returns-clause-stands c limits D stands =
       calls = c.args.self.now.calls_made;
       jobs = c.args.self.now.jobs_made;
     }) (did.Finish c.args.job c.args.outcome.now ∷ D)) (sym c.end_job-2.ensures.ready)
-    (finish_stands stands c.args.job c.args.outcome.now (finish_is c.args.here.now.space c.args.here.now.n limits D c.args.job c.args.outcome.now (returns-clause-answer c limits D stands)) c.in-Some.run'.now found still c.in-Call.call c.in-Call.target c.in-Call.method c.in-Call.value c.in-Call.is
+    (finish_stands stands c.args.job c.args.outcome.now (finish_is c.args.self.now.here.space c.args.self.now.here.n limits D c.args.job c.args.outcome.now (returns-clause-answer c limits D stands)) c.in-Some.run'.now found still c.in-Call.call c.in-Call.target c.in-Call.method c.in-Call.value c.in-Call.is
     c.index_mut-session.result.now c.hand.new.session c.hand.new.pins is
     c.in-Ok.payload.items c.status_of.result c.in_ok-hand.field-0 c.value_of-value.result.now c.in_ok-reps.reps.items c.end_job-2.new.table c.end_job-2.new.jobs.running
     c.status_of.ensures c.value_of-value.ensures (c.in-Ok.ensures {u = tt}).exact sent.number
-    (λ before. sent.answer c.args.here.now.space c.in-Some.run'.now.message.from limits (calls_at c.in-Some.run'.now.message.from (history_of c.args.here.now.space c.args.here.now.n D)) before)
+    (λ before. sent.answer c.args.self.now.here.space c.in-Some.run'.now.message.from limits (calls_at c.in-Some.run'.now.message.from (history_of c.args.self.now.here.space c.args.self.now.here.n D)) before)
     c.in_ok-reps.ensures (subst (λ (reps : List WireRep). AddsPins c.args.self.now.pins.bundles c.hand.new.pins.bundles c.in-Some.run'.now.message.from (c.index_mut-session.result.now.end.handed + 1) reps) c.as_slice.ensures.value sent.pins)
     c.end_job-2.ensures.back c.end_job-2.ensures.ended)))
     c.keep_all.new.table c.keep_all.ensures.table.items
-    (kept_have c.args.here.now.space c.end_job-2.new.table c.keep_all.new.table c.args.self.now.pins.bundles c.hand.new.pins.bundles c.args.self.now.dirty c.as_slice-2.result.now
+    (kept_have c.args.self.now.here.space c.end_job-2.new.table c.keep_all.new.table c.args.self.now.pins.bundles c.hand.new.pins.bundles c.args.self.now.dirty c.as_slice-2.result.now
     (none_added c.args.self.now.pins.bundles c.hand.new.pins.bundles c.in-Some.run'.now.message.from (c.index_mut-session.result.now.end.handed + 1) c.as_slice-2.result.now (subst (λ (reps : List WireRep). AddsPins c.args.self.now.pins.bundles c.hand.new.pins.bundles c.in-Some.run'.now.message.from (c.index_mut-session.result.now.end.handed + 1) reps) (c.as_slice.ensures.value ∙ sym c.as_slice-2.ensures.value) sent.pins))
     c.keep_all.ensures.kept (users_there stands c.end_job-2.new.table (table_back stands c.args.job c.end_job-2.new.table c.end_job-2.ensures.back).kept))
 

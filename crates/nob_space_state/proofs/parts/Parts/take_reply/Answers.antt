@@ -36,7 +36,7 @@ returns-in_default-reply-clause-answer c limits D stands =
 
 pub returns-in_default-reply-clause-stands : goal.returns-in_default-reply-clause-stands
 returns-in_default-reply-clause-stands c limits D stands =
-    subst (λ (replies : List Message). Stands c.args.here.now.space c.args.here.now.n limits (record {
+    subst (λ (replies : List Message). Stands c.args.self.now.here.space c.args.self.now.here.n limits (record {
       sessions = c.args.self.now.sessions.items;
       table = c.args.self.now.table;
       dirty = c.args.self.now.dirty;
@@ -46,7 +46,7 @@ returns-in_default-reply-clause-stands c limits D stands =
       calls = c.args.self.now.calls_made;
       jobs = c.args.self.now.jobs_made;
     }) (did.TakeEnd c.args.call ∷ D)) (sym c.remove.ensures.replies)
-    (end_stands stands c.args.call c.remove.new.self.calls (end_is c.args.here.now.space c.args.here.now.n limits D c.args.call (returns-in_default-reply-clause-answer c limits D stands)) c.remove.ensures.calls)
+    (end_stands stands c.args.call c.remove.new.self.calls (end_is c.args.self.now.here.space c.args.self.now.here.n limits D c.args.call (returns-in_default-reply-clause-answer c limits D stands)) c.remove.ensures.calls)
 
 pub returns-then-is_overfull-clause-answer : goal.returns-then-is_overfull-clause-answer
 returns-then-is_overfull-clause-answer c limits D stands =
@@ -87,8 +87,8 @@ returns-clause-stands c limits D stands =
     let passes = found_passes (is_reply c.args.call) c.args.self.now.calls.replies c.in-Some-take_reply.field-0 there in
     let told = reply_told c.args.call c.in-Some-take_reply.field-0.item passes c.in-Reply.call c.in-Reply.status c.in-Reply.value c.in-Reply.is in
     take_stands stands c.args.call c.in-Some-take_reply.field-0 there passes c.in-Reply.status c.in-Reply.value told c.take_over.new.table c.remove-2.new.self.replies c.remove-2.new.self.calls
-    (take_is c.args.here.now.space c.args.here.now.n limits D c.args.call c.in-Reply.status c.in-Reply.value (returns-clause-answer c limits D stands))
-    (subst (λ (cs : List RefCopy). TableShows c.args.here.now.space c.args.here.now.n c.take_over.new.table (history_of c.args.here.now.space c.args.here.now.n D) (with_more (reps_of cs) (λ rep. hand rep D)) (with_fewer (reps_of cs) (λ rep. times rep (lent_in c.args.here.now.space (work c.args.here.now.space c.args.here.now.n D))))) c.as_slice-2.ensures
-    (c.take_over.ensures c.args.here.now.space c.args.here.now.n (history_of c.args.here.now.space c.args.here.now.n D) (λ rep. hand rep D) (λ rep. times rep (lent_in c.args.here.now.space (work c.args.here.now.space c.args.here.now.n D))) stands.table))
+    (take_is c.args.self.now.here.space c.args.self.now.here.n limits D c.args.call c.in-Reply.status c.in-Reply.value (returns-clause-answer c limits D stands))
+    (subst (λ (cs : List RefCopy). TableShows c.args.self.now.here.space c.args.self.now.here.n c.take_over.new.table (history_of c.args.self.now.here.space c.args.self.now.here.n D) (with_more (reps_of cs) (λ rep. hand rep D)) (with_fewer (reps_of cs) (λ rep. times rep (lent_in c.args.self.now.here.space (work c.args.self.now.here.space c.args.self.now.here.n D))))) c.as_slice-2.ensures
+    (c.take_over.ensures c.args.self.now.here.space c.args.self.now.here.n (history_of c.args.self.now.here.space c.args.self.now.here.n D) (λ rep. hand rep D) (λ rep. times rep (lent_in c.args.self.now.here.space (work c.args.self.now.here.space c.args.self.now.here.n D))) stands.table))
     (c.remove-2.ensures.replies ∙ (c.in-Some-take_reply.ensures {u = tt}).replies)
     (c.remove-2.ensures.calls ∙ ap (filter (λ (own : OwnCall). not (is_call c.args.call own))) (c.in-Some-take_reply.ensures {u = tt}).calls)

@@ -22,7 +22,7 @@ returns-clause-answer c limits D stands = withdraw_right stands c.args.index ∙
 
 pub returns-clause-stands : goal.returns-clause-stands
 returns-clause-stands c limits D stands =
-    withdraw_stands stands c.withdraw.new.self c.args.index (withdraw_is c.args.here.now.space c.args.here.now.n limits D c.args.index (returns-clause-answer c limits D stands)) (c.in-Ok.ensures {u = tt}).left
+    withdraw_stands stands c.withdraw.new.self c.args.index (withdraw_is c.args.self.now.here.space c.args.self.now.here.n limits D c.args.index (returns-clause-answer c limits D stands)) (c.in-Ok.ensures {u = tt}).left
     (subst (λ me. SetsKept c.args.self.now.table c.withdraw.new.self (record { owner = me; index = c.args.index }) false) stands.table.me (c.in-Ok.ensures {u = tt}).unkept)
     (subst (λ me. Becomes c.args.self.now.table c.withdraw.new.self (record { owner = me; index = c.args.index }) withdrawn) stands.table.me (c.in-Ok.ensures {u = tt}).withdrawn)
     c.in_ok-refuse_withdraw.ensures
