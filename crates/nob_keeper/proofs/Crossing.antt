@@ -118,13 +118,13 @@ parts_send =
     let sessions = Vec-send Session.the_row session.the_send in
     let numbers : AllSend (u64-field.row ∷ u64-field.row ∷ []) = search sendable in
     struct_send (shape Parts.the_type)
-    (sessions, (table.the_send, (dirty.the_send, (pins.the_send, (waiting_send, (jobs_send, (calls_send, numbers)))))))
+    (search sendable depth 30, (sessions, (table.the_send, (dirty.the_send, (pins.the_send, (waiting_send, (jobs_send, (calls_send, numbers))))))))
 
 space_inside_send : IsSend SpaceInside.the_row
 space_inside_send =
     let T = SpaceInside.the_type in
     recorded_send (Struct (shape T)) T.D T.to T.to_one (struct_send (shape T)
-    (search sendable depth 30, (search sendable depth 30, (search sendable depth 30, (parts_send, tt)))))
+    (search sendable depth 30, (search sendable depth 30, (parts_send, tt))))
 
 pub space_send : IsSend Space.the_row
 space_send = view_send SpaceInside.the_row _ _ _ _ space_inside_send
