@@ -1,15 +1,14 @@
 //! The jobs of a space: Claim.
 
-ghost use Rattle.std.specs.Prelude.{◌≡◌, ℕ, ◌+◌, ◌<◌, List, OnOk, OnErr, IfOk, find};
+ghost use Rattle.std.specs.Prelude.{◌≡◌, ◌+◌, ◌<◌, List, OnOk, OnErr, IfOk, find};
 ghost use Rattle.nob_ids.specs.declared.limits.Limits.{Limits as LimitsOf};
 ghost use Rattle.nob_model_types.specs.declared.answer.Answer.TheVariants as answers;
 ghost use Rattle.nob_model_types.specs.declared.deed.Deed.{Deed};
 ghost use Rattle.nob_model_types.specs.declared.deed.Deed.TheVariants as did;
-ghost use Rattle.nob_model_history.specs.Histories.{history_of};
 ghost use Rattle.nob_model_acting.specs.Candidates as candidates;
 ghost use Rattle.nob_model.specs.Right as right;
 ghost use Rattle.nob_space_state.specs.Parts.{state_of};
-ghost use Rattle.nob_space_state.specs.Stands.{StandFor, Stands, IsState, Keeps, Did, AnswersOrWants, history_for};
+ghost use Rattle.nob_space_state.specs.Stands.{StandFor, IsState, Keeps, Did, AnswersOrWants, history_for};
 
 use crate::error::SpaceError;
 use crate::parts::Parts;
@@ -40,10 +39,10 @@ impl Parts {
     /// The job that Claim would give now; its value is copied. It is refused, or wants memory, as
     /// Claim. A few words of bits, and linear in the value.
     pub fn job_to_claim(&self) -> Result<Job, SpaceError>
-        ensures { (s n : ℕ) (limits : LimitsOf) (D : List Deed)
-            → Stands s n limits (state_of self.now) D
+        ensures { (limits : LimitsOf) (D : List Deed)
+            → StandFor limits self.now D
             → AnswersOrWants (λ job. answers.Job job) result
-            (right.right_claim (history_of s n D)) }
+            (right.right_claim (history_for self.now D)) }
     {
         self.next_job()
     }

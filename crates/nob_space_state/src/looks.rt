@@ -1,11 +1,10 @@
 //! Looks at the state: sessions and references. None takes memory.
 
-ghost use Rattle.std.specs.Prelude.{◌≡◌, ℕ, ◌==◌, not, List};
+ghost use Rattle.std.specs.Prelude.{◌≡◌, ◌==◌, not, List};
 ghost use Rattle.nob_ids.specs.declared.limits.Limits.{Limits as LimitsOf};
 ghost use Rattle.nob_model_types.specs.declared.deed.Deed.{Deed};
 ghost use Rattle.nob_model_history.specs.Listing.{is_listed};
-ghost use Rattle.nob_space_state.specs.Parts.{state_of};
-ghost use Rattle.nob_space_state.specs.Stands.{Stands};
+ghost use Rattle.nob_space_state.specs.Stands.{StandFor};
 ghost use Rattle.nob_table_rows.specs.Standings as standings;
 ghost use Rattle.nob_table.specs.Table.{standing};
 ghost use Rattle.nob_space_state.specs.Looks.{has_closed, has_holds, is_gone, is_cut, has_clients};
@@ -65,8 +64,8 @@ impl Parts {
     /// Whether a client is listed at an index: it was granted the object, and hasn't given it up.
     /// Logarithmic in the listings.
     pub fn lists(&self, index: u64, client: SpaceId) -> bool
-        ensures { (s n : ℕ) (limits : LimitsOf) (D : List Deed)
-            → Stands s n limits (state_of self.now) D → result ≡ is_listed s index client D }
+        ensures { (limits : LimitsOf) (D : List Deed)
+            → StandFor limits self.now D → result ≡ is_listed self.now.here.space index client D }
     {
         self.dirty.lists(index, client)
     }

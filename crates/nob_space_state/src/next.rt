@@ -1,13 +1,11 @@
 //! What a space could do next. None takes memory.
 
-ghost use Rattle.std.specs.Prelude.{◌≡◌, ℕ, List};
+ghost use Rattle.std.specs.Prelude.{◌≡◌, List};
 ghost use Rattle.nob_ids.specs.declared.limits.Limits.{Limits as LimitsOf};
 ghost use Rattle.nob_model_types.specs.declared.deed.Deed.{Deed};
-ghost use Rattle.nob_model_history.specs.Histories.{history_of};
 ghost use Rattle.nob_model.specs.Next as next;
 ghost use Rattle.nob_space_state.specs.Dues as dues;
-ghost use Rattle.nob_space_state.specs.Parts.{state_of};
-ghost use Rattle.nob_space_state.specs.Stands.{StandFor, Stands, history_for};
+ghost use Rattle.nob_space_state.specs.Stands.{StandFor, history_for};
 
 use crate::parts::Parts;
 use nob_ids::SpaceId;
@@ -68,8 +66,8 @@ impl Parts {
 
     /// Whether there is a job to claim. A few words of bits.
     pub fn can_claim(&self) -> bool
-        ensures { (s n : ℕ) (limits : LimitsOf) (D : List Deed)
-            → Stands s n limits (state_of self.now) D → result ≡ next.can_claim (history_of s n D) }
+        ensures { (limits : LimitsOf) (D : List Deed)
+            → StandFor limits self.now D → result ≡ next.can_claim (history_for self.now D) }
     {
         self.jobs.first_free().is_some()
     }

@@ -6,11 +6,10 @@ ghost use Rattle.nob_ids.specs.declared.limits.Limits.{Limits as LimitsOf};
 ghost use Rattle.nob_pickle.specs.declared.value.Value.{Value as ValueOf};
 ghost use Rattle.nob_model_types.specs.declared.answer.Answer.TheVariants as answers;
 ghost use Rattle.nob_model_types.specs.declared.deed.Deed.{Deed};
-ghost use Rattle.nob_model_history.specs.Histories.{history_of};
 ghost use Rattle.nob_model.specs.Right as right;
 ghost use Rattle.nob_model.specs.Next.{reply_ready};
 ghost use Rattle.nob_space_state.specs.Parts.{state_of};
-ghost use Rattle.nob_space_state.specs.Stands.{StandFor, Stands, IsState, Keeps, Did, Answers, history_for};
+ghost use Rattle.nob_space_state.specs.Stands.{StandFor, IsState, Keeps, Did, Answers, history_for};
 ghost use Rattle.nob_space_holds.specs.TakingOver.{reps_of};
 ghost use Rattle.nob_space_state.specs.Taking.{is_full, take_answer, answer_of, deed_of};
 
@@ -62,9 +61,9 @@ impl Parts {
     /// that was never made, or is taken, too. It takes no memory. Logarithmic in the calls and the
     /// ready replies.
     pub fn reply_ready(&self, call: CallNo) -> bool
-        ensures { (s n : ℕ) (limits : LimitsOf) (D : List Deed)
-            → Stands s n limits (state_of self.now) D
-            → result ≡ reply_ready call (history_of s n D) }
+        ensures { (limits : LimitsOf) (D : List Deed)
+            → StandFor limits self.now D
+            → result ≡ reply_ready call (history_for self.now D) }
     {
         let Some(own) = self.calls.call(call) else {
             return true;

@@ -6,4 +6,4 @@ use Rattle.nob_space_state.proofs.Claiming.{claim_right}
 use Rattle.nob_space_state.proofs.parts.Parts.job_to_claim.Goals as goal
 
 pub returns : goal.returns
-returns c s n limits D stands = subst (AnswersOrWants (λ (job : Job). answers.Job job) c.next_job.result) (sym (claim_right stands)) c.next_job.ensures.answer
+returns c limits D stands = subst (AnswersOrWants (λ (job : Job). answers.Job job) c.next_job.result) (sym (claim_right stands)) c.next_job.ensures.answer

@@ -2,4 +2,4 @@ use Rattle.std.proofs.Common.{◌∙◌}
 use Rattle.nob_space_state.proofs.parts.Parts.lists.Goals as goal
 
 pub returns : goal.returns
-returns c s n limits D stands = c.lists.ensures ∙ stands.listed c.args.index c.args.client
+returns c limits D stands = c.lists.ensures ∙ stands.listed c.args.index c.args.client
