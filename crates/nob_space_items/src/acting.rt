@@ -1,8 +1,7 @@
 //! The event Act: the item at the front of an inbox is acted on.
 
-ghost use Rattle.std.specs.Prelude.{◌≡◌, ℕ, List, ◌∷◌, OnOk, OnErr, IfOk};
+ghost use Rattle.std.specs.Prelude.{◌≡◌, List, ◌∷◌, OnOk, OnErr, IfOk};
 ghost use Rattle.nob_ids.specs.declared.limits.Limits.{Limits as LimitsOf};
-ghost use Rattle.nob_item.specs.Spelling.{Fits};
 ghost use Rattle.nob_model_session.specs.Right.{right_front};
 ghost use Rattle.nob_model_types.specs.declared.answer.Answer.TheVariants as answers;
 ghost use Rattle.nob_model_types.specs.declared.deed.Deed.{Deed};

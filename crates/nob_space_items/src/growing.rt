@@ -1,7 +1,6 @@
 //! Room that is made before a message is acted on.
 
 ghost use Rattle.std.specs.Prelude.{◌≡◌, ◌-◌, ◌<◌, ◌≤◌, length, OnOk};
-ghost use Rattle.nob_table.specs.Table.{Stays};
 ghost use Rattle.nob_space_state.specs.Parts.{state_of};
 ghost use Rattle.nob_space_items.specs.Growing.{AreAmong, SameEnds, HaveRoom, Grows};
 

@@ -1,7 +1,6 @@
 //! Settling the messages that wait for their references: Settle.
 
-ghost use Rattle.std.specs.Prelude.{◌≡◌, ◌<◌, ◌≤◌, ℕ, ◌+◌, List, [], ◌∷◌, ◌++◌, if◌then◌else◌, true, None, Some, Ok, vec_len, is_some, option_map, IfOk, IfSome, OnOk, OnErr, MatchResult};
-ghost use Rattle.std.specs.List.{list_any};
+ghost use Rattle.std.specs.Prelude.{◌≡◌, ◌<◌, ◌≤◌, ℕ, ◌+◌, List, [], ◌∷◌, ◌++◌, if◌then◌else◌, true, None, Some, Ok, vec_len, option_map, IfOk, IfSome, OnOk, OnErr};
 ghost use Rattle.nob_ids.specs.declared.limits.Limits.{Limits as LimitsOf};
 ghost use Rattle.nob_item.specs.Judging.{is_call_number};
 ghost use Rattle.nob_model_session.specs.Right.{last_item};
@@ -19,7 +18,7 @@ ghost use Rattle.nob_session.specs.Stands.{is_open_end};
 ghost use Rattle.nob_space_state.specs.Parts.{state_of, with_table, with_work};
 ghost use Rattle.nob_space_holds.specs.Returns.{HasLent, GivesBack};
 ghost use Rattle.nob_space_state.specs.Stands.{StandFor, IsState, Keeps, Did, AnswersOrWants, history_for};
-ghost use Rattle.nob_space_settling.specs.Settling.{is_denied, is_lost_here, has_lost, lost_call, reply_to_lost, items_given, given_count, with_note, loans_ended};
+ghost use Rattle.nob_space_settling.specs.Settling.{is_denied, is_lost_here, has_lost, lost_call, reply_to_lost, given_count, with_note, loans_ended};
 
 use nob_ids::{CallNo, ItemNo, SpaceId, WireRep};
 use nob_item::Item;

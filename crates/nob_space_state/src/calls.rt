@@ -1,6 +1,6 @@
 //! The event Call.
 
-ghost use Rattle.std.specs.Prelude.{◌≡◌, ℕ, List, ◌∷◌, Some, None, Ok, Err, OnErr, IfOk, MatchResult};
+ghost use Rattle.std.specs.Prelude.{◌≡◌, List, ◌∷◌, Some, None, Ok, Err, OnErr, IfOk, MatchResult};
 ghost use Rattle.nob_ids.specs.declared.limits.Limits.{Limits as LimitsOf};
 ghost use Rattle.nob_item.specs.Spelling.{Fits};
 ghost use Rattle.nob_item.specs.declared.item.Item.TheVariants as items;
