@@ -7,54 +7,8 @@ ghost use Rattle.nob_check.specs.Books as words;
 
 use nob_check_ledgers::{Ledger, new_ledger, with_deed};
 use nob_ids::{SpaceId, WireRep};
-use nob_model_types::{Deed, Here};
+use nob_model_types::{Deed, Here, List};
 use std::alloc::{AllocError, Global};
-use std::marker::Model;
-
-/// The ledgers of the spaces that have entries, the one that came last first. Contracts see the
-/// list.
-#[derive(Drop)]
-pub struct Books {
-    ledgers: Vec<Ledger>,
-}
-
-impl Model for Books {
-    ghost use Rattle.std.specs.Prelude.{List};
-    ghost use Rattle.nob_check_ledgers.specs.declared.ledger.Ledger.{Ledger};
-
-    ghost Value = { List Ledger };
-
-    ghost use Rattle.std.specs.Coded.{codes};
-    ghost use Rattle.nob_pickle.specs.Marks.{trees_code};
-
-    ghost coded = { Prim.hlevel (codes, trees_code) };
-
-    ghost view = { λ books. books.ledgers.items };
-}
-
-impl Books {
-    /// These ledgers. It takes no memory.
-    pub fn from_vec(ledgers: Vec<Ledger>) -> Books
-        ensures { result ≡ ledgers.items }
-    {
-        Books { ledgers }
-    }
-
-    /// The ledgers as a vector. It takes no memory.
-    pub fn into_vec(self) -> Vec<Ledger>
-        ensures { result.items ≡ self }
-    {
-        let Books { ledgers } = self;
-        ledgers
-    }
-
-    /// The ledgers.
-    pub fn as_slice(&self) -> &[Ledger]
-        ensures { result.now ≡ self.now }
-    {
-        self.ledgers.as_slice()
-    }
-}
 
 /// The ledger of a space, where there is one. Linear in the spaces.
 pub fn find_ledger(space: SpaceId, books: &[Ledger]) -> Option<&Ledger>
@@ -150,14 +104,14 @@ pub fn with_entry(
     alloc: Global,
     here: Here,
     deed: Option<Deed>,
-    books: Books,
-) -> Result<Books, AllocError>
+    books: List<Ledger>,
+) -> Result<List<Ledger>, AllocError>
     requires lent { words.have_loans_made books ≡ true }
     ensures { IfOk result (λ after. after ≡ words.with_entry here.n here.space deed books) }
 {
     let ledgers = with_ledger(alloc, here, books.into_vec())?;
     match deed {
-        Some(deed) => Ok(Books::from_vec(ledgers_after(alloc, here.space, deed, ledgers)?)),
-        None => Ok(Books::from_vec(ledgers)),
+        Some(deed) => Ok(List::from_vec(ledgers_after(alloc, here.space, deed, ledgers)?)),
+        None => Ok(List::from_vec(ledgers)),
     }
 }

@@ -5,12 +5,13 @@ ghost use Rattle.nob_model_journal.specs.Verdicts.{IsVerdict, most_spaces};
 ghost use Rattle.nob_check.specs.Books.{have_loans_made};
 ghost use Rattle.nob_check.specs.Judging as words;
 
-use crate::books::{Books, with_entry};
+use crate::books::with_entry;
 use crate::fronts::keeps_fronts;
 use crate::losses::{is_fault_found, is_lossless};
 use crate::withdraws::is_unneeded;
+use nob_check_ledgers::Ledger;
 use nob_model_journal::{Promise, Verdict};
-use nob_model_types::{Deed, Entry, Here};
+use nob_model_types::{Deed, Entry, Here, List};
 use std::alloc::{AllocError, Global};
 
 // As many spaces as there can be.
@@ -20,7 +21,7 @@ const MOST_SPACES: u16 = 32;
 #[derive(Drop)]
 pub struct Judging {
     /// The ledgers of all spaces.
-    pub books: Books,
+    pub books: List<Ledger>,
     /// Whether no object was withdrawn while a space needed it.
     pub withdraws: bool,
     /// Whether no reference was lost without a cause.
@@ -34,7 +35,7 @@ fn no_entry(alloc: Global) -> Judging
     ensures { result ≡ words.no_entry }
 {
     Judging {
-        books: Books::from_vec(Vec::new(alloc)),
+        books: List::from_vec(Vec::new(alloc)),
         withdraws: true,
         losses: true,
         found: true,

@@ -14,4 +14,4 @@ mod spaces;
 mod traffic;
 
 pub use index::DeedIndex;
-pub use lists::{DeedList, SpaceDeeds};
+pub use lists::SpaceDeeds;

@@ -2,53 +2,9 @@
 
 ghost use Rattle.std.specs.Prelude.{◌≡◌, ◌∷◌, [], IfOk};
 
-use nob_model_types::{Deed, Here};
+use nob_model_types::{Deed, Here, List};
 use std::alloc::{AllocError, Global};
 use std::marker::Model;
-
-/// What a space did, the newest first. Contracts see the list.
-#[derive(Debug, Drop)]
-pub struct DeedList {
-    deeds: Vec<Deed>,
-}
-
-impl Model for DeedList {
-    ghost use Rattle.std.specs.Prelude.{List};
-    ghost use Rattle.nob_model_types.specs.declared.deed.Deed.{Deed};
-
-    ghost Value = { List Deed };
-
-    ghost use Rattle.std.specs.Coded.{codes};
-    ghost use Rattle.nob_pickle.specs.Marks.{trees_code};
-
-    ghost coded = { Prim.hlevel (codes, trees_code) };
-
-    ghost view = { λ deeds. deeds.deeds.items };
-}
-
-impl DeedList {
-    /// These deeds. It takes no memory.
-    pub fn from_vec(deeds: Vec<Deed>) -> DeedList
-        ensures { result ≡ deeds.items }
-    {
-        DeedList { deeds }
-    }
-
-    /// The deeds as a vector. It takes no memory.
-    pub fn into_vec(self) -> Vec<Deed>
-        ensures { result.items ≡ self }
-    {
-        let DeedList { deeds } = self;
-        deeds
-    }
-
-    /// The deeds.
-    pub fn as_slice(&self) -> &[Deed]
-        ensures { result.now ≡ self.now }
-    {
-        self.deeds.as_slice()
-    }
-}
 
 /// What a space did, and among how many spaces.
 #[derive(Debug, Drop)]
@@ -56,7 +12,7 @@ pub struct SpaceDeeds {
     /// The space, and among how many.
     pub here: Here,
     /// What it did, the newest first.
-    pub deeds: DeedList,
+    pub deeds: List<Deed>,
 }
 
 /// What a space did, to be kept and not read: each deed stands behind the earlier ones. Contracts

@@ -6,13 +6,13 @@ ghost use Rattle.nob_model_history.specs.Transit.{count_to as count_word, with_g
 ghost use Rattle.nob_check_ledgers.specs.Ledgers as words;
 
 use crate::giving::gifts;
-use crate::lists::{ActedItem, ActedItems};
+use crate::lists::ActedItem;
 use crate::sent::SentItems;
 use crate::working;
 use nob_check_index::DeedIndex;
 use nob_ids::{ItemNo, SpaceId};
 use nob_item::Item;
-use nob_model_types::{Deed, Here};
+use nob_model_types::{Deed, Here, List};
 use nob_model_work::{Gift, InHand};
 use std::alloc::{AllocError, Global};
 
@@ -26,7 +26,7 @@ pub struct Ledger {
     /// What it sent, with the numbers, the first first.
     pub sent_items: SentItems,
     /// What it acted on, the first first.
-    pub acted_items: ActedItems,
+    pub acted_items: List<ActedItem>,
     /// Whether it acted on nothing after the session with the sender closed.
     pub acts_open: bool,
     /// Whether it sent nothing after the session with the receiver closed.
@@ -41,7 +41,7 @@ pub fn new_ledger(alloc: Global, here: Here) -> Ledger
         index: DeedIndex::new(alloc, here),
         work: InHand::none(alloc),
         sent_items: SentItems::none(alloc),
-        acted_items: ActedItems::from_vec(Vec::new(alloc)),
+        acted_items: List::from_vec(Vec::new(alloc)),
         acts_open: true,
         sends_open: true,
     }
@@ -94,8 +94,8 @@ fn item_at(from: SpaceId, number: ItemNo, past: &DeedIndex) -> Result<Option<Ite
 fn acted_after(
     deed: &Deed,
     past: &DeedIndex,
-    acted_items: ActedItems,
-) -> Result<ActedItems, AllocError>
+    acted_items: List<ActedItem>,
+) -> Result<List<ActedItem>, AllocError>
     ensures { IfOk result (λ after. after ≡ words.acted_after deed.now past.now.deeds acted_items) }
 {
     match deed {
@@ -107,7 +107,7 @@ fn acted_after(
                 number: *number,
                 item,
             })?;
-            Ok(ActedItems::from_vec(items))
+            Ok(List::from_vec(items))
         }
         _ => Ok(acted_items),
     }

@@ -9,8 +9,9 @@ ghost use Rattle.nob_check_ledgers.specs.Making.{can_lend};
 
 use nob_check_index::DeedIndex;
 use nob_ids::WireRep;
-use nob_model_types::message::{Loan, Message, Messages, RefCopies, RefCopy};
-use nob_model_work::{InHand, Run, Runs};
+use nob_model_types::List;
+use nob_model_types::message::{Loan, Message, RefCopy};
+use nob_model_work::{InHand, Run};
 use std::alloc::{AllocError, Global};
 
 // Whether a reference is lost.
@@ -87,7 +88,7 @@ pub fn new_message(alloc: Global, past: &DeedIndex, message: Message) -> Result<
         copies: _,
     } = message;
     let reps = nob_item::counted_refs(alloc, &item)?;
-    let copies = RefCopies::from_vec(new_copies(alloc, past, reps.as_slice())?);
+    let copies = List::from_vec(new_copies(alloc, past, reps.as_slice())?);
     Ok(Message {
         from,
         number,
@@ -164,7 +165,7 @@ pub fn message_after(past: &DeedIndex, mut message: Message) -> Message
 }
 
 // Messages with the loans made that can be made now.
-fn message_loans(past: &DeedIndex, messages: Messages) -> Messages
+fn message_loans(past: &DeedIndex, messages: List<Message>) -> List<Message>
     ensures { result ≡ map (λ message. words.message_after past.now.here.space past.now.here.n
         past.now.deeds message) messages }
 {
@@ -172,11 +173,11 @@ fn message_loans(past: &DeedIndex, messages: Messages) -> Messages
     for message in messages.iter_mut() {
         lend_message(past, message);
     }
-    Messages::from_vec(messages)
+    List::from_vec(messages)
 }
 
 // Jobs that run with the loans made that can be made now.
-fn run_loans(past: &DeedIndex, runs: Runs) -> Runs
+fn run_loans(past: &DeedIndex, runs: List<Run>) -> List<Run>
     ensures { result ≡ map (λ run. work_words.run_after past.now.here.space past.now.here.n
         past.now.deeds run) runs }
 {
@@ -184,7 +185,7 @@ fn run_loans(past: &DeedIndex, runs: Runs) -> Runs
     for run in runs.iter_mut() {
         lend_run(past, run);
     }
-    Runs::from_vec(runs)
+    List::from_vec(runs)
 }
 
 /// What is in hand with the loans made that can be made now. It takes no memory. It passes the

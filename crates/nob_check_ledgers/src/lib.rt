@@ -16,6 +16,6 @@ mod working;
 
 pub use held::is_held;
 pub use ledger::{Ledger, new_ledger, with_deed};
-pub use lists::{ActedItem, ActedItems};
+pub use lists::ActedItem;
 pub use losses::{is_carried, is_loss};
 pub use sent::{Carriers, Place, Places, SentCounts, SentItems};

@@ -12,8 +12,8 @@ use crate::making::{awaited_by, is_any_lendable};
 use nob_check_index::DeedIndex;
 use nob_ids::{ItemNo, SpaceId};
 use nob_item::Item;
-use nob_model_types::Deed;
-use nob_model_types::message::{Message, Messages, RefCopies};
+use nob_model_types::message::Message;
+use nob_model_types::{Deed, List};
 use nob_model_work::InHand;
 use nob_model_work::work::{
     after_call, after_claim, after_close, after_end, after_finish, after_message, after_settlement,
@@ -32,7 +32,7 @@ fn fresh_message(
         ≡ record { from = from; number = number; item = item.now; copies = [] }) }
 {
     let item = item.copy()?;
-    let copies = RefCopies::from_vec(Vec::new(alloc));
+    let copies = List::from_vec(Vec::new(alloc));
     Ok(Message {
         from,
         number,
@@ -88,7 +88,7 @@ fn after_settle(
         calls,
     } = work;
     let (found, rest) = take_waiting(peer, number, waiting.into_vec());
-    let waiting = Messages::from_vec(rest);
+    let waiting = List::from_vec(rest);
     let others = InHand {
         waiting,
         ready,

@@ -10,8 +10,8 @@ use nob_bytes::Bytes;
 use nob_ids::{ItemNo, Reason, SpaceId};
 use nob_item::{Item, ItemError};
 use nob_model_session::{Arrived, EndEntry, Ending, Kind};
-use nob_model_types::{Cause, Deed};
-use nob_model_work::{Gift, GiftList};
+use nob_model_types::{Cause, Deed, List};
+use nob_model_work::Gift;
 use std::alloc::{AllocError, Global};
 
 /// How an item counts.
@@ -149,7 +149,7 @@ fn calls_of(
     alloc: Global,
     peer: SpaceId,
     deeds: &[Deed],
-    all_gifts: &[GiftList],
+    all_gifts: &[List<Gift>],
 ) -> Result<Vec<EndEntry>, AllocError>
     ensures { IfOk result (λ calls. calls.items ≡ words.calls_of peer deeds.now all_gifts.now) }
 {

@@ -10,5 +10,5 @@ pub mod holds;
 pub mod listing;
 pub mod transit;
 
-pub use history::{AllGifts, Deeds, History, history_of, make_history};
+pub use history::{History, history_of, make_history};
 pub use transit::SentItem;

@@ -12,8 +12,8 @@ use crate::history::History;
 use crate::holds::{is_held, times};
 use nob_ids::{ItemNo, SpaceId, WireRep};
 use nob_item::Item;
-use nob_model_types::{Deed, Here, sessions, turns};
-use nob_model_work::{Gift, GiftList};
+use nob_model_types::{Deed, Here, List, sessions, turns};
+use nob_model_work::Gift;
 use std::alloc::{AllocError, Global};
 
 /// An item that was sent to a peer, with its number.
@@ -68,7 +68,7 @@ fn with_gifts(gifts: &[Gift], sent_items: Vec<SentItem>) -> Result<Vec<SentItem>
 }
 
 // All that was sent, by what each deed gave.
-fn sent_of(alloc: Global, all_gifts: &[GiftList]) -> Result<Vec<SentItem>, AllocError>
+fn sent_of(alloc: Global, all_gifts: &[List<Gift>]) -> Result<Vec<SentItem>, AllocError>
     ensures { IfOk result (λ sent_items. sent_items.items ≡ words.sent_of all_gifts.now) }
 {
     match all_gifts {

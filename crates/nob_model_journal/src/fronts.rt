@@ -10,8 +10,8 @@ use crate::journals::{acted_from, history_at, senders_in, sent_to, spaces_in};
 use crate::same::same_item;
 use nob_ids::{ItemNo, SpaceId};
 use nob_item::Item;
-use nob_model_types::{Deed, Entry, Here, sessions};
-use nob_model_work::{Gift, GiftList};
+use nob_model_types::{Deed, Entry, Here, List, sessions};
+use nob_model_work::Gift;
 use std::alloc::{AllocError, Global};
 
 // Whether items with their numbers are the first of these, which are counted from `number` on.
@@ -99,7 +99,7 @@ fn are_open(gifts: &[Gift], deeds: &[Deed]) -> bool
 }
 
 // Whether nothing was sent after the session with its receiver closed, by what each deed gave.
-fn sends_while_open(deeds: &[Deed], all_gifts: &[GiftList]) -> bool
+fn sends_while_open(deeds: &[Deed], all_gifts: &[List<Gift>]) -> bool
     ensures { result ≡ tests.sends_while_open deeds.now all_gifts.now }
 {
     match deeds {

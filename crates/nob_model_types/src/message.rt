@@ -11,8 +11,8 @@ use crate::same::same_value;
 use crate::{Job, turns};
 use nob_ids::{CallNo, ItemNo, SpaceId, WireRep};
 use nob_item::Item;
+use nob_slots::List;
 use std::alloc::{AllocError, Global};
-use std::marker::Model;
 
 /// Whether a reference that came in a message is lent to this space.
 #[derive(Clone, Copy, Debug, PartialEq, Eq)]
@@ -34,45 +34,6 @@ pub struct RefCopy {
     pub loan: Loan,
 }
 
-/// The counted references that came in a message, in reading order. Contracts see the list.
-#[derive(Debug, Drop)]
-pub struct RefCopies {
-    copies: Vec<RefCopy>,
-}
-
-impl Model for RefCopies {
-    ghost use Rattle.std.specs.Prelude.{List};
-    ghost use Rattle.nob_model_types.specs.declared.message.RefCopy.{RefCopy};
-
-    ghost Value = { List RefCopy };
-
-    ghost view = { λ copies. copies.copies.items };
-}
-
-impl RefCopies {
-    /// These copies. It takes no memory.
-    pub fn from_vec(copies: Vec<RefCopy>) -> RefCopies
-        ensures { result ≡ copies.items }
-    {
-        RefCopies { copies }
-    }
-
-    /// The copies.
-    pub fn as_slice(&self) -> &[RefCopy]
-        ensures { result.now ≡ self.now }
-    {
-        self.copies.as_slice()
-    }
-
-    /// Writes the copy at a place. It takes no memory. The caller's condition: there is one.
-    pub fn set(&mut self, place: usize, copy: RefCopy)
-        requires { place < length self.old }
-        ensures { self.new ≡ set self.old place copy }
-    {
-        self.copies[place] = copy;
-    }
-}
-
 /// A Call or a Reply that was acted on and isn't over.
 #[derive(Debug, Drop)]
 pub struct Message {
@@ -83,51 +44,7 @@ pub struct Message {
     /// The Call or the Reply.
     pub item: Item,
     /// The counted references in it.
-    pub copies: RefCopies,
-}
-
-/// Messages in order. Contracts see the list.
-#[derive(Debug, Drop)]
-pub struct Messages {
-    messages: Vec<Message>,
-}
-
-impl Model for Messages {
-    ghost use Rattle.std.specs.Prelude.{List};
-    ghost use Rattle.nob_model_types.specs.declared.message.Message.{Message};
-
-    ghost Value = { List Message };
-
-    ghost use Rattle.std.specs.Coded.{codes};
-    ghost use Rattle.nob_pickle.specs.Marks.{trees_code};
-
-    ghost coded = { Prim.hlevel (codes, trees_code) };
-
-    ghost view = { λ messages. messages.messages.items };
-}
-
-impl Messages {
-    /// These messages. It takes no memory.
-    pub fn from_vec(messages: Vec<Message>) -> Messages
-        ensures { result ≡ messages.items }
-    {
-        Messages { messages }
-    }
-
-    /// The messages as a vector. It takes no memory.
-    pub fn into_vec(self) -> Vec<Message>
-        ensures { result.items ≡ self }
-    {
-        let Messages { messages } = self;
-        messages
-    }
-
-    /// The messages.
-    pub fn as_slice(&self) -> &[Message]
-        ensures { result.now ≡ self.now }
-    {
-        self.messages.as_slice()
-    }
+    pub copies: List<RefCopy>,
 }
 
 // A reference as it comes in a message.
@@ -182,7 +99,7 @@ pub fn new_message(
         from: peer,
         number,
         item,
-        copies: RefCopies::from_vec(copies),
+        copies: List::from_vec(copies),
     })
 }
 
@@ -256,7 +173,7 @@ pub fn message_after(
         copies,
     } = message;
     let after = copies_after(alloc, &here, deeds, copies.as_slice())?;
-    let copies = RefCopies::from_vec(after);
+    let copies = List::from_vec(after);
     Ok(Message {
         from,
         number,

@@ -15,10 +15,9 @@ use crate::work::{self, InHand, Run};
 use nob_ids::{CallNo, ItemNo, JobNo, SpaceId, WireRep};
 use nob_item::Item;
 use nob_model_types::message::{self, Message, is_lost_message};
-use nob_model_types::{Deed, Here, Outcome, objects, sessions, turns};
+use nob_model_types::{Deed, Here, List, Outcome, objects, sessions, turns};
 use nob_pickle::Value;
 use std::alloc::{AllocError, Global};
-use std::marker::Model;
 
 /// An item that is given to a peer.
 #[derive(Debug, Drop)]
@@ -27,42 +26,6 @@ pub struct Gift {
     pub to: SpaceId,
     /// The item.
     pub item: Item,
-}
-
-/// Items that are given to peers, in order. Contracts see the list.
-#[derive(Debug, Drop)]
-pub struct GiftList {
-    gifts: Vec<Gift>,
-}
-
-impl Model for GiftList {
-    ghost use Rattle.std.specs.Prelude.{List};
-    ghost use Rattle.nob_model_work.specs.declared.gifts.Gift.{Gift};
-
-    ghost Value = { List Gift };
-
-    ghost use Rattle.std.specs.Coded.{codes};
-    ghost use Rattle.nob_pickle.specs.Marks.{trees_code};
-
-    ghost coded = { Prim.hlevel (codes, trees_code) };
-
-    ghost view = { λ gifts. gifts.gifts.items };
-}
-
-impl GiftList {
-    /// These items. It takes no memory.
-    pub fn from_vec(gifts: Vec<Gift>) -> GiftList
-        ensures { result ≡ gifts.items }
-    {
-        GiftList { gifts }
-    }
-
-    /// The items.
-    pub fn as_slice(&self) -> &[Gift]
-        ensures { result.now ≡ self.now }
-    {
-        self.gifts.as_slice()
-    }
 }
 
 /// One item and no other.
@@ -466,7 +429,7 @@ pub struct Past {
     /// What it has in hand.
     pub work: InHand,
     /// What each deed gave.
-    pub all_gifts: Vec<GiftList>,
+    pub all_gifts: Vec<List<Gift>>,
 }
 
 /// What a space has in hand, and what each of its deeds gave. It passes the deeds once, and at each
@@ -487,7 +450,7 @@ pub fn past_of(alloc: Global, here: &Here, deeds: &[Deed]) -> Result<Past, Alloc
                 mut all_gifts,
             } = past_of(alloc, here, older)?;
             let gifts = gifts(alloc, here, deed, older, &work)?;
-            all_gifts.insert(0, GiftList::from_vec(gifts))?;
+            all_gifts.insert(0, List::from_vec(gifts))?;
             let work = work::after(alloc, here, deed, older, deeds, work)?;
             Ok(Past { work, all_gifts })
         }

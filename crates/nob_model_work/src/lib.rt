@@ -7,5 +7,5 @@
 pub mod gifts;
 pub mod work;
 
-pub use gifts::{Gift, GiftList, Past};
-pub use work::{InHand, OwnCall, OwnCalls, Run, Runs, Stage};
+pub use gifts::{Gift, Past};
+pub use work::{InHand, OwnCall, Run, Stage};

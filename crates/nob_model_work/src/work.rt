@@ -10,13 +10,12 @@ ghost use Rattle.nob_model_work.specs.Work as words;
 use nob_ids::{CallNo, ItemNo, JobNo, SpaceId};
 use nob_item::Item;
 use nob_model_types::message::{
-    self, Message, Messages, RefCopies, is_job, is_lost_message, is_of, message_after,
-    messages_after, new_message, replies_to,
+    self, Message, is_job, is_lost_message, is_of, message_after, messages_after, new_message,
+    replies_to,
 };
-use nob_model_types::{Deed, Here, Job, sessions};
+use nob_model_types::{Deed, Here, Job, List, sessions};
 use nob_pickle::Value;
 use std::alloc::{AllocError, Global};
-use std::marker::Model;
 
 /// How far a call of this space has come.
 #[derive(Clone, Copy, Debug, PartialEq, Eq)]
@@ -40,45 +39,6 @@ pub struct OwnCall {
     pub stage: Stage,
 }
 
-/// Calls of this space, the first made first. Contracts see the list.
-#[derive(Debug, Drop)]
-pub struct OwnCalls {
-    calls: Vec<OwnCall>,
-}
-
-impl Model for OwnCalls {
-    ghost use Rattle.std.specs.Prelude.{List};
-    ghost use Rattle.nob_model_work.specs.declared.work.OwnCall.{OwnCall};
-
-    ghost Value = { List OwnCall };
-
-    ghost view = { λ calls. calls.calls.items };
-}
-
-impl OwnCalls {
-    /// These calls. It takes no memory.
-    pub fn from_vec(calls: Vec<OwnCall>) -> OwnCalls
-        ensures { result ≡ calls.items }
-    {
-        OwnCalls { calls }
-    }
-
-    /// The calls as a vector. It takes no memory.
-    pub fn into_vec(self) -> Vec<OwnCall>
-        ensures { result.items ≡ self }
-    {
-        let OwnCalls { calls } = self;
-        calls
-    }
-
-    /// The calls.
-    pub fn as_slice(&self) -> &[OwnCall]
-        ensures { result.now ≡ self.now }
-    {
-        self.calls.as_slice()
-    }
-}
-
 /// A job that runs.
 #[derive(Debug, Drop)]
 pub struct Run {
@@ -88,63 +48,19 @@ pub struct Run {
     pub message: Message,
 }
 
-/// Jobs that run, the newest first. Contracts see the list.
-#[derive(Debug, Drop)]
-pub struct Runs {
-    runs: Vec<Run>,
-}
-
-impl Model for Runs {
-    ghost use Rattle.std.specs.Prelude.{List};
-    ghost use Rattle.nob_model_work.specs.declared.work.Run.{Run};
-
-    ghost Value = { List Run };
-
-    ghost use Rattle.std.specs.Coded.{codes};
-    ghost use Rattle.nob_pickle.specs.Marks.{trees_code};
-
-    ghost coded = { Prim.hlevel (codes, trees_code) };
-
-    ghost view = { λ runs. runs.runs.items };
-}
-
-impl Runs {
-    /// These jobs. It takes no memory.
-    pub fn from_vec(runs: Vec<Run>) -> Runs
-        ensures { result ≡ runs.items }
-    {
-        Runs { runs }
-    }
-
-    /// The jobs as a vector. It takes no memory.
-    pub fn into_vec(self) -> Vec<Run>
-        ensures { result.items ≡ self }
-    {
-        let Runs { runs } = self;
-        runs
-    }
-
-    /// The jobs.
-    pub fn as_slice(&self) -> &[Run]
-        ensures { result.now ≡ self.now }
-    {
-        self.runs.as_slice()
-    }
-}
-
 /// What a space has in hand.
 #[derive(Debug, Drop)]
 pub struct InHand {
     /// The messages that wait for their references, in order of acting.
-    pub waiting: Messages,
+    pub waiting: List<Message>,
     /// The ready jobs, in order of becoming ready.
-    pub ready: Messages,
+    pub ready: List<Message>,
     /// The jobs that run.
-    pub running: Runs,
+    pub running: List<Run>,
     /// The ready replies, in order of becoming ready.
-    pub replies: Messages,
+    pub replies: List<Message>,
     /// The calls whose replies aren't taken.
-    pub calls: OwnCalls,
+    pub calls: List<OwnCall>,
 }
 
 impl InHand {
@@ -153,22 +69,22 @@ impl InHand {
         ensures { result ≡ words.no_work }
     {
         InHand {
-            waiting: Messages::from_vec(Vec::new(alloc)),
-            ready: Messages::from_vec(Vec::new(alloc)),
-            running: Runs::from_vec(Vec::new(alloc)),
-            replies: Messages::from_vec(Vec::new(alloc)),
-            calls: OwnCalls::from_vec(Vec::new(alloc)),
+            waiting: List::from_vec(Vec::new(alloc)),
+            ready: List::from_vec(Vec::new(alloc)),
+            running: List::from_vec(Vec::new(alloc)),
+            replies: List::from_vec(Vec::new(alloc)),
+            calls: List::from_vec(Vec::new(alloc)),
         }
     }
 }
 
 // These messages and one more.
-fn with_message(messages: Messages, message: Message) -> Result<Messages, AllocError>
+fn with_message(messages: List<Message>, message: Message) -> Result<List<Message>, AllocError>
     ensures { IfOk result (λ more. more ≡ messages ++ message ∷ []) }
 {
     let mut items = messages.into_vec();
     items.push(message)?;
-    Ok(Messages::from_vec(items))
+    Ok(List::from_vec(items))
 }
 
 // One message more that waits.
@@ -321,7 +237,7 @@ fn answer_call(
         replies,
         calls,
     } = work;
-    let calls = OwnCalls::from_vec(calls_after_reply(alloc, peer, call, calls.as_slice())?);
+    let calls = List::from_vec(calls_after_reply(alloc, peer, call, calls.as_slice())?);
     Ok(InHand {
         waiting,
         ready,
@@ -385,7 +301,7 @@ fn lost_reply(alloc: Global, message: &Message, call: CallNo) -> Message
             status: 3,
             value: Value::Unit,
         },
-        copies: RefCopies::from_vec(Vec::new(alloc)),
+        copies: List::from_vec(Vec::new(alloc)),
     }
 }
 
@@ -488,7 +404,7 @@ fn after_settle(
         calls,
     } = work;
     let (found, rest) = take_waiting(peer, number, waiting.into_vec());
-    let waiting = Messages::from_vec(rest);
+    let waiting = List::from_vec(rest);
     let others = InHand {
         waiting,
         ready,
@@ -518,7 +434,7 @@ fn start(job: JobNo, message: Message, work: InHand) -> Result<InHand, AllocErro
     } = work;
     let mut runs = running.into_vec();
     runs.insert(0, Run { job, message })?;
-    let running = Runs::from_vec(runs);
+    let running = List::from_vec(runs);
     Ok(InHand {
         waiting,
         ready,
@@ -542,7 +458,7 @@ pub fn after_claim(job: &Job, work: InHand) -> Result<InHand, AllocError>
         calls,
     } = work;
     let (found, rest) = take_job(job, ready.into_vec());
-    let ready = Messages::from_vec(rest);
+    let ready = List::from_vec(rest);
     let others = InHand {
         waiting,
         ready,
@@ -570,7 +486,7 @@ pub fn after_finish(job: JobNo, work: InHand) -> InHand
     } = work;
     let mut runs = running.into_vec();
     runs.retain(|run| run.job != job);
-    let running = Runs::from_vec(runs);
+    let running = List::from_vec(runs);
     InHand {
         waiting,
         ready,
@@ -581,21 +497,21 @@ pub fn after_finish(job: JobNo, work: InHand) -> InHand
 }
 
 // All messages but the Replies to a call.
-fn without_replies(call: CallNo, messages: Messages) -> Messages
+fn without_replies(call: CallNo, messages: List<Message>) -> List<Message>
     ensures { result ≡ filter (words.is_not_reply call) messages }
 {
     let mut items = messages.into_vec();
     items.retain(|message| !replies_to(call, &message.item));
-    Messages::from_vec(items)
+    List::from_vec(items)
 }
 
 // All calls but that of a number.
-fn without_call(call: CallNo, calls: OwnCalls) -> OwnCalls
+fn without_call(call: CallNo, calls: List<OwnCall>) -> List<OwnCall>
     ensures { result ≡ filter (λ own. not (words.is_call call own)) calls }
 {
     let mut items = calls.into_vec();
     items.retain(|own| own.call != call);
-    OwnCalls::from_vec(items)
+    List::from_vec(items)
 }
 
 /// What is in hand after the reply to a call was taken.
@@ -659,7 +575,7 @@ pub fn after_call(to: SpaceId, call: CallNo, work: InHand) -> Result<InHand, All
     let mut items = calls.into_vec();
     let stage = Stage::Sent;
     items.push(OwnCall { call, to, stage })?;
-    let calls = OwnCalls::from_vec(items);
+    let calls = List::from_vec(items);
     Ok(InHand {
         waiting,
         ready,
@@ -670,12 +586,12 @@ pub fn after_call(to: SpaceId, call: CallNo, work: InHand) -> Result<InHand, All
 }
 
 // All messages but those from a peer.
-fn without_peer(peer: SpaceId, messages: Messages) -> Messages
+fn without_peer(peer: SpaceId, messages: List<Message>) -> List<Message>
     ensures { result ≡ filter (message_words.is_not_from peer) messages }
 {
     let mut items = messages.into_vec();
     items.retain(|message| message.from != peer);
-    Messages::from_vec(items)
+    List::from_vec(items)
 }
 
 // Whether a Reply from a peer to a call is ready.
@@ -734,7 +650,7 @@ pub fn after_close(alloc: Global, peer: SpaceId, work: InHand) -> Result<InHand,
     } = work;
     let waiting = without_peer(peer, waiting);
     let ready = without_peer(peer, ready);
-    let calls = OwnCalls::from_vec(calls_after_close(
+    let calls = List::from_vec(calls_after_close(
         alloc,
         peer,
         replies.as_slice(),
@@ -812,23 +728,28 @@ fn message_loans(
     alloc: Global,
     here: &Here,
     deeds: &[Deed],
-    messages: Messages,
-) -> Result<Messages, AllocError>
+    messages: List<Message>,
+) -> Result<List<Message>, AllocError>
     ensures { IfOk result (λ after. after
         ≡ map (λ message. message_words.message_after here.now.space here.now.n deeds.now message)
         messages) }
 {
     let after = messages_after(alloc, here, deeds, messages.into_vec())?;
-    Ok(Messages::from_vec(after))
+    Ok(List::from_vec(after))
 }
 
 // Jobs that run with the loans made that can be made now.
-fn run_loans(alloc: Global, here: &Here, deeds: &[Deed], runs: Runs) -> Result<Runs, AllocError>
+fn run_loans(
+    alloc: Global,
+    here: &Here,
+    deeds: &[Deed],
+    runs: List<Run>,
+) -> Result<List<Run>, AllocError>
     ensures { IfOk result (λ after. after
         ≡ map (λ run. words.run_after here.now.space here.now.n deeds.now run) runs) }
 {
     let after = runs_after(alloc, here, deeds, runs.into_vec())?;
-    Ok(Runs::from_vec(after))
+    Ok(List::from_vec(after))
 }
 
 // What is in hand with the loans made that can be made now.

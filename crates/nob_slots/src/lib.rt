@@ -1,10 +1,11 @@
 //! Items under rising numbers: each is found by its number and taken out at low cost, and the
 //! marked ones are found without passing the others. Beside them stand the sets of numbers that
-//! mark them, by words of bits, and a list of rising numbers for each space.
+//! mark them, by words of bits, and a list of rising numbers for each space; and a list in a vector.
 #![tactic(auto)]
 
 mod iter;
 mod kept;
+mod list;
 mod lists;
 mod marks;
 mod number_iter;
@@ -17,6 +18,7 @@ mod words;
 mod write;
 
 pub use iter::Iter;
+pub use list::List;
 pub use marks::Marks;
 pub use number_iter::NumberIter;
 pub use numbers::Numbers;

@@ -9,7 +9,7 @@ ghost use Rattle.nob_space_items.specs.Messages as specs;
 use nob_ids::WireRep;
 use nob_item::{Item, counted_refs};
 use nob_model::{Loan, RefCopy};
-use nob_model_types::message::RefCopies;
+use nob_model_types::List;
 use nob_space_settling::is_lost;
 use nob_space_state::Parts;
 use nob_table::State;
@@ -52,7 +52,11 @@ fn new_loan(parts: &Parts, rep: &WireRep) -> Loan
 }
 
 // The copies of an item's references as they come in it. Only memory fails it.
-pub(crate) fn new_copies(parts: &Parts, alloc: Global, item: &Item) -> Result<RefCopies, AllocError>
+pub(crate) fn new_copies(
+    parts: &Parts,
+    alloc: Global,
+    item: &Item,
+) -> Result<List<RefCopy>, AllocError>
     ensures { IfOk result (λ copies. copies
         ≡ specs.new_copies parts.now.here.space parts.now.here.n (state_of parts.now) (counted_in item.now)) }
 {
@@ -64,5 +68,5 @@ pub(crate) fn new_copies(parts: &Parts, alloc: Global, item: &Item) -> Result<Re
             loan: new_loan(parts, rep),
         })?;
     }
-    Ok(RefCopies::from_vec(copies))
+    Ok(List::from_vec(copies))
 }

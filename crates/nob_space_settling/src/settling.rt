@@ -23,7 +23,7 @@ ghost use Rattle.nob_space_settling.specs.Settling.{is_denied, is_lost_here, has
 use nob_ids::{CallNo, ItemNo, SpaceId, WireRep};
 use nob_item::Item;
 use nob_model::{Kind, Message, RefCopy, Refusal};
-use nob_model_types::message::RefCopies;
+use nob_model_types::List;
 use nob_pickle::Value;
 use nob_session::Session;
 use nob_space_calls::Calls;
@@ -208,7 +208,7 @@ fn put_reply(
             status: 3,
             value: Value::Unit,
         },
-        copies: RefCopies::from_vec(Vec::new(alloc)),
+        copies: List::from_vec(Vec::new(alloc)),
     };
     calls.push_reply(reply);
 }

@@ -6,8 +6,7 @@ ghost use Rattle.nob_slots.specs.Slots.{item_at, is_number, PutsMark};
 ghost use Rattle.nob_space_waiting.specs.declared.entry.Entry.{Entry as EntryOf};
 
 use nob_item::Item;
-use nob_model_types::Message;
-use nob_model_types::message::RefCopies;
+use nob_model_types::{List, Message};
 use nob_slots::Slots;
 use std::alloc::Global;
 
@@ -36,7 +35,7 @@ pub fn lift(slots: &mut Slots<Entry>, alloc: Global, stamp: u64) -> Option<Entry
             from: entry.message.from,
             number,
             item: Item::Settle(number),
-            copies: RefCopies::from_vec(Vec::new(alloc)),
+            copies: List::from_vec(Vec::new(alloc)),
         },
         waits: 0,
     };
