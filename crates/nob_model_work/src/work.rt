@@ -55,11 +55,11 @@ pub struct InHand {
     pub waiting: List<Message>,
     /// The ready jobs, in order of becoming ready.
     pub ready: List<Message>,
-    /// The jobs that run.
+    /// The jobs that run, the newest first.
     pub running: List<Run>,
     /// The ready replies, in order of becoming ready.
     pub replies: List<Message>,
-    /// The calls whose replies aren't taken.
+    /// The calls whose replies aren't taken, the first made first.
     pub calls: List<OwnCall>,
 }
 
