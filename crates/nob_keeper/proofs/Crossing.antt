@@ -23,13 +23,14 @@ use Rattle.nob_model_session.proofs.entry.Frames.TheSendSync as frames
 use Rattle.nob_model_types.specs.contracts.answer.Answer as Answer
 use Rattle.nob_model_types.specs.contracts.event.Event as Event
 use Rattle.nob_model_types.specs.contracts.refusal.Refusal as Refusal
-use Rattle.nob_model_types.proofs.message.RefCopies.TheSendSync as copies
+use Rattle.nob_model_types.specs.contracts.message.RefCopy as RefCopy
 use Rattle.nob_pickle.proofs.value.Values.TheLaws.TheKnot as values
 use Rattle.nob_pins.proofs.table.PinTable.TheSendSync as pins
 use Rattle.nob_session.proofs.session.Session.TheSendSync as session
 use Rattle.nob_session.specs.contracts.session.Session as Session
 use Rattle.nob_space.specs.contracts.space.Space as Space
 use Rattle.nob_space.specs.contracts.space.Space.TheInside as SpaceInside
+use Rattle.nob_slots.proofs.list.List.TheSendSync as lists
 use Rattle.nob_slots.proofs.slots.Slots.TheSendSync as slots
 use Rattle.nob_space_calls.proofs.firsts.Firsts.TheSendSync as firsts
 use Rattle.nob_space_calls.proofs.rows.Rows.TheSendSync as rows
@@ -53,11 +54,14 @@ use Rattle.nob_space_waiting.specs.contracts.waiting.Waiting.TheInside as Waitin
 use Rattle.nob_table.proofs.table.ObjectTable.TheSendSync as table
 use Rattle.nob_trace.specs.contracts.stamped.Stamped as Stamped
 
+copy_send : IsSend RefCopy.the_row
+copy_send = search sendable depth 30
+
 message_send : IsSend Message.the_row
-message_send = search (copies.the_send, bytes.the_send, crosses, values.crosses, sendable) depth 60 fits 20000
+message_send = search (lists.the_send RefCopy.the_row copy_send, bytes.the_send, crosses, values.crosses, sendable) depth 60 fits 20000
 
 entry_send : IsSend Entry.the_row
-entry_send = search (copies.the_send, bytes.the_send, crosses, values.crosses, sendable) depth 60 fits 20000
+entry_send = search (lists.the_send RefCopy.the_row copy_send, bytes.the_send, crosses, values.crosses, sendable) depth 60 fits 20000
 
 waiting_inside_send : IsSend WaitingInside.the_row
 waiting_inside_send =
@@ -69,7 +73,7 @@ waiting_send : IsSend Waiting.the_row
 waiting_send = view_send WaitingInside.the_row _ _ _ _ waiting_inside_send
 
 run_send : IsSend Run.the_row
-run_send = search (copies.the_send, bytes.the_send, crosses, values.crosses, sendable) depth 60 fits 20000
+run_send = search (lists.the_send RefCopy.the_row copy_send, bytes.the_send, crosses, values.crosses, sendable) depth 60 fits 20000
 
 running_inside_send : IsSend RunningInside.the_row
 running_inside_send =
