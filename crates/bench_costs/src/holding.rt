@@ -23,7 +23,7 @@ const LARGE: usize = 8_000;
 // How many references a call carries at most.
 const REFS: usize = 32;
 
-/// Has the spaces hold what a task says: the references that the second has in hand then.
+/// Has the spaces hold what a task says: the references that the second has in the hand then.
 pub(crate) fn hold(
     alloc: Global,
     one: &mut Space,
@@ -108,7 +108,7 @@ pub(crate) fn rep_of(reps: &[WireRep], task: Task, number: u64) -> Option<WireRe
     reps.get(usize::try_from(place).ok()?).copied()
 }
 
-/// A reference to a new object of a space, which another has in hand then.
+/// A reference to a new object of a space, which another has in the hand then.
 pub(crate) fn pass(from: &mut Space, to: &mut Space) -> Result<WireRep, SpaceError> {
     let rep = from.export()?;
     let call = from.call(&agent_of(to), METHOD, &Value::Ref(rep))?;

@@ -8,7 +8,7 @@ use nob_model::{Outcome, Refusal};
 use nob_pickle::Value;
 use nob_space::{Space, SpaceError};
 
-/// One round; some are about a reference that the second space has in hand.
+/// One round; some are about a reference that the second space has in the hand.
 pub(crate) fn make_round(
     one: &mut Space,
     two: &mut Space,

@@ -3,9 +3,9 @@
 /// What the spaces hold before rounds are made.
 #[derive(Clone, Copy, Debug, PartialEq, Eq)]
 pub(crate) enum Kept {
-    /// The second space has surrogates of objects in hand, each of which the first holds too.
+    /// The second space has surrogates of objects in the hand, each of which the first holds too.
     Held,
-    /// The second space has surrogates of objects in hand, which the first holds no more.
+    /// The second space has surrogates of objects in the hand, which the first holds no more.
     Listed,
     /// The first space has passed references to objects of the third on to the second, which waits
     /// for the third's answers.

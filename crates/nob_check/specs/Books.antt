@@ -50,7 +50,7 @@ both_open_by did a b = not (closed_by did a b) && not (closed_by did b a)
 abbrev pub reaches_owner_by : (ℕ → List Deed) → ℕ → WireRep → Bool
 reaches_owner_by did c rep = is_own c rep || both_open_by did c rep.owner
 
--- whether no loan in hand at any space is due that can be made
+-- whether no loan outstanding at any space is due that can be made
 abbrev pub have_loans_made : List Ledger → Bool
 have_loans_made books = list_all has_loans_made books
 

@@ -114,7 +114,7 @@ fn verdict_on(alloc: Global, judging: &Judging) -> Result<Verdict, AllocError>
 /// The verdict on a journal of 32 spaces, the first entry first: yes where all four promises are
 /// kept, else the first that isn't. Only memory fails it. It passes the entries once and keeps a
 /// ledger of each space; an entry costs what its space's ledger does: it looks up what the entry
-/// touches, and some entries look along what is in hand there (README.md says which). A Withdraw
+/// touches, and some entries look along what is outstanding there (README.md says which). A Withdraw
 /// looks at all ledgers.
 pub fn judge(alloc: Global, journal: &[Entry]) -> Result<Verdict, AllocError>
     ensures { IfOk result (λ verdict. IsVerdict most_spaces (reverse journal.now) verdict) }

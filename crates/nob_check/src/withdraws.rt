@@ -99,7 +99,7 @@ fn no_space_needs(
 }
 
 /// Whether a deed of a space isn't the withdrawal of an object that a space needs. For a Withdraw
-/// it passes all ledgers, what each has in hand and where each sent the reference; it looks at none
+/// it passes all ledgers, what each has outstanding and where each sent the reference; it looks at none
 /// for any other deed.
 pub fn is_unneeded(
     alloc: Global,

@@ -1,4 +1,4 @@
--- What is in hand keeps its loans where none that is due can be made, and has none such once they are made.
+-- What is outstanding keeps its loans where none that is due can be made, and has none such once they are made.
 use Rattle.std.proofs.Common.{◌≡◌, ◌&&◌, ◌++◌, not, ℕ, Bool, true, false, cond, List, [], ◌∷◌, Some, if◌then◌else◌, filter, find, map, refl, sym, ap, subst, true≢false, ◌∙◌}
 use Rattle.std.specs.List.{list_all}
 use Rattle.std.proofs.lemmas.Bool.{and_parts, and_from}
@@ -10,7 +10,7 @@ use Rattle.nob_model_types.specs.declared.message.Loan.TheVariants as loans
 use Rattle.nob_model_types.specs.declared.message.RefCopy.{RefCopy}
 use Rattle.nob_model_types.specs.declared.message.Message.{Message}
 use Rattle.nob_model_types.specs.Messages.{loan_after, copy_after, message_after}
-use Rattle.nob_model_work.specs.declared.work.InHand.{InHand}
+use Rattle.nob_model_work.specs.declared.work.Outstanding.{Outstanding}
 use Rattle.nob_model_work.specs.declared.work.Run.{Run}
 use Rattle.nob_model_work.specs.Work.{run_after, with_loans, without_first}
 use Rattle.nob_check_ledgers.specs.Acting.{is_due, is_due_loan}
@@ -105,12 +105,12 @@ four_parts a b c d all =
     let first = and_parts a b third.0 in
     (first.0, first.1, third.1, last.1)
 
--- the parts of what is in hand
-pub lent_parts : (s n : ℕ) (D : List Deed) (work : InHand) → all_lent s n D work ≡ true → (list_all (is_lent s n D) work.waiting ≡ true) × (list_all (is_lent s n D) work.ready ≡ true) × (list_all (λ run. is_lent s n D run.message) work.running ≡ true) × (list_all (is_lent s n D) work.replies ≡ true)
+-- the parts of what is outstanding
+pub lent_parts : (s n : ℕ) (D : List Deed) (work : Outstanding) → all_lent s n D work ≡ true → (list_all (is_lent s n D) work.waiting ≡ true) × (list_all (is_lent s n D) work.ready ≡ true) × (list_all (λ run. is_lent s n D run.message) work.running ≡ true) × (list_all (is_lent s n D) work.replies ≡ true)
 lent_parts s n D work all = four_parts (list_all (is_lent s n D) work.waiting) (list_all (is_lent s n D) work.ready) (list_all (λ run. is_lent s n D run.message) work.running) (list_all (is_lent s n D) work.replies) all
 
 -- where none that is due can be made, the loans stay
-pub work_kept : (s n : ℕ) (D : List Deed) (work : InHand) → all_lent s n D work ≡ true → with_loans s n D work ≡ work
+pub work_kept : (s n : ℕ) (D : List Deed) (work : Outstanding) → all_lent s n D work ≡ true → with_loans s n D work ≡ work
 unfolding with_loans
 work_kept s n D work all =
     let (waiting, ready, running, replies) = lent_parts s n D work all in
@@ -146,7 +146,7 @@ runs_made s n D [] = refl
 runs_made s n D (run ∷ runs) = and_from (is_lent s n D (run_after s n D run).message) (list_all (λ run. is_lent s n D run.message) (map (λ run. run_after s n D run) runs)) (run_made s n D run) (runs_made s n D runs)
 
 -- once the loans are made, none is due that can be
-pub work_made : (s n : ℕ) (D : List Deed) (work : InHand) → all_lent s n D (with_loans s n D work) ≡ true
+pub work_made : (s n : ℕ) (D : List Deed) (work : Outstanding) → all_lent s n D (with_loans s n D work) ≡ true
 unfolding with_loans
 work_made s n D work = four (list_all (is_lent s n D) (map (λ message. message_after s n D message) work.waiting)) (list_all (is_lent s n D) (map (λ message. message_after s n D message) work.ready)) (list_all (λ run. is_lent s n D run.message) (map (λ run. run_after s n D run) work.running)) (list_all (is_lent s n D) (map (λ message. message_after s n D message) work.replies)) (messages_made s n D work.waiting) (messages_made s n D work.ready) (runs_made s n D work.running) (messages_made s n D work.replies)
 
@@ -160,8 +160,8 @@ ripe_before true can true before h = absurd (true≢false (sym (sym (ap not (bef
 message_later : (s n : ℕ) (D E : List Deed) → ((rep : WireRep) → can_lend s n E rep ≡ true → can_lend s n D rep ≡ true) → (message : Message) → is_lent s n D message ≡ true → is_lent s n E message ≡ true
 message_later s n D E before message = all_more (λ copy. not (is_ripe s n D copy)) (λ copy. not (is_ripe s n E copy)) (λ copy h. ripe_before (is_due copy) (can_lend s n D copy.rep) (can_lend s n E copy.rep) (before copy.rep) h) message.copies
 
--- where no more can be lent, what is in hand has no such loan after either
-pub work_later : (s n : ℕ) (D E : List Deed) (work : InHand) → ((rep : WireRep) → can_lend s n E rep ≡ true → can_lend s n D rep ≡ true) → all_lent s n D work ≡ true → all_lent s n E work ≡ true
+-- where no more can be lent, what is outstanding has no such loan after either
+pub work_later : (s n : ℕ) (D E : List Deed) (work : Outstanding) → ((rep : WireRep) → can_lend s n E rep ≡ true → can_lend s n D rep ≡ true) → all_lent s n D work ≡ true → all_lent s n E work ≡ true
 work_later s n D E work before all =
     let (waiting, ready, running, replies) = lent_parts s n D work all in
     four (list_all (is_lent s n E) work.waiting) (list_all (is_lent s n E) work.ready) (list_all (λ run. is_lent s n E run.message) work.running) (list_all (is_lent s n E) work.replies)

@@ -9,7 +9,7 @@ use Rattle.nob_model_types.specs.declared.deed.Deed.{Deed}
 use Rattle.nob_model_types.specs.declared.deed.Deed.TheVariants.{Call, TakeReply, TakeEnd, Claim, Finish, DropReply, Settle, Closing}
 use Rattle.nob_model_types.specs.declared.message.Message.{Message}
 use Rattle.nob_model_types.specs.Messages.{is_of, is_job, is_not_from, is_lost_message, new_message, message_after, copy_after}
-use Rattle.nob_model_work.specs.declared.work.InHand.{InHand}
+use Rattle.nob_model_work.specs.declared.work.Outstanding.{Outstanding}
 use Rattle.nob_model_work.specs.Work.{after_call, after_take, after_end, after_claim, after_finish, after_settle, after_settlement, after_close, after_message, work_after, with_loans, with_calls, call_after_reply, is_none_of, is_run, is_not_reply, lost_reply, make_ready, make_reply, wait, without_first, without_waiting}
 use Rattle.nob_check_ledgers.specs.Acting.{acted_on, after_acted, after_lent, after_other}
 use Rattle.nob_check_ledgers.specs.Making.{is_lent, all_lent, makes_usable}
@@ -17,9 +17,9 @@ use Rattle.nob_check_ledgers.proofs.Acting.{acted_law}
 use Rattle.nob_check_ledgers.proofs.Keeping.{all_filter, all_without, all_found, all_and_last, four, lent_parts, work_kept, work_later}
 use Rattle.nob_check_ledgers.proofs.Usable.{lent_before}
 
--- ---- what is in hand after a deed that is no Act has no loan that is due and can be made, where there was none
+-- ---- what is outstanding after a deed that is no Act has no loan that is due and can be made, where there was none
 
-claim_lent : (s n : ℕ) (job : Job) (E : List Deed) (found : Option Message) (work : InHand) → find (is_job job) work.ready ≡ found → all_lent s n E work ≡ true → all_lent s n E (after_claim job found work) ≡ true
+claim_lent : (s n : ℕ) (job : Job) (E : List Deed) (found : Option Message) (work : Outstanding) → find (is_job job) work.ready ≡ found → all_lent s n E work ≡ true → all_lent s n E (after_claim job found work) ≡ true
 unfolding after_claim
 claim_lent s n job E None work there lent = lent
 claim_lent s n job E (Some message) work there lent =
@@ -30,40 +30,40 @@ claim_lent s n job E (Some message) work there lent =
     (and_from (is_lent s n E message) (list_all (λ run. is_lent s n E run.message) work.running) (all_found (is_lent s n E) (is_job job) work.ready message ready there) running)
     replies
 
-finish_lent : (s n j : ℕ) (E : List Deed) (work : InHand) → all_lent s n E work ≡ true → all_lent s n E (after_finish j work) ≡ true
+finish_lent : (s n j : ℕ) (E : List Deed) (work : Outstanding) → all_lent s n E work ≡ true → all_lent s n E (after_finish j work) ≡ true
 unfolding after_finish
 finish_lent s n j E work lent =
     let (waiting, ready, running, replies) = lent_parts s n E work lent in
     four (list_all (is_lent s n E) work.waiting) (list_all (is_lent s n E) work.ready) (list_all (λ run. is_lent s n E run.message) (filter (λ run. not (is_run j run)) work.running)) (list_all (is_lent s n E) work.replies)
     waiting ready (all_filter (λ run. is_lent s n E run.message) (λ run. not (is_run j run)) work.running running) replies
 
-take_lent : (s n k : ℕ) (E : List Deed) (work : InHand) → all_lent s n E work ≡ true → all_lent s n E (after_take k work) ≡ true
+take_lent : (s n k : ℕ) (E : List Deed) (work : Outstanding) → all_lent s n E work ≡ true → all_lent s n E (after_take k work) ≡ true
 unfolding after_take
 take_lent s n k E work lent =
     let (waiting, ready, running, replies) = lent_parts s n E work lent in
     four (list_all (is_lent s n E) (filter (is_not_reply k) work.waiting)) (list_all (is_lent s n E) work.ready) (list_all (λ run. is_lent s n E run.message) work.running) (list_all (is_lent s n E) (filter (is_not_reply k) work.replies))
     (all_filter (is_lent s n E) (is_not_reply k) work.waiting waiting) ready running (all_filter (is_lent s n E) (is_not_reply k) work.replies replies)
 
-close_lent : (s n p : ℕ) (E : List Deed) (work : InHand) → all_lent s n E work ≡ true → all_lent s n E (after_close p work) ≡ true
+close_lent : (s n p : ℕ) (E : List Deed) (work : Outstanding) → all_lent s n E work ≡ true → all_lent s n E (after_close p work) ≡ true
 unfolding after_close
 close_lent s n p E work lent =
     let (waiting, ready, running, replies) = lent_parts s n E work lent in
     four (list_all (is_lent s n E) (filter (is_not_from p) work.waiting)) (list_all (is_lent s n E) (filter (is_not_from p) work.ready)) (list_all (λ run. is_lent s n E run.message) work.running) (list_all (is_lent s n E) work.replies)
     (all_filter (is_lent s n E) (is_not_from p) work.waiting waiting) (all_filter (is_lent s n E) (is_not_from p) work.ready ready) running replies
 
-ready_lent : (s n : ℕ) (E : List Deed) (message : Message) (work : InHand) → all_lent s n E work ≡ true → is_lent s n E message ≡ true → all_lent s n E (make_ready message work) ≡ true
+ready_lent : (s n : ℕ) (E : List Deed) (message : Message) (work : Outstanding) → all_lent s n E work ≡ true → is_lent s n E message ≡ true → all_lent s n E (make_ready message work) ≡ true
 ready_lent s n E message work lent one =
     let (waiting, ready, running, replies) = lent_parts s n E work lent in
     four (list_all (is_lent s n E) work.waiting) (list_all (is_lent s n E) (work.ready ++ message ∷ [])) (list_all (λ run. is_lent s n E run.message) work.running) (list_all (is_lent s n E) work.replies)
     waiting (all_and_last (is_lent s n E) work.ready message ready one) running replies
 
-reply_lent : (s n : ℕ) (E : List Deed) (message : Message) (work : InHand) → all_lent s n E work ≡ true → is_lent s n E message ≡ true → all_lent s n E (make_reply message work) ≡ true
+reply_lent : (s n : ℕ) (E : List Deed) (message : Message) (work : Outstanding) → all_lent s n E work ≡ true → is_lent s n E message ≡ true → all_lent s n E (make_reply message work) ≡ true
 reply_lent s n E message work lent one =
     let (waiting, ready, running, replies) = lent_parts s n E work lent in
     four (list_all (is_lent s n E) work.waiting) (list_all (is_lent s n E) work.ready) (list_all (λ run. is_lent s n E run.message) work.running) (list_all (is_lent s n E) (work.replies ++ message ∷ []))
     waiting ready running (all_and_last (is_lent s n E) work.replies message replies one)
 
-settlement_lent : (s n : ℕ) (E : List Deed) (message : Message) (item : Item) (lost : Bool) (work : InHand) → all_lent s n E work ≡ true → is_lent s n E message ≡ true → all_lent s n E (after_settlement message item lost work) ≡ true
+settlement_lent : (s n : ℕ) (E : List Deed) (message : Message) (item : Item) (lost : Bool) (work : Outstanding) → all_lent s n E work ≡ true → is_lent s n E message ≡ true → all_lent s n E (after_settlement message item lost work) ≡ true
 unfolding after_settlement
 settlement_lent s n E message (items.Call call target method value) true work lent one = lent
 settlement_lent s n E message (items.Call call target method value) false work lent one = ready_lent s n E message work lent one
@@ -75,7 +75,7 @@ settlement_lent s n E message (items.DirtyOk index) lost work lent one = lent
 settlement_lent s n E message (items.DirtyNo index) lost work lent one = lent
 settlement_lent s n E message (items.Clean index) lost work lent one = lent
 
-settle_lent : (s n p k : ℕ) (D E : List Deed) (found : Option Message) (work : InHand) → find (is_of p k) work.waiting ≡ found → all_lent s n E work ≡ true → all_lent s n E (after_settle s n p k D found work) ≡ true
+settle_lent : (s n p k : ℕ) (D E : List Deed) (found : Option Message) (work : Outstanding) → find (is_of p k) work.waiting ≡ found → all_lent s n E work ≡ true → all_lent s n E (after_settle s n p k D found work) ≡ true
 unfolding after_settle
 settle_lent s n p k D E None work there lent = lent
 settle_lent s n p k D E (Some message) work there lent =
@@ -84,7 +84,7 @@ settle_lent s n p k D E (Some message) work there lent =
     (four (list_all (is_lent s n E) (without_first (is_of p k) work.waiting)) (list_all (is_lent s n E) work.ready) (list_all (λ run. is_lent s n E run.message) work.running) (list_all (is_lent s n E) work.replies) (all_without (is_lent s n E) (is_of p k) work.waiting waiting) ready running replies)
     (all_found (is_lent s n E) (is_of p k) work.waiting message waiting there)
 
-other_lent : (s n : ℕ) (deed : Deed) (D E : List Deed) (work : InHand) → all_lent s n E work ≡ true → all_lent s n E (after_other s n deed D work) ≡ true
+other_lent : (s n : ℕ) (deed : Deed) (D E : List Deed) (work : Outstanding) → all_lent s n E work ≡ true → all_lent s n E (after_other s n deed D work) ≡ true
 unfolding after_other after_call after_end
 other_lent s n (Call target method value call) D E work lent = lent
 other_lent s n (TakeReply call status value) D E work lent = take_lent s n call E work lent
@@ -106,27 +106,27 @@ none_same : {A : Type 0} {B : Type 0} (f : A → B) (xs : List A) → is_none_of
 none_same f [] = refl
 none_same f (x ∷ xs) = refl
 
-ready_loans : (s n : ℕ) (D : List Deed) (message : Message) (work : InHand) → with_loans s n D (make_ready message work) ≡ make_ready (message_after s n D message) (with_loans s n D work)
+ready_loans : (s n : ℕ) (D : List Deed) (message : Message) (work : Outstanding) → with_loans s n D (make_ready message work) ≡ make_ready (message_after s n D message) (with_loans s n D work)
 unfolding with_loans
 ready_loans s n D message work = ap (λ ready. record { waiting = (with_loans s n D work).waiting; ready = ready; running = (with_loans s n D work).running; replies = (with_loans s n D work).replies; calls = work.calls }) (map_last (λ message. message_after s n D message) work.ready message)
 
-reply_loans : (s n : ℕ) (D : List Deed) (message : Message) (work : InHand) → with_loans s n D (make_reply message work) ≡ make_reply (message_after s n D message) (with_loans s n D work)
+reply_loans : (s n : ℕ) (D : List Deed) (message : Message) (work : Outstanding) → with_loans s n D (make_reply message work) ≡ make_reply (message_after s n D message) (with_loans s n D work)
 unfolding with_loans
 reply_loans s n D message work = ap (λ replies. record { waiting = (with_loans s n D work).waiting; ready = (with_loans s n D work).ready; running = (with_loans s n D work).running; replies = replies; calls = work.calls }) (map_last (λ message. message_after s n D message) work.replies message)
 
-wait_loans : (s n : ℕ) (D : List Deed) (message : Message) (work : InHand) → with_loans s n D (wait message work) ≡ wait (message_after s n D message) (with_loans s n D work)
+wait_loans : (s n : ℕ) (D : List Deed) (message : Message) (work : Outstanding) → with_loans s n D (wait message work) ≡ wait (message_after s n D message) (with_loans s n D work)
 unfolding with_loans
 wait_loans s n D message work = ap (λ waiting. record { waiting = waiting; ready = (with_loans s n D work).ready; running = (with_loans s n D work).running; replies = (with_loans s n D work).replies; calls = work.calls }) (map_last (λ message. message_after s n D message) work.waiting message)
 
-call_loans : (s n : ℕ) (D : List Deed) (message : Message) (none : Bool) (work : InHand) → with_loans s n D (if none then make_ready message work else wait message work) ≡ (if none then make_ready (message_after s n D message) (with_loans s n D work) else wait (message_after s n D message) (with_loans s n D work))
+call_loans : (s n : ℕ) (D : List Deed) (message : Message) (none : Bool) (work : Outstanding) → with_loans s n D (if none then make_ready message work else wait message work) ≡ (if none then make_ready (message_after s n D message) (with_loans s n D work) else wait (message_after s n D message) (with_loans s n D work))
 call_loans s n D message true work = ready_loans s n D message work
 call_loans s n D message false work = wait_loans s n D message work
 
-answer_loans : (s n : ℕ) (D : List Deed) (message : Message) (none : Bool) (work : InHand) → with_loans s n D (if none then make_reply message work else wait message work) ≡ (if none then make_reply (message_after s n D message) (with_loans s n D work) else wait (message_after s n D message) (with_loans s n D work))
+answer_loans : (s n : ℕ) (D : List Deed) (message : Message) (none : Bool) (work : Outstanding) → with_loans s n D (if none then make_reply message work else wait message work) ≡ (if none then make_reply (message_after s n D message) (with_loans s n D work) else wait (message_after s n D message) (with_loans s n D work))
 answer_loans s n D message true work = reply_loans s n D message work
 answer_loans s n D message false work = wait_loans s n D message work
 
-calls_loans : (s n : ℕ) (D : List Deed) (p k : ℕ) (work : InHand) → with_loans s n D (with_calls (call_after_reply p k) work) ≡ with_calls (call_after_reply p k) (with_loans s n D work)
+calls_loans : (s n : ℕ) (D : List Deed) (p k : ℕ) (work : Outstanding) → with_loans s n D (with_calls (call_after_reply p k) work) ≡ with_calls (call_after_reply p k) (with_loans s n D work)
 unfolding with_loans
 calls_loans s n D p k work = refl
 
@@ -138,7 +138,7 @@ from_same : (s n : ℕ) (D : List Deed) (message : Message) → (message_after s
 unfolding message_after
 from_same s n D message = refl
 
-message_loans : (s n : ℕ) (D : List Deed) (message : Message) (item : Item) (work : InHand) → with_loans s n D (after_message message item work) ≡ after_message (message_after s n D message) item (with_loans s n D work)
+message_loans : (s n : ℕ) (D : List Deed) (message : Message) (item : Item) (work : Outstanding) → with_loans s n D (after_message message item work) ≡ after_message (message_after s n D message) item (with_loans s n D work)
 unfolding after_message
 message_loans s n D message (items.Call call target method value) work =
     call_loans s n D message (is_none_of message.copies) work
@@ -154,13 +154,13 @@ message_loans s n D message (items.DirtyOk index) work = refl
 message_loans s n D message (items.DirtyNo index) work = refl
 message_loans s n D message (items.Clean index) work = refl
 
-acted_loans : (s n : ℕ) (D : List Deed) (message : Option Message) (work : InHand) → with_loans s n D (after_acted s n D message work) ≡ after_lent s n D message (with_loans s n D work)
+acted_loans : (s n : ℕ) (D : List Deed) (message : Option Message) (work : Outstanding) → with_loans s n D (after_acted s n D message work) ≡ after_lent s n D message (with_loans s n D work)
 unfolding after_acted after_lent
 acted_loans s n D None work = refl
 acted_loans s n D (Some message) work = message_loans s n D (new_message s n message.from message.number message.item D) message.item work
 
 -- a deed that makes no reference usable
-pub quiet_law : (s n : ℕ) (deed : Deed) (D : List Deed) (work : InHand) → all_lent s n D work ≡ true → makes_usable s n deed D ≡ false → after_lent s n (deed ∷ D) (acted_on deed D) (after_other s n deed D work) ≡ with_loans s n (deed ∷ D) (work_after s n deed D work)
+pub quiet_law : (s n : ℕ) (deed : Deed) (D : List Deed) (work : Outstanding) → all_lent s n D work ≡ true → makes_usable s n deed D ≡ false → after_lent s n (deed ∷ D) (acted_on deed D) (after_other s n deed D work) ≡ with_loans s n (deed ∷ D) (work_after s n deed D work)
 quiet_law s n deed D work lent quiet =
     let others = after_other s n deed D work in
     let still = other_lent s n deed D (deed ∷ D) work (work_later s n D (deed ∷ D) work (λ rep after. lent_before s n rep deed D quiet after) lent) in

@@ -1,4 +1,4 @@
--- What a deed makes usable, and that all else in hand keeps its loans.
+-- What a deed makes usable, and that all else outstanding keeps its loans.
 use Rattle.std.proofs.Common.{◌≡◌, ◌&&◌, ◌||◌, not, ℕ, ◌+◌, Bool, true, false, List, [], ◌∷◌, Option, Some, None, if◌then◌else◌, filter, refl, sym, ap, subst, true≢false, ◌∙◌}
 use Rattle.std.specs.Prelude.{◌==◌}
 use Rattle.std.specs.List.{list_any}

@@ -1,4 +1,4 @@
--- A deed by two steps: what it makes of what is in hand where it is no Act, and then the item that it acts on, which is
+-- A deed by two steps: what it makes of what is outstanding where it is no Act, and then the item that it acts on, which is
 -- looked at once the deed is done.
 use Rattle.std.specs.Prelude.{ℕ, Bool, true, false, List, [], Option, Some, None, find}
 use Rattle.nob_item.specs.declared.item.Item.{Item}
@@ -11,7 +11,7 @@ use Rattle.nob_model_types.specs.declared.message.Message.{Message}
 use Rattle.nob_model_types.specs.Sessions.{item_at}
 use Rattle.nob_model_types.specs.Messages.{is_of, is_job, new_message, message_after}
 use Rattle.nob_model_work.specs.Work.{after_call, after_take, after_end, after_claim, after_finish, after_settle, after_close, after_message}
-use Rattle.nob_model_work.specs.declared.work.InHand.{InHand}
+use Rattle.nob_model_work.specs.declared.work.Outstanding.{Outstanding}
 
 -- whether a loan isn't made yet
 abbrev pub is_due_loan : Loan → Bool
@@ -33,18 +33,18 @@ abbrev pub acted_on : Deed → List Deed → Option Message
 acted_on (Act p k) D = fresh_message p k (item_at p k D)
 acted_on (_) D = None
 
--- what is in hand once it is a message, by what was done
-unfoldable pub after_acted : (s n : ℕ) → List Deed → Option Message → InHand → InHand
+-- what is outstanding once it is a message, by what was done
+unfoldable pub after_acted : (s n : ℕ) → List Deed → Option Message → Outstanding → Outstanding
 after_acted s n D None work = work
 after_acted s n D (Some message) work = after_message (new_message s n message.from message.number message.item D) message.item work
 
--- what is in hand once it is a message whose own loans are made
-unfoldable pub after_lent : (s n : ℕ) → List Deed → Option Message → InHand → InHand
+-- what is outstanding once it is a message whose own loans are made
+unfoldable pub after_lent : (s n : ℕ) → List Deed → Option Message → Outstanding → Outstanding
 after_lent s n D None work = work
 after_lent s n D (Some message) work = after_message (message_after s n D (new_message s n message.from message.number message.item D)) message.item work
 
--- what is in hand after a deed that is no Act, the loans aside
-unfoldable pub after_other : (s n : ℕ) → Deed → List Deed → InHand → InHand
+-- what is outstanding after a deed that is no Act, the loans aside
+unfoldable pub after_other : (s n : ℕ) → Deed → List Deed → Outstanding → Outstanding
 after_other s n (Call target method value call) D work = after_call target.owner call work
 after_other s n (TakeReply call status value) D work = after_take call work
 after_other s n (TakeEnd call) D work = after_end call work

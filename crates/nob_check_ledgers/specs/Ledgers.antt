@@ -8,7 +8,7 @@ use Rattle.nob_model_types.specs.declared.deed.Deed.TheVariants.{Act}
 use Rattle.nob_model_work.specs.Work.{work, work_after, with_loans}
 use Rattle.nob_model_work.specs.Gifts.{gifts, all_gifts}
 use Rattle.nob_model_work.specs.declared.gifts.Gift.{Gift}
-use Rattle.nob_model_work.specs.declared.work.InHand.{InHand}
+use Rattle.nob_model_work.specs.declared.work.Outstanding.{Outstanding}
 use Rattle.nob_model_history.specs.Holds.{times, gains, releases, lent_in}
 use Rattle.nob_model_history.specs.Transit.{sent_of, with_gifts}
 use Rattle.nob_model_journal.specs.Tests.{acts_while_open, sends_while_open}
@@ -35,8 +35,8 @@ acts_open_after (_) D before = before
 abbrev pub are_open : List Gift → List Deed → Bool
 are_open gifts D = list_all (λ gift. not (closed gift.to D)) gifts
 
--- what is in hand after the first of these deeds, by what was in hand before it
-abbrev pub work_with : (s n : ℕ) → List Deed → InHand → InHand
+-- what is outstanding after the first of these deeds, by what was outstanding before it
+abbrev pub work_with : (s n : ℕ) → List Deed → Outstanding → Outstanding
 work_with s n [] W = W
 work_with s n (deed ∷ D) W = with_loans s n (deed ∷ D) (work_after s n deed D W)
 
@@ -51,7 +51,7 @@ ledger_of s n D = record {
   sends_open = sends_while_open D (all_gifts s n D);
 }
 
--- whether no loan in hand is due that can be made
+-- whether no loan outstanding is due that can be made
 abbrev pub has_loans_made : Ledger → Bool
 has_loans_made ledger = all_lent ledger.index.here.space ledger.index.here.n ledger.index.deeds ledger.work
 

@@ -1,4 +1,4 @@
--- Loans that are made: no loan in hand is due that could be made. So a deed makes loans in hand only where it makes a
+-- Loans that are made: no loan outstanding is due that could be made. So a deed makes loans outstanding only where it makes a
 -- reference usable that was not.
 use Rattle.std.specs.Prelude.{ℕ, Bool, ◌&&◌, ◌||◌, not, List, [], ◌∷◌, Option, Some, None, filter}
 use Rattle.std.specs.List.{list_any, list_all}
@@ -12,7 +12,7 @@ use Rattle.nob_model_types.specs.declared.message.RefCopy.{RefCopy}
 use Rattle.nob_model_types.specs.declared.message.Message.{Message}
 use Rattle.nob_model_types.specs.Sessions.{item_at}
 use Rattle.nob_model_types.specs.Turns.{is_own, is_usable}
-use Rattle.nob_model_work.specs.declared.work.InHand.{InHand}
+use Rattle.nob_model_work.specs.declared.work.Outstanding.{Outstanding}
 use Rattle.nob_check_ledgers.specs.Acting.{is_due}
 
 -- whether a loan of a reference can be made
@@ -27,8 +27,8 @@ is_ripe s n D copy = is_due copy && can_lend s n D copy.rep
 abbrev pub is_lent : (s n : ℕ) → List Deed → Message → Bool
 is_lent s n D message = list_all (λ copy. not (is_ripe s n D copy)) message.copies
 
--- whether nothing in hand has such a loan
-abbrev pub all_lent : (s n : ℕ) → List Deed → InHand → Bool
+-- whether nothing outstanding has such a loan
+abbrev pub all_lent : (s n : ℕ) → List Deed → Outstanding → Bool
 all_lent s n D work = list_all (is_lent s n D) work.waiting && list_all (is_lent s n D) work.ready && list_all (λ run. is_lent s n D run.message) work.running && list_all (is_lent s n D) work.replies
 
 -- the references that acting on an item from p may make usable

@@ -17,7 +17,7 @@ use nob_model_types::message::Message;
 use nob_model_work::gifts::{
     find_waiting, lone, of_call, of_finish, once, settle_and_reply, to_peers,
 };
-use nob_model_work::{Gift, InHand};
+use nob_model_work::{Gift, Outstanding};
 use std::alloc::{AllocError, Global};
 
 // Whether a reference gets a Dirty when an item that carries it is acted on.
@@ -176,7 +176,7 @@ fn gifts_of(
     alloc: Global,
     deed: &Deed,
     past: &DeedIndex,
-    work: &InHand,
+    work: &Outstanding,
 ) -> Result<Vec<Gift>, AllocError>
     ensures { IfOk result (λ gifts. gifts.items
         ≡ words.gifts_of past.now.here.space past.now.here.n deed.now past.now.deeds work.now) }
@@ -198,7 +198,7 @@ fn gifts_of(
     }
 }
 
-/// What a deed gives to the peers, in order, by what was done and was in hand before. Only memory
+/// What a deed gives to the peers, in order, by what was done and was outstanding before. Only memory
 /// fails it. It looks up each reference that the deed touches; for a Settle it passes the messages
 /// that wait, for a Finish the jobs that run.
 #[tactic(auto, unfolding(nob_model_work::specs::Gifts::gifts))]
@@ -206,7 +206,7 @@ pub fn gifts(
     alloc: Global,
     deed: &Deed,
     past: &DeedIndex,
-    work: &InHand,
+    work: &Outstanding,
 ) -> Result<Vec<Gift>, AllocError>
     ensures { IfOk result (λ gifts. gifts.items
         ≡ words.gifts past.now.here.space past.now.here.n deed.now past.now.deeds work.now) }

@@ -8,7 +8,7 @@ use nob_ids::WireRep;
 use nob_model_history::holds::{lent_in, times};
 use std::alloc::{AllocError, Global};
 
-/// Whether the space of a ledger holds a reference. It passes what is in hand. No journal has so
+/// Whether the space of a ledger holds a reference. It passes what is outstanding. No journal has so
 /// many holds on a reference that they can't be counted.
 pub fn is_held(alloc: Global, rep: &WireRep, ledger: &Ledger) -> Result<bool, AllocError>
     ensures { IfOk result (λ answer. answer ≡ words.is_held_by rep.now ledger.now) }

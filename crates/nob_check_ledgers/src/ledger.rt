@@ -13,7 +13,7 @@ use nob_check_index::DeedIndex;
 use nob_ids::{ItemNo, SpaceId};
 use nob_item::Item;
 use nob_model_types::{Deed, Here, List};
-use nob_model_work::{Gift, InHand};
+use nob_model_work::{Gift, Outstanding};
 use std::alloc::{AllocError, Global};
 
 /// What one pass over a journal keeps of a space.
@@ -21,8 +21,8 @@ use std::alloc::{AllocError, Global};
 pub struct Ledger {
     /// What it did, and among how many spaces, to be looked up.
     pub index: DeedIndex,
-    /// What it has in hand.
-    pub work: InHand,
+    /// What it has outstanding.
+    pub work: Outstanding,
     /// What it sent, with the numbers, the first first.
     pub sent_items: SentItems,
     /// What it acted on, the first first.
@@ -39,7 +39,7 @@ pub fn new_ledger(alloc: Global, here: Here) -> Ledger
 {
     Ledger {
         index: DeedIndex::new(alloc, here),
-        work: InHand::none(alloc),
+        work: Outstanding::none(alloc),
         sent_items: SentItems::none(alloc),
         acted_items: List::from_vec(Vec::new(alloc)),
         acts_open: true,
@@ -124,7 +124,7 @@ fn acts_open_after(deed: &Deed, past: &DeedIndex, before: bool) -> bool
 }
 
 /// The ledger after a deed, where no loan is due before that can be made. Only memory fails it. It
-/// looks up what the deed touches, and what is in hand costs what `working::with_deed` says.
+/// looks up what the deed touches, and what is outstanding costs what `working::with_deed` says.
 pub fn with_deed(alloc: Global, deed: Deed, ledger: Ledger) -> Result<Ledger, AllocError>
     requires lent { words.has_loans_made ledger ≡ true }
     ensures step { IfOk result (λ after. after ≡ words.ledger_after deed ledger) }

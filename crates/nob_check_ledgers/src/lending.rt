@@ -1,4 +1,4 @@
-//! Messages in hand: the references that come in them, and what is lent by them.
+//! Outstanding messages: the references that come in them, and what is lent by them.
 
 ghost use Rattle.std.specs.Prelude.{◌≡◌, IfOk, map};
 ghost use Rattle.std.specs.List.{list_any};
@@ -11,7 +11,7 @@ use nob_check_index::DeedIndex;
 use nob_ids::WireRep;
 use nob_model_types::List;
 use nob_model_types::message::{Loan, Message, RefCopy};
-use nob_model_work::{InHand, Run};
+use nob_model_work::{Outstanding, Run};
 use std::alloc::{AllocError, Global};
 
 // Whether a reference is lost.
@@ -188,21 +188,21 @@ fn run_loans(past: &DeedIndex, runs: List<Run>) -> List<Run>
     List::from_vec(runs)
 }
 
-/// What is in hand with the loans made that can be made now. It takes no memory. It passes the
-/// messages in hand, and looks up the references whose loans are due.
+/// What is outstanding with the loans made that can be made now. It takes no memory. It passes the
+/// outstanding messages, and looks up the references whose loans are due.
 #[tactic(auto, unfolding(nob_model_work::specs::Work::with_loans))]
-pub fn with_loans(past: &DeedIndex, work: InHand) -> InHand
+pub fn with_loans(past: &DeedIndex, work: Outstanding) -> Outstanding
     ensures { result ≡ work_words.with_loans past.now.here.space past.now.here.n past.now.deeds
         work }
 {
-    let InHand {
+    let Outstanding {
         waiting,
         ready,
         running,
         replies,
         calls,
     } = work;
-    InHand {
+    Outstanding {
         waiting: message_loans(past, waiting),
         ready: message_loans(past, ready),
         running: run_loans(past, running),

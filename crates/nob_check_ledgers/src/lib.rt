@@ -1,5 +1,5 @@
 //! The ledger of a space: what one pass over a journal keeps of it. It has what the space did, to
-//! be looked up, and has in hand, what it sent and what it acted on, and whether it did so on open
+//! be looked up, and has outstanding, what it sent and what it acted on, and whether it did so on open
 //! sessions; and it goes from one deed to the next. It is kept for every list of deeds, run or not.
 #![tactic(auto)]
 

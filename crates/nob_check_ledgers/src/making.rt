@@ -1,4 +1,4 @@
-//! What a deed makes usable: only there a loan in hand can be made that couldn't be made before.
+//! What a deed makes usable: only there a loan outstanding can be made that couldn't be made before.
 
 ghost use Rattle.std.specs.Prelude.{◌≡◌, IfOk, Some, not, filter};
 ghost use Rattle.std.specs.List.{list_any};

@@ -1,4 +1,4 @@
-//! What a space did and has in hand, from one deed to the next.
+//! What a space did and has outstanding, from one deed to the next.
 
 ghost use Rattle.std.specs.Prelude.{◌≡◌, ◌∷◌, [], IfOk, true, find};
 ghost use Rattle.nob_model_types.specs.Sessions.{item_at};
@@ -14,7 +14,7 @@ use nob_ids::{ItemNo, SpaceId};
 use nob_item::Item;
 use nob_model_types::message::Message;
 use nob_model_types::{Deed, List};
-use nob_model_work::InHand;
+use nob_model_work::Outstanding;
 use nob_model_work::work::{
     after_call, after_claim, after_close, after_end, after_finish, after_message, after_settlement,
     after_take, take_waiting,
@@ -67,20 +67,20 @@ fn acted_on(alloc: Global, deed: &Deed, past: &DeedIndex) -> Result<Option<Messa
     }
 }
 
-// What is in hand after Settle of the message that came from a peer in an item of this number.
+// What is outstanding after Settle of the message that came from a peer in an item of this number.
 #[tactic(auto, unfolding(nob_model_work::specs::Work::after_settle), using(nob_model_work::proofs::Firsts::none_taken))]
 fn after_settle(
     alloc: Global,
     past: &DeedIndex,
     peer: SpaceId,
     number: ItemNo,
-    work: InHand,
-) -> Result<InHand, AllocError>
+    work: Outstanding,
+) -> Result<Outstanding, AllocError>
     ensures { IfOk result (λ after. after
         ≡ words.after_settle past.now.here.space past.now.here.n peer number past.now.deeds
         (find (is_of peer number) work.waiting) work) }
 {
-    let InHand {
+    let Outstanding {
         waiting,
         ready,
         running,
@@ -89,7 +89,7 @@ fn after_settle(
     } = work;
     let (found, rest) = take_waiting(peer, number, waiting.into_vec());
     let waiting = List::from_vec(rest);
-    let others = InHand {
+    let others = Outstanding {
         waiting,
         ready,
         running,
@@ -105,14 +105,14 @@ fn after_settle(
     }
 }
 
-// What is in hand after a deed that is no Act, the loans aside.
+// What is outstanding after a deed that is no Act, the loans aside.
 #[tactic(auto, unfolding(crate::specs::Acting::after_other))]
 fn after_other(
     alloc: Global,
     deed: &Deed,
     past: &DeedIndex,
-    work: InHand,
-) -> Result<InHand, AllocError>
+    work: Outstanding,
+) -> Result<Outstanding, AllocError>
     ensures { IfOk result (λ after. after
         ≡ acting.after_other past.now.here.space past.now.here.n deed.now past.now.deeds work) }
 {
@@ -129,14 +129,14 @@ fn after_other(
     }
 }
 
-// What is in hand once the item that was acted on is a message.
+// What is outstanding once the item that was acted on is a message.
 #[tactic(auto, unfolding(crate::specs::Acting::after_acted))]
 fn after_acted(
     alloc: Global,
     acted: Option<Message>,
     past: &DeedIndex,
-    work: InHand,
-) -> Result<InHand, AllocError>
+    work: Outstanding,
+) -> Result<Outstanding, AllocError>
     ensures { IfOk result (λ after. after
         ≡ acting.after_acted past.now.here.space past.now.here.n past.now.deeds acted work) }
 {
@@ -149,14 +149,14 @@ fn after_acted(
     }
 }
 
-// What is in hand once the item that was acted on is a message whose own loans are made.
+// What is outstanding once the item that was acted on is a message whose own loans are made.
 #[tactic(auto, unfolding(crate::specs::Acting::after_lent, nob_model_types::specs::Messages::message_after))]
 fn after_lent(
     alloc: Global,
     acted: Option<Message>,
     past: &DeedIndex,
-    work: InHand,
-) -> Result<InHand, AllocError>
+    work: Outstanding,
+) -> Result<Outstanding, AllocError>
     ensures { IfOk result (λ after. after
         ≡ acting.after_lent past.now.here.space past.now.here.n past.now.deeds acted work) }
 {
@@ -170,17 +170,17 @@ fn after_lent(
     }
 }
 
-/// What a space did and has in hand once there is a deed more, where no loan is due before that can
+/// What a space did and has outstanding once there is a deed more, where no loan is due before that can
 /// be made. Only memory fails it. It looks up the item that the deed acts on and the references in
-/// it. For loans it passes the messages in hand only where the deed makes a reference usable that
-/// was not; README.md says which deeds look along what is in hand besides.
+/// it. For loans it passes the outstanding messages only where the deed makes a reference usable that
+/// was not; README.md says which deeds look along what is outstanding besides.
 #[tactic(auto, using(crate::proofs::Acting::acted_law, crate::proofs::Quiet::quiet_law))]
 pub fn with_deed(
     alloc: Global,
     deed: Deed,
     past: DeedIndex,
-    work: InHand,
-) -> Result<(DeedIndex, InHand), AllocError>
+    work: Outstanding,
+) -> Result<(DeedIndex, Outstanding), AllocError>
     requires lent { making.all_lent past.here.space past.here.n past.deeds work ≡ true }
     ensures past { IfOk result (λ after. after.0
         ≡ record { here = past.here; deeds = deed ∷ past.deeds }) }

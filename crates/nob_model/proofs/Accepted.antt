@@ -39,10 +39,10 @@ use Rattle.nob_model_history.specs.Ends.{calls_at}
 use Rattle.nob_model_history.specs.Holds.{hand, is_held}
 use Rattle.nob_model_history.specs.Transit.{pins}
 use Rattle.nob_model_history.specs.Listing.{is_any_listed}
-use Rattle.nob_model_acting.specs.Sending.{◌or_else◌, refuse_if, value_refused, send_refused, has_numbers, unless}
+use Rattle.nob_model_acting.specs.Sending.{◌or_else◌, refuse_if, value_refused, send_refused, has_numbers, unless, is_gone}
 use Rattle.nob_model_acting.specs.Acting.{fault_of, act_refusal, answer_of_act, act_on}
 use Rattle.nob_model_acting.specs.Candidates.{to_settle, to_clean, to_claim}
-use Rattle.nob_model.specs.Right.{most_objects, last_number, most_in_hand, right_export, is_gone, right_dup, right_release, calls_made, is_last_call, right_call, is_handful, answer_of_reply, answer_of_stage, answer_of_call, take_of, right_take_reply, jobs_made, job_of, claim_of, right_claim, finish_of, right_finish, act_of, right_act, settle_count, settle_of, right_settle, clean_of, right_clean, own_ref, withdraw_refused, right_withdraw, right_frames, arrival_of, right_arrival, tick_of, right_ticks, closing_of, right_closing}
+use Rattle.nob_model.specs.Right.{most_objects, last_number, greatest_hand, right_export, right_dup, right_release, calls_made, is_last_call, right_call, is_handful, answer_of_reply, answer_of_stage, answer_of_call, take_of, right_take_reply, jobs_made, job_of, claim_of, right_claim, finish_of, right_finish, act_of, right_act, settle_count, settle_of, right_settle, clean_of, right_clean, own_ref, withdraw_refused, right_withdraw, right_frames, arrival_of, right_arrival, tick_of, right_ticks, closing_of, right_closing}
 
 -- ---- results
 
@@ -102,22 +102,22 @@ export_tells s rep h e =
     same_ref a b e = cc
 
 -- a Dup that was done: a counted reference that is held, not to an own object that isn't live, nor to one of a session that has closed
-pub dup_tells : (s : ℕ) (rep : WireRep) (h : History) → right_dup s rep h ≡ Ok answers.Done → (is_counted rep ≡ true) × (is_held s rep h ≡ true) × (is_gone s rep h ≡ false) × ((not (is_own s rep) && closed rep.owner h.deeds) ≡ false) × (nat_le most_in_hand (hand rep h.deeds) ≡ false)
+pub dup_tells : (s : ℕ) (rep : WireRep) (h : History) → right_dup s rep h ≡ Ok answers.Done → (is_counted rep ≡ true) × (is_held s rep h ≡ true) × ((is_counted rep && is_gone s rep h) ≡ false) × ((not (is_own s rep) && closed rep.owner h.deeds) ≡ false) × (nat_le greatest_hand (hand rep h.deeds) ≡ false)
 unfolding right_dup
 dup_tells s rep h e =
     let none = (unless_ok _ _ _ e).0 in
-    let alive = next_none (is_gone s rep h) refusals.NoObject _ none in
+    let alive = next_none (is_counted rep && is_gone s rep h) refusals.NoObject _ none in
     let held = next_none (not (is_counted rep) || not (is_held s rep h)) refusals.NotHeld _ alive.1 in
     let up = next_none (not (is_own s rep) && closed rep.owner h.deeds) refusals.Closed _ held.1 in
     let kept = or_parts (not (is_counted rep)) (not (is_held s rep h)) held.0 in
     (not-false _ kept.0, not-false _ kept.1, alive.0, up.0, test_false _ refusals.Limit up.1)
 
 -- a Release that was done: of a counted reference that is in the hand
-pub release_tells : (s : ℕ) (rep : WireRep) (h : History) → right_release s rep h ≡ Ok answers.Done → (is_counted rep ≡ true) × ((hand rep h.deeds == 0) ≡ false) × (is_gone s rep h ≡ false)
+pub release_tells : (s : ℕ) (rep : WireRep) (h : History) → right_release s rep h ≡ Ok answers.Done → (is_counted rep ≡ true) × ((hand rep h.deeds == 0) ≡ false) × ((is_counted rep && is_gone s rep h) ≡ false)
 unfolding right_release
 release_tells s rep h e =
     let none = (unless_ok _ _ _ e).0 in
-    let alive = next_none (is_gone s rep h) refusals.NoObject _ none in
+    let alive = next_none (is_counted rep && is_gone s rep h) refusals.NoObject _ none in
     let kept = or_parts (not (is_counted rep)) (hand rep h.deeds == 0) (test_false _ refusals.NotHeld alive.1) in
     (not-false _ kept.0, kept.1, alive.0)
 
@@ -201,7 +201,7 @@ unfolding take_of
 taken_of k a (Some own) h e = (own, refl, e)
 taken_of k a None h e = absurd (err_ok refusals.NoCall a e)
 
--- a TakeReply that was answered with a reply: the call is in hand, and this is the first ready Reply to it
+-- a TakeReply that was answered with a reply: the call is outstanding, and this is the first ready Reply to it
 pub take_tells : (k status : ℕ) (value : Value) (h : History) → right_take_reply k h ≡ Ok (answers.Replied status value) → (own : OwnCall) × (message : Message) × (call : ℕ) × (find (is_call k) h.work.calls ≡ Some own) × (find (λ (message : Message). replies_to k message.item) h.work.replies ≡ Some message) × (message.item ≡ items.Reply call status value) × (is_handful value h ≡ false)
 unfolding right_take_reply
 take_tells k status value h e =
@@ -230,7 +230,7 @@ unfolding answer_of_call
 call_ended own (Some message) h e = absurd (reply_ended message.item h e)
 call_ended own None h e = (refl, stage_ended own.stage e)
 
--- a TakeReply that was answered that there will be none: the call is in hand and ended, and no Reply to it is ready
+-- a TakeReply that was answered that there will be none: the call is outstanding and ended, and no Reply to it is ready
 pub take_end_tells : (k : ℕ) (h : History) → right_take_reply k h ≡ Ok answers.Ended → (own : OwnCall) × (find (is_call k) h.work.calls ≡ Some own) × (find (λ (message : Message). replies_to k message.item) h.work.replies ≡ None) × (own.stage ≡ stages.Ended)
 unfolding right_take_reply
 take_end_tells k h e =

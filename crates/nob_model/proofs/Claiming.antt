@@ -20,7 +20,7 @@ use Rattle.nob_model_types.specs.Sessions.{item_at}
 use Rattle.nob_model_types.specs.Messages.{new_message, message_after, is_of, is_not_from, is_call_of, is_job, is_lost_message}
 use Rattle.nob_model_types.specs.Same.{same_tree, same_trees}
 use Rattle.nob_model_history.proofs.Dirtying.{same_self}
-use Rattle.nob_model_work.specs.declared.work.InHand.{InHand}
+use Rattle.nob_model_work.specs.declared.work.Outstanding.{Outstanding}
 use Rattle.nob_model_work.specs.Work.{without_first, wait, make_ready, make_reply, is_none_of, after_message, after_act, after_settlement, without_waiting, after_settle, after_claim, after_finish, after_take, after_end, after_call, after_close, work_after, with_loans, work}
 use Rattle.nob_model_history.specs.Histories.{history_of}
 use Rattle.nob_model_acting.specs.Candidates.{target_of, is_free, to_claim}
@@ -73,15 +73,15 @@ loans_calls s n D (message ∷ messages) are = (are.0, loans_calls s n D message
 
 -- ---- one deed more
 
-message_ready : (b : Bool) (message : Message) (W : InHand) → is_a_call message.item ≡ true → AreCalls W.ready → AreCalls (cond b (make_ready message W) (wait message W)).ready
+message_ready : (b : Bool) (message : Message) (W : Outstanding) → is_a_call message.item ≡ true → AreCalls W.ready → AreCalls (cond b (make_ready message W) (wait message W)).ready
 message_ready true message W is are = push_call W.ready message are is
 message_ready false message W is are = are
 
-reply_ready : (b : Bool) (message : Message) (W : InHand) → AreCalls W.ready → AreCalls (cond b (make_reply message W) (wait message W)).ready
+reply_ready : (b : Bool) (message : Message) (W : Outstanding) → AreCalls W.ready → AreCalls (cond b (make_reply message W) (wait message W)).ready
 reply_ready true message W are = are
 reply_ready false message W are = are
 
-acted_ready : (message : Message) (item : Item) (W : InHand) → message.item ≡ item → AreCalls W.ready → AreCalls (after_message message item W).ready
+acted_ready : (message : Message) (item : Item) (W : Outstanding) → message.item ≡ item → AreCalls W.ready → AreCalls (after_message message item W).ready
 unfolding after_message
 acted_ready message (items.Call call target method value) W is are = message_ready (is_none_of message.copies) message W (ap is_a_call is) are
 acted_ready message (items.Reply call status value) W is are = reply_ready (is_none_of message.copies) message W are
@@ -91,12 +91,12 @@ acted_ready message (items.DirtyOk index) W is are = are
 acted_ready message (items.DirtyNo index) W is are = are
 acted_ready message (items.Clean index) W is are = are
 
-act_ready : (s n p k : ℕ) (D : List Deed) (found : Option Item) (W : InHand) → AreCalls W.ready → AreCalls (after_act s n p k D found W).ready
+act_ready : (s n p k : ℕ) (D : List Deed) (found : Option Item) (W : Outstanding) → AreCalls W.ready → AreCalls (after_act s n p k D found W).ready
 unfolding after_act
 act_ready s n p k D None W are = are
 act_ready s n p k D (Some item) W are = acted_ready (new_message s n p k item (did.Act p k ∷ D)) item W refl are
 
-settled_ready : (message : Message) (item : Item) (lost : Bool) (W : InHand) → message.item ≡ item → AreCalls W.ready → AreCalls (after_settlement message item lost W).ready
+settled_ready : (message : Message) (item : Item) (lost : Bool) (W : Outstanding) → message.item ≡ item → AreCalls W.ready → AreCalls (after_settlement message item lost W).ready
 unfolding after_settlement
 settled_ready message (items.Call call target method value) true W is are = are
 settled_ready message (items.Call call target method value) false W is are = push_call W.ready message are (ap is_a_call is)
@@ -108,17 +108,17 @@ settled_ready message (items.DirtyOk index) lost W is are = are
 settled_ready message (items.DirtyNo index) lost W is are = are
 settled_ready message (items.Clean index) lost W is are = are
 
-settle_ready : (s n p k : ℕ) (D : List Deed) (found : Option Message) (W : InHand) → AreCalls W.ready → AreCalls (after_settle s n p k D found W).ready
+settle_ready : (s n p k : ℕ) (D : List Deed) (found : Option Message) (W : Outstanding) → AreCalls W.ready → AreCalls (after_settle s n p k D found W).ready
 unfolding after_settle
 settle_ready s n p k D None W are = are
 settle_ready s n p k D (Some message) W are = settled_ready message message.item (is_lost_message s n D message) (without_waiting p k W) refl are
 
-claim_ready : (job : Job) (found : Option Message) (W : InHand) → AreCalls W.ready → AreCalls (after_claim job found W).ready
+claim_ready : (job : Job) (found : Option Message) (W : Outstanding) → AreCalls W.ready → AreCalls (after_claim job found W).ready
 unfolding after_claim
 claim_ready job None W are = are
 claim_ready job (Some message) W are = without_calls (is_job job) W.ready are
 
-ready_after : (s n : ℕ) (deed : Deed) (D : List Deed) (W : InHand) → AreCalls W.ready → AreCalls (work_after s n deed D W).ready
+ready_after : (s n : ℕ) (deed : Deed) (D : List Deed) (W : Outstanding) → AreCalls W.ready → AreCalls (work_after s n deed D W).ready
 unfolding work_after after_call after_take after_end after_finish after_close
 ready_after s n (did.Claim job) D W are = claim_ready job (find (is_job job) W.ready) W are
 ready_after s n (did.Act p k) D W are = act_ready s n p k D (item_at p k D) W are
@@ -202,7 +202,7 @@ job_target job (items.DirtyNo index) is = cc
 job_target job (items.Clean index) is = cc
 
 -- what isn't free hasn't the contents of a job whose target is
-not_free_other : (W : InHand) (job : Job) (message : Message) → target_of message.item ≡ job.target → is_free W message ≡ true → (other : Message) → is_free W other ≡ false → is_job job other ≡ false
+not_free_other : (W : Outstanding) (job : Job) (message : Message) → target_of message.item ≡ job.target → is_free W message ≡ true → (other : Message) → is_free W other ≡ false → is_job job other ≡ false
 not_free_other W job message target free other busy =
     let same : is_job job other ≡ true → target_of other.item ≡ target_of message.item = λ is. job_target job other.item (and_parts (other.from == job.client) (is_call_of job other.item) is).1 ∙ sym target in
     false_from_ne_true (is_job job other) (λ is. both_ways (is_free W other) busy (ap (λ (t : ℕ). not (list_any (λ run. target_of run.message.item == t) W.running)) (same is) ∙ free))

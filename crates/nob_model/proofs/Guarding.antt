@@ -43,7 +43,7 @@ use Rattle.nob_model_history.specs.Transit.{sent, is_settle_of, is_settled, is_s
 use Rattle.nob_model_history.proofs.Sending.{next_item, new_items}
 use Rattle.nob_model_history.proofs.Pinning.{bundles_more}
 use Rattle.nob_model_history.proofs.Turning.{same_ref}
-use Rattle.nob_model_acting.specs.Sending.{◌or_else◌, refuse_if, is_own_and_not_live, ref_refused, refs_refused, value_refused}
+use Rattle.nob_model_acting.specs.Sending.{◌or_else◌, refuse_if, is_gone, ref_refused, refs_refused, value_refused}
 use Rattle.nob_model.specs.Right.{own_ref}
 use Rattle.nob_model.proofs.Accepted.{call_tells, finish_tells}
 use Rattle.nob_model.proofs.Calling.{refused_none}
@@ -136,7 +136,7 @@ refs_guarded : (s : ℕ) (D : List Deed) (h : History) → h.deeds ≡ D → (re
 refs_guarded s D h is [] none = tt
 refs_guarded s D h is (rep ∷ reps) none =
     let parts = first_none (ref_refused s h rep) (refs_refused s h reps) none in
-    (λ own. ap (is_live s rep.index) (sym is) ∙ own_live (is_own s rep) (is_live s rep.index h.deeds) (no_first (is_own_and_not_live s rep h) refusals.NoObject _ parts.0) own, refs_guarded s D h is reps parts.1)
+    (λ own. ap (is_live s rep.index) (sym is) ∙ own_live (is_own s rep) (is_live s rep.index h.deeds) (no_first (is_gone s rep h) refusals.NoObject _ parts.0) own, refs_guarded s D h is reps parts.1)
 
 -- the counted references of a value that may be sent are guarded
 value_guarded : (s n : ℕ) (value : Value) (D : List Deed) → value_refused s (history_of s n D) value ≡ None → AllByRecursion (IsGuarded s D) (filter is_counted (refs_in value))

@@ -31,7 +31,7 @@ use Rattle.nob_model_types.specs.declared.message.Message.{Message}
 use Rattle.nob_model_types.specs.Sessions.{item_at, closed, is_peer}
 use Rattle.nob_model_types.specs.Turns.{turns, turns_after, is_own, is_usable, is_lost, is_resolved, is_granted, is_refused, is_pending, is_yes, is_no, wants_dirty, names, carries}
 use Rattle.nob_model_types.specs.Messages.{new_message, new_copy, loan_after, copy_after, message_after, is_of, is_not_from, is_job, is_lost_message}
-use Rattle.nob_model_work.specs.declared.work.InHand.{InHand}
+use Rattle.nob_model_work.specs.declared.work.Outstanding.{Outstanding}
 use Rattle.nob_model_work.specs.declared.work.OwnCall.{OwnCall}
 use Rattle.nob_model_work.specs.declared.work.Run.{Run}
 use Rattle.nob_model_work.specs.Work.{wait, make_ready, make_reply, with_calls, call_after_reply, work, work_after, with_loans, run_after, without_first, is_none_of, lost_reply, is_run, is_not_reply, after_message, after_act, after_settlement, after_settle, after_claim, after_finish, after_take, after_end, after_call, after_close, without_waiting}
@@ -225,7 +225,7 @@ abbrev pub IsAllLent : Message → Type 0
 IsAllLent m = AllByRecursion (λ (copy : RefCopy). copy.loan ≡ loans.Lent) m.copies
 
 -- what waits is numbered, and never lends what is lost; what is ready, runs or is a ready reply has lent all its references
-pub record AreLent (s n : ℕ) (D : List Deed) (W : InHand) : Type 0 where
+pub record AreLent (s n : ℕ) (D : List Deed) (W : Outstanding) : Type 0 where
   pub apart : AreApart W.waiting
   pub taken : AllByRecursion (IsTaken s n D) W.waiting
   pub never : AllByRecursion (NeverLost s n D) W.waiting
@@ -269,7 +269,7 @@ still_never s n deed D took (m ∷ ms) all = (copies m.copies all.0, still_never
     copies (copy ∷ cs) its = ((λ e. lost_stays s n copy.rep deed D took (its.0 e)), copies cs its.1)
 
 -- loans that are made
-lent_loans : (s n : ℕ) (D : List Deed) (W : InHand) → AreLent s n D W → AreLent s n D (with_loans s n D W)
+lent_loans : (s n : ℕ) (D : List Deed) (W : Outstanding) → AreLent s n D W → AreLent s n D (with_loans s n D W)
 unfolding with_loans run_after
 lent_loans s n D W all = record {
   apart = apart_kept s n D W.waiting all.apart;
@@ -351,8 +351,8 @@ module _ (s n : ℕ) (limits : Limits) (deed : Deed) (D : List Deed) (right : Ar
   took : TookTurns s n (deed ∷ D)
   took = took_turns s n limits (deed ∷ D) right
 
-  -- what is in hand has lent what it had, after the deed too
-  still_all : (W : InHand) → AreLent s n D W → AreLent s n (deed ∷ D) W
+  -- what is outstanding has lent what it had, after the deed too
+  still_all : (W : Outstanding) → AreLent s n D W → AreLent s n (deed ∷ D) W
   still_all W all = record {
     apart = all.apart;
     taken = still_taken s n deed D W.waiting all.taken;
@@ -363,17 +363,17 @@ module _ (s n : ℕ) (limits : Limits) (deed : Deed) (D : List Deed) (right : Ar
   }
 
 module _ (s n : ℕ) (D : List Deed) where
-  ready_lent : (m : Message) (W : InHand) → IsAllLent m → AreLent s n D W → AreLent s n D (make_ready m W)
+  ready_lent : (m : Message) (W : Outstanding) → IsAllLent m → AreLent s n D W → AreLent s n D (make_ready m W)
   ready_lent m W its all = record { apart = all.apart; taken = all.taken; never = all.never; ready = all_push IsAllLent W.ready m all.ready its; running = all.running; replies = all.replies }
 
-  reply_lent : (m : Message) (W : InHand) → IsAllLent m → AreLent s n D W → AreLent s n D (make_reply m W)
+  reply_lent : (m : Message) (W : Outstanding) → IsAllLent m → AreLent s n D W → AreLent s n D (make_reply m W)
   reply_lent m W its all = record { apart = all.apart; taken = all.taken; never = all.never; ready = all.ready; running = all.running; replies = all_push IsAllLent W.replies m all.replies its }
 
-  calls_lent : (change : OwnCall → OwnCall) (W : InHand) → AreLent s n D W → AreLent s n D (with_calls change W)
+  calls_lent : (change : OwnCall → OwnCall) (W : Outstanding) → AreLent s n D W → AreLent s n D (with_calls change W)
   calls_lent change W all = record { apart = all.apart; taken = all.taken; never = all.never; ready = all.ready; running = all.running; replies = all.replies }
 
   -- the message of an item that was settled
-  settlement_lent : (m : Message) (item : Item) (is_lost : Bool) (W : InHand) → (is_lost ≡ false → IsAllLent m) → AreLent s n D W → AreLent s n D (after_settlement m item is_lost W)
+  settlement_lent : (m : Message) (item : Item) (is_lost : Bool) (W : Outstanding) → (is_lost ≡ false → IsAllLent m) → AreLent s n D W → AreLent s n D (after_settlement m item is_lost W)
   unfolding after_settlement
   settlement_lent m (items.Call call target method value) true W its all = all
   settlement_lent m (items.Call call target method value) false W its all = ready_lent m W (its refl) all
@@ -381,7 +381,7 @@ module _ (s n : ℕ) (D : List Deed) where
   settlement_lent m (items.Reply call status value) false W its all = reply_lent m W (its refl) all
   settlement_lent m (_) is_lost W its all = all
 
-  without_lent : (p k : ℕ) (W : InHand) → AreLent s n D W → AreLent s n D (without_waiting p k W)
+  without_lent : (p k : ℕ) (W : Outstanding) → AreLent s n D W → AreLent s n D (without_waiting p k W)
   without_lent p k W all = record {
     apart = apart_without (is_of p k) W.waiting all.apart;
     taken = all_without (IsTaken s n D) (is_of p k) W.waiting all.taken;
@@ -391,16 +391,16 @@ module _ (s n : ℕ) (D : List Deed) where
     replies = all.replies;
   }
 
-  claim_lent : (job : Job) (found : Option Message) (W : InHand) → find (is_job job) W.ready ≡ found → AreLent s n D W → AreLent s n D (after_claim job found W)
+  claim_lent : (job : Job) (found : Option Message) (W : Outstanding) → find (is_job job) W.ready ≡ found → AreLent s n D W → AreLent s n D (after_claim job found W)
   unfolding after_claim
   claim_lent job None W is all = all
   claim_lent job (Some m) W is all = record { apart = all.apart; taken = all.taken; never = all.never; ready = all_without IsAllLent (is_job job) W.ready all.ready; running = (all_found IsAllLent (is_job job) W.ready m is all.ready, all.running); replies = all.replies }
 
   -- messages that are thrown away
-  filter_lent : (keep : Message → Bool) (W : InHand) → AreLent s n D W → AreLent s n D (record { waiting = filter keep W.waiting; ready = W.ready; running = W.running; replies = W.replies; calls = W.calls })
+  filter_lent : (keep : Message → Bool) (W : Outstanding) → AreLent s n D W → AreLent s n D (record { waiting = filter keep W.waiting; ready = W.ready; running = W.running; replies = W.replies; calls = W.calls })
   filter_lent keep W all = record { apart = apart_filter keep W.waiting all.apart; taken = all_filter (IsTaken s n D) keep W.waiting all.taken; never = all_filter (NeverLost s n D) keep W.waiting all.never; ready = all.ready; running = all.running; replies = all.replies }
 
-  runs_lent : (keep : Run → Bool) (W : InHand) → AreLent s n D W → AreLent s n D (record { waiting = W.waiting; ready = W.ready; running = filter keep W.running; replies = W.replies; calls = W.calls })
+  runs_lent : (keep : Run → Bool) (W : Outstanding) → AreLent s n D W → AreLent s n D (record { waiting = W.waiting; ready = W.ready; running = filter keep W.running; replies = W.replies; calls = W.calls })
   runs_lent keep W all = record { apart = all.apart; taken = all.taken; never = all.never; ready = all.ready; running = all_filter (λ (run : Run). IsAllLent run.message) keep W.running all.running; replies = all.replies }
 
 -- acting on an item of the next number
@@ -414,7 +414,7 @@ module _ (s n p k : ℕ) (D : List Deed) (next : k ≡ takes (calls_at p (histor
       its : IsTaken s n (Act p k ∷ D) m
       its = subst (λ q. m.number ≤ takes (calls_at q (history_of s n (Act p k ∷ D)))) (sym from) (let more = one_more in omega (arith, more, number, next))
 
-  wait_lent : (item : Item) (W : InHand) → AreLent s n D W → AreLent s n (Act p k ∷ D) W → AreLent s n (Act p k ∷ D) (wait (new_message s n p k item (Act p k ∷ D)) W)
+  wait_lent : (item : Item) (W : Outstanding) → AreLent s n D W → AreLent s n (Act p k ∷ D) W → AreLent s n (Act p k ∷ D) (wait (new_message s n p k item (Act p k ∷ D)) W)
   wait_lent item W before all = record {
     apart = apart_push s n D (new_message s n p k item (Act p k ∷ D)) next W.waiting before.apart before.taken;
     taken = act_taken W.waiting (new_message s n p k item (Act p k ∷ D)) refl refl all.taken;
@@ -424,7 +424,7 @@ module _ (s n p k : ℕ) (D : List Deed) (next : k ≡ takes (calls_at p (histor
     replies = all.replies;
   }
 
-  message_lent : (item : Item) (W : InHand) → AreLent s n D W → AreLent s n (Act p k ∷ D) W → AreLent s n (Act p k ∷ D) (after_message (new_message s n p k item (Act p k ∷ D)) item W)
+  message_lent : (item : Item) (W : Outstanding) → AreLent s n D W → AreLent s n (Act p k ∷ D) W → AreLent s n (Act p k ∷ D) (after_message (new_message s n p k item (Act p k ∷ D)) item W)
   unfolding after_message
   message_lent (items.Call call target method value) W before all = split (is_none_of m.copies) refl
     where
@@ -444,7 +444,7 @@ module _ (s n p k : ℕ) (D : List Deed) (next : k ≡ takes (calls_at p (histor
       split false some = wait_lent (items.Reply call status value) W before all
   message_lent (_) W before all = all
 
-  act_lent : (found : Option Item) (W : InHand) → AreLent s n D W → AreLent s n (Act p k ∷ D) W → AreLent s n (Act p k ∷ D) (after_act s n p k D found W)
+  act_lent : (found : Option Item) (W : Outstanding) → AreLent s n D W → AreLent s n (Act p k ∷ D) W → AreLent s n (Act p k ∷ D) (after_act s n p k D found W)
   unfolding after_act
   act_lent None W before all = all
   act_lent (Some item) W before all = message_lent item W before all
@@ -473,7 +473,7 @@ module _ (s n : ℕ) (limits : Limits) where
   settle_lent : (p k : ℕ) (D : List Deed) (right : AreRightDeeds s n limits (Settle p k ∷ D)) → AreLent s n D (work s n D) → AreLent s n (Settle p k ∷ D) (after_settle s n p k D (find (is_of p k) (work s n D).waiting) (work s n D))
   unfolding after_settle
   settle_lent p k D right all =
-      let W : InHand = work s n D in
+      let W : Outstanding = work s n D in
       let taken = settle_takes p k D right.0 all.apart in
       let m : Message = taken.0 in
       let never : NeverLost s n D m = all_found (NeverLost s n D) (is_of p k) W.waiting m taken.1 all.never in

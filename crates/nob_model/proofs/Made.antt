@@ -1,4 +1,4 @@
--- The loans of the work in hand are made as far as they can be made now.
+-- The loans of the outstanding work are made as far as they can be made now.
 use Rattle.std.proofs.Common.{◌≡◌, ℕ, Bool, true, false, ◌||◌, List, [], ◌∷◌, map, refl, ap}
 use Rattle.std.specs.List.{AllByRecursion}
 use Rattle.nob_model_types.specs.declared.deed.Deed.{Deed}
@@ -8,7 +8,7 @@ use Rattle.nob_model_types.specs.declared.message.RefCopy.{RefCopy}
 use Rattle.nob_model_types.specs.declared.message.Message.{Message}
 use Rattle.nob_model_types.specs.Turns.{is_own, is_usable}
 use Rattle.nob_model_types.specs.Messages.{loan_after, copy_after, message_after}
-use Rattle.nob_model_work.specs.declared.work.InHand.{InHand}
+use Rattle.nob_model_work.specs.declared.work.Outstanding.{Outstanding}
 use Rattle.nob_model_work.specs.declared.work.Run.{Run}
 use Rattle.nob_model_work.specs.Work.{work, work_after, with_loans, run_after}
 
@@ -36,13 +36,13 @@ run_again : (s n : ℕ) (D : List Deed) (run : Run) → run_after s n D (run_aft
 unfolding run_after
 run_again s n D run = ap (λ message. record { job = run.job; message = message }) (message_again s n D run.message)
 
-loans_again : (s n : ℕ) (D : List Deed) (w : InHand) → with_loans s n D (with_loans s n D w) ≡ with_loans s n D w
+loans_again : (s n : ℕ) (D : List Deed) (w : Outstanding) → with_loans s n D (with_loans s n D w) ≡ with_loans s n D w
 unfolding with_loans
 loans_again s n D w =
     let messages : (ms : List Message) → map (λ message. message_after s n D message) (map (λ message. message_after s n D message) ms) ≡ map (λ message. message_after s n D message) ms = map_again (λ message. message_after s n D message) (message_again s n D) in
     rw (messages w.waiting, messages w.ready, messages w.replies, map_again (λ run. run_after s n D run) (run_again s n D) w.running) refl
 
--- in the work in hand all loans are made that can be made
+-- in the outstanding work all loans are made that can be made
 pub loans_made : (s n : ℕ) (D : List Deed) → with_loans s n D (work s n D) ≡ work s n D
 unfolding with_loans
 loans_made s n [] = refl
@@ -65,27 +65,27 @@ pub fixed_map : {A : Type 0} (f : A → A) (xs : List A) → AllByRecursion (λ 
 fixed_map f [] all = refl
 fixed_map f (x ∷ xs) all = λ i. all.0 i ∷ fixed_map f xs all.1 i
 
--- the loans of all that is in hand are made
-pub record AreFixed (s n : ℕ) (D : List Deed) (w : InHand) : Type 0 where
+-- the loans of all that is outstanding are made
+pub record AreFixed (s n : ℕ) (D : List Deed) (w : Outstanding) : Type 0 where
   pub waiting : AllByRecursion (λ message. message_after s n D message ≡ message) w.waiting
   pub ready : AllByRecursion (λ message. message_after s n D message ≡ message) w.ready
   pub running : AllByRecursion (λ run. run_after s n D run ≡ run) w.running
   pub replies : AllByRecursion (λ message. message_after s n D message ≡ message) w.replies
 
--- so they are in the work in hand
+-- so they are in the outstanding work
 pub work_fixed : (s n : ℕ) (D : List Deed) → AreFixed s n D (work s n D)
 unfolding with_loans
 work_fixed s n D =
     let made : with_loans s n D (work s n D) ≡ work s n D = loans_made s n D in
     record {
-      waiting = all_fixed (λ message. message_after s n D message) (work s n D).waiting (ap (λ (w : InHand). w.waiting) made);
-      ready = all_fixed (λ message. message_after s n D message) (work s n D).ready (ap (λ (w : InHand). w.ready) made);
-      running = all_fixed (λ run. run_after s n D run) (work s n D).running (ap (λ (w : InHand). w.running) made);
-      replies = all_fixed (λ message. message_after s n D message) (work s n D).replies (ap (λ (w : InHand). w.replies) made);
+      waiting = all_fixed (λ message. message_after s n D message) (work s n D).waiting (ap (λ (w : Outstanding). w.waiting) made);
+      ready = all_fixed (λ message. message_after s n D message) (work s n D).ready (ap (λ (w : Outstanding). w.ready) made);
+      running = all_fixed (λ run. run_after s n D run) (work s n D).running (ap (λ (w : Outstanding). w.running) made);
+      replies = all_fixed (λ message. message_after s n D message) (work s n D).replies (ap (λ (w : Outstanding). w.replies) made);
     }
 
 -- what is fixed stays as it is
-pub fixed_stays : (s n : ℕ) (D : List Deed) (w : InHand) → AreFixed s n D w → with_loans s n D w ≡ w
+pub fixed_stays : (s n : ℕ) (D : List Deed) (w : Outstanding) → AreFixed s n D w → with_loans s n D w ≡ w
 unfolding with_loans
 fixed_stays s n D w fixed =
     rw (fixed_map (λ message. message_after s n D message) w.waiting fixed.waiting, fixed_map (λ message. message_after s n D message) w.ready fixed.ready, fixed_map (λ run. run_after s n D run) w.running fixed.running, fixed_map (λ message. message_after s n D message) w.replies fixed.replies) refl

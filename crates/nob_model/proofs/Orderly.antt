@@ -91,8 +91,8 @@ release_step rep other reps gained most true less = let below = less refl in ome
 release_step rep other reps gained most false less = most
 
 -- of what is in the hand less was released than came
-in_hand : (rep : WireRep) (D : List Deed) → (hand rep D == 0) ≡ false → times rep (releases D) < times rep (gains D)
-in_hand rep D some =
+in_the_hand : (rep : WireRep) (D : List Deed) → (hand rep D == 0) ≡ false → times rep (releases D) < times rep (gains D)
+in_the_hand rep D some =
     let more : times rep (gains D) - times rep (releases D) ≡ 0 → ⊥ = eqb-false (hand rep D) 0 some in
     below (times rep (gains D)) (times rep (releases D)) more
   where
@@ -110,7 +110,7 @@ no_more_released s n limits rep (did.Dup other ∷ D) right = let before = no_mo
 no_more_released s n limits rep (did.TakeReply call status value ∷ D) right = let before = no_more_released s n limits rep D right.1 in let more = times_append rep (refs_in value) (gains D) in omega (arith, before, more)
 no_more_released s n limits rep (did.Release other ∷ D) right =
     release_step rep other (releases D) (times rep (gains D)) (no_more_released s n limits rep D right.1) (is_same rep other)
-    (λ same. subst (λ (r : WireRep). times r (releases D) < times r (gains D)) (sym (same_ref rep other same)) (in_hand other D (release_held s n limits other D right.0)))
+    (λ same. subst (λ (r : WireRep). times r (releases D) < times r (gains D)) (sym (same_ref rep other same)) (in_the_hand other D (release_held s n limits other D right.0)))
 no_more_released s n limits rep (deed ∷ D) right = no_more_released s n limits rep D right.1
 
 -- no counted reference was released more often than it came into the hand

@@ -1,4 +1,4 @@
--- On lists of right deeds a call has one Reply at most in hand, and none before it is answered.
+-- On lists of right deeds a call has one Reply at most outstanding, and none before it is answered.
 use Rattle.std.proofs.Common.{◌≡◌, ℕ, ◌+◌, ◌≤◌, ◌<◌, Bool, true, false, not, ◌&&◌, ◌||◌, cond, List, [], ◌∷◌, ◌++◌, length, map, filter, find, Option, Some, None, if◌then◌else◌, refl, sym, ap, subst, ◌∙◌, arith}
 use Rattle.std.specs.Prelude.{⊤, ◌==◌}
 use Rattle.std.specs.List.{AllByRecursion, list_any}
@@ -16,7 +16,7 @@ use Rattle.nob_model_types.specs.declared.deed.Deed.TheVariants.{Call, TakeReply
 use Rattle.nob_model_types.specs.declared.message.Message.{Message}
 use Rattle.nob_model_types.specs.Sessions.{item_at}
 use Rattle.nob_model_types.specs.Messages.{new_message, message_after, is_of, is_not_from, replies_to, is_job, is_lost_message}
-use Rattle.nob_model_work.specs.declared.work.InHand.{InHand}
+use Rattle.nob_model_work.specs.declared.work.Outstanding.{Outstanding}
 use Rattle.nob_model_work.specs.declared.work.OwnCall.{OwnCall}
 use Rattle.nob_model_work.specs.declared.work.Stage.{Stage}
 use Rattle.nob_model_work.specs.declared.work.Stage.TheVariants as stages
@@ -33,12 +33,12 @@ use Rattle.nob_model.proofs.Premises.{in_turn, item_acted}
 abbrev pub is_reply : ℕ → Message → Bool
 is_reply k message = replies_to k message.item
 
--- how many Replies to call k are in hand
-abbrev pub replies_in : ℕ → InHand → ℕ
+-- how many Replies to call k are outstanding
+abbrev pub replies_in : ℕ → Outstanding → ℕ
 replies_in k W = length (filter (is_reply k) W.waiting) + length (filter (is_reply k) W.replies)
 
 -- whether call k is made and not answered
-abbrev pub is_asked : ℕ → InHand → Bool
+abbrev pub is_asked : ℕ → Outstanding → Bool
 is_asked k W = list_any (λ own. is_call k own && is_sent own.stage) W.calls
 
 -- no two calls have one number
@@ -46,8 +46,8 @@ abbrev pub AreOneEach : List OwnCall → Type 0
 AreOneEach [] = ⊤
 AreOneEach (own ∷ calls) = AllByRecursion (λ (other : OwnCall). (other.call == own.call) ≡ false) calls × AreOneEach calls
 
--- so many calls were made: those in hand have other numbers each, up to that; each has one Reply at most, none while it isn't answered, and a call to come has none
-pub record AreAnsweredOnce (made : ℕ) (W : InHand) : Type 0 where
+-- so many calls were made: those outstanding have other numbers each, up to that; each has one Reply at most, none while it isn't answered, and a call to come has none
+pub record AreAnsweredOnce (made : ℕ) (W : Outstanding) : Type 0 where
   pub made_before : AllByRecursion (λ (own : OwnCall). own.call ≤ made) W.calls
   pub each : AreOneEach W.calls
   pub once : (k : ℕ) → replies_in k W ≤ 1
@@ -200,11 +200,11 @@ filtered_asks k test (own ∷ calls) asks = elim (test own) as (λ b. any_asked 
 -- ---- no more
 
 -- one has no more Replies than another, and asks for no more
-record IsNoMore (W less : InHand) : Type 0 where
+record IsNoMore (W less : Outstanding) : Type 0 where
   fewer : (k : ℕ) → replies_in k less ≤ replies_in k W
   asks : (k : ℕ) → is_asked k less ≡ true → is_asked k W ≡ true
 
-no_more : (made : ℕ) (W less : InHand) → IsNoMore W less → AllByRecursion (λ (own : OwnCall). own.call ≤ made) less.calls → AreOneEach less.calls → AreAnsweredOnce made W → AreAnsweredOnce made less
+no_more : (made : ℕ) (W less : Outstanding) → IsNoMore W less → AllByRecursion (λ (own : OwnCall). own.call ≤ made) less.calls → AreOneEach less.calls → AreAnsweredOnce made W → AreAnsweredOnce made less
 no_more made W less fewest before each all = record {
   made_before = before;
   each = each;
@@ -214,12 +214,12 @@ no_more made W less fewest before each all = record {
 }
 
 -- the same calls, and no more Replies
-same_calls : (made : ℕ) (W less : InHand) → less.calls ≡ W.calls → ((k : ℕ) → replies_in k less ≤ replies_in k W) → AreAnsweredOnce made W → AreAnsweredOnce made less
+same_calls : (made : ℕ) (W less : Outstanding) → less.calls ≡ W.calls → ((k : ℕ) → replies_in k less ≤ replies_in k W) → AreAnsweredOnce made W → AreAnsweredOnce made less
 same_calls made W less same fewer all = no_more made W less record { fewer = fewer; asks = λ k asks. subst (λ calls. any_asked k calls ≡ true) same asks }
     (subst (λ calls. AllByRecursion (λ (own : OwnCall). own.call ≤ made) calls) (sym same) all.made_before) (subst AreOneEach (sym same) all.each) all
 
 -- loans change no Reply
-pub loans_answered : (s n made : ℕ) (D : List Deed) (W : InHand) → AreAnsweredOnce made W → AreAnsweredOnce made (with_loans s n D W)
+pub loans_answered : (s n made : ℕ) (D : List Deed) (W : Outstanding) → AreAnsweredOnce made W → AreAnsweredOnce made (with_loans s n D W)
 unfolding with_loans
 loans_answered s n made D W all = same_calls made W (with_loans s n D W) refl (λ k.
     let waiting : length (filter (is_reply k) (map (λ m. message_after s n D m) W.waiting)) ≡ length (filter (is_reply k) W.waiting) = count_kept s n k D W.waiting in
@@ -229,7 +229,7 @@ loans_answered s n made D W all = same_calls made W (with_loans s n D W) refl (�
 -- ---- one deed more
 
 -- a message that was settled is as it was, or the Reply that stands for it
-settled_answered : (made p k : ℕ) (m : Message) (item : Item) (is_lost : Bool) (W : InHand) → m.item ≡ item → find (is_of p k) W.waiting ≡ Some m → AreAnsweredOnce made W → AreAnsweredOnce made (after_settlement m item is_lost (without_waiting p k W))
+settled_answered : (made p k : ℕ) (m : Message) (item : Item) (is_lost : Bool) (W : Outstanding) → m.item ≡ item → find (is_of p k) W.waiting ≡ Some m → AreAnsweredOnce made W → AreAnsweredOnce made (after_settlement m item is_lost (without_waiting p k W))
 unfolding after_settlement
 settled_answered made p k m (items.Reply call status value) true W is found all = same_calls made W _ refl (λ j.
     let waiting : length (filter (is_reply j) W.waiting) ≡ length (filter (is_reply j) (without_first (is_of p k) W.waiting)) + (if is_reply j m then 1 else 0) = count_without j (is_of p k) W.waiting m found in
@@ -244,18 +244,18 @@ settled_answered made p k m (items.Call call target method value) true W is foun
 settled_answered made p k m (items.Call call target method value) false W is found all = same_calls made W _ refl (λ j. let waiting = count_without j (is_of p k) W.waiting m found in omega (arith, waiting)) all
 settled_answered made p k m (_) is_lost W is found all = same_calls made W _ refl (λ j. let waiting = count_without j (is_of p k) W.waiting m found in omega (arith, waiting)) all
 
-settle_answered : (s n made p k : ℕ) (D : List Deed) (found : Option Message) (W : InHand) → find (is_of p k) W.waiting ≡ found → AreAnsweredOnce made W → AreAnsweredOnce made (after_settle s n p k D found W)
+settle_answered : (s n made p k : ℕ) (D : List Deed) (found : Option Message) (W : Outstanding) → find (is_of p k) W.waiting ≡ found → AreAnsweredOnce made W → AreAnsweredOnce made (after_settle s n p k D found W)
 unfolding after_settle
 settle_answered s n made p k D None W is all = all
 settle_answered s n made p k D (Some m) W is all = settled_answered made p k m m.item (is_lost_message s n D m) W refl is all
 
-claim_answered : (made : ℕ) (job : Job) (found : Option Message) (W : InHand) → AreAnsweredOnce made W → AreAnsweredOnce made (after_claim job found W)
+claim_answered : (made : ℕ) (job : Job) (found : Option Message) (W : Outstanding) → AreAnsweredOnce made W → AreAnsweredOnce made (after_claim job found W)
 unfolding after_claim
 claim_answered made job None W all = all
 claim_answered made job (Some m) W all = same_calls made W _ refl (λ k. omega arith) all
 
 -- a call that is made has a number of its own
-call_answered : (made p : ℕ) (W : InHand) → AreAnsweredOnce made W → AreAnsweredOnce (made + 1) (after_call p (made + 1) W)
+call_answered : (made p : ℕ) (W : Outstanding) → AreAnsweredOnce made W → AreAnsweredOnce (made + 1) (after_call p (made + 1) W)
 unfolding after_call
 call_answered made p W all =
     let own : OwnCall = record { call = made + 1; to = p; stage = stages.Sent } in
@@ -353,8 +353,8 @@ answered_none p k (own ∷ calls) each awaits = elim (own.call == k) as (λ b. (
     no_and false b e = refl
 
 -- the Reply to a call that awaits it
-reply_answered : (made p : ℕ) (m : Message) (call status : ℕ) (value : Value) (W : InHand) → m.item ≡ items.Reply call status value → list_any (awaits_reply p call) W.calls ≡ true → AreAnsweredOnce made W
-    → (more : InHand) → more.calls ≡ W.calls → ((k : ℕ) → replies_in k more ≡ replies_in k W + (if call == k then 1 else 0)) → AreAnsweredOnce made (with_calls (call_after_reply p call) more)
+reply_answered : (made p : ℕ) (m : Message) (call status : ℕ) (value : Value) (W : Outstanding) → m.item ≡ items.Reply call status value → list_any (awaits_reply p call) W.calls ≡ true → AreAnsweredOnce made W
+    → (more : Outstanding) → more.calls ≡ W.calls → ((k : ℕ) → replies_in k more ≡ replies_in k W + (if call == k then 1 else 0)) → AreAnsweredOnce made (with_calls (call_after_reply p call) more)
 unfolding call_after_reply
 reply_answered made p m call status value W is awaits all more calls counts =
     let before : AllByRecursion (λ (own : OwnCall). own.call ≤ made) more.calls = subst (λ cs. AllByRecursion (λ (own : OwnCall). own.call ≤ made) cs) (sym calls) all.made_before in
@@ -383,7 +383,7 @@ reply_answered made p m call status value W is awaits all more calls counts =
     }
 
 -- a message that was acted on without a fault
-message_answered : (s n made p : ℕ) (m : Message) (item : Item) (D : List Deed) (W : InHand) → W ≡ work s n D → m.from ≡ p → m.item ≡ item → fault_of s n p item (history_of s n D) ≡ None → AreAnsweredOnce made W → AreAnsweredOnce made (after_message m item W)
+message_answered : (s n made p : ℕ) (m : Message) (item : Item) (D : List Deed) (W : Outstanding) → W ≡ work s n D → m.from ≡ p → m.item ≡ item → fault_of s n p item (history_of s n D) ≡ None → AreAnsweredOnce made W → AreAnsweredOnce made (after_message m item W)
 unfolding after_message fault_of
 message_answered s n made p m (items.Call call target method value) D W w from is free all = elim (is_none_of m.copies) as (λ b. AreAnsweredOnce made (if b then make_ready m W else wait m W)) [
   | true ↦ same_calls made W (make_ready m W) refl (λ k. omega arith) all
@@ -393,7 +393,7 @@ message_answered s n made p m (items.Call call target method value) D W w from i
       omega (arith, more, none)) all
 ]
 message_answered s n made p m (items.Reply call status value) D W w from is free all =
-    let awaits : list_any (awaits_reply p call) W.calls ≡ true = subst (λ (v : InHand). list_any (awaits_reply p call) v.calls ≡ true) (sym w) (awaited (list_any (awaits_reply p call) (work s n D).calls) _ free) in
+    let awaits : list_any (awaits_reply p call) W.calls ≡ true = subst (λ (v : Outstanding). list_any (awaits_reply p call) v.calls ≡ true) (sym w) (awaited (list_any (awaits_reply p call) (work s n D).calls) _ free) in
     let one : (k : ℕ) → one_if k m ≡ one_call call k = λ k. ap (one_of k) is in
     subst (λ q. AreAnsweredOnce made (with_calls (call_after_reply q call) (if is_none_of m.copies then make_reply m W else wait m W))) (sym from)
     (elim (is_none_of m.copies) as (λ b. AreAnsweredOnce made (with_calls (call_after_reply p call) (if b then make_reply m W else wait m W))) [
@@ -418,7 +418,7 @@ act_answered s n made p k D None free all = all
 act_answered s n made p k D (Some item) free all = message_answered s n made p (new_message s n p k item (Act p k ∷ D)) item D (work s n D) refl refl refl (free item refl) all
 
 -- a closing
-closing_answered : (made p : ℕ) (W : InHand) → AreAnsweredOnce made W → AreAnsweredOnce made (after_close p W)
+closing_answered : (made p : ℕ) (W : Outstanding) → AreAnsweredOnce made W → AreAnsweredOnce made (after_close p W)
 unfolding after_close call_after_close
 closing_answered made p W all = no_more made W (after_close p W) record {
   fewer = λ k. (let low : length (filter (is_reply k) (filter (is_not_from p) W.waiting)) ≤ length (filter (is_reply k) W.waiting) = count_filter k (is_not_from p) W.waiting in omega (arith, low));
@@ -430,12 +430,12 @@ closing_answered made p W all = no_more made W (after_close p W) record {
     ended false stage e = e
 
 -- the end of a call, and its reply that was taken
-end_answered : (made k : ℕ) (W : InHand) → AreAnsweredOnce made W → AreAnsweredOnce made (after_end k W)
+end_answered : (made k : ℕ) (W : Outstanding) → AreAnsweredOnce made W → AreAnsweredOnce made (after_end k W)
 unfolding after_end
 end_answered made k W all = no_more made W (after_end k W) record { fewer = λ j. omega arith; asks = λ j. filtered_asks j (λ own. not (is_call k own)) W.calls }
     (all_kept (λ (own : OwnCall). own.call ≤ made) (λ own. not (is_call k own)) W.calls all.made_before) (filtered_each (λ own. not (is_call k own)) W.calls all.each) all
 
-take_answered : (made k : ℕ) (W : InHand) → AreAnsweredOnce made W → AreAnsweredOnce made (after_take k W)
+take_answered : (made k : ℕ) (W : Outstanding) → AreAnsweredOnce made W → AreAnsweredOnce made (after_take k W)
 unfolding after_take
 take_answered made k W all = no_more made W (after_take k W) record {
   fewer = λ j.
@@ -473,7 +473,7 @@ module _ (s n : ℕ) (limits : Limits) where
   deed_answered (Closing p reason cause) D right all = closing_answered (calls_made D) p (work s n D) all
   deed_answered (deed) D right all = all
 
-  -- each call has one Reply at most in hand, and none while it isn't answered
+  -- each call has one Reply at most outstanding, and none while it isn't answered
   pub answered_once : (D : List Deed) → AreRightDeeds s n limits D → AreAnsweredOnce (calls_made D) (work s n D)
   answered_once [] right = record { made_before = tt; each = tt; once = λ k. omega arith; later = λ k asks. refl; to_come = λ k over. refl }
   answered_once (deed ∷ D) right = loans_answered s n (calls_made (deed ∷ D)) (deed ∷ D) (work_after s n deed D (work s n D)) (deed_answered deed D right (answered_once D right.1))

@@ -15,7 +15,7 @@ use Rattle.nob_model_types.specs.declared.deed.Cause.{Cause}
 use Rattle.nob_model_types.specs.declared.message.Message.{Message}
 use Rattle.nob_model_types.specs.Sessions.{closed, acted, item_at}
 use Rattle.nob_model_types.specs.Messages.{new_message, message_after, is_of, is_not_from, is_job, is_lost_message}
-use Rattle.nob_model_work.specs.declared.work.InHand.{InHand}
+use Rattle.nob_model_work.specs.declared.work.Outstanding.{Outstanding}
 use Rattle.nob_model_work.specs.Work.{without_first, wait, make_ready, make_reply, is_none_of, is_not_reply, after_message, after_act, after_settlement, without_waiting, after_settle, after_claim, after_finish, after_take, after_end, after_call, after_close, work_after, with_loans, work}
 use Rattle.nob_model_history.specs.Histories.{history_of}
 use Rattle.nob_model_history.specs.Ends.{calls_at}
@@ -190,15 +190,15 @@ with_new s n limits p k D right messages are message from number =
     ap (λ (q : ℕ). q == other.from && message.number == other.number) from ∙ ap (λ (m : ℕ). p == other.from && m == other.number) number ∙ new_item s n limits p k D right other is (p == other.from) refl in
     (all_push (IsOpenIn s n (did.Act p k ∷ D)) messages message later.0 own, apart_push messages message later.1 (all_weaker (IsOpenIn s n D) (λ (other : Message). is_of other.from other.number message ≡ false) unlike messages are.0))
 
-call_waits : (s n p k : ℕ) (D : List Deed) (b : Bool) (message : Message) (W : InHand) → AreWaiting s n (did.Act p k ∷ D) W.waiting → AreWaiting s n (did.Act p k ∷ D) (W.waiting ++ message ∷ []) → AreWaiting s n (did.Act p k ∷ D) (cond b (make_ready message W) (wait message W)).waiting
+call_waits : (s n p k : ℕ) (D : List Deed) (b : Bool) (message : Message) (W : Outstanding) → AreWaiting s n (did.Act p k ∷ D) W.waiting → AreWaiting s n (did.Act p k ∷ D) (W.waiting ++ message ∷ []) → AreWaiting s n (did.Act p k ∷ D) (cond b (make_ready message W) (wait message W)).waiting
 call_waits s n p k D true message W are more = are
 call_waits s n p k D false message W are more = more
 
-reply_waits : (s n p k : ℕ) (D : List Deed) (b : Bool) (message : Message) (W : InHand) → AreWaiting s n (did.Act p k ∷ D) W.waiting → AreWaiting s n (did.Act p k ∷ D) (W.waiting ++ message ∷ []) → AreWaiting s n (did.Act p k ∷ D) (cond b (make_reply message W) (wait message W)).waiting
+reply_waits : (s n p k : ℕ) (D : List Deed) (b : Bool) (message : Message) (W : Outstanding) → AreWaiting s n (did.Act p k ∷ D) W.waiting → AreWaiting s n (did.Act p k ∷ D) (W.waiting ++ message ∷ []) → AreWaiting s n (did.Act p k ∷ D) (cond b (make_reply message W) (wait message W)).waiting
 reply_waits s n p k D true message W are more = are
 reply_waits s n p k D false message W are more = more
 
-message_waits : (s n p k : ℕ) (D : List Deed) (message : Message) (item : Item) (W : InHand) → AreWaiting s n (did.Act p k ∷ D) W.waiting → AreWaiting s n (did.Act p k ∷ D) (W.waiting ++ message ∷ []) → AreWaiting s n (did.Act p k ∷ D) (after_message message item W).waiting
+message_waits : (s n p k : ℕ) (D : List Deed) (message : Message) (item : Item) (W : Outstanding) → AreWaiting s n (did.Act p k ∷ D) W.waiting → AreWaiting s n (did.Act p k ∷ D) (W.waiting ++ message ∷ []) → AreWaiting s n (did.Act p k ∷ D) (after_message message item W).waiting
 unfolding after_message
 message_waits s n p k D message (items.Call call target method value) W are more = call_waits s n p k D (is_none_of message.copies) message W are more
 message_waits s n p k D message (items.Reply call status value) W are more = reply_waits s n p k D (is_none_of message.copies) message W are more
@@ -208,12 +208,12 @@ message_waits s n p k D message (items.DirtyOk index) W are more = are
 message_waits s n p k D message (items.DirtyNo index) W are more = are
 message_waits s n p k D message (items.Clean index) W are more = are
 
-act_waits : (s n p k : ℕ) (D : List Deed) (found : Option Item) (W : InHand) → AreWaiting s n (did.Act p k ∷ D) W.waiting → WithNew s n p k D W.waiting → AreWaiting s n (did.Act p k ∷ D) (after_act s n p k D found W).waiting
+act_waits : (s n p k : ℕ) (D : List Deed) (found : Option Item) (W : Outstanding) → AreWaiting s n (did.Act p k ∷ D) W.waiting → WithNew s n p k D W.waiting → AreWaiting s n (did.Act p k ∷ D) (after_act s n p k D found W).waiting
 unfolding after_act
 act_waits s n p k D None W are new = are
 act_waits s n p k D (Some item) W are new = let message : Message = new_message s n p k item (did.Act p k ∷ D) in message_waits s n p k D message item W are (new message refl refl)
 
-settlement_waits : (message : Message) (item : Item) (lost : Bool) (W : InHand) → (after_settlement message item lost W).waiting ≡ W.waiting
+settlement_waits : (message : Message) (item : Item) (lost : Bool) (W : Outstanding) → (after_settlement message item lost W).waiting ≡ W.waiting
 unfolding after_settlement
 settlement_waits message (items.Call call target method value) true W = refl
 settlement_waits message (items.Call call target method value) false W = refl
@@ -225,17 +225,17 @@ settlement_waits message (items.DirtyOk index) lost W = refl
 settlement_waits message (items.DirtyNo index) lost W = refl
 settlement_waits message (items.Clean index) lost W = refl
 
-settle_waits : (s n p k : ℕ) (all D : List Deed) (found : Option Message) (W : InHand) → AreWaiting s n all W.waiting → AreWaiting s n all (after_settle s n p k D found W).waiting
+settle_waits : (s n p k : ℕ) (all D : List Deed) (found : Option Message) (W : Outstanding) → AreWaiting s n all W.waiting → AreWaiting s n all (after_settle s n p k D found W).waiting
 unfolding after_settle
 settle_waits s n p k all D None W are = are
 settle_waits s n p k all D (Some message) W are = subst (AreWaiting s n all) (sym (settlement_waits message message.item (is_lost_message s n D message) (without_waiting p k W))) (without_waits s n all (is_of p k) W.waiting are)
 
-claim_waits : (job : Job) (found : Option Message) (W : InHand) → (after_claim job found W).waiting ≡ W.waiting
+claim_waits : (job : Job) (found : Option Message) (W : Outstanding) → (after_claim job found W).waiting ≡ W.waiting
 unfolding after_claim
 claim_waits job None W = refl
 claim_waits job (Some message) W = refl
 
-waiting_after : (s n : ℕ) (limits : Limits) (deed : Deed) (D : List Deed) (W : InHand) → IsRightDeed s n limits deed D → AreWaiting s n D W.waiting → AreWaiting s n (deed ∷ D) (work_after s n deed D W).waiting
+waiting_after : (s n : ℕ) (limits : Limits) (deed : Deed) (D : List Deed) (W : Outstanding) → IsRightDeed s n limits deed D → AreWaiting s n D W.waiting → AreWaiting s n (deed ∷ D) (work_after s n deed D W).waiting
 unfolding work_after after_call after_take after_end after_finish after_close
 waiting_after s n limits (did.Act p k) D W right are = act_waits s n p k D (item_at p k D) W (open_later s n (did.Act p k) D (λ q. refl) W.waiting are) (with_new s n limits p k D right W.waiting are)
 waiting_after s n limits (did.Settle p k) D W right are = settle_waits s n p k (did.Settle p k ∷ D) D (find (is_of p k) W.waiting) W (open_later s n (did.Settle p k) D (λ q. refl) W.waiting are)

@@ -38,7 +38,7 @@ use Rattle.nob_model_work.specs.declared.work.Run.{Run}
 use Rattle.nob_model_work.specs.declared.work.Stage.{Stage}
 use Rattle.nob_model_work.specs.declared.work.Stage.TheVariants as stages
 use Rattle.nob_model_work.specs.declared.work.OwnCall.{OwnCall}
-use Rattle.nob_model_work.specs.declared.work.InHand.{InHand}
+use Rattle.nob_model_work.specs.declared.work.Outstanding.{Outstanding}
 use Rattle.nob_model_types.specs.Messages.{is_lost_message, replies_to}
 use Rattle.nob_model_work.specs.Work.{is_call, is_run}
 use Rattle.nob_model_work.specs.Gifts.{value_of}
@@ -48,7 +48,7 @@ use Rattle.nob_model_history.specs.Ends.{calls_at}
 use Rattle.nob_model_history.specs.Holds.{times, hand, is_held}
 use Rattle.nob_model_history.specs.Transit.{pins, first_idle}
 use Rattle.nob_model_history.specs.Listing.{is_any_listed}
-use Rattle.nob_model_acting.specs.Sending.{◌or_else◌, refuse_if, is_own_and_not_live, value_refused, send_refused, has_numbers, unless}
+use Rattle.nob_model_acting.specs.Sending.{◌or_else◌, refuse_if, is_gone, value_refused, send_refused, has_numbers, unless}
 use Rattle.nob_model_acting.specs.Acting.{act_on}
 use Rattle.nob_model_acting.specs.Candidates.{to_settle, to_clean, to_claim}
 
@@ -65,24 +65,20 @@ abbrev pub most_calls : ℕ
 most_calls = 4096
 
 -- the greatest hand
-abbrev pub most_in_hand : ℕ
-most_in_hand = 2 ^ 32 - 1
+abbrev pub greatest_hand : ℕ
+greatest_hand = 2 ^ 32 - 1
 
 -- Export: the reference of the next index, unless a space has all the live objects or indexes that it may have
 unfoldable pub right_export : ℕ → History → Result Answer Refusal
 right_export s h = unless (refuse_if (nat_le most_objects (length (live s h.deeds)) || nat_le last_number (length (exports h.deeds))) refusals.Limit) (answers.Exported (record { owner = s; index = length (exports h.deeds) + 1 }))
 
--- whether a reference names an own object, not the agent, that isn't live
-abbrev pub is_gone : ℕ → WireRep → History → Bool
-is_gone s rep h = is_counted rep && is_own_and_not_live s rep h
-
 -- Dup: done, unless the reference names an object that isn't live, isn't held, its owner's session has closed here, or the hand is full
 unfoldable pub right_dup : ℕ → WireRep → History → Result Answer Refusal
-right_dup s rep h = unless (refuse_if (is_gone s rep h) refusals.NoObject or_else refuse_if (not (is_counted rep) || not (is_held s rep h)) refusals.NotHeld or_else refuse_if (not (is_own s rep) && closed rep.owner h.deeds) refusals.Closed or_else refuse_if (nat_le most_in_hand (hand rep h.deeds)) refusals.Limit) answers.Done
+right_dup s rep h = unless (refuse_if (is_counted rep && is_gone s rep h) refusals.NoObject or_else refuse_if (not (is_counted rep) || not (is_held s rep h)) refusals.NotHeld or_else refuse_if (not (is_own s rep) && closed rep.owner h.deeds) refusals.Closed or_else refuse_if (nat_le greatest_hand (hand rep h.deeds)) refusals.Limit) answers.Done
 
 -- Release: done, unless the reference names an object that isn't live, or none of it is in the hand
 unfoldable pub right_release : ℕ → WireRep → History → Result Answer Refusal
-right_release s rep h = unless (refuse_if (is_gone s rep h) refusals.NoObject or_else refuse_if (not (is_counted rep) || hand rep h.deeds == 0) refusals.NotHeld) answers.Done
+right_release s rep h = unless (refuse_if (is_counted rep && is_gone s rep h) refusals.NoObject or_else refuse_if (not (is_counted rep) || hand rep h.deeds == 0) refusals.NotHeld) answers.Done
 
 -- how many calls were made
 abbrev pub calls_made : List Deed → ℕ
@@ -100,7 +96,7 @@ right_call s n target value h = unless (refuse_if (not (is_peer s n target.owner
 
 -- whether a hand would pass its limit by the references in a value that is taken
 abbrev pub is_handful : Value → History → Bool
-is_handful value h = list_any (λ rep. nat_lt most_in_hand (hand rep h.deeds + times rep (filter is_counted (refs_in value)))) (filter is_counted (refs_in value))
+is_handful value h = list_any (λ rep. nat_lt greatest_hand (hand rep h.deeds + times rep (filter is_counted (refs_in value)))) (filter is_counted (refs_in value))
 
 -- what is answered where this item is the ready reply
 unfoldable pub answer_of_reply : Item → History → Result Answer Refusal

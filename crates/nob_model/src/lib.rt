@@ -21,5 +21,5 @@ pub use nob_model_types::{
     Answer, Cause, Deed, Entry, Event, Here, Job, Loan, Message, Outcome, OwnerAnswer, RefCopy,
     Refusal, Turns, Use, WorldStep,
 };
-pub use nob_model_work::{Gift, InHand, OwnCall, Run, Stage};
+pub use nob_model_work::{Gift, Outstanding, OwnCall, Run, Stage};
 pub use values::same_value;

@@ -1,13 +1,14 @@
 //! The one right answer to each event, computed plainly from the whole history of the space.
 
-ghost use Rattle.std.specs.Prelude.{◌≡◌, ◌≤◌, ◌+◌, ◌==◌, nat_lt, IfOk, Some, None, find, length};
+ghost use Rattle.std.specs.Prelude.{◌≡◌, ◌≤◌, ◌+◌, ◌==◌, ◌&&◌, nat_lt, IfOk, Some, None, find, length};
 ghost use Rattle.std.specs.List.{list_any, list_all};
 ghost use Rattle.std.specs.Option.{option_map};
+ghost use Rattle.nob_ids.specs.Names.{is_counted};
 ghost use Rattle.nob_model_types.specs.Messages.{replies_to as replies_to_word};
 ghost use Rattle.nob_model_work.specs.Work.{is_call, is_run};
 ghost use Rattle.nob_model_work.specs.Gifts.{value_of};
 ghost use Rattle.nob_model_history.specs.Holds.{times as times_word, hand as hand_word};
-ghost use Rattle.nob_model_acting.specs.Sending.{value_refused as value_refused_word};
+ghost use Rattle.nob_model_acting.specs.Sending.{is_gone as is_gone_word, value_refused as value_refused_word};
 ghost use Rattle.nob_model_session.specs.Texts.{texts};
 ghost use Rattle.nob_model_session.specs.Right.{right_front, first_of};
 ghost use Rattle.nob_model_history.specs.Ends.{calls_at as calls_word};
@@ -18,9 +19,7 @@ use nob_ids::{CallNo, ItemNo, JobNo, Limits, Reason, SpaceId, WireRep};
 use nob_item::Item;
 use nob_model_acting::acting::act_on;
 use nob_model_acting::candidates::{to_claim, to_settle};
-use nob_model_acting::sending::{
-    counted, has_numbers, is_own_and_not_live, send_refused, value_refused,
-};
+use nob_model_acting::sending::{counted, has_numbers, is_gone, send_refused, value_refused};
 use nob_model_history::ends::calls_at;
 use nob_model_history::holds::{hand, is_held, times};
 use nob_model_history::listing::is_any_listed;
@@ -33,7 +32,7 @@ use nob_model_types::message::{Message, RefCopy, is_lost_message, replies_to};
 use nob_model_types::{
     Answer, Deed, Entry, Event, Here, Job, Outcome, Refusal, Use, objects, sessions, turns,
 };
-use nob_model_work::{InHand, OwnCall, Run, Stage};
+use nob_model_work::{Outstanding, OwnCall, Run, Stage};
 use nob_pickle::Value;
 use std::alloc::{AllocError, Global};
 
@@ -47,7 +46,7 @@ pub const LAST_NUMBER: u64 = 1 << 48;
 pub const MOST_CALLS: usize = 4096;
 
 /// The greatest hand.
-pub const MOST_IN_HAND: u64 = (1 << 32) - 1;
+pub const GREATEST_HAND: u64 = (1 << 32) - 1;
 
 // What is answered, in whatever memory there is.
 type Answered = Result<Result<Answer, Refusal>, AllocError>;
@@ -67,19 +66,20 @@ pub fn export(alloc: Global, space: SpaceId, history: &History) -> Answered
     Ok(Ok(Answer::Exported(WireRep { owner, index })))
 }
 
-// Whether a reference names an own object, not the agent, that isn't live.
-fn is_gone(
+// Whether a reference is counted, and names an own object that isn't live.
+fn names_gone(
     alloc: Global,
     space: SpaceId,
     rep: &WireRep,
     history: &History,
 ) -> Result<bool, AllocError>
-    ensures { IfOk result (λ gone. gone ≡ words.is_gone space rep.now history.now) }
+    ensures { IfOk result (λ gone. gone ≡ (is_counted rep.now
+        && is_gone_word space rep.now history.now)) }
 {
     if !rep.is_counted() {
         return Ok(false);
     }
-    is_own_and_not_live(alloc, space, rep, history)
+    is_gone(alloc, space, rep, history)
 }
 
 /// What is answered to Dup of a reference.
@@ -87,7 +87,7 @@ fn is_gone(
 pub fn dup(alloc: Global, space: SpaceId, rep: &WireRep, history: &History) -> Answered
     ensures { IfOk result (λ answer. answer ≡ words.right_dup space rep.now history.now) }
 {
-    if is_gone(alloc, space, rep, history)? {
+    if names_gone(alloc, space, rep, history)? {
         return Ok(Err(Refusal::NoObject));
     }
     if !rep.is_counted() || !is_held(alloc, space, rep, history)? {
@@ -96,7 +96,7 @@ pub fn dup(alloc: Global, space: SpaceId, rep: &WireRep, history: &History) -> A
     if rep.owner != space && sessions::closed(rep.owner, history.deeds.as_slice()) {
         return Ok(Err(Refusal::Closed));
     }
-    if hand(alloc, rep, history.deeds.as_slice())? as u64 >= MOST_IN_HAND {
+    if hand(alloc, rep, history.deeds.as_slice())? as u64 >= GREATEST_HAND {
         return Ok(Err(Refusal::Limit));
     }
     Ok(Ok(Answer::Done))
@@ -107,7 +107,7 @@ pub fn dup(alloc: Global, space: SpaceId, rep: &WireRep, history: &History) -> A
 pub fn release(alloc: Global, space: SpaceId, rep: &WireRep, history: &History) -> Answered
     ensures { IfOk result (λ answer. answer ≡ words.right_release space rep.now history.now) }
 {
-    if is_gone(alloc, space, rep, history)? {
+    if names_gone(alloc, space, rep, history)? {
         return Ok(Err(Refusal::NoObject));
     }
     if !rep.is_counted() || hand(alloc, rep, history.deeds.as_slice())? == 0 {
@@ -178,14 +178,14 @@ fn is_any_full(
     deeds: &[Deed],
 ) -> Result<bool, AllocError>
     ensures { IfOk result (λ full. full ≡ list_any
-        (λ rep. nat_lt words.most_in_hand (hand_word rep deeds.now + times_word rep all.now))
+        (λ rep. nat_lt words.greatest_hand (hand_word rep deeds.now + times_word rep all.now))
         reps.now) }
 {
     match reps {
         [] => Ok(false),
         [rep, others @ ..] => {
             let before = hand(alloc, rep, deeds)?;
-            if before as u64 + times(rep, all) as u64 > MOST_IN_HAND {
+            if before as u64 + times(rep, all) as u64 > GREATEST_HAND {
                 return Ok(true);
             }
             is_any_full(alloc, others, all, deeds)

@@ -16,13 +16,13 @@ use Rattle.nob_model_types.specs.Turns.{is_pending, turns, is_own}
 use Rattle.nob_model_work.specs.declared.work.Stage.{Stage}
 use Rattle.nob_model_work.specs.declared.work.Stage.TheVariants as stages
 use Rattle.nob_model_work.specs.declared.work.OwnCall.{OwnCall}
-use Rattle.nob_model_work.specs.declared.work.InHand.{InHand}
+use Rattle.nob_model_work.specs.declared.work.Outstanding.{Outstanding}
 use Rattle.nob_model_work.specs.declared.gifts.Gift.{Gift}
 use Rattle.nob_model_work.specs.Gifts.{dirties_for}
 use Rattle.nob_model_history.specs.declared.history.History.{History}
 use Rattle.nob_model_history.specs.Ends.{items_to}
 use Rattle.nob_model_history.specs.Transit.{has_bundle, surrogates}
-use Rattle.nob_model_acting.specs.Sending.{is_own_and_not_live, has_numbers}
+use Rattle.nob_model_acting.specs.Sending.{is_gone, has_numbers}
 
 -- a fault where a test holds
 abbrev pub fault_if : Bool → Reason → Option Reason
@@ -35,7 +35,7 @@ first_fault None later = later
 
 -- whether an own counted reference of an item isn't live
 abbrev pub names_not_live : ℕ → Item → History → Bool
-names_not_live s item h = list_any (λ rep. is_own_and_not_live s rep h) (counted_in item)
+names_not_live s item h = list_any (λ rep. is_gone s rep h) (counted_in item)
 
 -- whether a call was made, no Reply to it was acted on, and it hasn't ended
 abbrev pub is_sent : Stage → Bool
@@ -66,7 +66,7 @@ fault_of s n p (items.DirtyNo index) h = fault_if (not (awaits_answer s n p inde
 fault_of s n p (items.Clean index) h = fault_if (is_unknown s index h) BadReference
 
 -- how many messages there are: those that wait, ready and running jobs, and ready replies
-abbrev pub messages : InHand → ℕ
+abbrev pub messages : Outstanding → ℕ
 messages W = length W.waiting + length W.ready + length W.running + length W.replies
 
 -- so many messages and no more

@@ -6,7 +6,7 @@ use Rattle.nob_item.specs.declared.item.Item.{Item}
 use Rattle.nob_item.specs.declared.item.Item.TheVariants as items
 use Rattle.nob_model_types.specs.Turns.{is_resolved}
 use Rattle.nob_model_types.specs.declared.message.Message.{Message}
-use Rattle.nob_model_work.specs.declared.work.InHand.{InHand}
+use Rattle.nob_model_work.specs.declared.work.Outstanding.{Outstanding}
 use Rattle.nob_model_history.specs.declared.history.History.{History}
 use Rattle.nob_model_history.specs.Transit.{first_idle}
 
@@ -33,7 +33,7 @@ target_of (items.DirtyNo index) = 0
 target_of (items.Clean index) = 0
 
 -- whether no job that runs has the target of a message
-abbrev pub is_free : InHand → Message → Bool
+abbrev pub is_free : Outstanding → Message → Bool
 is_free W message = not (list_any (λ run. target_of run.message.item == target_of message.item) W.running)
 
 -- the message that Claim takes: the first ready job, in order of becoming ready, whose target isn't running

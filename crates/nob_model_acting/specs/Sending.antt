@@ -31,12 +31,12 @@ abbrev pub refuse_if : Bool → Refusal → Option Refusal
 refuse_if test refusal = if test then Some refusal else None
 
 -- whether a reference names an own object that isn't live
-abbrev pub is_own_and_not_live : ℕ → WireRep → History → Bool
-is_own_and_not_live s rep h = is_own s rep && not (is_live s rep.index h.deeds)
+abbrev pub is_gone : ℕ → WireRep → History → Bool
+is_gone s rep h = is_own s rep && not (is_live s rep.index h.deeds)
 
 -- why a counted reference may not be sent: own and not live, then without holds, then not own and the session with the owner closed here
 abbrev pub ref_refused : ℕ → History → WireRep → Option Refusal
-ref_refused s h rep = refuse_if (is_own_and_not_live s rep h) refusals.NoObject or_else refuse_if (not (is_held s rep h)) refusals.NotHeld or_else refuse_if (not (is_own s rep) && closed rep.owner h.deeds) refusals.Closed
+ref_refused s h rep = refuse_if (is_gone s rep h) refusals.NoObject or_else refuse_if (not (is_held s rep h)) refusals.NotHeld or_else refuse_if (not (is_own s rep) && closed rep.owner h.deeds) refusals.Closed
 
 -- the first refusal of some references
 abbrev pub refs_refused : ℕ → History → List WireRep → Option Refusal

@@ -4,17 +4,17 @@ ghost use Rattle.std.specs.Prelude.{◌≡◌, ◌≤◌, ◌&&◌, ◌==◌, no
 ghost use Rattle.std.specs.List.{list_any, list_all};
 ghost use Rattle.nob_model_history.specs.Ends.{items_to};
 ghost use Rattle.nob_model_types.specs.Objects.{is_live};
-ghost use Rattle.nob_model_acting.specs.Sending.{is_own_and_not_live};
+ghost use Rattle.nob_model_acting.specs.Sending.{is_gone};
 ghost use Rattle.nob_model_acting.specs.Acting as words;
 
-use crate::sending::{has_numbers, is_own_and_not_live};
+use crate::sending::{has_numbers, is_gone};
 use nob_ids::{CallNo, ItemNo, Reason, SpaceId, WireRep};
 use nob_item::Item;
 use nob_model_history::History;
 use nob_model_history::transit::{has_bundle, surrogates};
 use nob_model_types::{Answer, Here, Refusal, objects, turns};
 use nob_model_work::gifts::dirties_for;
-use nob_model_work::{Gift, InHand, OwnCall, Stage};
+use nob_model_work::{Gift, Outstanding, OwnCall, Stage};
 use std::alloc::{AllocError, Global};
 
 /// So many messages and no more.
@@ -31,12 +31,12 @@ fn is_any_not_live(
     history: &History,
 ) -> Result<bool, AllocError>
     ensures { IfOk result (λ gone. gone ≡ list_any
-        (λ rep. is_own_and_not_live space rep history.now) reps.now) }
+        (λ rep. is_gone space rep history.now) reps.now) }
 {
     match reps {
         [] => Ok(false),
         [rep, others @ ..] => {
-            if is_own_and_not_live(alloc, space, rep, history)? {
+            if is_gone(alloc, space, rep, history)? {
                 return Ok(true);
             }
             is_any_not_live(alloc, space, others, history)
@@ -200,7 +200,7 @@ pub fn fault_of(
 }
 
 /// How many messages there are.
-pub fn messages(work: &InHand) -> u64
+pub fn messages(work: &Outstanding) -> u64
     ensures { result ≡ words.messages work.now }
 {
     let waiting = work.waiting.as_slice().len() as u64;

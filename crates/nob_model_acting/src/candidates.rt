@@ -12,7 +12,7 @@ use nob_model_history::History;
 use nob_model_history::transit::first_idle;
 use nob_model_types::message::{Message, RefCopy};
 use nob_model_types::{Deed, Here, turns};
-use nob_model_work::{InHand, Run};
+use nob_model_work::{Outstanding, Run};
 use std::alloc::{AllocError, Global};
 
 // Whether a reference is resolved.
@@ -137,14 +137,14 @@ pub fn is_running(target: u64, runs: &[Run]) -> bool
 }
 
 // Whether no job that runs has the target of a message.
-fn is_free(work: &InHand, message: &Message) -> bool
+fn is_free(work: &Outstanding, message: &Message) -> bool
     ensures { result ≡ words.is_free work.now message.now }
 {
     !is_running(target_of(&message.item), work.running.as_slice())
 }
 
 // The first of some messages whose target isn't running.
-fn find_free<'a>(work: &InHand, messages: &'a [Message]) -> Option<&'a Message>
+fn find_free<'a>(work: &Outstanding, messages: &'a [Message]) -> Option<&'a Message>
     ensures { option_map (λ message. message.now) result
         ≡ find (words.is_free work.now) messages.now }
 {

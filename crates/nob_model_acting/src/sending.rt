@@ -17,13 +17,13 @@ use nob_pickle::Value;
 use std::alloc::{AllocError, Global};
 
 /// Whether a reference names an own object that isn't live.
-pub fn is_own_and_not_live(
+pub fn is_gone(
     alloc: Global,
     space: SpaceId,
     rep: &WireRep,
     history: &History,
 ) -> Result<bool, AllocError>
-    ensures { IfOk result (λ gone. gone ≡ words.is_own_and_not_live space rep.now history.now) }
+    ensures { IfOk result (λ gone. gone ≡ words.is_gone space rep.now history.now) }
 {
     if rep.owner != space {
         return Ok(false);
@@ -40,7 +40,7 @@ fn ref_refused(
 ) -> Result<Option<Refusal>, AllocError>
     ensures { IfOk result (λ refused. refused ≡ words.ref_refused space history.now rep.now) }
 {
-    if is_own_and_not_live(alloc, space, rep, history)? {
+    if is_gone(alloc, space, rep, history)? {
         return Ok(Some(Refusal::NoObject));
     }
     if !is_held(alloc, space, rep, history)? {

@@ -13,7 +13,7 @@ use Rattle.nob_model_types.specs.declared.deed.Deed.TheVariants as did
 use Rattle.nob_model_types.specs.Sessions.{is_peer, item_at}
 use Rattle.nob_model_types.specs.Turns.{wants_dirty, turns}
 use Rattle.nob_model_work.specs.declared.gifts.Gift.{Gift}
-use Rattle.nob_model_work.specs.declared.work.InHand.{InHand}
+use Rattle.nob_model_work.specs.declared.work.Outstanding.{Outstanding}
 use Rattle.nob_model_work.specs.Work.{work}
 use Rattle.nob_model_work.specs.Gifts.{gifts, gifts_of, gifts_of_act, dirties_for, dirty_for, once}
 use Rattle.nob_model_history.specs.declared.transit.SentItem.{SentItem}
@@ -52,7 +52,7 @@ wanted_of_peer : (s n : ℕ) (D : List Deed) (rep : WireRep) → wants_dirty s n
 wanted_of_peer s n D rep wanted = (and_parts _ _ (and_parts _ _ wanted).0).0
 
 -- acting on a Call or a Reply asks for those of its references that want a Dirty, each once, in reading order
-pub message_asks : (s n p k : ℕ) (item : Item) (D : List Deed) (W : InHand) → item_at p k D ≡ Some item → gifts_of_act s n p D (Some item) ≡ dirties_for s n D (counted_in item) → asked_in (gifts s n (did.Act p k) D W) ≡ filter (λ (rep : WireRep). wants_dirty s n rep D (turns s n rep D)) (once (counted_in item))
+pub message_asks : (s n p k : ℕ) (item : Item) (D : List Deed) (W : Outstanding) → item_at p k D ≡ Some item → gifts_of_act s n p D (Some item) ≡ dirties_for s n D (counted_in item) → asked_in (gifts s n (did.Act p k) D W) ≡ filter (λ (rep : WireRep). wants_dirty s n rep D (turns s n rep D)) (once (counted_in item))
 unfolding gifts gifts_of dirties_for
 message_asks s n p k item D W is message =
     ap (λ (found : Option Item). asked_in (filter (λ (gift : Gift). is_peer s n gift.to) (gifts_of_act s n p D found))) is

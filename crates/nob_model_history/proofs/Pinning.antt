@@ -14,7 +14,7 @@ use Rattle.nob_model_types.specs.declared.deed.Deed.TheVariants as did
 use Rattle.nob_model_types.specs.declared.deed.Cause.{Cause}
 use Rattle.nob_model_types.specs.Sessions.{closed, item_at}
 use Rattle.nob_model_work.specs.declared.gifts.Gift.{Gift}
-use Rattle.nob_model_work.specs.declared.work.InHand.{InHand}
+use Rattle.nob_model_work.specs.declared.work.Outstanding.{Outstanding}
 use Rattle.nob_model_work.specs.Work.{work}
 use Rattle.nob_model_work.specs.Gifts.{gifts, gifts_of, gifts_of_act}
 use Rattle.nob_model_history.specs.declared.transit.SentItem.{SentItem}
@@ -77,7 +77,7 @@ gives_nothing : (s n p k : ℕ) (D : List Deed) (item : Option Item) → item �
 unfolding gifts_of_act
 gives_nothing s n p k D item is = ap (gifts_of_act s n p D) is
 
-settle_gives_nothing : (s n p j k : ℕ) (D : List Deed) (W : InHand) → item_at p j D ≡ Some (items.Settle k) → gifts s n (did.Act p j) D W ≡ []
+settle_gives_nothing : (s n p j k : ℕ) (D : List Deed) (W : Outstanding) → item_at p j D ≡ Some (items.Settle k) → gifts s n (did.Act p j) D W ≡ []
 unfolding gifts gifts_of
 settle_gives_nothing s n p j k D W is = ap (filter _) (gives_nothing s n p k D (item_at p j D) is)
 
@@ -106,7 +106,7 @@ bundles_settled s n p j k D is =
 
 -- ---- a closing
 
-closing_gives_nothing : (s n p : ℕ) (reason : Reason) (cause : Cause) (D : List Deed) (W : InHand) → gifts s n (did.Closing p reason cause) D W ≡ []
+closing_gives_nothing : (s n p : ℕ) (reason : Reason) (cause : Cause) (D : List Deed) (W : Outstanding) → gifts s n (did.Closing p reason cause) D W ≡ []
 unfolding gifts gifts_of
 closing_gives_nothing s n p reason cause D W = refl
 

@@ -1,4 +1,4 @@
--- The history of a space: what it did, the newest first, with what it has in hand and what each deed gave.
+-- The history of a space: what it did, the newest first, with what it has outstanding and what each deed gave.
 use Rattle.std.specs.Prelude.{ℕ, List}
 use Rattle.nob_model_types.specs.declared.entry.Entry.{Entry}
 use Rattle.nob_model_types.specs.Deeds.{deeds}

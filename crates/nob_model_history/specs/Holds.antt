@@ -11,7 +11,7 @@ use Rattle.nob_model_types.specs.declared.message.Loan.{Loan}
 use Rattle.nob_model_types.specs.declared.message.Loan.TheVariants as loan
 use Rattle.nob_model_types.specs.declared.message.RefCopy.{RefCopy}
 use Rattle.nob_model_types.specs.declared.message.Message.{Message}
-use Rattle.nob_model_work.specs.declared.work.InHand.{InHand}
+use Rattle.nob_model_work.specs.declared.work.Outstanding.{Outstanding}
 use Rattle.nob_model_history.specs.declared.history.History.{History}
 
 -- how often a reference stands in a list
@@ -61,7 +61,7 @@ abbrev pub loans_of : ℕ → Message → List WireRep
 loans_of s message = target_lent s message.item ++ copies_lent message.copies
 
 -- all that is lent at space s, by messages that wait, ready and running jobs, and ready replies
-abbrev pub lent_in : ℕ → InHand → List WireRep
+abbrev pub lent_in : ℕ → Outstanding → List WireRep
 lent_in s W = flat_map (loans_of s) W.waiting ++ (flat_map (loans_of s) W.ready ++ (flat_map (λ run. loans_of s run.message) W.running ++ flat_map (loans_of s) W.replies))
 
 -- the holds of space s on a reference: what came into the hand or is lent, less what was released. On a right list that is hand and lent together

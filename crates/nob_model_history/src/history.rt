@@ -1,11 +1,11 @@
-//! The history of a space: what it did, what it has in hand, and what each deed gave.
+//! The history of a space: what it did, what it has outstanding, and what each deed gave.
 
 ghost use Rattle.std.specs.Prelude.{◌≡◌, IfOk};
 ghost use Rattle.nob_model_history.specs.Histories as words;
 
 use nob_model_types::{Deed, Entry, Here, List, deeds};
 use nob_model_work::gifts::past_of;
-use nob_model_work::{Gift, InHand, Past};
+use nob_model_work::{Gift, Outstanding, Past};
 use std::alloc::{AllocError, Global};
 
 /// The history of a space.
@@ -13,8 +13,8 @@ use std::alloc::{AllocError, Global};
 pub struct History {
     /// What it did, the newest first.
     pub deeds: List<Deed>,
-    /// What it has in hand.
-    pub work: InHand,
+    /// What it has outstanding.
+    pub work: Outstanding,
     /// What each deed gave, the newest first.
     pub all_gifts: List<List<Gift>>,
 }

@@ -7,7 +7,7 @@ use crate::history::History;
 use nob_ids::{SpaceId, WireRep};
 use nob_item::Item;
 use nob_model_types::{Deed, Loan, Message, RefCopy};
-use nob_model_work::{InHand, Run};
+use nob_model_work::{Outstanding, Run};
 use std::alloc::{AllocError, Global};
 
 /// How often a reference stands in a list.
@@ -160,7 +160,11 @@ fn loans_of_runs(alloc: Global, space: SpaceId, runs: &[Run]) -> Result<Vec<Wire
 }
 
 /// All that is lent at a space.
-pub fn lent_in(alloc: Global, space: SpaceId, work: &InHand) -> Result<Vec<WireRep>, AllocError>
+pub fn lent_in(
+    alloc: Global,
+    space: SpaceId,
+    work: &Outstanding,
+) -> Result<Vec<WireRep>, AllocError>
     ensures { IfOk result (λ reps. reps.items ≡ words.lent_in space work.now) }
 {
     let waiting = loans_of_all(alloc, space, work.waiting.as_slice())?;

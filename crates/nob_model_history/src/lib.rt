@@ -1,4 +1,4 @@
-//! The history of a space, the newest first: what it did, has in hand and gave. From it are read
+//! The history of a space, the newest first: what it did, has outstanding and gave. From it are read
 //! the calls on each end, holds, what is in transit, and who is listed. In `specs/` are the
 //! definitions; the functions here compute them plainly and slowly from the whole list, for every
 //! list.

@@ -19,12 +19,12 @@ use Rattle.nob_model_types.specs.Objects.{is_exported, is_live}
 use Rattle.nob_model_types.specs.Turns.{wants_dirty, turns}
 use Rattle.nob_model_types.specs.Messages.{is_of, is_lost_message}
 use Rattle.nob_model_work.specs.declared.gifts.Gift.{Gift}
-use Rattle.nob_model_work.specs.declared.work.InHand.{InHand}
+use Rattle.nob_model_work.specs.declared.work.Outstanding.{Outstanding}
 use Rattle.nob_model_work.specs.declared.work.Run.{Run}
 use Rattle.nob_model_work.specs.Work.{is_run, work}
 use Rattle.nob_model_work.specs.Gifts.{once, dirty_for, dirties_for, answer_to, gifts_of_act, lost_call_reply, gifts_of_settle, reply_to, gifts_of_finish, gifts_of, gifts, all_gifts}
 use Rattle.nob_model.proofs.Accepted.{found_passes}
-use Rattle.nob_model.proofs.Carrying.{AllInHand, all_filter, all_found}
+use Rattle.nob_model.proofs.Carrying.{AllOutstanding, all_filter, all_found}
 use Rattle.nob_model_journal.specs.Losses.{is_carried, sources}
 use Rattle.nob_model_invariant.proofs.Lists.{all_map}
 use Rattle.nob_model_invariant.specs.FirstSpaces.{IsOfFirst, SpeaksOfFirst, AmongFirst}
@@ -102,7 +102,7 @@ sender_first n p k messages all message found =
     let same : message.from ≡ p = eqb-true message.from p (and_parts (message.from == p) (message.number == k) (found_passes (is_of p k) messages message found)).0 in
     subst (IsSpaceOf n) same (all_found (IsMessageOfFirst n) (is_of p k) messages message found all).0
 
-gifts_first : (s n : ℕ) (deed : Deed) (D : List Deed) (W : InHand) → SpeaksOfFirst n deed D → AllInHand (IsMessageOfFirst n) W → AllByRecursion (GoesToFirst n) (gifts_of s n deed D W)
+gifts_first : (s n : ℕ) (deed : Deed) (D : List Deed) (W : Outstanding) → SpeaksOfFirst n deed D → AllOutstanding (IsMessageOfFirst n) W → AllByRecursion (GoesToFirst n) (gifts_of s n deed D W)
 unfolding gifts_of
 gifts_first s n (did.Call target method value call) D W first hand = (first, tt)
 gifts_first s n (did.Finish job outcome) D W first hand = finish_first n outcome (find (is_run job) W.running) (λ run found. (all_found (λ (one : Run). IsMessageOfFirst n one.message) (is_run job) W.running run found hand.running).0)
@@ -136,7 +136,7 @@ module _ (s n m : ℕ) (wider : n ≤ m) where
   settle_gives p k D None first its = refl
   settle_gives p k D (Some message) first its = ap (λ lost. record { to = p; item = items.Settle k } ∷ lost_call_reply p message.item lost) (lost_message_alike s n m wider D first message (its message refl))
 
-  deed_gives : (deed : Deed) (D : List Deed) (W : InHand) → AmongFirst n (deed ∷ D) → AllInHand (IsMessageOfFirst n) W → gifts_of s n deed D W ≡ gifts_of s m deed D W
+  deed_gives : (deed : Deed) (D : List Deed) (W : Outstanding) → AmongFirst n (deed ∷ D) → AllOutstanding (IsMessageOfFirst n) W → gifts_of s n deed D W ≡ gifts_of s m deed D W
   unfolding gifts_of
   deed_gives (did.Act p k) D W first hand = act_gives p D (item_at p k D) first.1 first.0.1
   deed_gives (did.Settle p k) D W first hand = settle_gives p k D (find (is_of p k) W.waiting) first.1 (λ message found. all_found (IsMessageOfFirst n) (is_of p k) W.waiting message found hand.waiting)
@@ -148,7 +148,7 @@ module _ (s n m : ℕ) (wider : n ≤ m) where
   gifts_alike : (deed : Deed) (D : List Deed) → AmongFirst n (deed ∷ D) → gifts s n deed D (work s n D) ≡ gifts s m deed D (work s m D)
   unfolding gifts
   gifts_alike deed D first =
-      let hand : AllInHand (IsMessageOfFirst n) (work s n D) = hand_first s n m wider D first.1 in
+      let hand : AllOutstanding (IsMessageOfFirst n) (work s n D) = hand_first s n m wider D first.1 in
       filter_alike (GoesToFirst n) (λ (gift : Gift). is_peer s n gift.to) (λ (gift : Gift). is_peer s m gift.to) (λ gift. peer_alike s n m wider gift.to) (gifts_of s n deed D (work s n D)) (gifts_first s n deed D (work s n D) first.0 hand)
       ∙ ap (filter (λ (gift : Gift). is_peer s m gift.to)) (deed_gives deed D (work s n D) first hand ∙ ap (gifts_of s m deed D) (work_alike s n m wider D first.1))
 

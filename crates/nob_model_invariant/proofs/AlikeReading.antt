@@ -1,5 +1,5 @@
 -- What a space did reads the same where more spaces are counted, if it speaks of the first n alone: the turns that it took,
--- what is lost, and the work in hand.
+-- what is lost, and the outstanding work.
 use Rattle.std.proofs.Common.{◌≡◌, ◌≤◌, ℕ, ◌&&◌, ◌||◌, not, Bool, true, false, List, [], ◌∷◌, map, find, Option, Some, None, if◌then◌else◌, refl, sym, ap, subst, ◌∙◌, arith}
 use Rattle.std.specs.Prelude.{◌==◌, nat_le}
 use Rattle.std.specs.List.{AllByRecursion, list_any}
@@ -19,13 +19,13 @@ use Rattle.nob_model_types.specs.declared.turns.Turns.{Turns}
 use Rattle.nob_model_types.specs.Sessions.{is_peer, closed, item_at}
 use Rattle.nob_model_types.specs.Turns.{is_granted, is_refused, is_standing, wants_dirty, with_dirty, with_clean, turns_after, turns, is_own, is_lost}
 use Rattle.nob_model_types.specs.Messages.{new_copy, new_message, loan_after, copy_after, message_after, is_of, is_lost_message}
-use Rattle.nob_model_work.specs.declared.work.InHand.{InHand}
+use Rattle.nob_model_work.specs.declared.work.Outstanding.{Outstanding}
 use Rattle.nob_model_work.specs.declared.work.Run.{Run}
 use Rattle.nob_model_work.specs.Work.{after_message, after_act, lost_reply, without_waiting, after_settlement, after_settle, work_after, run_after, with_loans, work}
 use Rattle.nob_model_history.proofs.Turning.{same_ref}
-use Rattle.nob_model.proofs.Carrying.{AllInHand, all_found}
+use Rattle.nob_model.proofs.Carrying.{AllOutstanding, all_found}
 use Rattle.nob_model_invariant.proofs.Lists.{all_map}
-use Rattle.nob_model_invariant.proofs.Hands.{New, in_hand_more}
+use Rattle.nob_model_invariant.proofs.Hands.{New, outstanding_more}
 use Rattle.nob_model_invariant.specs.FirstSpaces.{IsOfFirst, SpeaksOfFirst, AmongFirst}
 use Rattle.nob_model_invariant.proofs.AlikeLists.{map_same, map_alike, any_alike}
 
@@ -42,11 +42,11 @@ carried_first n rep (other ∷ reps) all is = by (carried_first n rep reps all.1
     by rest true same either = subst (IsOfFirst n) (sym (same_ref rep other same)) all.0
     by rest false apart either = rest either
 
--- the work in hand with these lists, and the calls of another
-abbrev with_lists : InHand → (waiting ready replies : List Message) → List Run → InHand
+-- the outstanding work with these lists, and the calls of another
+abbrev with_lists : Outstanding → (waiting ready replies : List Message) → List Run → Outstanding
 with_lists W waiting ready replies running = record { waiting = waiting; ready = ready; running = running; replies = replies; calls = W.calls }
 
-lists_same : (W : InHand) (w v r q p o : List Message) (a b : List Run) → w ≡ v → r ≡ q → p ≡ o → a ≡ b → with_lists W w r p a ≡ with_lists W v q o b
+lists_same : (W : Outstanding) (w v r q p o : List Message) (a b : List Run) → w ≡ v → r ≡ q → p ≡ o → a ≡ b → with_lists W w r p a ≡ with_lists W v q o b
 lists_same W w v r q p o a b waiting ready replies running = cc
 
 module _ (s n m : ℕ) (wider : n ≤ m) where
@@ -109,7 +109,7 @@ module _ (s n m : ℕ) (wider : n ≤ m) where
       let make : Message → Run = λ message. record { job = run.job; message = message } in
       ap make (message_alike D first run.message)
 
-  loans_alike : (D : List Deed) → AmongFirst n D → (W : InHand) → with_loans s n D W ≡ with_loans s m D W
+  loans_alike : (D : List Deed) → AmongFirst n D → (W : Outstanding) → with_loans s n D W ≡ with_loans s m D W
   unfolding with_loans
   loans_alike D first W =
       let each : (messages : List Message) → map (λ message. message_after s n D message) messages ≡ map (λ message. message_after s m D message) messages = map_same (λ message. message_after s n D message) (λ message. message_after s m D message) (message_alike D first) in
@@ -131,17 +131,17 @@ module _ (s n m : ℕ) (wider : n ≤ m) where
 
   -- ---- work
 
-  act_alike : (p k : ℕ) (D : List Deed) (found : Option Item) (W : InHand) → AmongFirst n (did.Act p k ∷ D) → ((item : Item) → found ≡ Some item → AllByRecursion (IsOfFirst n) (counted_in item)) → after_act s n p k D found W ≡ after_act s m p k D found W
+  act_alike : (p k : ℕ) (D : List Deed) (found : Option Item) (W : Outstanding) → AmongFirst n (did.Act p k ∷ D) → ((item : Item) → found ≡ Some item → AllByRecursion (IsOfFirst n) (counted_in item)) → after_act s n p k D found W ≡ after_act s m p k D found W
   unfolding after_act
   act_alike p k D None W first its = refl
   act_alike p k D (Some item) W first its = ap (λ message. after_message message item W) (new_alike p k item (did.Act p k ∷ D) first (its item refl))
 
-  settle_alike : (p k : ℕ) (D : List Deed) (found : Option Message) (W : InHand) → AmongFirst n D → ((message : Message) → found ≡ Some message → IsMessageOfFirst n message) → after_settle s n p k D found W ≡ after_settle s m p k D found W
+  settle_alike : (p k : ℕ) (D : List Deed) (found : Option Message) (W : Outstanding) → AmongFirst n D → ((message : Message) → found ≡ Some message → IsMessageOfFirst n message) → after_settle s n p k D found W ≡ after_settle s m p k D found W
   unfolding after_settle
   settle_alike p k D None W first its = refl
   settle_alike p k D (Some message) W first its = ap (λ lost. after_settlement message message.item lost (without_waiting p k W)) (lost_message_alike D first message (its message refl))
 
-  deed_alike : (deed : Deed) (D : List Deed) (W : InHand) → AmongFirst n (deed ∷ D) → AllInHand (IsMessageOfFirst n) W → work_after s n deed D W ≡ work_after s m deed D W
+  deed_alike : (deed : Deed) (D : List Deed) (W : Outstanding) → AmongFirst n (deed ∷ D) → AllOutstanding (IsMessageOfFirst n) W → work_after s n deed D W ≡ work_after s m deed D W
   unfolding work_after
   deed_alike (did.Act p k) D W first hand = act_alike p k D (item_at p k D) W first first.0.1
   deed_alike (did.Settle p k) D W first hand = settle_alike p k D (find (is_of p k) W.waiting) W first.1 (λ message found. all_found (IsMessageOfFirst n) (is_of p k) W.waiting message found hand.waiting)
@@ -159,12 +159,12 @@ module _ (s n m : ℕ) (wider : n ≤ m) where
   new_first (did.Act p k) D first = λ item is. (first.0, all_map (IsOfFirst n) (λ (copy : RefCopy). IsOfFirst n copy.rep) _ (λ rep own. own) (counted_in item) (first.1 item is))
   new_first deed D first = tt
 
-  -- all that is in hand came from the first n spaces
-  pub hand_first : (D : List Deed) → AmongFirst n D → AllInHand (IsMessageOfFirst n) (work s n D)
+  -- all that is outstanding came from the first n spaces
+  pub hand_first : (D : List Deed) → AmongFirst n D → AllOutstanding (IsMessageOfFirst n) (work s n D)
   hand_first [] first = record { waiting = tt; ready = tt; running = tt; replies = tt }
-  hand_first (deed ∷ D) first = in_hand_more s n (IsMessageOfFirst n) lost_first deed D (kept_first (deed ∷ D)) (new_first deed D first.0) (hand_first D first.1)
+  hand_first (deed ∷ D) first = outstanding_more s n (IsMessageOfFirst n) lost_first deed D (kept_first (deed ∷ D)) (new_first deed D first.0) (hand_first D first.1)
 
-  -- the work in hand
+  -- the outstanding work
   pub work_alike : (D : List Deed) → AmongFirst n D → work s n D ≡ work s m D
   work_alike [] first = refl
   work_alike (deed ∷ D) first =

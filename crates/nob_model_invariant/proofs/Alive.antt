@@ -22,7 +22,7 @@ use Rattle.nob_model_types.specs.declared.message.Message.{Message}
 use Rattle.nob_model_types.specs.Objects.{exports, is_exported, is_withdrawn, is_live}
 use Rattle.nob_model_types.specs.Turns.{is_own, is_usable}
 use Rattle.nob_model_types.specs.Messages.{new_message, new_copy, loan_after, copy_after, message_after, replies_to}
-use Rattle.nob_model_work.specs.declared.work.InHand.{InHand}
+use Rattle.nob_model_work.specs.declared.work.Outstanding.{Outstanding}
 use Rattle.nob_model_work.specs.declared.work.Run.{Run}
 use Rattle.nob_model_work.specs.Work.{work, work_after, with_loans, run_after}
 use Rattle.nob_model_history.specs.Histories.{history_of}
@@ -30,7 +30,7 @@ use Rattle.nob_model_history.specs.Holds.{times, gains, releases, hand, loans_of
 use Rattle.nob_model_history.specs.Premises.{ObjectsInTurn}
 use Rattle.nob_model_history.proofs.Living.{withdrawn_exported}
 use Rattle.nob_model_history.proofs.Turning.{same_ref, named_ref}
-use Rattle.nob_model_acting.specs.Sending.{is_own_and_not_live}
+use Rattle.nob_model_acting.specs.Sending.{is_gone}
 use Rattle.nob_model_acting.specs.Acting.{fault_if, first_fault, fault_of, names_not_live, awaits_reply}
 use Rattle.nob_model.specs.Right.{right_after, own_ref}
 use Rattle.nob_model.specs.Lists.{IsRightDeed, AreRightDeeds}
@@ -40,10 +40,10 @@ use Rattle.nob_model.proofs.Guarding.{live_stays, live_without}
 use Rattle.nob_model.proofs.Premises.{in_turn, item_acted, no_fault, objects_in_turn}
 use Rattle.nob_model.proofs.Orderly.{holds_law}
 use Rattle.nob_model.proofs.Lending.{IsAllLent, all_lent}
-use Rattle.nob_model.proofs.Carrying.{AllInHand, Carries, all_carry, all_found}
+use Rattle.nob_model.proofs.Carrying.{AllOutstanding, Carries, all_carry, all_found}
 use Rattle.nob_model.proofs.Waiting.{all_weaker}
 use Rattle.nob_model_invariant.proofs.Lists.{all_append, all_split, all_both, all_unfilter, some_same}
-use Rattle.nob_model_invariant.proofs.Hands.{New, in_hand_more, hand_weaker, hand_both}
+use Rattle.nob_model_invariant.proofs.Hands.{New, outstanding_more, hand_weaker, hand_both}
 use Rattle.nob_model_invariant.proofs.Holding.{OfCounted, times_some}
 use Rattle.nob_model_invariant.proofs.Owners.{any_push}
 use Rattle.nob_model_invariant.proofs.Granted.{all_stand, hand_apart, hand_joined, copies_apart, copies_joined, either_some}
@@ -107,11 +107,11 @@ all_built : {X Y : Type 0} (P : Y → Type 0) (f : X → Y) → ((x : X) → P (
 all_built P f each [] = tt
 all_built P f each (x ∷ xs) = (each x, all_built P f each xs)
 
-none_due : (s n : ℕ) (D : List Deed) → AllInHand (NoneDue s) (work s n D)
+none_due : (s n : ℕ) (D : List Deed) → AllOutstanding (NoneDue s) (work s n D)
 unfolding with_loans run_after
 none_due s n [] = record { waiting = tt; ready = tt; running = tt; replies = tt }
 none_due s n (deed ∷ D) =
-    let W : InHand = work_after s n deed D (work s n D) in
+    let W : Outstanding = work_after s n deed D (work s n D) in
     record {
       waiting = all_built (NoneDue s) (λ m. message_after s n (deed ∷ D) m) (none_due_after s n (deed ∷ D)) W.waiting;
       ready = all_built (NoneDue s) (λ m. message_after s n (deed ∷ D) m) (none_due_after s n (deed ∷ D)) W.ready;
@@ -157,7 +157,7 @@ module _ (s n : ℕ) (limits : Limits) (deed : Deed) (D : List Deed) (right : Ar
     all_both (CopyAlive s D) (λ (copy : RefCopy). (copy.loan ≡ loans.Never → ⊥) → is_own s copy.rep ≡ true → Stands copy.rep) (CopyAlive s (deed ∷ D)) (λ copy its some never own. lent_stays copy.rep (some never own) (its never) own) m.copies alive.1 there.1,
   )
 
-  hand_still : AllInHand (LendsAlive s D) (work s n D) → AllInHand (LendsAlive s (deed ∷ D)) (work s n D)
+  hand_still : AllOutstanding (LendsAlive s D) (work s n D) → AllOutstanding (LendsAlive s (deed ∷ D)) (work s n D)
   hand_still all =
       hand_both (LendsAlive s D) AllStand (LendsAlive s (deed ∷ D)) lends_still (work s n D) all
       (hand_both LendsHeld (NoneDue s) AllStand all_there (work s n D) (hand_apart s _ (work s n D) (all_stand (lent_in s (work s n D)))) (none_due s n D))
@@ -188,8 +188,8 @@ alive_by false alive none own = cc
 
 named_alive : (s n : ℕ) (item : Item) (D : List Deed) → fault_if (names_not_live s item (history_of s n D)) BadReference ≡ None → AllByRecursion (IsAlive s D) (counted_in item)
 named_alive s n item D none =
-    all_weaker (λ rep. is_own_and_not_live s rep (history_of s n D) ≡ false) (IsAlive s D) (λ rep its own. alive_by (is_own s rep) (is_live s rep.index D) its own) (counted_in item)
-    (not_any (λ rep. is_own_and_not_live s rep (history_of s n D)) (counted_in item) (no_fault (names_not_live s item (history_of s n D)) BadReference none))
+    all_weaker (λ rep. is_gone s rep (history_of s n D) ≡ false) (IsAlive s D) (λ rep its own. alive_by (is_own s rep) (is_live s rep.index D) its own) (counted_in item)
+    (not_any (λ rep. is_gone s rep (history_of s n D)) (counted_in item) (no_fault (names_not_live s item (history_of s n D)) BadReference none))
 
 target_alive : (s target : ℕ) (D : List Deed) (b : Bool) → (not b && not (is_live s target D)) ≡ false → AllByRecursion (IsAlive s D) (cond b [] (record { owner = s; index = target } ∷ []))
 target_alive s target D true none = tt
@@ -224,20 +224,20 @@ new_lends s n limits (did.Act p k) D right = λ item is.
     lends_new s n p k item (did.Act p k ∷ D) (did.Act p k ∷ D) (item_alive s n p item D (subst (λ (one : Item). fault_of s n p one (history_of s n D) ≡ None) (some_same known.0 item (sym known.1 ∙ is)) known.2))
 new_lends s n limits deed D right = tt
 
-lent_more : (s n : ℕ) (limits : Limits) (deed : Deed) (D : List Deed) → AreRightDeeds s n limits (deed ∷ D) → AllInHand (LendsAlive s D) (work s n D) → AllInHand (LendsAlive s (deed ∷ D)) (work s n (deed ∷ D))
-lent_more s n limits deed D right all = in_hand_more s n (LendsAlive s (deed ∷ D)) (λ m call status value is its. (tt, tt)) deed D (lends_after s n (deed ∷ D)) (new_lends s n limits deed D right) (hand_still s n limits deed D right all)
+lent_more : (s n : ℕ) (limits : Limits) (deed : Deed) (D : List Deed) → AreRightDeeds s n limits (deed ∷ D) → AllOutstanding (LendsAlive s D) (work s n D) → AllOutstanding (LendsAlive s (deed ∷ D)) (work s n (deed ∷ D))
+lent_more s n limits deed D right all = outstanding_more s n (LendsAlive s (deed ∷ D)) (λ m call status value is its. (tt, tt)) deed D (lends_after s n (deed ∷ D)) (new_lends s n limits deed D right) (hand_still s n limits deed D right all)
 
 -- ---- what is held
 
 -- how it stands at space s: what is lent and what is in the hand is live, if it is own
 pub record HoldsAlive (s n : ℕ) (D : List Deed) : Type 0 where
-  pub lent : AllInHand (LendsAlive s D) (work s n D)
-  pub in_hand : (rep : WireRep) → is_counted rep ≡ true → 1 ≤ hand rep D → IsAlive s D rep
+  pub lent : AllOutstanding (LendsAlive s D) (work s n D)
+  pub in_the_hand : (rep : WireRep) → is_counted rep ≡ true → 1 ≤ hand rep D → IsAlive s D rep
 
 lent_never : (loan : Loan) → loan ≡ loans.Lent → loan ≡ loans.Never → ⊥
 lent_never loan lent never = let clash : loans.Lent ≡ loans.Never = sym lent ∙ never in cc
 
-lent_alive : (s n : ℕ) (D : List Deed) → AllInHand (LendsAlive s D) (work s n D) → AllByRecursion (IsAlive s D) (lent_in s (work s n D))
+lent_alive : (s n : ℕ) (D : List Deed) → AllOutstanding (LendsAlive s D) (work s n D) → AllByRecursion (IsAlive s D) (lent_in s (work s n D))
 lent_alive s n D all =
     hand_joined s (IsAlive s D) (work s n D) (hand_weaker (LendsAlive s D) (λ m. AllByRecursion (IsAlive s D) (loans_of s m))
     (λ m its. all_append (IsAlive s D) (target_lent s m.item) (copies_lent m.copies) its.0 (copies_joined (IsAlive s D) m.copies (all_weaker (CopyAlive s D) (λ (copy : RefCopy). copy.loan ≡ loans.Lent → IsAlive s D copy.rep) (λ copy alive lent. alive (lent_never copy.loan lent)) m.copies its.1)))
@@ -247,7 +247,7 @@ lent_alive s n D all =
 held_by : (s n : ℕ) (limits : Limits) (rep : WireRep) (D : List Deed) → AreRightDeeds s n limits D → HoldsAlive s n D → is_counted rep ≡ true → is_held s rep (history_of s n D) ≡ true → IsAlive s D rep
 held_by s n limits rep D right all counted held =
     elim (either_some (hand rep D) (times rep (lent_in s (work s n D))) (holds s rep (history_of s n D)) (holds_law s n limits D right rep) (not-true _ held)) [
-      | inl some ↦ all.in_hand rep counted some
+      | inl some ↦ all.in_the_hand rep counted some
       | inr some ↦ times_some (IsAlive s D) rep (lent_in s (work s n D)) (lent_alive s n D all.lent) some
     ]
 
@@ -255,7 +255,7 @@ held_by s n limits rep D right all counted held =
 
 -- where no more is in the hand
 hand_less : (s n : ℕ) (limits : Limits) (deed : Deed) (D : List Deed) (rep : WireRep) → AreRightDeeds s n limits (deed ∷ D) → HoldsAlive s n D → is_counted rep ≡ true → 1 ≤ hand rep D → IsAlive s (deed ∷ D) rep
-hand_less s n limits deed D rep right all counted some own = alive_stays s rep.index deed D (own_kept s n limits rep deed D right.0 own (hand_held s n limits rep D right.1 some)) (all.in_hand rep counted some own)
+hand_less s n limits deed D rep right all counted some own = alive_stays s rep.index deed D (own_kept s n limits rep deed D right.0 own (hand_held s n limits rep D right.1 some)) (all.in_the_hand rep counted some own)
 
 -- one reference more came
 one_more : (s n : ℕ) (limits : Limits) (deed : Deed) (D : List Deed) (rep other : WireRep) → AreRightDeeds s n limits (deed ∷ D) → HoldsAlive s n D → is_counted rep ≡ true → IsAlive s (deed ∷ D) other → (b : Bool) → is_same rep other ≡ b → 1 ≤ length (cond b (other ∷ filter (is_same rep) (gains D)) (filter (is_same rep) (gains D))) - times rep (releases D) → IsAlive s (deed ∷ D) rep
@@ -314,10 +314,10 @@ hand_more s n limits deed D right all rep counted some = hand_less s n limits de
 
 -- in every list of right deeds what is lent and what is in the hand is live, if it is own
 pub holds_alive : (s n : ℕ) (limits : Limits) (D : List Deed) → AreRightDeeds s n limits D → HoldsAlive s n D
-holds_alive s n limits [] right = record { lent = record { waiting = tt; ready = tt; running = tt; replies = tt }; in_hand = λ rep counted some. absurd (omega (arith, some)) }
+holds_alive s n limits [] right = record { lent = record { waiting = tt; ready = tt; running = tt; replies = tt }; in_the_hand = λ rep counted some. absurd (omega (arith, some)) }
 holds_alive s n limits (deed ∷ D) right =
     let before = holds_alive s n limits D right.1 in
-    record { lent = lent_more s n limits deed D right before.lent; in_hand = hand_more s n limits deed D right before }
+    record { lent = lent_more s n limits deed D right before.lent; in_the_hand = hand_more s n limits deed D right before }
 
 -- what a space holds of its own is live
 pub held_alive : (s n : ℕ) (limits : Limits) (rep : WireRep) (D : List Deed) → AreRightDeeds s n limits D → is_counted rep ≡ true → is_own s rep ≡ true → is_held s rep (history_of s n D) ≡ true → is_live s rep.index D ≡ true

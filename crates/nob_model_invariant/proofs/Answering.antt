@@ -19,7 +19,7 @@ use Rattle.nob_model_invariant.proofs.Entries.{right_deeds_at}
 use Rattle.nob_model_invariant.proofs.Listings.{items_split}
 use Rattle.nob_model_invariant.proofs.Order.{in_order}
 use Rattle.nob_model_invariant.proofs.Places.{IsNext, rest_next}
-use Rattle.nob_model_invariant.specs.Counting.{count_of, makes_call, calls_in_hand}
+use Rattle.nob_model_invariant.specs.Counting.{count_of, makes_call, calls_outstanding}
 use Rattle.nob_model_invariant.specs.ArrivalLaws.{AnswersLaw}
 use Rattle.nob_model_invariant.proofs.Counts.{one_if, count_first, count_append}
 use Rattle.nob_model_invariant.proofs.Fair.{calls_fair}
@@ -36,7 +36,7 @@ module _ (n : ℕ) (limits : ℕ → Limits) (J : List Entry) (run : WorldRun n 
       let whole = sym (count_append (makes_call k) (items_among (acted_from c o J)) (items_among begins.0)) ∙ ap (count_of (makes_call k)) (items_split n c o J begins) in
       omega (arith, whole)
 
-  fair : (o c k : ℕ) → calls_in_hand c k (work o n (deeds_at o J)) + count_of (replies_to k) (sent_to n o c J) ≤ count_of (makes_call k) (items_among (acted_from c o J))
+  fair : (o c k : ℕ) → calls_outstanding c k (work o n (deeds_at o J)) + count_of (replies_to k) (sent_to n o c J) ≤ count_of (makes_call k) (items_among (acted_from c o J))
   fair o c k = calls_fair c k o n (deeds_at o J)
 
   once_replied : (o c k : ℕ) → count_of (replies_to k) (sent_to n o c J) ≤ 1

@@ -20,7 +20,7 @@ use Rattle.nob_model_types.specs.declared.message.Message.{Message}
 use Rattle.nob_model_types.specs.Sessions.{is_peer, closed, item_at, acted}
 use Rattle.nob_model_types.specs.Messages.{new_message, is_of, replies_to, is_job, is_lost_message}
 use Rattle.nob_model_work.specs.declared.gifts.Gift.{Gift}
-use Rattle.nob_model_work.specs.declared.work.InHand.{InHand}
+use Rattle.nob_model_work.specs.declared.work.Outstanding.{Outstanding}
 use Rattle.nob_model_work.specs.declared.work.OwnCall.{OwnCall}
 use Rattle.nob_model_work.specs.declared.work.Stage.{Stage}
 use Rattle.nob_model_work.specs.declared.work.Stage.TheVariants as stages
@@ -100,7 +100,7 @@ module _ (p k : ℕ) where
   calls_so (did.Call target method value call) = one_if (target.owner == p && call == k)
   calls_so (_) = 0
 
-  deed_calls : (s n : ℕ) (deed : Deed) (D : List Deed) (W : InHand) → called (gifts_of s n deed D W) ≤ calls_so deed
+  deed_calls : (s n : ℕ) (deed : Deed) (D : List Deed) (W : Outstanding) → called (gifts_of s n deed D W) ≤ calls_so deed
   unfolding gifts_of
   deed_calls s n (did.Call target method value call) D W = let first = count_first (gives (makes_call k) p) (record { to = target.owner; item = items.Call call target.index method value }) [] in omega (arith, first)
   deed_calls s n (did.Finish job outcome) D W = let none = run_calls outcome (find (is_run job) W.running) in omega (arith, none)
@@ -116,7 +116,7 @@ module _ (p k : ℕ) where
   calls_more : (s n : ℕ) (deed : Deed) (D : List Deed) → calls_sent s n (deed ∷ D) ≤ calls_sent s n D + calls_so deed
   unfolding gifts
   calls_more s n deed D =
-      let W : InHand = work s n D in
+      let W : Outstanding = work s n D in
       let given = count_given (makes_call k) p (λ (gift : Gift). is_peer s n gift.to) (gifts_of s n deed D W) in
       let fewer = deed_calls s n deed D W in
       let whole = ap (count_of (makes_call k)) (gifts_sent_to p (gifts s n deed D W) (sent (history_of s n D))) ∙ count_append (makes_call k) (items_sent_to p (sent (history_of s n D))) (items_to p (gifts s n deed D W)) in
@@ -231,7 +231,7 @@ module _ (p k : ℕ) where
   other_left j other own awaits = ap not (ne_eqb own.call j (λ same. eqb-false j k other (sym same ∙ (awaits_parts own awaits).0)))
 
   -- while it waits there is no Reply to take
-  none_ready : (made : ℕ) (W : InHand) (m : Message) → AreAnsweredOnce made W → list_any (awaits_reply p k) W.calls ≡ true → find (λ (message : Message). replies_to k message.item) W.replies ≡ Some m → ⊥
+  none_ready : (made : ℕ) (W : Outstanding) (m : Message) → AreAnsweredOnce made W → list_any (awaits_reply p k) W.calls ≡ true → find (λ (message : Message). replies_to k message.item) W.replies ≡ Some m → ⊥
   none_ready made W m all awaits found =
       let asks : is_asked k W ≡ true = any_weaker (awaits_reply p k) (λ (own : OwnCall). is_call k own && is_sent own.stage) (λ own waits. let parts = awaits_parts own waits in and_from (own.call == k) (is_sent own.stage) (eq-eqb own.call k parts.0) parts.2) W.calls awaits in
       let none : replies_in k W ≡ 0 = all.later k asks in
@@ -272,11 +272,11 @@ module _ (p k : ℕ) where
 
   -- ---- one deed more
 
-  -- whether Call k to p waits, by the calls in hand
-  abbrev Waits : InHand → Type 0
+  -- whether Call k to p waits, by the calls outstanding
+  abbrev Waits : Outstanding → Type 0
   Waits W = list_any (awaits_reply p k) W.calls ≡ true
 
-  message_waits : (m : Message) (item : Item) (W : InHand) → ((call status : ℕ) (value : Value) → item ≡ items.Reply call status value → (m.from == p && call == k) ≡ false) → Waits W → Waits (after_message m item W)
+  message_waits : (m : Message) (item : Item) (W : Outstanding) → ((call status : ℕ) (value : Value) → item ≡ items.Reply call status value → (m.from == p && call == k) ≡ false) → Waits W → Waits (after_message m item W)
   unfolding after_message
   message_waits m (items.Call call target method value) W other waits = elim (is_none_of m.copies) as (λ b. Waits (if b then make_ready m W else wait m W)) [ true ↦ waits | false ↦ waits ]
   message_waits m (items.Reply call status value) W other waits =
@@ -290,12 +290,12 @@ module _ (p k : ℕ) where
   message_waits m (items.DirtyNo index) W other waits = waits
   message_waits m (items.Clean index) W other waits = waits
 
-  act_waits : (s n q j : ℕ) (D : List Deed) (found : Option Item) (W : InHand) → ((call status : ℕ) (value : Value) → found ≡ Some (items.Reply call status value) → (q == p && call == k) ≡ false) → Waits W → Waits (after_act s n q j D found W)
+  act_waits : (s n q j : ℕ) (D : List Deed) (found : Option Item) (W : Outstanding) → ((call status : ℕ) (value : Value) → found ≡ Some (items.Reply call status value) → (q == p && call == k) ≡ false) → Waits W → Waits (after_act s n q j D found W)
   unfolding after_act
   act_waits s n q j D None W other waits = waits
   act_waits s n q j D (Some item) W other waits = message_waits (new_message s n q j item (did.Act q j ∷ D)) item W (λ call status value is. other call status value (ap Some is)) waits
 
-  settlement_waits : (m : Message) (item : Item) (lost : Bool) (W : InHand) → Waits W → Waits (after_settlement m item lost W)
+  settlement_waits : (m : Message) (item : Item) (lost : Bool) (W : Outstanding) → Waits W → Waits (after_settlement m item lost W)
   unfolding after_settlement
   settlement_waits m (items.Call call target method value) true W waits = waits
   settlement_waits m (items.Call call target method value) false W waits = waits
@@ -303,17 +303,17 @@ module _ (p k : ℕ) where
   settlement_waits m (items.Reply call status value) false W waits = waits
   settlement_waits m (_) lost W waits = waits
 
-  settle_waits : (s n q j : ℕ) (D : List Deed) (found : Option Message) (W : InHand) → Waits W → Waits (after_settle s n q j D found W)
+  settle_waits : (s n q j : ℕ) (D : List Deed) (found : Option Message) (W : Outstanding) → Waits W → Waits (after_settle s n q j D found W)
   unfolding after_settle
   settle_waits s n q j D None W waits = waits
   settle_waits s n q j D (Some m) W waits = settlement_waits m m.item (is_lost_message s n D m) (without_waiting q j W) waits
 
-  claim_waits : (job : Job) (found : Option Message) (W : InHand) → Waits W → Waits (after_claim job found W)
+  claim_waits : (job : Job) (found : Option Message) (W : Outstanding) → Waits W → Waits (after_claim job found W)
   unfolding after_claim
   claim_waits job None W waits = waits
   claim_waits job (Some m) W waits = waits
 
-  -- an answered call, with what is in hand by a deed, the loans aside
+  -- an answered call, with what is outstanding by a deed, the loans aside
   abbrev AnsweredBy : (s n : ℕ) → Deed → List Deed → Type 0
   AnsweredBy s n deed D = (closed p (deed ∷ D) ≡ true) ⊎ ((1 ≤ count_of (replies_to k) (items_among (acted p (deed ∷ D)))) ⊎ Waits (work_after s n deed D (work s n D)))
 

@@ -1,4 +1,4 @@
--- On every list of deeds the messages of a Call in hand and the Replies to it are together no more than the times that it
+-- On every list of deeds the messages of a Call outstanding and the Replies to it are together no more than the times that it
 -- was acted on.
 use Rattle.std.proofs.Common.{◌≡◌, ℕ, ◌+◌, ◌≤◌, ◌&&◌, not, Bool, true, false, cond, List, [], ◌∷◌, ◌++◌, map, filter, find, Option, Some, None, if◌then◌else◌, refl, ap, ◌∙◌, arith}
 use Rattle.std.specs.Prelude.{◌==◌}
@@ -18,7 +18,7 @@ use Rattle.nob_model_types.specs.declared.message.Message.{Message}
 use Rattle.nob_model_types.specs.Sessions.{is_peer, item_at, acted}
 use Rattle.nob_model_types.specs.Messages.{new_message, message_after, is_of, is_not_from, replies_to, is_job, is_lost_message}
 use Rattle.nob_model_work.specs.declared.gifts.Gift.{Gift}
-use Rattle.nob_model_work.specs.declared.work.InHand.{InHand}
+use Rattle.nob_model_work.specs.declared.work.Outstanding.{Outstanding}
 use Rattle.nob_model_work.specs.declared.work.Run.{Run}
 use Rattle.nob_model_work.specs.Work.{is_run, wait, make_ready, make_reply, is_none_of, is_not_reply, call_after_reply, with_calls, after_message, after_act, after_settlement, without_waiting, after_settle, after_claim, after_finish, after_take, after_end, after_call, after_close, work_after, run_after, with_loans, work}
 use Rattle.nob_model_work.specs.Gifts.{lost_call_reply, gifts_of_settle, status_of, value_of, reply_to, gifts_of_finish, gifts_of, gifts}
@@ -29,7 +29,7 @@ use Rattle.nob_model_history.proofs.Numbered.{items_sent_to, gifts_sent_to}
 use Rattle.nob_model.proofs.Accepted.{found_passes}
 use Rattle.nob_model.proofs.Waiting.{all_weaker}
 use Rattle.nob_model_invariant.specs.Asking.{items_among}
-use Rattle.nob_model_invariant.specs.Counting.{count_of, makes_call, brings_call, runs_call, calls_in_hand}
+use Rattle.nob_model_invariant.specs.Counting.{count_of, makes_call, brings_call, runs_call, calls_outstanding}
 use Rattle.nob_model_invariant.proofs.Counts.{one_if, count_first, count_append, count_push, count_filter, count_without, count_dropped, count_mapped, count_none}
 use Rattle.nob_model_invariant.proofs.Notes.{may_speak, gives_notes}
 
@@ -62,7 +62,7 @@ and_no true b none = none
 and_no false b none = refl
 
 -- a deed that gives notes only gives nothing else
-pub notes_give : (test : Item → Bool) → ((item : Item) → is_note item ≡ true → test item ≡ false) → (p s n : ℕ) (deed : Deed) (D : List Deed) (W : InHand) → may_speak deed ≡ false → count_of (gives test p) (gifts_of s n deed D W) ≡ 0
+pub notes_give : (test : Item → Bool) → ((item : Item) → is_note item ≡ true → test item ≡ false) → (p s n : ℕ) (deed : Deed) (D : List Deed) (W : Outstanding) → may_speak deed ≡ false → count_of (gives test p) (gifts_of s n deed D W) ≡ 0
 notes_give test notes p s n deed D W silent =
     count_none (gives test p) (gifts_of s n deed D W)
     (all_weaker (λ (gift : Gift). is_note gift.item ≡ true) (λ (gift : Gift). gives test p gift ≡ false) (λ gift note. and_no (gift.to == p) (test gift.item) (notes gift.item note)) (gifts_of s n deed D W) (gives_notes s n deed D W silent))
@@ -97,22 +97,22 @@ module _ (p k : ℕ) where
   finish_replies q (items.DirtyNo index) outcome = omega arith
   finish_replies q (items.Clean index) outcome = omega arith
 
-  -- ---- what is in hand
+  -- ---- what is outstanding
 
   of_message : (m : Message) (q : ℕ) (item : Item) → m.from ≡ q → m.item ≡ item → one_if (brings_call p k m) ≡ one_if (q == p && makes_call k item)
   of_message m q item from is = ap (λ (r : ℕ). one_if (r == p && makes_call k m.item)) from ∙ ap (λ (i : Item). one_if (q == p && makes_call k i)) is
 
-  message_fair : (q : ℕ) (m : Message) (item : Item) (W : InHand) → m.from ≡ q → m.item ≡ item → calls_in_hand p k (after_message m item W) ≤ calls_in_hand p k W + one_if (q == p && makes_call k item)
+  message_fair : (q : ℕ) (m : Message) (item : Item) (W : Outstanding) → m.from ≡ q → m.item ≡ item → calls_outstanding p k (after_message m item W) ≤ calls_outstanding p k W + one_if (q == p && makes_call k item)
   unfolding after_message
   message_fair q m (items.Call call target method value) W from is =
       let one = of_message m q (items.Call call target method value) from is in
       let ready = count_push (brings_call p k) W.ready m in
       let waiting = count_push (brings_call p k) W.waiting m in
-      elim (is_none_of m.copies) as (λ b. calls_in_hand p k (if b then make_ready m W else wait m W) ≤ calls_in_hand p k W + one_if (q == p && call == k)) [ true ↦ omega (arith, one, ready) | false ↦ omega (arith, one, waiting) ]
+      elim (is_none_of m.copies) as (λ b. calls_outstanding p k (if b then make_ready m W else wait m W) ≤ calls_outstanding p k W + one_if (q == p && call == k)) [ true ↦ omega (arith, one, ready) | false ↦ omega (arith, one, waiting) ]
   message_fair q m (items.Reply call status value) W from is =
       let one = of_message m q (items.Reply call status value) from is in
       let waiting = count_push (brings_call p k) W.waiting m in
-      elim (is_none_of m.copies) as (λ b. calls_in_hand p k (with_calls (call_after_reply m.from call) (if b then make_reply m W else wait m W)) ≤ calls_in_hand p k W + one_if (q == p && false)) [ true ↦ omega arith | false ↦ omega (arith, one, waiting) ]
+      elim (is_none_of m.copies) as (λ b. calls_outstanding p k (with_calls (call_after_reply m.from call) (if b then make_reply m W else wait m W)) ≤ calls_outstanding p k W + one_if (q == p && false)) [ true ↦ omega arith | false ↦ omega (arith, one, waiting) ]
   message_fair q m (items.Settle item) W from is = omega arith
   message_fair q m (items.Dirty index) W from is = omega arith
   message_fair q m (items.DirtyOk index) W from is = omega arith
@@ -126,12 +126,12 @@ module _ (p k : ℕ) where
   one_taken : (q : ℕ) (item : Item) → taken q (Some item) ≡ one_if (q == p && makes_call k item)
   one_taken q item = let first = count_first (makes_call k) item [] in elim (q == p) as (λ b. cond b (count_of (makes_call k) (item ∷ [])) 0 ≡ one_if (b && makes_call k item)) [ true ↦ omega (arith, first) | false ↦ refl ]
 
-  act_fair : (s n q j : ℕ) (D : List Deed) (found : Option Item) (W : InHand) → calls_in_hand p k (after_act s n q j D found W) ≤ calls_in_hand p k W + taken q found
+  act_fair : (s n q j : ℕ) (D : List Deed) (found : Option Item) (W : Outstanding) → calls_outstanding p k (after_act s n q j D found W) ≤ calls_outstanding p k W + taken q found
   unfolding after_act
   act_fair s n q j D None W = omega arith
   act_fair s n q j D (Some item) W = let fair = message_fair q (new_message s n q j item (did.Act q j ∷ D)) item W refl refl in let one = one_taken q item in omega (arith, fair, one)
 
-  settlement_fair : (q j : ℕ) (m : Message) (item : Item) (lost : Bool) (W : InHand) → m.from ≡ q → m.item ≡ item → find (is_of q j) W.waiting ≡ Some m → calls_in_hand p k (after_settlement m item lost (without_waiting q j W)) + replied (lost_call_reply q item lost) ≤ calls_in_hand p k W
+  settlement_fair : (q j : ℕ) (m : Message) (item : Item) (lost : Bool) (W : Outstanding) → m.from ≡ q → m.item ≡ item → find (is_of q j) W.waiting ≡ Some m → calls_outstanding p k (after_settlement m item lost (without_waiting q j W)) + replied (lost_call_reply q item lost) ≤ calls_outstanding p k W
   unfolding after_settlement lost_call_reply
   settlement_fair q j m (items.Call call target method value) true W from is found =
       let less = count_without (brings_call p k) (is_of q j) W.waiting m found in
@@ -146,7 +146,7 @@ module _ (p k : ℕ) where
   settlement_fair q j m (items.Reply call status value) false W from is found = let less = count_without (brings_call p k) (is_of q j) W.waiting m found in omega (arith, less)
   settlement_fair q j m (_) lost W from is found = let less = count_without (brings_call p k) (is_of q j) W.waiting m found in omega (arith, less)
 
-  settle_fair : (s n q j : ℕ) (D : List Deed) (found : Option Message) (W : InHand) → find (is_of q j) W.waiting ≡ found → calls_in_hand p k (after_settle s n q j D found W) + replied (gifts_of_settle s n q j D found) ≤ calls_in_hand p k W
+  settle_fair : (s n q j : ℕ) (D : List Deed) (found : Option Message) (W : Outstanding) → find (is_of q j) W.waiting ≡ found → calls_outstanding p k (after_settle s n q j D found W) + replied (gifts_of_settle s n q j D found) ≤ calls_outstanding p k W
   unfolding after_settle gifts_of_settle
   settle_fair s n q j D None W is = omega arith
   settle_fair s n q j D (Some m) W is =
@@ -155,7 +155,7 @@ module _ (p k : ℕ) where
       let gift = settle_replies q j (lost_call_reply q m.item (is_lost_message s n D m)) in
       omega (arith, fair, gift)
 
-  claim_fair : (job : Job) (found : Option Message) (W : InHand) → find (is_job job) W.ready ≡ found → calls_in_hand p k (after_claim job found W) ≤ calls_in_hand p k W
+  claim_fair : (job : Job) (found : Option Message) (W : Outstanding) → find (is_job job) W.ready ≡ found → calls_outstanding p k (after_claim job found W) ≤ calls_outstanding p k W
   unfolding after_claim
   claim_fair job None W is = omega arith
   claim_fair job (Some m) W is =
@@ -163,7 +163,7 @@ module _ (p k : ℕ) where
       let runs = count_first (runs_call p k) (record { job = job.job; message = m }) W.running in
       omega (arith, less, runs)
 
-  finish_fair : (j : ℕ) (outcome : Outcome) (found : Option Run) (W : InHand) → find (is_run j) W.running ≡ found → calls_in_hand p k (after_finish j W) + replied (gifts_of_finish outcome found) ≤ calls_in_hand p k W
+  finish_fair : (j : ℕ) (outcome : Outcome) (found : Option Run) (W : Outstanding) → find (is_run j) W.running ≡ found → calls_outstanding p k (after_finish j W) + replied (gifts_of_finish outcome found) ≤ calls_outstanding p k W
   unfolding after_finish gifts_of_finish
   finish_fair j outcome None W is = let less = count_filter (runs_call p k) (λ (run : Run). not (is_run j run)) W.running in omega (arith, less)
   finish_fair j outcome (Some run) W is =
@@ -185,11 +185,11 @@ module _ (p k : ℕ) where
       by true same = ap (λ (r : ℕ). count_of (makes_call k) (cons_option (item_at r j D) [])) (eqb-true q p same)
       by false other = refl
 
-  silent : (s n : ℕ) (deed : Deed) (D : List Deed) (W : InHand) → may_speak deed ≡ false → replied (gifts_of s n deed D W) ≡ 0
+  silent : (s n : ℕ) (deed : Deed) (D : List Deed) (W : Outstanding) → may_speak deed ≡ false → replied (gifts_of s n deed D W) ≡ 0
   silent s n deed D W none = notes_give (replies_to k) (note_replies k) p s n deed D W none
 
-  -- by a deed what is in hand and what is replied grow no more than what is acted on
-  deed_fair : (s n : ℕ) (deed : Deed) (D : List Deed) (W : InHand) → calls_in_hand p k (work_after s n deed D W) + replied (gifts_of s n deed D W) ≤ calls_in_hand p k W + takes_call deed D
+  -- by a deed what is outstanding and what is replied grow no more than what is acted on
+  deed_fair : (s n : ℕ) (deed : Deed) (D : List Deed) (W : Outstanding) → calls_outstanding p k (work_after s n deed D W) + replied (gifts_of s n deed D W) ≤ calls_outstanding p k W + takes_call deed D
   unfolding work_after after_call after_take after_end after_finish after_close gifts_of
   deed_fair s n (did.Call target method value call) D W =
       let first = count_first (gives (replies_to k) p) (record { to = target.owner; item = items.Call call target.index method value }) [] in
@@ -213,7 +213,7 @@ module _ (p k : ℕ) where
   deed_fair s n deed D W = omega arith
 
   -- loans change no count
-  loans_fair : (s n : ℕ) (D : List Deed) (W : InHand) → calls_in_hand p k (with_loans s n D W) ≡ calls_in_hand p k W
+  loans_fair : (s n : ℕ) (D : List Deed) (W : Outstanding) → calls_outstanding p k (with_loans s n D W) ≡ calls_outstanding p k W
   unfolding with_loans message_after run_after
   loans_fair s n D W =
       let waiting = count_mapped (brings_call p k) (λ m. message_after s n D m) (λ m. refl) W.waiting in
@@ -229,12 +229,12 @@ module _ (p k : ℕ) where
   ]
   taken_more deed D = omega arith
 
-  -- the messages of Call k from p in hand and the Replies to it are no more than the times that it was acted on
-  pub calls_fair : (s n : ℕ) (D : List Deed) → calls_in_hand p k (work s n D) + count_of (replies_to k) (items_sent_to p (sent (history_of s n D))) ≤ count_of (makes_call k) (items_among (acted p D))
+  -- the messages of Call k from p outstanding and the Replies to it are no more than the times that it was acted on
+  pub calls_fair : (s n : ℕ) (D : List Deed) → calls_outstanding p k (work s n D) + count_of (replies_to k) (items_sent_to p (sent (history_of s n D))) ≤ count_of (makes_call k) (items_among (acted p D))
   unfolding gifts
   calls_fair s n [] = omega arith
   calls_fair s n (deed ∷ D) =
-      let W : InHand = work s n D in
+      let W : Outstanding = work s n D in
       let before = calls_fair s n D in
       let loans = loans_fair s n (deed ∷ D) (work_after s n deed D W) in
       let fair = deed_fair s n deed D W in

@@ -34,7 +34,7 @@ use Rattle.nob_model_history.specs.declared.history.History.{History}
 use Rattle.nob_model_history.specs.Ends.{calls_at}
 use Rattle.nob_model_history.specs.Listing.{is_entered}
 use Rattle.nob_model_history.proofs.Dirtying.{same_self}
-use Rattle.nob_model_acting.specs.Sending.{is_own_and_not_live}
+use Rattle.nob_model_acting.specs.Sending.{is_gone}
 use Rattle.nob_model_acting.specs.Acting.{fault_if, first_fault, fault_of, names_not_live}
 use Rattle.nob_model.specs.Right.{right_after, own_ref}
 use Rattle.nob_model.proofs.Accepted.{ClosesFor, fault_tells, arrive_end_tells, tick_end_tells, close_tells}
@@ -64,14 +64,14 @@ module _ (n c o : ℕ) (limits : ℕ → Limits) (J : List Entry) (run : WorldRu
       let guarded = subst (AreGuarded o x (is_entered o x c (deeds_at o J))) (next_behind (sent_to n c o J) (length (acted_from c o J)) item next) (all_guarded n c o x limits apart J run typed) in
       (living n limits J run).listed_live o x c (and_from _ _ (ap not up) (guarded.0 needs))
 
-  ref_live : (rep : WireRep) → carries rep item ≡ true → is_own_and_not_live o rep (history_at o n J) ≡ false
+  ref_live : (rep : WireRep) → carries rep item ≡ true → is_gone o rep (history_at o n J) ≡ false
   ref_live rep carried = by (is_own o rep) refl
     where
       by : (own : Bool) → is_own o rep ≡ own → (own && not (is_live o rep.index (deeds_at o J))) ≡ false
       by true own = not_from_true _ (next_live rep.index (or_right (calls_object rep.index item) _ (subst (λ (q : ℕ). carries (own_ref q rep.index) item ≡ true) (eqb-true rep.owner o own) carried)))
       by false other = refl
 
-  none_stand : (reps : List WireRep) → AllByRecursion (λ rep. carries rep item ≡ true) reps → list_any (λ rep. is_own_and_not_live o rep (history_at o n J)) reps ≡ false
+  none_stand : (reps : List WireRep) → AllByRecursion (λ rep. carries rep item ≡ true) reps → list_any (λ rep. is_gone o rep (history_at o n J)) reps ≡ false
   none_stand [] all = refl
   none_stand (rep ∷ reps) all = or_from _ _ (ref_live rep all.0) (none_stand reps all.1)
 

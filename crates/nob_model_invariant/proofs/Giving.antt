@@ -35,11 +35,11 @@ use Rattle.nob_model.specs.Right.{right_after, calls_made, last_number}
 use Rattle.nob_model.specs.Lists.{IsRightDeed}
 use Rattle.nob_model.proofs.Doing.{was_answered}
 use Rattle.nob_model.proofs.Accepted.{found_passes, call_tells, finish_tells, clean_tells}
-use Rattle.nob_model.proofs.Carrying.{AllInHand, all_filter, all_found}
+use Rattle.nob_model.proofs.Carrying.{AllOutstanding, all_filter, all_found}
 use Rattle.nob_model_invariant.specs.Typed.{HandsTyped}
 use Rattle.nob_model_invariant.proofs.Lists.{all_append}
 use Rattle.nob_model_invariant.proofs.Typing.{HasIndex, counted_index, sendable_fits}
-use Rattle.nob_model_invariant.proofs.Hands.{New, in_hand_more}
+use Rattle.nob_model_invariant.proofs.Hands.{New, outstanding_more}
 
 -- ---- what fits
 
@@ -162,9 +162,9 @@ abbrev pub ActsOnWhole : Deed → List Deed → Type 0
 ActsOnWhole (did.Act p k) D = (item : Item) → item_at p k D ≡ Some item → Fits item × IsItemNumber k
 ActsOnWhole (_) D = ⊤
 
--- all that a space has in hand and all that it sent has a spelling
+-- all that a space has outstanding and all that it sent has a spelling
 pub record AllFit (s n : ℕ) (D : List Deed) : Type 0 where
-  pub in_hand : AllInHand IsWhole (work s n D)
+  pub outstanding : AllOutstanding IsWhole (work s n D)
   pub was_sent : AllByRecursion SentFits (sent (history_of s n D))
 
 call_number : (made call : ℕ) (full : Bool) → call ≡ made + 1 → (full || nat_le last_number made) ≡ false → IsCallNumber call
@@ -181,12 +181,12 @@ gifts_fit s n limits (did.Call target method value call) D right typed whole all
 gifts_fit s n limits (did.Finish job outcome) D right typed whole all =
     let told = finish_tells s job outcome (history_of s n D) (was_answered s n limits (did.Finish job outcome) D right) in
     let run : Run = told.0 in
-    let is : IsWhole run.message = all_found (λ (run : Run). IsWhole run.message) (is_run job) (work s n D).running run told.1 all.in_hand.running in
+    let is : IsWhole run.message = all_found (λ (run : Run). IsWhole run.message) (is_run job) (work s n D).running run told.1 all.outstanding.running in
     subst (λ (found : Option Run). AllByRecursion GiftFits (gifts_of_finish outcome found)) (sym told.1) (reply_fits run.message.from run.message.item outcome is.0 (sendable_fits s (history_of s n D) (value_of outcome) typed told.3))
 gifts_fit s n limits (did.Act p k) D right typed whole all = act_fits s n p D (item_at p k D) (λ item e. (whole item e).0)
 gifts_fit s n limits (did.Settle p k) D right typed whole all =
     settle_fits s n p k D (find (is_of p k) (work s n D).waiting)
-    (λ m e. (all_found IsWhole (is_of p k) (work s n D).waiting m e all.in_hand.waiting, eqb-true m.number k (and_parts (m.from == p) (m.number == k) (found_passes (is_of p k) (work s n D).waiting m e)).1))
+    (λ m e. (all_found IsWhole (is_of p k) (work s n D).waiting m e all.outstanding.waiting, eqb-true m.number k (and_parts (m.from == p) (m.number == k) (found_passes (is_of p k) (work s n D).waiting m e)).1))
 gifts_fit s n limits (did.Clean rep) D right typed whole all =
     let h : History = history_of s n D in
     let told = clean_tells s n rep h (was_answered s n limits (did.Clean rep) D right) in
@@ -201,16 +201,16 @@ new_whole : (s n : ℕ) (deed : Deed) (D : List Deed) → ActsOnWhole deed D →
 new_whole s n (did.Act p k) D whole = λ item is. whole item is
 new_whole s n deed D whole = tt
 
--- by one right deed more all that is in hand and was sent still has a spelling
+-- by one right deed more all that is outstanding and was sent still has a spelling
 pub fits_more : (s n : ℕ) (limits : Limits) (deed : Deed) (D : List Deed) → IsRightDeed s n limits deed D → HandsTyped deed → ActsOnWhole deed D → AllFit s n D → AllFit s n (deed ∷ D)
 unfolding gifts
 fits_more s n limits deed D right typed whole all = record {
-  in_hand = in_hand_more s n IsWhole whole_lost deed D (whole_kept s n (deed ∷ D)) (new_whole s n deed D whole) all.in_hand;
+  outstanding = outstanding_more s n IsWhole whole_lost deed D (whole_kept s n (deed ∷ D)) (new_whole s n deed D whole) all.outstanding;
   was_sent = subst (λ more. AllByRecursion SentFits more) (sym (sent_more s n deed D))
       (all_append SentFits (sent (history_of s n D)) _ all.was_sent
       (new_fit (gifts s n deed D (work s n D)) (sent (history_of s n D)) (all_filter GiftFits (λ gift. is_peer s n gift.to) (gifts_of s n deed D (work s n D)) (gifts_fit s n limits deed D right typed whole all))));
 }
 
--- before anything was done nothing is in hand and nothing was sent
+-- before anything was done nothing is outstanding and nothing was sent
 pub fits_none : (s n : ℕ) → AllFit s n []
-fits_none s n = record { in_hand = record { waiting = tt; ready = tt; running = tt; replies = tt }; was_sent = tt }
+fits_none s n = record { outstanding = record { waiting = tt; ready = tt; running = tt; replies = tt }; was_sent = tt }

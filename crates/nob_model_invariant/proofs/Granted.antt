@@ -17,7 +17,7 @@ use Rattle.nob_model_types.specs.declared.message.Message.{Message}
 use Rattle.nob_model_types.specs.declared.turns.Turns.{Turns}
 use Rattle.nob_model_types.specs.Sessions.{item_at}
 use Rattle.nob_model_types.specs.Turns.{turns, turns_after, is_own, is_pending, is_granted, is_standing, wants_dirty, carries, names}
-use Rattle.nob_model_work.specs.declared.work.InHand.{InHand}
+use Rattle.nob_model_work.specs.declared.work.Outstanding.{Outstanding}
 use Rattle.nob_model_work.specs.declared.work.Run.{Run}
 use Rattle.nob_model_work.specs.Work.{work}
 use Rattle.nob_model_history.specs.declared.history.History.{History}
@@ -32,7 +32,7 @@ use Rattle.nob_model.specs.Lists.{IsRightDeed, AreRightDeeds}
 use Rattle.nob_model.proofs.Doing.{was_answered}
 use Rattle.nob_model.proofs.Accepted.{found_passes, clean_tells}
 use Rattle.nob_model.proofs.Orderly.{holds_law}
-use Rattle.nob_model.proofs.Carrying.{AllInHand}
+use Rattle.nob_model.proofs.Carrying.{AllOutstanding}
 use Rattle.nob_model.proofs.Waiting.{all_weaker}
 use Rattle.nob_model_invariant.proofs.Lists.{all_append, all_split}
 use Rattle.nob_model_invariant.proofs.Hands.{hand_weaker}
@@ -137,7 +137,7 @@ all_joined Q f [] all = tt
 all_joined Q f (x ∷ xs) all = all_append Q (f x) (flat_map f xs) all.0 (all_joined Q f xs all.1)
 
 -- what is lent, by message
-pub hand_apart : (s : ℕ) (Q : WireRep → Type 0) (W : InHand) → AllByRecursion Q (lent_in s W) → AllInHand (λ m. AllByRecursion Q (loans_of s m)) W
+pub hand_apart : (s : ℕ) (Q : WireRep → Type 0) (W : Outstanding) → AllByRecursion Q (lent_in s W) → AllOutstanding (λ m. AllByRecursion Q (loans_of s m)) W
 hand_apart s Q W all =
     let one = all_split Q (flat_map (loans_of s) W.waiting) _ all in
     let two = all_split Q (flat_map (loans_of s) W.ready) _ one.1 in
@@ -149,7 +149,7 @@ hand_apart s Q W all =
       replies = all_apart Q (loans_of s) W.replies three.1;
     }
 
-pub hand_joined : (s : ℕ) (Q : WireRep → Type 0) (W : InHand) → AllInHand (λ m. AllByRecursion Q (loans_of s m)) W → AllByRecursion Q (lent_in s W)
+pub hand_joined : (s : ℕ) (Q : WireRep → Type 0) (W : Outstanding) → AllOutstanding (λ m. AllByRecursion Q (loans_of s m)) W → AllByRecursion Q (lent_in s W)
 hand_joined s Q W all =
     all_append Q (flat_map (loans_of s) W.waiting) _ (all_joined Q (loans_of s) W.waiting all.waiting)
     (all_append Q (flat_map (loans_of s) W.ready) _ (all_joined Q (loans_of s) W.ready all.ready)
@@ -201,11 +201,11 @@ target_owned s n D (items.Clean index) = tt
 
 -- how it stands at space s: what is lent and what is in the hand is own or granted
 pub record HoldsOwned (s n : ℕ) (D : List Deed) : Type 0 where
-  pub lent : AllInHand (LendsOwned s n D) (work s n D)
-  pub in_hand : (rep : WireRep) → is_counted rep ≡ true → 1 ≤ hand rep D → is_owned s n rep D ≡ true
+  pub lent : AllOutstanding (LendsOwned s n D) (work s n D)
+  pub in_the_hand : (rep : WireRep) → is_counted rep ≡ true → 1 ≤ hand rep D → is_owned s n rep D ≡ true
 
 -- all that is lent is own or granted
-lent_owned : (s n : ℕ) (D : List Deed) → AllInHand (LendsOwned s n D) (work s n D) → AllByRecursion (λ rep. is_owned s n rep D ≡ true) (lent_in s (work s n D))
+lent_owned : (s n : ℕ) (D : List Deed) → AllOutstanding (LendsOwned s n D) (work s n D) → AllByRecursion (λ rep. is_owned s n rep D ≡ true) (lent_in s (work s n D))
 lent_owned s n D all = hand_joined s (λ rep. is_owned s n rep D ≡ true) (work s n D) (hand_weaker (LendsOwned s n D) (λ m. AllByRecursion (λ rep. is_owned s n rep D ≡ true) (loans_of s m)) (λ m its. all_append (λ rep. is_owned s n rep D ≡ true) (target_lent s m.item) (copies_lent m.copies) (target_owned s n D m.item) (copies_joined (λ rep. is_owned s n rep D ≡ true) m.copies its)) (work s n D) all)
 
 pub either_some : (a b total : ℕ) → total ≡ a + b → (total == 0) ≡ false → (1 ≤ a) ⊎ (1 ≤ b)
@@ -222,6 +222,6 @@ either_some a b total is some =
 pub held_owned : (s n : ℕ) (limits : Limits) (rep : WireRep) (D : List Deed) → AreRightDeeds s n limits D → HoldsOwned s n D → is_counted rep ≡ true → is_held s rep (history_of s n D) ≡ true → is_owned s n rep D ≡ true
 held_owned s n limits rep D right all counted held =
     elim (either_some (hand rep D) (times rep (lent_in s (work s n D))) (holds s rep (history_of s n D)) (holds_law s n limits D right rep) (not-true _ held)) [
-      | inl some ↦ all.in_hand rep counted some
+      | inl some ↦ all.in_the_hand rep counted some
       | inr some ↦ times_some (λ r. is_owned s n r D ≡ true) rep (lent_in s (work s n D)) (lent_owned s n D all.lent) some
     ]

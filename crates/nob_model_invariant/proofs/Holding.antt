@@ -10,13 +10,13 @@ use Rattle.nob_item.specs.Kinds.{counted_in}
 use Rattle.nob_model_types.specs.declared.deed.Deed.{Deed}
 use Rattle.nob_model_types.specs.declared.message.Message.{Message}
 use Rattle.nob_model_types.specs.declared.message.RefCopy.{RefCopy}
-use Rattle.nob_model_work.specs.declared.work.InHand.{InHand}
+use Rattle.nob_model_work.specs.declared.work.Outstanding.{Outstanding}
 use Rattle.nob_model_work.specs.declared.work.Run.{Run}
 use Rattle.nob_model_work.specs.Work.{work}
 use Rattle.nob_model_history.specs.Histories.{history_of}
 use Rattle.nob_model_history.specs.Holds.{times, gains, releases, is_lent, copies_lent, target_lent, loans_of, lent_in, is_held}
 use Rattle.nob_model_history.proofs.Turning.{same_ref}
-use Rattle.nob_model.proofs.Carrying.{AllInHand, Carries, all_carry}
+use Rattle.nob_model.proofs.Carrying.{AllOutstanding, Carries, all_carry}
 use Rattle.nob_model_invariant.proofs.Lists.{all_append}
 
 -- something holds of each counted reference
@@ -53,7 +53,7 @@ runs_lend : (s : ℕ) (P : WireRep → Type 0) (runs : List Run) → AllByRecurs
 runs_lend s P [] carry its = tt
 runs_lend s P (run ∷ runs) carry its = all_append P (loans_of s run.message) (flat_map (λ run. loans_of s run.message) runs) (message_lends s P run.message carry.0 its.0) (runs_lend s P runs carry.1 its.1)
 
-hand_lends : (s : ℕ) (P : WireRep → Type 0) (W : InHand) → AllInHand Carries W → AllInHand (HoldsOf s P) W → AllByRecursion P (lent_in s W)
+hand_lends : (s : ℕ) (P : WireRep → Type 0) (W : Outstanding) → AllOutstanding Carries W → AllOutstanding (HoldsOf s P) W → AllByRecursion P (lent_in s W)
 hand_lends s P W carry its =
     all_append P (flat_map (loans_of s) W.waiting) _ (all_lend s P W.waiting carry.waiting its.waiting)
     (all_append P (flat_map (loans_of s) W.ready) _ (all_lend s P W.ready carry.ready its.ready)
@@ -72,7 +72,7 @@ some_left gained lent released left =
     ] refl
 
 -- a counted reference that is held has what all in the hand and all that is lent have
-pub held_has : (s n : ℕ) (P : WireRep → Type 0) (rep : WireRep) (D : List Deed) → AllByRecursion (OfCounted P) (gains D) → AllInHand (HoldsOf s P) (work s n D) → is_counted rep ≡ true → is_held s rep (history_of s n D) ≡ true → P rep
+pub held_has : (s n : ℕ) (P : WireRep → Type 0) (rep : WireRep) (D : List Deed) → AllByRecursion (OfCounted P) (gains D) → AllOutstanding (HoldsOf s P) (work s n D) → is_counted rep ≡ true → is_held s rep (history_of s n D) ≡ true → P rep
 held_has s n P rep D gained lent counted held =
     elim (some_left (times rep (gains D)) (times rep (lent_in s (work s n D))) (times rep (releases D)) (not-true _ held)) [
       | inl some ↦ times_some (OfCounted P) rep (gains D) gained some counted

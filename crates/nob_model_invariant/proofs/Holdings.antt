@@ -45,10 +45,10 @@ use Rattle.nob_model.proofs.Accepted.{call_tells, dup_tells, finish_tells, take_
 use Rattle.nob_model.proofs.Premises.{took_turns, objects_in_turn}
 use Rattle.nob_model.proofs.Orderly.{holds_law}
 use Rattle.nob_model.proofs.Lending.{IsAllLent, all_lent}
-use Rattle.nob_model.proofs.Carrying.{AllInHand, Carries, all_carry, all_filter, all_found}
+use Rattle.nob_model.proofs.Carrying.{AllOutstanding, Carries, all_carry, all_filter, all_found}
 use Rattle.nob_model_invariant.proofs.Lists.{all_append, all_split, all_both, all_pass, all_unfilter}
 use Rattle.nob_model_invariant.proofs.Typing.{next_none, refs_held}
-use Rattle.nob_model_invariant.proofs.Hands.{New, in_hand_more, hand_both}
+use Rattle.nob_model_invariant.proofs.Hands.{New, outstanding_more, hand_both}
 use Rattle.nob_model_invariant.proofs.Holding.{OfCounted, times_some}
 use Rattle.nob_model_invariant.proofs.Granted.{is_owned, owned_stays, held_kept, pinned_kept, all_stand, all_apart, all_joined, hand_apart, copies_apart, LendsOwned, HoldsOwned, held_owned}
 
@@ -85,7 +85,7 @@ module _ (s n : ℕ) (limits : Limits) (deed : Deed) (D : List Deed) (right : Ar
       all_both (λ (copy : RefCopy). copy.loan ≡ loans.Lent → is_owned s n copy.rep D ≡ true) (λ (copy : RefCopy). copy.loan ≡ loans.Lent → 1 ≤ times copy.rep (lent_in s (work s n D))) (λ (copy : RefCopy). copy.loan ≡ loans.Lent → is_owned s n copy.rep (deed ∷ D) ≡ true)
       (λ copy its some e. held_stays copy.rep (lent_held s n limits copy.rep D right.1 (some e)) (its e)) m.copies owned lent
 
-  hand_still : HoldsOwned s n D → AllInHand (LendsOwned s n (deed ∷ D)) (work s n D)
+  hand_still : HoldsOwned s n D → AllOutstanding (LendsOwned s n (deed ∷ D)) (work s n D)
   hand_still all = hand_both (LendsOwned s n D) LendsHeld (LendsOwned s n (deed ∷ D)) lends_still (work s n D) all.lent (hand_apart s _ (work s n D) (all_stand (lent_in s (work s n D))))
 
 loan_owned : (own usable granted : Bool) (loan : Loan) → (usable ≡ true → granted ≡ true) → (loan ≡ loans.Lent → (own || granted) ≡ true) → loan_after (own || usable) loan ≡ loans.Lent → (own || granted) ≡ true
@@ -121,14 +121,14 @@ new_lends : (s n : ℕ) (deed : Deed) (D E : List Deed) → New s n (LendsOwned 
 new_lends s n (did.Act p k) D E = λ item is. lends_new s n p k item (did.Act p k ∷ D) E
 new_lends s n deed D E = tt
 
-lent_more : (s n : ℕ) (limits : Limits) (deed : Deed) (D : List Deed) → AreRightDeeds s n limits (deed ∷ D) → HoldsOwned s n D → AllInHand (LendsOwned s n (deed ∷ D)) (work s n (deed ∷ D))
-lent_more s n limits deed D right all = in_hand_more s n (LendsOwned s n (deed ∷ D)) (λ m call status value is its. tt) deed D (lends_after s n (deed ∷ D)) (new_lends s n deed D (deed ∷ D)) (hand_still s n limits deed D right all)
+lent_more : (s n : ℕ) (limits : Limits) (deed : Deed) (D : List Deed) → AreRightDeeds s n limits (deed ∷ D) → HoldsOwned s n D → AllOutstanding (LendsOwned s n (deed ∷ D)) (work s n (deed ∷ D))
+lent_more s n limits deed D right all = outstanding_more s n (LendsOwned s n (deed ∷ D)) (λ m call status value is its. tt) deed D (lends_after s n (deed ∷ D)) (new_lends s n deed D (deed ∷ D)) (hand_still s n limits deed D right all)
 
 -- ---- one deed more: the hand
 
 -- where no more is in the hand
 hand_less : (s n : ℕ) (limits : Limits) (deed : Deed) (D : List Deed) (rep : WireRep) → AreRightDeeds s n limits (deed ∷ D) → HoldsOwned s n D → is_counted rep ≡ true → 1 ≤ hand rep D → is_owned s n rep (deed ∷ D) ≡ true
-hand_less s n limits deed D rep right all counted some = held_stays s n limits deed D right rep (hand_held s n limits rep D right.1 some) (all.in_hand rep counted some)
+hand_less s n limits deed D rep right all counted some = held_stays s n limits deed D right rep (hand_held s n limits rep D right.1 some) (all.in_the_hand rep counted some)
 
 -- one reference more came
 one_more : (s n : ℕ) (limits : Limits) (deed : Deed) (D : List Deed) (rep other : WireRep) → AreRightDeeds s n limits (deed ∷ D) → HoldsOwned s n D → is_counted rep ≡ true → (is_same rep other ≡ true → is_owned s n rep (deed ∷ D) ≡ true) → (b : Bool) → is_same rep other ≡ b → 1 ≤ length (cond b (other ∷ filter (is_same rep) (gains D)) (filter (is_same rep) (gains D))) - times rep (releases D) → is_owned s n rep (deed ∷ D) ≡ true
@@ -195,10 +195,10 @@ hand_more s n limits deed D right all rep counted some = hand_less s n limits de
 
 -- in every list of right deeds what is lent and what is in the hand is own or granted
 pub holds_owned : (s n : ℕ) (limits : Limits) (D : List Deed) → AreRightDeeds s n limits D → HoldsOwned s n D
-holds_owned s n limits [] right = record { lent = record { waiting = tt; ready = tt; running = tt; replies = tt }; in_hand = λ rep counted some. absurd (omega (arith, some)) }
+holds_owned s n limits [] right = record { lent = record { waiting = tt; ready = tt; running = tt; replies = tt }; in_the_hand = λ rep counted some. absurd (omega (arith, some)) }
 holds_owned s n limits (deed ∷ D) right =
     let before = holds_owned s n limits D right.1 in
-    record { lent = lent_more s n limits deed D right before; in_hand = hand_more s n limits deed D right before }
+    record { lent = lent_more s n limits deed D right before; in_the_hand = hand_more s n limits deed D right before }
 
 -- ---- pins
 

@@ -14,7 +14,7 @@ use Rattle.nob_model_types.specs.declared.turns.Turns.{Turns}
 use Rattle.nob_model_types.specs.Sessions.{closed, item_at}
 use Rattle.nob_model_types.specs.Turns.{turns, is_refused, carries}
 use Rattle.nob_model_work.specs.declared.gifts.Gift.{Gift}
-use Rattle.nob_model_work.specs.declared.work.InHand.{InHand}
+use Rattle.nob_model_work.specs.declared.work.Outstanding.{Outstanding}
 use Rattle.nob_model_work.specs.Work.{work}
 use Rattle.nob_model_work.specs.Gifts.{gifts, all_gifts}
 use Rattle.nob_model_history.specs.declared.history.History.{History}
@@ -64,7 +64,7 @@ each_back n m (entry ∷ J) alike = (λ s. back s n m (deeds_at s J) (alike.0 s)
 
 first_alike : (s n m : ℕ) → n ≤ m → (D : List Deed) → AmongFirst n D → ReadsAlike s n m D
 first_alike s n m wider D speaks =
-    let make : InHand → List (List Gift) → History = λ W G. record { deeds = D; work = W; all_gifts = G } in
+    let make : Outstanding → List (List Gift) → History = λ W G. record { deeds = D; work = W; all_gifts = G } in
     record {
       histories = ap (λ W. make W (all_gifts s n D)) (work_alike s n m wider D speaks) ∙ ap (make (work s m D)) (all_gifts_alike s n m wider D speaks);
       turned = λ rep. turns_alike s n m wider rep D speaks;

@@ -23,7 +23,7 @@ use Rattle.nob_model_types.specs.Objects.{exports, is_exported, is_live}
 use Rattle.nob_model_types.specs.Turns.{turns, wants_dirty}
 use Rattle.nob_model_types.specs.Messages.{message_after, is_of, is_lost_message, replies_to}
 use Rattle.nob_model_work.specs.declared.gifts.Gift.{Gift}
-use Rattle.nob_model_work.specs.declared.work.InHand.{InHand}
+use Rattle.nob_model_work.specs.declared.work.Outstanding.{Outstanding}
 use Rattle.nob_model_work.specs.declared.work.Run.{Run}
 use Rattle.nob_model_work.specs.Work.{work, lost_reply}
 use Rattle.nob_model_work.specs.Gifts.{once, dirty_for, dirties_for, answer_to, gifts_of_act, lost_call_reply, gifts_of_settle, value_of, reply_to, gifts_of_finish, gifts_of, gifts}
@@ -39,7 +39,7 @@ use Rattle.nob_model.specs.Lists.{IsRightDeed, AreRightDeeds}
 use Rattle.nob_model.proofs.Doing.{was_answered}
 use Rattle.nob_model.proofs.Accepted.{call_tells, dup_tells, finish_tells, take_tells, clean_tells}
 use Rattle.nob_model.proofs.Premises.{objects_in_turn}
-use Rattle.nob_model.proofs.Carrying.{AllInHand, all_filter, all_found}
+use Rattle.nob_model.proofs.Carrying.{AllOutstanding, all_filter, all_found}
 use Rattle.nob_model.proofs.Waiting.{all_weaker}
 use Rattle.nob_model_journal.specs.Journals.{deeds_at, history_at, sent_to, acted_from}
 use Rattle.nob_model_journal.specs.Runs.{WorldRun}
@@ -48,7 +48,7 @@ use Rattle.nob_model_invariant.specs.Naming.{object_of, named_in, WasExported, N
 use Rattle.nob_model_invariant.specs.SafetyLaws.{NamesLaw}
 use Rattle.nob_model_invariant.proofs.Lists.{all_append, all_at, all_split, all_both, all_pass, all_unfilter, some_same}
 use Rattle.nob_model_invariant.proofs.Typing.{next_none, refs_held}
-use Rattle.nob_model_invariant.proofs.Hands.{New, in_hand_more, hand_weaker}
+use Rattle.nob_model_invariant.proofs.Hands.{New, outstanding_more, hand_weaker}
 use Rattle.nob_model_invariant.proofs.Entries.{grows, right_deeds_at}
 use Rattle.nob_model_invariant.proofs.Owners.{any_push, exported_later}
 use Rattle.nob_model_invariant.proofs.Order.{acts_on_next, all_fit}
@@ -60,9 +60,9 @@ use Rattle.nob_model_invariant.proofs.Holding.{OfCounted, HoldsOf, held_has}
 abbrev pub SentExported : List Entry → SentItem → Type 0
 SentExported J one = NamesExported J one.to one.item
 
--- all that space s has in hand, sent and gained names what was exported
+-- all that space s has outstanding, sent and gained names what was exported
 pub record Known (n : ℕ) (J : List Entry) (s : ℕ) : Type 0 where
-  pub in_hand : AllInHand (HoldsOf s (WasExported J)) (work s n (deeds_at s J))
+  pub outstanding : AllOutstanding (HoldsOf s (WasExported J)) (work s n (deeds_at s J))
   pub was_sent : AllByRecursion (SentExported J) (sent (history_at s n J))
   pub gained : AllByRecursion (OfCounted (WasExported J)) (gains (deeds_at s J))
 
@@ -83,7 +83,7 @@ exported_still entry J rep known =
 names_still : (entry : Entry) (J : List Entry) (reps : List WireRep) → AllByRecursion (WasExported J) reps → AllByRecursion (WasExported (entry ∷ J)) reps
 names_still entry J reps all = all_weaker (WasExported J) (WasExported (entry ∷ J)) (exported_still entry J) reps all
 
-hand_still : (s : ℕ) (entry : Entry) (J : List Entry) (W : InHand) → AllInHand (HoldsOf s (WasExported J)) W → AllInHand (HoldsOf s (WasExported (entry ∷ J))) W
+hand_still : (s : ℕ) (entry : Entry) (J : List Entry) (W : Outstanding) → AllOutstanding (HoldsOf s (WasExported J)) W → AllOutstanding (HoldsOf s (WasExported (entry ∷ J))) W
 hand_still s entry J W all = hand_weaker (HoldsOf s (WasExported J)) (HoldsOf s (WasExported (entry ∷ J))) (λ m its. (names_still entry J (counted_in m.item) its.0, names_still entry J (target_lent s m.item) its.1)) W all
 
 sent_still : (entry : Entry) (J : List Entry) (more : List SentItem) → AllByRecursion (SentExported J) more → AllByRecursion (SentExported (entry ∷ J)) more
@@ -97,7 +97,7 @@ gained_still entry J reps all = all_weaker (OfCounted (WasExported J)) (OfCounte
 module _ (J : List Entry) (s n : ℕ) (known : Known n J s) where
   -- a counted reference that is held was exported
   held_known : (rep : WireRep) → is_counted rep ≡ true → is_held s rep (history_at s n J) ≡ true → WasExported J rep
-  held_known rep counted held = held_has s n (WasExported J) rep (deeds_at s J) known.gained known.in_hand counted held
+  held_known rep counted held = held_has s n (WasExported J) rep (deeds_at s J) known.gained known.outstanding counted held
 
   -- the counted references of a value that may be sent
   value_known : (value : Value) → value_refused s (history_at s n J) value ≡ None → AllByRecursion (WasExported J) (filter is_counted (refs_in value))
@@ -268,12 +268,12 @@ gains_known n limits J entry s (did.Dup rep) right is known =
     (λ counted. exported_still entry J rep (held_known J s n known rep told.0 told.1), gained_still entry J (gains (deeds_at s J)) known.gained)
 gains_known n limits J entry s (did.TakeReply call status value) right is known =
     let told = take_tells call status value (history_at s n J) (was_answered s n limits (did.TakeReply call status value) (deeds_at s J) right.0) in
-    let its : HoldsOf s (WasExported J) told.1 = all_found (HoldsOf s (WasExported J)) (λ (m : Message). replies_to call m.item) (work s n (deeds_at s J)).replies told.1 told.4 known.in_hand.replies in
+    let its : HoldsOf s (WasExported J) told.1 = all_found (HoldsOf s (WasExported J)) (λ (m : Message). replies_to call m.item) (work s n (deeds_at s J)).replies told.1 told.4 known.outstanding.replies in
     let all : AllByRecursion (WasExported J) (filter is_counted (refs_in value)) = subst (λ (item : Item). AllByRecursion (WasExported J) (counted_in item)) told.5 its.0 in
     all_append (OfCounted (WasExported (entry ∷ J))) (refs_in value) (gains (deeds_at s J)) (gained_still entry J (refs_in value) (all_unfilter (WasExported J) is_counted (refs_in value) all)) (gained_still entry J (gains (deeds_at s J)) known.gained)
 gains_known n limits J entry s deed right is known = gained_still entry J (gains (deeds_at s J)) known.gained
 
--- by an entry at s all that s has in hand, sent and gained still names what was exported
+-- by an entry at s all that s has outstanding, sent and gained still names what was exported
 deed_known : (n : ℕ) (limits : Limits) (J : List Entry) (entry : Entry) (s : ℕ) (deed : Deed) → AreRightDeeds s n limits (deed ∷ deeds_at s J) → deeds_at s (entry ∷ J) ≡ deed ∷ deeds_at s J → ActsOnNamed J s deed (deeds_at s J) → Known n J s → Known n (entry ∷ J) s
 unfolding gifts
 deed_known n limits J entry s deed right is named known =
@@ -281,8 +281,8 @@ deed_known n limits J entry s deed right is named known =
     let more : List Gift = gifts s n deed D (work s n D) in
     let all : AllByRecursion (GiftExported J) more = all_filter (GiftExported J) (λ (gift : Gift). is_peer s n gift.to) (gifts_of s n deed D (work s n D)) (gifts_known n limits J s deed right.0 named known) in
     record {
-      in_hand = subst (λ (E : List Deed). AllInHand (HoldsOf s (WasExported (entry ∷ J))) (work s n E)) (sym is)
-          (hand_still s entry J (work s n (deed ∷ D)) (in_hand_more s n (HoldsOf s (WasExported J)) (message_lost J s) deed D (message_kept J s n (deed ∷ D)) (message_new J s n deed D named) known.in_hand));
+      outstanding = subst (λ (E : List Deed). AllOutstanding (HoldsOf s (WasExported (entry ∷ J))) (work s n E)) (sym is)
+          (hand_still s entry J (work s n (deed ∷ D)) (outstanding_more s n (HoldsOf s (WasExported J)) (message_lost J s) deed D (message_kept J s n (deed ∷ D)) (message_new J s n deed D named) known.outstanding));
       was_sent = subst (λ (E : List Deed). AllByRecursion (SentExported (entry ∷ J)) (sent (history_of s n E))) (sym is)
           (subst (AllByRecursion (SentExported (entry ∷ J))) (sym (sent_more s n deed D))
           (sent_still entry J (sent (history_of s n D) ++ new_items (sent (history_of s n D)) more) (all_append (SentExported J) (sent (history_of s n D)) _ known.was_sent (new_known J more (sent (history_of s n D)) all))));
@@ -292,7 +292,7 @@ deed_known n limits J entry s deed right is named known =
 -- an entry at another space, or one that did nothing
 same_known : (n : ℕ) (J : List Entry) (entry : Entry) (s : ℕ) → deeds_at s (entry ∷ J) ≡ deeds_at s J → Known n J s → Known n (entry ∷ J) s
 same_known n J entry s same known = record {
-  in_hand = subst (λ (E : List Deed). AllInHand (HoldsOf s (WasExported (entry ∷ J))) (work s n E)) (sym same) (hand_still s entry J (work s n (deeds_at s J)) known.in_hand);
+  outstanding = subst (λ (E : List Deed). AllOutstanding (HoldsOf s (WasExported (entry ∷ J))) (work s n E)) (sym same) (hand_still s entry J (work s n (deeds_at s J)) known.outstanding);
   was_sent = subst (λ (E : List Deed). AllByRecursion (SentExported (entry ∷ J)) (sent (history_of s n E))) (sym same) (sent_still entry J (sent (history_at s n J)) known.was_sent);
   gained = subst (λ (E : List Deed). AllByRecursion (OfCounted (WasExported (entry ∷ J))) (gains E)) (sym same) (gained_still entry J (gains (deeds_at s J)) known.gained);
 }
@@ -313,9 +313,9 @@ acts_named n limits J s (did.Act p k) run typed known right = λ item is.
     subst (NamesExported J s) (some_same own.item item (sym own.found ∙ is)) (all_at (NamesExported J s) (sent_to n p s J) (length (acted_from p s J)) own.item (all_to J s (sent (history_at p n J)) (known p).was_sent) own.was_sent)
 acts_named n limits J s deed run typed known right = tt
 
--- all that the spaces of a run have in hand, sent and gained names what was exported
+-- all that the spaces of a run have outstanding, sent and gained names what was exported
 pub all_known : (n : ℕ) (limits : ℕ → Limits) (J : List Entry) → WorldRun n limits J → AreOfTypes J → (s : ℕ) → Known n J s
-all_known n limits [] run typed s = record { in_hand = record { waiting = tt; ready = tt; running = tt; replies = tt }; was_sent = tt; gained = tt }
+all_known n limits [] run typed s = record { outstanding = record { waiting = tt; ready = tt; running = tt; replies = tt }; was_sent = tt; gained = tt }
 all_known n limits (entry ∷ J) run typed s =
     let before : (p : ℕ) → Known n J p = all_known n limits J run.1 typed.1 in
     elim (grows s entry J) [

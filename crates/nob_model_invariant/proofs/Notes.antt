@@ -11,7 +11,7 @@ use Rattle.nob_model_types.specs.Sessions.{item_at}
 use Rattle.nob_model_types.specs.Objects.{is_live, is_exported}
 use Rattle.nob_model_types.specs.Turns.{turns}
 use Rattle.nob_model_work.specs.declared.gifts.Gift.{Gift}
-use Rattle.nob_model_work.specs.declared.work.InHand.{InHand}
+use Rattle.nob_model_work.specs.declared.work.Outstanding.{Outstanding}
 use Rattle.nob_model_work.specs.Gifts.{dirty_for, dirties_for, answer_to, gifts_of_act, gifts_of}
 
 -- gifts that are notes
@@ -55,7 +55,7 @@ may_speak (did.Settle p k) = true
 may_speak (_) = false
 
 -- the others give notes only
-pub gives_notes : (s n : ℕ) (deed : Deed) (D : List Deed) (W : InHand) → may_speak deed ≡ false → AreNotes (gifts_of s n deed D W)
+pub gives_notes : (s n : ℕ) (deed : Deed) (D : List Deed) (W : Outstanding) → may_speak deed ≡ false → AreNotes (gifts_of s n deed D W)
 unfolding gifts_of
 gives_notes s n (did.Call target method value call) D W none = cc
 gives_notes s n (did.Finish job outcome) D W none = cc

@@ -159,7 +159,7 @@ acts_whole s n limits (did.Act p k) J run all right = λ item is.
     (subst Fits (some_same own.item item (sym own.found ∙ is)) own.fits, own.number)
 acts_whole s n limits deed J run all right = tt
 
--- all that the spaces of a run have in hand and sent has a spelling
+-- all that the spaces of a run have outstanding and sent has a spelling
 pub all_fit : (n : ℕ) (limits : ℕ → Limits) (J : List Entry) → WorldRun n limits J → AreOfTypes J → (s : ℕ) → AllFit s n (deeds_at s J)
 all_fit n limits [] run typed s = fits_none s n
 all_fit n limits (entry ∷ J) run typed s =

@@ -16,7 +16,7 @@ use Rattle.nob_model_types.specs.declared.message.Message.{Message}
 use Rattle.nob_model_types.specs.declared.message.RefCopy.{RefCopy}
 use Rattle.nob_model_types.specs.Sessions.{item_at, closed}
 use Rattle.nob_model_types.specs.Messages.{new_message, new_copy, message_after, is_of, is_not_from, is_job, is_lost_message}
-use Rattle.nob_model_work.specs.declared.work.InHand.{InHand}
+use Rattle.nob_model_work.specs.declared.work.Outstanding.{Outstanding}
 use Rattle.nob_model_work.specs.Work.{without_first, wait, make_ready, make_reply, is_none_of, is_not_reply, after_message, after_act, after_settlement, without_waiting, after_settle, after_claim, after_finish, after_take, after_end, after_call, after_close, work_after, with_loans, work}
 use Rattle.nob_model_history.specs.Histories.{history_of}
 use Rattle.nob_model_history.specs.Transit.{is_some_of}
@@ -99,7 +99,7 @@ none_passes test (x ∷ xs) none = by (none_passes test xs) (test x) refl none
 reply_taken : (s n : ℕ) (limits : Limits) (call status : ℕ) (value : Value) (D : List Deed) → AreRightDeeds s n limits (did.TakeReply call status value ∷ D) → AllByRecursion (λ m. is_not_reply call m ≡ true) (work s n D).waiting
 unfolding right_after
 reply_taken s n limits call status value D right =
-    let W : InHand = work s n D in
+    let W : Outstanding = work s n D in
     let told = take_tells call status value (history_of s n D) (was_answered s n limits (did.TakeReply call status value) D right.0) in
     let once : replies_in call W ≤ 1 = (answered_once s n limits D right.1).once call in
     let some : 1 ≤ length (filter (is_reply call) W.replies) = found_counts (is_reply call) W.replies told.1 told.4 in
@@ -109,22 +109,22 @@ reply_taken s n limits call status value D right =
 -- ---- one deed more
 
 module _ (p k : ℕ) where
-  either_keeps : (b : Bool) (one other : InHand) → is_waiting p k one.waiting ≡ true → is_waiting p k other.waiting ≡ true → is_waiting p k (cond b one other).waiting ≡ true
+  either_keeps : (b : Bool) (one other : Outstanding) → is_waiting p k one.waiting ≡ true → is_waiting p k other.waiting ≡ true → is_waiting p k (cond b one other).waiting ≡ true
   either_keeps true one other its rest = its
   either_keeps false one other its rest = rest
 
-  message_keeps : (m : Message) (item : Item) (W : InHand) → is_waiting p k W.waiting ≡ true → is_waiting p k (after_message m item W).waiting ≡ true
+  message_keeps : (m : Message) (item : Item) (W : Outstanding) → is_waiting p k W.waiting ≡ true → is_waiting p k (after_message m item W).waiting ≡ true
   unfolding after_message
   message_keeps m (items.Call call target method value) W waits = either_keeps (is_none_of m.copies) (make_ready m W) (wait m W) waits (waits_pushed p k W.waiting m waits)
   message_keeps m (items.Reply call status value) W waits = either_keeps (is_none_of m.copies) (make_reply m W) (wait m W) waits (waits_pushed p k W.waiting m waits)
   message_keeps m (_) W waits = waits
 
-  act_keeps : (s n q j : ℕ) (D : List Deed) (found : Option Item) (W : InHand) → is_waiting p k W.waiting ≡ true → is_waiting p k (after_act s n q j D found W).waiting ≡ true
+  act_keeps : (s n q j : ℕ) (D : List Deed) (found : Option Item) (W : Outstanding) → is_waiting p k W.waiting ≡ true → is_waiting p k (after_act s n q j D found W).waiting ≡ true
   unfolding after_act
   act_keeps s n q j D None W waits = waits
   act_keeps s n q j D (Some item) W waits = message_keeps (new_message s n q j item (did.Act q j ∷ D)) item W waits
 
-  settlement_keeps : (m : Message) (item : Item) (lost : Bool) (W : InHand) → is_waiting p k W.waiting ≡ true → is_waiting p k (after_settlement m item lost W).waiting ≡ true
+  settlement_keeps : (m : Message) (item : Item) (lost : Bool) (W : Outstanding) → is_waiting p k W.waiting ≡ true → is_waiting p k (after_settlement m item lost W).waiting ≡ true
   unfolding after_settlement
   settlement_keeps m (items.Call call target method value) true W waits = waits
   settlement_keeps m (items.Call call target method value) false W waits = waits
@@ -132,13 +132,13 @@ module _ (p k : ℕ) where
   settlement_keeps m (items.Reply call status value) false W waits = waits
   settlement_keeps m (_) lost W waits = waits
 
-  claim_keeps : (job : Job) (found : Option Message) (W : InHand) → is_waiting p k W.waiting ≡ true → is_waiting p k (after_claim job found W).waiting ≡ true
+  claim_keeps : (job : Job) (found : Option Message) (W : Outstanding) → is_waiting p k W.waiting ≡ true → is_waiting p k (after_claim job found W).waiting ≡ true
   unfolding after_claim
   claim_keeps job None W waits = waits
   claim_keeps job (Some m) W waits = waits
 
   -- a Settle of another message leaves it
-  settle_keeps : (s n q j : ℕ) (D : List Deed) (m : Message) (W : InHand) → find (is_of q j) W.waiting ≡ Some m → (is_waiting p k (without_first (is_of q j) W.waiting) ≡ true) ⊎ ((q ≡ p) × (j ≡ k)) → (is_waiting p k (after_settle s n q j D (find (is_of q j) W.waiting) W).waiting ≡ true) ⊎ (did.Settle q j ≡ did.Settle p k)
+  settle_keeps : (s n q j : ℕ) (D : List Deed) (m : Message) (W : Outstanding) → find (is_of q j) W.waiting ≡ Some m → (is_waiting p k (without_first (is_of q j) W.waiting) ≡ true) ⊎ ((q ≡ p) × (j ≡ k)) → (is_waiting p k (after_settle s n q j D (find (is_of q j) W.waiting) W).waiting ≡ true) ⊎ (did.Settle q j ≡ did.Settle p k)
   unfolding after_settle
   settle_keeps s n q j D m W found (inl left) = inl (subst (λ (one : Option Message). is_waiting p k (after_settle s n q j D one W).waiting ≡ true) (sym found) (settlement_keeps m m.item (is_lost_message s n D m) (without_waiting q j W) left))
   settle_keeps s n q j D m W found (inr same) = inr (ap (λ (r : ℕ). did.Settle r j) same.0 ∙ ap (λ (i : ℕ). did.Settle p i) same.1)
@@ -214,7 +214,7 @@ some_copies f (rep ∷ reps) some = refl
 comes_last : (p k : ℕ) (ms : List Message) (m : Message) → is_of p k m ≡ true → is_waiting p k (ms ++ m ∷ []) ≡ true
 comes_last p k ms m own = any_push (is_of p k) ms m ∙ or_right (is_waiting p k ms) (is_of p k m) own
 
-message_comes : (p k : ℕ) (m : Message) (item : Item) (W : InHand) → is_some_of (counted_in item) ≡ true → is_none_of m.copies ≡ false → is_of p k m ≡ true → is_waiting p k (after_message m item W).waiting ≡ true
+message_comes : (p k : ℕ) (m : Message) (item : Item) (W : Outstanding) → is_some_of (counted_in item) ≡ true → is_none_of m.copies ≡ false → is_of p k m ≡ true → is_waiting p k (after_message m item W).waiting ≡ true
 unfolding after_message
 message_comes p k m (items.Call call target method value) W some copied own = ap (λ (b : Bool). is_waiting p k (cond b (make_ready m W) (wait m W)).waiting) copied ∙ comes_last p k W.waiting m own
 message_comes p k m (items.Reply call status value) W some copied own = ap (λ (b : Bool). is_waiting p k (cond b (make_reply m W) (wait m W)).waiting) copied ∙ comes_last p k W.waiting m own

@@ -16,7 +16,7 @@ use Rattle.nob_model_types.specs.declared.deed.Deed.TheVariants as did
 use Rattle.nob_model_types.specs.declared.message.Message.{Message}
 use Rattle.nob_model_types.specs.Sessions.{item_at}
 use Rattle.nob_model_types.specs.Messages.{new_message, message_after, is_of, is_not_from, is_job, is_lost_message}
-use Rattle.nob_model_work.specs.declared.work.InHand.{InHand}
+use Rattle.nob_model_work.specs.declared.work.Outstanding.{Outstanding}
 use Rattle.nob_model_work.specs.Work.{without_first, wait, make_ready, make_reply, is_none_of, is_not_reply, after_message, after_act, after_settlement, without_waiting, after_settle, after_claim, after_finish, after_take, after_end, after_call, after_close, work_after, with_loans, work}
 use Rattle.nob_model.proofs.Carrying.{all_push, all_filter, all_without, all_found, all_mapped}
 use Rattle.nob_item.specs.Kinds.{counted_in}
@@ -42,22 +42,22 @@ use Rattle.nob_model_invariant.proofs.Owners.{any_push}
 -- ---- messages that wait, by one deed more
 
 module _ (P : Message → Type 0) where
-  either_waits : (b : Bool) (one other : InHand) → AllByRecursion P one.waiting → (b ≡ false → AllByRecursion P other.waiting) → AllByRecursion P (cond b one other).waiting
+  either_waits : (b : Bool) (one other : Outstanding) → AllByRecursion P one.waiting → (b ≡ false → AllByRecursion P other.waiting) → AllByRecursion P (cond b one other).waiting
   either_waits true one other its rest = its
   either_waits false one other its rest = rest refl
 
-  message_waits : (m : Message) (item : Item) (W : InHand) → (is_none_of m.copies ≡ false → P m) → AllByRecursion P W.waiting → AllByRecursion P (after_message m item W).waiting
+  message_waits : (m : Message) (item : Item) (W : Outstanding) → (is_none_of m.copies ≡ false → P m) → AllByRecursion P W.waiting → AllByRecursion P (after_message m item W).waiting
   unfolding after_message
   message_waits m (items.Call call target method value) W its all = either_waits (is_none_of m.copies) (make_ready m W) (wait m W) all (λ some. all_push P W.waiting m all (its some))
   message_waits m (items.Reply call status value) W its all = either_waits (is_none_of m.copies) (make_reply m W) (wait m W) all (λ some. all_push P W.waiting m all (its some))
   message_waits m (_) W its all = all
 
-  act_waits : (s n p k : ℕ) (D : List Deed) (found : Option Item) (W : InHand) → ((item : Item) → found ≡ Some item → is_none_of (new_message s n p k item (did.Act p k ∷ D)).copies ≡ false → P (new_message s n p k item (did.Act p k ∷ D))) → AllByRecursion P W.waiting → AllByRecursion P (after_act s n p k D found W).waiting
+  act_waits : (s n p k : ℕ) (D : List Deed) (found : Option Item) (W : Outstanding) → ((item : Item) → found ≡ Some item → is_none_of (new_message s n p k item (did.Act p k ∷ D)).copies ≡ false → P (new_message s n p k item (did.Act p k ∷ D))) → AllByRecursion P W.waiting → AllByRecursion P (after_act s n p k D found W).waiting
   unfolding after_act
   act_waits s n p k D None W new all = all
   act_waits s n p k D (Some item) W new all = message_waits (new_message s n p k item (did.Act p k ∷ D)) item W (new item refl) all
 
-  settlement_waits : (m : Message) (item : Item) (lost : Bool) (W : InHand) → AllByRecursion P W.waiting → AllByRecursion P (after_settlement m item lost W).waiting
+  settlement_waits : (m : Message) (item : Item) (lost : Bool) (W : Outstanding) → AllByRecursion P W.waiting → AllByRecursion P (after_settlement m item lost W).waiting
   unfolding after_settlement
   settlement_waits m (items.Call call target method value) true W all = all
   settlement_waits m (items.Call call target method value) false W all = all
@@ -65,21 +65,21 @@ module _ (P : Message → Type 0) where
   settlement_waits m (items.Reply call status value) false W all = all
   settlement_waits m (_) lost W all = all
 
-  settle_waits : (s n p k : ℕ) (D : List Deed) (found : Option Message) (W : InHand) → AllByRecursion P W.waiting → AllByRecursion P (without_first (is_of p k) W.waiting) → AllByRecursion P (after_settle s n p k D found W).waiting
+  settle_waits : (s n p k : ℕ) (D : List Deed) (found : Option Message) (W : Outstanding) → AllByRecursion P W.waiting → AllByRecursion P (without_first (is_of p k) W.waiting) → AllByRecursion P (after_settle s n p k D found W).waiting
   unfolding after_settle
   settle_waits s n p k D None W all less = all
   settle_waits s n p k D (Some m) W all less = settlement_waits m m.item (is_lost_message s n D m) (without_waiting p k W) less
 
-  claim_waits : (job : Job) (found : Option Message) (W : InHand) → AllByRecursion P W.waiting → AllByRecursion P (after_claim job found W).waiting
+  claim_waits : (job : Job) (found : Option Message) (W : Outstanding) → AllByRecursion P W.waiting → AllByRecursion P (after_claim job found W).waiting
   unfolding after_claim
   claim_waits job None W all = all
   claim_waits job (Some m) W all = all
 
-  loans_wait : (s n : ℕ) (D : List Deed) → ((m : Message) → P m → P (message_after s n D m)) → (W : InHand) → AllByRecursion P W.waiting → AllByRecursion P (with_loans s n D W).waiting
+  loans_wait : (s n : ℕ) (D : List Deed) → ((m : Message) → P m → P (message_after s n D m)) → (W : Outstanding) → AllByRecursion P W.waiting → AllByRecursion P (with_loans s n D W).waiting
   unfolding with_loans
   loans_wait s n D kept W all = all_mapped P (λ m. message_after s n D m) kept W.waiting all
 
-  deed_waits : (s n : ℕ) (deed : Deed) (D : List Deed) (W : InHand) → ((p k : ℕ) (item : Item) → deed ≡ did.Act p k → item_at p k D ≡ Some item → is_none_of (new_message s n p k item (did.Act p k ∷ D)).copies ≡ false → P (new_message s n p k item (did.Act p k ∷ D))) → AllByRecursion P W.waiting → AllByRecursion P (work_after s n deed D W).waiting
+  deed_waits : (s n : ℕ) (deed : Deed) (D : List Deed) (W : Outstanding) → ((p k : ℕ) (item : Item) → deed ≡ did.Act p k → item_at p k D ≡ Some item → is_none_of (new_message s n p k item (did.Act p k ∷ D)).copies ≡ false → P (new_message s n p k item (did.Act p k ∷ D))) → AllByRecursion P W.waiting → AllByRecursion P (work_after s n deed D W).waiting
   unfolding work_after after_call after_take after_end after_finish after_close
   deed_waits s n (did.Act p k) D W new all = act_waits s n p k D (item_at p k D) W (λ item is. new p k item refl is) all
   deed_waits s n (did.Settle p k) D W new all = settle_waits s n p k D (find (is_of p k) W.waiting) W all (all_without P (is_of p k) W.waiting all)

@@ -19,7 +19,7 @@ use Rattle.nob_item.specs.declared.item.Item.TheVariants as items
 use Rattle.nob_model_types.specs.declared.refusal.Refusal.{Refusal}
 use Rattle.nob_model_types.specs.declared.refusal.Refusal.TheVariants as refusals
 use Rattle.nob_model_history.specs.declared.history.History.{History}
-use Rattle.nob_model_acting.specs.Sending.{◌or_else◌, refuse_if, is_own_and_not_live, ref_refused, is_faulty, refs_refused, value_refused}
+use Rattle.nob_model_acting.specs.Sending.{◌or_else◌, refuse_if, is_gone, ref_refused, is_faulty, refs_refused, value_refused}
 use Rattle.nob_model_history.specs.Holds.{is_held}
 use Rattle.std.proofs.lemmas.Bool.{not-false}
 use Rattle.nob_model.proofs.Carrying.{all_filter}
@@ -84,7 +84,7 @@ either_none (Some refusal) b e = absurd (refused_none refusal e)
 either_none None b e = (refl, e)
 
 ref_held : (s : ℕ) (h : History) (rep : WireRep) → ref_refused s h rep ≡ None → is_held s rep h ≡ true
-ref_held s h rep e = not-false _ (next_none (not (is_held s rep h)) refusals.NotHeld _ (next_none (is_own_and_not_live s rep h) refusals.NoObject _ e).1).0
+ref_held s h rep e = not-false _ (next_none (not (is_held s rep h)) refusals.NotHeld _ (next_none (is_gone s rep h) refusals.NoObject _ e).1).0
 
 -- references that may be sent are held
 pub refs_held : (s : ℕ) (h : History) (reps : List WireRep) → refs_refused s h reps ≡ None → AllByRecursion (λ rep. is_held s rep h ≡ true) reps

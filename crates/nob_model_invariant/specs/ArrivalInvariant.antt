@@ -10,7 +10,7 @@ use Rattle.nob_model_acting.specs.Acting.{awaits_reply}
 use Rattle.nob_model_journal.specs.Journals.{deeds_at, closed_at, sent_to, acted_from}
 use Rattle.nob_model_invariant.specs.Asking.{items_among}
 use Rattle.nob_model_invariant.specs.Underway.{under_way, AreGuarded}
-use Rattle.nob_model_invariant.specs.Counting.{count_of, makes_call, calls_in_hand}
+use Rattle.nob_model_invariant.specs.Counting.{count_of, makes_call, calls_outstanding}
 
 -- what a client sent to an owner and the owner hasn't acted on is guarded: each item that needs an object (a call of it, or a reference to it)
 -- comes while the client is entered for that, and no Dirty or Clean for it is under way before
@@ -24,6 +24,6 @@ pub record Answers (n : ℕ) (J : List Entry) : Type 0 where
   -- and so are the Replies of o
   pub replied_once : (o c k : ℕ) → count_of (replies_to k) (sent_to n o c J) ≤ 1
   -- each Reply is of a Call that was acted on, and of one whose message neither waits nor is ready nor runs
-  pub replied_called : (o c k : ℕ) → calls_in_hand c k (work o n (deeds_at o J)) + count_of (replies_to k) (sent_to n o c J) ≤ count_of (makes_call k) (items_among (acted_from c o J))
+  pub replied_called : (o c k : ℕ) → calls_outstanding c k (work o n (deeds_at o J)) + count_of (replies_to k) (sent_to n o c J) ≤ count_of (makes_call k) (items_among (acted_from c o J))
   -- a Call has its Reply acted on, or waits for one, unless c has closed the session
   pub awaited : (c o k : ℕ) → closed_at c o J ≡ false → 1 ≤ count_of (makes_call k) (sent_to n c o J) → (1 ≤ count_of (replies_to k) (items_among (acted_from o c J))) ⊎ (list_any (awaits_reply o k) (work c n (deeds_at c J)).calls ≡ true)

@@ -3,7 +3,7 @@ use Rattle.std.specs.Prelude.{ℕ, ◌+◌, ◌&&◌, ◌==◌, Bool, false, len
 use Rattle.nob_item.specs.declared.item.Item.{Item}
 use Rattle.nob_item.specs.declared.item.Item.TheVariants as items
 use Rattle.nob_model_types.specs.declared.message.Message.{Message}
-use Rattle.nob_model_work.specs.declared.work.InHand.{InHand}
+use Rattle.nob_model_work.specs.declared.work.Outstanding.{Outstanding}
 use Rattle.nob_model_work.specs.declared.work.Run.{Run}
 
 -- how many elements pass a test
@@ -29,5 +29,5 @@ abbrev pub runs_call : (p k : ℕ) → Run → Bool
 runs_call p k run = brings_call p k run.message
 
 -- how many messages of Call k from p wait, are ready or run
-abbrev pub calls_in_hand : (p k : ℕ) → InHand → ℕ
-calls_in_hand p k W = count_of (brings_call p k) W.waiting + count_of (brings_call p k) W.ready + count_of (runs_call p k) W.running
+abbrev pub calls_outstanding : (p k : ℕ) → Outstanding → ℕ
+calls_outstanding p k W = count_of (brings_call p k) W.waiting + count_of (brings_call p k) W.ready + count_of (runs_call p k) W.running

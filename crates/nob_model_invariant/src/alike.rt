@@ -10,7 +10,7 @@ pub fn speaks_of_first()
     ensures { FirstLaw }
 {}
 
-/// In every run of a world of n spaces what each space did, has in hand and gave reads the same
+/// In every run of a world of n spaces what each space did, has outstanding and gave reads the same
 /// where more spaces are counted. Asked of the run: what each Call and Finish handed on is of its
 /// types.
 #[tactic(auto, using(crate::proofs::Judging::histories))]

@@ -16,7 +16,7 @@ use Rattle.nob_model_types.specs.Objects.{is_exported, is_live}
 use Rattle.nob_model_types.specs.Turns.{wants_dirty, turns}
 use Rattle.nob_model_types.specs.declared.message.Message.{Message}
 use Rattle.nob_model_work.specs.declared.work.Run.{Run}
-use Rattle.nob_model_work.specs.declared.work.InHand.{InHand}
+use Rattle.nob_model_work.specs.declared.work.Outstanding.{Outstanding}
 use Rattle.nob_model_work.specs.declared.gifts.Gift.{Gift}
 use Rattle.nob_model_types.specs.Messages.{is_of, is_lost_message}
 use Rattle.nob_model_work.specs.Work.{is_run, work}
@@ -91,8 +91,8 @@ unfoldable pub gifts_of_finish : Outcome → Option Run → List Gift
 gifts_of_finish outcome None = []
 gifts_of_finish outcome (Some run) = reply_to run.message.from run.message.item outcome
 
--- what a deed of space s among n gives, in order, by what was done and was in hand before, whoever it goes to
-unfoldable pub gifts_of : (s n : ℕ) → Deed → List Deed → InHand → List Gift
+-- what a deed of space s among n gives, in order, by what was done and was outstanding before, whoever it goes to
+unfoldable pub gifts_of : (s n : ℕ) → Deed → List Deed → Outstanding → List Gift
 gifts_of s n (Call target method value call) D W = record { to = target.owner; item = items.Call call target.index method value } ∷ []
 gifts_of s n (Finish job outcome) D W = gifts_of_finish outcome (find (is_run job) W.running)
 gifts_of s n (Act p k) D W = gifts_of_act s n p D (item_at p k D)
@@ -101,7 +101,7 @@ gifts_of s n (Clean rep) D W = if (turns s n rep D).asks then record { to = rep.
 gifts_of s n (_) D W = []
 
 -- what a deed gives to the peers of space s among n, in order: one list over all peers, and nothing for anybody else
-unfoldable pub gifts : (s n : ℕ) → Deed → List Deed → InHand → List Gift
+unfoldable pub gifts : (s n : ℕ) → Deed → List Deed → Outstanding → List Gift
 gifts s n deed D W = filter (λ gift. is_peer s n gift.to) (gifts_of s n deed D W)
 
 -- what each deed gave, the newest first

@@ -1,4 +1,4 @@
--- The work in hand at a space: messages that wait for their references, ready and running jobs, ready replies, and
+-- The outstanding work at a space: messages that wait for their references, ready and running jobs, ready replies, and
 -- the space's own calls whose replies aren't taken.
 use Rattle.std.specs.Prelude.{ℕ, Bool, true, false, ◌&&◌, not, ◌==◌, List, [], ◌∷◌, ◌++◌, Option, Some, None, map, filter, find, if◌then◌else◌}
 use Rattle.std.specs.List.{list_any}
@@ -14,11 +14,11 @@ use Rattle.nob_model_work.specs.declared.work.Stage.{Stage}
 use Rattle.nob_model_work.specs.declared.work.Stage.TheVariants as stages
 use Rattle.nob_model_work.specs.declared.work.OwnCall.{OwnCall}
 use Rattle.nob_model_work.specs.declared.work.Run.{Run}
-use Rattle.nob_model_work.specs.declared.work.InHand.{InHand}
+use Rattle.nob_model_work.specs.declared.work.Outstanding.{Outstanding}
 use Rattle.nob_model_types.specs.Messages.{new_message, message_after, is_of, is_not_from, replies_to, is_job, is_lost_message}
 
--- a space that has done nothing has nothing in hand
-abbrev pub no_work : InHand
+-- a space that has done nothing has nothing outstanding
+abbrev pub no_work : Outstanding
 no_work = record { waiting = []; ready = []; running = []; replies = []; calls = [] }
 
 -- all but the first element that passes a test
@@ -53,19 +53,19 @@ unfoldable pub call_after_close : ℕ → List Message → OwnCall → OwnCall
 call_after_close p replies own = record { call = own.call; to = own.to; stage = if own.to == p && not (list_any (is_reply_from p own.call) replies) then stages.Ended else own.stage }
 
 -- one message more that waits
-abbrev pub wait : Message → InHand → InHand
+abbrev pub wait : Message → Outstanding → Outstanding
 wait message work = record { waiting = work.waiting ++ message ∷ []; ready = work.ready; running = work.running; replies = work.replies; calls = work.calls }
 
 -- one ready job more
-abbrev pub make_ready : Message → InHand → InHand
+abbrev pub make_ready : Message → Outstanding → Outstanding
 make_ready message work = record { waiting = work.waiting; ready = work.ready ++ message ∷ []; running = work.running; replies = work.replies; calls = work.calls }
 
 -- one ready reply more
-abbrev pub make_reply : Message → InHand → InHand
+abbrev pub make_reply : Message → Outstanding → Outstanding
 make_reply message work = record { waiting = work.waiting; ready = work.ready; running = work.running; replies = work.replies ++ message ∷ []; calls = work.calls }
 
 -- the calls changed
-abbrev pub with_calls : (OwnCall → OwnCall) → InHand → InHand
+abbrev pub with_calls : (OwnCall → OwnCall) → Outstanding → Outstanding
 with_calls change work = record { waiting = work.waiting; ready = work.ready; running = work.running; replies = work.replies; calls = map change work.calls }
 
 -- whether nothing is in a list
@@ -74,7 +74,7 @@ is_none_of [] = true
 is_none_of (x ∷ xs) = false
 
 -- a message acted on: without counted references a Call is a ready job and a Reply is ready, else they wait; a Reply answers its call
-unfoldable pub after_message : Message → Item → InHand → InHand
+unfoldable pub after_message : Message → Item → Outstanding → Outstanding
 after_message message (items.Call call target method value) work = if is_none_of message.copies then make_ready message work else wait message work
 after_message message (items.Reply call status value) work = with_calls (call_after_reply message.from call) (if is_none_of message.copies then make_reply message work else wait message work)
 after_message message (items.Settle item) work = work
@@ -84,7 +84,7 @@ after_message message (items.DirtyNo index) work = work
 after_message message (items.Clean index) work = work
 
 -- after Act on item k from p, if it can be read: a reference is lost from the start if it is lost once the item is acted on
-unfoldable pub after_act : (s n p k : ℕ) → List Deed → Option Item → InHand → InHand
+unfoldable pub after_act : (s n p k : ℕ) → List Deed → Option Item → Outstanding → Outstanding
 after_act s n p k D None work = work
 after_act s n p k D (Some item) work = after_message (new_message s n p k item (Act p k ∷ D)) item work
 
@@ -93,7 +93,7 @@ abbrev pub lost_reply : Message → ℕ → Message
 lost_reply message call = record { from = message.from; number = message.number; item = items.Reply call 3 values.Unit; copies = [] }
 
 -- a message that was settled, by its item: a Call is a ready job, or over if it was lost; a Reply is ready, as a lost one if it was lost
-unfoldable pub after_settlement : Message → Item → Bool → InHand → InHand
+unfoldable pub after_settlement : Message → Item → Bool → Outstanding → Outstanding
 after_settlement message (items.Call call target method value) lost work = if lost then work else make_ready message work
 after_settlement message (items.Reply call status value) lost work = if lost then make_reply (lost_reply message call) work else make_reply message work
 after_settlement message (items.Settle item) lost work = work
@@ -103,29 +103,29 @@ after_settlement message (items.DirtyNo index) lost work = work
 after_settlement message (items.Clean index) lost work = work
 
 -- without the first message that waits and came from p in item k
-abbrev pub without_waiting : (p k : ℕ) → InHand → InHand
+abbrev pub without_waiting : (p k : ℕ) → Outstanding → Outstanding
 without_waiting p k work = record { waiting = without_first (is_of p k) work.waiting; ready = work.ready; running = work.running; replies = work.replies; calls = work.calls }
 
 -- after Settle of a message, if there is one that waits
-unfoldable pub after_settle : (s n p k : ℕ) → List Deed → Option Message → InHand → InHand
+unfoldable pub after_settle : (s n p k : ℕ) → List Deed → Option Message → Outstanding → Outstanding
 after_settle s n p k D None work = work
 after_settle s n p k D (Some message) work = after_settlement message message.item (is_lost_message s n D message) (without_waiting p k work)
 
 -- without the first ready job that has the contents of one
-abbrev pub without_ready : Job → InHand → InHand
+abbrev pub without_ready : Job → Outstanding → Outstanding
 without_ready job work = record { waiting = work.waiting; ready = without_first (is_job job) work.ready; running = work.running; replies = work.replies; calls = work.calls }
 
 -- a job that runs: the newest claimed stands first
-abbrev pub start : ℕ → Message → InHand → InHand
+abbrev pub start : ℕ → Message → Outstanding → Outstanding
 start j message work = record { waiting = work.waiting; ready = work.ready; running = record { job = j; message = message } ∷ work.running; replies = work.replies; calls = work.calls }
 
 -- after Claim of a job, if a ready one has its contents
-unfoldable pub after_claim : Job → Option Message → InHand → InHand
+unfoldable pub after_claim : Job → Option Message → Outstanding → Outstanding
 after_claim job None work = work
 after_claim job (Some message) work = start job.job message (without_ready job work)
 
 -- after the end of a job: none of its number runs
-unfoldable pub after_finish : ℕ → InHand → InHand
+unfoldable pub after_finish : ℕ → Outstanding → Outstanding
 after_finish j work = record { waiting = work.waiting; ready = work.ready; running = filter (λ run. not (is_run j run)) work.running; replies = work.replies; calls = work.calls }
 
 -- whether a message isn't a Reply to call k
@@ -133,23 +133,23 @@ abbrev pub is_not_reply : ℕ → Message → Bool
 is_not_reply k message = not (replies_to k message.item)
 
 -- after the reply to call k was taken: the Replies to it are over, and so is the call
-unfoldable pub after_take : ℕ → InHand → InHand
+unfoldable pub after_take : ℕ → Outstanding → Outstanding
 after_take k work = record { waiting = filter (is_not_reply k) work.waiting; ready = work.ready; running = work.running; replies = filter (is_not_reply k) work.replies; calls = filter (λ own. not (is_call k own)) work.calls }
 
 -- after it was told that there will be no reply to call k
-unfoldable pub after_end : ℕ → InHand → InHand
+unfoldable pub after_end : ℕ → Outstanding → Outstanding
 after_end k work = record { waiting = work.waiting; ready = work.ready; running = work.running; replies = work.replies; calls = filter (λ own. not (is_call k own)) work.calls }
 
 -- after a call was made
-unfoldable pub after_call : (p k : ℕ) → InHand → InHand
+unfoldable pub after_call : (p k : ℕ) → Outstanding → Outstanding
 after_call p k work = record { waiting = work.waiting; ready = work.ready; running = work.running; replies = work.replies; calls = work.calls ++ record { call = k; to = p; stage = stages.Sent } ∷ [] }
 
 -- after the session with p closed: its waiting messages and ready jobs are gone, calls without a ready reply end; what runs goes on
-unfoldable pub after_close : ℕ → InHand → InHand
+unfoldable pub after_close : ℕ → Outstanding → Outstanding
 after_close p work = record { waiting = filter (is_not_from p) work.waiting; ready = filter (is_not_from p) work.ready; running = work.running; replies = work.replies; calls = map (call_after_close p work.replies) work.calls }
 
--- what is in hand after a deed, by what was in hand before, the loans aside
-unfoldable pub work_after : (s n : ℕ) → Deed → List Deed → InHand → InHand
+-- what is outstanding after a deed, by what was outstanding before, the loans aside
+unfoldable pub work_after : (s n : ℕ) → Deed → List Deed → Outstanding → Outstanding
 work_after s n (Call target method value call) D work = after_call target.owner call work
 work_after s n (TakeReply call status value) D work = after_take call work
 work_after s n (TakeEnd call) D work = after_end call work
@@ -166,10 +166,10 @@ unfoldable pub run_after : (s n : ℕ) → List Deed → Run → Run
 run_after s n D run = record { job = run.job; message = message_after s n D run.message }
 
 -- the loans made that can be made now
-unfoldable pub with_loans : (s n : ℕ) → List Deed → InHand → InHand
+unfoldable pub with_loans : (s n : ℕ) → List Deed → Outstanding → Outstanding
 with_loans s n D work = record { waiting = map (λ message. message_after s n D message) work.waiting; ready = map (λ message. message_after s n D message) work.ready; running = map (λ run. run_after s n D run) work.running; replies = map (λ message. message_after s n D message) work.replies; calls = work.calls }
 
--- the work in hand at space s among n
-abbrev pub work : (s n : ℕ) → List Deed → InHand
+-- the outstanding work at space s among n
+abbrev pub work : (s n : ℕ) → List Deed → Outstanding
 work s n [] = no_work
 work s n (deed ∷ D) = with_loans s n (deed ∷ D) (work_after s n deed D (work s n D))

@@ -11,7 +11,7 @@ ghost use Rattle.nob_model_types.specs.Messages.{is_of};
 ghost use Rattle.nob_model_work.specs.Work.{is_run, work as work_word};
 ghost use Rattle.nob_model_work.specs.Gifts as words;
 
-use crate::work::{self, InHand, Run};
+use crate::work::{self, Outstanding, Run};
 use nob_ids::{CallNo, ItemNo, JobNo, SpaceId, WireRep};
 use nob_item::Item;
 use nob_model_types::message::{self, Message, is_lost_message};
@@ -377,7 +377,7 @@ fn gifts_of(
     here: &Here,
     deed: &Deed,
     deeds: &[Deed],
-    work: &InHand,
+    work: &Outstanding,
 ) -> Result<Vec<Gift>, AllocError>
     ensures { IfOk result (λ gifts. gifts.items
         ≡ words.gifts_of here.now.space here.now.n deed.now deeds.now work.now) }
@@ -407,14 +407,14 @@ pub fn to_peers(here: Here, mut gifts: Vec<Gift>) -> Vec<Gift>
     gifts
 }
 
-/// What a deed gives to the peers, in order, by what was done and was in hand before.
+/// What a deed gives to the peers, in order, by what was done and was outstanding before.
 #[tactic(auto, unfolding(crate::specs::Gifts::gifts))]
 pub fn gifts(
     alloc: Global,
     here: &Here,
     deed: &Deed,
     deeds: &[Deed],
-    work: &InHand,
+    work: &Outstanding,
 ) -> Result<Vec<Gift>, AllocError>
     ensures { IfOk result (λ gifts. gifts.items
         ≡ words.gifts here.now.space here.now.n deed.now deeds.now work.now) }
@@ -423,16 +423,16 @@ pub fn gifts(
     Ok(to_peers(*here, all))
 }
 
-/// What a space has in hand, and what each of its deeds gave, the newest first.
+/// What a space has outstanding, and what each of its deeds gave, the newest first.
 #[derive(Debug, Drop)]
 pub struct Past {
-    /// What it has in hand.
-    pub work: InHand,
+    /// What it has outstanding.
+    pub work: Outstanding,
     /// What each deed gave.
     pub all_gifts: Vec<List<Gift>>,
 }
 
-/// What a space has in hand, and what each of its deeds gave. It passes the deeds once, and at each
+/// What a space has outstanding, and what each of its deeds gave. It passes the deeds once, and at each
 /// of them looks back for the references that it touches.
 pub fn past_of(alloc: Global, here: &Here, deeds: &[Deed]) -> Result<Past, AllocError>
     ensures work { IfOk result (λ past. past.work ≡ work_word here.now.space here.now.n deeds.now) }
@@ -441,7 +441,7 @@ pub fn past_of(alloc: Global, here: &Here, deeds: &[Deed]) -> Result<Past, Alloc
 {
     match deeds {
         [] => Ok(Past {
-            work: InHand::none(alloc),
+            work: Outstanding::none(alloc),
             all_gifts: Vec::new(alloc),
         }),
         [deed, older @ ..] => {

@@ -1,4 +1,4 @@
-//! The work in hand at a space.
+//! The outstanding work at a space.
 
 ghost use Rattle.std.specs.Prelude.{◌≡◌, [], ◌∷◌, ◌++◌, not, IfOk, Some, None, map, filter, find, if◌then◌else◌};
 ghost use Rattle.std.specs.List.{list_any, position};
@@ -48,9 +48,9 @@ pub struct Run {
     pub message: Message,
 }
 
-/// What a space has in hand.
+/// What a space has outstanding.
 #[derive(Debug, Drop)]
-pub struct InHand {
+pub struct Outstanding {
     /// The messages that wait for their references, in order of acting.
     pub waiting: List<Message>,
     /// The ready jobs, in order of becoming ready.
@@ -63,12 +63,12 @@ pub struct InHand {
     pub calls: List<OwnCall>,
 }
 
-impl InHand {
-    /// Nothing in hand.
-    pub fn none(alloc: Global) -> InHand
+impl Outstanding {
+    /// Nothing outstanding.
+    pub fn none(alloc: Global) -> Outstanding
         ensures { result ≡ words.no_work }
     {
-        InHand {
+        Outstanding {
             waiting: List::from_vec(Vec::new(alloc)),
             ready: List::from_vec(Vec::new(alloc)),
             running: List::from_vec(Vec::new(alloc)),
@@ -88,10 +88,10 @@ fn with_message(messages: List<Message>, message: Message) -> Result<List<Messag
 }
 
 // One message more that waits.
-fn wait(message: Message, work: InHand) -> Result<InHand, AllocError>
+fn wait(message: Message, work: Outstanding) -> Result<Outstanding, AllocError>
     ensures { IfOk result (λ after. after ≡ words.wait message work) }
 {
-    let InHand {
+    let Outstanding {
         waiting,
         ready,
         running,
@@ -99,7 +99,7 @@ fn wait(message: Message, work: InHand) -> Result<InHand, AllocError>
         calls,
     } = work;
     let waiting = with_message(waiting, message)?;
-    Ok(InHand {
+    Ok(Outstanding {
         waiting,
         ready,
         running,
@@ -109,10 +109,10 @@ fn wait(message: Message, work: InHand) -> Result<InHand, AllocError>
 }
 
 // One ready job more.
-fn make_ready(message: Message, work: InHand) -> Result<InHand, AllocError>
+fn make_ready(message: Message, work: Outstanding) -> Result<Outstanding, AllocError>
     ensures { IfOk result (λ after. after ≡ words.make_ready message work) }
 {
-    let InHand {
+    let Outstanding {
         waiting,
         ready,
         running,
@@ -120,7 +120,7 @@ fn make_ready(message: Message, work: InHand) -> Result<InHand, AllocError>
         calls,
     } = work;
     let ready = with_message(ready, message)?;
-    Ok(InHand {
+    Ok(Outstanding {
         waiting,
         ready,
         running,
@@ -130,10 +130,10 @@ fn make_ready(message: Message, work: InHand) -> Result<InHand, AllocError>
 }
 
 // One ready reply more.
-fn make_reply(message: Message, work: InHand) -> Result<InHand, AllocError>
+fn make_reply(message: Message, work: Outstanding) -> Result<Outstanding, AllocError>
     ensures { IfOk result (λ after. after ≡ words.make_reply message work) }
 {
-    let InHand {
+    let Outstanding {
         waiting,
         ready,
         running,
@@ -141,7 +141,7 @@ fn make_reply(message: Message, work: InHand) -> Result<InHand, AllocError>
         calls,
     } = work;
     let replies = with_message(replies, message)?;
-    Ok(InHand {
+    Ok(Outstanding {
         waiting,
         ready,
         running,
@@ -192,7 +192,11 @@ fn calls_after_reply(
 
 /// A message that was acted on.
 #[tactic(auto, unfolding(crate::specs::Work::after_message))]
-pub fn after_message(alloc: Global, message: Message, work: InHand) -> Result<InHand, AllocError>
+pub fn after_message(
+    alloc: Global,
+    message: Message,
+    work: Outstanding,
+) -> Result<Outstanding, AllocError>
     ensures { IfOk result (λ after. after ≡ words.after_message message message.item work) }
 {
     let alone = message.copies.as_slice().is_empty();
@@ -209,7 +213,7 @@ pub fn after_message(alloc: Global, message: Message, work: InHand) -> Result<In
 }
 
 // A Reply is ready at once if it carries no counted references, else it waits.
-fn place_reply(message: Message, work: InHand) -> Result<InHand, AllocError>
+fn place_reply(message: Message, work: Outstanding) -> Result<Outstanding, AllocError>
     ensures { IfOk result (λ after. after
         ≡ (if words.is_none_of message.copies then words.make_reply message work else words.wait
         message work)) }
@@ -225,12 +229,12 @@ fn answer_call(
     alloc: Global,
     peer: SpaceId,
     call: CallNo,
-    work: InHand,
-) -> Result<InHand, AllocError>
+    work: Outstanding,
+) -> Result<Outstanding, AllocError>
     ensures { IfOk result (λ after. after
         ≡ words.with_calls (words.call_after_reply peer call) work) }
 {
-    let InHand {
+    let Outstanding {
         waiting,
         ready,
         running,
@@ -238,7 +242,7 @@ fn answer_call(
         calls,
     } = work;
     let calls = List::from_vec(calls_after_reply(alloc, peer, call, calls.as_slice())?);
-    Ok(InHand {
+    Ok(Outstanding {
         waiting,
         ready,
         running,
@@ -252,8 +256,8 @@ fn reply_in(
     alloc: Global,
     call: CallNo,
     message: Message,
-    work: InHand,
-) -> Result<InHand, AllocError>
+    work: Outstanding,
+) -> Result<Outstanding, AllocError>
     ensures { IfOk result (λ after. after
         ≡ words.with_calls (words.call_after_reply message.from call)
         (if words.is_none_of message.copies then words.make_reply message work else words.wait
@@ -264,7 +268,7 @@ fn reply_in(
     answer_call(alloc, from, call, taken)
 }
 
-// What is in hand after Act on an item of a peer's.
+// What is outstanding after Act on an item of a peer's.
 #[tactic(auto, unfolding(crate::specs::Work::after_act))]
 fn after_act(
     alloc: Global,
@@ -273,8 +277,8 @@ fn after_act(
     number: ItemNo,
     older: &[Deed],
     deeds: &[Deed],
-    work: InHand,
-) -> Result<InHand, AllocError>
+    work: Outstanding,
+) -> Result<Outstanding, AllocError>
     requires { deeds.now ≡ did.Act peer number ∷ older.now }
     ensures { IfOk result (λ after. after
         ≡ words.after_act here.space here.n peer number older.now
@@ -311,8 +315,8 @@ pub fn after_settlement(
     alloc: Global,
     message: Message,
     lost: bool,
-    work: InHand,
-) -> Result<InHand, AllocError>
+    work: Outstanding,
+) -> Result<Outstanding, AllocError>
     ensures { IfOk result (λ after. after ≡ words.after_settlement message message.item lost work) }
 {
     match &message.item {
@@ -382,7 +386,7 @@ fn take_job(job: &Job, mut messages: Vec<Message>) -> (Option<Message>, Vec<Mess
     }
 }
 
-// What is in hand after Settle of the message that came from a peer in an item of this number.
+// What is outstanding after Settle of the message that came from a peer in an item of this number.
 #[tactic(auto, unfolding(crate::specs::Work::after_settle), using(crate::proofs::Firsts::none_taken))]
 fn after_settle(
     alloc: Global,
@@ -390,13 +394,13 @@ fn after_settle(
     peer: SpaceId,
     number: ItemNo,
     deeds: &[Deed],
-    work: InHand,
-) -> Result<InHand, AllocError>
+    work: Outstanding,
+) -> Result<Outstanding, AllocError>
     ensures { IfOk result (λ after. after
         ≡ words.after_settle here.space here.n peer number deeds.now
         (find (message_words.is_of peer number) work.waiting) work) }
 {
-    let InHand {
+    let Outstanding {
         waiting,
         ready,
         running,
@@ -405,7 +409,7 @@ fn after_settle(
     } = work;
     let (found, rest) = take_waiting(peer, number, waiting.into_vec());
     let waiting = List::from_vec(rest);
-    let others = InHand {
+    let others = Outstanding {
         waiting,
         ready,
         running,
@@ -422,10 +426,10 @@ fn after_settle(
 }
 
 // A job that runs, the newest.
-fn start(job: JobNo, message: Message, work: InHand) -> Result<InHand, AllocError>
+fn start(job: JobNo, message: Message, work: Outstanding) -> Result<Outstanding, AllocError>
     ensures { IfOk result (λ after. after ≡ words.start job message work) }
 {
-    let InHand {
+    let Outstanding {
         waiting,
         ready,
         running,
@@ -435,7 +439,7 @@ fn start(job: JobNo, message: Message, work: InHand) -> Result<InHand, AllocErro
     let mut runs = running.into_vec();
     runs.insert(0, Run { job, message })?;
     let running = List::from_vec(runs);
-    Ok(InHand {
+    Ok(Outstanding {
         waiting,
         ready,
         running,
@@ -444,13 +448,13 @@ fn start(job: JobNo, message: Message, work: InHand) -> Result<InHand, AllocErro
     })
 }
 
-/// What is in hand after Claim of a job.
+/// What is outstanding after Claim of a job.
 #[tactic(auto, unfolding(crate::specs::Work::after_claim), using(crate::proofs::Firsts::none_taken))]
-pub fn after_claim(job: &Job, work: InHand) -> Result<InHand, AllocError>
+pub fn after_claim(job: &Job, work: Outstanding) -> Result<Outstanding, AllocError>
     ensures { IfOk result (λ after. after
         ≡ words.after_claim job.now (find (message_words.is_job job.now) work.ready) work) }
 {
-    let InHand {
+    let Outstanding {
         waiting,
         ready,
         running,
@@ -459,7 +463,7 @@ pub fn after_claim(job: &Job, work: InHand) -> Result<InHand, AllocError>
     } = work;
     let (found, rest) = take_job(job, ready.into_vec());
     let ready = List::from_vec(rest);
-    let others = InHand {
+    let others = Outstanding {
         waiting,
         ready,
         running,
@@ -472,12 +476,12 @@ pub fn after_claim(job: &Job, work: InHand) -> Result<InHand, AllocError>
     }
 }
 
-/// What is in hand after the end of a job.
+/// What is outstanding after the end of a job.
 #[tactic(auto, unfolding(crate::specs::Work::after_finish))]
-pub fn after_finish(job: JobNo, work: InHand) -> InHand
+pub fn after_finish(job: JobNo, work: Outstanding) -> Outstanding
     ensures { result ≡ words.after_finish job work }
 {
-    let InHand {
+    let Outstanding {
         waiting,
         ready,
         running,
@@ -487,7 +491,7 @@ pub fn after_finish(job: JobNo, work: InHand) -> InHand
     let mut runs = running.into_vec();
     runs.retain(|run| run.job != job);
     let running = List::from_vec(runs);
-    InHand {
+    Outstanding {
         waiting,
         ready,
         running,
@@ -514,12 +518,12 @@ fn without_call(call: CallNo, calls: List<OwnCall>) -> List<OwnCall>
     List::from_vec(items)
 }
 
-/// What is in hand after the reply to a call was taken.
+/// What is outstanding after the reply to a call was taken.
 #[tactic(auto, unfolding(crate::specs::Work::after_take))]
-pub fn after_take(call: CallNo, work: InHand) -> InHand
+pub fn after_take(call: CallNo, work: Outstanding) -> Outstanding
     ensures { result ≡ words.after_take call work }
 {
-    let InHand {
+    let Outstanding {
         waiting,
         ready,
         running,
@@ -529,7 +533,7 @@ pub fn after_take(call: CallNo, work: InHand) -> InHand
     let waiting = without_replies(call, waiting);
     let replies = without_replies(call, replies);
     let calls = without_call(call, calls);
-    InHand {
+    Outstanding {
         waiting,
         ready,
         running,
@@ -538,12 +542,12 @@ pub fn after_take(call: CallNo, work: InHand) -> InHand
     }
 }
 
-/// What is in hand after it was told that there will be no reply to a call.
+/// What is outstanding after it was told that there will be no reply to a call.
 #[tactic(auto, unfolding(crate::specs::Work::after_end))]
-pub fn after_end(call: CallNo, work: InHand) -> InHand
+pub fn after_end(call: CallNo, work: Outstanding) -> Outstanding
     ensures { result ≡ words.after_end call work }
 {
-    let InHand {
+    let Outstanding {
         waiting,
         ready,
         running,
@@ -551,7 +555,7 @@ pub fn after_end(call: CallNo, work: InHand) -> InHand
         calls,
     } = work;
     let calls = without_call(call, calls);
-    InHand {
+    Outstanding {
         waiting,
         ready,
         running,
@@ -560,12 +564,12 @@ pub fn after_end(call: CallNo, work: InHand) -> InHand
     }
 }
 
-/// What is in hand after a call was made.
+/// What is outstanding after a call was made.
 #[tactic(auto, unfolding(crate::specs::Work::after_call))]
-pub fn after_call(to: SpaceId, call: CallNo, work: InHand) -> Result<InHand, AllocError>
+pub fn after_call(to: SpaceId, call: CallNo, work: Outstanding) -> Result<Outstanding, AllocError>
     ensures { IfOk result (λ after. after ≡ words.after_call to call work) }
 {
-    let InHand {
+    let Outstanding {
         waiting,
         ready,
         running,
@@ -576,7 +580,7 @@ pub fn after_call(to: SpaceId, call: CallNo, work: InHand) -> Result<InHand, All
     let stage = Stage::Sent;
     items.push(OwnCall { call, to, stage })?;
     let calls = List::from_vec(items);
-    Ok(InHand {
+    Ok(Outstanding {
         waiting,
         ready,
         running,
@@ -636,12 +640,16 @@ fn calls_after_close(
     Ok(after)
 }
 
-/// What is in hand after the session with a peer closed.
+/// What is outstanding after the session with a peer closed.
 #[tactic(auto, unfolding(crate::specs::Work::after_close))]
-pub fn after_close(alloc: Global, peer: SpaceId, work: InHand) -> Result<InHand, AllocError>
+pub fn after_close(
+    alloc: Global,
+    peer: SpaceId,
+    work: Outstanding,
+) -> Result<Outstanding, AllocError>
     ensures { IfOk result (λ after. after ≡ words.after_close peer work) }
 {
-    let InHand {
+    let Outstanding {
         waiting,
         ready,
         running,
@@ -656,7 +664,7 @@ pub fn after_close(alloc: Global, peer: SpaceId, work: InHand) -> Result<InHand,
         replies.as_slice(),
         calls.as_slice(),
     )?);
-    Ok(InHand {
+    Ok(Outstanding {
         waiting,
         ready,
         running,
@@ -665,7 +673,7 @@ pub fn after_close(alloc: Global, peer: SpaceId, work: InHand) -> Result<InHand,
     })
 }
 
-// What is in hand after a deed, the first of these, the loans aside.
+// What is outstanding after a deed, the first of these, the loans aside.
 #[tactic(auto, unfolding(crate::specs::Work::work_after))]
 fn work_after(
     alloc: Global,
@@ -673,8 +681,8 @@ fn work_after(
     deed: &Deed,
     older: &[Deed],
     deeds: &[Deed],
-    work: InHand,
-) -> Result<InHand, AllocError>
+    work: Outstanding,
+) -> Result<Outstanding, AllocError>
     requires { deeds.now ≡ deed.now ∷ older.now }
     ensures { IfOk result (λ after. after
         ≡ words.work_after here.space here.n deed.now older.now work) }
@@ -752,18 +760,18 @@ fn run_loans(
     Ok(List::from_vec(after))
 }
 
-// What is in hand with the loans made that can be made now.
+// What is outstanding with the loans made that can be made now.
 #[tactic(auto, unfolding(crate::specs::Work::with_loans))]
 fn with_loans(
     alloc: Global,
     here: &Here,
     deeds: &[Deed],
-    work: InHand,
-) -> Result<InHand, AllocError>
+    work: Outstanding,
+) -> Result<Outstanding, AllocError>
     ensures { IfOk result (λ after. after
         ≡ words.with_loans here.now.space here.now.n deeds.now work) }
 {
-    let InHand {
+    let Outstanding {
         waiting,
         ready,
         running,
@@ -774,7 +782,7 @@ fn with_loans(
     let ready = message_loans(alloc, here, deeds, ready)?;
     let running = run_loans(alloc, here, deeds, running)?;
     let replies = message_loans(alloc, here, deeds, replies)?;
-    Ok(InHand {
+    Ok(Outstanding {
         waiting,
         ready,
         running,
@@ -783,15 +791,15 @@ fn with_loans(
     })
 }
 
-/// What a space has in hand after a deed, the first of these, by what it had in hand before.
+/// What a space has outstanding after a deed, the first of these, by what it had outstanding before.
 pub fn after(
     alloc: Global,
     here: &Here,
     deed: &Deed,
     older: &[Deed],
     deeds: &[Deed],
-    work: InHand,
-) -> Result<InHand, AllocError>
+    work: Outstanding,
+) -> Result<Outstanding, AllocError>
     requires { deeds.now ≡ deed.now ∷ older.now }
     ensures { IfOk result (λ after. after
         ≡ words.with_loans here.now.space here.now.n deeds.now
@@ -801,14 +809,14 @@ pub fn after(
     with_loans(alloc, here, deeds, done)
 }
 
-/// What a space has in hand.
-pub fn in_hand(alloc: Global, here: &Here, deeds: &[Deed]) -> Result<InHand, AllocError>
+/// What a space has outstanding.
+pub fn outstanding(alloc: Global, here: &Here, deeds: &[Deed]) -> Result<Outstanding, AllocError>
     ensures { IfOk result (λ work. work ≡ words.work here.now.space here.now.n deeds.now) }
 {
     match deeds {
-        [] => Ok(InHand::none(alloc)),
+        [] => Ok(Outstanding::none(alloc)),
         [deed, older @ ..] => {
-            let before = in_hand(alloc, here, older)?;
+            let before = outstanding(alloc, here, older)?;
             after(alloc, here, deed, older, deeds, before)
         }
     }

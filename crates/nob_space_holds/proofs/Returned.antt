@@ -57,15 +57,15 @@ back_one t u rep free becomes leaves =
           (ap (λ (c : Counts). c.lent) (forgets_counts it.state (fewer Lent it.counts)) ∙ rw (same_laws.refl rep) refl)
           (λ w differs. rw differs refl) other
           ∙ fewer_by_one rep (λ x. (standing t x).counts.lent) other;
-      shows = λ s n h in_hand on_loan shows. subst (λ (loans : WireRep → ℕ). TableShows s n u h in_hand loans) (λ i other. fewer_by_one rep on_loan other i)
-          (shows_lent_fewer s n h in_hand on_loan t u rep shows leaves free becomes);
+      shows = λ s n h hand_of on_loan shows. subst (λ (loans : WireRep → ℕ). TableShows s n u h hand_of loans) (λ i other. fewer_by_one rep on_loan other i)
+          (shows_lent_fewer s n h hand_of on_loan t u rep shows leaves free becomes);
     }
 
 -- nothing that is given back
 pub back_none : (t : Table) → GivesBack t t []
 back_none t = record {
   counts = λ rep. omega arith;
-  shows = λ s n h in_hand on_loan shows. subst (λ (loans : WireRep → ℕ). TableShows s n t h in_hand loans) (λ i other. same (on_loan other) i) shows;
+  shows = λ s n h hand_of on_loan shows. subst (λ (loans : WireRep → ℕ). TableShows s n t h hand_of loans) (λ i other. same (on_loan other) i) shows;
 }
   where
     same : (a : ℕ) → a ≡ a - 0
@@ -78,8 +78,8 @@ less_twice a b c d sum = omega (arith, sum)
 pub back_then : (t u v : Table) (first last : List WireRep) → GivesBack t u first → GivesBack u v last → GivesBack t v (first ++ last)
 back_then t u v first last one two = record {
   counts = λ rep. two.counts rep ∙ ap (λ k. k - times rep last) (one.counts rep) ∙ less_twice (standing t rep).counts.lent (times rep first) (times rep last) (times rep (first ++ last)) (times_both rep first last);
-  shows = λ s n h in_hand on_loan shows. subst (λ (loans : WireRep → ℕ). TableShows s n v h in_hand loans) (λ i other. less_twice (on_loan other) (times other first) (times other last) (times other (first ++ last)) (times_both other first last) i)
-      (two.shows s n h in_hand (λ other. on_loan other - times other first) (one.shows s n h in_hand on_loan shows));
+  shows = λ s n h hand_of on_loan shows. subst (λ (loans : WireRep → ℕ). TableShows s n v h hand_of loans) (λ i other. less_twice (on_loan other) (times other first) (times other last) (times other (first ++ last)) (times_both other first last) i)
+      (two.shows s n h hand_of (λ other. on_loan other - times other first) (one.shows s n h hand_of on_loan shows));
 }
 
 -- what is lent besides those that were given back

@@ -124,7 +124,7 @@ known_held true limit e = refl
 known_held false limit e = absurd (none-some _ (sym e))
 
 module _ (s n : ℕ) (h : History) (H L : WireRep → ℕ) (t u : Table) (rep : WireRep) (shows : TableShows s n t h H L) (leaves : ChangeLeaves t u) where
-  -- one more in hand
+  -- one more in the hand
   pub shows_hand_more : hold_fault t rep Hand ≡ None → Becomes t u rep (after_hold Hand (standing t rep)) → TableShows s n u h (one_more rep H) L
   shows_hand_more free becomes =
       let known : is_known (standing t rep).state ≡ true = known_held _ _ free in
@@ -142,7 +142,7 @@ module _ (s n : ℕ) (h : History) (H L : WireRep → ℕ) (t u : Table) (rep : 
       (λ counted. shows.hands rep counted) (λ counted. rw same_refl (ap (λ k. k + 1) (shows.loans rep counted)))
       (λ other differs. refl) (λ other differs. rw differs refl)
 
-  -- one fewer in hand
+  -- one fewer in the hand
   pub shows_hand_fewer : release_fault t rep Hand ≡ None → Becomes t u rep (after_release Hand (standing t rep)) → TableShows s n u h (one_fewer rep H) L
   shows_hand_fewer there becomes =
       let known : is_known (standing t rep).state ≡ true = known_held _ _ there in

@@ -15,7 +15,7 @@ use Rattle.nob_model_types.specs.declared.message.RefCopy.{RefCopy}
 use Rattle.nob_model_types.proofs.Lists.{rest_is, first_and_rest}
 use Rattle.nob_model_history.specs.declared.history.History.{History}
 use Rattle.nob_model_history.specs.Holds.{times}
-use Rattle.nob_model.specs.Right.{most_in_hand}
+use Rattle.nob_model.specs.Right.{greatest_hand}
 use Rattle.nob_space_holds.specs.Holds.{one_more, one_fewer}
 use Rattle.nob_space_holds.specs.TakingOver.{reps_of, CanTake, with_more, with_fewer}
 use Rattle.nob_space_holds.specs.Shows.{TableShows}
@@ -41,7 +41,7 @@ module _ (t : Table) (rep : WireRep) (reps : List WireRep) (can : CanTake t (rep
   pub can_hold : hold_fault t rep Hand ≡ None
   can_hold =
       let own : times rep (rep ∷ reps) ≡ times rep reps + 1 = times_own rep reps in
-      let room : (standing t rep).counts.hand + times rep (rep ∷ reps) ≤ most_in_hand = can.room rep (omega (arith, own)) in
+      let room : (standing t rep).counts.hand + times rep (rep ∷ reps) ≤ greatest_hand = can.room rep (omega (arith, own)) in
       let below : (standing t rep).counts.hand == 4294967295 ≡ false = grind (arith, nat_tests, room, own) in
       rw (lent_known t rep some_lent, below) refl
 
@@ -82,18 +82,18 @@ module _ (t : Table) (rep : WireRep) (reps : List WireRep) (can : CanTake t (rep
               let same : times other (rep ∷ reps) ≡ times other reps = times_more rep other reps ∙ rw differs refl in
               omega (arith, now, low, same)
         ] refl;
-        room = λ other some. elim (is_same rep other) as (λ b. is_same rep other ≡ b → (standing v other).counts.hand + times other reps ≤ most_in_hand) [
+        room = λ other some. elim (is_same rep other) as (λ b. is_same rep other ≡ b → (standing v other).counts.hand + times other reps ≤ greatest_hand) [
           | true ↦ λ same.
               let is : rep ≡ other = same_is rep other same in
-              subst (λ w. (standing v w).counts.hand + times w reps ≤ most_in_hand) is
+              subst (λ w. (standing v w).counts.hand + times w reps ≤ greatest_hand) is
               (let now : (standing v rep).counts.hand ≡ (standing t rep).counts.hand + 1 = ap (λ (c : Counts). c.hand) own_counts in
               let own : times rep (rep ∷ reps) ≡ times rep reps + 1 = times_own rep reps in
-              let room : (standing t rep).counts.hand + times rep (rep ∷ reps) ≤ most_in_hand = can.room rep (omega (arith, own)) in
+              let room : (standing t rep).counts.hand + times rep (rep ∷ reps) ≤ greatest_hand = can.room rep (omega (arith, own)) in
               omega (arith, now, room, own))
           | false ↦ λ differs.
               let now : (standing v other).counts.hand ≡ (standing t other).counts.hand = ap (λ (c : Counts). c.hand) (other_counts other differs) in
               let same : times other (rep ∷ reps) ≡ times other reps = times_more rep other reps ∙ rw differs refl in
-              let room : (standing t other).counts.hand + times other (rep ∷ reps) ≤ most_in_hand = can.room other (omega (arith, same, some)) in
+              let room : (standing t other).counts.hand + times other (rep ∷ reps) ≤ greatest_hand = can.room other (omega (arith, same, some)) in
               omega (arith, now, room, same)
         ] refl;
       }

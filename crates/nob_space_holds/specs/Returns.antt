@@ -14,7 +14,7 @@ HasLent t reps = (rep : WireRep) → times rep reps ≤ (standing t rep).counts.
 -- each of these references is lent as much less as often as it stands there, and what old shows new shows but for that
 pub record GivesBack (old new : Table) (reps : List WireRep) : Type 0 where
   pub counts : (rep : WireRep) → (standing new rep).counts.lent ≡ (standing old rep).counts.lent - times rep reps
-  pub shows : (s n : ℕ) (h : History) (in_hand on_loan : WireRep → ℕ) → TableShows s n old h in_hand on_loan → TableShows s n new h in_hand (λ rep. on_loan rep - times rep reps)
+  pub shows : (s n : ℕ) (h : History) (hand_of on_loan : WireRep → ℕ) → TableShows s n old h hand_of on_loan → TableShows s n new h hand_of (λ rep. on_loan rep - times rep reps)
 
 -- whether a message came from p
 abbrev pub is_from : ℕ → Message → Bool

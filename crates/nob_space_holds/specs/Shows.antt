@@ -31,14 +31,14 @@ IsListed s rep D = (rep.owner ≡ s) × (client : ℕ) × (is_listed s rep.index
 abbrev pub AreUsed : (s : ℕ) → Table → History → Type 0
 AreUsed s t h = (rep : WireRep) → is_kept t rep ≡ true → transit.pins rep h ≡ 0 → IsListed s rep h.deeds
 
--- the table has the objects and the surrogates of a history, in the order of their Dirties, and these holds: so many in hand and so many lent
-pub record TableShows (s n : ℕ) (t : Table) (h : History) (in_hand on_loan : WireRep → ℕ) : Type 0 where
+-- the table has the objects and the surrogates of a history, in the order of their Dirties, and these holds: so many in the hand and so many lent
+pub record TableShows (s n : ℕ) (t : Table) (h : History) (hand_of on_loan : WireRep → ℕ) : Type 0 where
   pub me : t.me ≡ s
   -- as many indexes were given as Exports were answered
   pub exported : t.exported ≡ length (objects.exports h.deeds)
   pub live : (index : ℕ) → standings.is_live (standing t (own_ref s index)).state ≡ objects.is_live s index h.deeds
   pub far : (rep : WireRep) → is_counted rep ≡ true → is_own s rep ≡ false → (standing t rep).state ≡ far_state (closed rep.owner h.deeds) (is_held (standing t rep).counts) (turns s n rep h.deeds)
-  pub hands : (rep : WireRep) → is_counted rep ≡ true → (standing t rep).counts.hand ≡ in_hand rep
+  pub hands : (rep : WireRep) → is_counted rep ≡ true → (standing t rep).counts.hand ≡ hand_of rep
   pub loans : (rep : WireRep) → is_counted rep ≡ true → (standing t rep).counts.lent ≡ on_loan rep
   pub dirties : t.dirties ≡ length (transit.dirties h)
   pub places : (rep : WireRep) → place_of t rep ≡ (if standings.is_surrogate (standing t rep).state then transit.place rep h else None)

@@ -9,4 +9,4 @@ mod sending;
 
 pub use hands::{take_over, times};
 pub use returns::{end_job, give_back, give_back_message, throw_ready_away, throw_waiting_away};
-pub use sending::{encode_note, hand, send_reserved};
+pub use sending::{encode_note, send_pinned, send_reserved};

@@ -1,4 +1,4 @@
-//! The one way in which an item is handed to a peer: with the pins of its references.
+//! The one way in which an item is sent to a peer: with the pins of its references.
 
 ghost use Rattle.std.specs.Prelude.{◌≡◌, ◌+◌, ◌<◌, ◌≤◌, ℕ, List, [], ◌∷◌, Ok, false, length, vec_len, IsOk, IfOk, OnOk, OnErr};
 ghost use Rattle.nob_ids.specs.declared.limits.Limits.{Limits as LimitsOf};
@@ -35,7 +35,7 @@ pub fn encode_note(alloc: Global, note: &Item) -> Result<Vec<u8>, AllocError>
     }
 }
 
-/// Hands an item to the peer of a session that has room for it: the number that it gets. The caller
+/// Sends an item to the peer of a session that has room for it: the number that it gets. The caller
 /// has seen by `next` that it gets one. Constant time.
 pub fn send_reserved(session: &mut Session, payload: Vec<u8>, kind: Kind) -> ItemNo
     requires payload { (0 < vec_len payload) × (vec_len payload ≤ 16384) }
@@ -76,10 +76,10 @@ fn pins_on(
     pins
 }
 
-/// Hands an item with references to a peer, and pins them: the number that the item gets. The
+/// Sends an item with references to a peer, and pins them: the number that the item gets. The
 /// caller has seen by `next` that it gets one. Only memory fails it; without references none is
 /// wanted where the session has room. Linear in the references.
-pub fn hand(
+pub fn send_pinned(
     alloc: Global,
     session: &mut Session,
     pins: &mut PinTable,

@@ -16,7 +16,7 @@ use Rattle.nob_model_types.specs.declared.message.Message.{Message}
 use Rattle.nob_model_types.specs.declared.message.RefCopy.{RefCopy}
 use Rattle.nob_model_types.specs.Messages.{new_copy, message_after, copy_after}
 use Rattle.nob_model_types.specs.Sessions.{item_spelt, payload_at}
-use Rattle.nob_model_work.specs.declared.work.InHand.{InHand}
+use Rattle.nob_model_work.specs.declared.work.Outstanding.{Outstanding}
 use Rattle.nob_model_work.specs.declared.work.Run.{Run}
 use Rattle.nob_model_work.specs.Work.{work}
 use Rattle.nob_model_history.specs.declared.transit.SentItem.{SentItem}
@@ -28,7 +28,7 @@ use Rattle.nob_model_history.proofs.Numbered.{count_handed}
 use Rattle.nob_model_acting.specs.Acting.{messages}
 use Rattle.nob_model.specs.Right.{own_ref}
 use Rattle.nob_model.proofs.Calling.{calls_law}
-use Rattle.nob_model.proofs.Carrying.{AllInHand, all_in_hand}
+use Rattle.nob_model.proofs.Carrying.{AllOutstanding, all_outstanding}
 use Rattle.nob_space_state.specs.Parts.{State}
 use Rattle.nob_space_state.specs.Stands.{Stands}
 use Rattle.nob_space_holds.proofs.Counted.{times_both}
@@ -113,9 +113,9 @@ spelt_there : (payload : Option (List ℕ)) (item : Item) → option_and_then it
 spelt_there (Some bytes) item e = (bytes, e)
 spelt_there None item e = absurd (cc)
 
-all_few : (s n : ℕ) (D : List Deed) → AllInHand HasFew (work s n D)
+all_few : (s n : ℕ) (D : List Deed) → AllOutstanding HasFew (work s n D)
 unfolding message_after
-all_few s n D = all_in_hand s n HasFew
+all_few s n D = all_outstanding s n HasFew
     (λ E m few. (let same = length-map m.copies (λ (copy : RefCopy). copy_after s n E copy) in omega (arith, same, few)))
     (λ p k item E is. (let bytes = spelt_there (payload_at p k E) item is in let few = item_few bytes.0 item bytes.1 in let same = length-map (counted_in item) (λ (rep : WireRep). new_copy s n (Act p k ∷ E) rep) in omega (arith, same, few)))
     (λ m call. (let low : 0 ≤ 32 = omega arith in low)) D
@@ -142,10 +142,10 @@ lends_few s rep message (x ∷ xs) all =
     let both = times_both rep (loans_of s (message x)) (flat_map (λ y. loans_of s (message y)) xs) in
     omega (arith, here, rest, both)
 
--- what is in hand lends a reference so often and no more
+-- what is outstanding lends a reference so often and no more
 pub lent_low : (s n : ℕ) (rep : WireRep) (D : List Deed) → times rep (lent_in s (work s n D)) ≤ 33 * messages (work s n D)
 lent_low s n rep D =
-    let W : InHand = work s n D in
+    let W : Outstanding = work s n D in
     let all = all_few s n D in
     let sum = times_lent s rep W in
     let waiting : times rep (flat_map (loans_of s) W.waiting) ≤ 33 * length W.waiting = lends_few s rep (λ (m : Message). m) W.waiting all.waiting in

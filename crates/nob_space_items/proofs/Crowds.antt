@@ -14,7 +14,7 @@ use Rattle.nob_model_types.specs.declared.deed.Deed.TheVariants.{TakeReply, Clai
 use Rattle.nob_model_types.specs.declared.message.Message.{Message}
 use Rattle.nob_model_types.specs.Sessions.{item_at}
 use Rattle.nob_model_types.specs.Messages.{new_message, message_after, is_of, is_not_from, is_job, is_lost_message}
-use Rattle.nob_model_work.specs.declared.work.InHand.{InHand}
+use Rattle.nob_model_work.specs.declared.work.Outstanding.{Outstanding}
 use Rattle.nob_model_work.specs.declared.work.Run.{Run}
 use Rattle.nob_model_work.specs.Work.{work, work_after, with_loans, run_after, wait, make_ready, make_reply, with_calls, call_after_reply, is_none_of, lost_reply, is_run, is_not_reply, without_first, without_waiting, after_message, after_act, after_settlement, after_settle, after_claim, after_finish, after_take, after_end, after_call, after_close}
 use Rattle.nob_model_history.specs.Histories.{history_of}
@@ -35,19 +35,19 @@ one_fewer test (x ∷ xs) m found = elim (test x) as (λ b. cond b (Some x) (fin
   | false ↦ λ there. let rest = one_fewer test xs m there in omega (arith, rest)
 ] found
 
--- ---- what is in hand
+-- ---- what is outstanding
 
-ready_one : (m : Message) (W : InHand) → messages (make_ready m W) ≡ messages W + 1
+ready_one : (m : Message) (W : Outstanding) → messages (make_ready m W) ≡ messages W + 1
 ready_one m W = let more = length-append W.ready (m ∷ []) in omega (arith, more)
 
-wait_one : (m : Message) (W : InHand) → messages (wait m W) ≡ messages W + 1
+wait_one : (m : Message) (W : Outstanding) → messages (wait m W) ≡ messages W + 1
 wait_one m W = let more = length-append W.waiting (m ∷ []) in omega (arith, more)
 
-reply_one : (m : Message) (W : InHand) → messages (make_reply m W) ≡ messages W + 1
+reply_one : (m : Message) (W : Outstanding) → messages (make_reply m W) ≡ messages W + 1
 reply_one m W = let more = length-append W.replies (m ∷ []) in omega (arith, more)
 
 -- loans change no number
-loans_as_many : (s n : ℕ) (D : List Deed) (W : InHand) → messages (with_loans s n D W) ≡ messages W
+loans_as_many : (s n : ℕ) (D : List Deed) (W : Outstanding) → messages (with_loans s n D W) ≡ messages W
 unfolding with_loans
 loans_as_many s n D W = λ i. length-map W.waiting (λ message. message_after s n D message) i + length-map W.ready (λ message. message_after s n D message) i + length-map W.running (λ run. run_after s n D run) i + length-map W.replies (λ message. message_after s n D message) i
 
@@ -93,7 +93,7 @@ acted_free s n limits p k D right =
     let told = (act_tells s n p k (history_of s n D) (was_answered s n limits (Act p k) D right.0)).2 in
     (told.1, front_item s n p D (in_turn s n limits D right.1) k told.0 told.1 told.2 told.3, told.5)
 
-settled_few : (m : Message) (item : Item) (lost : Bool) (W : InHand) → messages W + 1 ≤ 65536 → messages (after_settlement m item lost W) ≤ 65536
+settled_few : (m : Message) (item : Item) (lost : Bool) (W : Outstanding) → messages W + 1 ≤ 65536 → messages (after_settlement m item lost W) ≤ 65536
 unfolding after_settlement
 settled_few m (items.Call call target method value) true W few = omega (arith, few)
 settled_few m (items.Call call target method value) false W few = let more = ready_one m W in omega (arith, few, more)
@@ -105,12 +105,12 @@ settled_few m (items.DirtyOk index) lost W few = omega (arith, few)
 settled_few m (items.DirtyNo index) lost W few = omega (arith, few)
 settled_few m (items.Clean index) lost W few = omega (arith, few)
 
-settle_few : (s n p k : ℕ) (D : List Deed) (found : Option Message) (W : InHand) → find (is_of p k) W.waiting ≡ found → messages W ≤ 65536 → messages (after_settle s n p k D found W) ≤ 65536
+settle_few : (s n p k : ℕ) (D : List Deed) (found : Option Message) (W : Outstanding) → find (is_of p k) W.waiting ≡ found → messages W ≤ 65536 → messages (after_settle s n p k D found W) ≤ 65536
 unfolding after_settle
 settle_few s n p k D None W is few = few
 settle_few s n p k D (Some m) W is few = settled_few m m.item (is_lost_message s n D m) (without_waiting p k W) (let less = one_fewer (is_of p k) W.waiting m is in omega (arith, less, few))
 
-claim_few : (job : Job) (found : Option Message) (W : InHand) → find (is_job job) W.ready ≡ found → messages W ≤ 65536 → messages (after_claim job found W) ≤ 65536
+claim_few : (job : Job) (found : Option Message) (W : Outstanding) → find (is_job job) W.ready ≡ found → messages W ≤ 65536 → messages (after_claim job found W) ≤ 65536
 unfolding after_claim
 claim_few job None W is few = few
 claim_few job (Some m) W is few = let less = one_fewer (is_job job) W.ready m is in omega (arith, less, few)

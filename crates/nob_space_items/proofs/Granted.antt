@@ -1,4 +1,4 @@
--- What granting a reference makes of the work in hand, and of what is lent.
+-- What granting a reference makes of the outstanding work, and of what is lent.
 use Rattle.std.proofs.Common.{◌≡◌, ℕ, ◌+◌, Bool, true, false, cond, not, ◌&&◌, ◌||◌, List, [], ◌∷◌, ◌++◌, length, map, filter, flat_map, Some, if◌then◌else◌, refl, sym, ap, subst, ◌∙◌, arith}
 use Prim.Native.Nat.{zero, suc}
 use lib.ListN.{replicate}
@@ -18,7 +18,7 @@ use Rattle.nob_model_types.specs.declared.turns.OwnerAnswer.TheVariants as said
 use Rattle.nob_model_types.specs.Sessions.{closed, item_at}
 use Rattle.nob_model_types.specs.Turns.{turns, is_own, is_usable, is_granted, is_pending, with_answer}
 use Rattle.nob_model_types.specs.Messages.{loan_after, copy_after, message_after}
-use Rattle.nob_model_work.specs.declared.work.InHand.{InHand}
+use Rattle.nob_model_work.specs.declared.work.Outstanding.{Outstanding}
 use Rattle.nob_model_work.specs.declared.work.Run.{Run}
 use Rattle.nob_model_work.specs.Work.{work, with_loans, run_after}
 use Rattle.nob_model_history.specs.Holds.{times, lent_in, loans_of, copies_lent, target_lent, is_lent}
@@ -101,7 +101,7 @@ module _ {s n p k : ℕ} {D : List Deed} (index : ℕ) (front : IsFront s n p k 
       → with_loans s n (Act p k ∷ D) (work s n D) ≡ record { waiting = map (granted_message (own_ref p index)) (work s n D).waiting; ready = (work s n D).ready; running = (work s n D).running; replies = (work s n D).replies; calls = (work s n D).calls }
   unfolding with_loans run_after
   granted_loans limits right =
-      let W : InHand = work s n D in
+      let W : Outstanding = work s n D in
       let lent : AreLent s n D W = all_lent s n limits D right in
       let waiting : map (λ message. message_after s n (Act p k ∷ D) message) W.waiting ≡ map (granted_message (own_ref p index)) W.waiting =
       maps_agree (λ message. message_after s n D message) (λ message. message_after s n (Act p k ∷ D) message) (granted_message (own_ref p index)) message_granted W.waiting (work_fixed s n D).waiting in
@@ -165,12 +165,12 @@ messages_lend s rep other (m ∷ ms) =
     let both = of_more rep other (due_to rep m) (due_to_all rep ms) in
     omega (arith, after, before, here, rest, both)
 
--- the work in hand with the loans to messages that wait made
-abbrev pub with_granted : WireRep → InHand → InHand
+-- the outstanding work with the loans to messages that wait made
+abbrev pub with_granted : WireRep → Outstanding → Outstanding
 with_granted rep W = record { waiting = map (granted_message rep) W.waiting; ready = W.ready; running = W.running; replies = W.replies; calls = W.calls }
 
 -- all that is lent
-pub granted_lends : (s : ℕ) (rep other : WireRep) (W : InHand) → times other (lent_in s (with_granted rep W)) ≡ times other (lent_in s W) + of_times rep other (due_to_all rep W.waiting)
+pub granted_lends : (s : ℕ) (rep other : WireRep) (W : Outstanding) → times other (lent_in s (with_granted rep W)) ≡ times other (lent_in s W) + of_times rep other (due_to_all rep W.waiting)
 granted_lends s rep other W =
     let after = times_lent s other (with_granted rep W) in
     let before = times_lent s other W in

@@ -31,7 +31,7 @@ use Rattle.nob_model_types.specs.declared.turns.Turns.{Turns}
 use Rattle.nob_model_types.specs.Objects as objects
 use Rattle.nob_model_types.specs.Sessions.{is_peer, closed, item_at}
 use Rattle.nob_model_types.specs.Turns.{turns, turns_after, is_own, is_pending, is_granted, is_refused, wants_dirty, with_dirty, with_answer, with_clean, carries, names}
-use Rattle.nob_model_work.specs.declared.work.InHand.{InHand}
+use Rattle.nob_model_work.specs.declared.work.Outstanding.{Outstanding}
 use Rattle.nob_model_history.specs.declared.transit.SentItem.{SentItem}
 use Rattle.nob_model_history.specs.Histories.{history_of}
 use Rattle.nob_model_history.specs.Transit as transit
@@ -39,8 +39,8 @@ use Rattle.nob_model_history.specs.Transit.{is_some_of}
 use Rattle.nob_model_acting.specs.Acting.{fault_of, fault_if, first_fault, is_unknown, awaits_reply}
 use Rattle.nob_model_acting.specs.Acting as model
 use Rattle.nob_model.specs.Right.{own_ref}
-use Rattle.nob_model_acting.specs.Sending.{is_own_and_not_live}
-use Rattle.nob_space_state.specs.Looks.{is_gone}
+use Rattle.nob_model_acting.specs.Sending.{is_gone}
+use Rattle.nob_space_state.specs.Looks as looks
 use Rattle.nob_space_state.specs.Parts.{State}
 use Rattle.nob_space_holds.specs.Shows.{far_state}
 use Rattle.nob_space_state.specs.Stands.{Stands, bundle}
@@ -158,16 +158,16 @@ pending_there held t = elim (is_pending t) as (λ b. standings.is_pending (if b 
 
 module _ {s n : ℕ} {limits : Limits} {st : State} {D : List Deed} (stands : Stands s n limits st D) where
   -- an own index is live where the table has it so
-  gone_index : (index : ℕ) → is_gone s st.table (own_ref s index) ≡ (not (index == 0) && not (objects.is_live s index D))
+  gone_index : (index : ℕ) → looks.is_gone s st.table (own_ref s index) ≡ (not (index == 0) && not (objects.is_live s index D))
   gone_index index =
       ap (λ b. not (index == 0) && (b && not (standings.is_live (standing st.table (own_ref s index)).state))) (nat_eq_equiv.refl s)
       ∙ ap (λ b. not (index == 0) && not b) (stands.table.live index)
 
-  carried_there : (reps : List WireRep) → list_any (is_gone s st.table) (filter is_counted reps) ≡ list_any (λ rep. is_own_and_not_live s rep (history_of s n D)) (filter is_counted reps)
+  carried_there : (reps : List WireRep) → list_any (looks.is_gone s st.table) (filter is_counted reps) ≡ list_any (λ rep. is_gone s rep (history_of s n D)) (filter is_counted reps)
   carried_there [] = refl
-  carried_there (rep ∷ reps) = elim (is_counted rep) as (λ b. is_counted rep ≡ b → list_any (is_gone s st.table) (cond b (rep ∷ filter is_counted reps) (filter is_counted reps)) ≡ list_any (λ w. is_own_and_not_live s w (history_of s n D)) (cond b (rep ∷ filter is_counted reps) (filter is_counted reps))) [
+  carried_there (rep ∷ reps) = elim (is_counted rep) as (λ b. is_counted rep ≡ b → list_any (looks.is_gone s st.table) (cond b (rep ∷ filter is_counted reps) (filter is_counted reps)) ≡ list_any (λ w. is_gone s w (history_of s n D)) (cond b (rep ∷ filter is_counted reps) (filter is_counted reps))) [
     | true ↦ λ counted.
-        let here : is_gone s st.table rep ≡ is_own_and_not_live s rep (history_of s n D) = gone_there stands rep ∙ ap (λ b. b && is_own_and_not_live s rep (history_of s n D)) counted in
+        let here : looks.is_gone s st.table rep ≡ is_gone s rep (history_of s n D) = gone_there stands rep ∙ ap (λ b. b && is_gone s rep (history_of s n D)) counted in
         λ i. here i || carried_there reps i
     | false ↦ λ _. carried_there reps
   ] refl
@@ -200,7 +200,7 @@ module _ {s n : ℕ} {limits : Limits} {st : State} {D : List Deed} (stands : St
   ] refl
 
   awaited_there : (p call : ℕ) → list_any (awaits_reply p call) st.work.calls ≡ list_any (awaits_reply p call) (history_of s n D).work.calls
-  awaited_there p call = ap (λ (W : InHand). list_any (awaits_reply p call) W.calls) stands.work
+  awaited_there p call = ap (λ (W : Outstanding). list_any (awaits_reply p call) W.calls) stands.work
 
   -- the first fault of an item
   pub fault_there : (p : ℕ) (item : Item) → is_peer s n p ≡ true → closed p D ≡ false → item_fault s p item st ≡ fault_of s n p item (history_of s n D)

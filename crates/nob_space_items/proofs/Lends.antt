@@ -38,8 +38,8 @@ lends_one t u rep free becomes leaves =
       counts = λ other. one_row (λ w after. after.counts.lent ≡ one_more rep (λ x. (standing t x).counts.lent) w) rep (standing t) (standing u) (after_hold Lent it) becomes
           (rw (same_laws.refl rep) refl) (λ w differs. rw differs refl) other
           ∙ more_by_one rep (λ x. (standing t x).counts.lent) other;
-      shows = λ s n h in_hand on_loan shows. subst (λ (loans : WireRep → ℕ). TableShows s n u h in_hand loans) (λ i other. more_by_one rep on_loan other i)
-          (shows_lent_more s n h in_hand on_loan t u rep shows leaves free becomes);
+      shows = λ s n h hand_of on_loan shows. subst (λ (loans : WireRep → ℕ). TableShows s n u h hand_of loans) (λ i other. more_by_one rep on_loan other i)
+          (shows_lent_more s n h hand_of on_loan t u rep shows leaves free becomes);
     }
 
 -- nothing that is lent
@@ -47,7 +47,7 @@ pub lends_none : (t : Table) → Lends t t []
 lends_none t = record {
   known = λ rep. refl;
   counts = λ rep. omega arith;
-  shows = λ s n h in_hand on_loan shows. subst (λ (loans : WireRep → ℕ). TableShows s n t h in_hand loans) (λ i other. same (on_loan other) i) shows;
+  shows = λ s n h hand_of on_loan shows. subst (λ (loans : WireRep → ℕ). TableShows s n t h hand_of loans) (λ i other. same (on_loan other) i) shows;
 }
   where
     same : (a : ℕ) → a ≡ a + 0
@@ -61,8 +61,8 @@ pub lends_then : (t u v : Table) (first last : List WireRep) → Lends t u first
 lends_then t u v first last one two = record {
   known = λ rep. two.known rep ∙ one.known rep;
   counts = λ rep. two.counts rep ∙ ap (λ k. k + times rep last) (one.counts rep) ∙ more_twice (standing t rep).counts.lent (times rep first) (times rep last) (times rep (first ++ last)) (times_both rep first last);
-  shows = λ s n h in_hand on_loan shows. subst (λ (loans : WireRep → ℕ). TableShows s n v h in_hand loans) (λ i other. more_twice (on_loan other) (times other first) (times other last) (times other (first ++ last)) (times_both other first last) i)
-      (two.shows s n h in_hand (λ other. on_loan other + times other first) (one.shows s n h in_hand on_loan shows));
+  shows = λ s n h hand_of on_loan shows. subst (λ (loans : WireRep → ℕ). TableShows s n v h hand_of loans) (λ i other. more_twice (on_loan other) (times other first) (times other last) (times other (first ++ last)) (times_both other first last) i)
+      (two.shows s n h hand_of (λ other. on_loan other + times other first) (one.shows s n h hand_of on_loan shows));
 }
 
 all_first : (P : WireRep → Type 0) (first last : List WireRep) → AllByRecursion P (first ++ last) → AllByRecursion P first × AllByRecursion P last

@@ -14,7 +14,7 @@ use Rattle.nob_model_types.specs.declared.message.RefCopy.{RefCopy}
 use Rattle.nob_model_types.specs.Messages.{new_message, new_copy, loan_after, copy_after, message_after}
 use Rattle.nob_model_types.specs.Sessions.{is_peer, closed}
 use Rattle.nob_model_types.specs.Turns.{turns, is_own, is_usable, is_lost, is_pending, is_refused}
-use Rattle.nob_model_work.specs.declared.work.InHand.{InHand}
+use Rattle.nob_model_work.specs.declared.work.Outstanding.{Outstanding}
 use Rattle.nob_model_work.specs.Work.{after_message, call_after_reply, is_none_of, make_ready, make_reply, wait, with_calls}
 use Rattle.nob_model_history.proofs.Turning.{pending_waits, same_ref, waiting_stands}
 use Rattle.nob_space_waiting.specs.Waiting.{WaitingList, due_to, due_to_all, granted_message, is_awaited, is_due, is_due_in, waits_for, IsNew}
@@ -53,7 +53,7 @@ bare_due rep m none = by_copies m.copies none
     by_copies (copy ∷ copies) none = absurd (let bad : false ≡ true = none in cc)
 
 -- what is due once a message was put where it goes
-put_due : (rep : WireRep) (m : Message) (item : Item) (W : InHand) → IsMessage item → is_due_in (after_message m item W).waiting rep ≡ (is_due_in W.waiting rep || is_due_in (m ∷ []) rep)
+put_due : (rep : WireRep) (m : Message) (item : Item) (W : Outstanding) → IsMessage item → is_due_in (after_message m item W).waiting rep ≡ (is_due_in W.waiting rep || is_due_in (m ∷ []) rep)
 unfolding after_message
 put_due rep m (items.Call call target method value) W message = placed (is_none_of m.copies) refl
   where
@@ -107,7 +107,7 @@ due_open s n p k item E rep due = elim (is_lost s n rep E) as (λ b. is_lost s n
 
 module _ (s n : ℕ) (D E : List Deed) (m : Message) (same : (rep : WireRep) → is_lost s n rep E ≡ is_lost s n rep D) (is_open : (rep : WireRep) → is_due_in (m ∷ []) rep ≡ true → is_lost s n rep E ≡ false) where
   -- what is awaited once the message was put where it goes
-  pub message_awaited : (old new : List WireRep) (item : Item) (W : InHand) → IsMessage item → AreAwaited s n old W.waiting D → ((rep : WireRep) → is_awaited new rep ≡ (is_awaited old rep || is_due_in (m ∷ []) rep)) → AreAwaited s n new (after_message m item W).waiting E
+  pub message_awaited : (old new : List WireRep) (item : Item) (W : Outstanding) → IsMessage item → AreAwaited s n old W.waiting D → ((rep : WireRep) → is_awaited new rep ≡ (is_awaited old rep || is_due_in (m ∷ []) rep)) → AreAwaited s n new (after_message m item W).waiting E
   message_awaited old new item W message before more = λ rep due.
       more rep
       ∙ elim (is_due_in (m ∷ []) rep) as (λ b. is_due_in (m ∷ []) rep ≡ b → (is_awaited old rep || b) ≡ not (is_lost s n rep E)) [

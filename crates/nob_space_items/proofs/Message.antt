@@ -29,7 +29,7 @@ use Rattle.nob_model_types.specs.Messages.{new_message, new_copy, loan_after, co
 use Rattle.nob_model_types.specs.Sessions.{is_peer, closed, item_at}
 use Rattle.nob_model_types.specs.Turns.{turns, turns_after, with_dirty, is_own, is_granted, is_lost, is_refused, is_standing, is_usable, wants_dirty, carries}
 use Rattle.nob_model_work.specs.declared.gifts.Gift.{Gift}
-use Rattle.nob_model_work.specs.declared.work.InHand.{InHand}
+use Rattle.nob_model_work.specs.declared.work.Outstanding.{Outstanding}
 use Rattle.nob_model_work.specs.declared.work.Run.{Run}
 use Rattle.nob_model_work.specs.Gifts.{once, dirty_for, dirties_for, gifts, gifts_of, gifts_of_act}
 use Rattle.nob_model_work.specs.Work.{work, work_after, after_act, after_message, with_loans, run_after, is_none_of, make_ready, make_reply, wait, with_calls, call_after_reply}
@@ -150,7 +150,7 @@ none_mapped f [] = refl
 none_mapped f (x ∷ xs) = refl
 
 -- the loans of a message that is put where it goes are made with those of all others
-loans_put : (s n : ℕ) (E : List Deed) (m : Message) (it : Item) (W : InHand) → with_loans s n E (after_message m it W) ≡ after_message (message_after s n E m) it (with_loans s n E W)
+loans_put : (s n : ℕ) (E : List Deed) (m : Message) (it : Item) (W : Outstanding) → with_loans s n E (after_message m it W) ≡ after_message (message_after s n E m) it (with_loans s n E W)
 unfolding with_loans after_message message_after
 loans_put s n E m (items.Call call target method value) W =
     ap (λ b. with_loans s n E (if b then make_ready m W else wait m W)) (sym (none_mapped (λ copy. copy_after s n E copy) m.copies))
@@ -294,11 +294,11 @@ module _ {s n : ℕ} {limits : Limits} {st : State} {D : List Deed} (stands : St
   unfolding run_after
   same_run run = λ i. record { job = run.job; message = same_message run.message i }
 
-  -- all that was in hand stays as it was
+  -- all that was outstanding stays as it was
   same_loans : with_loans s n (Act p k ∷ D) (work s n D) ≡ work s n D
   unfolding with_loans
   same_loans =
-      let W : InHand = work s n D in
+      let W : Outstanding = work s n D in
       (λ i. record { waiting = map (λ m. same_message m i) W.waiting; ready = map (λ m. same_message m i) W.ready; running = map (λ run. same_run run i) W.running; replies = map (λ m. same_message m i) W.replies; calls = W.calls })
       ∙ loans_made s n D
 
@@ -337,7 +337,7 @@ module _ {s n : ℕ} {limits : Limits} {st : State} {D : List Deed} (stands : St
       all_copies [] all = refl
       all_copies (rep ∷ rest) all = λ i. new_copy_at rep all.0 i ∷ all_copies rest all.1 i
 
-  -- the work in hand: the message is put where it goes
+  -- the outstanding work: the message is put where it goes
   pub act_work : work s n (Act p k ∷ D) ≡ after_message (record { from = p; number = k; item = item; copies = new_copies s n st (counted_in item) }) item (work s n D)
   unfolding work_after after_act
   act_work =

@@ -20,7 +20,7 @@ use Rattle.nob_model_types.specs.declared.deed.Deed.{Deed}
 use Rattle.nob_model_types.specs.declared.deed.Deed.TheVariants.{Act}
 use Rattle.nob_model_types.specs.declared.message.Message.{Message}
 use Rattle.nob_model_types.specs.Sessions.{item_at}
-use Rattle.nob_model_work.specs.declared.work.InHand.{InHand}
+use Rattle.nob_model_work.specs.declared.work.Outstanding.{Outstanding}
 use Rattle.nob_model_work.specs.Work.{work, with_loans}
 use Rattle.nob_model_history.specs.Histories.{history_of}
 use Rattle.nob_model_history.specs.Holds.{hand, times, lent_in}
@@ -54,7 +54,7 @@ module _ {s n p k : ℕ} {limits : Limits} {st : State} {D : List Deed} (stands 
   unfolding act_refusal
   its_right = act_is front limits refl
 
-  -- the work in hand, as the state has it, with the loans made
+  -- the outstanding work, as the state has it, with the loans made
   pub loans_there : with_granted (own_ref p index) st.work ≡ with_loans s n (Act p k ∷ D) (work s n D)
   loans_there =
       let there : item_at p k D ≡ Some (items.DirtyOk index) = front_is front limits stands.right in
@@ -122,7 +122,7 @@ module _ {s n p k : ℕ} {limits : Limits} {st : State} {D : List Deed} (stands 
       → Stands s n limits (record { sessions = set st.sessions place new; table = v; dirty = st.dirty; pins = st.pins; work = record { waiting = waiting; ready = st.work.ready; running = st.work.running; replies = st.work.replies; calls = st.work.calls }; awaited = awaits; calls = st.calls; jobs = st.jobs }) (Act p k ∷ D)
   granted_stands index front u v leaves becomes count due lends waiting made awaits ends =
       let there : item_at p k D ≡ Some (items.DirtyOk index) = front_is front limits stands.right in
-      let W : InHand = record { waiting = waiting; ready = st.work.ready; running = st.work.running; replies = st.work.replies; calls = st.work.calls } in
+      let W : Outstanding = record { waiting = waiting; ready = st.work.ready; running = st.work.running; replies = st.work.replies; calls = st.work.calls } in
       let made_work : W ≡ with_granted (own_ref p index) st.work = λ i. record { waiting = made i; ready = st.work.ready; running = st.work.running; replies = st.work.replies; calls = st.work.calls } in
       answer_stands stands place at old new is take true index front v W awaits
       (subst (λ ms. AreAwaited s n awaits ms (Act p k ∷ D)) (sym made) (granted_awaited s n D (Act p k ∷ D) (own_ref p index) (others_lost true index front there) st.awaited awaits st.work.waiting stands.awaited ends))

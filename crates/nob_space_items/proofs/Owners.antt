@@ -29,7 +29,7 @@ use Rattle.nob_model_types.specs.declared.turns.Turns.{Turns}
 use Rattle.nob_model_types.specs.Sessions.{closed, item_at}
 use Rattle.nob_model_types.specs.Turns.{turns, turns_after, is_own, is_lost, is_pending, is_granted, is_refused, names, with_answer}
 use Rattle.nob_model_types.specs.Messages.{loan_after, copy_after, message_after}
-use Rattle.nob_model_work.specs.declared.work.InHand.{InHand}
+use Rattle.nob_model_work.specs.declared.work.Outstanding.{Outstanding}
 use Rattle.nob_model_work.specs.Work.{work, with_loans, run_after}
 use Rattle.nob_model_work.specs.Gifts.{gifts_of_act}
 use Rattle.nob_model_history.specs.Histories.{history_of}
@@ -184,7 +184,7 @@ module _ {s n p k : ℕ} {limits : Limits} {st : State} {D : List Deed} (stands 
 module _ {s n p k : ℕ} {limits : Limits} {st : State} {D : List Deed} (stands : Stands s n limits st D) (place : ℕ) (at : place ≡ p - 1) (old new : Roomy) (is : old ≡ get_or st.sessions place old)
     (take : (me peer : ℕ) (limits : Limits) (L : List EndEntry) → session.Stands me peer limits old.end L → session.Stands me peer limits new.end (ends.Take ∷ L)) where
   -- the state with the answer, once its loans are made
-  pub answer_stands : (granted : Bool) (index : ℕ) → IsFront s n p k (answer_note granted index) D → (t : Table) (W : InHand) (awaits : List WireRep)
+  pub answer_stands : (granted : Bool) (index : ℕ) → IsFront s n p k (answer_note granted index) D → (t : Table) (W : Outstanding) (awaits : List WireRep)
       → AreAwaited s n awaits W.waiting (Act p k ∷ D) → TableShows s n t (history_of s n (Act p k ∷ D)) (λ rep. hand rep D) (λ rep. times rep (lent_in s W)) → W ≡ with_loans s n (Act p k ∷ D) (work s n D)
       → Stands s n limits (record { sessions = set st.sessions place new; table = t; dirty = st.dirty; pins = st.pins; work = W; awaited = awaits; calls = st.calls; jobs = st.jobs }) (Act p k ∷ D)
   unfolding gifts_of_act act_refusal
@@ -194,14 +194,14 @@ module _ {s n p k : ℕ} {limits : Limits} {st : State} {D : List Deed} (stands 
       let none = gives_none s n p k (answer_note granted index) D there gives in
       let settles : (j : ℕ) → transit.is_settle_of j (Some (answer_note granted index)) ≡ false = λ j. elim granted as (λ b. transit.is_settle_of j (Some (answer_note b index)) ≡ false) [ true ↦ refl | false ↦ refl ] in
       let free : act_refusal s n p (answer_note granted index) (history_of s n D) ≡ None = elim granted as (λ b. act_refusal s n p (answer_note b index) (history_of s n D) ≡ None) [ true ↦ refl | false ↦ refl ] in
-      let in_hand : W ≡ work s n (Act p k ∷ D) = loans ∙ sym (note_loans s n p k (answer_note granted index) D there (note_is granted index)) in
+      let outstanding : W ≡ work s n (Act p k ∷ D) = loans ∙ sym (note_loans s n p k (answer_note granted index) D there (note_is granted index)) in
       subst (λ q. Stands s n limits (record { sessions = set st.sessions q new; table = t; dirty = st.dirty; pins = st.pins; work = W; awaited = awaits; calls = st.calls; jobs = st.jobs }) (Act p k ∷ D)) (sym at)
       record {
         ends = ends_taken s n p k D limits st.sessions old new none stands.ends front.peer (subst (λ q. old ≡ get_or st.sessions q old) at is) (λ before. take s p limits (calls_at p (history_of s n D)) before);
-        table = subst (λ V. TableShows s n t (history_of s n (Act p k ∷ D)) (λ rep. hand rep D) (λ rep. times rep (lent_in s V))) in_hand shows;
+        table = subst (λ V. TableShows s n t (history_of s n (Act p k ∷ D)) (λ rep. hand rep D) (λ rep. times rep (lent_in s V))) outstanding shows;
         listed = λ i c. stands.listed i c ∙ sym (answer_listed granted index front there i c);
         pins = λ f. stands.pins f ∙ ap (λ sent_items. sum_by f (map bundle sent_items)) (sym (bundles_stay s n p k (answer_note granted index) D there settles none));
-        work = in_hand;
+        work = outstanding;
         awaited = are;
         calls = stands.calls;
         jobs = stands.jobs;
@@ -249,7 +249,7 @@ module _ {s n p k : ℕ} {limits : Limits} {st : State} {D : List Deed} (stands 
       → Stands s n limits (record { sessions = set st.sessions place new; table = t; dirty = st.dirty; pins = st.pins; work = record { waiting = waiting; ready = st.work.ready; running = st.work.running; replies = st.work.replies; calls = st.work.calls }; awaited = awaits; calls = st.calls; jobs = st.jobs }) (Act p k ∷ D)
   refused_stands index front t leaves becomes waiting same awaits ends =
       let there : item_at p k D ≡ Some (items.DirtyNo index) = front_is front limits stands.right in
-      let W : InHand = record { waiting = waiting; ready = st.work.ready; running = st.work.running; replies = st.work.replies; calls = st.work.calls } in
+      let W : Outstanding = record { waiting = waiting; ready = st.work.ready; running = st.work.running; replies = st.work.replies; calls = st.work.calls } in
       let kept : W ≡ work s n D = (λ i. record { waiting = same i; ready = st.work.ready; running = st.work.running; replies = st.work.replies; calls = st.work.calls }) ∙ stands.work in
       answer_stands stands place at old new is take false index front t W awaits
       (subst (λ ms. AreAwaited s n awaits ms (Act p k ∷ D)) (sym same) (refused_awaited s n D (Act p k ∷ D) (own_ref p index) (others_lost false index front there) st.awaited awaits st.work.waiting stands.awaited ends (refused_lost index front there)))

@@ -37,7 +37,7 @@ use Rattle.nob_model_types.specs.declared.message.Message.{Message}
 use Rattle.nob_model_types.specs.Objects as objects
 use Rattle.nob_model_types.specs.Sessions.{is_peer}
 use Rattle.nob_model_work.specs.declared.gifts.Gift.{Gift}
-use Rattle.nob_model_work.specs.declared.work.InHand.{InHand}
+use Rattle.nob_model_work.specs.declared.work.Outstanding.{Outstanding}
 use Rattle.nob_model_work.specs.Gifts.{once, dirty_for}
 use Rattle.nob_model_work.specs.Work.{work, after_message}
 use Rattle.nob_model_history.specs.declared.history.History.{History}
@@ -49,7 +49,7 @@ use Rattle.nob_model_history.proofs.Inbox.{sends_front}
 use Rattle.nob_model_acting.specs.Acting.{messages, fault_of, first_fault, names_not_live}
 use Rattle.nob_model.specs.Right.{own_ref}
 use Rattle.nob_model.proofs.Premises.{no_fault}
-use Rattle.nob_model_acting.specs.Sending.{is_own_and_not_live}
+use Rattle.nob_model_acting.specs.Sending.{is_gone}
 use Rattle.nob_space_state.specs.Parts.{State}
 use Rattle.nob_space_state.specs.Looks.{end_with, has_closed, is_closed_end}
 use Rattle.nob_space_waiting.specs.Waiting.{WaitingList, is_awaited, is_due_in, IsNew}
@@ -274,7 +274,7 @@ module _ {s n : ℕ} {limits : Limits} {st : State} {D : List Deed} (stands : St
       let mid_known : (rep : WireRep) → is_known (standing st.table rep).state ≡ true → is_known (standing mid rep).state ≡ true = λ rep known.
       ap (λ (it : Standing). is_known it.state) (asks.standings rep) ∙ elim (list_any (is_same rep) all) as (λ b. is_known (if b then pending_standing else standing st1.table rep).state ≡ true) [ true ↦ refl | false ↦ ap (λ (it : Standing). is_known it.state) (grown_standing rep) ∙ known ] in
       let live_known : (index : ℕ) → objects.is_live s index D ≡ true → is_known (standing st.table (own_ref s index)).state ≡ true = λ index live. known_live (standing st.table (own_ref s index)).state (stands.table.live index ∙ live) in
-      let sound = none_passes (λ rep. is_own_and_not_live s rep h) (counted_in item) (refs_sound s n p item h front.sound message) in
+      let sound = none_passes (λ rep. is_gone s rep h) (counted_in item) (refs_sound s n p item h front.sound message) in
       let counted : AllByRecursion (λ rep. is_counted rep ≡ true) (counted_in item) = filter_passes is_counted (refs_carried item) in
       let all_counted : AllByRecursion (λ rep. is_counted rep ≡ true) (loans_of s m) = all_append (λ rep. is_counted rep ≡ true) (target_lent s item) (copies_lent (new_copies s n st (counted_in item)))
       (target_all (λ rep. is_counted rep ≡ true) s n p item h front.sound (λ index some live. ap not some))
@@ -283,11 +283,11 @@ module _ {s n : ℕ} {limits : Limits} {st : State} {D : List Deed} (stands : St
       let copies_few : length (new_copies s n st (counted_in item)) ≤ 32 = (let same = length-map (counted_in item) (λ (rep : WireRep). new_copy_of s n st rep) in omega (arith, same, few)) in
       let kept = (free_parts st all free).0 in
       let messages_few : nat_le 65536 (messages st.work) ≡ false = (or_parts _ _ kept).0 in
-      let in_hand : messages st.work ≡ messages (work s n D) = ap messages stands.work in
+      let outstanding : messages st.work ≡ messages (work s n D) = ap messages stands.work in
       record {
         known = all_append (λ rep. is_known (standing mid rep).state ≡ true) (target_lent s item) (copies_lent (new_copies s n st (counted_in item)))
             (target_all (λ rep. is_known (standing mid rep).state ≡ true) s n p item h front.sound (λ index some live. mid_known (own_ref s index) (live_known index live)))
-            (copies_all (λ rep. is_known (standing mid rep).state ≡ true) (λ rep. is_own_and_not_live s rep h ≡ false) s n st (λ rep is_sound lent. mid_known rep
+            (copies_all (λ rep. is_known (standing mid rep).state ≡ true) (λ rep. is_gone s rep h ≡ false) s n st (λ rep is_sound lent. mid_known rep
             (elim (rep.owner == s) as (λ b. rep.owner == s ≡ b → (b || standings.is_granted (standing st.table rep).state) ≡ true → (b && not (objects.is_live s rep.index D)) ≡ false → is_known (standing st.table rep).state ≡ true) [
               | true ↦ λ own _ live. subst (λ (w : WireRep). is_known (standing st.table w).state ≡ true) (sym (own_is rep s own)) (live_known rep.index (not-false (objects.is_live s rep.index D) live))
               | false ↦ λ _ granted _. known_granted (standing st.table rep).state granted
@@ -300,7 +300,7 @@ module _ {s n : ℕ} {limits : Limits} {st : State} {D : List Deed} (stands : St
             ] refl in
             let low = lent_low s n rep D in
             let here = message_lends s rep m copies_few in
-            let many : messages (work s n D) < 65536 = (let under : messages st.work < 65536 = grind (arith, nat_tests, messages_few) in omega (arith, under, in_hand)) in
+            let many : messages (work s n D) < 65536 = (let under : messages st.work < 65536 = grind (arith, nat_tests, messages_few) in omega (arith, under, outstanding)) in
             let sum : (standing mid rep).counts.lent + times rep (loans_of s m) ≤ 18446744073709551615 = omega (arith, before, low, here, many) in
             sum;
       }
@@ -322,7 +322,7 @@ module _ {s n : ℕ} {limits : Limits} {st : State} {D : List Deed} (stands : St
   -- no reference that messages wait for in vain is due to it
   pub new_ready : (w : WaitingList) → w.items ≡ st1.work.waiting → w.awaited ≡ st1.awaited → IsNew w (message_of s n st p k item)
   new_ready w items awaited = message_new s n D (Act p k ∷ D) (message_of s n st p k item) (act_lost stands p k item front message) (act_due stands p k item front message) w
-      (subst (λ ms. AreAwaited s n w.awaited ms D) (sym (items ∙ ap (λ (W : InHand). W.waiting) grows.work)) (subst (λ counts. AreAwaited s n counts st.work.waiting D) (sym (awaited ∙ grows.awaited)) stands.awaited))
+      (subst (λ ms. AreAwaited s n w.awaited ms D) (sym (items ∙ ap (λ (W : Outstanding). W.waiting) grows.work)) (subst (λ counts. AreAwaited s n counts st.work.waiting D) (sym (awaited ∙ grows.awaited)) stands.awaited))
 
   -- all together
   pub can_receive : HaveRoom (length (wanted_refs s n st (counted_in item))) st1.sessions (wanted_refs s n st (counted_in item)) → length (wanted_refs s n st (counted_in item)) ≤ st1.table.surrogate_room → CanReceive s st1 (message_of s n st p k item) (wanted_refs s n st (counted_in item))

@@ -19,7 +19,7 @@ use Rattle.nob_pins.specs.Bundles as pins
 use Rattle.nob_model_types.specs.declared.deed.Deed.{Deed}
 use Rattle.nob_model_types.specs.declared.deed.Deed.TheVariants.{Act, TakeEnd}
 use Rattle.nob_model_types.specs.declared.message.Message.{Message}
-use Rattle.nob_model_work.specs.declared.work.InHand.{InHand}
+use Rattle.nob_model_work.specs.declared.work.Outstanding.{Outstanding}
 use Rattle.nob_model_work.specs.declared.work.Run.{Run}
 use Rattle.nob_model_work.specs.Gifts.{dirty_for, all_gifts}
 use Rattle.nob_model_work.specs.Work.{work, after_message, is_none_of, make_ready, make_reply, wait, with_calls, call_after_reply}
@@ -47,7 +47,7 @@ use Rattle.nob_space_items.proofs.Message.{act_bundles, act_calls, act_due, act_
 
 module _ (s : ℕ) (rep : WireRep) where
   -- all that is lent, by the lists
-  pub times_lent : (W : InHand) → times rep (lent_in s W) ≡ times rep (flat_map (loans_of s) W.waiting) + (times rep (flat_map (loans_of s) W.ready) + (times rep (flat_map (λ (run : Run). loans_of s run.message) W.running) + times rep (flat_map (loans_of s) W.replies)))
+  pub times_lent : (W : Outstanding) → times rep (lent_in s W) ≡ times rep (flat_map (loans_of s) W.waiting) + (times rep (flat_map (loans_of s) W.ready) + (times rep (flat_map (λ (run : Run). loans_of s run.message) W.running) + times rep (flat_map (loans_of s) W.replies)))
   times_lent W =
       let running : List WireRep = flat_map (λ (run : Run). loans_of s run.message) W.running in
       let replies : List WireRep = flat_map (loans_of s) W.replies in
@@ -60,21 +60,21 @@ module _ (s : ℕ) (rep : WireRep) where
   times_push ms m = ap (times rep) (flat_map-append (loans_of s) ms (m ∷ []) ∙ ap (λ (reps : List WireRep). flat_map (loans_of s) ms ++ reps) (append-nil (loans_of s m))) ∙ times_both rep (flat_map (loans_of s) ms) (loans_of s m)
 
   -- a message that waits, is ready, or is a ready reply lends its loans more
-  lent_wait : (m : Message) (W : InHand) → times rep (lent_in s (wait m W)) ≡ times rep (lent_in s W) + times rep (loans_of s m)
+  lent_wait : (m : Message) (W : Outstanding) → times rep (lent_in s (wait m W)) ≡ times rep (lent_in s W) + times rep (loans_of s m)
   lent_wait m W =
       let after = times_lent (wait m W) in
       let before = times_lent W in
       let more = times_push W.waiting m in
       omega (arith, after, before, more)
 
-  lent_ready : (m : Message) (W : InHand) → times rep (lent_in s (make_ready m W)) ≡ times rep (lent_in s W) + times rep (loans_of s m)
+  lent_ready : (m : Message) (W : Outstanding) → times rep (lent_in s (make_ready m W)) ≡ times rep (lent_in s W) + times rep (loans_of s m)
   lent_ready m W =
       let after = times_lent (make_ready m W) in
       let before = times_lent W in
       let more = times_push W.ready m in
       omega (arith, after, before, more)
 
-  lent_reply : (m : Message) (W : InHand) → times rep (lent_in s (make_reply m W)) ≡ times rep (lent_in s W) + times rep (loans_of s m)
+  lent_reply : (m : Message) (W : Outstanding) → times rep (lent_in s (make_reply m W)) ≡ times rep (lent_in s W) + times rep (loans_of s m)
   lent_reply m W =
       let after = times_lent (make_reply m W) in
       let before = times_lent W in
@@ -82,7 +82,7 @@ module _ (s : ℕ) (rep : WireRep) where
       omega (arith, after, before, more)
 
   -- so it is wherever it goes
-  pub lent_put : (m : Message) (item : Item) (W : InHand) → IsMessage item → times rep (lent_in s (after_message m item W)) ≡ times rep (lent_in s W) + times rep (loans_of s m)
+  pub lent_put : (m : Message) (item : Item) (W : Outstanding) → IsMessage item → times rep (lent_in s (after_message m item W)) ≡ times rep (lent_in s W) + times rep (loans_of s m)
   unfolding after_message
   lent_put m (items.Call call target method value) W message = elim (is_none_of m.copies) as (λ b. times rep (lent_in s (if b then make_ready m W else wait m W)) ≡ times rep (lent_in s W) + times rep (loans_of s m)) [ true ↦ lent_ready m W | false ↦ lent_wait m W ]
   lent_put m (items.Reply call status value) W message = elim (is_none_of m.copies) as (λ b. times rep (lent_in s (with_calls (call_after_reply m.from call) (if b then make_reply m W else wait m W))) ≡ times rep (lent_in s W) + times rep (loans_of s m)) [ true ↦ lent_reply m W | false ↦ lent_wait m W ]
@@ -126,7 +126,7 @@ module _ {s n : ℕ} {limits : Limits} {st new : State} {D : List Deed} (stands 
   table_after =
       let m : Message = message_of s n st p k item in
       shows_same (λ rep. hand rep (Act p k ∷ D)) (λ rep. times rep (lent_in s (work s n (Act p k ∷ D)))) (λ rep. refl)
-      (λ rep. sym (ap (λ (W : InHand). times rep (lent_in s W)) (act_work stands p k item front message) ∙ lent_put s rep m item (work s n D) message))
+      (λ rep. sym (ap (λ (W : Outstanding). times rep (lent_in s W)) (act_work stands p k item front message) ∙ lent_put s rep m item (work s n D) message))
       (receives.lends.shows s n (history_of s n (Act p k ∷ D)) (λ rep. hand rep D) (λ rep. times rep (lent_in s (work s n D))) (asks_show stands p k item front message receives.asked receives.asks))
 
   -- after acting on a message
@@ -136,7 +136,7 @@ module _ {s n : ℕ} {limits : Limits} {st new : State} {D : List Deed} (stands 
     table = table_after;
     listed = λ index client. ap (λ dirty. lists dirty index client) receives.dirty ∙ stands.listed index client ∙ sym (act_listed stands p k item front message index client);
     pins = λ f. ap (λ (table : pins.Table). sum_by f table.bundles) receives.pins ∙ stands.pins f ∙ ap (λ (items : List SentItem). sum_by f (map bundle items)) (sym (act_bundles stands p k item front message));
-    awaited = subst (λ (W : InHand). AreAwaited s n new.awaited W.waiting (Act p k ∷ D)) (sym receives.work)
+    awaited = subst (λ (W : Outstanding). AreAwaited s n new.awaited W.waiting (Act p k ∷ D)) (sym receives.work)
         (message_awaited s n D (Act p k ∷ D) (message_of s n st p k item) (act_lost stands p k item front message) (act_due stands p k item front message) st.awaited new.awaited item st.work message stands.awaited receives.awaited);
     work = receives.work ∙ ap (after_message (message_of s n st p k item) item) stands.work ∙ sym (act_work stands p k item front message);
     calls = receives.calls ∙ stands.calls;

@@ -198,9 +198,9 @@ module _ {s n : ℕ} {limits : Limits} {st : State} {D : List Deed} (stands : St
   unfolding acting.message_refusal acting.is_too_much message_refusal
   message_there item apart placed =
       let reps : List WireRep = wanted_refs s n st (counted_in item) in
-      let in_hand : work s n D ≡ st.work = sym stands.work in
+      let outstanding : work s n D ≡ st.work = sym stands.work in
       let known : length (surrogates s n (history_of s n D)) ≡ surrogate_total st.table = sym (surrogates_there apart placed) in
       let asked : new_dirties s n item (history_of s n D) ≡ map dirty_for reps = dirties_there item in
       let many : length (new_dirties s n item (history_of s n D)) ≡ length reps = ap length asked ∙ length-map reps dirty_for in
       let free : all_have_numbers (new_dirties s n item (history_of s n D)) (history_of s n D) ≡ list_all (has_numbers_for st reps) reps = ap (λ (gifts : List Gift). all_have_numbers gifts (history_of s n D)) asked ∙ numbers_all reps reps (filter_passes (is_wanted s n st) (once (counted_in item))) in
-      λ i. if nat_le most_messages (messages (in_hand i)) || nat_lt most_surrogates (known i + many i) then Some refusals.Limit else if not (free i) then Some refusals.SeqEnd else None
+      λ i. if nat_le most_messages (messages (outstanding i)) || nat_lt most_surrogates (known i + many i) then Some refusals.Limit else if not (free i) then Some refusals.SeqEnd else None

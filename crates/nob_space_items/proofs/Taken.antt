@@ -29,7 +29,7 @@ use Rattle.nob_model_types.specs.Sessions.{is_peer, closed, item_at}
 use Rattle.nob_model_types.specs.Turns.{turns, is_own, is_granted}
 use Rattle.nob_model_types.specs.Messages.{loan_after, copy_after, message_after}
 use Rattle.nob_model_work.specs.declared.gifts.Gift.{Gift}
-use Rattle.nob_model_work.specs.declared.work.InHand.{InHand}
+use Rattle.nob_model_work.specs.declared.work.Outstanding.{Outstanding}
 use Rattle.nob_model_work.specs.Work.{work, work_after, after_act, after_message, with_loans, run_after}
 use Rattle.nob_model_work.specs.Gifts.{gifts}
 use Rattle.nob_model_history.specs.Histories.{history_of}
@@ -124,7 +124,7 @@ module _ (s n p k : ℕ) (D : List Deed) where
 -- ---- a note
 
 -- a note is no message, so it brings no work
-note_brings : (s n p k : ℕ) (D : List Deed) (item : Item) (W : InHand) → is_message (Some item) ≡ false → after_act s n p k D (Some item) W ≡ W
+note_brings : (s n p k : ℕ) (D : List Deed) (item : Item) (W : Outstanding) → is_message (Some item) ≡ false → after_act s n p k D (Some item) W ≡ W
 unfolding after_act after_message
 note_brings s n p k D (items.Call call target method value) W note = absurd (cc)
 note_brings s n p k D (items.Reply call status value) W note = absurd (cc)
@@ -139,7 +139,7 @@ module _ (s n p k : ℕ) (item : Item) (D : List Deed) (there : item_at p k D �
   pub note_dirties : transit.dirties (history_of s n (Act p k ∷ D)) ≡ transit.dirties (history_of s n D)
   note_dirties = dirties_same s n (Act p k) D (ap is_message there ∙ note)
 
-  -- the work in hand is what it was, but for the loans that can be made now
+  -- the outstanding work is what it was, but for the loans that can be made now
   pub note_loans : work s n (Act p k ∷ D) ≡ with_loans s n (Act p k ∷ D) (work s n D)
   unfolding work_after
   note_loans = ap (with_loans s n (Act p k ∷ D)) (ap (λ found. after_act s n p k D found (work s n D)) there ∙ note_brings s n p k D item (work s n D) note)

@@ -21,4 +21,4 @@ pub record CanLend (t : Table) (reps : List WireRep) : Type 0 where
 pub record Lends (old new : Table) (reps : List WireRep) : Type 0 where
   pub known : (rep : WireRep) → is_known (standing new rep).state ≡ is_known (standing old rep).state
   pub counts : (rep : WireRep) → (standing new rep).counts.lent ≡ (standing old rep).counts.lent + times rep reps
-  pub shows : (s n : ℕ) (h : History) (in_hand on_loan : WireRep → ℕ) → TableShows s n old h in_hand on_loan → TableShows s n new h in_hand (λ rep. on_loan rep + times rep reps)
+  pub shows : (s n : ℕ) (h : History) (hand_of on_loan : WireRep → ℕ) → TableShows s n old h hand_of on_loan → TableShows s n new h hand_of (λ rep. on_loan rep + times rep reps)

@@ -8,7 +8,7 @@ use Rattle.nob_model_types.specs.declared.message.RefCopy.{RefCopy}
 use Rattle.nob_model_types.specs.declared.message.Message.{Message}
 use Rattle.nob_model_types.specs.Turns.{is_own, is_usable}
 use Rattle.nob_model_types.specs.Messages.{loan_after, copy_after, message_after}
-use Rattle.nob_model_work.specs.declared.work.InHand.{InHand}
+use Rattle.nob_model_work.specs.declared.work.Outstanding.{Outstanding}
 use Rattle.nob_model_work.specs.declared.work.Run.{Run}
 use Rattle.nob_model_work.specs.Work.{run_after}
 use Rattle.nob_model.proofs.Waiting.{all_weaker}
@@ -44,7 +44,7 @@ module _ (s n : ℕ) (D E : List Deed) (less : (rep : WireRep) → is_usable s n
   run_stays run fixed = ap (λ (m : Message). record { job = run.job; message = m }) (message_stays run.message (ap (λ (r : Run). r.message) fixed))
 
   -- what is fixed stays fixed
-  pub still_fixed : (W : InHand) → AreFixed s n D W → AreFixed s n E W
+  pub still_fixed : (W : Outstanding) → AreFixed s n D W → AreFixed s n E W
   still_fixed W fixed = record {
     waiting = all_weaker _ _ message_stays W.waiting fixed.waiting;
     ready = all_weaker _ _ message_stays W.ready fixed.ready;

@@ -24,7 +24,7 @@ use Rattle.nob_model_types.specs.Objects as objects
 use Rattle.nob_model_types.specs.Sessions.{closed, is_peer}
 use Rattle.nob_model_types.specs.Turns.{turns}
 use Rattle.nob_model_work.specs.declared.gifts.Gift.{Gift}
-use Rattle.nob_model_work.specs.declared.work.InHand.{InHand}
+use Rattle.nob_model_work.specs.declared.work.Outstanding.{Outstanding}
 use Rattle.nob_model_work.specs.Work.{work}
 use Rattle.nob_model_work.specs.Gifts.{gifts}
 use Rattle.nob_model_history.specs.declared.transit.SentItem.{SentItem}
@@ -120,26 +120,26 @@ module _ {s n p : ℕ} {items : List Item} {deed : Deed} {D : List Deed} (notes 
   pub shows_noted : {t : Table} {H L : WireRep → ℕ} (H' L' : WireRep → ℕ) → TableShows s n t (history_of s n D) H L → ((rep : WireRep) → turns s n rep (deed ∷ D) ≡ turns s n rep D)
       → ((rep : WireRep) → is_counted rep ≡ true → H rep ≡ H' rep) → ((rep : WireRep) → is_counted rep ≡ true → L rep ≡ L' rep)
       → TableShows s n t (history_of s n (deed ∷ D)) H' L'
-  shows_noted {t} H' L' shows same_turns in_hand on_loan = record {
+  shows_noted {t} H' L' shows same_turns hand_is on_loan = record {
     me = shows.me;
     exported = shows.exported ∙ ap length (sym notes.exports);
     live = λ index. shows.live index ∙ sym (λ i. list_any (is_same (own_ref s index)) (notes.exports i) && not (notes.withdrawn index i));
     far = λ rep counted own. shows.far rep counted own
         ∙ ap (λ b. far_state b (is_held (standing t rep).counts) (turns s n rep D)) (sym (notes.closes_nothing rep.owner))
         ∙ ap (λ w. far_state (closed rep.owner (deed ∷ D)) (is_held (standing t rep).counts) w) (sym (same_turns rep));
-    hands = λ rep counted. shows.hands rep counted ∙ in_hand rep counted;
+    hands = λ rep counted. shows.hands rep counted ∙ hand_is rep counted;
     loans = λ rep counted. shows.loans rep counted ∙ on_loan rep counted;
     dirties = shows.dirties ∙ ap length (sym same_dirties);
     places = λ rep. shows.places rep ∙ ap (λ reps. if standings.is_surrogate (standing t rep).state then transit.last_place rep reps else None) (sym same_dirties);
     kept = used_still s t t (history_of s n D) (history_of s n (deed ∷ D)) (λ rep. refl) same_bundles notes.listed shows.kept;
   }
 
-  -- the state with another end, table and work in hand
-  pub stands_noted : {limits : Limits} {st : State} (old new : Roomy) (t : Table) (W : InHand) → Stands s n limits st D → is_peer s n p ≡ true → old ≡ get_or st.sessions (p - 1) old
+  -- the state with another end, table and outstanding work
+  pub stands_noted : {limits : Limits} {st : State} (old new : Roomy) (t : Table) (W : Outstanding) → Stands s n limits st D → is_peer s n p ≡ true → old ≡ get_or st.sessions (p - 1) old
       → (session.Stands s p limits old.end (calls_at p (history_of s n D)) → session.Stands s p limits new.end (with_sends items (calls_at p (history_of s n D))))
       → TableStands s n t (history_of s n (deed ∷ D)) → W ≡ work s n (deed ∷ D) → AreAwaited s n st.awaited W.waiting (deed ∷ D) → IsRightDeed s n limits deed D
       → Stands s n limits (record { sessions = set st.sessions (p - 1) new; table = t; dirty = st.dirty; pins = st.pins; work = W; awaited = st.awaited; calls = st.calls; jobs = st.jobs }) (deed ∷ D)
-  stands_noted {limits} {st} old new t W stands peer is answer table in_hand awaited its =
+  stands_noted {limits} {st} old new t W stands peer is answer table outstanding awaited its =
       let there = end_there s n limits st.sessions (history_of s n D) p old stands.ends peer is in
       record {
         ends = ends_changed s n limits st.sessions (history_of s n D) (history_of s n (deed ∷ D)) p new stands.ends there.0
@@ -148,7 +148,7 @@ module _ {s n p : ℕ} {items : List Item} {deed : Deed} {D : List Deed} (notes 
         table = table;
         listed = λ index client. stands.listed index client ∙ sym (notes.listed index client);
         pins = λ f. stands.pins f ∙ ap (λ (all : List SentItem). sum_by f (map bundle all)) (sym same_bundles);
-        work = in_hand;
+        work = outstanding;
         awaited = awaited;
         calls = stands.calls ∙ sym notes.calls;
         jobs = stands.jobs ∙ sym notes.jobs;

@@ -24,7 +24,7 @@ use Rattle.nob_model_types.specs.declared.deed.Deed.TheVariants.{Call, TakeReply
 use Rattle.nob_model_types.specs.declared.message.Message.{Message}
 use Rattle.nob_model_types.specs.Messages.{new_message, message_after, is_of, is_not_from, is_job, is_lost_message}
 use Rattle.nob_model_types.specs.Sessions.{item_at}
-use Rattle.nob_model_work.specs.declared.work.InHand.{InHand}
+use Rattle.nob_model_work.specs.declared.work.Outstanding.{Outstanding}
 use Rattle.nob_model_work.specs.Work.{work, work_after, with_loans, is_none_of, wait, make_ready, make_reply, is_not_reply, after_message, after_act, after_settlement, after_settle, after_claim, after_call, after_take, after_end, after_finish, after_close, without_waiting}
 use Rattle.nob_model_history.specs.Histories.{history_of}
 use Rattle.nob_model_history.specs.Ends.{calls_at}
@@ -82,7 +82,7 @@ counts_right me peer limits (call ∷ L) right = counts_right me peer limits L r
 abbrev IsNumbered : Message → Type 0
 IsNumbered m = 1 ≤ m.number
 
-message_low : (p k : ℕ) (m : Message) (item : Item) (W : InHand) → IsNumbered m → AllByRecursion IsNumbered W.waiting → AllByRecursion IsNumbered (after_message m item W).waiting
+message_low : (p k : ℕ) (m : Message) (item : Item) (W : Outstanding) → IsNumbered m → AllByRecursion IsNumbered W.waiting → AllByRecursion IsNumbered (after_message m item W).waiting
 unfolding after_message
 message_low p k m (items.Call call target method value) W its all = elim (is_none_of m.copies) as (λ b. AllByRecursion IsNumbered (if b then make_ready m W else wait m W).waiting) [ true ↦ all | false ↦ all_push IsNumbered W.waiting m all its ]
 message_low p k m (items.Reply call status value) W its all = elim (is_none_of m.copies) as (λ b. AllByRecursion IsNumbered (if b then make_reply m W else wait m W).waiting) [ true ↦ all | false ↦ all_push IsNumbered W.waiting m all its ]
@@ -92,7 +92,7 @@ message_low p k m (items.DirtyOk index) W its all = all
 message_low p k m (items.DirtyNo index) W its all = all
 message_low p k m (items.Clean index) W its all = all
 
-settled_low : (m : Message) (item : Item) (lost : Bool) (W : InHand) → AllByRecursion IsNumbered W.waiting → AllByRecursion IsNumbered (after_settlement m item lost W).waiting
+settled_low : (m : Message) (item : Item) (lost : Bool) (W : Outstanding) → AllByRecursion IsNumbered W.waiting → AllByRecursion IsNumbered (after_settlement m item lost W).waiting
 unfolding after_settlement
 settled_low m (items.Call call target method value) true W all = all
 settled_low m (items.Call call target method value) false W all = all
@@ -105,22 +105,22 @@ settled_low m (items.DirtyNo index) lost W all = all
 settled_low m (items.Clean index) lost W all = all
 
 module _ (s n : ℕ) (limits : Limits) where
-  act_low : (p k : ℕ) (D : List Deed) (item : Option Item) (W : InHand) → 1 ≤ k → AllByRecursion IsNumbered W.waiting → AllByRecursion IsNumbered (after_act s n p k D item W).waiting
+  act_low : (p k : ℕ) (D : List Deed) (item : Option Item) (W : Outstanding) → 1 ≤ k → AllByRecursion IsNumbered W.waiting → AllByRecursion IsNumbered (after_act s n p k D item W).waiting
   unfolding after_act
   act_low p k D None W low all = all
   act_low p k D (Some item) W low all = message_low p k (new_message s n p k item (Act p k ∷ D)) item W low all
 
-  settle_low : (p k : ℕ) (D : List Deed) (found : Option Message) (W : InHand) → AllByRecursion IsNumbered W.waiting → AllByRecursion IsNumbered (after_settle s n p k D found W).waiting
+  settle_low : (p k : ℕ) (D : List Deed) (found : Option Message) (W : Outstanding) → AllByRecursion IsNumbered W.waiting → AllByRecursion IsNumbered (after_settle s n p k D found W).waiting
   unfolding after_settle
   settle_low p k D None W all = all
   settle_low p k D (Some m) W all = settled_low m m.item (is_lost_message s n D m) (without_waiting p k W) (all_without IsNumbered (is_of p k) W.waiting all)
 
-  claim_low : (job : Job) (found : Option Message) (W : InHand) → AllByRecursion IsNumbered W.waiting → AllByRecursion IsNumbered (after_claim job found W).waiting
+  claim_low : (job : Job) (found : Option Message) (W : Outstanding) → AllByRecursion IsNumbered W.waiting → AllByRecursion IsNumbered (after_claim job found W).waiting
   unfolding after_claim
   claim_low job None W all = all
   claim_low job (Some m) W all = all
 
-  deed_low : (deed : Deed) (D : List Deed) (W : InHand) → IsRightDeed s n limits deed D → AllByRecursion IsNumbered W.waiting → AllByRecursion IsNumbered (work_after s n deed D W).waiting
+  deed_low : (deed : Deed) (D : List Deed) (W : Outstanding) → IsRightDeed s n limits deed D → AllByRecursion IsNumbered W.waiting → AllByRecursion IsNumbered (work_after s n deed D W).waiting
   unfolding work_after after_call after_take after_end after_finish after_close
   deed_low (Call target method value call) D W right all = all
   deed_low (TakeReply call status value) D W right all = all_filter IsNumbered (is_not_reply call) W.waiting all

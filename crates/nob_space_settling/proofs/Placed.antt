@@ -1,4 +1,4 @@
--- What becomes of a message that is settled: the work in hand, and what was lent.
+-- What becomes of a message that is settled: the outstanding work, and what was lent.
 use Rattle.std.proofs.Common.{◌≡◌, ◌≤◌, ℕ, ◌+◌, Bool, true, false, List, [], ◌∷◌, ◌++◌, find, flat_map, Some, if◌then◌else◌, refl, sym, ap, ◌∙◌, arith}
 use Rattle.std.proofs.lemmas.Grind.{flat_map-append}
 use Rattle.std.proofs.lemmas.List.{append-nil}
@@ -9,7 +9,7 @@ use Rattle.nob_pickle.specs.declared.value.Value.{Value}
 use Rattle.nob_model_types.specs.declared.message.Message.{Message}
 use Rattle.nob_model_types.specs.declared.deed.Deed.{Deed}
 use Rattle.nob_model_types.specs.Messages.{is_of, message_after}
-use Rattle.nob_model_work.specs.declared.work.InHand.{InHand}
+use Rattle.nob_model_work.specs.declared.work.Outstanding.{Outstanding}
 use Rattle.nob_model_work.specs.declared.work.OwnCall.{OwnCall}
 use Rattle.nob_model_work.specs.declared.work.Run.{Run}
 use Rattle.nob_model_work.specs.Work.{after_settlement, lost_reply, without_first, without_waiting, make_ready, make_reply}
@@ -21,21 +21,21 @@ use Rattle.nob_space_holds.proofs.Counted.{times_both}
 use Rattle.nob_space_settling.specs.Settling.{loans_ended}
 
 -- a Call that is settled is ready, or over
-pub call_put : (m : Message) (call target method : ℕ) (value : Value) (lost : Bool) (W : InHand) (ready : List Message) (running : List Run) → m.item ≡ items.Call call target method value → ready ≡ (if lost then W.ready else W.ready ++ m ∷ []) → running ≡ W.running
+pub call_put : (m : Message) (call target method : ℕ) (value : Value) (lost : Bool) (W : Outstanding) (ready : List Message) (running : List Run) → m.item ≡ items.Call call target method value → ready ≡ (if lost then W.ready else W.ready ++ m ∷ []) → running ≡ W.running
     → record { waiting = W.waiting; ready = ready; running = running; replies = W.replies; calls = W.calls } ≡ after_settlement m m.item lost W
 unfolding after_settlement
 call_put m call target method value true W ready running item is same = (λ i. record { waiting = W.waiting; ready = is i; running = same i; replies = W.replies; calls = W.calls }) ∙ ap (λ (x : Item). after_settlement m x true W) (sym item)
 call_put m call target method value false W ready running item is same = (λ i. record { waiting = W.waiting; ready = is i; running = same i; replies = W.replies; calls = W.calls }) ∙ ap (λ (x : Item). after_settlement m x false W) (sym item)
 
 -- a Reply that is settled is ready, as one of status 3 where it is lost
-pub reply_put : (m : Message) (call status : ℕ) (value : Value) (lost : Bool) (W : InHand) (replies : List Message) (calls : List OwnCall) → m.item ≡ items.Reply call status value → replies ≡ W.replies ++ (if lost then lost_reply m call else m) ∷ [] → calls ≡ W.calls
+pub reply_put : (m : Message) (call status : ℕ) (value : Value) (lost : Bool) (W : Outstanding) (replies : List Message) (calls : List OwnCall) → m.item ≡ items.Reply call status value → replies ≡ W.replies ++ (if lost then lost_reply m call else m) ∷ [] → calls ≡ W.calls
     → record { waiting = W.waiting; ready = W.ready; running = W.running; replies = replies; calls = calls } ≡ after_settlement m m.item lost W
 unfolding after_settlement
 reply_put m call status value true W replies calls item is same = (λ i. record { waiting = W.waiting; ready = W.ready; running = W.running; replies = is i; calls = same i }) ∙ ap (λ (x : Item). after_settlement m x true W) (sym item)
 reply_put m call status value false W replies calls item is same = (λ i. record { waiting = W.waiting; ready = W.ready; running = W.running; replies = is i; calls = same i }) ∙ ap (λ (x : Item). after_settlement m x false W) (sym item)
 
 -- anything else is over
-pub other_put : (s : ℕ) (m : Message) (item : Item) (lost : Bool) (W : InHand) → ((call target method : ℕ) (value : Value) → item ≡ items.Call call target method value → ⊥) → ((call status : ℕ) (value : Value) → item ≡ items.Reply call status value → ⊥)
+pub other_put : (s : ℕ) (m : Message) (item : Item) (lost : Bool) (W : Outstanding) → ((call target method : ℕ) (value : Value) → item ≡ items.Call call target method value → ⊥) → ((call status : ℕ) (value : Value) → item ≡ items.Reply call status value → ⊥)
     → (loans_of s m ≡ loans_ended s m item lost) × (W ≡ after_settlement m item lost W)
 unfolding after_settlement
 other_put s m (items.Call call target method value) lost W no_call no_reply = absurd (no_call call target method value refl)
@@ -49,14 +49,14 @@ other_put s m (items.Clean index) lost W no_call no_reply = (refl, refl)
 -- ---- what is lent
 
 -- what waits lends at least what the first that was found lends
-pub waiting_lends : (s : ℕ) (rep : WireRep) (test : Message → Bool) (m : Message) (W : InHand) → find test W.waiting ≡ Some m → times rep (loans_of s m) ≤ times rep (lent_in s W)
+pub waiting_lends : (s : ℕ) (rep : WireRep) (test : Message → Bool) (m : Message) (W : Outstanding) → find test W.waiting ≡ Some m → times rep (loans_of s m) ≤ times rep (lent_in s W)
 waiting_lends s rep test m W found =
     let a = times_both rep (flat_map (loans_of s) W.waiting) (flat_map (loans_of s) W.ready ++ (flat_map (λ (run : Run). loans_of s run.message) W.running ++ flat_map (loans_of s) W.replies)) in
     let b = times_without (loans_of s) test rep W.waiting m found in
     omega (arith, a, b)
 
 -- what waits lends what the first that was found lends, and what the others do
-without_lends : (s p k : ℕ) (rep : WireRep) (m : Message) (W : InHand) → find (is_of p k) W.waiting ≡ Some m → times rep (lent_in s W) ≡ times rep (loans_of s m) + times rep (lent_in s (without_waiting p k W))
+without_lends : (s p k : ℕ) (rep : WireRep) (m : Message) (W : Outstanding) → find (is_of p k) W.waiting ≡ Some m → times rep (lent_in s W) ≡ times rep (loans_of s m) + times rep (lent_in s (without_waiting p k W))
 without_lends s p k rep m W found =
     let rest : List WireRep = flat_map (loans_of s) W.ready ++ (flat_map (λ (run : Run). loans_of s run.message) W.running ++ flat_map (loans_of s) W.replies) in
     let a = times_both rep (flat_map (loans_of s) W.waiting) rest in
@@ -71,7 +71,7 @@ push_lends s rep m ms =
     ∙ times_both rep (flat_map (loans_of s) ms) (loans_of s m ++ [])
     ∙ ap (λ (reps : List WireRep). times rep (flat_map (loans_of s) ms) + times rep reps) (append-nil (loans_of s m))
 
-ready_lends : (s : ℕ) (rep : WireRep) (m : Message) (W : InHand) → times rep (lent_in s (make_ready m W)) ≡ times rep (loans_of s m) + times rep (lent_in s W)
+ready_lends : (s : ℕ) (rep : WireRep) (m : Message) (W : Outstanding) → times rep (lent_in s (make_ready m W)) ≡ times rep (loans_of s m) + times rep (lent_in s W)
 ready_lends s rep m W =
     let waiting : List WireRep = flat_map (loans_of s) W.waiting in
     let rest : List WireRep = flat_map (λ (run : Run). loans_of s run.message) W.running ++ flat_map (loans_of s) W.replies in
@@ -82,7 +82,7 @@ ready_lends s rep m W =
     let e = push_lends s rep m W.ready in
     omega (arith, a, b, c, d, e)
 
-reply_lends : (s : ℕ) (rep : WireRep) (m : Message) (W : InHand) → times rep (lent_in s (make_reply m W)) ≡ times rep (loans_of s m) + times rep (lent_in s W)
+reply_lends : (s : ℕ) (rep : WireRep) (m : Message) (W : Outstanding) → times rep (lent_in s (make_reply m W)) ≡ times rep (loans_of s m) + times rep (lent_in s W)
 reply_lends s rep m W =
     let waiting : List WireRep = flat_map (loans_of s) W.waiting in
     let ready : List WireRep = flat_map (loans_of s) W.ready in
@@ -97,7 +97,7 @@ reply_lends s rep m W =
     omega (arith, a, b, c, d, e, f, g)
 
 -- once a message is settled all lends what it did, less the loans that ended
-pub settled_lends : (s p k : ℕ) (rep : WireRep) (m : Message) (item : Item) (lost : Bool) (W : InHand) → find (is_of p k) W.waiting ≡ Some m
+pub settled_lends : (s p k : ℕ) (rep : WireRep) (m : Message) (item : Item) (lost : Bool) (W : Outstanding) → find (is_of p k) W.waiting ≡ Some m
     → times rep (lent_in s W) ≡ times rep (loans_ended s m item lost) + times rep (lent_in s (after_settlement m item lost (without_waiting p k W)))
 unfolding after_settlement
 settled_lends s p k rep m (items.Call call target method value) true W found = without_lends s p k rep m W found
@@ -129,7 +129,7 @@ ended_lent s rep m (items.Clean index) lost = omega arith
 -- ---- what stays fixed
 
 -- what is fixed stays so once a message of it is settled
-pub settled_fixed : (s n p k : ℕ) (D : List Deed) (m : Message) (item : Item) (lost : Bool) (W : InHand) → find (is_of p k) W.waiting ≡ Some m → AreFixed s n D W → AreFixed s n D (after_settlement m item lost (without_waiting p k W))
+pub settled_fixed : (s n p k : ℕ) (D : List Deed) (m : Message) (item : Item) (lost : Bool) (W : Outstanding) → find (is_of p k) W.waiting ≡ Some m → AreFixed s n D W → AreFixed s n D (after_settlement m item lost (without_waiting p k W))
 unfolding after_settlement message_after
 settled_fixed s n p k D m item lost W found fixed = put item lost
   where

@@ -13,7 +13,7 @@ use Rattle.nob_model_types.specs.declared.message.RefCopy.{RefCopy}
 use Rattle.nob_model_types.specs.Messages.{loan_after, copy_after, message_after}
 use Rattle.nob_model_types.specs.Sessions.{is_peer, closed}
 use Rattle.nob_model_types.specs.Turns.{turns, is_own, is_usable, is_lost, is_resolved, is_granted, is_refused}
-use Rattle.nob_model_work.specs.declared.work.InHand.{InHand}
+use Rattle.nob_model_work.specs.declared.work.Outstanding.{Outstanding}
 use Rattle.nob_model_work.specs.Work.{work}
 use Rattle.nob_model_history.specs.Histories.{history_of}
 use Rattle.nob_model_history.proofs.Dirtying.{same_self}
@@ -111,5 +111,5 @@ some_due k some = grind (arith, nat_tests, some)
 pub to_settle_there : {s n : ℕ} {limits : Limits} {st : State} {D : List Deed} → Stands s n limits st D → to_settle s n (history_of s n D) ≡ find (is_settleable st) st.work.waiting
 to_settle_there {s} {n} {limits} {st} {D} stands =
     sym (first_found s n D st.awaited (work s n D).waiting (holds_owned s n limits D stands.right).lent.waiting (all_lent s n limits D stands.right).never (work_fixed s n D).waiting
-    (λ rep some. stands.awaited rep (some_due (due_to_all rep st.work.waiting) (subst (λ (W : InHand). 1 ≤ due_to_all rep W.waiting) (sym stands.work) some))))
-    ∙ ap (λ (W : InHand). find (is_settleable st) W.waiting) (sym stands.work)
+    (λ rep some. stands.awaited rep (some_due (due_to_all rep st.work.waiting) (subst (λ (W : Outstanding). 1 ≤ due_to_all rep W.waiting) (sym stands.work) some))))
+    ∙ ap (λ (W : Outstanding). find (is_settleable st) W.waiting) (sym stands.work)

@@ -25,7 +25,7 @@ use Rattle.nob_model_types.specs.declared.message.Message.{Message}
 use Rattle.nob_model_types.specs.Messages.{is_of}
 use Rattle.nob_model_types.specs.Sessions.{is_peer, closed}
 use Rattle.nob_model_work.specs.declared.gifts.Gift.{Gift}
-use Rattle.nob_model_work.specs.declared.work.InHand.{InHand}
+use Rattle.nob_model_work.specs.declared.work.Outstanding.{Outstanding}
 use Rattle.nob_model_work.specs.Work.{work, work_after, after_settle, after_settlement, without_first, without_waiting, with_loans}
 use Rattle.nob_model_work.specs.Gifts.{gifts, gifts_of, gifts_of_settle, lost_call_reply}
 use Rattle.nob_model_history.specs.Histories.{history_of}
@@ -85,7 +85,7 @@ notes_sent k h (Some call) settle reply calls spelled some count =
     λ i. with_note (next i) (some i) (Send (spelled i) Note (Ok (count i + 1)) ∷ calls)
 
 -- a message that is settled leaves those that wait
-settled_waits : (m : Message) (item : Item) (lost : Bool) (W : InHand) → (after_settlement m item lost W).waiting ≡ W.waiting
+settled_waits : (m : Message) (item : Item) (lost : Bool) (W : Outstanding) → (after_settlement m item lost W).waiting ≡ W.waiting
 unfolding after_settlement
 settled_waits m (items.Call call target method value) true W = refl
 settled_waits m (items.Call call target method value) false W = refl
@@ -135,7 +135,7 @@ module _ {s n : ℕ} {limits : Limits} {st : State} {D : List Deed} (stands : St
     settle_open = open_there stands m.from end peer is taken.1
 
     taken_here : find (is_of m.from m.number) st.work.waiting ≡ Some m
-    taken_here = ap (λ (W : InHand). find (is_of m.from m.number) W.waiting) stands.work ∙ taken.0
+    taken_here = ap (λ (W : Outstanding). find (is_of m.from m.number) W.waiting) stands.work ∙ taken.0
 
     -- without it
     waiting_left : without_first (is_settleable st) st.work.waiting ≡ without_first (is_of m.from m.number) st.work.waiting
@@ -184,7 +184,7 @@ module _ {s n : ℕ} {limits : Limits} {st : State} {D : List Deed} (stands : St
         less a b c sum = omega (arith, sum)
 
     -- after a Settle
-    pub settle_stands : (new : Roomy) (u : Table) (W : InHand) (settle : List ℕ) (reply : Option (List ℕ)) → settle ≡ payload_of (items.Settle m.number) → reply ≡ option_map (λ c. payload_of (reply_to_lost c)) (lost_call m.item (has_lost s n st m))
+    pub settle_stands : (new : Roomy) (u : Table) (W : Outstanding) (settle : List ℕ) (reply : Option (List ℕ)) → settle ≡ payload_of (items.Settle m.number) → reply ≡ option_map (λ c. payload_of (reply_to_lost c)) (lost_call m.item (has_lost s n st m))
         → (session.Stands s m.from limits end.end (calls_at m.from (history_of s n D)) → session.Stands s m.from limits new.end (with_note (end.end.handed + 2) reply (Send settle Note (Ok (end.end.handed + 1)) ∷ calls_at m.from (history_of s n D))))
         → GivesBack st.table u (loans_ended s m m.item (has_lost s n st m))
         → W ≡ after_settlement m m.item (has_lost s n st m) (record { waiting = without_first (is_settleable st) st.work.waiting; ready = st.work.ready; running = st.work.running; replies = st.work.replies; calls = st.work.calls })
@@ -197,7 +197,7 @@ module _ {s n : ℕ} {limits : Limits} {st : State} {D : List Deed} (stands : St
         ∙ ap (λ ws. after_settlement m m.item (has_lost s n st m) (record { waiting = ws; ready = st.work.ready; running = st.work.running; replies = st.work.replies; calls = st.work.calls })) waiting_left
         ∙ ap (λ V. after_settlement m m.item (has_lost s n st m) (without_waiting m.from m.number V)) stands.work
         ∙ sym settle_work)
-        (subst (λ (ms : List Message). AreAwaited s n st.awaited ms D) (sym (ap (λ (V : InHand). V.waiting) put ∙ settled_waits m m.item (has_lost s n st m) (record { waiting = without_first (is_settleable st) st.work.waiting; ready = st.work.ready; running = st.work.running; replies = st.work.replies; calls = st.work.calls })))
+        (subst (λ (ms : List Message). AreAwaited s n st.awaited ms D) (sym (ap (λ (V : Outstanding). V.waiting) put ∙ settled_waits m m.item (has_lost s n st m) (record { waiting = without_first (is_settleable st) st.work.waiting; ready = st.work.ready; running = st.work.running; replies = st.work.replies; calls = st.work.calls })))
         (without_awaited s n st.awaited D (is_settleable st) st.work.waiting stands.awaited))
         its
 

@@ -47,8 +47,8 @@ pub(crate) fn first_spare(parts: &Parts) -> Option<WireRep>
     None
 }
 
-// Hands a note to the peer of a session: the number that it gets. Only memory fails it.
-fn hand_note(session: &mut Session, payload: Vec<u8>) -> Result<ItemNo, AllocError>
+// Sends a note to the peer of a session: the number that it gets. Only memory fails it.
+fn send_note(session: &mut Session, payload: Vec<u8>) -> Result<ItemNo, AllocError>
     requires payload { (0 < vec_len payload) × (vec_len payload ≤ 16384) }
     requires next { IsOk (next_of Kind.Note session.old.end) }
     ensures number { IfOk result (λ number. number ≡ session.old.end.handed + 1) }
@@ -102,7 +102,7 @@ pub fn clean(parts: &mut Parts, alloc: Global) -> Result<WireRep, SpaceError>
     }
     let payload = encode_note(alloc, &Item::Clean(rep.index))?;
     let session = &mut parts.sessions[place];
-    hand_note(session, payload)?;
+    send_note(session, payload)?;
     forget(&mut parts.table, &rep);
     Ok(rep)
 }

@@ -132,8 +132,8 @@ fn payload_if(alloc: Global, call: Option<CallNo>) -> Result<Option<Vec<u8>>, Al
     Ok(Some(encode_note(alloc, &reply_to_lost(call))?))
 }
 
-// Hands a Settle to the peer of a session, and a Reply where there is one. Only memory fails it.
-fn hand_notes(
+// Sends a Settle to the peer of a session, and a Reply where there is one. Only memory fails it.
+fn send_notes(
     session: &mut Session,
     settle: Vec<u8>,
     reply: Option<Vec<u8>>,
@@ -283,7 +283,7 @@ pub fn settle(parts: &mut Parts, alloc: Global) -> Result<SettledItem, SpaceErro
     parts.jobs.reserve_ready(1)?;
     parts.calls.reserve_replies(1)?;
     let session = &mut parts.sessions[at];
-    hand_notes(session, settle, reply)?;
+    send_notes(session, settle, reply)?;
     let Some(message) = parts.waiting.take_settleable() else {
         unreachable!();
     };

@@ -15,7 +15,7 @@ use Rattle.nob_table_rows.specs.declared.standing.Standing.{Standing}
 use Rattle.nob_table_rows.specs.Order.{place_in}
 use Rattle.nob_table_rows.specs.Standings.{is_live, unknown}
 use Rattle.nob_table.specs.Table.{Table, standing, place_of, surrogate_total, is_kept}
-use Rattle.nob_model_work.specs.declared.work.InHand.{InHand}
+use Rattle.nob_model_work.specs.declared.work.Outstanding.{Outstanding}
 use Rattle.nob_model_work.specs.Work.{no_work}
 use Rattle.nob_space_waiting.specs.Waiting.{is_due_in}
 use Rattle.nob_space_state.specs.Parts.{State}
@@ -69,7 +69,7 @@ begins_stands s n limits st each opened me exported dirties surrogates nothing u
   listed = λ index client. listed index client;
   pins = λ f. ap (λ bundles. sum_by f bundles) pins;
   work = work;
-  awaited = λ rep due. absurd (let bad : false ≡ true = ap (λ (W : InHand). is_due_in W.waiting rep) (sym work) ∙ due in cc);
+  awaited = λ rep due. absurd (let bad : false ≡ true = ap (λ (W : Outstanding). is_due_in W.waiting rep) (sym work) ∙ due in cc);
   calls = calls;
   jobs = jobs;
   right = tt;

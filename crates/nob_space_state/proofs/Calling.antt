@@ -43,7 +43,7 @@ use Rattle.nob_model_types.specs.declared.deed.Deed.{Deed}
 use Rattle.nob_model_types.specs.declared.deed.Deed.TheVariants.{Call}
 use Rattle.nob_model_types.specs.Sessions.{is_peer, closed}
 use Rattle.nob_model_types.specs.Messages.{copy_after, message_after}
-use Rattle.nob_model_work.specs.declared.work.InHand.{InHand}
+use Rattle.nob_model_work.specs.declared.work.Outstanding.{Outstanding}
 use Rattle.nob_model_work.specs.declared.work.OwnCall.{OwnCall}
 use Rattle.nob_model_work.specs.declared.work.Stage.TheVariants as stages
 use Rattle.nob_model_work.specs.Work.{work, work_after, with_loans, run_after, after_call}
@@ -52,12 +52,13 @@ use Rattle.nob_model_history.specs.Histories.{history_of}
 use Rattle.nob_model_history.specs.Ends.{bytes_if, calls_at, kind_of, payload_of}
 use Rattle.nob_model_history.specs.Holds.{hand, is_held, times, lent_in}
 use Rattle.nob_model.specs.Right.{right_call, is_last_call, calls_made, last_number, most_calls}
-use Rattle.nob_model_acting.specs.Sending.{◌or_else◌, refuse_if, unless, is_own_and_not_live, is_faulty, ref_refused, refs_refused, value_refused, send_refused, refusal_in}
+use Rattle.nob_model_acting.specs.Sending.{◌or_else◌, refuse_if, unless, is_gone, is_faulty, ref_refused, refs_refused, value_refused, send_refused, refusal_in}
 use Rattle.nob_model.proofs.Replying.{answered_once}
 use Rattle.nob_model.proofs.Waiting.{all_weaker}
 use Rattle.nob_space_calls.specs.Calls.{IsAbove}
 use Rattle.nob_space_state.specs.Parts.{State}
-use Rattle.nob_space_state.specs.Looks.{end_with, has_closed, has_holds, is_gone}
+use Rattle.nob_space_state.specs.Looks as looks
+use Rattle.nob_space_state.specs.Looks.{end_with, has_closed, has_holds}
 use Rattle.nob_space_holds.specs.Pins.{AddsPins}
 use Rattle.nob_space_state.specs.Sending.{ref_refusal, refs_refusal, value_refusal, next_refusal, send_refusal, has_last_call, call_refusal}
 use Rattle.nob_model.specs.Lists.{IsRightDeed}
@@ -111,7 +112,7 @@ module _ {s n : ℕ} {limits : Limits} {st : State} {D : List Deed} (stands : St
   ref_there : (rep : WireRep) → is_counted rep ≡ true → ref_refused s (history_of s n D) rep ≡ ref_refusal s st rep
   unfolding ref_refusal
   ref_there rep counted =
-      let gone : is_own_and_not_live s rep (history_of s n D) ≡ is_gone s st.table rep = ap (λ b. b && is_own_and_not_live s rep (history_of s n D)) (sym counted) ∙ sym (gone_there stands rep) in
+      let gone : is_gone s rep (history_of s n D) ≡ looks.is_gone s st.table rep = ap (λ b. b && is_gone s rep (history_of s n D)) (sym counted) ∙ sym (gone_there stands rep) in
       let held : is_held s rep (history_of s n D) ≡ has_holds st.table rep = sym (held_there stands rep counted) in
       let cut : closed rep.owner D ≡ has_closed st.sessions rep.owner = sym (closed_there stands rep.owner) in
       λ i. refuse_if (gone i) refusals.NoObject or_else refuse_if (not (held i)) refusals.NotHeld or_else refuse_if (not (rep.owner == s) && cut i) refusals.Closed
@@ -154,12 +155,12 @@ module _ {s n : ℕ} {limits : Limits} {st : State} {D : List Deed} (stands : St
       let held : (is_counted target && not (is_held s target (history_of s n D))) ≡ (is_counted target && not (has_holds st.table target)) =
       elim (is_counted target) as (λ b. is_counted target ≡ b → (b && not (is_held s target (history_of s n D))) ≡ (b && not (has_holds st.table target))) [ true ↦ λ counted. ap not (sym (held_there stands target counted)) | false ↦ λ _. refl ] refl in
       let cut : closed target.owner D ≡ has_closed st.sessions target.owner = sym (closed_there stands target.owner) in
-      let in_hand : work s n D ≡ st.work = sym stands.work in
+      let outstanding : work s n D ≡ st.work = sym stands.work in
       let made : calls_made D ≡ st.calls = sym stands.calls in
       elim (is_peer s n target.owner) as (λ b. is_peer s n target.owner ≡ b
       → unless (refuse_if (not b) refusals.NoPeer or_else refuse_if (closed target.owner D) refusals.Closed or_else refuse_if (is_counted target && not (is_held s target (history_of s n D))) refusals.NotHeld or_else value_refused s (history_of s n D) value or_else refuse_if (is_last_call (history_of s n D)) refusals.Limit or_else send_refused target.owner Limited (history_of s n D)) (answers.Called (calls_made D + 1))
       ≡ unless (refuse_if (not b) refusals.NoPeer or_else refuse_if (has_closed st.sessions target.owner) refusals.Closed or_else refuse_if (is_counted target && not (has_holds st.table target)) refusals.NotHeld or_else value_refusal s st value or_else refuse_if (has_last_call st) refusals.Limit or_else send_refusal target.owner Limited st) (answers.Called (st.calls + 1))) [
-        | true ↦ λ peer. λ i. unless (refuse_if (cut i) refusals.Closed or_else refuse_if (held i) refusals.NotHeld or_else value_there value i or_else refuse_if (nat_le most_calls (length (in_hand i).calls) || nat_le last_number (made i)) refusals.Limit or_else send_there target.owner Limited peer i) (answers.Called (made i + 1))
+        | true ↦ λ peer. λ i. unless (refuse_if (cut i) refusals.Closed or_else refuse_if (held i) refusals.NotHeld or_else value_there value i or_else refuse_if (nat_le most_calls (length (outstanding i).calls) || nat_le last_number (made i)) refusals.Limit or_else send_there target.owner Limited peer i) (answers.Called (made i + 1))
         | false ↦ λ stranger. refl
       ] refl
 
@@ -195,7 +196,7 @@ unfolding work_after with_loans message_after run_after copy_after after_call
 call_work s n target method value call D = ap (after_call target.owner call) (loans_made s n D)
 
 -- it lends nothing
-call_lends : (s p call : ℕ) (W : InHand) → lent_in s (after_call p call W) ≡ lent_in s W
+call_lends : (s p call : ℕ) (W : Outstanding) → lent_in s (after_call p call W) ≡ lent_in s W
 unfolding after_call
 call_lends s p call W = refl
 
@@ -305,13 +306,13 @@ module _ {s n : ℕ} {limits : Limits} {st : State} {D : List Deed} (stands : St
       }
 
   -- one item is sent: its deed is done
-  pub stands_sent : {deed : Deed} {item : Item} (payload : List ℕ) (kind : Kind) (number : ℕ) (W : InHand) (t : Table) (made : ℕ) → HandsOne s n deed D p item → closed p D ≡ false
+  pub stands_sent : {deed : Deed} {item : Item} (payload : List ℕ) (kind : Kind) (number : ℕ) (W : Outstanding) (t : Table) (made : ℕ) → HandsOne s n deed D p item → closed p D ≡ false
       → payload ≡ payload_of item → kind ≡ kind_of item → number ≡ old.end.handed + 1
       → (session.Stands s p limits old.end (calls_at p (history_of s n D)) → session.Stands s p limits new.end (ends.Send payload kind (Ok number) ∷ calls_at p (history_of s n D)))
       → AddsPins st.pins.bundles table_of_pins.bundles p (old.end.handed + 1) (counted_in item)
       → TableStands s n t (history_of s n (deed ∷ D)) → W ≡ work s n (deed ∷ D) → W.waiting ≡ st.work.waiting → made ≡ calls_made (deed ∷ D) → IsRightDeed s n limits deed D
       → Stands s n limits (record { sessions = set st.sessions (p - 1) new; table = t; dirty = st.dirty; pins = table_of_pins; work = W; awaited = st.awaited; calls = made; jobs = st.jobs }) (deed ∷ D)
-  stands_sent {deed} {item} payload kind number W t made hands still spelled limited next answer adds table in_hand waits calls its =
+  stands_sent {deed} {item} payload kind number W t made hands still spelled limited next answer adds table outstanding waits calls its =
       let there = end_there s n limits st.sessions (history_of s n D) p old stands.ends peer is in
       let count : old.end.handed ≡ length (handed (calls_at p (history_of s n D))) = ap (λ (end : End). end.handed) there.2 in
       let after : session.Stands s p limits new.end (calls_at p (history_of s n (deed ∷ D))) =
@@ -324,13 +325,13 @@ module _ {s n : ℕ} {limits : Limits} {st : State} {D : List Deed} (stands : St
       (ends_changed s n limits st.sessions (history_of s n D) (history_of s n (deed ∷ D)) p new stands.ends there.0 after (λ q other. sym (calls_elsewhere hands q (nat_eq_equiv.symm p q ∙ other))))
       table
       (pins_then hands st.pins.bundles table_of_pins.bundles (orderly stands).settles still stands.pins (subst (λ k. AddsPins st.pins.bundles table_of_pins.bundles p (k + 1) (counted_in item)) count adds))
-      in_hand waits calls its
+      outstanding waits calls its
 
 -- the number of one call more is above those of all calls
 pub calls_below : {s n : ℕ} {limits : Limits} {st : State} {D : List Deed} → Stands s n limits st D → (number : ℕ) → number ≡ st.calls + 1 → IsAbove st.work.calls number
 calls_below {s} {n} {limits} {st} {D} stands number next =
     all_weaker (λ (own : OwnCall). own.call ≤ calls_made D) (λ (own : OwnCall). own.call < number) (λ own low. let made = stands.calls in omega (arith, low, next, made)) st.work.calls
-    (subst (λ (W : InHand). AllByRecursion (λ (own : OwnCall). own.call ≤ calls_made D) W.calls) (sym stands.work) (answered_once s n limits D stands.right).made_before)
+    (subst (λ (W : Outstanding). AllByRecursion (λ (own : OwnCall). own.call ≤ calls_made D) W.calls) (sym stands.work) (answered_once s n limits D stands.right).made_before)
 
 -- after a Call
 pub call_stands : {s n : ℕ} {limits : Limits} {st : State} {D : List Deed} → Stands s n limits st D → (target : WireRep) (method : ℕ) (value : Value) (old new : Roomy) (table_of_pins : pins.Table) → ((call : ℕ) → call ≡ st.calls + 1 → IsRightDeed s n limits (Call target method value call) D) → IsJudged s n st target value → old ≡ get_or st.sessions (target.owner - 1) old
@@ -342,12 +343,12 @@ pub call_stands : {s n : ℕ} {limits : Limits} {st : State} {D : List Deed} →
     → Stands s n limits (record { sessions = set st.sessions (target.owner - 1) new; table = st.table; dirty = st.dirty; pins = table_of_pins; work = record { waiting = st.work.waiting; ready = st.work.ready; running = st.work.running; replies = st.work.replies; calls = calls }; awaited = st.awaited; calls = st.calls + 1; jobs = st.jobs }) (Call target method value call ∷ D)
 unfolding after_call
 call_stands {s} {n} {limits} {st} {D} stands target method value old new table_of_pins its judged is payload number call reps calls call_is spelled next answer refs adds more =
-    let W : InHand = record { waiting = st.work.waiting; ready = st.work.ready; running = st.work.running; replies = st.work.replies; calls = calls } in
-    let in_hand : W ≡ after_call target.owner call st.work = λ i. record { waiting = st.work.waiting; ready = st.work.ready; running = st.work.running; replies = st.work.replies; calls = more i } in
+    let W : Outstanding = record { waiting = st.work.waiting; ready = st.work.ready; running = st.work.running; replies = st.work.replies; calls = calls } in
+    let outstanding : W ≡ after_call target.owner call st.work = λ i. record { waiting = st.work.waiting; ready = st.work.ready; running = st.work.running; replies = st.work.replies; calls = more i } in
     stands_sent stands target.owner old new table_of_pins judged.peer is payload Limited number W st.table (st.calls + 1)
     (call_hands s n target method value call D judged.peer) (sym (closed_there stands target.owner) ∙ judged.still)
     (sym (ap bytes_if spelled)) refl next answer (subst (λ rs. AddsPins st.pins.bundles table_of_pins.bundles target.owner (old.end.handed + 1) rs) refs adds)
     (call_shows stands target method value call judged.peer)
-    (in_hand ∙ ap (after_call target.owner call) stands.work ∙ sym (call_work s n target method value call D))
+    (outstanding ∙ ap (after_call target.owner call) stands.work ∙ sym (call_work s n target method value call D))
     refl
     (ap (λ k. k + 1) stands.calls) (its call call_is)

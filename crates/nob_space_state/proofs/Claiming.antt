@@ -24,7 +24,7 @@ use Rattle.nob_model_types.specs.declared.message.Message.{Message}
 use Rattle.nob_model_types.specs.declared.message.RefCopy.{RefCopy}
 use Rattle.nob_model_types.specs.Same.{same_tree, same_trees}
 use Rattle.nob_model_types.specs.Messages.{is_job, is_call_of, message_after, copy_after}
-use Rattle.nob_model_work.specs.declared.work.InHand.{InHand}
+use Rattle.nob_model_work.specs.declared.work.Outstanding.{Outstanding}
 use Rattle.nob_model_work.specs.declared.work.Run.{Run}
 use Rattle.nob_model_work.specs.Work.{work, work_after, after_claim, with_loans, run_after, without_first}
 use Rattle.nob_model_work.specs.Gifts.{gifts, gifts_of}
@@ -102,24 +102,24 @@ calls_target job message same = elim message.item as (λ item. (message.from == 
 ] same
 
 -- the first free job is the first that has its contents
-pub claimed_first : (W : InHand) (m : Message) (job : Job) → find (is_free W) W.ready ≡ Some m → is_free W m ≡ true → is_job job m ≡ true → target_of m.item ≡ job.target
+pub claimed_first : (W : Outstanding) (m : Message) (job : Job) → find (is_free W) W.ready ≡ Some m → is_free W m ≡ true → is_job job m ≡ true → target_of m.item ≡ job.target
     → (find (is_job job) W.ready ≡ Some m) × (without_first (is_job job) W.ready ≡ without_first (is_free W) W.ready)
 claimed_first W m job found free contents target = narrower_first (is_free W) (is_job job) W.ready m (λ x same.
     let one : target_of x.item ≡ target_of m.item = calls_target job x same ∙ sym target in
     ap (λ k. not (list_any (λ run. target_of run.message.item == k) W.running)) one ∙ free) found contents
 
--- the work in hand after a Claim
-abbrev pub claimed : ℕ → Message → InHand → InHand
+-- the outstanding work after a Claim
+abbrev pub claimed : ℕ → Message → Outstanding → Outstanding
 claimed j m W = record { waiting = W.waiting; ready = without_first (is_free W) W.ready; running = record { job = j; message = m } ∷ W.running; replies = W.replies; calls = W.calls }
 
 -- all that is lent is what messages that wait, ready and running jobs and ready replies lend
-pub times_lent : (s : ℕ) (rep : WireRep) (W : InHand) → times rep (lent_in s W) ≡ times rep (flat_map (loans_of s) W.waiting) + (times rep (flat_map (loans_of s) W.ready) + (times rep (flat_map (λ run. loans_of s run.message) W.running) + times rep (flat_map (loans_of s) W.replies)))
+pub times_lent : (s : ℕ) (rep : WireRep) (W : Outstanding) → times rep (lent_in s W) ≡ times rep (flat_map (loans_of s) W.waiting) + (times rep (flat_map (loans_of s) W.ready) + (times rep (flat_map (λ run. loans_of s run.message) W.running) + times rep (flat_map (loans_of s) W.replies)))
 times_lent s rep W = times_both rep (flat_map (loans_of s) W.waiting) _
     ∙ ap (λ k. times rep (flat_map (loans_of s) W.waiting) + k) (times_both rep (flat_map (loans_of s) W.ready) _
     ∙ ap (λ k. times rep (flat_map (loans_of s) W.ready) + k) (times_both rep (flat_map (λ run. loans_of s run.message) W.running) (flat_map (loans_of s) W.replies)))
 
 -- a Claim changes nothing that is lent
-claim_lends : (s j : ℕ) (rep : WireRep) (W : InHand) (m : Message) → find (is_free W) W.ready ≡ Some m → times rep (lent_in s W) ≡ times rep (lent_in s (claimed j m W))
+claim_lends : (s j : ℕ) (rep : WireRep) (W : Outstanding) (m : Message) → find (is_free W) W.ready ≡ Some m → times rep (lent_in s W) ≡ times rep (lent_in s (claimed j m W))
 claim_lends s j rep W m found =
     let ready : times rep (flat_map (loans_of s) W.ready) ≡ times rep (loans_of s m) + times rep (flat_map (loans_of s) (without_first (is_free W) W.ready)) = times_without (loans_of s) (is_free W) rep W.ready m found in
     let running : times rep (loans_of s m ++ flat_map (λ run. loans_of s run.message) W.running) ≡ times rep (loans_of s m) + times rep (flat_map (λ run. loans_of s run.message) W.running) = times_both rep (loans_of s m) (flat_map (λ run. loans_of s run.message) W.running) in
@@ -128,7 +128,7 @@ claim_lends s j rep W m found =
     omega (arith, ready, running, before, after)
 
 module _ (s n : ℕ) (D : List Deed) (m : Message) (job : Job) (j : ℕ) (found : find (is_free (work s n D)) (work s n D).ready ≡ Some m) (is : IsOf j m job) where
-  -- the work in hand after a Claim is fixed
+  -- the outstanding work after a Claim is fixed
   claimed_fixed : AreFixed s n (Claim job ∷ D) (claimed job.job m (work s n D))
   unfolding message_after run_after copy_after
   claimed_fixed =
@@ -141,11 +141,11 @@ module _ (s n : ℕ) (D : List Deed) (m : Message) (job : Job) (j : ℕ) (found 
         replies = fixed.replies;
       }
 
-  -- the work in hand after a Claim
+  -- the outstanding work after a Claim
   pub claim_work : work s n (Claim job ∷ D) ≡ claimed job.job m (work s n D)
   unfolding work_after after_claim
   claim_work =
-      let W : InHand = work s n D in
+      let W : Outstanding = work s n D in
       let first = claimed_first W m job found (found_passes (is_free W) W.ready m found) is.contents is.target in
       ap (λ w. with_loans s n (Claim job ∷ D) w) (ap (λ o. after_claim job o W) first.0 ∙ ap (λ ready. record { waiting = W.waiting; ready = ready; running = record { job = job.job; message = m } ∷ W.running; replies = W.replies; calls = W.calls }) first.1)
       ∙ fixed_stays s n (Claim job ∷ D) (claimed job.job m W) claimed_fixed
@@ -202,8 +202,8 @@ module _ (st : State) where
       let room : nat_le last_number st.jobs ≡ false = grind (arith, nat_tests, under) in
       ap (claim_of st.jobs) found ∙ rw room refl
 
--- the work in hand with these ready jobs and these that run
-abbrev pub with_jobs : List Message → List Run → InHand → InHand
+-- the outstanding work with these ready jobs and these that run
+abbrev pub with_jobs : List Message → List Run → Outstanding → Outstanding
 with_jobs ready running W = record { waiting = W.waiting; ready = ready; running = running; replies = W.replies; calls = W.calls }
 
 -- after a Claim: the state that has taken the message out and has its run

@@ -36,7 +36,7 @@ use Rattle.nob_model_types.specs.declared.message.RefCopy.{RefCopy}
 use Rattle.nob_model_types.specs.Messages.{is_not_from, loan_after, copy_after, message_after}
 use Rattle.nob_model_types.specs.Sessions.{closed, is_peer}
 use Rattle.nob_model_types.specs.Turns.{is_own, is_usable, is_granted, turns}
-use Rattle.nob_model_work.specs.declared.work.InHand.{InHand}
+use Rattle.nob_model_work.specs.declared.work.Outstanding.{Outstanding}
 use Rattle.nob_model_work.specs.declared.work.OwnCall.{OwnCall}
 use Rattle.nob_model_work.specs.declared.work.Run.{Run}
 use Rattle.nob_model_work.specs.Gifts.{gifts, gifts_of}
@@ -88,7 +88,7 @@ from_parts s p rep (message ∷ messages) =
     ]
 
 -- all that is lent, without what was lent in vain
-lent_less : (s p : ℕ) (rep : WireRep) (W : InHand) → times rep (lent_in s W) ≡ times rep (lent_in_vain s p W) + times rep (lent_in s (work.after_close p W))
+lent_less : (s p : ℕ) (rep : WireRep) (W : Outstanding) → times rep (lent_in s W) ≡ times rep (lent_in_vain s p W) + times rep (lent_in s (work.after_close p W))
 unfolding work.after_close
 lent_less s p rep W =
     let before = times_lent s rep W in
@@ -168,7 +168,7 @@ lost_shows s n p reason cause D H L t u peer shows loses kept =
       kept = kept;
     }
 
--- ---- the work in hand
+-- ---- the outstanding work
 
 -- a loan that isn't due, or isn't made, is the same where less can be used
 loan_less : (before after : Bool) (loan : Loan) → (after ≡ true → before ≡ true) → loan_after before loan ≡ loan → loan_after after loan ≡ loan
@@ -206,7 +206,7 @@ module _ (s n p : ℕ) (reason : Reason) (cause : Cause) (D : List Deed) where
   unfolding run_after
   run_less run same = λ i. record { job = run.job; message = message_less run.message (ap (λ (r : Run). r.message) same) i }
 
-  -- the work in hand after the closing
+  -- the outstanding work after the closing
   closed_work : work s n (Closing p reason cause ∷ D) ≡ work.after_close p (work s n D)
   unfolding work_after work.after_close
   closed_work =
@@ -264,7 +264,7 @@ listed_less false cut entered = refl
 -- ---- the whole
 
 -- the messages that wait after a closing
-thrown_waiting : (p : ℕ) (W : InHand) → (work.after_close p W).waiting ≡ filter (is_not_from p) W.waiting
+thrown_waiting : (p : ℕ) (W : Outstanding) → (work.after_close p W).waiting ≡ filter (is_not_from p) W.waiting
 unfolding work.after_close
 thrown_waiting p W = refl
 
@@ -319,15 +319,15 @@ module _ {s n : ℕ} {limits : Limits} {st : State} {D : List Deed} (stands : St
         listed = closing_listed reason cause after.dirty down.listed;
         pins = closing_pins s n p reason cause D st.pins.bundles after.pins.bundles stands.pins down.pins;
         work = down.work ∙ ap (work.after_close p) stands.work ∙ sym (closed_work s n p reason cause D);
-        awaited = subst (λ (ms : List Message). AreAwaited s n after.awaited ms (Closing p reason cause ∷ D)) (sym (ap (λ (W : InHand). W.waiting) down.work ∙ thrown_waiting p st.work))
+        awaited = subst (λ (ms : List Message). AreAwaited s n after.awaited ms (Closing p reason cause ∷ D)) (sym (ap (λ (W : Outstanding). W.waiting) down.work ∙ thrown_waiting p st.work))
             (closing_awaited s n p reason cause D st.awaited after.awaited st.work.waiting peer stands.awaited down.awaited);
         calls = down.calls ∙ stands.calls;
         jobs = down.jobs ∙ stands.jobs;
         right = (its, stands.right);
       }
 
--- the work in hand once messages are thrown away and calls ended
-pub thrown_work : (p : ℕ) (W : InHand) (waiting ready : List Message) (running : List Run) (replies : List Message) (calls : List OwnCall)
+-- the outstanding work once messages are thrown away and calls ended
+pub thrown_work : (p : ℕ) (W : Outstanding) (waiting ready : List Message) (running : List Run) (replies : List Message) (calls : List OwnCall)
     → waiting ≡ filter (is_not_from p) W.waiting → ready ≡ filter (is_not_from p) W.ready → running ≡ W.running → replies ≡ W.replies → calls ≡ map (work.call_after_close p W.replies) W.calls
     → record { waiting = waiting; ready = ready; running = running; replies = replies; calls = calls } ≡ work.after_close p W
 unfolding work.after_close

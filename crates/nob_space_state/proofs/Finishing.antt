@@ -30,7 +30,7 @@ use Rattle.nob_model_types.specs.declared.deed.Deed.TheVariants.{Finish, DropRep
 use Rattle.nob_model_types.specs.declared.message.RefCopy.{RefCopy}
 use Rattle.nob_model_types.specs.Messages.{copy_after, message_after}
 use Rattle.nob_model_types.specs.Sessions.{is_peer}
-use Rattle.nob_model_work.specs.declared.work.InHand.{InHand}
+use Rattle.nob_model_work.specs.declared.work.Outstanding.{Outstanding}
 use Rattle.nob_model_work.specs.declared.work.Run.{Run}
 use Rattle.nob_model_work.specs.Work.{work, work_after, with_loans, run_after, is_run, after_finish}
 use Rattle.nob_model_work.specs.Gifts.{gifts, gifts_of, gifts_of_finish, reply_to, status_of, value_of}
@@ -76,7 +76,7 @@ run_parts s j rep (run ∷ runs) =
     ]
 
 -- all that is lent, without those
-pub lent_less : (s j : ℕ) (rep : WireRep) (W : InHand) → times rep (lent_in s W) ≡ times rep (lent_by s j W.running) + times rep (lent_in s (after_finish j W))
+pub lent_less : (s j : ℕ) (rep : WireRep) (W : Outstanding) → times rep (lent_in s W) ≡ times rep (lent_by s j W.running) + times rep (lent_in s (after_finish j W))
 unfolding after_finish
 lent_less s j rep W =
     let waiting : List WireRep = flat_map (loans_of s) W.waiting in
@@ -153,7 +153,7 @@ module _ {s n : ℕ} {limits : Limits} {st : State} {D : List Deed} (stands : St
       less : (a b c : ℕ) → a ≡ b + c → a - b ≡ c
       less a b c sum = omega (arith, sum)
 
--- ---- the work in hand without the jobs of a number
+-- ---- the outstanding work without the jobs of a number
 
 map_filtered : {X : Type 0} (f : X → X) (test : X → Bool) → ((x : X) → test (f x) ≡ test x) → (xs : List X) → map f (filter test xs) ≡ filter test (map f xs)
 map_filtered f test same [] = refl
@@ -164,7 +164,7 @@ unfolding with_loans after_finish run_after
 without_run s n j D =
     let made : with_loans s n D (work s n D) ≡ work s n D = loans_made s n D in
     let runs : map (λ (run : Run). run_after s n D run) (filter (λ run. not (is_run j run)) (work s n D).running) ≡ filter (λ run. not (is_run j run)) (work s n D).running =
-    map_filtered (λ run. run_after s n D run) (λ run. not (is_run j run)) (λ run. refl) (work s n D).running ∙ ap (λ (W : InHand). filter (λ run. not (is_run j run)) W.running) made in
+    map_filtered (λ run. run_after s n D run) (λ run. not (is_run j run)) (λ run. refl) (work s n D).running ∙ ap (λ (W : Outstanding). filter (λ run. not (is_run j run)) W.running) made in
     λ i. record { waiting = (made i).waiting; ready = (made i).ready; running = runs i; replies = (made i).replies; calls = (work s n D).calls }
 
 pub finish_work : (s n j : ℕ) (outcome : Outcome) (D : List Deed) → work s n (Finish j outcome ∷ D) ≡ after_finish j (work s n D)
@@ -219,7 +219,7 @@ reply_spelled s st call status value fault number low fits e =
 module _ {s n : ℕ} {limits : Limits} {st : State} {D : List Deed} (stands : Stands s n limits st D) (j : ℕ) (outcome : Outcome) where
   found_there : (found : Option Run) → find (is_run j) st.work.running ≡ found → right_finish s j outcome (history_of s n D) ≡ finish_of s outcome found (history_of s n D)
   unfolding right_finish
-  found_there found is = ap (λ (run : Option Run). finish_of s outcome run (history_of s n D)) (ap (λ (W : InHand). find (is_run j) W.running) (sym stands.work) ∙ is)
+  found_there found is = ap (λ (run : Option Run). finish_of s outcome run (history_of s n D)) (ap (λ (W : Outstanding). find (is_run j) W.running) (sym stands.work) ∙ is)
 
   -- no job of this number runs
   pub finish_of_none : find (is_run j) st.work.running ≡ None → right_finish s j outcome (history_of s n D) ≡ Err refusals.NoJob
@@ -250,10 +250,10 @@ module _ {s n : ℕ} {limits : Limits} {st : State} {D : List Deed} (stands : St
       → Stands s n limits (record { sessions = st.sessions; table = u; dirty = st.dirty; pins = st.pins; work = record { waiting = st.work.waiting; ready = st.work.ready; running = runs; replies = st.work.replies; calls = st.work.calls }; awaited = st.awaited; calls = st.calls; jobs = st.jobs }) (DropReply j ∷ D)
   unfolding gifts gifts_of after_finish
   drop_stands u runs its back ended =
-      let W : InHand = record { waiting = st.work.waiting; ready = st.work.ready; running = runs; replies = st.work.replies; calls = st.work.calls } in
+      let W : Outstanding = record { waiting = st.work.waiting; ready = st.work.ready; running = runs; replies = st.work.replies; calls = st.work.calls } in
       let after : W ≡ after_finish j st.work = λ i. record { waiting = st.work.waiting; ready = st.work.ready; running = ended i; replies = st.work.replies; calls = st.work.calls } in
       let shows = table_back stands j u back in
-      let in_hand : W ≡ work s n (DropReply j ∷ D) = after ∙ ap (after_finish j) stands.work ∙ sym (drop_work s n j D) in
+      let outstanding : W ≡ work s n (DropReply j ∷ D) = after ∙ ap (after_finish j) stands.work ∙ sym (drop_work s n j D) in
       record {
         ends = record { each = stands.ends.each; ends = λ place end there. stands.ends.ends place end there };
         table = record {
@@ -262,14 +262,14 @@ module _ {s n : ℕ} {limits : Limits} {st : State} {D : List Deed} (stands : St
           live = shows.live;
           far = shows.far;
           hands = shows.hands;
-          loans = λ rep counted. shows.loans rep counted ∙ ap (λ V. times rep (lent_in s V)) (sym after ∙ in_hand);
+          loans = λ rep counted. shows.loans rep counted ∙ ap (λ V. times rep (lent_in s V)) (sym after ∙ outstanding);
           dirties = shows.dirties;
           places = shows.places;
           kept = shows.kept;
         };
         listed = stands.listed;
         pins = stands.pins;
-        work = in_hand;
+        work = outstanding;
         awaited = stands.awaited;
         calls = stands.calls;
         jobs = stands.jobs;
@@ -302,10 +302,10 @@ pub finish_stands : {s n : ℕ} {limits : Limits} {st : State} {D : List Deed} �
     → Stands s n limits (record { sessions = set st.sessions (run.message.from - 1) new; table = u; dirty = st.dirty; pins = table_of_pins; work = record { waiting = st.work.waiting; ready = st.work.ready; running = runs; replies = st.work.replies; calls = st.work.calls }; awaited = st.awaited; calls = st.calls; jobs = st.jobs }) (Finish j outcome ∷ D)
 unfolding after_finish
 finish_stands {s} {n} {limits} {st} {D} stands j outcome its run found still call target method argument item old new table_of_pins is payload status number value reps u runs status_is value_is spelled next answer refs adds back ended =
-    let W : InHand = record { waiting = st.work.waiting; ready = st.work.ready; running = runs; replies = st.work.replies; calls = st.work.calls } in
+    let W : Outstanding = record { waiting = st.work.waiting; ready = st.work.ready; running = runs; replies = st.work.replies; calls = st.work.calls } in
     let after : W ≡ after_finish j st.work = λ i. record { waiting = st.work.waiting; ready = st.work.ready; running = ended i; replies = st.work.replies; calls = st.work.calls } in
     let peer : is_peer s n run.message.from ≡ true = (run_sound stands j outcome run found).0.peer in
-    let there : find (is_run j) (work s n D).running ≡ Some run = ap (λ (V : InHand). find (is_run j) V.running) (sym stands.work) ∙ found in
+    let there : find (is_run j) (work s n D).running ≡ Some run = ap (λ (V : Outstanding). find (is_run j) V.running) (sym stands.work) ∙ found in
     let hands : HandsOne s n (Finish j outcome) D run.message.from (items.Reply call (status_of outcome) (value_of outcome)) = finish_hands s n j run.message.from call target method argument outcome run D there refl item peer in
     let bytes : bytes_of (items.Reply call (status_of outcome) (value_of outcome)) ≡ Ok payload = λ i. (subst (λ (k : ℕ). bytes_of (items.Reply call k (value_of outcome)) ≡ Ok payload) status_is (subst (λ (v : Value). bytes_of (items.Reply call status v) ≡ Ok payload) value_is spelled)) i in
     let counted : reps ≡ filter is_counted (refs_in (value_of outcome)) = refs ∙ ap (λ (v : Value). filter is_counted (refs_in v)) value_is in

@@ -16,7 +16,7 @@ use Rattle.nob_model_types.specs.declared.deed.Deed.TheVariants.{Dup, Release}
 use Rattle.nob_model_work.specs.Work.{work}
 use Rattle.nob_model_history.specs.Histories.{history_of}
 use Rattle.nob_model_history.specs.Holds.{hand, times, gains, releases, lent_in}
-use Rattle.nob_model.specs.Right.{right_dup, right_release, most_in_hand}
+use Rattle.nob_model.specs.Right.{right_dup, right_release, greatest_hand}
 use Rattle.nob_model_acting.specs.Sending.{◌or_else◌, refuse_if, unless}
 use Rattle.nob_space_state.specs.Judging.{dup_refusal, release_refusal}
 use Rattle.nob_space_state.specs.Looks.{has_holds, is_gone, is_cut}
@@ -67,7 +67,7 @@ release_passes false false false e = refl
 pub dup_finds_room : (s : ℕ) (st : State) (rep : WireRep) → dup_refusal s st rep ≡ None → hold_fault st.table rep Hand ≡ None
 unfolding dup_refusal
 dup_finds_room s st rep free =
-    let passes : (has_holds st.table rep ≡ true) × (nat_le most_in_hand (standing st.table rep).counts.hand ≡ false) = dup_passes (is_gone s st.table rep) (rep.index == 0) (has_holds st.table rep) (is_cut s st.sessions rep) (nat_le most_in_hand (standing st.table rep).counts.hand) free in
+    let passes : (has_holds st.table rep ≡ true) × (nat_le greatest_hand (standing st.table rep).counts.hand ≡ false) = dup_passes (is_gone s st.table rep) (rep.index == 0) (has_holds st.table rep) (is_cut s st.sessions rep) (nat_le greatest_hand (standing st.table rep).counts.hand) free in
     let known : is_known (standing st.table rep).state ≡ true = held_known (rep.owner == st.table.me) (was_given st.table.exported rep.index) (row_at st.table.objects rep) (row_at st.table.surrogates rep) (row_at st.table.counted rep) passes.0 in
     let room : (standing st.table rep).counts.hand == 4294967295 ≡ false = grind (arith, nat_tests, passes.1) in
     rw (known, room) refl
@@ -89,7 +89,7 @@ module _ {s n : ℕ} {limits : Limits} {st : State} {D : List Deed} (stands : St
     | true ↦ λ agent. rw (agent) refl
     | false ↦ λ counted.
         rw (sym (held_there stands rep (rw counted refl)), sym (gone_there stands rep), sym (closed_there stands rep.owner), sym (stands.table.hands rep (rw counted refl)))
-        (dup_chain (is_gone s st.table rep) (rep.index == 0) (has_holds st.table rep) (is_cut s st.sessions rep) (nat_le most_in_hand (standing st.table rep).counts.hand))
+        (dup_chain (is_gone s st.table rep) (rep.index == 0) (has_holds st.table rep) (is_cut s st.sessions rep) (nat_le greatest_hand (standing st.table rep).counts.hand))
   ] refl
 
   -- what is right for a Release is what the state tells

@@ -17,7 +17,7 @@ use Rattle.nob_session.specs.declared.due.Due.TheVariants.{Nothing}
 use Rattle.nob_session.specs.Dues.{due_of}
 use Rattle.nob_model_types.specs.declared.deed.Deed.{Deed}
 use Rattle.nob_model_types.specs.Sessions.{is_peer}
-use Rattle.nob_model_work.specs.declared.work.InHand.{InHand}
+use Rattle.nob_model_work.specs.declared.work.Outstanding.{Outstanding}
 use Rattle.nob_model_history.specs.declared.history.History.{History}
 use Rattle.nob_model_history.specs.Ends.{calls_at}
 use Rattle.nob_model_history.specs.Histories.{history_of}
@@ -55,7 +55,7 @@ due_no_peer s n p window h stranger = rw stranger refl
 
 -- there is a job to claim where a ready one is free
 pub claim_there : {s n : ℕ} {limits : Limits} {st : State} {D : List Deed} → Stands s n limits st D → is_some (find (is_free st.work) st.work.ready) ≡ can_claim (history_of s n D)
-claim_there {s} {n} {limits} {st} {D} stands = ap (λ (W : InHand). is_some (find (is_free W) W.ready)) stands.work
+claim_there {s} {n} {limits} {st} {D} stands = ap (λ (W : Outstanding). is_some (find (is_free W) W.ready)) stands.work
 
 -- ---- the object to withdraw
 

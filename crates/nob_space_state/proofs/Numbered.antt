@@ -10,7 +10,7 @@ use Rattle.nob_model_types.specs.declared.deed.Deed.TheVariants.{Call, TakeReply
 use Rattle.nob_model_types.specs.Sessions.{item_at}
 use Rattle.nob_model_types.specs.declared.message.Message.{Message}
 use Rattle.nob_model_types.specs.Messages.{is_job, is_of}
-use Rattle.nob_model_work.specs.declared.work.InHand.{InHand}
+use Rattle.nob_model_work.specs.declared.work.Outstanding.{Outstanding}
 use Rattle.nob_model_work.specs.declared.work.Run.{Run}
 use Rattle.nob_model_work.specs.Work.{work, work_after, with_loans, run_after, is_none_of, make_ready, make_reply, wait, after_message, after_act, after_settlement, after_settle, after_claim, after_finish, after_take, after_end, after_call, after_close, is_run}
 use Rattle.nob_model_history.specs.Histories.{history_of}
@@ -24,12 +24,12 @@ use Rattle.nob_space_state.specs.Stands.{Stands}
 use Rattle.nob_space_state.proofs.Running.{all_filter, all_map}
 
 -- whichever it is, the same jobs run
-kept : (b : Bool) (one other W : InHand) → one.running ≡ W.running → other.running ≡ W.running → InHand.running (if b then one else other) ≡ W.running
+kept : (b : Bool) (one other W : Outstanding) → one.running ≡ W.running → other.running ≡ W.running → Outstanding.running (if b then one else other) ≡ W.running
 kept true one other W same again = same
 kept false one other W same again = again
 
 -- a message acted on runs no job
-message_runs : (message : Message) (item : Item) (W : InHand) → (after_message message item W).running ≡ W.running
+message_runs : (message : Message) (item : Item) (W : Outstanding) → (after_message message item W).running ≡ W.running
 unfolding after_message
 message_runs message (items.Call call target method value) W = kept (is_none_of message.copies) (make_ready message W) (wait message W) W refl refl
 message_runs message (items.Reply call status value) W = kept (is_none_of message.copies) (make_reply message W) (wait message W) W refl refl
@@ -40,7 +40,7 @@ message_runs message (items.DirtyNo index) W = refl
 message_runs message (items.Clean index) W = refl
 
 -- nor does one that was settled
-settled_runs : (message : Message) (item : Item) (lost : Bool) (W : InHand) → (after_settlement message item lost W).running ≡ W.running
+settled_runs : (message : Message) (item : Item) (lost : Bool) (W : Outstanding) → (after_settlement message item lost W).running ≡ W.running
 unfolding after_settlement
 settled_runs message (items.Call call target method value) true W = refl
 settled_runs message (items.Call call target method value) false W = refl
@@ -52,12 +52,12 @@ settled_runs message (items.DirtyOk index) lost W = refl
 settled_runs message (items.DirtyNo index) lost W = refl
 settled_runs message (items.Clean index) lost W = refl
 
-act_runs : (s n p k : ℕ) (D : List Deed) (found : Option Item) (W : InHand) → (after_act s n p k D found W).running ≡ W.running
+act_runs : (s n p k : ℕ) (D : List Deed) (found : Option Item) (W : Outstanding) → (after_act s n p k D found W).running ≡ W.running
 unfolding after_act
 act_runs s n p k D None W = refl
 act_runs s n p k D (Some item) W = message_runs _ item W
 
-settle_runs : (s n p k : ℕ) (D : List Deed) (found : Option Message) (W : InHand) → (after_settle s n p k D found W).running ≡ W.running
+settle_runs : (s n p k : ℕ) (D : List Deed) (found : Option Message) (W : Outstanding) → (after_settle s n p k D found W).running ≡ W.running
 unfolding after_settle
 settle_runs s n p k D None W = refl
 settle_runs s n p k D (Some message) W = settled_runs message message.item _ _
@@ -70,7 +70,7 @@ weaker : (made more : ℕ) (runs : List Run) → made ≤ more → AreCounted ma
 weaker made more [] le all = tt
 weaker made more (run ∷ runs) le all = (omega (arith, le, all.0), weaker made more runs le all.1)
 
-claim_counted : (made : ℕ) (job : Job) (found : Option Message) (W : InHand) → job.job ≡ made + 1 → AreCounted made W.running → AreCounted (made + 1) (after_claim job found W).running
+claim_counted : (made : ℕ) (job : Job) (found : Option Message) (W : Outstanding) → job.job ≡ made + 1 → AreCounted made W.running → AreCounted (made + 1) (after_claim job found W).running
 unfolding after_claim
 claim_counted made job None W next all = weaker made (made + 1) W.running (omega arith) all
 claim_counted made job (Some message) W next all = (omega (arith, next), weaker made (made + 1) W.running (omega arith) all)
@@ -104,7 +104,7 @@ module _ (s n : ℕ) (limits : Limits) where
 -- the number of the next job is above those of all that run
 pub jobs_below : {s n : ℕ} {limits : Limits} {st : State} {D : List Deed} → Stands s n limits st D → (number : ℕ) → number ≡ st.jobs + 1 → IsAbove st.work.running number
 jobs_below {s} {n} {limits} {st} {D} stands number next =
-    let all : AreCounted (jobs_made D) st.work.running = subst (λ (W : InHand). AreCounted (jobs_made D) W.running) (sym stands.work) (runs_counted s n limits D stands.right) in
+    let all : AreCounted (jobs_made D) st.work.running = subst (λ (W : Outstanding). AreCounted (jobs_made D) W.running) (sym stands.work) (runs_counted s n limits D stands.right) in
     let made = stands.jobs in
     below st.work.running all (omega (arith, next, made))
   where

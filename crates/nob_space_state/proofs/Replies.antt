@@ -27,14 +27,14 @@ use Rattle.nob_model_types.specs.declared.message.Loan.TheVariants as loans
 use Rattle.nob_model_types.specs.declared.message.RefCopy.{RefCopy}
 use Rattle.nob_model_types.specs.declared.message.Message.{Message}
 use Rattle.nob_model_types.specs.Messages.{replies_to, message_after, copy_after}
-use Rattle.nob_model_work.specs.declared.work.InHand.{InHand}
+use Rattle.nob_model_work.specs.declared.work.Outstanding.{Outstanding}
 use Rattle.nob_model_work.specs.declared.work.OwnCall.{OwnCall}
 use Rattle.nob_model_work.specs.Work.{work, work_after, with_loans, run_after, without_first, is_call, is_not_reply, after_take, after_end}
 use Rattle.nob_model_work.specs.Gifts.{gifts, gifts_of}
 use Rattle.nob_model_history.specs.Histories.{history_of}
 use Rattle.nob_model_history.specs.Holds.{times, hand, gains, releases, is_lent, copies_lent, target_lent, loans_of, lent_in}
 use Rattle.nob_model.specs.Lists.{IsRightDeed}
-use Rattle.nob_model.specs.Right.{most_in_hand, is_handful, right_take_reply, take_of, answer_of_stage}
+use Rattle.nob_model.specs.Right.{greatest_hand, is_handful, right_take_reply, take_of, answer_of_stage}
 use Rattle.nob_model.specs.Right as right
 use Rattle.nob_model.specs.Next.{is_not_ready, reply_ready}
 use Rattle.nob_model_acting.specs.Sending.{refuse_if, unless}
@@ -137,15 +137,15 @@ lent_reps (copy ∷ copies) all = (let lent : is_lent copy.loan ≡ true = ap is
 module _ {s n : ℕ} {limits : Limits} {st : State} {D : List Deed} (stands : Stands s n limits st D) (k : ℕ) where
   -- the ready reply carries the references of its item, all of them lent
   carried : (m : Message) → find (is_reply k) st.work.replies ≡ Some m → reps_of m.copies ≡ counted_in m.item
-  carried m found = all_found Carries (is_reply k) (work s n D).replies m (subst (λ (w : InHand). find (is_reply k) w.replies ≡ Some m) stands.work found) (all_carry s n D).replies
+  carried m found = all_found Carries (is_reply k) (work s n D).replies m (subst (λ (w : Outstanding). find (is_reply k) w.replies ≡ Some m) stands.work found) (all_carry s n D).replies
 
   lent_there : (m : Message) → find (is_reply k) st.work.replies ≡ Some m → copies_lent m.copies ≡ reps_of m.copies
-  lent_there m found = lent_reps m.copies (all_found IsAllLent (is_reply k) (work s n D).replies m (subst (λ (w : InHand). find (is_reply k) w.replies ≡ Some m) stands.work found) (all_lent s n limits D stands.right).replies)
+  lent_there m found = lent_reps m.copies (all_found IsAllLent (is_reply k) (work s n D).replies m (subst (λ (w : Outstanding). find (is_reply k) w.replies ≡ Some m) stands.work found) (all_lent s n limits D stands.right).replies)
 
   -- the hand that the table tells
   handful_there : (value : Value) (reps : List WireRep) → reps ≡ filter is_counted (refs_in value) → is_handful value (history_of s n D) ≡ is_overfull st.table reps
   handful_there value reps is = subst (λ rs. is_handful value (history_of s n D) ≡ is_overfull st.table rs) (sym is)
-      (any_same _ _ (filter is_counted (refs_in value)) (all_of (λ (rep : WireRep). is_counted rep ≡ true) _ (λ rep counted. ap (λ j. nat_lt most_in_hand (j + times rep (filter is_counted (refs_in value)))) (sym (stands.table.hands rep counted))) (filter is_counted (refs_in value)) (all_counted (refs_in value))))
+      (any_same _ _ (filter is_counted (refs_in value)) (all_of (λ (rep : WireRep). is_counted rep ≡ true) _ (λ rep counted. ap (λ j. nat_lt greatest_hand (j + times rep (filter is_counted (refs_in value)))) (sym (stands.table.hands rep counted))) (filter is_counted (refs_in value)) (all_counted (refs_in value))))
 
   item_right : (item : Item) (reps : List WireRep) → reps ≡ counted_in item → right.answer_of_reply item (history_of s n D) ≡ answer_of_item st.table reps item
   unfolding right.answer_of_reply
@@ -165,12 +165,12 @@ module _ {s n : ℕ} {limits : Limits} {st : State} {D : List Deed} (stands : St
   call_right : (found : Option OwnCall) → right.take_of k found (history_of s n D) ≡ answer_of_call k st found
   unfolding right.take_of
   call_right None = refl
-  call_right (Some own) = ap (λ (w : InHand). right.answer_of_call own (find (is_reply k) w.replies) (history_of s n D)) (sym stands.work) ∙ reply_right own (find (is_reply k) st.work.replies) refl
+  call_right (Some own) = ap (λ (w : Outstanding). right.answer_of_call own (find (is_reply k) w.replies) (history_of s n D)) (sym stands.work) ∙ reply_right own (find (is_reply k) st.work.replies) refl
 
   -- what is right for a TakeReply is what the state tells
   pub take_right : right_take_reply k (history_of s n D) ≡ take_answer k st
   unfolding right_take_reply take_answer
-  take_right = ap (λ (w : InHand). right.take_of k (find (is_call k) w.calls) (history_of s n D)) (sym stands.work) ∙ call_right (find (is_call k) st.work.calls)
+  take_right = ap (λ (w : Outstanding). right.take_of k (find (is_call k) w.calls) (history_of s n D)) (sym stands.work) ∙ call_right (find (is_call k) st.work.calls)
 
 -- a test of the references of copies
 pub any_copy : (f : WireRep → Bool) (copies : List RefCopy) → list_any (λ (copy : RefCopy). f copy.rep) copies ≡ list_any f (reps_of copies)
@@ -213,22 +213,22 @@ pub reply_answer : (t : Table) (reps : List WireRep) (k status : ℕ) (value : V
 reply_answer t reps k status value item is room = subst (λ (i : Item). answer_of_item t reps i ≡ Ok (answers.Replied status value)) (sym is) (rw room refl)
 
 module _ {s n : ℕ} {limits : Limits} {st : State} {D : List Deed} (stands : Stands s n limits st D) (k : ℕ) (m : Message) (found : find (is_reply k) st.work.replies ≡ Some m) (is : replies_to k m.item ≡ true) where
-  -- in the list of the work in hand
+  -- in the list of the outstanding work
   reply_there : find (is_reply k) (work s n D).replies ≡ Some m
-  reply_there = subst (λ (w : InHand). find (is_reply k) w.replies ≡ Some m) stands.work found
+  reply_there = subst (λ (w : Outstanding). find (is_reply k) w.replies ≡ Some m) stands.work found
 
   -- a Reply lends what it carries
   loans_there : loans_of s m ≡ reps_of m.copies
   loans_there = (let told = reply_is k m.item is in ap (λ (i : Item). target_lent s i ++ copies_lent m.copies) told.2 ∙ lent_there stands k m found)
 
-  -- the work in hand without it
-  abbrev less : InHand
+  -- the outstanding work without it
+  abbrev less : Outstanding
   less = record { waiting = (work s n D).waiting; ready = (work s n D).ready; running = (work s n D).running; replies = without_first (is_reply k) (work s n D).replies; calls = filter (λ own. not (is_call k own)) (work s n D).calls }
 
   -- it lent as often as it carries
   loans_less : (rep : WireRep) → times rep (lent_in s (work s n D)) ≡ times rep (reps_of m.copies) + times rep (lent_in s less)
   loans_less rep =
-      let W : InHand = work s n D in
+      let W : Outstanding = work s n D in
       let before = times_lent s rep W in
       let after = times_lent s rep less in
       let one : times rep (flat_map (loans_of s) W.replies) ≡ times rep (loans_of s m) + times rep (flat_map (loans_of s) (without_first (is_reply k) W.replies)) = times_without (loans_of s) (is_reply k) rep W.replies m reply_there in
@@ -250,7 +250,7 @@ module _ {s n : ℕ} {limits : Limits} {st : State} {D : List Deed} (stands : St
               omega (arith, none)
         ] refl;
         room = λ rep some.
-            let under : nat_lt most_in_hand ((standing st.table rep).counts.hand + times rep (reps_of m.copies)) ≡ false = none_passes (is_full st.table (reps_of m.copies)) rep (reps_of m.copies) room some in
+            let under : nat_lt greatest_hand ((standing st.table rep).counts.hand + times rep (reps_of m.copies)) ≡ false = none_passes (is_full st.table (reps_of m.copies)) rep (reps_of m.copies) room some in
             grind (arith, nat_tests, under);
       }
 
@@ -266,11 +266,11 @@ module _ {s n : ℕ} {limits : Limits} {st : State} {D : List Deed} (stands : St
           replies = all_without (λ message. message_after s n D message ≡ message) (is_reply k) (work s n D).replies fixed.replies;
         }
 
-    -- the work in hand after it was taken
+    -- the outstanding work after it was taken
     take_work : work s n (TakeReply k status value ∷ D) ≡ less
     unfolding work_after after_take
     take_work =
-        let W : InHand = work s n D in
+        let W : Outstanding = work s n D in
         let once : length (filter (is_reply k) W.waiting) + length (filter (is_reply k) W.replies) ≤ 1 = (answered_once s n limits D stands.right).once k in
         let some : 1 ≤ length (filter (is_reply k) W.replies) = found_counts (is_reply k) W.replies m reply_there in
         let waiting : filter (is_not_reply k) W.waiting ≡ W.waiting = no_filter (is_reply k) W.waiting (omega (arith, once, some)) in
@@ -292,7 +292,7 @@ module _ {s n : ℕ} {limits : Limits} {st : State} {D : List Deed} (stands : St
     take_loans rep =
         let less_one : times rep (lent_in s (work s n D)) ≡ times rep (reps_of m.copies) + times rep (lent_in s less) = loans_less rep in
         let left : times rep (lent_in s (work s n D)) - times rep (reps_of m.copies) ≡ times rep (lent_in s less) = omega (arith, less_one) in
-        left ∙ ap (λ (w : InHand). times rep (lent_in s w)) (sym take_work)
+        left ∙ ap (λ (w : Outstanding). times rep (lent_in s w)) (sym take_work)
 
     -- after a TakeReply
     pub take_stands : (t : Table) (replies : List Message) (calls : List OwnCall) → IsRightDeed s n limits (TakeReply k status value) D
@@ -301,8 +301,8 @@ module _ {s n : ℕ} {limits : Limits} {st : State} {D : List Deed} (stands : St
         → Stands s n limits (record { sessions = st.sessions; table = t; dirty = st.dirty; pins = st.pins; work = record { waiting = st.work.waiting; ready = st.work.ready; running = st.work.running; replies = replies; calls = calls }; awaited = st.awaited; calls = st.calls; jobs = st.jobs }) (TakeReply k status value ∷ D)
     unfolding gifts gifts_of
     take_stands t replies calls its shows others left =
-        let fewer : replies ≡ without_first (is_reply k) (work s n D).replies = others ∙ ap (λ (w : InHand). without_first (is_reply k) w.replies) stands.work in
-        let rest : calls ≡ filter (λ own. not (is_call k own)) (work s n D).calls = left ∙ ap (λ (w : InHand). filter (λ own. not (is_call k own)) w.calls) stands.work in
+        let fewer : replies ≡ without_first (is_reply k) (work s n D).replies = others ∙ ap (λ (w : Outstanding). without_first (is_reply k) w.replies) stands.work in
+        let rest : calls ≡ filter (λ own. not (is_call k own)) (work s n D).calls = left ∙ ap (λ (w : Outstanding). filter (λ own. not (is_call k own)) w.calls) stands.work in
         let is_less : record { waiting = st.work.waiting; ready = st.work.ready; running = st.work.running; replies = replies; calls = calls } ≡ less = λ i. record { waiting = (stands.work i).waiting; ready = (stands.work i).ready; running = (stands.work i).running; replies = fewer i; calls = rest i } in
         record {
           ends = record { each = stands.ends.each; ends = stands.ends.ends };
@@ -327,8 +327,8 @@ module _ {s n : ℕ} {limits : Limits} {st : State} {D : List Deed} (stands : St
         }
 
 module _ {s n : ℕ} {limits : Limits} {st : State} {D : List Deed} (stands : Stands s n limits st D) (k : ℕ) where
-  -- the work in hand without a call that ended
-  abbrev without_call : InHand
+  -- the outstanding work without a call that ended
+  abbrev without_call : Outstanding
   without_call = record { waiting = (work s n D).waiting; ready = (work s n D).ready; running = (work s n D).running; replies = (work s n D).replies; calls = filter (λ own. not (is_call k own)) (work s n D).calls }
 
   end_fixed : AreFixed s n (TakeEnd k ∷ D) without_call
@@ -344,7 +344,7 @@ module _ {s n : ℕ} {limits : Limits} {st : State} {D : List Deed} (stands : St
       → Stands s n limits (record { sessions = st.sessions; table = st.table; dirty = st.dirty; pins = st.pins; work = record { waiting = st.work.waiting; ready = st.work.ready; running = st.work.running; replies = st.work.replies; calls = calls }; awaited = st.awaited; calls = st.calls; jobs = st.jobs }) (TakeEnd k ∷ D)
   unfolding gifts gifts_of
   end_stands calls its left =
-      let rest : calls ≡ filter (λ own. not (is_call k own)) (work s n D).calls = left ∙ ap (λ (w : InHand). filter (λ own. not (is_call k own)) w.calls) stands.work in
+      let rest : calls ≡ filter (λ own. not (is_call k own)) (work s n D).calls = left ∙ ap (λ (w : Outstanding). filter (λ own. not (is_call k own)) w.calls) stands.work in
       let is_less : record { waiting = st.work.waiting; ready = st.work.ready; running = st.work.running; replies = st.work.replies; calls = calls } ≡ without_call = λ i. record { waiting = (stands.work i).waiting; ready = (stands.work i).ready; running = (stands.work i).running; replies = (stands.work i).replies; calls = rest i } in
       record {
         ends = record { each = stands.ends.each; ends = stands.ends.ends };
@@ -354,7 +354,7 @@ module _ {s n : ℕ} {limits : Limits} {st : State} {D : List Deed} (stands : St
           live = stands.table.live;
           far = stands.table.far;
           hands = stands.table.hands;
-          loans = λ rep counted. stands.table.loans rep counted ∙ ap (λ (w : InHand). times rep (lent_in s w)) (sym end_work);
+          loans = λ rep counted. stands.table.loans rep counted ∙ ap (λ (w : Outstanding). times rep (lent_in s w)) (sym end_work);
           dirties = stands.table.dirties;
           places = stands.table.places;
           kept = stands.table.kept;

@@ -20,7 +20,7 @@ use Rattle.nob_model_types.specs.Sessions.{is_peer, payload_at, item_spelt, item
 use Rattle.nob_model_types.specs.declared.message.RefCopy.{RefCopy}
 use Rattle.nob_model_types.specs.declared.message.Message.{Message}
 use Rattle.nob_model_types.specs.Messages.{new_copy, new_message, copy_after, message_after, is_of, is_job, is_call_of, is_lost_message}
-use Rattle.nob_model_work.specs.declared.work.InHand.{InHand}
+use Rattle.nob_model_work.specs.declared.work.Outstanding.{Outstanding}
 use Rattle.nob_model_work.specs.declared.work.Run.{Run}
 use Rattle.nob_model_work.specs.Work.{work, work_after, with_loans, run_after, is_none_of, make_ready, make_reply, wait, with_calls, call_after_reply, without_first, without_waiting, after_message, after_act, after_settlement, after_settle, after_claim, after_finish, after_take, after_end, after_call, after_close}
 use Rattle.nob_space_state.proofs.Orderly.{ActsOnPeers}
@@ -141,7 +141,7 @@ abbrev pub IsSoundRun : (s n : ℕ) → Run → Type 0
 IsSoundRun s n run = IsSound s n run.message × IsCall run.message.item
 
 -- all messages that wait, ready jobs and running jobs are such
-pub record AreSound (s n : ℕ) (W : InHand) : Type 0 where
+pub record AreSound (s n : ℕ) (W : Outstanding) : Type 0 where
   pub waiting : AllByRecursion (IsSound s n) W.waiting
   pub ready : AllByRecursion (IsSound s n) W.ready
   pub running : AllByRecursion (IsSoundRun s n) W.running
@@ -158,7 +158,7 @@ new_sound s n p k item D peer number = record {
   counted = all_map (λ (rep : WireRep). is_counted rep ≡ true) (λ (copy : RefCopy). is_counted copy.rep ≡ true) (λ rep. new_copy s n D rep) (λ rep is. is) (counted_in item) (filter_counted (refs_carried item));
 }
 
-acted_sound : (s n : ℕ) (message : Message) (item : Item) (W : InHand) → IsSound s n message → AreSound s n W → AreSound s n (after_message message item W)
+acted_sound : (s n : ℕ) (message : Message) (item : Item) (W : Outstanding) → IsSound s n message → AreSound s n W → AreSound s n (after_message message item W)
 unfolding after_message
 acted_sound s n message (items.Call call target method value) W is sound = elim (is_none_of message.copies) as (λ b. AreSound s n (if b then make_ready message W else wait message W)) [
   | true ↦ record { waiting = sound.waiting; ready = all_push (IsSound s n) W.ready message sound.ready is; running = sound.running }
@@ -174,12 +174,12 @@ acted_sound s n message (items.DirtyOk index) W is sound = sound
 acted_sound s n message (items.DirtyNo index) W is sound = sound
 acted_sound s n message (items.Clean index) W is sound = sound
 
-act_sound : (s n p k : ℕ) (D : List Deed) (item : Option Item) (W : InHand) → is_peer s n p ≡ true → item_at p k D ≡ item → AreSound s n W → AreSound s n (after_act s n p k D item W)
+act_sound : (s n p k : ℕ) (D : List Deed) (item : Option Item) (W : Outstanding) → is_peer s n p ≡ true → item_at p k D ≡ item → AreSound s n W → AreSound s n (after_act s n p k D item W)
 unfolding after_act
 act_sound s n p k D None W peer is sound = sound
 act_sound s n p k D (Some item) W peer is sound = acted_sound s n (new_message s n p k item (Act p k ∷ D)) item W (new_sound s n p k item (Act p k ∷ D) peer (spelt_in (payload_at p k D) item is)) sound
 
-settled_sound : (s n : ℕ) (message : Message) (item : Item) (lost : Bool) (W : InHand) → IsSound s n message → AreSound s n W → AreSound s n (after_settlement message item lost W)
+settled_sound : (s n : ℕ) (message : Message) (item : Item) (lost : Bool) (W : Outstanding) → IsSound s n message → AreSound s n W → AreSound s n (after_settlement message item lost W)
 unfolding after_settlement
 settled_sound s n message (items.Call call target method value) true W is sound = sound
 settled_sound s n message (items.Call call target method value) false W is sound = record { waiting = sound.waiting; ready = all_push (IsSound s n) W.ready message sound.ready is; running = sound.running }
@@ -191,7 +191,7 @@ settled_sound s n message (items.DirtyOk index) lost W is sound = sound
 settled_sound s n message (items.DirtyNo index) lost W is sound = sound
 settled_sound s n message (items.Clean index) lost W is sound = sound
 
-settle_sound : (s n p k : ℕ) (D : List Deed) (found : Option Message) (W : InHand) → find (is_of p k) W.waiting ≡ found → AreSound s n W → AreSound s n (after_settle s n p k D found W)
+settle_sound : (s n p k : ℕ) (D : List Deed) (found : Option Message) (W : Outstanding) → find (is_of p k) W.waiting ≡ found → AreSound s n W → AreSound s n (after_settle s n p k D found W)
 unfolding after_settle
 settle_sound s n p k D None W is sound = sound
 settle_sound s n p k D (Some message) W is sound =
@@ -207,14 +207,14 @@ call_is job (items.DirtyOk index) is = absurd (cc)
 call_is job (items.DirtyNo index) is = absurd (cc)
 call_is job (items.Clean index) is = absurd (cc)
 
-claim_sound : (s n : ℕ) (job : Job) (found : Option Message) (W : InHand) → find (is_job job) W.ready ≡ found → AreSound s n W → AreSound s n (after_claim job found W)
+claim_sound : (s n : ℕ) (job : Job) (found : Option Message) (W : Outstanding) → find (is_job job) W.ready ≡ found → AreSound s n W → AreSound s n (after_claim job found W)
 unfolding after_claim
 claim_sound s n job None W is sound = sound
 claim_sound s n job (Some message) W is sound =
     let one = all_found (IsSound s n) (is_job job) W.ready message sound.ready is in
     record { waiting = sound.waiting; ready = all_without (IsSound s n) (is_job job) W.ready sound.ready; running = ((one.0, call_is job message.item (and_parts _ _ one.1).1), sound.running) }
 
-step_sound : (s n : ℕ) (deed : Deed) (D : List Deed) (W : InHand) → ActsOnPeers s n (deed ∷ D) → AreSound s n W → AreSound s n (work_after s n deed D W)
+step_sound : (s n : ℕ) (deed : Deed) (D : List Deed) (W : Outstanding) → ActsOnPeers s n (deed ∷ D) → AreSound s n W → AreSound s n (work_after s n deed D W)
 unfolding work_after after_call after_take after_end after_finish after_close
 step_sound s n (Call target method value call) D W acts sound = record { waiting = sound.waiting; ready = sound.ready; running = sound.running }
 step_sound s n (TakeReply call status value) D W acts sound = record { waiting = all_filter (IsSound s n) _ W.waiting sound.waiting; ready = sound.ready; running = sound.running }
@@ -240,7 +240,7 @@ loan_call : (s n : ℕ) (D : List Deed) (message : Message) → IsCall message.i
 unfolding message_after
 loan_call s n D message is = is
 
-loans_sound : (s n : ℕ) (D : List Deed) (W : InHand) → AreSound s n W → AreSound s n (with_loans s n D W)
+loans_sound : (s n : ℕ) (D : List Deed) (W : Outstanding) → AreSound s n W → AreSound s n (with_loans s n D W)
 unfolding with_loans run_after
 loans_sound s n D W sound = record {
   waiting = all_map (IsSound s n) (IsSound s n) (λ message. message_after s n D message) (λ message is. loan_sound s n D message is) W.waiting sound.waiting;

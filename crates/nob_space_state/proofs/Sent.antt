@@ -24,7 +24,7 @@ use Rattle.nob_model_types.specs.Objects as objects
 use Rattle.nob_model_types.specs.Sessions.{closed, payload_at}
 use Rattle.nob_model_types.specs.Turns.{turns}
 use Rattle.nob_model_work.specs.declared.gifts.Gift.{Gift}
-use Rattle.nob_model_work.specs.declared.work.InHand.{InHand}
+use Rattle.nob_model_work.specs.declared.work.Outstanding.{Outstanding}
 use Rattle.nob_model_work.specs.Work.{work}
 use Rattle.nob_model_work.specs.Gifts.{gifts}
 use Rattle.nob_model_history.specs.declared.transit.SentItem.{SentItem}
@@ -144,31 +144,31 @@ module _ {s n p : ℕ} {item : Item} {deed : Deed} {D : List Deed} (hands : Hand
   pub shows_handed : {t : Table} {H L : WireRep → ℕ} (H' L' : WireRep → ℕ) → TableShows s n t (history_of s n D) H L
       → ((rep : WireRep) → is_counted rep ≡ true → H rep ≡ H' rep) → ((rep : WireRep) → is_counted rep ≡ true → L rep ≡ L' rep)
       → TableShows s n t (history_of s n (deed ∷ D)) H' L'
-  shows_handed {t} H' L' shows in_hand on_loan = record {
+  shows_handed {t} H' L' shows hand_is on_loan = record {
     me = shows.me;
     exported = shows.exported ∙ ap length (sym hands.exports);
     live = λ index. shows.live index ∙ sym (λ i. list_any (is_same (own_ref s index)) (hands.exports i) && not (hands.withdrawn index i));
     far = λ rep counted own. shows.far rep counted own
         ∙ ap (λ b. far_state b (is_held (standing t rep).counts) (turns s n rep D)) (sym (hands.closes_nothing rep.owner))
         ∙ ap (λ w. far_state (closed rep.owner (deed ∷ D)) (is_held (standing t rep).counts) w) (sym (hands.same_turns rep));
-    hands = λ rep counted. shows.hands rep counted ∙ in_hand rep counted;
+    hands = λ rep counted. shows.hands rep counted ∙ hand_is rep counted;
     loans = λ rep counted. shows.loans rep counted ∙ on_loan rep counted;
     dirties = shows.dirties ∙ ap length (sym dirties_then);
     places = λ rep. shows.places rep ∙ ap (λ reps. if standings.is_surrogate (standing t rep).state then transit.last_place rep reps else None) (sym dirties_then);
     kept = used_then s t t (history_of s n D) (history_of s n (deed ∷ D)) (λ rep kept. kept) (λ rep none. fewer_pins rep (transit.bundles (history_of s n D)) _ (sym (λ i. times rep (flat_map (λ (item : SentItem). counted_in item.item) (bundles_kept s n deed D hands.settles_nothing hands.closes_nothing i))) ∙ none)) hands.listed shows.kept;
   }
 
-  -- the state with other ends, holds, pins and work in hand
-  pub stands_handed : {limits : Limits} {st : State} (sessions : List Roomy) (t : Table) (table_of_pins : pins.Table) (W : InHand) (made : ℕ) → Stands s n limits st D
+  -- the state with other ends, holds, pins and outstanding work
+  pub stands_handed : {limits : Limits} {st : State} (sessions : List Roomy) (t : Table) (table_of_pins : pins.Table) (W : Outstanding) (made : ℕ) → Stands s n limits st D
       → EndsStand s n limits sessions (history_of s n (deed ∷ D)) → TableStands s n t (history_of s n (deed ∷ D)) → PinsStand table_of_pins.bundles (history_of s n (deed ∷ D))
       → W ≡ work s n (deed ∷ D) → W.waiting ≡ st.work.waiting → made ≡ calls_made (deed ∷ D) → IsRightDeed s n limits deed D
       → Stands s n limits (record { sessions = sessions; table = t; dirty = st.dirty; pins = table_of_pins; work = W; awaited = st.awaited; calls = made; jobs = st.jobs }) (deed ∷ D)
-  stands_handed {limits} {st} sessions t table_of_pins W made stands ends_stand table_stands pins_stand in_hand waits calls its = record {
+  stands_handed {limits} {st} sessions t table_of_pins W made stands ends_stand table_stands pins_stand outstanding waits calls its = record {
     ends = ends_stand;
     table = table_stands;
     listed = λ index client. stands.listed index client ∙ sym (hands.listed index client);
     pins = pins_stand;
-    work = in_hand;
+    work = outstanding;
     awaited = subst (λ (ms : List Message). AreAwaited s n st.awaited ms (deed ∷ D)) (sym waits)
         (still_awaited s n st.awaited st.work.waiting D (deed ∷ D) stands.awaited (λ rep. same_lost s n rep D (deed ∷ D) (hands.closes_nothing rep.owner) (hands.same_turns rep)));
     calls = calls;

@@ -16,7 +16,8 @@ use Rattle.nob_model_types.specs.Sessions.{is_peer, closed}
 use Rattle.nob_model_history.specs.Histories.{history_of}
 use Rattle.nob_model_history.specs.Ends.{calls_at}
 use Rattle.nob_model_history.specs.Holds.{is_held, hand, times, gains, releases, lent_in}
-use Rattle.nob_model.specs.Right.{own_ref, is_gone}
+use Rattle.nob_model_acting.specs.Sending.{is_gone}
+use Rattle.nob_model.specs.Right.{own_ref}
 use Rattle.nob_space_state.specs.Parts.{State}
 use Rattle.nob_space_state.specs.Looks.{is_closed_end, has_closed}
 use Rattle.nob_space_state.proofs.Orderly.{orderly}
@@ -71,12 +72,12 @@ module _ {s n : ℕ} {limits : Limits} {st : State} {D : List Deed} (stands : St
   -- the counts of a counted reference are its holds
   pub held_there : (rep : WireRep) → is_counted rep ≡ true → counts.is_held (standing st.table rep).counts ≡ is_held s rep (history_of s n D)
   held_there rep counted =
-      let in_hand : (standing st.table rep).counts.hand ≡ hand rep D = stands.table.hands rep counted in
+      let hand_is : (standing st.table rep).counts.hand ≡ hand rep D = stands.table.hands rep counted in
       let on_loan : (standing st.table rep).counts.lent ≡ times rep (lent_in s (history_of s n D).work) = stands.table.loans rep counted in
-      rw (in_hand, on_loan) (counts_held (times rep (gains D)) (times rep (lent_in s (history_of s n D).work)) (times rep (releases D)) ((orderly stands).released rep counted))
+      rw (hand_is, on_loan) (counts_held (times rep (gains D)) (times rep (lent_in s (history_of s n D).work)) (times rep (releases D)) ((orderly stands).released rep counted))
 
   -- an own reference is live where the table has it so
-  pub gone_there : (rep : WireRep) → not (rep.index == 0) && ((rep.owner == s) && not (standings.is_live (standing st.table rep).state)) ≡ is_gone s rep (history_of s n D)
+  pub gone_there : (rep : WireRep) → not (rep.index == 0) && ((rep.owner == s) && not (standings.is_live (standing st.table rep).state)) ≡ (is_counted rep && is_gone s rep (history_of s n D))
   gone_there rep =
       elim (rep.owner == s) as (λ b. rep.owner == s ≡ b → not (rep.index == 0) && (b && not (standings.is_live (standing st.table rep).state)) ≡ not (rep.index == 0) && (b && not (objects.is_live s rep.index D))) [
         | true ↦ λ own.

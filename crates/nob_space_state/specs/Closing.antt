@@ -19,7 +19,7 @@ use Rattle.nob_model_types.specs.declared.deed.Deed.{Deed}
 use Rattle.nob_model_types.specs.declared.deed.Deed.TheVariants as did
 use Rattle.nob_model_types.specs.declared.deed.Deed.TheVariants.{Closing}
 use Rattle.nob_model_types.specs.Sessions.{is_peer, closed}
-use Rattle.nob_model_work.specs.declared.work.InHand.{InHand}
+use Rattle.nob_model_work.specs.declared.work.Outstanding.{Outstanding}
 use Rattle.nob_model_work.specs.Work as work
 use Rattle.nob_model.specs.Lists.{IsRightDeed}
 use Rattle.nob_space_waiting.specs.Waiting.{is_awaited}
@@ -30,7 +30,7 @@ use Rattle.nob_space_holds.specs.Returns.{GivesBack, lent_from}
 use Rattle.nob_space_state.specs.Stands.{StandFor}
 
 -- what the messages from p that wait and the ready jobs from p have lent
-abbrev pub lent_in_vain : (s p : ℕ) → InHand → List WireRep
+abbrev pub lent_in_vain : (s p : ℕ) → Outstanding → List WireRep
 lent_in_vain s p W = lent_from s p W.waiting ++ lent_from s p W.ready
 
 -- an owner's surrogates are lost: each of its references that is held is so, the others are forgotten, and none has a place any more
@@ -42,7 +42,7 @@ pub record LosesOwner (old new : Table) (owner : ℕ) : Type 0 where
   pub dirties : new.dirties ≡ old.dirties
 
 -- what becomes of the table of a space whose session with p closes
-pub record TableLoses (s p : ℕ) (old : Table) (pinned : List Pinned) (listed : List Listing) (W : InHand) (new : Table) (pins : List Pinned) (left : List Listing) : Type 0 where
+pub record TableLoses (s p : ℕ) (old : Table) (pinned : List Pinned) (listed : List Listing) (W : Outstanding) (new : Table) (pins : List Pinned) (left : List Listing) : Type 0 where
   -- what was lent in vain is given back
   pub back : Table
   pub gives : GivesBack old back (lent_in_vain s p W)

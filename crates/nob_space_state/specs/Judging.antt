@@ -1,11 +1,11 @@
--- What is answered to the events on objects and on what is in hand, by the state.
+-- What is answered to the events on objects and on what is outstanding, by the state.
 use Rattle.std.specs.Prelude.{ℕ, ◌||◌, ◌==◌, not, nat_le, Option, Some, None, if◌then◌else◌}
 use Rattle.nob_ids.specs.declared.wire_rep.WireRep.{WireRep}
 use Rattle.nob_table.specs.Table.{standing, live}
 use Rattle.nob_model_types.specs.declared.refusal.Refusal.{Refusal}
 use Rattle.nob_model_types.specs.declared.refusal.Refusal.TheVariants as refusals
 use Rattle.nob_model_types.specs.declared.refusal.Use.TheVariants as uses
-use Rattle.nob_model.specs.Right.{most_in_hand, most_objects, last_number, own_ref}
+use Rattle.nob_model.specs.Right.{greatest_hand, most_objects, last_number, own_ref}
 use Rattle.nob_pins.specs.Bundles.{count_of}
 use Rattle.nob_space_state.specs.Parts.{State}
 use Rattle.nob_space_state.specs.Looks.{has_holds, is_gone, is_cut, has_clients}
@@ -17,7 +17,7 @@ dup_refusal s st rep =
     else if rep.index == 0 then Some refusals.NotHeld
     else if not (has_holds st.table rep) then Some refusals.NotHeld
     else if is_cut s st.sessions rep then Some refusals.Closed
-    else if nat_le most_in_hand (standing st.table rep).counts.hand then Some refusals.Limit
+    else if nat_le greatest_hand (standing st.table rep).counts.hand then Some refusals.Limit
     else None
 
 -- why a Release is refused

@@ -5,7 +5,7 @@ use Rattle.nob_table.specs.Table.{Table}
 use Rattle.nob_ids.specs.declared.wire_rep.WireRep.{WireRep}
 use Rattle.nob_dirty.specs.declared.sets.Listing.{Listing}
 use Rattle.nob_pins.specs.Bundles as pins
-use Rattle.nob_model_work.specs.declared.work.InHand.{InHand}
+use Rattle.nob_model_work.specs.declared.work.Outstanding.{Outstanding}
 use Rattle.nob_space_state.specs.declared.parts.Parts.{Parts}
 
 -- what a space keeps, in parts
@@ -18,8 +18,8 @@ pub record State : Type 0 where
   pub dirty : List Listing
   -- the pins of what it sent
   pub pins : pins.Table
-  -- the work in hand
-  pub work : InHand
+  -- the outstanding work
+  pub work : Outstanding
   -- the references that messages wait for and whose owners' answers are to come
   pub awaited : List WireRep
   -- how many calls were made
@@ -69,8 +69,8 @@ with_sessions sessions st =
       jobs = st.jobs;
     }
 
--- the state with other work in hand, and so many calls and jobs made
-abbrev pub with_work : InHand → (calls jobs : ℕ) → State → State
+-- the state with other outstanding work, and so many calls and jobs made
+abbrev pub with_work : Outstanding → (calls jobs : ℕ) → State → State
 with_work work calls jobs st =
     record {
       sessions = st.sessions;

@@ -16,7 +16,7 @@ use Rattle.nob_model_work.specs.declared.work.OwnCall.{OwnCall}
 use Rattle.nob_model_work.specs.Work.{is_call}
 use Rattle.nob_model_history.specs.Holds.{times}
 use Rattle.nob_model_acting.specs.Sending.{refuse_if, unless}
-use Rattle.nob_model.specs.Right.{most_in_hand, answer_of_stage}
+use Rattle.nob_model.specs.Right.{greatest_hand, answer_of_stage}
 use Rattle.nob_space_calls.specs.Calls.{is_reply}
 use Rattle.nob_space_holds.specs.TakingOver.{reps_of}
 use Rattle.nob_space_state.specs.declared.take.CallResult.{CallResult}
@@ -25,7 +25,7 @@ use Rattle.nob_space_state.specs.Parts.{State}
 
 -- whether the hand of a reference would pass its limit by references that come into it
 abbrev pub is_full : Table → List WireRep → WireRep → Bool
-is_full t reps rep = nat_lt most_in_hand ((standing t rep).counts.hand + times rep reps)
+is_full t reps rep = nat_lt greatest_hand ((standing t rep).counts.hand + times rep reps)
 
 -- whether one of their hands would
 abbrev pub is_overfull : Table → List WireRep → Bool

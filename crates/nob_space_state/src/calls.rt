@@ -21,7 +21,7 @@ use nob_model::right::{LAST_NUMBER, MOST_CALLS};
 use nob_model::{Kind, OwnCall, Refusal, Stage};
 use nob_model_acting::sending::counted;
 use nob_pickle::Value;
-use nob_space_holds::hand;
+use nob_space_holds::send_pinned;
 use std::alloc::Global;
 
 impl Parts {
@@ -85,7 +85,7 @@ impl Parts {
         self.calls.reserve_calls(1)?;
         let peer = target.owner;
         let session = &mut self.sessions[peer.place()];
-        hand(
+        send_pinned(
             alloc,
             session,
             &mut self.pins,

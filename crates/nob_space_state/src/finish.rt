@@ -22,7 +22,7 @@ use nob_item::{Item, ItemError, encode_reply};
 use nob_model::{Kind, Outcome, Refusal};
 use nob_model_acting::sending::counted;
 use nob_pickle::Value;
-use nob_space_holds::{end_job, hand};
+use nob_space_holds::{end_job, send_pinned};
 use std::alloc::Global;
 
 /// What became of the reply to a job that was ended.
@@ -119,7 +119,7 @@ impl Parts {
         };
         let reps = counted(alloc, value)?;
         let session = &mut self.sessions[client.place()];
-        hand(
+        send_pinned(
             alloc,
             session,
             &mut self.pins,

@@ -35,7 +35,7 @@ impl Parts {
         counts.is_held()
     }
 
-    /// How often a reference is in hand. A look-up.
+    /// How often a reference is in the hand. A look-up.
     pub fn hand(&self, rep: &WireRep) -> u32
         ensures { result ≡ (standing self.now.table rep.now).counts.hand }
     {

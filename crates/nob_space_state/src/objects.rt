@@ -1,4 +1,4 @@
-//! The events on objects and on what is in hand: Export, Dup, Release and Withdraw. None sends
+//! The events on objects and on what is in the hand: Export, Dup, Release and Withdraw. None sends
 //! anything.
 
 ghost use Rattle.std.specs.Prelude.{◌≡◌, List, ◌∷◌, Some, None, Ok, Err, OnOk, OnErr, IfOk, MatchResult};
@@ -60,7 +60,7 @@ impl Parts {
         Ok(())
     }
 
-    /// Dup: one more hold in hand on a reference. It takes no memory. A look-up.
+    /// Dup: one more hold in the hand on a reference. It takes no memory. A look-up.
     pub fn dup(&mut self, rep: &WireRep) -> Result<(), Refusal>
         ensures answer { (limits : LimitsOf) (D : List Deed)
             → StandFor limits self.old D
@@ -77,7 +77,7 @@ impl Parts {
         }
     }
 
-    /// Release: one hold in hand on a reference is given back. It takes no memory. A look-up.
+    /// Release: one hold in the hand on a reference is given back. It takes no memory. A look-up.
     pub fn release(&mut self, rep: &WireRep) -> Result<(), Refusal>
         ensures answer { (limits : LimitsOf) (D : List Deed)
             → StandFor limits self.old D
@@ -140,7 +140,7 @@ impl Parts {
         }
     }
 
-    /// Export: the reference to a new object, once in hand. Constant time on average.
+    /// Export: the reference to a new object, once in the hand. Constant time on average.
     pub fn export(&mut self) -> Result<WireRep, SpaceError>
         ensures answer { (limits : LimitsOf) (D : List Deed)
             → StandFor limits self.old D

@@ -22,7 +22,7 @@ use nob_space_holds::{take_over, times};
 use std::alloc::AllocError;
 
 // The greatest hand.
-const MOST_IN_HAND: u64 = u32::MAX as u64;
+const GREATEST_HAND: u64 = u32::MAX as u64;
 
 /// What a call brought.
 #[derive(Debug, Drop)]
@@ -46,7 +46,7 @@ impl Parts {
     {
         let before = self.hand(rep);
         let more = times(rep, copies);
-        u64::from(before) + more as u64 > MOST_IN_HAND
+        u64::from(before) + more as u64 > GREATEST_HAND
     }
 
     // Whether one of their hands would.

@@ -257,7 +257,7 @@ impl ObjectTable {
         self.far.reserve(surrogates)
     }
 
-    /// A new object: the reference to it, with the next index, live and once in hand. B3 where
+    /// A new object: the reference to it, with the next index, live and once in the hand. B3 where
     /// 65,536 objects are live or no index is left, and OutOfMemory where there was no room and
     /// none could be had. Constant time on average, save where the room has to grow.
     pub fn export(&mut self) -> Result<WireRep, TableError>

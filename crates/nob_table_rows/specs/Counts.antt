@@ -28,7 +28,7 @@ abbrev pub count_of : Part → Counts → ℕ
 count_of Hand counts = counts.hand
 count_of Lent counts = counts.lent
 
--- the greatest count of a part: 2^32 - 1 in hand, and lent as many as 64 bits can say
+-- the greatest count of a part: 2^32 - 1 in the hand, and lent as many as 64 bits can say
 abbrev pub most_of : Part → ℕ
 most_of Hand = 4294967295
 most_of Lent = 18446744073709551615

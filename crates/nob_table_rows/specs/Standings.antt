@@ -18,7 +18,7 @@ unknown = record { state = Unknown; counts = no_counts }
 abbrev pub withdrawn : Standing
 withdrawn = record { state = Withdrawn; counts = no_counts }
 
--- an object of this space that was just exported: once in hand
+-- an object of this space that was just exported: once in the hand
 abbrev pub exported_standing : Standing
 exported_standing = record { state = Live; counts = record { hand = 1; lent = 0 } }
 

@@ -9,7 +9,7 @@ mod telling;
 
 use crate::agreeing::all_agree;
 use crate::reading::{is_answer_read, is_read_again};
-use crate::telling::{push_hand, push_work};
+use crate::telling::{push_outstanding, push_work};
 use nob_ids::SpaceId;
 use nob_model::{Entry, Here, WorldStep};
 use nob_model_journal::journals::history_at;
@@ -93,7 +93,7 @@ fn make(world: &mut World, step: &WorldStep) -> Result<(), AllocError> {
 }
 
 // What is written behind a step: what the space that was asked last could do next, and what it has
-// in hand; and what isn't as it should be.
+// outstanding; and what isn't as it should be.
 fn words_after(
     alloc: Global,
     world: &World,
@@ -117,7 +117,7 @@ fn words_after(
     Ok(words)
 }
 
-// Puts what a space could do next, and what it has in hand, behind words.
+// Puts what a space could do next, and what it has outstanding, behind words.
 fn put_words(
     alloc: Global,
     world: &World,
@@ -132,7 +132,7 @@ fn put_words(
     let history = history_at(alloc, &here, journal)?;
     let work = next::work_of(alloc, &here, world.limits().window, &history)?;
     push_work(alloc, words, &work)?;
-    push_hand(alloc, words, &here, &history)
+    push_outstanding(alloc, words, &here, &history)
 }
 
 // The entries, the newest of which stands first.

@@ -1,10 +1,10 @@
-//! The words for what a space could do next and for what it has in hand.
+//! The words for what a space could do next and for what it has outstanding.
 
 use nob_ids::WireRep;
 use nob_model::next::reply_ready;
-use nob_model::{Here, History, InHand, OwnCall};
+use nob_model::{Here, History, Outstanding, OwnCall};
 use nob_model_history::transit::{place, surrogates};
-use nob_model_work::work::in_hand;
+use nob_model_work::work::outstanding;
 use nob_space::Work;
 use std::alloc::{AllocError, Global};
 
@@ -42,18 +42,18 @@ fn push_places(
     Ok(())
 }
 
-/// Puts what a space with this history has in hand behind words: how many messages wait, jobs are
+/// Puts what a space with this history has outstanding behind words: how many messages wait, jobs are
 /// ready, jobs run and replies are ready; its calls; its surrogates with the places of their last
 /// Dirties.
-pub fn push_hand(
+pub fn push_outstanding(
     alloc: Global,
     words: &mut String,
     here: &Here,
     history: &History,
 ) -> Result<(), AllocError> {
-    let hand = in_hand(alloc, here, history.deeds.as_slice())?;
-    push_counts(alloc, words, &hand)?;
-    for call in hand.calls.as_slice() {
+    let work = outstanding(alloc, here, history.deeds.as_slice())?;
+    push_counts(alloc, words, &work)?;
+    for call in work.calls.as_slice() {
         push_call(alloc, words, call, history)?;
     }
     let reps = surrogates(alloc, here, history)?;
@@ -64,11 +64,11 @@ pub fn push_hand(
 }
 
 // Puts how much there is of each kind, where there is some, behind words.
-fn push_counts(alloc: Global, words: &mut String, hand: &InHand) -> Result<(), AllocError> {
-    push_count(alloc, words, "waiting", hand.waiting.as_slice().len())?;
-    push_count(alloc, words, "ready", hand.ready.as_slice().len())?;
-    push_count(alloc, words, "running", hand.running.as_slice().len())?;
-    push_count(alloc, words, "replies", hand.replies.as_slice().len())
+fn push_counts(alloc: Global, words: &mut String, work: &Outstanding) -> Result<(), AllocError> {
+    push_count(alloc, words, "waiting", work.waiting.as_slice().len())?;
+    push_count(alloc, words, "ready", work.ready.as_slice().len())?;
+    push_count(alloc, words, "running", work.running.as_slice().len())?;
+    push_count(alloc, words, "replies", work.replies.as_slice().len())
 }
 
 // Puts a number behind a name, where it isn't 0, behind words.

@@ -51,8 +51,8 @@ index_mut-session-requires c =
     let owner = c.place-place.ensures.value in
     omega (arith, range.0, range.1, each, owner)
 
-pub hand_note-requires-clause-next : goal.hand_note-requires-clause-next
-hand_note-requires-clause-next c =
+pub send_note-requires-clause-next : goal.send_note-requires-clause-next
+send_note-requires-clause-next c =
     let is : c.index_mut-session.result.now ≡ get_or c.args.parts.now.sessions.items (c.in-Some.rep.owner - 1) c.index_mut-session.result.now = subst (λ (k : ℕ). c.index_mut-session.result.now ≡ get_or c.args.parts.now.sessions.items k c.index_mut-session.result.now) c.place-place.ensures.value c.index_mut-session.ensures.value in
     let seen : c.index.result.now ≡ get_or c.args.parts.now.sessions.items (c.in-Some.rep.owner - 1) c.index.result.now = subst (λ (k : ℕ). c.index.result.now ≡ get_or c.args.parts.now.sessions.items k c.index.result.now) c.place-place.ensures.value c.index.ensures in
     let peer = (asked_there c.requires.2 c.in-Some.rep (c.in-Some.ensures {u = tt})).1 in
@@ -63,23 +63,23 @@ hand_note-requires-clause-next c =
     let some = c.if-free_numbers-eq0.false in
     clean_next c.requires.2 c.in-Some.rep (c.in-Some.ensures {u = tt}) c.index_mut-session.result.now is (subst (λ (e : Roomy). 0 < last_item - e.end.handed) same (omega (arith, free, some)))
 
-pub returns-in_err-hand_note-clause-answer : goal.returns-in_err-hand_note-clause-answer
-returns-in_err-hand_note-clause-answer c limits D stands =
-    wants_as _ c.from_residual-in_err-hand_note.result _ c.from_residual-in_err-hand_note.ensures.1
+pub returns-in_err-send_note-clause-answer : goal.returns-in_err-send_note-clause-answer
+returns-in_err-send_note-clause-answer c limits D stands =
+    wants_as _ c.from_residual-in_err-send_note.result _ c.from_residual-in_err-send_note.ensures.1
     (clean_wants stands c.in-Some.rep (c.in-Some.ensures {u = tt}) c.index.result.now (subst (λ (k : ℕ). c.index.result.now ≡ get_or c.args.parts.now.sessions.items k c.index.result.now) c.place-place.ensures.value c.index.ensures)
     (let free = c.free_numbers.ensures in let some = c.if-free_numbers-eq0.false in omega (arith, free, some)))
 
-pub returns-in_err-hand_note-clause-err : goal.returns-in_err-hand_note-clause-err
-returns-in_err-hand_note-clause-err c = after_error _ c.from_residual-in_err-hand_note.result (λ limits D stands.
+pub returns-in_err-send_note-clause-err : goal.returns-in_err-send_note-clause-err
+returns-in_err-send_note-clause-err c = after_error _ c.from_residual-in_err-send_note.result (λ limits D stands.
     let is : c.index_mut-session.result.now ≡ get_or c.args.parts.now.sessions.items (c.in-Some.rep.owner - 1) c.index_mut-session.result.now = subst (λ (k : ℕ). c.index_mut-session.result.now ≡ get_or c.args.parts.now.sessions.items k c.index_mut-session.result.now) c.place-place.ensures.value c.index_mut-session.ensures.value in
     let peer = (asked_there stands c.in-Some.rep (c.in-Some.ensures {u = tt})).1 in
     subst (λ (k : ℕ). Stands c.args.parts.now.here.space c.args.parts.now.here.n limits (after k) D) (sym c.place-place.ensures.value)
-    (stands_kept stands c.in-Some.rep.owner c.index_mut-session.result.now c.hand_note.new.session peer is c.in_err-hand_note.ensures.err))
+    (stands_kept stands c.in-Some.rep.owner c.index_mut-session.result.now c.send_note.new.session peer is c.in_err-send_note.ensures.err))
   where
     after : ℕ → State
     after k =
         record {
-          sessions = set c.args.parts.now.sessions.items k c.hand_note.new.session;
+          sessions = set c.args.parts.now.sessions.items k c.send_note.new.session;
           table = c.args.parts.now.table;
           dirty = c.args.parts.now.dirty;
           pins = c.args.parts.now.pins;
@@ -97,9 +97,9 @@ returns-clause-answer c limits D stands =
 pub returns-clause-stands : goal.returns-clause-stands
 returns-clause-stands c limits D stands =
     let is : c.index_mut-session.result.now ≡ get_or c.args.parts.now.sessions.items (c.in-Some.rep.owner - 1) c.index_mut-session.result.now = subst (λ (k : ℕ). c.index_mut-session.result.now ≡ get_or c.args.parts.now.sessions.items k c.index_mut-session.result.now) c.place-place.ensures.value c.index_mut-session.ensures.value in
-    let sent = c.in_ok-hand_note.ensures in
+    let sent = c.in_ok-send_note.ensures in
     subst (λ (k : ℕ). Stands c.args.parts.now.here.space c.args.parts.now.here.n limits (record {
-      sessions = set c.args.parts.now.sessions.items k c.hand_note.new.session;
+      sessions = set c.args.parts.now.sessions.items k c.send_note.new.session;
       table = c.forget.new.table;
       dirty = c.args.parts.now.dirty;
       pins = c.args.parts.now.pins;
@@ -108,7 +108,7 @@ returns-clause-stands c limits D stands =
       calls = c.args.parts.now.calls_made;
       jobs = c.args.parts.now.jobs_made;
     }) (did.Clean c.in-Some.rep ∷ D)) (sym c.place-place.ensures.value)
-    (clean_stands stands c.in-Some.rep (c.in-Some.ensures {u = tt}) c.index_mut-session.result.now is c.hand_note.new.session c.forget.new.table c.in_ok-payload.payload.items c.in_ok-hand_note.field-0
+    (clean_stands stands c.in-Some.rep (c.in-Some.ensures {u = tt}) c.index_mut-session.result.now is c.send_note.new.session c.forget.new.table c.in_ok-payload.payload.items c.in_ok-send_note.field-0
     (clean_is c.args.parts.now.here.space c.args.parts.now.here.n limits D c.in-Some.rep (returns-clause-answer c limits D stands)) c.in_ok-payload.ensures.spelled sent.number
     (λ before. sent.answer c.args.parts.now.here.space c.in-Some.rep.owner limits (calls_at c.in-Some.rep.owner (history_of c.args.parts.now.here.space c.args.parts.now.here.n D)) before)
     c.forget.ensures.row c.forget.ensures.place c.forget.ensures.unkept c.forget.ensures.left)

@@ -7,7 +7,7 @@ use Rattle.nob_model_history.specs.Ends.{calls_at}
 use Rattle.nob_model_history.specs.Histories.{history_of}
 use Rattle.nob_model_types.specs.declared.deed.Deed.TheVariants as did
 use Rattle.nob_ids.specs.declared.wire_rep.WireRep.{WireRep}
-use Rattle.nob_model_work.specs.declared.work.InHand.{InHand}
+use Rattle.nob_model_work.specs.declared.work.Outstanding.{Outstanding}
 use Rattle.nob_model_work.specs.Work.{after_settlement}
 use Rattle.nob_session.specs.Stands.{Roomy}
 use Rattle.nob_space_state.specs.Parts.{State, state_of}
@@ -65,8 +65,8 @@ index_mut-session-requires c =
     let owner = c.place-at.ensures.value in
     omega (arith, range.0, range.1, each, owner)
 
-pub hand_notes-requires-clause-open : goal.hand_notes-requires-clause-open
-hand_notes-requires-clause-open c =
+pub send_notes-requires-clause-open : goal.send_notes-requires-clause-open
+send_notes-requires-clause-open c =
     let seen : find (is_settleable (state_of c.args.parts.now)) c.args.parts.now.waiting.items ≡ Some c.in-Some.message.now = sym c.first_settleable.ensures ∙ ap option_copied c.in-Some.is in
     let looked : c.index.result.now ≡ get_or c.args.parts.now.sessions.items (c.in-Some.message.now.from - 1) c.index.result.now = subst (λ (k : ℕ). c.index.result.now ≡ get_or c.args.parts.now.sessions.items k c.index.result.now) c.place-at.ensures.value c.index.ensures in
     let call : c.lost_call-call.result ≡ lost_call c.in-Some.message.now.item (has_lost c.args.parts.now.here.space c.args.parts.now.here.n (state_of c.args.parts.now) c.in-Some.message.now) = c.lost_call-call.ensures ∙ ap (lost_call c.in-Some.message.now.item) c.has_lost-lost.ensures in
@@ -82,8 +82,8 @@ hand_notes-requires-clause-open c =
     let left : given_count (lost_call c.in-Some.message.now.item (has_lost c.args.parts.now.here.space c.args.parts.now.here.n (state_of c.args.parts.now) c.in-Some.message.now)) ≤ last_item - c.index_mut-session.result.now.end.handed = subst (λ (e : Roomy). given_count (lost_call c.in-Some.message.now.item (has_lost c.args.parts.now.here.space c.args.parts.now.here.n (state_of c.args.parts.now) c.in-Some.message.now)) ≤ last_item - e.end.handed) same free in
     settle_open c.requires.2 c.in-Some.message.now seen c.index_mut-session.result.now is left
 
-pub hand_notes-requires-clause-free : goal.hand_notes-requires-clause-free
-hand_notes-requires-clause-free c =
+pub send_notes-requires-clause-free : goal.send_notes-requires-clause-free
+send_notes-requires-clause-free c =
     let seen : find (is_settleable (state_of c.args.parts.now)) c.args.parts.now.waiting.items ≡ Some c.in-Some.message.now = sym c.first_settleable.ensures ∙ ap option_copied c.in-Some.is in
     let looked : c.index.result.now ≡ get_or c.args.parts.now.sessions.items (c.in-Some.message.now.from - 1) c.index.result.now = subst (λ (k : ℕ). c.index.result.now ≡ get_or c.args.parts.now.sessions.items k c.index.result.now) c.place-at.ensures.value c.index.ensures in
     let call : c.lost_call-call.result ≡ lost_call c.in-Some.message.now.item (has_lost c.args.parts.now.here.space c.args.parts.now.here.n (state_of c.args.parts.now) c.in-Some.message.now) = c.lost_call-call.ensures ∙ ap (lost_call c.in-Some.message.now.item) c.has_lost-lost.ensures in
@@ -102,24 +102,24 @@ hand_notes-requires-clause-free c =
     let some = some_given (lost_call c.in-Some.message.now.item (has_lost c.args.parts.now.here.space c.args.parts.now.here.n (state_of c.args.parts.now) c.in-Some.message.now)) in
     omega (arith, left, replies, all, some)
 
-pub returns-in_err-hand_notes-clause-err : goal.returns-in_err-hand_notes-clause-err
-returns-in_err-hand_notes-clause-err c = after_error _ c.from_residual-in_err-hand_notes.result (λ limits D stands.
+pub returns-in_err-send_notes-clause-err : goal.returns-in_err-send_notes-clause-err
+returns-in_err-send_notes-clause-err c = after_error _ c.from_residual-in_err-send_notes.result (λ limits D stands.
     let seen : find (is_settleable (state_of c.args.parts.now)) c.args.parts.now.waiting.items ≡ Some c.in-Some.message.now = sym c.first_settleable.ensures ∙ ap option_copied c.in-Some.is in
     let is : c.index_mut-session.result.now ≡ get_or c.args.parts.now.sessions.items (c.in-Some.message.now.from - 1) c.index_mut-session.result.now = subst (λ (k : ℕ). c.index_mut-session.result.now ≡ get_or c.args.parts.now.sessions.items k c.index_mut-session.result.now) c.place-at.ensures.value c.index_mut-session.ensures.value in
     subst (λ (k : ℕ). Stands c.args.parts.now.here.space c.args.parts.now.here.n limits (after k work_then) D) (sym c.place-at.ensures.value)
-    (subst (λ (W : InHand). Stands c.args.parts.now.here.space c.args.parts.now.here.n limits (after (c.in-Some.message.now.from - 1) W) D) (sym work_same)
-    (stands_kept stands c.in-Some.message.now.from c.index_mut-session.result.now c.hand_notes.new.session (message_sound stands c.in-Some.message.now seen).peer is c.in_err-hand_notes.ensures.err)))
+    (subst (λ (W : Outstanding). Stands c.args.parts.now.here.space c.args.parts.now.here.n limits (after (c.in-Some.message.now.from - 1) W) D) (sym work_same)
+    (stands_kept stands c.in-Some.message.now.from c.index_mut-session.result.now c.send_notes.new.session (message_sound stands c.in-Some.message.now seen).peer is c.in_err-send_notes.ensures.err)))
   where
-    work_then : InHand
+    work_then : Outstanding
     work_then = record { waiting = c.args.parts.now.waiting.items; ready = c.reserve_ready.new.self.ready; running = c.reserve_ready.new.self.running; replies = c.reserve_replies.new.self.replies; calls = c.reserve_replies.new.self.calls }
 
     work_same : work_then ≡ (state_of c.args.parts.now).work
     work_same = λ i. record { waiting = c.args.parts.now.waiting.items; ready = c.reserve_ready.ensures.ready i; running = c.reserve_ready.ensures.running i; replies = c.reserve_replies.ensures.replies i; calls = c.reserve_replies.ensures.calls i }
 
-    after : ℕ → InHand → State
+    after : ℕ → Outstanding → State
     after k W =
         record {
-          sessions = set c.args.parts.now.sessions.items k c.hand_notes.new.session;
+          sessions = set c.args.parts.now.sessions.items k c.send_notes.new.session;
           table = c.args.parts.now.table;
           dirty = c.args.parts.now.dirty;
           pins = c.args.parts.now.pins;
@@ -185,8 +185,8 @@ returns-in_err-reserve_replies-clause-answer c limits D stands =
     wants_as _ c.from_residual-in_err-reserve_replies.result _ c.from_residual-in_err-reserve_replies.ensures.1
     (settle_wants stands c.in-Some.message.now seen c.index.result.now looked free (some_given _))
 
-pub returns-in_err-hand_notes-clause-answer : goal.returns-in_err-hand_notes-clause-answer
-returns-in_err-hand_notes-clause-answer c limits D stands =
+pub returns-in_err-send_notes-clause-answer : goal.returns-in_err-send_notes-clause-answer
+returns-in_err-send_notes-clause-answer c limits D stands =
     let seen : find (is_settleable (state_of c.args.parts.now)) c.args.parts.now.waiting.items ≡ Some c.in-Some.message.now = sym c.first_settleable.ensures ∙ ap option_copied c.in-Some.is in
     let looked : c.index.result.now ≡ get_or c.args.parts.now.sessions.items (c.in-Some.message.now.from - 1) c.index.result.now = subst (λ (k : ℕ). c.index.result.now ≡ get_or c.args.parts.now.sessions.items k c.index.result.now) c.place-at.ensures.value c.index.ensures in
     let call : c.lost_call-call.result ≡ lost_call c.in-Some.message.now.item (has_lost c.args.parts.now.here.space c.args.parts.now.here.n (state_of c.args.parts.now) c.in-Some.message.now) = c.lost_call-call.ensures ∙ ap (lost_call c.in-Some.message.now.item) c.has_lost-lost.ensures in
@@ -194,7 +194,7 @@ returns-in_err-hand_notes-clause-answer c limits D stands =
     let numbers = c.free_numbers.ensures in
     let few = c.if-free_numbers-given_count.false in
     let free : given_count (lost_call c.in-Some.message.now.item (has_lost c.args.parts.now.here.space c.args.parts.now.here.n (state_of c.args.parts.now) c.in-Some.message.now)) ≤ last_item - c.index.result.now.end.handed = omega (arith, count, numbers, few) in
-    wants_as _ c.from_residual-in_err-hand_notes.result _ c.from_residual-in_err-hand_notes.ensures.1
+    wants_as _ c.from_residual-in_err-send_notes.result _ c.from_residual-in_err-send_notes.ensures.1
     (settle_wants stands c.in-Some.message.now seen c.index.result.now looked free (some_given _))
 
 pub returns-clause-answer : goal.returns-clause-answer
@@ -228,7 +228,7 @@ returns-clause-stands c limits D stands =
     let reply = c.in_ok-reply.ensures.spelled in
     same_space c.put_settled.new.parts.here c.args.parts.now.here c.put_settled.ensures.here (subst (λ (after : State). Stands c.args.parts.now.here.space c.args.parts.now.here.n limits after (did.Settle c.in-Some.message.now.from c.in-Some.message.now.number ∷ D)) (sym c.put_settled.ensures.put)
     (subst (λ (awaited : List WireRep). Stands c.args.parts.now.here.space c.args.parts.now.here.n limits (record {
-      sessions = set c.args.parts.now.sessions.items c.place-at.result c.hand_notes.new.session;
+      sessions = set c.args.parts.now.sessions.items c.place-at.result c.send_notes.new.session;
       table = c.put_settled.new.parts.table;
       dirty = c.args.parts.now.dirty;
       pins = c.args.parts.now.pins;
@@ -238,7 +238,7 @@ returns-clause-stands c limits D stands =
       jobs = c.args.parts.now.jobs_made;
     }) (did.Settle c.in-Some.message.now.from c.in-Some.message.now.number ∷ D)) (sym c.take_settleable.ensures.awaited)
     (subst (λ (k : ℕ). Stands c.args.parts.now.here.space c.args.parts.now.here.n limits (record {
-      sessions = set c.args.parts.now.sessions.items k c.hand_notes.new.session;
+      sessions = set c.args.parts.now.sessions.items k c.send_notes.new.session;
       table = c.put_settled.new.parts.table;
       dirty = c.args.parts.now.dirty;
       pins = c.args.parts.now.pins;
@@ -247,8 +247,8 @@ returns-clause-stands c limits D stands =
       calls = c.args.parts.now.calls_made;
       jobs = c.args.parts.now.jobs_made;
     }) (did.Settle c.in-Some.message.now.from c.in-Some.message.now.number ∷ D)) (sym c.place-at.ensures.value)
-    (settle_stands stands c.in-Some.message.now seen c.index_mut-session.result.now is left c.hand_notes.new.session c.put_settled.new.parts.table _ c.in_ok-settle.settle.items (option_map (λ payload. payload.items) c.in_ok-reply.reply)
+    (settle_stands stands c.in-Some.message.now seen c.index_mut-session.result.now is left c.send_notes.new.session c.put_settled.new.parts.table _ c.in_ok-settle.settle.items (option_map (λ payload. payload.items) c.in_ok-reply.reply)
     c.in_ok-settle.ensures.spelled (reply ∙ ap (option_map _) call)
-    (λ before. c.in_ok-hand_notes.ensures.answer c.args.parts.now.here.space c.in-Some.message.now.from limits (calls_at c.in-Some.message.now.from (history_of c.args.parts.now.here.space c.args.parts.now.here.n D)) before)
+    (λ before. c.in_ok-send_notes.ensures.answer c.args.parts.now.here.space c.in-Some.message.now.from limits (calls_at c.in-Some.message.now.from (history_of c.args.parts.now.here.space c.args.parts.now.here.n D)) before)
     (subst (GivesBack c.args.parts.now.table c.put_settled.new.parts.table) (λ i. loans_ended c.args.parts.now.here.space (one i) (one i).item (c.has_lost-lost.ensures i)) c.put_settled.ensures.back)
     (λ i. after_settlement (one i) (one i).item (c.has_lost-lost.ensures i) (record { waiting = c.take_settleable.ensures.items i; ready = c.reserve_ready.ensures.ready i; running = c.reserve_ready.ensures.running i; replies = c.reserve_replies.ensures.replies i; calls = c.reserve_replies.ensures.calls i }))))))

@@ -53,8 +53,8 @@ returns-in_err-reps-clause-answer c limits D stands = wants_as _ c.from_residual
 pub returns-in_err-reserve_calls-clause-answer : goal.returns-in_err-reserve_calls-clause-answer
 returns-in_err-reserve_calls-clause-answer c limits D stands = wants_as _ c.from_residual-in_err-reserve_calls.result _ c.from_residual-in_err-reserve_calls.ensures.1 (call_wants stands c.args.target.now c.args.value.now c.in_ok-refuse_call.ensures)
 
-pub returns-in_err-hand-clause-answer : goal.returns-in_err-hand-clause-answer
-returns-in_err-hand-clause-answer c limits D stands = wants_as _ c.from_residual-in_err-hand.result _ c.from_residual-in_err-hand.ensures.1 (call_wants stands c.args.target.now c.args.value.now c.in_ok-refuse_call.ensures)
+pub returns-in_err-send_pinned-clause-answer : goal.returns-in_err-send_pinned-clause-answer
+returns-in_err-send_pinned-clause-answer c limits D stands = wants_as _ c.from_residual-in_err-send_pinned.result _ c.from_residual-in_err-send_pinned.ensures.1 (call_wants stands c.args.target.now c.args.value.now c.in_ok-refuse_call.ensures)
 
 pub index_mut-session-requires : goal.index_mut-session-requires
 index_mut-session-requires c =
@@ -64,37 +64,37 @@ index_mut-session-requires c =
     let peer = c.place.ensures.value in
     omega (arith, range.0, range.1, each, peer)
 
-pub hand-requires-clause-next : goal.hand-requires-clause-next
-hand-requires-clause-next c =
+pub send_pinned-requires-clause-next : goal.send_pinned-requires-clause-next
+send_pinned-requires-clause-next c =
     let judged = call_judged c.args.self.now.here.space c.args.self.now.here.n (state_of c.args.self.now) c.args.target.now c.args.value.now c.in_ok-refuse_call.ensures in
     let is : c.index_mut-session.result.now ≡ get_or c.args.self.now.sessions.items (c.args.target.now.owner - 1) c.index_mut-session.result.now = subst (λ k. c.index_mut-session.result.now ≡ get_or c.args.self.now.sessions.items k c.index_mut-session.result.now) c.place.ensures.value c.index_mut-session.ensures.value in
     let there = end_there c.args.self.now.here.space c.args.self.now.here.n c.requires.0 c.args.self.now.sessions.items (history_of c.args.self.now.here.space c.args.self.now.here.n c.requires.1) c.args.target.now.owner c.index_mut-session.result.now c.requires.2.ends judged.peer is in
     next_free c.args.target.now.owner Limited (state_of c.args.self.now) c.index_mut-session.result.now there.0 there.1 judged.free
 
-pub hand-requires-clause-new : goal.hand-requires-clause-new
-hand-requires-clause-new c =
+pub send_pinned-requires-clause-new : goal.send_pinned-requires-clause-new
+send_pinned-requires-clause-new c =
     let judged = call_judged c.args.self.now.here.space c.args.self.now.here.n (state_of c.args.self.now) c.args.target.now c.args.value.now c.in_ok-refuse_call.ensures in
     let is : c.index_mut-session.result.now ≡ get_or c.args.self.now.sessions.items (c.args.target.now.owner - 1) c.index_mut-session.result.now = subst (λ k. c.index_mut-session.result.now ≡ get_or c.args.self.now.sessions.items k c.index_mut-session.result.now) c.place.ensures.value c.index_mut-session.ensures.value in
     let there = end_there c.args.self.now.here.space c.args.self.now.here.n c.requires.0 c.args.self.now.sessions.items (history_of c.args.self.now.here.space c.args.self.now.here.n c.requires.1) c.args.target.now.owner c.index_mut-session.result.now c.requires.2.ends judged.peer is in
     next_unpinned c.args.target.now.owner (c.index_mut-session.result.now.end.handed + 1) c.requires.2 (ap (λ (end : End). end.handed + 1) there.2)
 
-pub returns-in_err-hand-clause-err : goal.returns-in_err-hand-clause-err
-returns-in_err-hand-clause-err c = after_error _ c.from_residual-in_err-hand.result (λ limits D stands.
+pub returns-in_err-send_pinned-clause-err : goal.returns-in_err-send_pinned-clause-err
+returns-in_err-send_pinned-clause-err c = after_error _ c.from_residual-in_err-send_pinned.result (λ limits D stands.
     let judged = call_judged c.args.self.now.here.space c.args.self.now.here.n (state_of c.args.self.now) c.args.target.now c.args.value.now c.in_ok-refuse_call.ensures in
     let is : c.index_mut-session.result.now ≡ get_or c.args.self.now.sessions.items (c.args.target.now.owner - 1) c.index_mut-session.result.now = subst (λ k. c.index_mut-session.result.now ≡ get_or c.args.self.now.sessions.items k c.index_mut-session.result.now) c.place.ensures.value c.index_mut-session.ensures.value in
-    let same = c.in_err-hand.ensures.err in
+    let same = c.in_err-send_pinned.ensures.err in
     subst (λ (k : ℕ). Stands c.args.self.now.here.space c.args.self.now.here.n limits (after k c.args.self.now.calls.calls c.args.self.now.calls.replies) D → Stands c.args.self.now.here.space c.args.self.now.here.n limits (after c.place.result c.reserve_calls.new.self.calls c.reserve_calls.new.self.replies) D) c.place.ensures.value
     (λ st. subst (λ (calls : List OwnCall). Stands c.args.self.now.here.space c.args.self.now.here.n limits (after c.place.result calls c.reserve_calls.new.self.replies) D) (sym c.reserve_calls.ensures.calls)
     (subst (λ (replies : List Message). Stands c.args.self.now.here.space c.args.self.now.here.n limits (after c.place.result c.args.self.now.calls.calls replies) D) (sym c.reserve_calls.ensures.replies) st))
-    (stands_unsent stands c.args.target.now.owner c.index_mut-session.result.now c.hand.new.session c.hand.new.pins judged.peer is same.0 same.1))
+    (stands_unsent stands c.args.target.now.owner c.index_mut-session.result.now c.send_pinned.new.session c.send_pinned.new.pins judged.peer is same.0 same.1))
   where
     after : ℕ → List OwnCall → List Message → State
     after k calls replies =
         record {
-          sessions = set c.args.self.now.sessions.items k c.hand.new.session;
+          sessions = set c.args.self.now.sessions.items k c.send_pinned.new.session;
           table = c.args.self.now.table;
           dirty = c.args.self.now.dirty;
-          pins = c.hand.new.pins;
+          pins = c.send_pinned.new.pins;
           work = record { waiting = c.args.self.now.waiting.items; ready = c.args.self.now.jobs.ready; running = c.args.self.now.jobs.running; replies = replies; calls = calls };
           awaited = c.args.self.now.waiting.awaited;
           calls = c.args.self.now.calls_made;
@@ -111,37 +111,37 @@ pub returns-clause-stands : goal.returns-clause-stands
 returns-clause-stands c limits D stands =
     let judged = call_judged c.args.self.now.here.space c.args.self.now.here.n (state_of c.args.self.now) c.args.target.now c.args.value.now c.in_ok-refuse_call.ensures in
     let is : c.index_mut-session.result.now ≡ get_or c.args.self.now.sessions.items (c.args.target.now.owner - 1) c.index_mut-session.result.now = subst (λ k. c.index_mut-session.result.now ≡ get_or c.args.self.now.sessions.items k c.index_mut-session.result.now) c.place.ensures.value c.index_mut-session.ensures.value in
-    let sent = c.in_ok-hand.ensures in
+    let sent = c.in_ok-send_pinned.ensures in
     marked_stands
     (subst (λ (k : ℕ). Stands c.args.self.now.here.space c.args.self.now.here.n limits (record {
-      sessions = set c.args.self.now.sessions.items k c.hand.new.session;
+      sessions = set c.args.self.now.sessions.items k c.send_pinned.new.session;
       table = c.args.self.now.table;
       dirty = c.args.self.now.dirty;
-      pins = c.hand.new.pins;
+      pins = c.send_pinned.new.pins;
       work = record { waiting = c.args.self.now.waiting.items; ready = c.args.self.now.jobs.ready; running = c.args.self.now.jobs.running; replies = c.push.new.self.replies; calls = c.push.new.self.calls };
       awaited = c.args.self.now.waiting.awaited;
       calls = c.args.self.now.calls_made + 1;
       jobs = c.args.self.now.jobs_made;
     }) (did.Call c.args.target.now c.args.method c.args.value.now c.new-call.result ∷ D)) (sym c.place.ensures.value)
     (subst (λ (replies : List Message). Stands c.args.self.now.here.space c.args.self.now.here.n limits (record {
-      sessions = set c.args.self.now.sessions.items (c.args.target.now.owner - 1) c.hand.new.session;
+      sessions = set c.args.self.now.sessions.items (c.args.target.now.owner - 1) c.send_pinned.new.session;
       table = c.args.self.now.table;
       dirty = c.args.self.now.dirty;
-      pins = c.hand.new.pins;
+      pins = c.send_pinned.new.pins;
       work = record { waiting = c.args.self.now.waiting.items; ready = c.args.self.now.jobs.ready; running = c.args.self.now.jobs.running; replies = replies; calls = c.push.new.self.calls };
       awaited = c.args.self.now.waiting.awaited;
       calls = c.args.self.now.calls_made + 1;
       jobs = c.args.self.now.jobs_made;
     }) (did.Call c.args.target.now c.args.method c.args.value.now c.new-call.result ∷ D)) (sym (c.push.ensures.replies ∙ c.reserve_calls.ensures.replies))
-    (call_stands stands c.args.target.now c.args.method c.args.value.now c.index_mut-session.result.now c.hand.new.session c.hand.new.pins
+    (call_stands stands c.args.target.now c.args.method c.args.value.now c.index_mut-session.result.now c.send_pinned.new.session c.send_pinned.new.pins
     (λ call is_next. call_is c.args.self.now.here.space c.args.self.now.here.n limits D c.args.target.now c.args.method c.args.value.now call (call_ok stands c.args.target.now c.args.value.now c.in_ok-refuse_call.ensures ∙ ap (λ (k : ℕ). Ok (answers.Called k)) (sym is_next)))
     judged is
-    c.in-Ok.payload.items c.in_ok-hand.field-0 c.new-call.result c.in_ok-reps.reps.items c.push.new.self.calls
+    c.in-Ok.payload.items c.in_ok-send_pinned.field-0 c.new-call.result c.in_ok-reps.reps.items c.push.new.self.calls
     c.new-call.ensures (c.in-Ok.ensures {u = tt}).exact sent.number
     (λ before. sent.answer c.args.self.now.here.space c.args.target.now.owner limits (calls_at c.args.target.now.owner (history_of c.args.self.now.here.space c.args.self.now.here.n D)) before)
-    c.in_ok-reps.ensures (subst (λ (reps : List WireRep). AddsPins c.args.self.now.pins.bundles c.hand.new.pins.bundles c.args.target.now.owner (c.index_mut-session.result.now.end.handed + 1) reps) c.as_slice.ensures.value sent.pins)
+    c.in_ok-reps.ensures (subst (λ (reps : List WireRep). AddsPins c.args.self.now.pins.bundles c.send_pinned.new.pins.bundles c.args.target.now.owner (c.index_mut-session.result.now.end.handed + 1) reps) c.as_slice.ensures.value sent.pins)
     (c.push.ensures.calls ∙ ap (λ (calls : List OwnCall). calls ++ record { call = c.new-call.result; to = c.args.target.now.owner; stage = stages.Sent } ∷ []) c.reserve_calls.ensures.calls))))
     c.keep_all.new.table c.keep_all.ensures.table.items
-    (kept_have c.args.self.now.here.space c.args.self.now.table c.keep_all.new.table c.args.self.now.pins.bundles c.hand.new.pins.bundles c.args.self.now.dirty c.as_slice-2.result.now
-    (none_added c.args.self.now.pins.bundles c.hand.new.pins.bundles c.args.target.now.owner (c.index_mut-session.result.now.end.handed + 1) c.as_slice-2.result.now (subst (λ (reps : List WireRep). AddsPins c.args.self.now.pins.bundles c.hand.new.pins.bundles c.args.target.now.owner (c.index_mut-session.result.now.end.handed + 1) reps) (c.as_slice.ensures.value ∙ sym c.as_slice-2.ensures.value) sent.pins))
+    (kept_have c.args.self.now.here.space c.args.self.now.table c.keep_all.new.table c.args.self.now.pins.bundles c.send_pinned.new.pins.bundles c.args.self.now.dirty c.as_slice-2.result.now
+    (none_added c.args.self.now.pins.bundles c.send_pinned.new.pins.bundles c.args.target.now.owner (c.index_mut-session.result.now.end.handed + 1) c.as_slice-2.result.now (subst (λ (reps : List WireRep). AddsPins c.args.self.now.pins.bundles c.send_pinned.new.pins.bundles c.args.target.now.owner (c.index_mut-session.result.now.end.handed + 1) reps) (c.as_slice.ensures.value ∙ sym c.as_slice-2.ensures.value) sent.pins))
     c.keep_all.ensures.kept (users_there stands c.args.self.now.table stands.table.kept))

@@ -94,11 +94,11 @@ returns-in_err-reps-clause-answer c limits D stands =
     wants_as _ c.from_residual-in_err-reps.result _ c.from_residual-in_err-reps.ensures.1
     (subst IsOk (sym (finish_wants stands c.args.job c.args.outcome.now c.in-Some.run'.now found still c.value_of-value.result.now c.value_of-value.ensures c.in_ok-refuse_reply.ensures)) refl)
 
-pub returns-in_err-hand-clause-answer : goal.returns-in_err-hand-clause-answer
-returns-in_err-hand-clause-answer c limits D stands =
+pub returns-in_err-send_pinned-clause-answer : goal.returns-in_err-send_pinned-clause-answer
+returns-in_err-send_pinned-clause-answer c limits D stands =
     let found : find (is_run c.args.job) c.args.self.now.jobs.running ≡ Some c.in-Some.run'.now = sym (c.in-Some.ensures {u = tt}).found in
     let still : has_closed c.args.self.now.sessions.items c.in-Some.run'.now.message.from ≡ false = sym c.has_closed.ensures ∙ c.if-has_closed.false in
-    wants_as _ c.from_residual-in_err-hand.result _ c.from_residual-in_err-hand.ensures.1
+    wants_as _ c.from_residual-in_err-send_pinned.result _ c.from_residual-in_err-send_pinned.ensures.1
     (subst IsOk (sym (finish_wants stands c.args.job c.args.outcome.now c.in-Some.run'.now found still c.value_of-value.result.now c.value_of-value.ensures c.in_ok-refuse_reply.ensures)) refl)
 
 pub returns-clause-answer : goal.returns-clause-answer
@@ -116,8 +116,8 @@ index_mut-session-requires c =
     let client = c.place.ensures.value in
     omega (arith, range.0, range.1, each, client)
 
-pub hand-requires-clause-next : goal.hand-requires-clause-next
-hand-requires-clause-next c =
+pub send_pinned-requires-clause-next : goal.send_pinned-requires-clause-next
+send_pinned-requires-clause-next c =
     let found : find (is_run c.args.job) c.args.self.now.jobs.running ≡ Some c.in-Some.run'.now = sym (c.in-Some.ensures {u = tt}).found in
     let sound = run_sound c.requires.2 c.args.job c.args.outcome.now c.in-Some.run'.now found in
     let judged = reply_judged c.args.self.now.here.space c.in-Some.run'.now.message.from (state_of c.args.self.now) c.value_of-value.result.now c.in_ok-refuse_reply.ensures in
@@ -125,69 +125,69 @@ hand-requires-clause-next c =
     let there = end_there c.args.self.now.here.space c.args.self.now.here.n c.requires.0 c.args.self.now.sessions.items (history_of c.args.self.now.here.space c.args.self.now.here.n c.requires.1) c.in-Some.run'.now.message.from c.index_mut-session.result.now c.requires.2.ends sound.0.peer is in
     next_free c.in-Some.run'.now.message.from Limited (state_of c.args.self.now) c.index_mut-session.result.now there.0 there.1 judged.1
 
-pub hand-requires-clause-new : goal.hand-requires-clause-new
-hand-requires-clause-new c =
+pub send_pinned-requires-clause-new : goal.send_pinned-requires-clause-new
+send_pinned-requires-clause-new c =
     let found : find (is_run c.args.job) c.args.self.now.jobs.running ≡ Some c.in-Some.run'.now = sym (c.in-Some.ensures {u = tt}).found in
     let sound = run_sound c.requires.2 c.args.job c.args.outcome.now c.in-Some.run'.now found in
     let is : c.index_mut-session.result.now ≡ get_or c.args.self.now.sessions.items (c.in-Some.run'.now.message.from - 1) c.index_mut-session.result.now = subst (λ k. c.index_mut-session.result.now ≡ get_or c.args.self.now.sessions.items k c.index_mut-session.result.now) c.place.ensures.value c.index_mut-session.ensures.value in
     let there = end_there c.args.self.now.here.space c.args.self.now.here.n c.requires.0 c.args.self.now.sessions.items (history_of c.args.self.now.here.space c.args.self.now.here.n c.requires.1) c.in-Some.run'.now.message.from c.index_mut-session.result.now c.requires.2.ends sound.0.peer is in
     next_unpinned c.in-Some.run'.now.message.from (c.index_mut-session.result.now.end.handed + 1) c.requires.2 (ap (λ (end : End). end.handed + 1) there.2)
 
-pub returns-in_err-hand-clause-err : goal.returns-in_err-hand-clause-err
-returns-in_err-hand-clause-err c = after_error _ c.from_residual-in_err-hand.result (λ limits D stands.
+pub returns-in_err-send_pinned-clause-err : goal.returns-in_err-send_pinned-clause-err
+returns-in_err-send_pinned-clause-err c = after_error _ c.from_residual-in_err-send_pinned.result (λ limits D stands.
     let found : find (is_run c.args.job) c.args.self.now.jobs.running ≡ Some c.in-Some.run'.now = sym (c.in-Some.ensures {u = tt}).found in
     let sound = run_sound c.requires.2 c.args.job c.args.outcome.now c.in-Some.run'.now found in
     let is : c.index_mut-session.result.now ≡ get_or c.args.self.now.sessions.items (c.in-Some.run'.now.message.from - 1) c.index_mut-session.result.now = subst (λ k. c.index_mut-session.result.now ≡ get_or c.args.self.now.sessions.items k c.index_mut-session.result.now) c.place.ensures.value c.index_mut-session.ensures.value in
-    let same = c.in_err-hand.ensures.err in
+    let same = c.in_err-send_pinned.ensures.err in
     subst (λ (k : ℕ). Stands c.args.self.now.here.space c.args.self.now.here.n limits (record {
-      sessions = set c.args.self.now.sessions.items k c.hand.new.session;
+      sessions = set c.args.self.now.sessions.items k c.send_pinned.new.session;
       table = c.args.self.now.table;
       dirty = c.args.self.now.dirty;
-      pins = c.hand.new.pins;
+      pins = c.send_pinned.new.pins;
       work = record { waiting = c.args.self.now.waiting.items; ready = c.args.self.now.jobs.ready; running = c.args.self.now.jobs.running; replies = c.args.self.now.calls.replies; calls = c.args.self.now.calls.calls };
       awaited = c.args.self.now.waiting.awaited;
       calls = c.args.self.now.calls_made;
       jobs = c.args.self.now.jobs_made;
     }) D) (sym c.place.ensures.value)
-    (stands_unsent stands c.in-Some.run'.now.message.from c.index_mut-session.result.now c.hand.new.session c.hand.new.pins sound.0.peer is same.0 same.1))
+    (stands_unsent stands c.in-Some.run'.now.message.from c.index_mut-session.result.now c.send_pinned.new.session c.send_pinned.new.pins sound.0.peer is same.0 same.1))
 
 pub returns-clause-stands : goal.returns-clause-stands
 returns-clause-stands c limits D stands =
     let found : find (is_run c.args.job) c.args.self.now.jobs.running ≡ Some c.in-Some.run'.now = sym (c.in-Some.ensures {u = tt}).found in
     let still : has_closed c.args.self.now.sessions.items c.in-Some.run'.now.message.from ≡ false = sym c.has_closed.ensures ∙ c.if-has_closed.false in
     let is : c.index_mut-session.result.now ≡ get_or c.args.self.now.sessions.items (c.in-Some.run'.now.message.from - 1) c.index_mut-session.result.now = subst (λ k. c.index_mut-session.result.now ≡ get_or c.args.self.now.sessions.items k c.index_mut-session.result.now) c.place.ensures.value c.index_mut-session.ensures.value in
-    let sent = c.in_ok-hand.ensures in
+    let sent = c.in_ok-send_pinned.ensures in
     marked_stands
     (subst (λ (k : ℕ). Stands c.args.self.now.here.space c.args.self.now.here.n limits (record {
-      sessions = set c.args.self.now.sessions.items k c.hand.new.session;
+      sessions = set c.args.self.now.sessions.items k c.send_pinned.new.session;
       table = c.end_job-2.new.table;
       dirty = c.args.self.now.dirty;
-      pins = c.hand.new.pins;
+      pins = c.send_pinned.new.pins;
       work = record { waiting = c.args.self.now.waiting.items; ready = c.end_job-2.new.jobs.ready; running = c.end_job-2.new.jobs.running; replies = c.args.self.now.calls.replies; calls = c.args.self.now.calls.calls };
       awaited = c.args.self.now.waiting.awaited;
       calls = c.args.self.now.calls_made;
       jobs = c.args.self.now.jobs_made;
     }) (did.Finish c.args.job c.args.outcome.now ∷ D)) (sym c.place.ensures.value)
     (subst (λ (ready : List Message). Stands c.args.self.now.here.space c.args.self.now.here.n limits (record {
-      sessions = set c.args.self.now.sessions.items (c.in-Some.run'.now.message.from - 1) c.hand.new.session;
+      sessions = set c.args.self.now.sessions.items (c.in-Some.run'.now.message.from - 1) c.send_pinned.new.session;
       table = c.end_job-2.new.table;
       dirty = c.args.self.now.dirty;
-      pins = c.hand.new.pins;
+      pins = c.send_pinned.new.pins;
       work = record { waiting = c.args.self.now.waiting.items; ready = ready; running = c.end_job-2.new.jobs.running; replies = c.args.self.now.calls.replies; calls = c.args.self.now.calls.calls };
       awaited = c.args.self.now.waiting.awaited;
       calls = c.args.self.now.calls_made;
       jobs = c.args.self.now.jobs_made;
     }) (did.Finish c.args.job c.args.outcome.now ∷ D)) (sym c.end_job-2.ensures.ready)
     (finish_stands stands c.args.job c.args.outcome.now (finish_is c.args.self.now.here.space c.args.self.now.here.n limits D c.args.job c.args.outcome.now (returns-clause-answer c limits D stands)) c.in-Some.run'.now found still c.in-Call.call c.in-Call.target c.in-Call.method c.in-Call.value c.in-Call.is
-    c.index_mut-session.result.now c.hand.new.session c.hand.new.pins is
-    c.in-Ok.payload.items c.status_of.result c.in_ok-hand.field-0 c.value_of-value.result.now c.in_ok-reps.reps.items c.end_job-2.new.table c.end_job-2.new.jobs.running
+    c.index_mut-session.result.now c.send_pinned.new.session c.send_pinned.new.pins is
+    c.in-Ok.payload.items c.status_of.result c.in_ok-send_pinned.field-0 c.value_of-value.result.now c.in_ok-reps.reps.items c.end_job-2.new.table c.end_job-2.new.jobs.running
     c.status_of.ensures c.value_of-value.ensures (c.in-Ok.ensures {u = tt}).exact sent.number
     (λ before. sent.answer c.args.self.now.here.space c.in-Some.run'.now.message.from limits (calls_at c.in-Some.run'.now.message.from (history_of c.args.self.now.here.space c.args.self.now.here.n D)) before)
-    c.in_ok-reps.ensures (subst (λ (reps : List WireRep). AddsPins c.args.self.now.pins.bundles c.hand.new.pins.bundles c.in-Some.run'.now.message.from (c.index_mut-session.result.now.end.handed + 1) reps) c.as_slice.ensures.value sent.pins)
+    c.in_ok-reps.ensures (subst (λ (reps : List WireRep). AddsPins c.args.self.now.pins.bundles c.send_pinned.new.pins.bundles c.in-Some.run'.now.message.from (c.index_mut-session.result.now.end.handed + 1) reps) c.as_slice.ensures.value sent.pins)
     c.end_job-2.ensures.back c.end_job-2.ensures.ended)))
     c.keep_all.new.table c.keep_all.ensures.table.items
-    (kept_have c.args.self.now.here.space c.end_job-2.new.table c.keep_all.new.table c.args.self.now.pins.bundles c.hand.new.pins.bundles c.args.self.now.dirty c.as_slice-2.result.now
-    (none_added c.args.self.now.pins.bundles c.hand.new.pins.bundles c.in-Some.run'.now.message.from (c.index_mut-session.result.now.end.handed + 1) c.as_slice-2.result.now (subst (λ (reps : List WireRep). AddsPins c.args.self.now.pins.bundles c.hand.new.pins.bundles c.in-Some.run'.now.message.from (c.index_mut-session.result.now.end.handed + 1) reps) (c.as_slice.ensures.value ∙ sym c.as_slice-2.ensures.value) sent.pins))
+    (kept_have c.args.self.now.here.space c.end_job-2.new.table c.keep_all.new.table c.args.self.now.pins.bundles c.send_pinned.new.pins.bundles c.args.self.now.dirty c.as_slice-2.result.now
+    (none_added c.args.self.now.pins.bundles c.send_pinned.new.pins.bundles c.in-Some.run'.now.message.from (c.index_mut-session.result.now.end.handed + 1) c.as_slice-2.result.now (subst (λ (reps : List WireRep). AddsPins c.args.self.now.pins.bundles c.send_pinned.new.pins.bundles c.in-Some.run'.now.message.from (c.index_mut-session.result.now.end.handed + 1) reps) (c.as_slice.ensures.value ∙ sym c.as_slice-2.ensures.value) sent.pins))
     c.keep_all.ensures.kept (users_there stands c.end_job-2.new.table (table_back stands c.args.job c.end_job-2.new.table c.end_job-2.ensures.back).kept))
 
 pub returns-in_default-clause-dropped : goal.returns-in_default-clause-dropped
@@ -211,8 +211,8 @@ returns-in_err-reps-clause-dropped c run again cut =
     let still : has_closed c.args.self.now.sessions.items c.in-Some.run'.now.message.from ≡ false = sym c.has_closed.ensures ∙ c.if-has_closed.false in
     absurd (still_open c.args.job c.args.self.now.jobs.running c.args.self.now.sessions.items c.in-Some.run'.now run found still again cut)
 
-pub returns-in_err-hand-clause-dropped : goal.returns-in_err-hand-clause-dropped
-returns-in_err-hand-clause-dropped c run again cut =
+pub returns-in_err-send_pinned-clause-dropped : goal.returns-in_err-send_pinned-clause-dropped
+returns-in_err-send_pinned-clause-dropped c run again cut =
     let found : find (is_run c.args.job) c.args.self.now.jobs.running ≡ Some c.in-Some.run'.now = sym (c.in-Some.ensures {u = tt}).found in
     let still : has_closed c.args.self.now.sessions.items c.in-Some.run'.now.message.from ≡ false = sym c.has_closed.ensures ∙ c.if-has_closed.false in
     absurd (still_open c.args.job c.args.self.now.jobs.running c.args.self.now.sessions.items c.in-Some.run'.now run found still again cut)

@@ -3,7 +3,7 @@ use Rattle.nob_model_session.specs.declared.entry.EndEntry.TheVariants.{Send}
 use Rattle.nob_model_session.specs.declared.entry.Kind.TheVariants.{Note}
 use Rattle.nob_session.specs.Stands.{End}
 use Rattle.nob_session.specs.Stands as ends
-use Rattle.nob_space_settling.proofs.settling.hand_notes.Goals as goal
+use Rattle.nob_space_settling.proofs.settling.send_notes.Goals as goal
 
 pub returns-in-Some-clause-answer : goal.returns-in-Some-clause-answer
 returns-in-Some-clause-answer c me peer limits L stands =

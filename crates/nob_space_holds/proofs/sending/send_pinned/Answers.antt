@@ -1,5 +1,5 @@
 use Rattle.std.proofs.Common.{◌∙◌}
-use Rattle.nob_space_holds.proofs.sending.hand.Goals as goal
+use Rattle.nob_space_holds.proofs.sending.send_pinned.Goals as goal
 
 pub returns-then-is_empty-clause-answer : goal.returns-then-is_empty-clause-answer
 returns-then-is_empty-clause-answer c me other limits L stands = c.send_reserved.ensures.answer me other limits L (c.reserve.ensures.same ∙ stands)
