@@ -810,13 +810,17 @@ pub fn after(
 }
 
 /// What a space has outstanding.
-pub fn outstanding(alloc: Global, here: &Here, deeds: &[Deed]) -> Result<Outstanding, AllocError>
+pub fn outstanding_work(
+    alloc: Global,
+    here: &Here,
+    deeds: &[Deed],
+) -> Result<Outstanding, AllocError>
     ensures { IfOk result (λ work. work ≡ words.work here.now.space here.now.n deeds.now) }
 {
     match deeds {
         [] => Ok(Outstanding::none(alloc)),
         [deed, older @ ..] => {
-            let before = outstanding(alloc, here, older)?;
+            let before = outstanding_work(alloc, here, older)?;
             after(alloc, here, deed, older, deeds, before)
         }
     }

@@ -4,7 +4,7 @@ use nob_ids::WireRep;
 use nob_model::next::reply_ready;
 use nob_model::{Here, History, Outstanding, OwnCall};
 use nob_model_history::transit::{place, surrogates};
-use nob_model_work::work::outstanding;
+use nob_model_work::work::outstanding_work;
 use nob_space::Work;
 use std::alloc::{AllocError, Global};
 
@@ -51,7 +51,7 @@ pub fn push_outstanding(
     here: &Here,
     history: &History,
 ) -> Result<(), AllocError> {
-    let work = outstanding(alloc, here, history.deeds.as_slice())?;
+    let work = outstanding_work(alloc, here, history.deeds.as_slice())?;
     push_counts(alloc, words, &work)?;
     for call in work.calls.as_slice() {
         push_call(alloc, words, call, history)?;
