@@ -71,8 +71,7 @@ impl Space {
         ensures limits { IfOk result (λ space. space.limits ≡ limits) }
         ensures stands { IfOk result (λ space. StandsFor space []) }
     {
-        let here = Here { space: id, n };
-        let parts = Parts::new(alloc, &here, limits)?;
+        let parts = Parts::new(alloc, Here { space: id, n }, limits)?;
         Ok(Space {
             limits,
             alloc,
