@@ -76,8 +76,8 @@ shut_unpinned parts shut =
 -- ---- one session after the other
 
 -- a space that is no peer, or whose session has closed
-pub below_more : {p : ℕ} {parts : Parts} → (is_peer parts.here.space parts.here.n p ≡ true → has_closed parts.sessions.items p ≡ true) → IsShutBelow p parts → IsShutBelow (p + 1) parts
-below_more {p} {parts} here shut = (
+pub below_more : {p : ℕ} (parts : Parts) → (is_peer parts.here.space parts.here.n p ≡ true → has_closed parts.sessions.items p ≡ true) → IsShutBelow p parts → IsShutBelow (p + 1) parts
+below_more {p} parts here shut = (
   shut.0,
   shut.1,
   shut.2,
@@ -89,8 +89,8 @@ below_more {p} {parts} here shut = (
 )
 
 -- a session that closes now
-pub below_closed : {p : ℕ} {old new : Parts} → new.here ≡ old.here → is_peer old.here.space old.here.n p ≡ true → has_closed old.sessions.items p ≡ false → Closes p Asked causes.Asked old new → IsShutBelow p old → IsShutBelow (p + 1) new
-below_closed {p} {old} {new} same peer still closes shut =
+pub below_closed : {p : ℕ} (old new : Parts) → new.here ≡ old.here → is_peer old.here.space old.here.n p ≡ true → has_closed old.sessions.items p ≡ false → Closes p Asked causes.Asked old new → IsShutBelow p old → IsShutBelow (p + 1) new
+below_closed {p} old new same peer still closes shut =
     let D : List Deed = shut.1 in (
       shut.0,
       Closing p Asked causes.Asked ∷ D,
@@ -102,8 +102,8 @@ below_closed {p} {old} {new} same peer still closes shut =
     )
 
 -- at first no session needs to have closed
-pub below_first : {parts : Parts} → IsState parts → IsShutBelow 1 parts
-below_first {parts} stands = (stands.0, stands.1, stands.2, λ q peer low. absurd (no_peer_below parts.here.space parts.here.n q peer low))
+pub below_first : (parts : Parts) → IsState parts → IsShutBelow 1 parts
+below_first parts stands = (stands.0, stands.1, stands.2, λ q peer low. absurd (no_peer_below parts.here.space parts.here.n q peer low))
   where
     no_peer_below : (s n q : ℕ) → is_peer s n q ≡ true → q < 1 → ⊥
     no_peer_below s n q peer low = grind (arith, nat_tests, peer, low)
