@@ -9,7 +9,7 @@ loop-p-init c = record { few = (omega arith, omega arith); same = refl; shut = b
 
 pub loop-p-preserved : goal.loop-p-preserved
 loop-p-preserved c =
-    let there : c.loop-p.p ≤ c.loop-p.n = search rules in
+    let there : c.loop-p.p ≤ c.args.self.now.here.n = search rules in
     let is : c.in-Some.peer ≡ c.loop-p.p = (c.in-Some.ensures {u = tt}).value in
     record {
       few = (omega arith, omega (arith, there));
@@ -20,7 +20,7 @@ loop-p-preserved c =
 
 pub returns : goal.returns
 returns c =
-    let past : c.loop-p.n + 1 ≤ c.loop-p.p = search rules in
+    let past : c.args.self.now.here.n + 1 ≤ c.loop-p.p = search rules in
     let low = c.loop-p.invariant.few in
     let same = c.loop-p.invariant.same in
     let is : c.loop-p.p ≡ c.loop-p.self.here.n + 1 = omega (arith, past, low, same) in
