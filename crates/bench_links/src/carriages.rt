@@ -1,5 +1,9 @@
 //! Two threads, one of which gives parcels to the other.
 
+ghost use Rattle.std.specs.Prelude.{◌≡◌, ◌++◌, List, reverse};
+ghost use Rattle.nob_link.specs.declared.parcel.Parcel.{Parcel as ParcelOf};
+ghost use Rattle.bench_links.specs.Counting.{AreInOrder};
+
 use crate::parcels::{Spaces, count_with};
 use crossbeam_channel::{Receiver, Sender, bounded};
 use nob_link::{Parcel, PutEnd, TakeEnd, link};
@@ -14,13 +18,13 @@ pub fn over_link<R: Threads + Wait + Sync>(
     alloc: Global,
     capacity: usize,
     count: u64,
-) -> Option<u64> {
+) -> Option<u128> {
     let spaces = Spaces::new()?;
-    let (put, take) = link(alloc, capacity).ok()?;
+    let (put, mut take) = link(alloc, capacity).ok()?;
     let ((), came) = thread::join(
         rt,
         move || put_all(rt, alloc, put, spaces, count),
-        move || take_all(rt, take),
+        move || take_all(rt, &mut take),
     );
     Some(came)
 }
@@ -34,8 +38,11 @@ fn put_all<R: Wait>(rt: &R, alloc: Global, mut put: PutEnd, spaces: Spaces, coun
     }
 }
 
-// Takes until there is none: how many came in order.
-fn take_all<R: Wait>(rt: &R, mut take: TakeEnd) -> u64 {
+// Takes until there is none: how many of those that were taken came in order.
+fn take_all<R: Wait>(rt: &R, take: &mut TakeEnd) -> u128
+    ensures { (taken : List ParcelOf) × (take.new.taken ≡ take.old.taken ++ taken)
+        × AreInOrder result (reverse taken) }
+{
     let mut came = 0;
     for _ in rt.forever() {
         let Some(parcel) = take.take_as(rt) else {
@@ -52,7 +59,7 @@ pub fn over_channel<R: Threads + Wait + Sync>(
     alloc: Global,
     capacity: usize,
     count: u64,
-) -> Option<u64> {
+) -> Option<u128> {
     let spaces = Spaces::new()?;
     let (sender, receiver) = bounded::<Parcel, Global>(alloc, capacity).ok()?;
     let ((), came) = thread::join(
@@ -73,7 +80,7 @@ fn send_all<R: Wait>(rt: &R, alloc: Global, sender: Sender<Parcel>, spaces: Spac
 }
 
 // Receives until there is none: how many came in order.
-fn receive_all<R: Wait>(rt: &R, receiver: Receiver<Parcel>) -> u64 {
+fn receive_all<R: Wait>(rt: &R, receiver: Receiver<Parcel>) -> u128 {
     let mut came = 0;
     for _ in rt.forever() {
         let Ok(parcel) = receiver.recv(rt) else {

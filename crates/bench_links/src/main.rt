@@ -76,7 +76,7 @@ fn run<R: Threads + Wait + Sync + Print>(rt: &R, alloc: Global, task: Task) -> i
         Way::Channel => over_channel(rt, alloc, capacity as usize, count),
     };
     match came {
-        Some(came) if came == count => rt.println("done"),
+        Some(came) if came == u128::from(count) => rt.println("done"),
         Some(_) => rt.println("not in order"),
         None => rt.println("no way"),
     }

@@ -1,9 +1,10 @@
 //! The parcels: frames that carry nothing, so that no memory is taken for them.
 
-ghost use Rattle.std.specs.Prelude.{◌≡◌, []};
+ghost use Rattle.std.specs.Prelude.{◌≡◌, ◌↔◌, ◌<◌, ◌^◌, ◌∷◌, [], List, true};
 ghost use Rattle.nob_frame.specs.declared.frame.FrameKind.TheVariants as kinds;
+ghost use Rattle.nob_link.specs.declared.parcel.Parcel.{Parcel as ParcelOf};
 ghost use Rattle.nob_link.specs.declared.parcel.Parcel.TheVariants as parcels;
-ghost use Rattle.bench_links.specs.Counting as counting;
+ghost use Rattle.bench_links.specs.Counting.{AreInOrder, IsOf};
 
 use nob_frame::{Bytes, Frame, FrameKind};
 use nob_ids::SpaceId;
@@ -51,17 +52,26 @@ impl Spaces {
     }
 }
 
-/// How many parcels have come in order, once this one has come after so many.
-pub fn count_with(came: u64, parcel: &Parcel) -> u64
-    ensures { result ≡ counting.count_with came parcel.now }
+/// How many parcels have come in order, once this one has come after others of which so many had.
+pub fn count_with(came: u128, parcel: &Parcel) -> u128
+    ensures { (before : List ParcelOf) → AreInOrder came before
+        → AreInOrder result (parcel.now ∷ before) }
+{
+    if is_of(parcel, came) {
+        return came + 1;
+    }
+    came
+}
+
+// Whether a parcel is that of a number.
+fn is_of(parcel: &Parcel, number: u128) -> bool
+    ensures is { (result ≡ true) ↔ IsOf number parcel.now }
+    ensures fits { result ≡ true → number < 2 ^ 64 }
 {
     match parcel {
         Parcel::Frame { stamp, frame } => {
-            if *stamp == came && frame.ack == came {
-                return came.wrapping_add(1);
-            }
-            came
+            u128::from(*stamp) == number && u128::from(frame.ack) == number
         }
-        Parcel::End => came,
+        Parcel::End => false,
     }
 }
