@@ -1,5 +1,5 @@
 -- What is kept of a space: its number, how many there are, the limits of its sessions, and the entries of its trace.
-use Rattle.std.specs.Prelude.{◌≡◌, ◌≤◌, ℕ, ◌+◌, ◌^◌, nat_le, nat_lt, max, List, [], ◌∷◌, ◌++◌, length, map, reverse, Option, Some, None, if◌then◌else◌}
+use Rattle.std.specs.Prelude.{◌≡◌, ◌≤◌, ℕ, ◌+◌, ◌^◌, nat_le, nat_lt, max, Bool, List, [], ◌∷◌, ◌++◌, length, map, reverse, Option, Some, None, if◌then◌else◌}
 use Rattle.nob_ids.specs.declared.limits.Limits.{Limits}
 use Rattle.nob_model_types.specs.declared.entry.Entry.{Entry}
 use Rattle.nob_model_history.specs.declared.history.History.{History}
@@ -65,9 +65,13 @@ with_next account entry = record { id = account.id; n = account.n; limits = acco
 abbrev pub next_stamp : (last seen : ℕ) → ℕ
 next_stamp last seen = max last seen + 1
 
+-- whether the trace is full
+abbrev pub is_full : Account → Bool
+is_full account = nat_le most_entries (length account.entries)
+
 -- what refuses an entry more, memory aside: the trace is full, or else the stamp that was seen is too great
 abbrev pub fault_of : Account → ℕ → Option KeeperError
-fault_of account seen = if nat_le most_entries (length account.entries) then Some errors.TraceFull else (if nat_lt last_seen seen then Some errors.Stamp else None)
+fault_of account seen = if is_full account then Some errors.TraceFull else (if nat_lt last_seen seen then Some errors.Stamp else None)
 
 -- what the entries that are kept say of their space
 abbrev pub history_in : Account → History

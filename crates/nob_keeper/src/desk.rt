@@ -61,11 +61,11 @@ impl Desk {
         }
     }
 
-    fn set_watch(&mut self, kind: WorkKind, watch: Watch) {
+    fn watch_mut(&mut self, kind: WorkKind) -> &mut Watch {
         match kind {
-            WorkKind::Send => self.send = watch,
-            WorkKind::Care => self.care = watch,
-            WorkKind::Claim => self.claim = watch,
+            WorkKind::Send => &mut self.send,
+            WorkKind::Care => &mut self.care,
+            WorkKind::Claim => &mut self.claim,
         }
     }
 
@@ -94,38 +94,19 @@ impl Desk {
 
     // Tells those who wait for work of a kind to stop.
     pub(crate) fn stop(&mut self, kind: WorkKind) {
-        let watch = self.watch(kind);
-        self.set_watch(
-            kind,
-            Watch {
-                stopped: true,
-                ..watch
-            },
-        );
+        self.watch_mut(kind).stopped = true;
     }
 
     // One more waits for work of a kind.
     pub(crate) fn park(&mut self, kind: WorkKind) {
-        let watch = self.watch(kind);
-        self.set_watch(
-            kind,
-            Watch {
-                parked: watch.parked.saturating_add(1),
-                ..watch
-            },
-        );
+        let watch = self.watch_mut(kind);
+        watch.parked = watch.parked.saturating_add(1);
     }
 
     // One fewer waits for work of a kind.
     pub(crate) fn unpark(&mut self, kind: WorkKind) {
-        let watch = self.watch(kind);
-        self.set_watch(
-            kind,
-            Watch {
-                parked: watch.parked.saturating_sub(1),
-                ..watch
-            },
-        );
+        let watch = self.watch_mut(kind);
+        watch.parked = watch.parked.saturating_sub(1);
     }
 
     // Whether somebody waits for work of a kind.

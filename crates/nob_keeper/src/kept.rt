@@ -1,6 +1,6 @@
 //! A space with its trace.
 
-ghost use Rattle.std.specs.Prelude.{◌≡◌, ◌≢◌, ◌↔◌, ◌≤◌, ◌+◌, ◌-◌, ◌⊎◌, ◌&&◌, ◌||◌, ◌++◌, ◌∷◌, [], ℕ, List, Some, None, true, Err, length, nat_le, slice_get, IfOk, IfErr, OnOk, OnErr};
+ghost use Rattle.std.specs.Prelude.{◌≡◌, ◌≢◌, ◌↔◌, ◌≤◌, ◌+◌, ◌-◌, ◌⊎◌, ◌&&◌, ◌||◌, ◌++◌, ◌∷◌, [], ℕ, List, Some, None, true, Err, length, slice_get, IfOk, IfErr, OnOk, OnErr};
 ghost use Rattle.nob_ids.specs.Names.{IsSpace};
 ghost use Rattle.nob_model_types.specs.declared.entry.Entry.{Entry as EntryOf};
 ghost use Rattle.nob_model.specs.Next as next;
@@ -157,7 +157,7 @@ impl Kept {
 
     /// Whether the trace is full.
     pub fn is_full(&self) -> bool
-        ensures { result ≡ nat_le accounts.most_entries (length self.now.entries) }
+        ensures { result ≡ accounts.is_full self.now }
     {
         self.entries.len() >= MOST_ENTRIES
     }
@@ -216,18 +216,15 @@ impl Kept {
     /// new.
     pub fn prospects(&self, wakes: Wakes) -> Prospects
         ensures send { (result.send ≡ true) ↔ ((wakes.send ≡ true)
-            × ((nat_le accounts.most_entries (length self.now.entries) ≡ true)
-            ⊎ waking.HasNew self.now)) }
-        ensures care { result.care ≡ (wakes.care
-            && (nat_le accounts.most_entries (length self.now.entries)
+            × ((accounts.is_full self.now ≡ true) ⊎ waking.HasNew self.now)) }
+        ensures care { result.care ≡ (wakes.care && (accounts.is_full self.now
             || waking.can_care self.now.id self.now.n (accounts.history_in self.now))) }
-        ensures claim { result.claim ≡ (wakes.claim
-            && (nat_le accounts.most_entries (length self.now.entries)
+        ensures claim { result.claim ≡ (wakes.claim && (accounts.is_full self.now
             || next.can_claim (accounts.history_in self.now))) }
     {
         let is_full = self.is_full();
         Prospects {
-            send: sends(self, wakes.send),
+            send: wakes.send && (is_full || has_new(self)),
             care: wakes.care && (is_full || self.can_care()),
             claim: wakes.claim && (is_full || self.can_claim()),
         }
@@ -273,21 +270,6 @@ impl Kept {
         } = self;
         space.shut();
     }
-}
-
-// Whether there may be something to transmit and there is something new, or the trace is full.
-fn sends(kept: &Kept, may: bool) -> bool
-    ensures { (result ≡ true) ↔ ((may ≡ true)
-        × ((nat_le accounts.most_entries (length kept.now.entries) ≡ true)
-        ⊎ waking.HasNew kept.now)) }
-{
-    if !may {
-        return false;
-    }
-    if kept.is_full() {
-        return true;
-    }
-    has_new(kept)
 }
 
 // Whether a Transmit to some space would give something that was never given.
