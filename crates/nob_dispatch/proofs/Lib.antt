@@ -1,3 +1,4 @@
 pub mod Follows
 pub mod Givings
 pub mod Crossing
+pub mod Returns

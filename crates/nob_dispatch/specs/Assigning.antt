@@ -1,13 +1,16 @@
 -- A dispatcher with the ends of its two lanes. In lists of the numbers of jobs that ends gave and got the first stands first.
-use Rattle.std.specs.Prelude.{◌≡◌, ◌≤◌, ◌+◌, ℕ, Bool, true, List, [], ◌∷◌, ◌++◌, length, reverse, Option, Some, None, Result, Ok}
+use Rattle.std.specs.Prelude.{◌≡◌, ◌≤◌, ◌+◌, ◌-◌, ℕ, Bool, true, List, [], ◌∷◌, ◌++◌, length, reverse, Option, Some, None, Result, Ok, if◌then◌else◌}
 use Rattle.nob_model_types.specs.declared.answer.Job.{Job}
 use Rattle.nob_dispatch_jobs.specs.KeeperError.{KeeperError}
 use Rattle.nob_dispatch.specs.declared.desk.Assigned.{Assigned}
 use Rattle.nob_dispatch.specs.declared.desk.Assigned.TheVariants as answers
+use Rattle.nob_dispatch_jobs.specs.declared.errand.Return.{Return}
 use Rattle.nob_dispatch_jobs.specs.declared.shelf.Place.{Place}
+use Rattle.nob_dispatch_jobs.specs.declared.shelf.Place.TheVariants.{Here}
 use Rattle.nob_dispatch_jobs.specs.Ends.{with_job}
 use Rattle.nob_dispatch_jobs.specs.Dispatching.{Dispatching}
 use Rattle.nob_dispatch_jobs.specs.Dispatching as dispatching
+use Rattle.nob_dispatch_jobs.specs.Shelves.{place_of, with_place, is_away}
 
 -- a desk, as contracts see it
 pub record Assigning (O : Type 0) : Type 0 where
@@ -38,9 +41,26 @@ module _ {O : Type 0} where
   abbrev pub IsTied : Assigning O → Type 0
   IsTied a = dispatching.IsTied (handed_on a) a.dispatcher × (length a.given ≤ a.away + length a.back) × (a.away ≤ 512)
 
-  -- an object came back
+  -- the shelf once an object came back: where it is away it is here again, and else it is let go
+  abbrev pub with_return : Return O → List (ℕ × Place O) → List (ℕ × Place O)
+  with_return back shelf = if is_away (place_of back.index shelf) then with_place back.index (Here back.object) shelf else shelf
+
+  -- a desk to which an object came back
+  abbrev pub with_back : Return O → Assigning O → Assigning O
+  with_back back a = record { given = a.given; back = a.back ++ back.job ∷ []; unsent = a.unsent; away = a.away - 1; has_stopped = a.has_stopped; dispatcher = dispatching.with_shelf (with_return back a.dispatcher.shelf) a.dispatcher }
+
+  -- a desk to which these came back, the newest of which stands FIRST
+  abbrev pub with_all_back : List (Return O) → Assigning O → Assigning O
+  with_all_back [] a = a
+  with_all_back (back ∷ earlier) a = with_back back (with_all_back earlier a)
+
+  -- an object came back, and all else is as it was
   abbrev pub ComesBack : (old new : Assigning O) → Type 0
-  ComesBack old new = (number : ℕ) × (new.back ≡ old.back ++ number ∷ [])
+  ComesBack old new = (back : Return O) × (new ≡ with_back back old)
+
+  -- some objects came back, or none, and all else is as it was
+  abbrev pub SomeComeBack : (old new : Assigning O) → Type 0
+  SomeComeBack old new = (came : List (Return O)) × (new ≡ with_all_back came old)
 
   -- all but the objects, and what came back, is as it was
   abbrev pub IsSameBesideBack : (old new : Assigning O) → Type 0

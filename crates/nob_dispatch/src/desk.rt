@@ -196,9 +196,10 @@ impl<O: Object> Desk<O> {
         self.hand_on(rt, keeper)
     }
 
-    // All objects that are on their way back now come back.
-    fn take_back<R: Wait>(&mut self, rt: &R)
-        ensures { assigning.IsSameBesideBack self.old self.new }
+    /// All objects that are on their way back now come back.
+    pub fn take_back<R: Wait>(&mut self, rt: &R)
+        ensures back { assigning.SomeComeBack self.old self.new }
+        ensures same { assigning.IsSameBesideBack self.old self.new }
     {
         for _ in 0..MOST_ERRANDS {
             if !self.take_one_back(rt) {
@@ -209,6 +210,8 @@ impl<O: Object> Desk<O> {
 
     // An object comes back, if one is on its way now: whether one was.
     fn take_one_back<R: Wait>(&mut self, rt: &R) -> bool
+        ensures back { result ≡ true → assigning.ComesBack self.old self.new }
+        ensures none { result ≡ false → self.new ≡ self.old }
         ensures same { assigning.IsSameBesideBack self.old self.new }
     {
         match self.returns.try_get_as(rt) {

@@ -533,7 +533,7 @@ impl<B: Object> Site<B> {
     pub fn remove<R: Wait>(&self, rt: &R, index: u64) {
         let mut held = self.desk.lock(rt);
         if let Some(desk) = &mut *held {
-            self.assign_all(rt, desk);
+            desk.take_back(rt);
             let _ = desk.remove(index);
         }
         drop(held);
@@ -582,13 +582,13 @@ impl<B: Object> Site<B> {
         }
         self.attend(
             rt,
-            prospects.claim || may_assign || self.is_back_for_some(&receipt.event),
+            prospects.claim || may_assign || self.is_awaited_finish(&receipt.event),
             prospects.care || may_care,
         );
     }
 
-    // Whether an event ended a job, whose object came back before, and somebody waits for objects.
-    fn is_back_for_some(&self, event: &Event) -> bool {
+    // Whether an event ended a job while somebody waits for objects: the job's came back before.
+    fn is_awaited_finish(&self, event: &Event) -> bool {
         is_finish(event) && self.awaited.load(Ordering::SeqCst) > 0
     }
 
