@@ -1,5 +1,9 @@
 //! Scripts of a world.
 
+ghost use Rattle.std.specs.Prelude.{Some, None, IfOk, MatchOption};
+ghost use Rattle.nob_text.specs.Lines.{lines_of};
+ghost use Rattle.test_growths.specs.Scripts as spec;
+
 use nob_ids::{Limits, SpaceId};
 use nob_model::WorldStep;
 use nob_model_reading::{opening_of, step_of};
@@ -19,7 +23,11 @@ pub struct Script {
 }
 
 /// The script that a text is: none where a line spells no step. Only memory fails it.
-pub fn script_of(alloc: Global, text: &[u8]) -> Result<Option<Script>, AllocError> {
+pub fn script_of(alloc: Global, text: &[u8]) -> Result<Option<Script>, AllocError>
+    ensures { IfOk result (λ found. MatchOption found (spec.SpellNoScript (lines_of text.now))
+        (λ script. spec.SpellScript (lines_of text.now) script.n script.limits
+        script.steps.items)) }
+{
     let Some((line, rest)) = first_line(text) else {
         return Ok(None);
     };
@@ -37,13 +45,13 @@ pub fn script_of(alloc: Global, text: &[u8]) -> Result<Option<Script>, AllocErro
 }
 
 // The steps that lines spell: none where one spells none.
-fn steps_of(alloc: Global, text: &[u8]) -> Result<Option<Vec<WorldStep>>, AllocError> {
+fn steps_of(alloc: Global, text: &[u8]) -> Result<Option<Vec<WorldStep>>, AllocError>
+    ensures { IfOk result (λ found. MatchOption found (spec.SpellSteps (lines_of text.now) None)
+        (λ steps. spec.SpellSteps (lines_of text.now) (Some steps.items))) }
+{
     let mut steps = Vec::new(alloc);
     let mut left = text;
-    for _ in 0..text.len() {
-        let Some((line, rest)) = first_line(left) else {
-            break;
-        };
+    while let Some((line, rest)) = first_line(left) {
         let Some(step) = step_of(alloc, line)? else {
             return Ok(None);
         };

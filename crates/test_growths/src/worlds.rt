@@ -1,10 +1,11 @@
 //! Scripts on worlds, where a step that wanted memory is made once more.
 
-ghost use Rattle.std.specs.Prelude.{◌≡◌, List, true, length, reverse, IfOk};
+ghost use Rattle.std.specs.Prelude.{◌≡◌, ◌↔◌, ◌≤◌, ◌∷◌, [], List, true, length, reverse, take, IfOk, OnOk, OnErr};
 ghost use Rattle.nob_model_types.specs.declared.entry.Entry.{Entry as EntryOf};
 ghost use Rattle.nob_model_journal.specs.Runs.{WorldRun};
 ghost use Rattle.nob_trace.specs.declared.trace.Trace.{Trace as TraceOf};
 ghost use Rattle.nob_model_traces.specs.Faults.{AreAccepted};
+ghost use Rattle.test_growths.specs.Growths as growths;
 
 use crate::script::Script;
 use nob_check::{CheckError, check};
@@ -26,8 +27,10 @@ pub enum Way {
 /// The entries that a script makes in a new world, the first first: a run of a world of as many spaces
 /// with these limits. Only memory fails it, twice in one place.
 pub fn entries_of(alloc: Global, script: &Script, way: Way) -> Result<Vec<Entry>, AllocError>
-    ensures { IfOk result (λ entries.
+    ensures run { IfOk result (λ entries.
         WorldRun script.now.n (λ _. script.now.limits) (reverse entries.items)) }
+    ensures made { IfOk result (λ entries. growths.CameFrom script.now.n
+        (reverse script.now.steps.items) (reverse entries.items)) }
 {
     let mut world = new_world(alloc, script)?;
     let entries = entries_in(alloc, &mut world, script, way);
@@ -39,6 +42,7 @@ pub fn entries_of(alloc: Global, script: &Script, way: Way) -> Result<Vec<Entry>
 fn new_world(alloc: Global, script: &Script) -> Result<World, AllocError>
     ensures n { IfOk result (λ world. world.n ≡ script.now.n) }
     ensures limits { IfOk result (λ world. world.limits ≡ script.now.limits) }
+    ensures entries { IfOk result (λ world. world.entries ≡ []) }
 {
     match World::new(alloc, script.n.get(), script.limits) {
         Ok(world) => Ok(world),
@@ -55,6 +59,9 @@ fn entries_in(
 ) -> Result<Vec<Entry>, AllocError>
     ensures run { IfOk result (λ entries.
         WorldRun world.new.n (λ _. world.new.limits) (reverse entries.items)) }
+    ensures made { IfOk result (λ entries. world.old.entries ≡ []
+        → growths.CameFrom world.old.n (reverse script.now.steps.items)
+        (reverse entries.items)) }
     ensures n { world.new.n ≡ world.old.n }
     ensures limits { world.new.limits ≡ world.old.limits }
 {
@@ -64,6 +71,7 @@ fn entries_in(
 
 // Makes steps in a way.
 fn make_steps(world: &mut World, steps: &[WorldStep], way: Way) -> Result<(), AllocError>
+    ensures made { OnOk result (growths.Makes (reverse steps.now) world.old world.new) }
     ensures n { world.new.n ≡ world.old.n }
     ensures limits { world.new.limits ≡ world.old.limits }
 {
@@ -75,7 +83,8 @@ fn make_steps(world: &mut World, steps: &[WorldStep], way: Way) -> Result<(), Al
 
 // The entries that were made.
 fn entries_made(alloc: Global, world: &World) -> Result<Vec<Entry>, AllocError>
-    ensures { IfOk result (λ entries.
+    ensures entries { IfOk result (λ entries. entries.items ≡ world.now.entries) }
+    ensures run { IfOk result (λ entries.
         WorldRun world.now.n (λ _. world.now.limits) (reverse entries.items)) }
 {
     let made = world.entries();
@@ -97,52 +106,99 @@ fn copy_with_retry(alloc: Global, entries: &[Entry]) -> Result<Vec<Entry>, Alloc
 
 // Makes steps one after the other.
 fn make_each(world: &mut World, steps: &[WorldStep]) -> Result<(), AllocError>
+    ensures made { OnOk result (growths.Makes (reverse steps.now) world.old world.new) }
     ensures n { world.new.n ≡ world.old.n }
     ensures limits { world.new.limits ≡ world.old.limits }
 {
     for step in steps {
-        match make(world, step) {
-            Err(WorldError::OutOfMemory) => return Err(AllocError),
-            Err(WorldError::Refused(_)) | Err(WorldError::NoSpace) | Err(WorldError::NoFrame) => {}
-            Ok(_) => {}
-        }
+        make(world, step)?;
     }
     Ok(())
+}
+
+// Makes a step, once more where it wanted memory.
+fn make(world: &mut World, step: &WorldStep) -> Result<(), AllocError>
+    ensures made { OnOk result (growths.Makes (step.now ∷ []) world.old world.new) }
+    ensures n { world.new.n ≡ world.old.n }
+    ensures limits { world.new.limits ≡ world.old.limits }
+{
+    match make_once(world, step) {
+        Ok(()) => Ok(()),
+        Err(_) => make_once(world, step),
+    }
+}
+
+// Makes a step. Where it wants memory nothing has changed.
+fn make_once(world: &mut World, step: &WorldStep) -> Result<(), AllocError>
+    ensures made { OnOk result (growths.Makes (step.now ∷ []) world.old world.new) }
+    ensures err { OnErr result (world.new.entries ≡ world.old.entries) }
+    ensures n { world.new.n ≡ world.old.n }
+    ensures limits { world.new.limits ≡ world.old.limits }
+{
+    // A look at the frames shows that they are those that were transmitted.
+    let _ = world.frames();
+    match world.step(step) {
+        Ok(_) => Ok(()),
+        Err(WorldError::Refused(_)) => Ok(()),
+        Err(WorldError::NoSpace) => Ok(()),
+        Err(WorldError::NoFrame) => Ok(()),
+        Err(WorldError::OutOfMemory) => Err(AllocError),
+    }
 }
 
 // Makes steps as whole lists: behind one that there is no space or no frame for it goes on with the next,
 // at one that wanted memory with that one. So each list but one leaves a step out.
 fn make_all(world: &mut World, steps: &[WorldStep]) -> Result<(), AllocError>
+    ensures made { OnOk result (growths.Makes (reverse steps.now) world.old world.new) }
     ensures n { world.new.n ≡ world.old.n }
     ensures limits { world.new.limits ≡ world.old.limits }
 {
     let mut left = steps;
     for _ in 0..steps.len().saturating_add(2) {
-        left = match world.run(left) {
-            Ok(()) => return Ok(()),
-            Err((place, WorldError::OutOfMemory)) => from_place(left, place),
-            Err((place, _)) => from_place(left, place.saturating_add(1)),
-        };
+        let count = make_some(world, left);
+        if count == left.len() {
+            return Ok(());
+        }
+        left = left.split_at(count).1;
     }
     Err(AllocError)
 }
 
-// The steps from a place on.
-fn from_place(steps: &[WorldStep], place: usize) -> &[WorldStep] {
-    if place > steps.len() {
-        return steps;
-    }
-    steps.split_at(place).1
-}
-
-// Makes a step, once more where it wanted memory.
-fn make(world: &mut World, step: &WorldStep) -> Result<Answer, WorldError>
+// Makes steps as a whole list, up to one that wants memory, or past one that there is no space or no
+// frame for: how many had their turn.
+fn make_some(world: &mut World, steps: &[WorldStep]) -> usize
+    ensures few { result ≤ length steps.now }
+    ensures made { growths.Makes (reverse (take result steps.now)) world.old world.new }
     ensures n { world.new.n ≡ world.old.n }
     ensures limits { world.new.limits ≡ world.old.limits }
 {
-    match world.step(step) {
-        Err(WorldError::OutOfMemory) => world.step(step),
-        result => result,
+    let count = steps.len();
+    // Looks at the entries and the frames show what they are.
+    let _ = world.entries();
+    let outcome = world.run(steps);
+    let _ = world.entries();
+    let _ = world.frames();
+    match outcome {
+        Ok(()) => count,
+        Err((place, error)) => {
+            if is_memory(error) {
+                return place;
+            }
+            prove!(place < count);
+            place + 1
+        }
+    }
+}
+
+// Whether memory was wanted.
+fn is_memory(error: WorldError) -> bool
+    ensures { (result ≡ true) ↔ (error ≡ WorldError.OutOfMemory) }
+{
+    match error {
+        WorldError::Refused(_) => false,
+        WorldError::NoSpace => false,
+        WorldError::NoFrame => false,
+        WorldError::OutOfMemory => true,
     }
 }
 

@@ -3,5 +3,5 @@ use Rattle.nob_model_types.specs.declared.entry.Entry.{Entry}
 use Rattle.nob_model_journal.specs.Runs.{WorldRun}
 use Rattle.test_growths.proofs.worlds.entries_made.Goals as goal
 
-pub returns : goal.returns
-returns c = subst (λ (made : List Entry). WorldRun c.args.world.now.n (λ _. c.args.world.now.limits) (reverse made)) (sym (c.in-Ok.ensures {u = tt})) c.entries-made.ensures.run
+pub returns-clause-run : goal.returns-clause-run
+returns-clause-run c = subst (λ (made : List Entry). WorldRun c.args.world.now.n (λ _. c.args.world.now.limits) (reverse made)) (sym (c.in-Ok.ensures {u = tt})) c.entries-made.ensures.run
