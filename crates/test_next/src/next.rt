@@ -1,6 +1,6 @@
 //! What a space could do next, by the definitions.
 
-ghost use Rattle.std.specs.Prelude.{◌≡◌, IfOk};
+ghost use Rattle.std.specs.Prelude.{◌≡◌, ◌≤◌, ◌-◌, ℕ, Some, slice_get, IfOk};
 ghost use Rattle.nob_model.specs.Next as words;
 
 use nob_ids::SpaceId;
@@ -16,6 +16,10 @@ pub fn work_of(
     window: u64,
     history: &History,
 ) -> Result<Work, AllocError>
+    ensures act { IfOk result (λ work. (p : ℕ) → 1 ≤ p → p ≤ 32 → slice_get work.act (p - 1)
+        ≡ Some (words.can_act here.now.space here.now.n p history.now)) }
+    ensures send { IfOk result (λ work. (p : ℕ) → 1 ≤ p → p ≤ 32 → slice_get work.send (p - 1)
+        ≡ Some (words.can_send here.now.space here.now.n p window history.now)) }
     ensures settle { IfOk result (λ work. work.settle
         ≡ words.can_settle here.now.space here.now.n history.now) }
     ensures clean { IfOk result (λ work. work.clean
@@ -41,12 +45,16 @@ pub fn work_of(
 }
 
 // Whether there is an item to act on, from each space.
-fn acts_of(alloc: Global, here: &Here, history: &History) -> Result<[bool; 32], AllocError> {
+fn acts_of(alloc: Global, here: &Here, history: &History) -> Result<[bool; 32], AllocError>
+    ensures { IfOk result (λ all. (p : ℕ) → 1 ≤ p → p ≤ 32 → slice_get all (p - 1)
+        ≡ Some (words.can_act here.now.space here.now.n p history.now)) }
+{
     let mut all = [false; 32];
     for place in 0..32 {
-        if let Some(peer) = SpaceId::new(place as u16 + 1) {
-            all[place] = can_act(alloc, here, peer, history)?;
-        }
+        let Some(peer) = SpaceId::new(place as u16 + 1) else {
+            unreachable!();
+        };
+        all[place] = can_act(alloc, here, peer, history)?;
     }
     Ok(all)
 }
@@ -57,12 +65,16 @@ fn sends_of(
     here: &Here,
     window: u64,
     history: &History,
-) -> Result<[bool; 32], AllocError> {
+) -> Result<[bool; 32], AllocError>
+    ensures { IfOk result (λ all. (p : ℕ) → 1 ≤ p → p ≤ 32 → slice_get all (p - 1)
+        ≡ Some (words.can_send here.now.space here.now.n p window history.now)) }
+{
     let mut all = [false; 32];
     for place in 0..32 {
-        if let Some(peer) = SpaceId::new(place as u16 + 1) {
-            all[place] = can_send(alloc, here, peer, window, history)?;
-        }
+        let Some(peer) = SpaceId::new(place as u16 + 1) else {
+            unreachable!();
+        };
+        all[place] = can_send(alloc, here, peer, window, history)?;
     }
     Ok(all)
 }
