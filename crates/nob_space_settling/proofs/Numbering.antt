@@ -1,5 +1,5 @@
 -- A message that waits has the number of an item.
-use Rattle.std.proofs.Common.{◌≡◌, ℕ, ◌+◌, ◌≤◌, ◌<◌, Bool, true, false, not, nat_le, nat_lt, ◌&&◌, ◌==◌, List, [], ◌∷◌, ◌++◌, length, drop, find, Option, Some, None, Ok, Err, IsOk, IsSome, if◌then◌else◌, refl, arith}
+use Rattle.std.proofs.Common.{◌≡◌, ℕ, ◌+◌, ◌≤◌, ◌<◌, Bool, true, false, not, nat_le, nat_lt, ◌&&◌, ◌==◌, List, [], ◌∷◌, ◌++◌, length, drop, find, Option, Some, None, Ok, Err, IsOk, IsSome, if◌then◌else◌, refl, sym, subst, arith}
 use Prim.Native.Nat.{zero, suc}
 use Rattle.std.specs.List.{AllByRecursion}
 use Rattle.std.proofs.lemmas.Bool.{and_parts}
@@ -7,7 +7,7 @@ use Rattle.std.proofs.lemmas.Bool.Decides.{nat_tests}
 use Rattle.std.proofs.lemmas.List.{length-append}
 use Rattle.nob_ids.specs.declared.limits.Limits.{Limits}
 use Rattle.nob_frame.specs.Kinds.{is_data, is_close}
-use Rattle.nob_item.specs.Judging.{is_item_number}
+use Rattle.nob_item.specs.Judging.{is_call_number, is_item_number}
 use Rattle.nob_item.specs.Writing.{bytes_of}
 use Rattle.nob_item.specs.declared.item.Item.{Item}
 use Rattle.nob_item.specs.declared.item.Item.TheVariants as items
@@ -30,6 +30,7 @@ use Rattle.nob_model_history.specs.Histories.{history_of}
 use Rattle.nob_model_history.specs.Ends.{calls_at}
 use Rattle.nob_model.specs.Laws.{AreRightCalls}
 use Rattle.nob_model.specs.Lists.{AreRightDeeds, IsRightDeed}
+use Rattle.nob_space_settling.specs.Settling.{reply_to_lost}
 use Rattle.nob_model.proofs.Calling.{calls_law}
 use Rattle.nob_model.proofs.Carrying.{all_push, all_filter, all_without, all_found, all_mapped}
 use Rattle.nob_model.proofs.Waiting.{act_number, are_waiting, IsOpenIn}
@@ -153,3 +154,7 @@ module _ (s n : ℕ) (limits : Limits) where
 -- a Settle of an item's number has a spelling
 pub settle_spelled : (k : ℕ) → is_item_number k ≡ true → IsOk (bytes_of (items.Settle k))
 settle_spelled k number = rw number refl
+
+-- so has the Reply to a Call with a lost reference
+pub reply_spelled : (call : ℕ) (reply : Item) → reply ≡ reply_to_lost call → is_call_number call ≡ true → IsOk (bytes_of reply)
+reply_spelled call reply is number = subst (λ (item : Item). IsOk (bytes_of item)) (sym is) (rw number refl)

@@ -119,6 +119,7 @@ fn reply_to_lost(call: CallNo) -> Item
 
 // The payload that carries the Reply to a Call with a lost reference, where there is one. Only memory
 // fails it.
+#[tactic(auto, using(crate::proofs::Numbering::reply_spelled))]
 fn payload_if(alloc: Global, call: Option<CallNo>) -> Result<Option<Vec<u8>>, AllocError>
     requires { IfSome call (λ k. is_call_number k ≡ true) }
     ensures spelled { IfOk result (λ reply. option_map (λ payload. payload.items) reply

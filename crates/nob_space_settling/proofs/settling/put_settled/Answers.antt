@@ -1,4 +1,4 @@
-use Rattle.std.proofs.Common.{ap, subst}
+use Rattle.std.proofs.Common.{refl, ap, subst}
 use Rattle.nob_space_state.specs.Parts.{state_of, with_table, with_work}
 use Rattle.nob_space_holds.specs.Returns.{GivesBack}
 use Rattle.nob_space_settling.proofs.Placed.{call_put, reply_put, other_put}
@@ -20,4 +20,5 @@ returns-in_default c =
     record {
       back = subst (GivesBack c.args.parts.now.table c.give_back_message.new.table) other.0 c.give_back_message.ensures;
       put = ap (λ W. with_work W c.args.parts.now.calls_made c.args.parts.now.jobs_made (with_table c.give_back_message.new.table (state_of c.args.parts.now))) other.1;
+      here = refl;
     }
