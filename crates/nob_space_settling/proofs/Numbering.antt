@@ -11,6 +11,7 @@ use Rattle.nob_item.specs.Judging.{is_call_number, is_item_number}
 use Rattle.nob_item.specs.Writing.{bytes_of}
 use Rattle.nob_item.specs.declared.item.Item.{Item}
 use Rattle.nob_item.specs.declared.item.Item.TheVariants as items
+use Rattle.nob_pickle.specs.Writing.{pickle_of}
 use Rattle.nob_model_session.specs.End.{is_open, accepted, takes, waiting, transmitted}
 use Rattle.nob_model_session.specs.Right.{last_item, inbox_limit, first_of, is_accepted, is_of_pair}
 use Rattle.nob_model_session.specs.declared.entry.Arrived.TheVariants as arrived
@@ -157,4 +158,5 @@ settle_spelled k number = rw number refl
 
 -- so has the Reply to a Call with a lost reference
 pub reply_spelled : (call : ℕ) (reply : Item) → reply ≡ reply_to_lost call → is_call_number call ≡ true → IsOk (bytes_of reply)
+unfolding pickle_of
 reply_spelled call reply is number = subst (λ (item : Item). IsOk (bytes_of item)) (sym is) (rw number refl)
