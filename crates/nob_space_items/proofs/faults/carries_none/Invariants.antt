@@ -7,7 +7,7 @@ use Rattle.nob_space_items.proofs.faults.carries_none.Given as goal
 abbrev pub invariant-loop-rep : goal.invariant-loop-rep
 invariant-loop-rep l = record {
   few : l.number ≤ length (counted_in l.item);
-  so_far : list_any (is_gone l.me l.parts.table) (counted_in l.item) ≡ list_any (is_gone l.me l.parts.table) (drop l.number (counted_in l.item));
+  so_far : list_any (is_gone l.parts.here.space l.parts.table) (counted_in l.item) ≡ list_any (is_gone l.parts.here.space l.parts.table) (drop l.number (counted_in l.item));
 }
 
 abbrev pub decreases-loop-rep : goal.decreases-loop-rep

@@ -2,6 +2,7 @@ use Rattle.std.proofs.Common.{rules, arith, ◌≡◌, ◌<◌, ◌≤◌, List,
 use Rattle.nob_ids.specs.declared.wire_rep.WireRep.{WireRep}
 use Rattle.nob_item.specs.Kinds.{counted_in}
 use Rattle.nob_model_types.specs.declared.deed.Deed.{Deed}
+use Rattle.nob_model_types.specs.declared.here.Here.{Here}
 use Rattle.nob_model_types.specs.declared.message.RefCopy.{RefCopy}
 use Rattle.nob_model_acting.specs.Acting.{answer_of_act}
 use Rattle.nob_space_waiting.specs.Waiting.{IsNew}
@@ -70,8 +71,9 @@ receive-requires-clause-can c =
     (subst (λ (reps : List WireRep). message_refusal st reps ≡ None) reps_are c.in_ok-wanted.ensures.free) small new c.grow.ensures.same
     (subst (λ (reps : List WireRep). HaveRoom (length reps) new.sessions reps) given c.in_ok-grow.ensures.sessions)
     (subst (λ (reps : List WireRep). length reps ≤ new.table.surrogate_room) given c.in_ok-grow.ensures.table) in
-    subst (λ (copies : List RefCopy). CanReceive s new (record { from = c.args.peer; number = c.args.number; item = c.args.item; copies = copies }) c.in_ok-dirties.dirties.items) (sym c.in_ok-copies.ensures)
-    (subst (CanReceive s new (message_of s n st c.args.peer c.args.number c.args.item)) (sym dirties_are) can)
+    subst (λ (here : Here). CanReceive here.space new (record { from = c.args.peer; number = c.args.number; item = c.args.item; copies = c.in_ok-copies.copies }) c.in_ok-dirties.dirties.items) (sym c.grow.ensures.here)
+    (subst (λ (copies : List RefCopy). CanReceive s new (record { from = c.args.peer; number = c.args.number; item = c.args.item; copies = copies }) c.in_ok-dirties.dirties.items) (sym c.in_ok-copies.ensures)
+    (subst (CanReceive s new (message_of s n st c.args.peer c.args.number c.args.item)) (sym dirties_are) can))
 
 pub receive-requires-clause-new : goal.receive-requires-clause-new
 receive-requires-clause-new c =
@@ -108,7 +110,8 @@ returns-clause-stands c limits D stands =
     let dirties_are : c.in_ok-dirties.dirties.items ≡ wanted_refs s n st (counted_in c.args.item) = c.in_ok-dirties.ensures ∙ c.as_slice.ensures ∙ reps_are in
     let receives : Receives s grown new (message_of s n st c.args.peer c.args.number c.args.item) (wanted_refs s n st (counted_in c.args.item)) =
     subst (Receives s grown new (message_of s n st c.args.peer c.args.number c.args.item)) dirties_are
-    (subst (λ (copies : List RefCopy). Receives s grown new (record { from = c.args.peer; number = c.args.number; item = c.args.item; copies = copies }) c.in_ok-dirties.dirties.items) c.in_ok-copies.ensures c.receive.ensures.receives) in
+    (subst (λ (copies : List RefCopy). Receives s grown new (record { from = c.args.peer; number = c.args.number; item = c.args.item; copies = copies }) c.in_ok-dirties.dirties.items) c.in_ok-copies.ensures
+    (subst (λ (here : Here). Receives here.space grown new (record { from = c.args.peer; number = c.args.number; item = c.args.item; copies = c.in_ok-copies.copies }) c.in_ok-dirties.dirties.items) c.grow.ensures.here c.receive.ensures.receives)) in
     same_space c.receive.new.parts.here c.args.parts.now.here (c.receive.ensures.here ∙ c.grow.ensures.here) (receives_stand stands c.args.peer c.args.number c.args.item front c.requires.message
     (grown_receives stands c.args.peer c.args.number c.args.item front c.requires.message
     (subst (λ (reps : List WireRep). message_refusal st reps ≡ None) reps_are c.in_ok-wanted.ensures.free) small grown c.grow.ensures.same new receives)

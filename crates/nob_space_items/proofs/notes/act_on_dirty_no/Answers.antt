@@ -1,4 +1,4 @@
-use Rattle.std.proofs.Common.{false, Some, None, if◌then◌else◌, sym, ap, ◌∙◌}
+use Rattle.std.proofs.Common.{false, Some, None, if◌then◌else◌, sym, ap, ◌∙◌, refl}
 use Rattle.std.proofs.lemmas.Option.{none-some}
 use Rattle.nob_table_rows.specs.declared.fault.TableFault.TheVariants.{Absent}
 use Rattle.nob_space_items.proofs.Owners.{pending_known, refused_stands}
@@ -18,4 +18,5 @@ pub returns : goal.returns
 returns c = record {
   stands = λ limits D stands. refused_stands stands c.place.result c.place.ensures.value c.index_mut.result.now c.take.new.self c.index_mut.ensures.value (λ me peer limits L before. (c.take.ensures.answer me peer limits L before).1)
       c.args.index (c.requires.front limits D stands) c.refuse.new.self c.refuse.ensures.left (c.in-Ok.ensures {u = tt}).refused c.lose.new.self.items c.lose.ensures.items c.lose.new.self.awaited c.lose.ensures.awaited;
+  here = refl;
 }

@@ -1,4 +1,4 @@
-use Rattle.std.proofs.Common.{ℕ, true, Some, None, if◌then◌else◌, sym, ap, subst, ◌∙◌}
+use Rattle.std.proofs.Common.{ℕ, true, Some, None, if◌then◌else◌, sym, ap, subst, ◌∙◌, refl}
 use lib.ListN.{replicate}
 use Rattle.std.proofs.lemmas.Option.{none-some}
 use Rattle.nob_table_rows.specs.declared.fault.TableFault.TheVariants.{Absent}
@@ -33,4 +33,5 @@ pub returns : goal.returns
 returns c = record {
   stands = λ limits D stands. granted_stands stands c.place.result c.place.ensures.value c.index_mut.result.now c.take.new.self c.index_mut.ensures.value (λ me peer limits L before. (c.take.ensures.answer me peer limits L before).1)
       c.args.index (c.requires.front limits D stands) c.grant.new.self c.lend_times.new.table c.grant.ensures.left (c.in-Ok.ensures {u = tt}).granted c.lend-due.result c.lend-due.ensures.count c.lend_times.ensures c.lend-due.new.self.items c.lend-due.ensures.items c.lend-due.new.self.awaited c.lend-due.ensures.awaited;
+  here = refl;
 }

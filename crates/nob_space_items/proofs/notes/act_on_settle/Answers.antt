@@ -1,4 +1,4 @@
-use Rattle.std.proofs.Common.{◌≡◌, ◌∙◌, ◌-◌, ℕ, ap, sym, true, false}
+use Rattle.std.proofs.Common.{◌≡◌, ◌∙◌, ◌-◌, ℕ, ap, sym, true, false, refl}
 use Rattle.nob_space_items.proofs.Noted.{settle_known, settle_stands}
 use Rattle.nob_space_items.proofs.notes.act_on_settle.Goals as goal
 
@@ -11,4 +11,5 @@ unreachable-requires c =
 pub returns : goal.returns
 returns c = record {
   stands = λ limits D stands. settle_stands stands c.place.result (c.place.ensures.value ∙ ap (λ (k : ℕ). k - 1) c.peer-peer.ensures) c.index_mut.result.now c.take.new.self c.index_mut.ensures.value (λ me peer limits L before. (c.take.ensures.answer me peer limits L before).1) c.args.settled.now.item (c.requires.front limits D stands) c.settle_pins-ended.new.pins (c.in-Ok.ensures {u = tt}).answer c.settle_pins-ended.new.table (c.in-Ok.ensures {u = tt}).table.items (c.in-Ok.ensures {u = tt}).kept;
+  here = refl;
 }
