@@ -13,8 +13,8 @@ use Rattle.nob_model_types.specs.declared.event.Outcome.{Outcome}
 use Rattle.nob_model_types.specs.declared.here.Here.{Here}
 use Rattle.nob_model_types.specs.Deeds.{deed_of, deeds}
 use Rattle.nob_model_types.specs.declared.deed.Deed.{Deed}
-use Rattle.nob_space_state.specs.declared.parts.Parts.{Parts}
-use Rattle.nob_space_state.specs.Stands.{StandFor}
+use Rattle.nob_space_state.specs.Parts.{State}
+use Rattle.nob_space_state.specs.Stands.{Stands}
 use Rattle.nob_space_state.specs.Closing.{tick_answer, tick_deed, arrive_answer, arrive_deed}
 use Rattle.nob_space_state.specs.Sending.{finish_answer, finish_deed}
 use Rattle.nob_space_state.specs.Taking.{answer_of}
@@ -23,20 +23,20 @@ use Rattle.nob_space_state.specs.declared.finish.ReplyFate.{ReplyFate}
 use Rattle.nob_space_state.specs.declared.finish.ReplyFate.TheVariants as fates
 use Rattle.nob_space_state.specs.declared.take.CallResult.{CallResult}
 use Rattle.nob_space_state.specs.declared.take.CallResult.TheVariants as brought
-use Rattle.nob_space.specs.Spaces.{IsOwner, entry_of}
+use Rattle.nob_space.specs.Spaces.{entry_of}
 
 -- what an entry did stands at the front of what its list did
 did_first : (s : ℕ) (event : Event) (answer : Answer) (deed : Deed) (L : List Entry) → deed_of event answer ≡ Some deed → deed ∷ deeds L ≡ deeds (entry_of s event (Ok answer) ∷ L)
 did_first s event answer deed L is = rw is refl
 
--- parts of the same space are among as few spaces
-pub few_still : (old new : Parts) → new.here ≡ old.here → old.here.n ≤ 32 → new.here.n ≤ 32
-few_still old new same few = subst (λ (here : Here). here.n ≤ 32) (sym same) few
+-- the same space is among as few spaces
+pub few_still : {new old : Here} → new ≡ old → old.n ≤ 32 → new.n ≤ 32
+few_still same few = subst (λ (here : Here). here.n ≤ 32) (sym same) few
 
--- parts that stand for what one event more did are a space's
-pub owner_after : {limits : Limits} {old new : Parts} (event : Event) (answer : Answer) (deed : Deed) (L : List Entry) → new.here ≡ old.here → old.here.n ≤ 32 → deed_of event answer ≡ Some deed → StandFor limits new (deed ∷ deeds L) → IsOwner limits new
-owner_after {limits = limits} {old = old} {new = new} event answer deed L same few is stands =
-    (few_still old new same few, entry_of new.here.space event (Ok answer) ∷ L, subst (StandFor limits new) (did_first new.here.space event answer deed L is) stands)
+-- what stands for what one event more did is a space's
+pub owner_after : {s n : ℕ} {limits : Limits} {state : State} (event : Event) (answer : Answer) (deed : Deed) (L : List Entry) → n ≤ 32 → deed_of event answer ≡ Some deed → Stands s n limits state (deed ∷ deeds L) → (n ≤ 32) × (M : List Entry) × Stands s n limits state (deeds M)
+owner_after {s = s} {n = n} {limits = limits} {state = state} event answer deed L few is stands =
+    (few, entry_of s event (Ok answer) ∷ L, subst (Stands s n limits state) (did_first s event answer deed L is) stands)
 
 -- what a tick did, by its answer
 pub tick_did : (p : ℕ) (closed : Option Reason) → deed_of (events.Tick p) (tick_answer closed) ≡ Some (tick_deed p closed)

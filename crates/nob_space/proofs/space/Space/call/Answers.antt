@@ -3,8 +3,8 @@ use Rattle.nob_model_types.specs.declared.answer.Answer.TheVariants as answers
 use Rattle.nob_model_types.specs.declared.event.Event.TheVariants as events
 use Rattle.nob_model_types.specs.Deeds.{deeds}
 use Rattle.nob_model_types.specs.declared.deed.Deed.TheVariants as did
-use Rattle.nob_space.proofs.Owners.{owner_after}
+use Rattle.nob_space.proofs.Owners.{few_still, owner_after}
 use Rattle.nob_space.proofs.space.Space.call.Goals as goal
 
 pub invariant_of-self-2 : goal.invariant_of-self-2
-invariant_of-self-2 c = owner_after (events.Call c.args.target.now c.args.method c.args.value.now) (answers.Called c.in_ok-call.call) (did.Call c.args.target.now c.args.method c.args.value.now c.in_ok-call.call) c.self.invariant.1 c.in_ok-call.ensures.here c.self.invariant.0 refl (c.in_ok-call.ensures.stands c.self.inside.limits (deeds c.self.invariant.1) c.self.invariant.2)
+invariant_of-self-2 c = owner_after (events.Call c.args.target.now c.args.method c.args.value.now) (answers.Called c.in_ok-call.call) (did.Call c.args.target.now c.args.method c.args.value.now c.in_ok-call.call) c.self.invariant.1 (few_still c.in_ok-call.ensures.here c.self.invariant.0) refl (c.in_ok-call.ensures.stands c.self.inside.limits (deeds c.self.invariant.1) c.self.invariant.2)
