@@ -57,11 +57,16 @@ use Rattle.nob_trace.specs.contracts.stamped.Stamped as Stamped
 copy_send : IsSend RefCopy.the_row
 copy_send = search sendable depth 30
 
+message_fields_send : IsSend (Struct (shape Message.the_type))
+message_fields_send =
+    struct_send (shape Message.the_type)
+    (search (crosses, sendable) depth 30, (search (crosses, sendable) depth 30, (search (bytes.the_send, crosses, values.crosses, sendable) depth 60 fits 20000, (lists.the_send RefCopy.the_row copy_send, tt))))
+
 message_send : IsSend Message.the_row
-message_send = search (lists.the_send RefCopy.the_row copy_send, bytes.the_send, crosses, values.crosses, sendable) depth 60 fits 20000
+message_send = (let T = Message.the_type in recorded_send (Struct (shape T)) T.D T.to T.to_one message_fields_send)
 
 entry_send : IsSend Entry.the_row
-entry_send = search (lists.the_send RefCopy.the_row copy_send, bytes.the_send, crosses, values.crosses, sendable) depth 60 fits 20000
+entry_send = (let T = Entry.the_type in recorded_send (Struct (shape T)) T.D T.to T.to_one (struct_send (shape T) (message_fields_send, (search sendable depth 30, tt))))
 
 waiting_inside_send : IsSend WaitingInside.the_row
 waiting_inside_send =
@@ -73,7 +78,7 @@ waiting_send : IsSend Waiting.the_row
 waiting_send = view_send WaitingInside.the_row _ _ _ _ waiting_inside_send
 
 run_send : IsSend Run.the_row
-run_send = search (lists.the_send RefCopy.the_row copy_send, bytes.the_send, crosses, values.crosses, sendable) depth 60 fits 20000
+run_send = (let T = Run.the_type in recorded_send (Struct (shape T)) T.D T.to T.to_one (struct_send (shape T) (search (crosses, sendable) depth 30, (message_fields_send, tt))))
 
 running_inside_send : IsSend RunningInside.the_row
 running_inside_send =
