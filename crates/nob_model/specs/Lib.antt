@@ -19,4 +19,5 @@ pub use Rattle.nob_model_acting.specs.Candidates
 pub mod Right
 pub mod Lists
 pub mod Next
+pub mod Tallies
 pub mod Laws

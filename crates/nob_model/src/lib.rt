@@ -10,6 +10,7 @@ mod frames;
 pub mod laws;
 pub mod next;
 pub mod right;
+pub mod tallies;
 mod values;
 
 pub use answers::{same_answer, same_job, same_refusal, same_result};
@@ -18,8 +19,8 @@ pub use frames::{same_frame, same_frames};
 pub use nob_model_history::{History, SentItem, history_of, make_history};
 pub use nob_model_session::{Arrived, EndEntry, EndRefusal, Ending, Frames, Kind, PairEntry};
 pub use nob_model_types::{
-    Answer, Cause, Deed, Entry, Event, Here, Job, Loan, Message, Outcome, OwnerAnswer, RefCopy,
-    Refusal, Turns, Use, WorldStep,
+    Answer, Backlog, Cause, Deed, Entry, Event, Here, Job, Loan, Message, Outcome, OwnerAnswer,
+    RefCopy, Refusal, Tally, Turns, Use, WorldStep,
 };
 pub use nob_model_work::{Gift, Outstanding, OwnCall, Run, Stage};
 pub use values::same_value;

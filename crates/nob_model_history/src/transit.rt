@@ -27,8 +27,8 @@ pub struct SentItem {
     pub item: Item,
 }
 
-// How many items were sent to a peer.
-fn count_to(peer: SpaceId, sent_items: &[SentItem]) -> usize
+/// How many of these items were sent to a peer.
+pub fn count_to(peer: SpaceId, sent_items: &[SentItem]) -> usize
     ensures value { result ≡ words.count_to peer sent_items.now }
     ensures bound { result ≤ length sent_items.now }
 {

@@ -16,6 +16,7 @@ pub mod objects;
 mod refusal;
 mod same;
 pub mod sessions;
+mod tally;
 pub mod turns;
 
 pub use answer::{Answer, Job};
@@ -27,4 +28,5 @@ pub use message::{Loan, Message, RefCopy};
 pub use nob_slots::List;
 pub use refusal::{Refusal, Use};
 pub use same::same_value;
+pub use tally::{Backlog, Tally};
 pub use turns::{OwnerAnswer, Turns};

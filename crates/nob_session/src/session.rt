@@ -119,6 +119,27 @@ impl Session {
         (self.unacknowledged.len(), self.waiting.len())
     }
 
+    /// How many items were handed to this end. Constant time.
+    pub fn handed(&self) -> u64
+        ensures { result ≡ self.now.end.handed }
+    {
+        self.handed
+    }
+
+    /// How many of the peer's items were taken from this end. Constant time.
+    pub fn taken(&self) -> u64
+        ensures { result ≡ self.now.end.taken }
+    {
+        self.taken
+    }
+
+    /// Why this end closed, if it has. Constant time.
+    pub fn ending(&self) -> Option<Reason>
+        ensures { result ≡ self.now.end.ending }
+    {
+        self.ending
+    }
+
     /// What `send` would answer to an item of this kind, had it memory: the item's number, or N1,
     /// N2, N3, in this order. It takes no memory.
     pub fn next(&self, kind: Kind) -> Result<ItemNo, EndRefusal>
