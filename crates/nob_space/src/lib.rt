@@ -7,6 +7,7 @@ mod space;
 mod twice;
 mod work;
 
+pub use nob_model::{Backlog, Tally};
 pub use nob_session::Due;
 pub use nob_space_items::{ActResult, SettledItem};
 pub use nob_space_state::{CallResult, ReplyFate, SpaceError};

@@ -1,6 +1,6 @@
 //! A space.
 
-ghost use Rattle.std.specs.Prelude.{◌≡◌, ◌≢◌, ◌≤◌, ◌-◌, ℕ, List, [], false, Some, Err, IfOk, OnErr, slice_get};
+ghost use Rattle.std.specs.Prelude.{◌≡◌, ◌≢◌, ◌≤◌, ◌-◌, ℕ, List, [], true, false, Some, Err, IfOk, OnErr, slice_get};
 ghost use Rattle.std.specs.List.{AllByRecursion};
 ghost use Rattle.nob_ids.specs.Names.{IsSpace};
 ghost use Rattle.nob_frame.specs.Spelling.{Fits};
@@ -8,10 +8,12 @@ ghost use Rattle.nob_model_types.specs.declared.answer.Answer.TheVariants as ans
 ghost use Rattle.nob_model_types.specs.declared.event.Event.TheVariants as events;
 ghost use Rattle.nob_model_types.specs.declared.entry.Entry.{Entry};
 ghost use Rattle.nob_model_types.specs.Deeds.{deeds};
+ghost use Rattle.nob_model_types.specs.Sessions.{is_peer};
 ghost use Rattle.nob_model_history.specs.Histories.{history};
 ghost use Rattle.nob_model_history.specs.Listing.{is_listed};
 ghost use Rattle.nob_model.specs.Next as next;
 ghost use Rattle.nob_model.specs.Right.{right};
+ghost use Rattle.nob_model.specs.Tallies as tallies;
 ghost use Rattle.nob_space_state.specs.Dues as dues;
 ghost use Rattle.nob_space_state.specs.Stands.{AnswersOrWants};
 ghost use Rattle.nob_space.specs.Spaces.{StandsFor, SameSpace, wants_memory};
@@ -24,7 +26,7 @@ use crate::twice::{again, spare_of};
 use crate::work::{Work, acts, sends};
 use nob_frame::Frame;
 use nob_ids::{CallNo, Limits, SpaceId};
-use nob_model::{Answer, Event, Here};
+use nob_model::{Answer, Backlog, Event, Here, Tally};
 use nob_session::Due;
 use nob_space_items::{can_clean, can_settle};
 use nob_space_state::{Parts, SpaceError};
@@ -200,6 +202,34 @@ impl Space {
             (history self.now.id self.now.n L) }
     {
         self.parts.due(peer)
+    }
+
+    /// How many items were handed to a peer in the session with it, how many of the peer's were acted
+    /// on, and why the session closed here, if it has. It takes no memory, and constant time. The
+    /// caller's condition: it is a peer.
+    pub fn tally(&self, peer: SpaceId) -> Tally
+        requires { is_peer self.now.id self.now.n peer ≡ true }
+        ensures { (L : List Entry) → StandsFor self.now L
+            → result ≡ tallies.tally peer (history self.now.id self.now.n L) }
+    {
+        self.parts.tally(peer)
+    }
+
+    /// How many objects are live. It takes no memory, and constant time.
+    pub fn live(&self) -> u64
+        ensures { (L : List Entry) → StandsFor self.now L
+            → result ≡ tallies.live_count self.now.id (history self.now.id self.now.n L) }
+    {
+        self.parts.live()
+    }
+
+    /// How many of the space's own calls aren't taken, how many jobs are ready, and how many run. It
+    /// takes no memory, and constant time.
+    pub fn backlog(&self) -> Backlog
+        ensures { (L : List Entry) → StandsFor self.now L
+            → result ≡ tallies.backlog (history self.now.id self.now.n L) }
+    {
+        self.parts.backlog()
     }
 
     /// The frames that a Transmit to a peer would give now, each of which has a spelling. It is

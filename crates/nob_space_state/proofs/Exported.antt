@@ -77,13 +77,16 @@ module _ {s n : ℕ} {limits : Limits} {st : State} {D : List Deed} (stands : St
             rw some at empty
       ] refl)
 
+  -- as many objects are live as the table has
+  pub objects_there : IsOnce st.table.objects → ((rep : WireRep) → list_any (is_same rep) (live_reps st.table) ≡ is_live (standing st.table rep).state) → table.live st.table ≡ length (objects.live s D)
+  objects_there once members = sym (length-keys_of st.table.objects) ∙ live_count stands.table (orderly stands).once once members
+
   -- what is right for an Export is what the state tells
   pub export_right : IsOnce st.table.objects → ((rep : WireRep) → list_any (is_same rep) (live_reps st.table) ≡ is_live (standing st.table rep).state)
       → right_export s (history_of s n D) ≡ unless (export_refusal st) (answers.Exported (own_ref s (length (objects.exports D) + 1)))
   unfolding right_export export_refusal
   export_right once members =
-      let live : table.live st.table ≡ length (objects.live s D) = sym (length-keys_of st.table.objects) ∙ live_count stands.table (orderly stands).once once members in
-      rw (sym live, sym stands.table.exported) refl
+      rw (sym (objects_there once members), sym stands.table.exported) refl
 
   -- what is right for a Withdraw is what the state tells
   pub withdraw_right : (index : ℕ) → right_withdraw s index (history_of s n D) ≡ unless (withdraw_refusal s st index) answers.Withdrawn

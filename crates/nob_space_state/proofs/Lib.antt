@@ -26,3 +26,4 @@ pub mod Arrivals
 pub mod Unpinned
 pub mod Nexts
 pub mod Numbered
+pub mod Tallied

@@ -1,10 +1,13 @@
-//! Looks at the state: sessions and references. None takes memory.
+//! Looks at the state: sessions and references, and what went to and fro and isn't done yet. None
+//! takes memory.
 
-ghost use Rattle.std.specs.Prelude.{◌≡◌, ◌==◌, not, List};
+ghost use Rattle.std.specs.Prelude.{◌≡◌, ◌==◌, true, not, List};
 ghost use Rattle.nob_ids.specs.declared.limits.Limits.{Limits as LimitsOf};
 ghost use Rattle.nob_model_types.specs.declared.deed.Deed.{Deed};
+ghost use Rattle.nob_model_types.specs.Sessions.{is_peer};
 ghost use Rattle.nob_model_history.specs.Listing.{is_listed};
-ghost use Rattle.nob_space_state.specs.Stands.{StandFor};
+ghost use Rattle.nob_model.specs.Tallies as tallies;
+ghost use Rattle.nob_space_state.specs.Stands.{StandFor, IsState, history_for};
 ghost use Rattle.nob_table_rows.specs.Standings as standings;
 ghost use Rattle.nob_table.specs.Table.{standing};
 ghost use Rattle.nob_space_state.specs.Looks.{has_closed, has_holds, is_gone, is_cut, has_clients};
@@ -13,6 +16,7 @@ ghost use Rattle.nob_pins.specs.Bundles.{count_of};
 use crate::listings::has_clients;
 use crate::parts::Parts;
 use nob_ids::{SpaceId, WireRep};
+use nob_model::{Backlog, Tally};
 use nob_table::State;
 
 impl Parts {
@@ -83,6 +87,43 @@ impl Parts {
     {
         let closed = self.has_closed(rep.owner);
         rep.owner != self.here.space && closed
+    }
+
+    /// What went each way on the session with a peer, and how it ended. Constant time. The caller's
+    /// condition: it is a peer.
+    pub fn tally(&self, peer: SpaceId) -> Tally
+        requires state { IsState self.now }
+        requires peer { is_peer self.now.here.space self.now.here.n peer ≡ true }
+        ensures { (limits : LimitsOf) (D : List Deed)
+            → StandFor limits self.now D → result ≡ tallies.tally peer (history_for self.now D) }
+    {
+        let session = &self.sessions[peer.place()];
+        Tally {
+            sent: session.handed(),
+            acted: session.taken(),
+            closed: session.ending(),
+        }
+    }
+
+    /// How many objects are live. Constant time.
+    pub fn live(&self) -> u64
+        ensures { (limits : LimitsOf) (D : List Deed)
+            → StandFor limits self.now D
+            → result ≡ tallies.live_count self.now.here.space (history_for self.now D) }
+    {
+        self.table.object_count() as u64
+    }
+
+    /// How many calls aren't taken, and how many jobs are ready and run. Constant time.
+    pub fn backlog(&self) -> Backlog
+        ensures { (limits : LimitsOf) (D : List Deed)
+            → StandFor limits self.now D → result ≡ tallies.backlog (history_for self.now D) }
+    {
+        Backlog {
+            calls: self.calls.calls_len() as u64,
+            ready: self.jobs.ready_len() as u64,
+            running: self.jobs.running_len() as u64,
+        }
     }
 }
 
