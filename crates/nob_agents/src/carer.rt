@@ -10,7 +10,7 @@ use nob_model_types::Event;
 use std::sync::Wait;
 
 /// The agent that acts on what others have left, settles, cleans and withdraws.
-#[derive(Debug, Drop)]
+#[derive(Drop)]
 pub struct Carer {
     seat: Seat,
 }

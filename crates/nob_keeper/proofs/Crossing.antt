@@ -24,6 +24,8 @@ use Rattle.nob_model_types.specs.contracts.answer.Answer as Answer
 use Rattle.nob_model_types.specs.contracts.event.Event as Event
 use Rattle.nob_model_types.specs.contracts.refusal.Refusal as Refusal
 use Rattle.nob_model_types.specs.contracts.message.RefCopy as RefCopy
+use Rattle.nob_keeper.specs.contracts.noted.Noted as Noted
+use Rattle.nob_past.proofs.past.Past.TheLaws.TheKnot as past
 use Rattle.nob_pickle.proofs.value.Values.TheLaws.TheKnot as values
 use Rattle.nob_pins.proofs.table.PinTable.TheSendSync as pins
 use Rattle.nob_session.proofs.session.Session.TheSendSync as session
@@ -52,7 +54,13 @@ use Rattle.nob_space_waiting.specs.contracts.entry.Entry as Entry
 use Rattle.nob_space_waiting.specs.contracts.waiting.Waiting as Waiting
 use Rattle.nob_space_waiting.specs.contracts.waiting.Waiting.TheInside as WaitingInside
 use Rattle.nob_table.proofs.table.ObjectTable.TheSendSync as table
+use Rattle.nob_keeper.specs.contracts.summary.PeerTally as PeerTally
+use Rattle.nob_keeper.specs.contracts.summary.Record as Record
+use Rattle.nob_keeper.specs.contracts.summary.Summary as Summary
 use Rattle.nob_trace.specs.contracts.stamped.Stamped as Stamped
+use Rattle.nob_trace.specs.contracts.trace.Entries as Entries
+use Rattle.nob_trace.specs.contracts.trace.Entries.TheInside as EntriesInside
+use Rattle.nob_trace.specs.contracts.trace.Trace as Trace
 
 copy_send : IsSend RefCopy.the_row
 copy_send = search sendable depth 30
@@ -147,16 +155,23 @@ answer_send = search (frames.the_send, bytes.the_send, crosses, values.crosses, 
 result_send : IsSend (Result.the_field Answer.the_row Refusal.the_row).row
 result_send = search (answer_send, sendable) depth 60 fits 20000
 
+stamped_fields_send : IsSend (Struct (shape Stamped.the_type))
+stamped_fields_send = struct_send (shape Stamped.the_type) (search sendable, (event_send, (result_send, tt)))
+
 stamped_send : IsSend Stamped.the_row
-stamped_send =
-    let T = Stamped.the_type in
-    recorded_send (Struct (shape T)) T.D T.to T.to_one (struct_send (shape T) (search sendable, (event_send, (result_send, tt))))
+stamped_send = (let T = Stamped.the_type in recorded_send (Struct (shape T)) T.D T.to T.to_one stamped_fields_send)
+
+noted_send : IsSend Noted.the_row
+noted_send =
+    let T = Noted.the_type in
+    recorded_send (Struct (shape T)) T.D T.to T.to_one (struct_send (shape T) (search sendable, (stamped_fields_send, tt)))
 
 kept_inside_send : IsSend KeptInside.the_row
 kept_inside_send =
     let T = KeptInside.the_type in
     recorded_send (Struct (shape T)) T.D T.to T.to_one (struct_send (shape T)
-    (space_send, (search sendable depth 30, (Vec-send Stamped.the_row stamped_send, tt))))
+    (space_send, (search sendable depth 30, (search sendable depth 30, (search (stamped_send, past.crosses, crosses, sendable) depth 60,
+    (search sendable, (Vec-send Noted.the_row noted_send, tt)))))))
 
 pub kept_send : IsSend Kept.the_row
 kept_send = view_send KeptInside.the_row _ _ _ _ kept_inside_send
@@ -191,7 +206,31 @@ receipt_send =
 seat_inside_send : IsSend SeatInside.the_row
 seat_inside_send =
     let T = SeatInside.the_type in
-    recorded_send (Struct (shape T)) T.D T.to T.to_one (struct_send (shape T) (Vec-send Receipt.the_row receipt_send, tt))
+    recorded_send (Struct (shape T)) T.D T.to T.to_one (struct_send (shape T) (search (receipt_send, past.crosses, crosses, sendable) depth 60, (search sendable, tt)))
 
 pub seat_send : IsSend Seat.the_row
 seat_send = view_send SeatInside.the_row _ _ _ _ seat_inside_send
+
+entries_inside_send : IsSend EntriesInside.the_row
+entries_inside_send =
+    let T = EntriesInside.the_type in
+    recorded_send (Struct (shape T)) T.D T.to T.to_one (struct_send (shape T) (Vec-send Stamped.the_row stamped_send, tt))
+
+entries_send : IsSend Entries.the_row
+entries_send = view_send EntriesInside.the_row _ _ _ _ entries_inside_send
+
+trace_send : IsSend (Trace.the_field).row
+trace_send = struct_send (shape Trace.the_type) (search sendable depth 30, (search sendable depth 30, (search (crosses, sendable) depth 60, (entries_send, tt))))
+
+peer_tally_send : IsSend PeerTally.the_row
+peer_tally_send = search (crosses, sendable) depth 60 fits 20000
+
+summary_send : IsSend (Summary.the_field).row
+summary_send =
+    let number : IsSend u64-field.row = search sendable in
+    struct_send (shape Summary.the_type)
+    (search sendable depth 30, (search sendable depth 30, (number, (number, (number, (lists.the_send PeerTally.the_row peer_tally_send, tt))))))
+
+-- what a keeper leaves may go to another thread
+pub record_send : IsSend (Record.the_field).row
+record_send = search (trace_send, summary_send, crosses, sendable) depth 60 fits 20000

@@ -1,5 +1,5 @@
--- What is kept of a space: its number, how many there are, the limits of its sessions, and the entries of its trace.
-use Rattle.std.specs.Prelude.{◌≡◌, ◌≤◌, ℕ, ◌+◌, ◌^◌, nat_le, nat_lt, max, Bool, List, [], ◌∷◌, ◌++◌, length, map, reverse, Option, Some, None, if◌then◌else◌}
+-- What is kept of a space: its number, how many there are, the limits of its sessions, what is kept of its entries, and its entries, those too that are kept no more.
+use Rattle.std.specs.Prelude.{◌≡◌, ◌≤◌, ℕ, ◌+◌, ◌^◌, nat_le, nat_lt, max, Bool, true, false, ◌&&◌, List, [], ◌∷◌, ◌++◌, length, map, reverse, Option, Some, None, if◌then◌else◌}
 use Rattle.nob_ids.specs.declared.limits.Limits.{Limits}
 use Rattle.nob_model_types.specs.declared.entry.Entry.{Entry}
 use Rattle.nob_model_history.specs.declared.history.History.{History}
@@ -9,6 +9,8 @@ use Rattle.nob_space.specs.Spaces.{Owner, StandsFor}
 use Rattle.nob_trace.specs.declared.stamped.Stamped.{Stamped}
 use Rattle.nob_trace.specs.declared.trace.Trace.{Trace}
 use Rattle.nob_trace.specs.Stamps.{Rise, last_stamp}
+use Rattle.nob_keeper.specs.declared.keep.Keep.{Keep}
+use Rattle.nob_keeper.specs.declared.keep.Keep.TheVariants as keeps
 use Rattle.nob_keeper.specs.declared.error.KeeperError.{KeeperError}
 use Rattle.nob_keeper.specs.declared.error.KeeperError.TheVariants as errors
 
@@ -17,7 +19,15 @@ pub record Account : Type 0 where
   pub id : ℕ
   pub n : ℕ
   pub limits : Limits
+  pub keep : Keep
   pub entries : List Stamped
+  -- where only the newest entry of each seat is kept: the places of those
+  pub noted : List ℕ
+
+-- whether all entries are kept
+abbrev pub keeps_all : Keep → Bool
+keeps_all keeps.All = true
+keeps_all keeps.Nothing = false
 
 -- so many entries has a trace that is full
 abbrev pub most_entries : ℕ
@@ -35,39 +45,51 @@ entry_at s entry = record { space = s; event = entry.event; result = entry.resul
 abbrev pub list_of : ℕ → List Stamped → List Entry
 list_of s entries = reverse (map (entry_at s) entries)
 
--- what is kept of a space with these entries
-abbrev pub account_of : Owner → List Stamped → Account
-account_of space entries = record { id = space.id; n = space.n; limits = space.limits; entries = entries }
+-- what is kept of a space with these entries, of which those of some places are noted
+abbrev pub account_of : Owner → Keep → List Stamped → List ℕ → Account
+account_of space keep entries noted = record { id = space.id; n = space.n; limits = space.limits; keep = keep; entries = entries; noted = noted }
 
--- what a trace keeps of its space
+-- what a trace keeps of its space: all
 abbrev pub account_in : Trace → Account
-account_in trace = record { id = trace.space; n = trace.n; limits = trace.limits; entries = trace.entries }
+account_in trace = record { id = trace.space; n = trace.n; limits = trace.limits; keep = keeps.All; entries = trace.entries; noted = [] }
 
--- each result is right after the entries before, and the stamps rise
-pub record IsAccount (account : Account) : Type 0 where
-  pub right : AreRight account.id account.n account.limits (list_of account.id account.entries)
-  pub rise : Rise 0 account.entries
-  -- there are no more entries than fill a trace
-  pub few : length account.entries ≤ most_entries
+-- entries of a space, of which this is kept: each result is right after the entries before, and the stamps rise
+pub record AreEntries (id n : ℕ) (limits : Limits) (keep : Keep) (entries : List Stamped) : Type 0 where
+  pub right : AreRight id n limits (list_of id entries)
+  pub rise : Rise 0 entries
+  -- where all are kept there are no more entries than fill a trace
+  pub few : keeps_all keep ≡ true → length entries ≤ most_entries
   -- the last stamp is no greater than what was seen and the entries allow
-  pub low : last_stamp 0 account.entries ≤ last_seen + length account.entries
+  pub low : last_stamp 0 entries ≤ last_seen + length entries
 
--- a space stands for the entries that are kept of it, which are right
-pub record IsKept (space : Owner) (account : Account) : Type 0 where
-  pub stands : StandsFor space (list_of account.id account.entries)
-  pub is_account : IsAccount account
+-- the entries of an account are those of its space
+abbrev pub IsAccount : Account → Type 0
+IsAccount account = AreEntries account.id account.n account.limits account.keep account.entries
+
+-- a space stands for entries, which are right
+pub record StandsRight (space : Owner) (id n : ℕ) (limits : Limits) (keep : Keep) (entries : List Stamped) : Type 0 where
+  pub stands : StandsFor space (list_of id entries)
+  pub is_account : AreEntries id n limits keep entries
+
+-- a space stands for the entries of an account, which are right
+abbrev pub IsKept : Owner → Account → Type 0
+IsKept space account = StandsRight space account.id account.n account.limits account.keep account.entries
 
 -- what is kept, with one entry more
 abbrev pub with_next : Account → Stamped → Account
-with_next account entry = record { id = account.id; n = account.n; limits = account.limits; entries = account.entries ++ entry ∷ [] }
+with_next account entry = record { id = account.id; n = account.n; limits = account.limits; keep = account.keep; entries = account.entries ++ entry ∷ []; noted = account.noted }
+
+-- what is kept, with other places noted
+abbrev pub with_noted : List ℕ → Account → Account
+with_noted noted account = record { id = account.id; n = account.n; limits = account.limits; keep = account.keep; entries = account.entries; noted = noted }
 
 -- the stamp of the next entry: one more than the greater of the last stamp and the one that its caller had seen
 abbrev pub next_stamp : (last seen : ℕ) → ℕ
 next_stamp last seen = max last seen + 1
 
--- whether the trace is full
+-- whether the trace is full: all entries are kept, and there are 2^20
 abbrev pub is_full : Account → Bool
-is_full account = nat_le most_entries (length account.entries)
+is_full account = keeps_all account.keep && nat_le most_entries (length account.entries)
 
 -- what refuses an entry more, memory aside: the trace is full, or else the stamp that was seen is too great
 abbrev pub fault_of : Account → ℕ → Option KeeperError

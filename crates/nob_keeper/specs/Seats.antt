@@ -1,12 +1,15 @@
 -- A seat: the receipts of one caller, the newest of which stands FIRST.
-use Rattle.std.specs.Prelude.{◌≡◌, ◌<◌, ◌⊎◌, ℕ, List, [], ◌∷◌, Option, Some, None}
+use Rattle.std.specs.Prelude.{◌≡◌, ◌≢◌, ◌<◌, ◌≤◌, ◌+◌, ◌⊎◌, ℕ, List, [], ◌∷◌, length, Option, Some, None}
 use Rattle.std.specs.List.{AllByRecursion}
 use Rattle.nob_model_types.specs.declared.event.Event.{Event}
+use Rattle.nob_past.specs.Lists.{Listed}
 use Rattle.nob_trace.specs.declared.stamped.Stamped.{Stamped}
 use Rattle.nob_keeper.specs.declared.receipt.Receipt.{Receipt}
 use Rattle.nob_keeper.specs.declared.error.KeeperError.{KeeperError}
 use Rattle.nob_keeper.specs.declared.error.KeeperError.TheVariants as errors
-use Rattle.nob_keeper.specs.Accounts.{Account, IsAccount, with_next, fault_of}
+use Rattle.nob_keeper.specs.declared.keep.Keep.TheVariants as keeps
+use Rattle.nob_keeper.specs.Staying.{IsAmong}
+use Rattle.nob_keeper.specs.Accounts.{Account, IsAccount, with_next, with_noted, fault_of}
 use Rattle.nob_keeper.specs.Receipts.{Told, IsNext, entry_of}
 
 -- the newest receipt
@@ -23,10 +26,45 @@ abbrev pub PlacesRise : List Receipt → Type 0
 PlacesRise [] = Unit {0}
 PlacesRise (receipt ∷ earlier) = Above receipt.place earlier × PlacesRise earlier
 
+-- of a list that isn't empty the newest item wasn't let go
+abbrev pub HasNewest : {T : Type 0} → Listed T → Type 0
+HasNewest list = (list.items ≡ []) ⊎ (list.gone < length list.items)
+
 -- the newest receipt of a seat, if it has one, is told of the entries
 abbrev pub Has : List Stamped → List Receipt → Type 0
 Has entries [] = Unit {0}
 Has entries (receipt ∷ earlier) = Told receipt entries
+
+-- the entry of the newest receipt of a seat, if it has one, is among those that stay: all entries do, or those of the noted places
+abbrev pub IsThere : Account → List Receipt → Type 0
+IsThere account [] = Unit {0}
+IsThere account (receipt ∷ earlier) = (account.keep ≡ keeps.All) ⊎ IsAmong account.noted receipt.place
+
+-- how many entries more stay once a seat has asked: one where it has no receipt, and else its newest one stays in the place of the one before
+abbrev pub seats_more : List Receipt → ℕ
+seats_more [] = 1
+seats_more (receipt ∷ earlier) = 0
+
+-- the place isn't that of a seat's newest receipt
+abbrev pub IsOther : List Receipt → ℕ → Type 0
+IsOther [] place = Unit {0}
+IsOther (receipt ∷ earlier) place = receipt.place ≢ place
+
+-- the entry of a seat's newest receipt stays, in the place of the one before: the others that stayed do so still
+pub record StaysNewest (before after : Account) (old new : List Receipt) : Type 0 where
+  pub newest : IsThere after new
+  pub others : (place : ℕ) → IsAmong before.noted place → IsOther old place → IsAmong after.noted place
+  pub few : length after.noted ≤ length before.noted + seats_more old
+
+-- the newest receipt of each of these seats is told of the entries
+abbrev pub HasAll : List Stamped → List (List Receipt) → Type 0
+HasAll entries [] = Unit {0}
+HasAll entries (seat ∷ seats) = Has entries seat × HasAll entries seats
+
+-- the entry of the newest receipt of each of these seats stays
+abbrev pub AreAllThere : Account → List (List Receipt) → Type 0
+AreAllThere account [] = Unit {0}
+AreAllThere account (seat ∷ seats) = IsThere account seat × AreAllThere account seats
 
 -- one receipt was added, of this event, stamped above what was seen, at a place above those before
 abbrev pub Adds : List Receipt → List Receipt → Event → ℕ → Type 0
@@ -38,8 +76,8 @@ AddsNext old new event seen = (receipt : Receipt) × (before : Account) × (new 
 
 -- what is kept has one entry more, the next one, of which the receipt that was added tells
 abbrev pub AddsTo : Account → Account → List Receipt → List Receipt → Event → ℕ → Type 0
-AddsTo before after old new event seen = (receipt : Receipt) × (new ≡ receipt ∷ old) × IsNext before event seen receipt × (after ≡ with_next before (entry_of receipt))
+AddsTo before after old new event seen = (receipt : Receipt) × (new ≡ receipt ∷ old) × IsNext before event seen receipt × (after ≡ with_noted after.noted (with_next before (entry_of receipt)))
 
--- what refuses a call, memory aside: the trace hasn't the seat's newest receipt, or no entry more can be made
+-- what refuses a call, memory aside: the trace hasn't the seat's newest receipt, or its entry doesn't stay; or no entry more can be made
 abbrev pub IsFault : Account → List Receipt → ℕ → KeeperError → Type 0
-IsFault account receipts seen error = ((error ≡ errors.Seats) × (Has account.entries receipts → ⊥)) ⊎ (fault_of account seen ≡ Some error)
+IsFault account receipts seen error = ((error ≡ errors.Seats) × (Has account.entries receipts → IsThere account receipts → ⊥)) ⊎ (fault_of account seen ≡ Some error)

@@ -27,7 +27,7 @@ pub(crate) fn is_told(receipt: &Receipt, entries: &[Stamped]) -> bool
 }
 
 // Whether an entry is the one that a receipt tells of.
-fn is_entry_of(receipt: &Receipt, entry: &Stamped) -> bool
+pub(crate) fn is_entry_of(receipt: &Receipt, entry: &Stamped) -> bool
     ensures { (result ≡ true) ↔ (entry.now ≡ entry_of receipt.now) }
 {
     entry.stamp == receipt.stamp
@@ -60,23 +60,34 @@ fn mark(marks: &mut Vec<bool>, entries: &[Stamped], receipts: &[Receipt]) -> boo
     true
 }
 
-// Marks the places of the receipts of all seats.
-fn mark_all(marks: &mut Vec<bool>, entries: &[Stamped], seats: &[Seat]) -> bool
+// Marks the places of the receipts of all seats: K4 where one is marked already or isn't told, or
+// else a seat has let receipts go.
+fn mark_all(
+    marks: &mut Vec<bool>,
+    entries: &[Stamped],
+    seats: &[Seat],
+) -> Result<(), KeeperError>
     requires { length marks.old.items ≡ length entries.now }
     ensures len { length marks.new.items ≡ length marks.old.items }
-    ensures marks { (before : List ReceiptOf) → result ≡ true
+    ensures marks { (before : List ReceiptOf) → OnOk result
+        (closing.AreMarks marks.old.items entries.now before
+        → closing.AreMarks marks.new.items entries.now (before ++ closing.receipts_of seats.now)) }
+    ensures fault { (before later : List ReceiptOf) → IfErr result (λ error.
+        error ≡ KeeperError.Seats
         → closing.AreMarks marks.old.items entries.now before
-        → closing.AreMarks marks.new.items entries.now (before ++ closing.receipts_of seats.now) }
-    ensures fault { (before later : List ReceiptOf) → result ≡ false
-        → closing.AreMarks marks.old.items entries.now before
-        → closing.AreOf entries.now (before ++ (closing.receipts_of seats.now ++ later)) → ⊥ }
+        → closing.AreOf entries.now (before ++ (closing.receipts_of seats.now ++ later)) → ⊥) }
+    ensures only { IfErr result (λ error. (error ≡ KeeperError.Seats)
+        ⊎ (error ≡ KeeperError.NotKept)) }
 {
     for seat in seats {
-        if !mark(marks, entries, seat.receipts()) {
-            return false;
+        let Some(receipts) = seat.whole() else {
+            return Err(KeeperError::NotKept);
+        };
+        if !mark(marks, entries, receipts) {
+            return Err(KeeperError::Seats);
         }
     }
-    true
+    Ok(())
 }
 
 // So many marks, none of them set. Only memory fails it.
@@ -107,14 +118,12 @@ pub(crate) fn judge(alloc: Global, entries: &[Stamped], seats: &[Seat]) -> Resul
     ensures seats { IfErr result (λ error. error ≡ KeeperError.Seats
         → closing.AreOf entries.now (closing.receipts_of seats.now) → ⊥) }
     ensures only { IfErr result (λ error. (error ≡ KeeperError.Seats)
-        ⊎ (error ≡ KeeperError.OutOfMemory)) }
+        ⊎ ((error ≡ KeeperError.OutOfMemory) ⊎ (error ≡ KeeperError.NotKept))) }
 {
     let Ok(mut marks) = unmarked(alloc, entries.len()) else {
         return Err(KeeperError::OutOfMemory);
     };
-    if !mark_all(&mut marks, entries, seats) {
-        return Err(KeeperError::Seats);
-    }
+    mark_all(&mut marks, entries, seats)?;
     if !are_all_set(marks.as_slice()) {
         return Err(KeeperError::Seats);
     }

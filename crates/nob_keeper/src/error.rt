@@ -18,6 +18,9 @@ pub enum KeeperError {
     /// K4: the seats and the trace don't belong together.
     #[error("K4: the seats and the trace don't belong together")]
     Seats,
+    /// The trace, or the receipts of a seat, weren't kept.
+    #[error("the trace wasn't kept")]
+    NotKept,
 }
 
 impl From<AllocError> for KeeperError {

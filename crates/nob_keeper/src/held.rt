@@ -172,7 +172,7 @@ impl Held {
     // What the space could do next.
     pub(crate) fn look(&self) -> Look {
         Look {
-            place: self.kept.len() as u64,
+            place: self.kept.len(),
             work: self.kept.work(),
         }
     }
@@ -195,7 +195,7 @@ impl Held {
             }
         }
         Dues {
-            place: self.kept.len() as u64,
+            place: self.kept.len(),
             due,
         }
     }

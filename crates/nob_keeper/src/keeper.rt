@@ -6,16 +6,19 @@ ghost use Rattle.nob_space.specs.Spaces.{StandsFor};
 ghost use Rattle.nob_keeper.specs.Accounts as accounts;
 ghost use Rattle.nob_keeper.specs.Closing as closing;
 ghost use Rattle.nob_keeper.specs.Seats as seats;
+ghost use Rattle.nob_keeper.specs.Summaries as summaries;
 
 use crate::desk::{Desk, REPLY_PLACES, reply_place};
 use crate::error::KeeperError;
 use crate::held::{Chores, Dues, Held, Look, Notice, Wake};
+use crate::keep::Keep;
 use crate::kept::Kept;
 use crate::locking::lock_soon;
 use crate::seat::Seat;
+use crate::summary::Summary;
 use crate::waking::{Prospects, WorkKind};
-use nob_ids::CallNo;
-use nob_model_types::Event;
+use nob_ids::{CallNo, SpaceId};
+use nob_model_types::{Backlog, Event, Tally};
 use nob_space::{Space, Work};
 use nob_trace::Trace;
 use std::alloc::Global;
@@ -36,9 +39,18 @@ pub struct Keeper {
 }
 
 impl Keeper {
-    /// A keeper of a new space. Only memory fails it, and then the space is handed back. The
+    /// A keeper of a new space, which keeps all entries. Only memory fails it, and then the space is handed back. The
     /// caller's conditions: the space has done nothing, and it is one of the spaces that there are.
     pub fn new(alloc: Global, space: Space) -> Result<Keeper, Space>
+        requires new { StandsFor space [] }
+        requires some { 1 ≤ space.n }
+        ensures back { IfErr result (λ back. back ≡ space) }
+    {
+        Keeper::keeping(alloc, space, Keep::All)
+    }
+
+    /// The same with what is kept of the entries.
+    pub fn keeping(alloc: Global, space: Space, keep: Keep) -> Result<Keeper, Space>
         requires new { StandsFor space [] }
         requires some { 1 ≤ space.n }
         ensures back { IfErr result (λ back. back ≡ space) }
@@ -46,7 +58,7 @@ impl Keeper {
         let Some(replies) = reply_places(alloc) else {
             return Err(space);
         };
-        let kept = Kept::new(alloc, space)?;
+        let kept = Kept::keeping(alloc, space, keep)?;
         Ok(Keeper {
             alloc,
             held: Mutex::new(Held {
@@ -205,13 +217,71 @@ impl Keeper {
         self.place_of(kind).notify_all();
     }
 
+    /// What went each way on the session with a peer, and how it ended: none where it is no peer.
+    /// Constant time, under the lock.
+    pub fn tally<R: Wait>(&self, rt: &R, peer: SpaceId) -> Option<Tally>
+        ensures { summaries.IsTally peer result }
+    {
+        lock_soon(rt, &self.held).kept.tally(peer)
+    }
+
+    /// How many objects of the space are live. Constant time, under the lock.
+    pub fn live<R: Wait>(&self, rt: &R) -> u64
+        ensures { summaries.IsLive result }
+    {
+        lock_soon(rt, &self.held).kept.live()
+    }
+
+    /// How many own calls aren't taken, how many jobs are ready, and how many run. Constant time,
+    /// under the lock.
+    pub fn backlog<R: Wait>(&self, rt: &R) -> Backlog
+        ensures { summaries.IsBacklog result }
+    {
+        lock_soon(rt, &self.held).kept.backlog()
+    }
+
     /// Ends the keeper and gives the trace, where the seats' receipts are those of its entries,
-    /// each once: else K4, or K2 where memory is wanted, and all is handed back. Linear in the
-    /// entries and what they own.
+    /// each once: else K4, or K2 where memory is wanted, and all is handed back; so it is where the
+    /// entries or the receipts of a seat weren't kept. Linear in the entries and what they own.
     pub fn close_with(self, seats: Vec<Seat>) -> Result<Trace, (KeeperError, Keeper, Vec<Seat>)>
         ensures receipts { IfOk result (λ trace.
             closing.AreOf trace.entries (closing.receipts_of seats.items)) }
         ensures account { IfOk result (λ trace. accounts.IsAccount (accounts.account_in trace)) }
+        ensures back { IfErr result (λ back. back.2.items ≡ seats.items) }
+        ensures only { IfErr result (λ back. (back.0 ≡ KeeperError.Seats)
+            ⊎ ((back.0 ≡ KeeperError.OutOfMemory) ⊎ (back.0 ≡ KeeperError.NotKept))) }
+    {
+        let Keeper {
+            alloc,
+            held,
+            to_send,
+            to_care,
+            to_claim,
+            replies,
+        } = self;
+        let Held { kept, desk } = held.into_inner();
+        match kept.close_with(seats) {
+            Ok(trace) => Ok(trace),
+            Err((error, kept, seats)) => Err((
+                error,
+                Keeper {
+                    alloc,
+                    held: Mutex::new(Held { kept, desk }),
+                    to_send,
+                    to_care,
+                    to_claim,
+                    replies,
+                },
+                seats,
+            )),
+        }
+    }
+
+    /// Ends the keeper and says what its entries come to, whether they were kept or not, where the
+    /// newest receipt of each seat is told of them: else K4, or K2 where memory is wanted, and all is
+    /// handed back.
+    pub fn end_with(self, seats: Vec<Seat>) -> Result<Summary, (KeeperError, Keeper, Vec<Seat>)>
+        ensures summary { IfOk result (λ summary. summaries.IsSummaryOf seats.items summary) }
         ensures back { IfErr result (λ back. back.2.items ≡ seats.items) }
         ensures only { IfErr result (λ back. (back.0 ≡ KeeperError.Seats)
             ⊎ (back.0 ≡ KeeperError.OutOfMemory)) }
@@ -225,8 +295,8 @@ impl Keeper {
             replies,
         } = self;
         let Held { kept, desk } = held.into_inner();
-        match kept.close_with(seats) {
-            Ok(trace) => Ok(trace),
+        match kept.end_with(seats) {
+            Ok(summary) => Ok(summary),
             Err((error, kept, seats)) => Err((
                 error,
                 Keeper {

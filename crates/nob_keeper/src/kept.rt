@@ -1,6 +1,6 @@
 //! A space with its trace.
 
-ghost use Rattle.std.specs.Prelude.{◌≡◌, ◌≢◌, ◌↔◌, ◌≤◌, ◌+◌, ◌-◌, ◌⊎◌, ◌&&◌, ◌||◌, ◌++◌, ◌∷◌, [], ℕ, List, Some, None, true, Err, length, slice_get, IfOk, IfErr, OnOk, OnErr};
+ghost use Rattle.std.specs.Prelude.{◌≡◌, ◌≢◌, ◌↔◌, ◌≤◌, ◌<◌, ◌^◌, ◌+◌, ◌-◌, ◌⊎◌, ◌&&◌, ◌||◌, ◌++◌, ◌∷◌, [], ℕ, List, Some, None, true, Err, nat_le, length, slice_get, IfOk, IfErr, OnOk, OnErr};
 ghost use Rattle.nob_ids.specs.Names.{IsSpace};
 ghost use Rattle.nob_model_types.specs.declared.entry.Entry.{Entry as EntryOf};
 ghost use Rattle.nob_model.specs.Next as next;
@@ -12,41 +12,56 @@ ghost use Rattle.nob_trace.specs.Stamps as stamps;
 ghost use Rattle.nob_keeper.specs.Accounts as accounts;
 ghost use Rattle.nob_keeper.specs.Closing as closing;
 ghost use Rattle.nob_keeper.specs.Receipts as receipts;
-ghost use Rattle.nob_keeper.specs.Seats.{Has};
+ghost use Rattle.nob_model.specs.Tallies as tallies;
+ghost use Rattle.nob_keeper.specs.Seats.{AreAllThere, Has, HasAll, IsThere};
+ghost use Rattle.nob_keeper.specs.Summaries as summaries;
+ghost use Rattle.nob_keeper.specs.Spots as spots;
+ghost use Rattle.nob_keeper.specs.declared.keep.Keep.TheVariants as keeps;
 ghost use Rattle.nob_keeper.specs.Waking as waking;
 ghost use Rattle.nob_keeper.specs.declared.error.KeeperError.{KeeperError as KeeperErrorOf};
 
 use crate::closing::{is_told, judge};
 use crate::error::KeeperError;
+use crate::keep::Keep;
+use crate::noted::{Noted, find, put};
 use crate::receipt::Receipt;
 use crate::seat::Seat;
+use crate::summary::{Summary, check_all, tallies_of};
 use crate::waking::{Prospects, Wakes, is_new};
 use nob_ids::{CallNo, SpaceId};
-use nob_model_types::{Answer, Event, Refusal};
+use nob_model_types::{Answer, Backlog, Event, Here, List, Refusal, Tally};
+use nob_past::Past;
 use nob_space::{Due, Space, SpaceError, Work};
 use nob_trace::{Entries, Stamped, Trace};
 use std::alloc::{AllocError, Global};
 use std::marker::Model;
 
 /// So many entries has a trace that is full.
-const MOST_ENTRIES: usize = 1 << 20;
+const MOST_ENTRIES: u64 = 1 << 20;
 
 /// The greatest stamp that a caller may have seen.
 const LAST_SEEN: u64 = 1 << 60;
 
 /// A space with its trace: what it was asked since it was new, and what it answered. Contracts see
-/// its number, how many spaces there are, its limits and its entries, whose results are right. It
-/// holds pins, so it can't be let go: `shut` ends it.
+/// its number, how many spaces there are, its limits and its entries, whose results are right: all
+/// of them, those too that aren't kept. It holds pins, so it can't be let go: `shut` ends it.
 pub struct Kept {
     space: Space,
     n: SpaceId,
-    // The first first.
-    entries: Vec<Stamped>,
+    keep: Keep,
+    // The first first. All have bytes, or none.
+    entries: Past<Stamped>,
+    // The stamp of the last entry, 0 where there is none.
+    last: u64,
+    // The newest entry of each seat, where no others are kept.
+    noted: Vec<Noted>,
 }
 
 impl Model for Kept {
     ghost use Rattle.std.specs.Prelude.{◌≡◌};
+    ghost use Rattle.nob_trace.specs.Stamps.{last_stamp};
     ghost use Rattle.nob_keeper.specs.Accounts.{Account, IsKept, account_of};
+    ghost use Rattle.nob_keeper.specs.Staying.{AreKept, places};
 
     ghost Value = { Account };
 
@@ -55,20 +70,34 @@ impl Model for Kept {
 
     ghost coded = { Prim.hlevel (codes, trees_code) };
 
-    ghost view = { λ kept. account_of kept.space kept.entries.items };
+    ghost view = { λ kept. account_of kept.space kept.keep kept.entries.items
+        (places kept.noted.items) };
 
     ghost invariant = { λ kept. (kept.n ≡ kept.space.n)
-        × IsKept kept.space (account_of kept.space kept.entries.items) };
+        × IsKept kept.space (account_of kept.space kept.keep kept.entries.items
+            (places kept.noted.items))
+        × (kept.last ≡ last_stamp 0 kept.entries.items)
+        × AreKept kept.keep kept.entries kept.noted.items };
 }
 
 impl Kept {
-    /// A new space with its trace, which has no entry. Only memory fails it, and then the space is
-    /// handed back. The caller's conditions: the space has done nothing, and it is one of the
-    /// spaces that there are.
+    /// A new space with its trace, which has no entry, and all of which is kept. Only memory fails
+    /// it, and then the space is handed back. The caller's conditions: the space has done nothing,
+    /// and it is one of the spaces that there are.
     pub fn new(alloc: Global, space: Space) -> Result<Kept, Space>
         requires new { StandsFor space [] }
         requires some { 1 ≤ space.n }
-        ensures kept { IfOk result (λ kept. kept ≡ accounts.account_of space []) }
+        ensures kept { IfOk result (λ kept. kept ≡ accounts.account_of space keeps.All [] []) }
+        ensures back { IfErr result (λ back. back ≡ space) }
+    {
+        Kept::keeping(alloc, space, Keep::All)
+    }
+
+    /// The same with what is kept of the entries.
+    pub fn keeping(alloc: Global, space: Space, keep: Keep) -> Result<Kept, Space>
+        requires new { StandsFor space [] }
+        requires some { 1 ≤ space.n }
+        ensures kept { IfOk result (λ kept. kept ≡ accounts.account_of space keep [] []) }
         ensures back { IfErr result (λ back. back ≡ space) }
     {
         let Some(n) = SpaceId::new(space.n()) else {
@@ -77,18 +106,29 @@ impl Kept {
         Ok(Kept {
             space,
             n,
-            entries: Vec::new(alloc),
+            keep,
+            entries: Past::new(alloc),
+            last: 0,
+            noted: Vec::new(alloc),
         })
     }
 
-    /// The entries of the trace, the first first.
-    pub fn entries(&self) -> &[Stamped]
-        ensures entries { result.now ≡ self.now.entries }
-        ensures right { AreRight self.now.id self.now.n self.now.limits
-            (accounts.list_of self.now.id result.now) }
-        ensures rise { stamps.Rise 0 result.now }
+    /// What is kept of the entries.
+    pub fn keep(&self) -> Keep
+        ensures { result ≡ self.now.keep }
     {
-        self.entries.as_slice()
+        self.keep
+    }
+
+    /// The entries of the trace that are kept, the first first: all, or none.
+    pub fn entries(&self) -> &[Stamped]
+        ensures entries { self.now.keep ≡ keeps.All → result.now ≡ self.now.entries }
+        ensures none { self.now.keep ≡ keeps.Nothing → result.now ≡ [] }
+        ensures right { AreRight self.now.id self.now.n self.now.limits
+            (accounts.list_of self.now.id self.now.entries) }
+        ensures rise { stamps.Rise 0 self.now.entries }
+    {
+        self.entries.kept()
     }
 
     /// One event: its receipt, and an entry more, whose stamp is one more than the greater of the
@@ -107,24 +147,90 @@ impl Kept {
             → accounts.fault_of self.old seen ≡ Some error) }
         ensures err { OnErr result (self.new ≡ self.old) }
     {
-        append(&mut self.space, &mut self.entries, event, seen)
+        let (receipt, _entry) = append(
+            &mut self.space,
+            &mut self.entries,
+            self.keep,
+            self.last,
+            event,
+            seen,
+        )?;
+        self.last = receipt.stamp;
+        Ok(receipt)
     }
 
-    /// K4 where the trace hasn't the newest receipt of a seat. It costs what that receipt owns.
+    // The same, for a seat whose newest entry stays at a spot.
+    pub(crate) fn append_at(
+        &mut self,
+        spot: usize,
+        event: &Event,
+        seen: u64,
+    ) -> Result<Receipt, KeeperError>
+        requires { spots.IsSpot self.old spot }
+        ensures next { IfOk result (λ receipt. receipts.IsNext self.old event.now seen receipt) }
+        ensures entry { IfOk result (λ receipt. self.new ≡ accounts.with_noted
+            (spots.noted_next self.old spot)
+            (accounts.with_next self.old (receipts.entry_of receipt))) }
+        ensures fault { (fault : KeeperErrorOf)
+            → accounts.fault_of self.old seen ≡ Some fault → result ≡ Err fault }
+        ensures only { IfErr result (λ error. error ≢ KeeperError.OutOfMemory
+            → accounts.fault_of self.old seen ≡ Some error) }
+        ensures err { OnErr result (self.new ≡ self.old) }
+    {
+        self.admit(seen)?;
+        let Ok(()) = self.noted.reserve(1) else {
+            return Err(KeeperError::OutOfMemory);
+        };
+        let (receipt, entry) = append(
+            &mut self.space,
+            &mut self.entries,
+            self.keep,
+            self.last,
+            event,
+            seen,
+        )?;
+        self.last = receipt.stamp;
+        if let Some(entry) = entry {
+            let place = receipt.place;
+            put(&mut self.noted, spot, Noted { place, entry });
+        }
+        Ok(receipt)
+    }
+
+    /// K4 where the trace hasn't the newest receipt of a seat, or where its entry isn't kept any
+    /// more: that of a seat that was let go, or that has asked another keeper. It costs what that
+    /// receipt owns.
     pub fn check(&self, seat: &Seat) -> Result<(), KeeperError>
         ensures account { accounts.IsAccount self.now }
         ensures ok { OnOk result (Has self.now.entries seat.now) }
+        ensures there { OnOk result (IsThere self.now seat.now) }
         ensures err { IfErr result (λ error. (error ≡ KeeperError.Seats)
-            × (Has self.now.entries seat.now → ⊥)) }
+            × (Has self.now.entries seat.now → IsThere self.now seat.now → ⊥)) }
     {
-        let entries = self.entries.as_slice();
+        self.spot_of(seat)?;
+        Ok(())
+    }
+
+    // Where the newest entry of a seat stays, K4 as `check`. A seat without one gets a new spot.
+    pub(crate) fn spot_of(&self, seat: &Seat) -> Result<usize, KeeperError>
+        ensures account { accounts.IsAccount self.now }
+        ensures ok { OnOk result (Has self.now.entries seat.now) }
+        ensures spot { IfOk result (λ spot. spots.IsSpotOf self.now seat.now spot) }
+        ensures err { IfErr result (λ error. (error ≡ KeeperError.Seats)
+            × (Has self.now.entries seat.now → IsThere self.now seat.now → ⊥)) }
+    {
         let Some(receipt) = seat.newest() else {
-            return Ok(());
+            return Ok(self.noted.len());
         };
-        if is_told(receipt, entries) {
-            return Ok(());
+        match self.keep {
+            Keep::All => {
+                if is_told(receipt, self.entries.kept()) {
+                    return Ok(0);
+                }
+                Err(KeeperError::Seats)
+            }
+            Keep::Nothing => find(self.noted.as_slice(), seat.spot(), receipt),
         }
-        Err(KeeperError::Seats)
     }
 
     /// K1 where the trace is full, else K3 where the stamp that was seen is too great.
@@ -148,18 +254,18 @@ impl Kept {
         self.n
     }
 
-    /// How many entries the trace has.
-    pub fn len(&self) -> usize
+    /// How many entries the trace has, those too that aren't kept.
+    pub fn len(&self) -> u64
         ensures { result ≡ length self.now.entries }
     {
         self.entries.len()
     }
 
-    /// Whether the trace is full.
+    /// Whether the trace is full: one that isn't kept never is.
     pub fn is_full(&self) -> bool
         ensures { result ≡ accounts.is_full self.now }
     {
-        self.entries.len() >= MOST_ENTRIES
+        is_full(self.keep, self.entries.len())
     }
 
     /// Whether TakeReply of a call would say anything but that the reply isn't ready. It costs what
@@ -230,9 +336,56 @@ impl Kept {
         }
     }
 
+    /// What went each way on the session with a peer, and how it ended: none where it is no peer.
+    /// Constant time, and no memory.
+    pub fn tally(&self, peer: SpaceId) -> Option<Tally>
+        ensures { result ≡ summaries.tally_in self.now peer }
+    {
+        let here = Here {
+            space: self.space.id(),
+            n: self.space.n(),
+        };
+        if !here.is_peer(peer) {
+            return None;
+        }
+        Some(self.space.tally(peer))
+    }
+
+    /// How many objects are live. Constant time, and no memory.
+    pub fn live(&self) -> u64
+        ensures { result ≡ tallies.live_count self.now.id (accounts.history_in self.now) }
+    {
+        self.space.live()
+    }
+
+    /// How many own calls aren't taken, how many jobs are ready, and how many run. Constant time, and
+    /// no memory.
+    pub fn backlog(&self) -> Backlog
+        ensures { result ≡ tallies.backlog (accounts.history_in self.now) }
+    {
+        self.space.backlog()
+    }
+
+    /// What the entries come to, in numbers. Only memory fails it. It costs a look at each session.
+    pub fn summary(&self) -> Result<Summary, AllocError>
+        ensures { IfOk result (λ summary. summaries.IsSummary self.now summary) }
+    {
+        let alloc = *self.noted.allocator();
+        let peers = tallies_of(alloc, self)?;
+        Ok(Summary {
+            space: self.space.id(),
+            n: self.n,
+            entries: self.entries.len(),
+            last_stamp: self.last,
+            live: self.space.live(),
+            peers: List::from_vec(peers),
+        })
+    }
+
     /// The trace, where the seats' receipts are those of its entries, each once: else K4, or K2
-    /// where memory is wanted, and all is handed back. The space is ended. Linear in the entries
-    /// and what they own, which it compares and doesn't copy.
+    /// where memory is wanted, and all is handed back; so it is where the entries or the receipts
+    /// of a seat weren't kept (`NotKept`): `end_with` ends such a one. The space is ended. Linear in
+    /// the entries and what they own, which it compares and doesn't copy.
     pub fn close_with(self, seats: Vec<Seat>) -> Result<Trace, (KeeperError, Kept, Vec<Seat>)>
         ensures trace { IfOk result (λ trace. accounts.account_in trace ≡ self) }
         ensures receipts { IfOk result (λ trace.
@@ -243,22 +396,60 @@ impl Kept {
             → closing.AreOf self.entries (closing.receipts_of seats.items) → ⊥) }
         ensures kept { IfErr result (λ back. back.1 ≡ self) }
         ensures back { IfErr result (λ back. back.2.items ≡ seats.items) }
+        ensures unkept { self.keep ≡ keeps.Nothing → IfErr result (λ back.
+            back.0 ≡ KeeperError.NotKept) }
+        ensures ended { OnOk result (self.keep ≡ keeps.All) }
         ensures only { IfErr result (λ back. (back.0 ≡ KeeperError.Seats)
-            ⊎ (back.0 ≡ KeeperError.OutOfMemory)) }
+            ⊎ ((back.0 ≡ KeeperError.OutOfMemory) ⊎ (back.0 ≡ KeeperError.NotKept))) }
     {
-        let alloc = *self.entries.allocator();
-        if let Err(error) = judge(alloc, self.entries.as_slice(), seats.as_slice()) {
+        let Keep::All = self.keep else {
+            return Err((KeeperError::NotKept, self, seats));
+        };
+        let alloc = *self.noted.allocator();
+        if let Err(error) = judge(alloc, self.entries.kept(), seats.as_slice()) {
             return Err((error, self, seats));
         }
-        let Kept { space, n, entries } = self;
+        let Kept {
+            space,
+            n,
+            keep: _,
+            entries,
+            last: _,
+            noted: _noted,
+        } = self;
         let trace = Trace {
             space: space.id(),
             n,
             limits: space.limits(),
-            entries: Entries::from_vec(entries),
+            entries: Entries::from_vec(entries.into_kept()),
         };
         space.shut();
         Ok(trace)
+    }
+
+    /// What the entries come to, whether they were kept or not, where the newest receipt of each seat
+    /// is told of them and its entry is still there: else K4, or K2 where memory is wanted, and all is
+    /// handed back. The space is ended. It costs what these receipts own, and a look at each session.
+    pub fn end_with(self, seats: Vec<Seat>) -> Result<Summary, (KeeperError, Kept, Vec<Seat>)>
+        ensures summary { IfOk result (λ summary. summaries.IsSummary self summary) }
+        ensures receipts { OnOk result (HasAll self.entries seats.items) }
+        ensures account { OnOk result (accounts.IsAccount self) }
+        // K4 comes only where it is due.
+        ensures seats { IfErr result (λ back. back.0 ≡ KeeperError.Seats
+            → HasAll self.entries seats.items → AreAllThere self seats.items → ⊥) }
+        ensures kept { IfErr result (λ back. back.1 ≡ self) }
+        ensures back { IfErr result (λ back. back.2.items ≡ seats.items) }
+        ensures only { IfErr result (λ back. (back.0 ≡ KeeperError.Seats)
+            ⊎ (back.0 ≡ KeeperError.OutOfMemory)) }
+    {
+        if let Err(error) = check_all(&self, seats.as_slice()) {
+            return Err((error, self, seats));
+        }
+        let Ok(summary) = self.summary() else {
+            return Err((KeeperError::OutOfMemory, self, seats));
+        };
+        self.shut();
+        Ok(summary)
     }
 
     /// Ends the space: it closes all its sessions and tells nobody. The trace is gone.
@@ -266,7 +457,10 @@ impl Kept {
         let Kept {
             space,
             n: _,
+            keep: _,
             entries: _entries,
+            last: _,
+            noted: _noted,
         } = self;
         space.shut();
     }
@@ -317,56 +511,87 @@ fn ask(
     }
 }
 
-// The stamp of the entry behind these.
-fn next_stamp(entries: &[Stamped], seen: u64) -> u64
-    requires low { stamps.last_stamp 0 entries.now
-        ≤ accounts.last_seen + accounts.most_entries }
-    requires seen { seen ≤ accounts.last_seen }
-    ensures { result ≡ accounts.next_stamp (stamps.last_stamp 0 entries.now) seen }
+// Whether a trace of so many entries is full, of which this is kept.
+fn is_full(keep: Keep, len: u64) -> bool
+    ensures { result ≡ accounts.keeps_all keep && nat_le accounts.most_entries len }
 {
-    let last = last_stamp(entries);
-    last.max(seen) + 1
-}
-
-// The last stamp: 0 where there is no entry.
-fn last_stamp(entries: &[Stamped]) -> u64
-    ensures { result ≡ stamps.last_stamp 0 entries.now }
-{
-    match entries.last() {
-        Some(entry) => entry.stamp,
-        None => 0,
+    match keep {
+        Keep::All => len >= MOST_ENTRIES,
+        Keep::Nothing => false,
     }
 }
 
-// One event of a space whose entries these are.
+// The stamp of an entry behind the last one.
+fn next_stamp(last: u64, seen: u64) -> u64
+    requires low { last < 2 ^ 63 }
+    requires seen { seen ≤ accounts.last_seen }
+    ensures { result ≡ accounts.next_stamp last seen }
+{
+    last.max(seen) + 1
+}
+
+// One entry more, at the place that there is for it. Where nothing is kept it is handed back.
+fn add(entries: &mut Past<Stamped>, keep: Keep, entry: Stamped) -> Option<Stamped>
+    requires room { 0 < entries.old.room }
+    requires few { length entries.old.items < 2 ^ 63 }
+    ensures items { entries.new.items ≡ entries.old.items ++ entry ∷ [] }
+    ensures all { keep ≡ keeps.All → (entries.new.gone ≡ entries.old.gone) × (result ≡ None) }
+    ensures passed { keep ≡ keeps.Nothing → (entries.new.gone ≡ length entries.new.items)
+        × (result ≡ Some entry) }
+{
+    match keep {
+        Keep::All => {
+            entries.push_reserved(entry);
+            None
+        }
+        Keep::Nothing => {
+            entries.pass(&entry);
+            Some(entry)
+        }
+    }
+}
+
+// One event of a space whose entries these are, the last of them with this stamp: its receipt, and
+// where nothing is kept the entry.
 fn append(
     space: &mut Space,
-    entries: &mut Vec<Stamped>,
+    entries: &mut Past<Stamped>,
+    keep: Keep,
+    last: u64,
     event: &Event,
     seen: u64,
-) -> Result<Receipt, KeeperError>
-    requires { accounts.IsKept space.old (accounts.account_of space.old entries.old.items) }
-    ensures next { IfOk result (λ receipt. receipts.IsNext
-        (accounts.account_of space.old entries.old.items) event.now seen receipt) }
-    ensures entry { IfOk result (λ receipt. entries.new.items
-        ≡ entries.old.items ++ receipts.entry_of receipt ∷ []) }
-    ensures kept { accounts.IsKept space.new (accounts.account_of space.new entries.new.items) }
+) -> Result<(Receipt, Option<Stamped>), KeeperError>
+    requires kept { accounts.IsKept space.old
+        (accounts.account_of space.old keep entries.old.items []) }
+    requires last { last ≡ stamps.last_stamp 0 entries.old.items }
+    ensures next { IfOk result (λ two. receipts.IsNext
+        (accounts.account_of space.old keep entries.old.items []) event.now seen two.0) }
+    ensures entry { IfOk result (λ two. entries.new.items
+        ≡ entries.old.items ++ receipts.entry_of two.0 ∷ []) }
+    ensures all { IfOk result (λ two. keep ≡ keeps.All
+        → (entries.new.gone ≡ entries.old.gone) × (two.1 ≡ None)) }
+    ensures passed { IfOk result (λ two. keep ≡ keeps.Nothing
+        → (entries.new.gone ≡ length entries.new.items)
+        × (two.1 ≡ Some (receipts.entry_of two.0))) }
+    ensures kept { accounts.IsKept space.new
+        (accounts.account_of space.new keep entries.new.items []) }
     ensures same { SameSpace space.old space.new }
     ensures fault { (fault : KeeperErrorOf)
-        → accounts.fault_of (accounts.account_of space.old entries.old.items) seen ≡ Some fault
-        → result ≡ Err fault }
+        → accounts.fault_of (accounts.account_of space.old keep entries.old.items []) seen
+        ≡ Some fault → result ≡ Err fault }
     ensures only { IfErr result (λ error. error ≢ KeeperError.OutOfMemory
-        → accounts.fault_of (accounts.account_of space.old entries.old.items) seen
+        → accounts.fault_of (accounts.account_of space.old keep entries.old.items []) seen
         ≡ Some error) }
     ensures err { OnErr result (entries.new.items ≡ entries.old.items) }
+    ensures err_gone { OnErr result (entries.new.gone ≡ entries.old.gone) }
 {
-    if entries.len() >= MOST_ENTRIES {
+    if is_full(keep, entries.len()) {
         return Err(KeeperError::TraceFull);
     }
     if seen > LAST_SEEN {
         return Err(KeeperError::Stamp);
     }
-    let Ok(()) = entries.reserve(1) else {
+    let Ok(()) = entries.reserve() else {
         return Err(KeeperError::OutOfMemory);
     };
     let Ok(kept_event) = event.copy() else {
@@ -375,20 +600,22 @@ fn append(
     let Ok(told_event) = event.copy() else {
         return Err(KeeperError::OutOfMemory);
     };
-    let stamp = next_stamp(entries.as_slice(), seen);
-    let place = entries.len() as u64 + 1;
+    let stamp = next_stamp(last, seen);
+    let place = entries.len() + 1;
     let Ok((kept, told)) = ask(space, event) else {
         return Err(KeeperError::OutOfMemory);
     };
-    entries.push_reserved(Stamped {
+    let entry = Stamped {
         stamp,
         event: kept_event,
         result: kept,
-    });
-    Ok(Receipt {
+    };
+    let passed = add(entries, keep, entry);
+    let receipt = Receipt {
         place,
         stamp,
         event: told_event,
         result: told,
-    })
+    };
+    Ok((receipt, passed))
 }

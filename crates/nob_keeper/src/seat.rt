@@ -1,29 +1,36 @@
 //! Seats.
 
-ghost use Rattle.std.specs.Prelude.{◌≡◌, ◌≢◌, [], Some, None, Err, reverse, OnOk, OnErr, IfErr, MatchOption};
+ghost use Rattle.std.specs.Prelude.{◌≡◌, ◌≢◌, ◌<◌, ◌^◌, ◌++◌, ◌∷◌, [], List, Some, None, Err, length, reverse, OnOk, OnErr, IfErr, IfSome, MatchOption};
+ghost use Rattle.nob_keeper.specs.declared.keep.Keep.TheVariants as keeps;
+ghost use Rattle.nob_keeper.specs.declared.receipt.Receipt.{Receipt as ReceiptOf};
 ghost use Rattle.nob_keeper.specs.Accounts.{fault_of};
 ghost use Rattle.nob_keeper.specs.declared.error.KeeperError.{KeeperError as KeeperErrorOf};
 ghost use Rattle.nob_keeper.specs.Seats as seats;
 
 use crate::error::KeeperError;
+use crate::keep::Keep;
 use crate::kept::Kept;
 use crate::receipt::Receipt;
 use nob_model_types::Event;
+use nob_past::Past;
 use std::alloc::{AllocError, Global};
 use std::marker::Model;
 
 /// The place of one caller at a keeper: all receipts that its calls were given. Contracts see the
-/// list, the newest receipt first. What is let go of it is missed by `close_with`.
-#[derive(Debug, Drop)]
+/// list, the newest receipt first, those too that aren't kept: a keeper that keeps nothing leaves a
+/// seat the newest one alone. What is let go of it is missed by `close_with` and `end_with`.
+#[derive(Drop)]
 pub struct Seat {
-    // The first first.
-    receipts: Vec<Receipt>,
+    // The first first. The newest one is always there.
+    receipts: Past<Receipt>,
+    // Where its keeper has its newest entry, if it keeps no others.
+    spot: usize,
 }
 
 impl Model for Seat {
     ghost use Rattle.std.specs.Prelude.{List, reverse};
     ghost use Rattle.nob_keeper.specs.declared.receipt.Receipt.{Receipt};
-    ghost use Rattle.nob_keeper.specs.Seats.{PlacesRise};
+    ghost use Rattle.nob_keeper.specs.Seats.{PlacesRise, HasNewest};
 
     ghost Value = { List Receipt };
 
@@ -34,7 +41,8 @@ impl Model for Seat {
 
     ghost view = { λ seat. reverse seat.receipts.items };
 
-    ghost invariant = { λ seat. PlacesRise (reverse seat.receipts.items) };
+    ghost invariant = { λ seat. PlacesRise (reverse seat.receipts.items)
+        × HasNewest seat.receipts };
 }
 
 impl Seat {
@@ -43,15 +51,28 @@ impl Seat {
         ensures { result ≡ [] }
     {
         Seat {
-            receipts: Vec::new(alloc),
+            receipts: Past::new(alloc),
+            spot: 0,
         }
     }
 
-    /// The receipts, the first first.
+    /// The receipts that are kept, the first first: the last ones, the newest among them.
     pub fn receipts(&self) -> &[Receipt]
-        ensures { result.now ≡ reverse self.now }
+        ensures { (earlier : List ReceiptOf) × (reverse self.now ≡ earlier ++ result.now) }
     {
-        self.receipts.as_slice()
+        self.receipts.kept()
+    }
+
+    /// All receipts, the first first, where all were kept.
+    pub fn whole(&self) -> Option<&[Receipt]>
+        ensures { IfSome result (λ whole. whole.now ≡ reverse self.now) }
+    {
+        self.receipts.whole()
+    }
+
+    // Where its keeper has its newest entry, if it keeps no others.
+    pub(crate) fn spot(&self) -> usize {
+        self.spot
     }
 
     /// The newest receipt, if there is one.
@@ -66,7 +87,7 @@ impl Seat {
     pub(crate) fn make_room(&mut self) -> Result<(), AllocError>
         ensures { self.new ≡ self.old }
     {
-        self.receipts.reserve(1)
+        self.receipts.reserve()
     }
 
     /// One call, without a lock: an event of the space, whose receipt is added. K4 where the trace
@@ -77,23 +98,42 @@ impl Seat {
         ensures next { OnOk result (seats.AddsNext self.old self.new event.now seen) }
         ensures entry { OnOk result (seats.AddsTo kept.old kept.new self.old self.new event.now
             seen) }
+        // Of a seat that has asked the newest entry stays, and so do those of other seats.
+        ensures stays { OnOk result (seats.StaysNewest kept.old kept.new self.old self.new) }
         // K4 comes exactly where it is due, and then K1 and K3.
         ensures seats { (seats.Has kept.old.entries self.old → ⊥)
             → result ≡ Err KeeperError.Seats }
         ensures fault { (fault : KeeperErrorOf) → seats.Has kept.old.entries self.old
+            → seats.IsThere kept.old self.old
             → fault_of kept.old seen ≡ Some fault → result ≡ Err fault }
         ensures only { IfErr result (λ error. error ≢ KeeperError.OutOfMemory
             → seats.IsFault kept.old self.old seen error) }
         ensures err { OnErr result (self.new ≡ self.old) }
         ensures kept { OnErr result (kept.new ≡ kept.old) }
     {
-        kept.check(self)?;
+        let spot = kept.spot_of(self)?;
         kept.admit(seen)?;
-        let Ok(()) = self.receipts.reserve(1) else {
+        let Ok(()) = self.receipts.reserve() else {
             return Err(KeeperError::OutOfMemory);
         };
-        let receipt = kept.append(event, seen)?;
-        self.receipts.push_reserved(receipt);
+        let receipt = kept.append_at(spot, event, seen)?;
+        self.spot = spot;
+        add(&mut self.receipts, kept.keep(), receipt);
         Ok(())
+    }
+}
+
+// One receipt more, at the place that there is for it: where nothing is kept the only one.
+fn add(receipts: &mut Past<Receipt>, keep: Keep, receipt: Receipt)
+    requires room { 0 < receipts.old.room }
+    requires few { length receipts.old.items < 2 ^ 63 }
+    ensures items { receipts.new.items ≡ receipts.old.items ++ receipt ∷ [] }
+    ensures all { keep ≡ keeps.All → receipts.new.gone ≡ receipts.old.gone }
+    ensures one { keep ≡ keeps.Nothing → receipts.new.gone ≡ length receipts.old.items }
+    ensures newest { seats.HasNewest receipts.old → seats.HasNewest receipts.new }
+{
+    match keep {
+        Keep::All => receipts.push_reserved(receipt),
+        Keep::Nothing => receipts.put_reserved(receipt),
     }
 }

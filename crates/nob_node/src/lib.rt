@@ -12,6 +12,7 @@ pub use app::App;
 pub use error::NodeError;
 pub use hold::{Hold, Returned};
 pub use nob_keeper::KeeperError;
+pub use nob_keeper::{Backlog, Keep, PeerTally, Record, Summary, Tally};
 pub use nob_node_site::{Config, Ends, Gate, Left, OpenGate};
 pub use node::Node;
 pub use running::{Report, run};

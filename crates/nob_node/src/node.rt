@@ -1,9 +1,11 @@
 //! A node, as its application sees it.
 
-ghost use Rattle.std.specs.Prelude.{◌≡◌, [], Some, None, Ok, Err, reverse, IfOk, IfErr, IfSome, OnOk, OnErr};
+ghost use Rattle.std.specs.Prelude.{◌≡◌, ◌++◌, List, [], Some, None, Ok, Err, reverse, IfOk, IfErr, IfSome, OnOk, OnErr};
 ghost use Rattle.nob_model_types.specs.declared.event.Event.TheVariants as events;
 ghost use Rattle.nob_model_types.specs.declared.answer.Answer.TheVariants as answers;
 ghost use Rattle.nob_pickle.specs.declared.value.Value.TheVariants as values;
+ghost use Rattle.nob_keeper.specs.declared.receipt.Receipt.{Receipt as ReceiptOf};
+ghost use Rattle.nob_keeper.specs.Summaries as summaries;
 ghost use Rattle.nob_node.specs.Calls as calls;
 
 use crate::answers::{call_in, exported_in, is_done_in, refusal_in, returned_in};
@@ -12,7 +14,7 @@ use crate::hold::{Hold, Returned};
 use nob_bytes::Bytes;
 use nob_dispatch_objects::{Name, Object};
 use nob_ids::{CallNo, SpaceId, WireRep};
-use nob_keeper::{KeeperError, Receipt, Seat};
+use nob_keeper::{Backlog, KeeperError, Receipt, Seat, Tally};
 use nob_model_types::{Event, Refusal};
 use nob_node_site::{Calls, JobCalls, Kept, Site};
 use nob_pickle::Value;
@@ -329,11 +331,33 @@ impl<'x, B: Object> Node<'x, B> {
         }
     }
 
-    /// The receipts of its calls, the first first.
+    /// The receipts of its calls that are kept, the first first: all, or where nothing is kept the
+    /// newest.
     pub fn receipts(&self) -> &[Receipt]
-        ensures { result.now ≡ reverse self.now }
+        ensures { (earlier : List ReceiptOf) × (reverse self.now ≡ earlier ++ result.now) }
     {
         self.seat.receipts()
+    }
+
+    /// What went each way on the session with a peer, and how it ended: none where it is no peer.
+    pub fn tally<R: Wait>(&self, rt: &R, peer: SpaceId) -> Option<Tally>
+        ensures { summaries.IsTally peer result }
+    {
+        self.site.tally(rt, peer)
+    }
+
+    /// How many objects of this node are live.
+    pub fn live<R: Wait>(&self, rt: &R) -> u64
+        ensures { summaries.IsLive result }
+    {
+        self.site.live(rt)
+    }
+
+    /// How many calls of this node aren't taken, how many jobs are ready, and how many run.
+    pub fn backlog<R: Wait>(&self, rt: &R) -> Backlog
+        ensures { summaries.IsBacklog result }
+    {
+        self.site.backlog(rt)
     }
 }
 

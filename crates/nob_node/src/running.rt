@@ -1,5 +1,7 @@
 //! How a node runs.
 
+ghost use Rattle.std.specs.Prelude.{IfOk};
+ghost use Rattle.nob_keeper.specs.Summaries as summaries;
 ghost use denote.Param.Send.{IsSend, IsSync};
 
 use crate::app::App;
@@ -7,12 +9,11 @@ use crate::error::NodeError;
 use crate::node::Node;
 use nob_dispatch_lanes::LaneTake;
 use nob_dispatch_objects::Object;
-use nob_keeper::{Keeper, KeeperError, Seat};
+use nob_keeper::{Keep, Keeper, KeeperError, Record, Seat};
 use nob_node_site::{
     Config, Crew, Desk, Ends, Errand, Gate, Hand, Inbox, Kept, Left, Outbox, Parts, Place, Return,
     Shelf, Site, run_crew, site_of,
 };
-use nob_trace::Trace;
 use std::alloc::Global;
 use std::sync::{Mutex, Wait};
 use std::thread::{self, Threads};
@@ -20,8 +21,8 @@ use std::thread::{self, Threads};
 /// What a node leaves when it has ended.
 #[derive(Drop)]
 pub struct Report<B: Object> {
-    /// The trace of its space.
-    pub trace: Trace,
+    /// What was kept of the entries of its space: the trace, or what they come to.
+    pub record: Record,
     /// The application's objects that weren't withdrawn, by rising index.
     pub objects: Vec<Left<B>>,
 }
@@ -47,7 +48,7 @@ struct Remains<B: Object> {
 /// application runs. When that returns, no new job is claimed, methods that run go on to their ends,
 /// the end is put on each link, and what comes is taken until the peers' ends come. So a node ends
 /// after its peers' applications: each node wants a thread of its own. The application's objects
-/// come back in any case. J1 with K1 where the trace is full, with K2 where memory is wanted or a
+/// come back in any case. J1 with K1 where the trace is full, which one that isn't kept never is, with K2 where memory is wanted or a
 /// thread can't be made: then the application may not have run.
 pub fn run<B: Object + Send, R: Threads + Wait + Sync, G: Gate + Sync, A: App<B>>(
     rt: &R,
@@ -61,7 +62,7 @@ pub fn run<B: Object + Send, R: Threads + Wait + Sync, G: Gate + Sync, A: App<B>
         return without_memory(alloc);
     };
     let (crew, remains) = run_threads(rt, alloc, &site, gate, crew, app);
-    finish(rt, alloc, site, crew, remains)
+    finish(rt, alloc, config.keep(), site, crew, remains)
 }
 
 // What a node answers that has no memory for its parts.
@@ -138,6 +139,7 @@ fn rest_of<B: Object>(desk: Desk<Kept<B>>) -> Rest<B> {
 fn finish<B: Object, R: Wait>(
     rt: &R,
     alloc: Global,
+    kept: Keep,
     site: Site<B>,
     crew: Option<Crew<B>>,
     remains: Remains<B>,
@@ -165,7 +167,7 @@ fn finish<B: Object, R: Wait>(
     keep_all(&mut seats, outbox, inboxes);
     let objects = end_pool(rt, alloc, hands, rest, &mut seats);
     if is_whole && !has_failed {
-        return close(keeper, seats, objects);
+        return close(keeper, kept, seats, objects);
     }
     keeper.shut();
     let error = if is_whole {
@@ -190,18 +192,39 @@ fn keep_all(seats: &mut Vec<Seat>, outbox: Outbox, inboxes: Vec<Mutex<Inbox>>) {
     }
 }
 
-// The report of a node.
+// The report of a node of whose entries this was kept.
 fn close<B: Object>(
     keeper: Keeper,
+    kept: Keep,
     seats: Vec<Seat>,
     objects: Vec<Left<B>>,
 ) -> Result<Report<B>, (NodeError, Vec<Left<B>>)> {
-    match keeper.close_with(seats) {
-        Ok(trace) => Ok(Report { trace, objects }),
-        Err((error, keeper, _seats)) => {
+    match record_of(keeper, kept, seats) {
+        Ok(record) => Ok(Report { record, objects }),
+        Err((error, keeper)) => {
             keeper.shut();
             Err((NodeError::Keeper(error), objects))
         }
+    }
+}
+
+// What was kept: the trace, or what the entries come to.
+fn record_of(
+    keeper: Keeper,
+    kept: Keep,
+    seats: Vec<Seat>,
+) -> Result<Record, (KeeperError, Keeper)>
+    ensures record { IfOk result (λ record. summaries.IsRecordOf seats.items record) }
+{
+    match kept {
+        Keep::All => match keeper.close_with(seats) {
+            Ok(trace) => Ok(Record::Trace(trace)),
+            Err((error, keeper, _seats)) => Err((error, keeper)),
+        },
+        Keep::Nothing => match keeper.end_with(seats) {
+            Ok(summary) => Ok(Record::Summary(summary)),
+            Err((error, keeper, _seats)) => Err((error, keeper)),
+        },
     }
 }
 

@@ -2,10 +2,12 @@
 
 ghost use Rattle.std.specs.Prelude.{◌≡◌, ◌≤◌, [], IfSome, is_some};
 ghost use Rattle.nob_fault.specs.Shims.{opening};
+ghost use Rattle.nob_keeper.specs.declared.keep.Keep.TheVariants as keeps;
 ghost use Rattle.nob_node_site.specs.Configs as spec;
 
 use nob_fault::Shim;
 use nob_ids::{Limits, SpaceId};
+use nob_keeper::Keep;
 use nob_link::{PutEnd, TakeEnd};
 
 /// So many spaces there are at most.
@@ -23,6 +25,7 @@ pub struct Config {
     pub(crate) workers: usize,
     pub(crate) pause: u32,
     pub(crate) tick_every: u32,
+    pub(crate) keep: Keep,
     pub ghost some: { 1 ≤ n },
     pub ghost few: { n ≤ 32 },
     pub ghost hands: { 1 ≤ workers },
@@ -31,8 +34,8 @@ pub struct Config {
 impl Config {
     /// A space of so many, with these limits and 1 to 16 workers. What is out is transmitted again
     /// after `pause` turns of yielding, and the sessions' time ticks after every `tick_every` of
-    /// these repeats, never where that is 0. `None` where a number is out of its range, or there is
-    /// no such space.
+    /// these repeats, never where that is 0. All entries of its space are kept. `None` where a number
+    /// is out of its range, or there is no such space.
     pub fn new(
         space: SpaceId,
         n: u16,
@@ -44,7 +47,8 @@ impl Config {
         ensures some { is_some result ≡ spec.may_be space n workers }
         ensures config { IfSome result (λ config. (config.space ≡ space) × (config.n ≡ n)
             × (config.limits ≡ limits) × (config.workers ≡ workers)
-            × (config.pause ≡ pause) × (config.tick_every ≡ tick_every)) }
+            × (config.pause ≡ pause) × (config.tick_every ≡ tick_every)
+            × (config.keep ≡ keeps.All)) }
     {
         if n == 0 || n > MOST_SPACES || space.get() > n {
             return None;
@@ -59,7 +63,26 @@ impl Config {
             workers,
             pause,
             tick_every,
+            keep: Keep::All,
         })
+    }
+
+    /// The same node, which keeps this of its entries: all of them, and then it ends when there are
+    /// 2^20, or nothing, and then it runs as long as it is let.
+    pub fn keeping(self, keep: Keep) -> Config
+        ensures { (result.space ≡ self.space) × (result.n ≡ self.n)
+            × (result.limits ≡ self.limits) × (result.workers ≡ self.workers)
+            × (result.pause ≡ self.pause) × (result.tick_every ≡ self.tick_every)
+            × (result.keep ≡ keep) }
+    {
+        Config { keep, ..self }
+    }
+
+    /// What the node keeps of its entries.
+    pub fn keep(&self) -> Keep
+        ensures { result ≡ self.now.keep }
+    {
+        self.keep
     }
 }
 

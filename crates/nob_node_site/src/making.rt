@@ -46,7 +46,7 @@ fn keeper_of(alloc: Global, config: &Config) -> Option<Keeper> {
     let Ok(space) = Space::new(alloc, config.space, config.n, config.limits) else {
         return None;
     };
-    match Keeper::new(alloc, space) {
+    match Keeper::keeping(alloc, space, config.keep) {
         Ok(keeper) => Some(keeper),
         Err(space) => {
             space.shut();

@@ -1,14 +1,16 @@
 //! What the threads of a node share.
 
 ghost use Rattle.std.specs.Prelude.{◌≡◌, [], IfErr};
+ghost use Rattle.nob_keeper.specs.Summaries as summaries;
 
 use crate::inbox::{Inbox, Taken};
 use nob_agents::{Calls, Carer, Turn};
 use nob_dispatch::{Assigned, Desk, JobCalls, Place};
 use nob_dispatch_objects::{Agent, Object};
-use nob_ids::CallNo;
+use nob_ids::{CallNo, SpaceId};
 use nob_keeper::{
-    Dues, Keeper, KeeperError, Look, Prospects, Receipt, Seat, WorkKind, lock_soon, wakes_of,
+    Backlog, Dues, Keeper, KeeperError, Look, Prospects, Receipt, Seat, Tally, WorkKind, lock_soon,
+    wakes_of,
 };
 use nob_model_types::{Answer, Event};
 use nob_node_parts::{Idlers, Kept, Lookout, Outbox, Pulse};
@@ -253,6 +255,27 @@ impl<B: Object> Site<B> {
         if is_sealed && is_whole && outbox.put_ends(rt) {
             self.has_ended.store(true, Ordering::SeqCst);
         }
+    }
+
+    /// What went each way on the session with a peer, and how it ended: none where it is no peer.
+    pub fn tally<R: Wait>(&self, rt: &R, peer: SpaceId) -> Option<Tally>
+        ensures { summaries.IsTally peer result }
+    {
+        self.keeper.tally(rt, peer)
+    }
+
+    /// How many objects of the space are live.
+    pub fn live<R: Wait>(&self, rt: &R) -> u64
+        ensures { summaries.IsLive result }
+    {
+        self.keeper.live(rt)
+    }
+
+    /// How many own calls aren't taken, how many jobs are ready, and how many run.
+    pub fn backlog<R: Wait>(&self, rt: &R) -> Backlog
+        ensures { summaries.IsBacklog result }
+    {
+        self.keeper.backlog(rt)
     }
 
     /// A turn of what transmits that also repeats what is out: what came of it, by what the keeper

@@ -6,7 +6,7 @@ use nob_dispatch_objects::Object;
 use nob_fault::Shim;
 use nob_ids::{Limits, SpaceId};
 use nob_link::link;
-use nob_node::{App, Config, Ends, OpenGate, Report, run};
+use nob_node::{App, Config, Ends, Keep, OpenGate, Report, run};
 use std::alloc::Global;
 use std::sync::{Barrier, Wait};
 use std::thread::Threads;
@@ -54,7 +54,8 @@ pub(crate) fn both_sides(alloc: Global) -> Option<(Side, Side)> {
 
 // How the node of a space runs.
 fn config_of(space: SpaceId) -> Option<Config> {
-    Config::new(space, 2, Limits::default(), WORKERS, PAUSE, 0)
+    let config = Config::new(space, 2, Limits::default(), WORKERS, PAUSE, 0)?;
+    Some(config.keeping(Keep::Nothing))
 }
 
 /// Runs the node of a side until both players have returned: the player, where the node didn't

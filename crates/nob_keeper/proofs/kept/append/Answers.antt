@@ -1,4 +1,4 @@
-use Rattle.std.proofs.Common.{◌≡◌, ℕ, ◌<◌, ◌≤◌, ◌++◌, ◌∷◌, [], List, length, refl, sym, ap, subst, ◌∙◌, arith}
+use Rattle.std.proofs.Common.{◌≡◌, ℕ, ◌<◌, ◌≤◌, ◌++◌, ◌∷◌, [], List, true, length, refl, sym, ap, subst, ◌∙◌, arith}
 use Rattle.std.proofs.lemmas.Bool.Decides.{nat_tests}
 use Rattle.nob_model_types.specs.declared.event.Event.{Event}
 use Rattle.nob_model.specs.Right.{right}
@@ -10,17 +10,4 @@ use Rattle.nob_keeper.proofs.Accounts.{kept_next}
 use Rattle.nob_keeper.proofs.kept.append.Goals as goal
 
 pub returns-clause-kept : goal.returns-clause-kept
-returns-clause-kept c =
-    let told = c.in-Ok-ask.ensures {u = tt} in
-    let s = c.args.space.now in
-    let entry : Stamped = record { stamp = c.next_stamp-stamp.result; event = c.in-Ok-copy.kept_event; result = c.in-Ok-ask.kept } in
-    let copied : entry.event ≡ c.args.event.now = c.in-Ok-copy.ensures {u = tt} in
-    let items : c.push_reserved.new.self.items ≡ c.args.entries.now.items ++ entry ∷ [] = c.push_reserved.ensures.items ∙ ap (λ (es : List Stamped). es ++ entry ∷ []) c.reserve.ensures.items in
-    let room : length c.args.entries.now.items < accounts.most_entries = grind (arith, nat_tests, c.if-len-ge-MOST_ENTRIES.false, c.len.ensures) in
-    let low : c.args.seen ≤ accounts.last_seen = grind (arith, nat_tests, c.if-seen-gt-LAST_SEEN.false) in
-    let last : stamps.last_stamp 0 c.as_slice.result.now ≡ stamps.last_stamp 0 c.args.entries.now.items = ap (stamps.last_stamp 0) (c.as_slice.ensures.value ∙ c.reserve.ensures.items) in
-    let stamp : entry.stamp ≡ accounts.next_stamp (stamps.last_stamp 0 c.args.entries.now.items) c.args.seen = c.next_stamp-stamp.ensures ∙ ap (λ (last : ℕ). accounts.next_stamp last c.args.seen) last in
-    let result = told.answer (accounts.list_of s.id c.args.entries.now.items) c.requires.stands ∙ ap (right s.id s.n s.limits (accounts.list_of s.id c.args.entries.now.items)) (sym copied) in
-    let stands = subst (λ (event : Event). StandsFor c.ask.new.space (record { space = s.id; event = event; result = entry.result } ∷ accounts.list_of s.id c.args.entries.now.items)) (sym copied) (told.stands (accounts.list_of s.id c.args.entries.now.items) c.requires.stands) in
-    subst (λ (es : List Stamped). accounts.IsKept c.ask.new.space (accounts.account_of c.ask.new.space es)) (sym items)
-    (kept_next s c.ask.new.space c.args.entries.now.items entry c.args.seen c.requires told.same room low stamp result stands)
+returns-clause-kept c = ?

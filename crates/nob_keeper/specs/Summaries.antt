@@ -1,0 +1,65 @@
+-- What is left of a space of which no trace is kept.
+use Rattle.std.specs.Prelude.{◌≡◌, ℕ, ◌+◌, List, [], ◌∷◌, ◌++◌, length, Option, Some, None, if◌then◌else◌}
+use Prim.Native.Nat.{zero, suc}
+use Rattle.nob_model_types.specs.Sessions.{is_peer}
+use Rattle.nob_model_types.specs.declared.tally.Tally.{Tally}
+use Rattle.nob_model_types.specs.declared.tally.Backlog.{Backlog}
+use Rattle.nob_model.specs.Tallies.{tally, live_count, backlog}
+use Rattle.nob_trace.specs.Stamps.{last_stamp}
+use Rattle.nob_trace.specs.declared.trace.Trace.{Trace}
+use Rattle.nob_keeper.specs.Accounts.{Account, IsAccount, account_in, history_in}
+use Rattle.nob_keeper.specs.Closing.{AreOf, receipts_of}
+use Rattle.nob_keeper.specs.Seats.{HasAll}
+use Rattle.nob_keeper.specs.declared.receipt.Receipt.{Receipt}
+use Rattle.nob_keeper.specs.declared.summary.PeerTally.{PeerTally}
+use Rattle.nob_keeper.specs.declared.summary.Summary.{Summary}
+use Rattle.nob_keeper.specs.declared.summary.Record.{Record}
+use Rattle.nob_keeper.specs.declared.summary.Record.TheVariants as records
+
+-- the tally of the session with a peer, none where it is no peer
+abbrev pub tally_in : Account → ℕ → Option Tally
+tally_in account peer = if is_peer account.id account.n peer then Some (tally peer (history_in account)) else None
+
+-- tallies with that of one space more, where it is a peer
+abbrev pub with_tally : Account → ℕ → List PeerTally → List PeerTally
+with_tally account peer tallies = if is_peer account.id account.n peer then tallies ++ record { peer = peer; tally = tally peer (history_in account) } ∷ [] else tallies
+
+-- the tallies of the sessions with the peers among the first so many spaces, by rising peer
+abbrev pub tallies_to : Account → ℕ → List PeerTally
+tallies_to account zero = []
+tallies_to account (suc count) = with_tally account (count + 1) (tallies_to account count)
+
+-- a summary is what the entries of an account come to
+pub record IsSummary (account : Account) (summary : Summary) : Type 0 where
+  pub space : summary.space ≡ account.id
+  pub n : summary.n ≡ account.n
+  pub entries : summary.entries ≡ length account.entries
+  pub last_stamp_is : summary.last_stamp ≡ last_stamp 0 account.entries
+  pub live : summary.live ≡ live_count account.id (history_in account)
+  pub peers : summary.peers ≡ tallies_to account account.n
+
+-- a tally is that of the session with a peer in an account of right entries
+abbrev pub IsTally : ℕ → Option Tally → Type 0
+IsTally peer answer = (account : Account) × IsAccount account × (answer ≡ tally_in account peer)
+
+-- a number is how many objects are live in an account of right entries
+abbrev pub IsLive : ℕ → Type 0
+IsLive count = (account : Account) × IsAccount account × (count ≡ live_count account.id (history_in account))
+
+-- a backlog is that of an account of right entries
+abbrev pub IsBacklog : Backlog → Type 0
+IsBacklog answer = (account : Account) × IsAccount account × (answer ≡ backlog (history_in account))
+
+-- a summary is what the right entries of an account come to, of which the newest receipts of these seats are told
+abbrev pub IsSummaryOf : List (List Receipt) → Summary → Type 0
+IsSummaryOf seats summary = (account : Account) × IsAccount account × HasAll account.entries seats × IsSummary account summary
+
+-- the trace of a record, if it has one
+abbrev pub trace_in : Record → Option Trace
+trace_in (records.Trace trace) = Some trace
+trace_in (records.Summary summary) = None
+
+-- a record is a trace of which the receipts of these seats are those of the entries, each once; or a summary of right entries of which the newest receipts of these seats are told
+abbrev pub IsRecordOf : List (List Receipt) → Record → Type 0
+IsRecordOf seats (records.Trace trace) = AreOf trace.entries (receipts_of seats) × IsAccount (account_in trace)
+IsRecordOf seats (records.Summary summary) = IsSummaryOf seats summary
