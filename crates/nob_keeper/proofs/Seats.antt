@@ -1,12 +1,13 @@
 -- A seat with one receipt more.
-use Rattle.std.proofs.Common.{◌≡◌, ℕ, ◌+◌, ◌-◌, ◌<◌, ◌≤◌, max, List, [], ◌∷◌, ◌++◌, length, reverse, refl, sym, ap, subst, ◌∙◌, arith}
+use Rattle.std.proofs.Common.{◌≡◌, inl, inr, ℕ, ◌+◌, ◌-◌, ◌<◌, ◌≤◌, max, List, [], ◌∷◌, ◌++◌, length, reverse, refl, sym, ap, subst, ◌∙◌, arith}
 use Rattle.std.proofs.lemmas.List.{reverse-append}
 use Rattle.std.proofs.lemmas.Option.{slice_get_within}
 use Rattle.std.proofs.Math.Nat.{le-max_right}
 use Rattle.nob_trace.specs.declared.stamped.Stamped.{Stamped}
 use Rattle.nob_keeper.specs.declared.receipt.Receipt.{Receipt}
 use Rattle.nob_keeper.specs.Receipts.{entry_of}
-use Rattle.nob_keeper.specs.Seats.{Above, PlacesRise, Has}
+use Rattle.nob_past.specs.Lists.{Listed}
+use Rattle.nob_keeper.specs.Seats.{Above, HasNewest, PlacesRise, Has}
 
 -- the receipt behind others is the newest
 pub receipts_next : (before now : List Receipt) (receipt : Receipt) → now ≡ before ++ receipt ∷ [] → reverse now ≡ receipt ∷ reverse before
@@ -27,3 +28,10 @@ above_next entries (receipt ∷ earlier) place has rise is =
 -- the next stamp is above what was seen
 pub stamp_above : (last seen stamp : ℕ) → stamp ≡ max last seen + 1 → seen < stamp
 stamp_above last seen stamp is = let top : seen ≤ max last seen = le-max_right last seen in omega (arith, top, is)
+
+-- the newest item of a list is there where it was, while nothing is added and nothing let go
+pub newest_same : {T : Type 0} (old new : Listed T) → new.items ≡ old.items → new.gone ≡ old.gone → HasNewest old → HasNewest new
+newest_same old new items gone has = elim has as (λ h. HasNewest new) [
+  | inl nothing ↦ inl (gone ∙ nothing)
+  | inr fewer ↦ inr (let same = ap length items in omega (arith, fewer, gone, same))
+]
