@@ -1,3 +1,4 @@
+pub mod Staying
 pub mod Accounts
 pub mod Seats
 pub mod Marks

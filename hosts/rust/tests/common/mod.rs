@@ -28,16 +28,12 @@ pub fn files(folder: &str, ending: &str) -> Vec<String> {
 }
 
 /// What `nobj` writes, with a word, for an input. The launcher, which makes the program where there
-/// is none, is asked once; after that the program that it starts.
+/// is none, is asked once for its path.
 pub fn nobj(word: &str, input: &[u8]) -> String {
     static PROGRAM: OnceLock<PathBuf> = OnceLock::new();
     let program = PROGRAM.get_or_init(|| {
-        let (_, said) = run(&in_repository("nobj"), "script", b"spaces 1\n");
-        let is_unproved = said.contains("unproved");
-        in_repository(match is_unproved {
-            true => "crates/nob_demo/out/unproved/nobj",
-            false => "crates/nob_demo/out/nob_demo",
-        })
+        let (path, _) = run(&in_repository("nobj"), "--program", b"");
+        PathBuf::from(path.trim_end())
     });
     run(program, word, input).0
 }
