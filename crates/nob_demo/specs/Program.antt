@@ -99,11 +99,12 @@ draw_status_of draw_endings.Drawn = 0
 draw_status_of draw_endings.Refused = 1
 draw_status_of draw_endings.OutOfMemory = 1
 
--- the status that the play of a scene ends with: 0 where its traces are accepted, or printed
+-- the status that the play of a scene ends with: 0 where its traces are accepted or printed, or there are none
 abbrev pub scene_status_of : SceneEnding → ℕ
 scene_status_of scene_endings.Accepted = 0
 scene_status_of scene_endings.Refused = 1
 scene_status_of scene_endings.Printed = 0
+scene_status_of scene_endings.Unchecked = 0
 scene_status_of scene_endings.Full = 1
 scene_status_of scene_endings.OutOfMemory = 1
 
@@ -120,7 +121,7 @@ abbrev pub IsInput : (reads : Bool) → Reading → (bytes : List ℕ) → Type 
 IsInput true r bytes = IsWhole r × (length bytes ≡ r.bytes) × IfSome r.input (λ input. bytes ≡ input)
 IsInput false r bytes = (r.reads ≡ 0) × (bytes ≡ [])
 
--- what a subcommand writes for an input, and its status; the verdict is never no. Of a scene: what may be written of some traces and some tally
+-- what a subcommand writes for an input, and its status; the verdict is never no. Of a scene: what may be written of some score, some traces and some summaries
 abbrev pub Does : Subcommand → (input text : List ℕ) → (status : ℕ) → Type 0
 Does Pair input text status = (outcome : Outcome) × Plays input text outcome × (status ≡ status_of outcome)
 Does Script input text status = (ending : Ending) × worlds.Plays input text ending × worlds.SaysYes ending × (status ≡ world_status_of ending)

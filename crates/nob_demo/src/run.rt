@@ -20,8 +20,8 @@ use std::thread::Threads;
 
 /// Runs the program on the words of its command line, the first of which is its name: the exit
 /// status. All is written to `out` but clap's text and the line `read fault`, which go to `err`.
-/// Status 0: the last line says yes, or a scene's traces are printed, or traces that `check`
-/// accepts are drawn; 1: none of these, or a read, a write or memory failed; 2: the words are
+/// Status 0: the last line says yes, or a scene's traces are printed or it kept none, or traces that
+/// `check` accepts are drawn; 1: none of these, or a read, a write or memory failed; 2: the words are
 /// refused. A scene reads nothing, and its spaces run in threads.
 pub fn run<H: Threads + Wait + Sync, S: AsStr, R: Read, W: Write, E: Write>(
     rt: &H,
@@ -185,6 +185,7 @@ fn scene_status_of(ending: nob_demo_spaces::Ending) -> u8
         nob_demo_spaces::Ending::Accepted => 0,
         nob_demo_spaces::Ending::Refused => 1,
         nob_demo_spaces::Ending::Printed => 0,
+        nob_demo_spaces::Ending::Unchecked => 0,
         nob_demo_spaces::Ending::Full => 1,
         nob_demo_spaces::Ending::OutOfMemory => 1,
     }

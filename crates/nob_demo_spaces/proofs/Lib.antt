@@ -5,3 +5,4 @@ pub mod Faults
 pub mod Readings
 pub mod Taken
 pub mod Within
+pub mod Commands

@@ -11,10 +11,9 @@ use Rattle.nob_model_traces.specs.declared.fault.CheckFault.{CheckFault}
 use Rattle.nob_model_traces.specs.declared.fault.CheckError.{CheckError}
 use Rattle.nob_model_traces.specs.declared.fault.CheckError.TheVariants as check_errors
 use Rattle.nob_model_traces.specs.Faults.{IsChecked, AreAccepted}
-use Rattle.nob_demo_spaces.specs.Scenes.{Setting}
 use Rattle.nob_demo_spaces.specs.Lines.{lines}
-use Rattle.nob_demo_spaces.specs.Endings.{Judges, Tells, TellsBy}
-use Rattle.nob_demo_spaces.specs.declared.tally.Tally.{Tally}
+use Rattle.nob_demo_spaces.specs.Endings.{Judges, TellsTraces}
+use Rattle.nob_demo_spaces.specs.declared.score.Score.{Score}
 use Rattle.nob_demo_spaces.specs.declared.ending.Ending.{Ending}
 use Rattle.nob_demo_spaces.specs.declared.ending.Ending.TheVariants.{Accepted, Refused}
 
@@ -31,13 +30,13 @@ printed_more traces i item old bytes new below is before said more =
     one_more = ap (λ (n : ℕ). take n traces) (add-one i) ∙ take-suc traces i item below ∙ ap (λ (x : Trace). take i traces ++ x ∷ []) (sym is)
 
 -- what is said of traces that are to be checked
-judged : (setting : Setting) (tally : Tally) (traces : List Trace) (text : List ℕ) (ending : Ending) → setting.traces ≡ false → Judges tally traces text ending → Tells setting tally traces text ending
-judged setting tally traces text ending checks judges = subst (λ (prints : Bool). TellsBy prints tally traces text ending) (sym checks) judges
+judged : (prints : Bool) (score : Score) (traces : List Trace) (text : List ℕ) (ending : Ending) → prints ≡ false → Judges score traces text ending → TellsTraces prints score traces text ending
+judged prints score traces text ending checks judges = subst (λ (prints : Bool). TellsTraces prints score traces text ending) (sym checks) judges
 
 -- the lines of accepted traces
-pub accepted_told : (setting : Setting) (tally : Tally) (traces : List Trace) (merged : List Entry) (text : List ℕ) → setting.traces ≡ false → AreAccepted traces merged → IsSafe (length traces) (reverse merged) → text ≡ lines tally true → Tells setting tally traces text Accepted
-accepted_told setting tally traces merged text checks right safe is = judged setting tally traces text Accepted checks (Judges.accepted merged right safe is refl)
+pub accepted_told : (prints : Bool) (score : Score) (traces : List Trace) (merged : List Entry) (text : List ℕ) → prints ≡ false → AreAccepted traces merged → IsSafe (length traces) (reverse merged) → text ≡ lines score true → TellsTraces prints score traces text Accepted
+accepted_told prints score traces merged text checks right safe is = judged prints score traces text Accepted checks (Judges.accepted merged right safe is refl)
 
 -- the lines of refused traces
-pub refused_told : (setting : Setting) (tally : Tally) (traces : List Trace) (fault : CheckFault) (text : List ℕ) → setting.traces ≡ false → (error : CheckError) → error ≡ check_errors.Fault fault → IsChecked (λ (merged : List Entry). merged) traces (Err error) → text ≡ lines tally false → Tells setting tally traces text Refused
-refused_told setting tally traces fault text checks error error_is wrong is = judged setting tally traces text Refused checks (Judges.refused fault (subst (λ (e : CheckError). IsChecked (λ (merged : List Entry). merged) traces (Err e)) error_is wrong) is refl)
+pub refused_told : (prints : Bool) (score : Score) (traces : List Trace) (fault : CheckFault) (text : List ℕ) → prints ≡ false → (error : CheckError) → error ≡ check_errors.Fault fault → IsChecked (λ (merged : List Entry). merged) traces (Err error) → text ≡ lines score false → TellsTraces prints score traces text Refused
+refused_told prints score traces fault text checks error error_is wrong is = judged prints score traces text Refused checks (Judges.refused fault (subst (λ (e : CheckError). IsChecked (λ (merged : List Entry). merged) traces (Err e)) error_is wrong) is refl)

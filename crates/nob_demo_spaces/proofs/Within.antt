@@ -18,8 +18,11 @@ use Rattle.clap.specs.declared.builder.value_parser.ValueParser.TheVariants.{Uns
 use Rattle.clap.specs.declared.builder.value_parser.Reading.{Reading}
 use Rattle.clap.specs.declared.builder.value_parser.Reading.TheVariants.{AsWritten}
 use Rattle.clap.proofs.ValueTestLemmas.{accepts-Accepts}
+use Rattle.nob_keeper.specs.declared.keep.Keep.{Keep}
+use Rattle.nob_keeper.specs.declared.keep.Keep.TheVariants as keeps
+use Rattle.nob_demo_spaces.specs.Scenes.{most_calls}
 use Rattle.nob_demo_spaces.specs.Options.{AreWithin, DrawIsWithin, IsWithin, SceneIsWithin, greatest}
-use Rattle.nob_demo_spaces.specs.Words.{TakenAreWithin, nobj, takes_words, word_faults}
+use Rattle.nob_demo_spaces.specs.Words.{TakenAreWithin, keep_in, nobj, takes_words, word_faults}
 use Rattle.nob_demo_spaces.proofs.Taken.{Good, IsOwn, find_own, good_level, left_none, never, right_none}
 
 -- ---- one option
@@ -62,10 +65,10 @@ within c rows all lowest highest name has = go (one_of name rows) refl
 
 -- ---- the subcommands
 
-record HasNumbers (c : List Rule) : Type 0 where
+record HasNumbers (keep : Keep) (c : List Rule) : Type 0 where
   spaces : HasNumber 2 8 (codes "spaces") c
   workers : HasNumber 1 16 (codes "workers") c
-  calls : HasNumber 0 10000 (codes "calls") c
+  calls : HasNumber 0 (most_calls keep) (codes "calls") c
   loss : HasNumber 0 9 (codes "loss") c
   seed : HasNumber 0 greatest (codes "seed") c
 
@@ -74,45 +77,76 @@ record HasRows (c : List Rule) : Type 0 where
   to : HasNumber 1 greatest (codes "to") c
 
 -- the rules of a subcommand are found by their names, and the subcommands `spaces` and `draw` have the numbers
-record IsRight (s : Shape) : Type 0 where
+record IsRight (keep : Keep) (s : Shape) : Type 0 where
   own : All (IsOwn s.rules) s.rules
-  scene : bytes_eq s.name (codes "spaces") ≡ true → HasNumbers s.rules
+  scene : bytes_eq s.name (codes "spaces") ≡ true → HasNumbers keep s.rules
   draw : bytes_eq s.name (codes "draw") ≡ true → HasRows s.rules
 
-abbrev leaf : ℕ → Shape
-leaf i = slice_index_or (built nobj).subs i help_shape
+abbrev leaf : Keep → ℕ → Shape
+leaf keep i = slice_index_or (built (nobj keep)).subs i help_shape
 
-pair_right : IsRight (leaf 0)
-pair_right = record {
-  own = All-from_recursion (IsOwn (leaf 0).rules) (leaf 0).rules ((refl, refl), tt);
+pair_right : (keep : Keep) → IsRight keep (leaf keep 0)
+pair_right keeps.All = record {
+  own = All-from_recursion (IsOwn (leaf keeps.All 0).rules) (leaf keeps.All 0).rules ((refl, refl), tt);
+  scene = λ e. absurd (true≢false (sym e));
+  draw = λ e. absurd (true≢false (sym e));
+}
+pair_right keeps.Nothing = record {
+  own = All-from_recursion (IsOwn (leaf keeps.Nothing 0).rules) (leaf keeps.Nothing 0).rules ((refl, refl), tt);
   scene = λ e. absurd (true≢false (sym e));
   draw = λ e. absurd (true≢false (sym e));
 }
 
-script_right : IsRight (leaf 1)
-script_right = record {
-  own = All-from_recursion (IsOwn (leaf 1).rules) (leaf 1).rules ((refl, refl), tt);
+script_right : (keep : Keep) → IsRight keep (leaf keep 1)
+script_right keeps.All = record {
+  own = All-from_recursion (IsOwn (leaf keeps.All 1).rules) (leaf keeps.All 1).rules ((refl, refl), tt);
+  scene = λ e. absurd (true≢false (sym e));
+  draw = λ e. absurd (true≢false (sym e));
+}
+script_right keeps.Nothing = record {
+  own = All-from_recursion (IsOwn (leaf keeps.Nothing 1).rules) (leaf keeps.Nothing 1).rules ((refl, refl), tt);
   scene = λ e. absurd (true≢false (sym e));
   draw = λ e. absurd (true≢false (sym e));
 }
 
-check_right : IsRight (leaf 2)
-check_right = record {
-  own = All-from_recursion (IsOwn (leaf 2).rules) (leaf 2).rules ((refl, refl), tt);
+check_right : (keep : Keep) → IsRight keep (leaf keep 2)
+check_right keeps.All = record {
+  own = All-from_recursion (IsOwn (leaf keeps.All 2).rules) (leaf keeps.All 2).rules ((refl, refl), tt);
+  scene = λ e. absurd (true≢false (sym e));
+  draw = λ e. absurd (true≢false (sym e));
+}
+check_right keeps.Nothing = record {
+  own = All-from_recursion (IsOwn (leaf keeps.Nothing 2).rules) (leaf keeps.Nothing 2).rules ((refl, refl), tt);
   scene = λ e. absurd (true≢false (sym e));
   draw = λ e. absurd (true≢false (sym e));
 }
 
-draw_right : IsRight (leaf 3)
-draw_right = record {
-  own = All-from_recursion (IsOwn (leaf 3).rules) (leaf 3).rules ((refl, refl), ((refl, refl), ((refl, refl), tt)));
+draw_right : (keep : Keep) → IsRight keep (leaf keep 3)
+draw_right keeps.All = record {
+  own = All-from_recursion (IsOwn (leaf keeps.All 3).rules) (leaf keeps.All 3).rules ((refl, refl), ((refl, refl), ((refl, refl), tt)));
+  scene = λ e. absurd (true≢false (sym e));
+  draw = λ e. record { from = (_, refl, refl); to = (_, refl, refl) };
+}
+draw_right keeps.Nothing = record {
+  own = All-from_recursion (IsOwn (leaf keeps.Nothing 3).rules) (leaf keeps.Nothing 3).rules ((refl, refl), ((refl, refl), ((refl, refl), tt)));
   scene = λ e. absurd (true≢false (sym e));
   draw = λ e. record { from = (_, refl, refl); to = (_, refl, refl) };
 }
 
-spaces_right : IsRight (leaf 4)
-spaces_right = record {
-  own = All-from_recursion (IsOwn (leaf 4).rules) (leaf 4).rules ((refl, refl), ((refl, refl), ((refl, refl), ((refl, refl), ((refl, refl), ((refl, refl), ((refl, refl), tt)))))));
+spaces_right : (keep : Keep) → IsRight keep (leaf keep 4)
+spaces_right keeps.All = record {
+  own = All-from_recursion (IsOwn (leaf keeps.All 4).rules) (leaf keeps.All 4).rules ((refl, refl), ((refl, refl), ((refl, refl), ((refl, refl), ((refl, refl), ((refl, refl), ((refl, refl), tt)))))));
+  scene = λ e. record {
+    spaces = (_, refl, refl);
+    workers = (_, refl, refl);
+    calls = (_, refl, refl);
+    loss = (_, refl, refl);
+    seed = (_, refl, refl);
+  };
+  draw = λ e. absurd (true≢false (sym e));
+}
+spaces_right keeps.Nothing = record {
+  own = All-from_recursion (IsOwn (leaf keeps.Nothing 4).rules) (leaf keeps.Nothing 4).rules ((refl, refl), ((refl, refl), ((refl, refl), ((refl, refl), ((refl, refl), ((refl, refl), ((refl, refl), tt)))))));
   scene = λ e. record {
     spaces = (_, refl, refl);
     workers = (_, refl, refl);
@@ -123,15 +157,21 @@ spaces_right = record {
   draw = λ e. absurd (true≢false (sym e));
 }
 
-help_right : IsRight (leaf 5)
-help_right = record {
-  own = All-from_recursion (IsOwn (leaf 5).rules) (leaf 5).rules ((refl, refl), tt);
+help_right : (keep : Keep) → IsRight keep (leaf keep 5)
+help_right keeps.All = record {
+  own = All-from_recursion (IsOwn (leaf keeps.All 5).rules) (leaf keeps.All 5).rules ((refl, refl), tt);
+  scene = λ e. absurd (true≢false (sym e));
+  draw = λ e. absurd (true≢false (sym e));
+}
+help_right keeps.Nothing = record {
+  own = All-from_recursion (IsOwn (leaf keeps.Nothing 5).rules) (leaf keeps.Nothing 5).rules ((refl, refl), tt);
   scene = λ e. absurd (true≢false (sym e));
   draw = λ e. absurd (true≢false (sym e));
 }
 
-all_right : All IsRight (built nobj).subs
-all_right = All-from_recursion IsRight (built nobj).subs (pair_right, (script_right, (check_right, (draw_right, (spaces_right, (help_right, tt))))))
+all_right : (keep : Keep) → All (IsRight keep) (built (nobj keep)).subs
+all_right keeps.All = All-from_recursion (IsRight keeps.All) (built (nobj keeps.All)).subs (pair_right keeps.All, (script_right keeps.All, (check_right keeps.All, (draw_right keeps.All, (spaces_right keeps.All, (help_right keeps.All, tt))))))
+all_right keeps.Nothing = All-from_recursion (IsRight keeps.Nothing) (built (nobj keeps.Nothing)).subs (pair_right keeps.Nothing, (script_right keeps.Nothing, (check_right keeps.Nothing, (draw_right keeps.Nothing, (spaces_right keeps.Nothing, (help_right keeps.Nothing, tt))))))
 
 -- ---- the whole
 
@@ -139,11 +179,11 @@ no_kinds : (ks : Kinds) → takes_words ks ≡ true → ks ≡ []
 no_kinds [] e = refl
 no_kinds (k ∷ ks) e = absurd (true≢false (sym e))
 
-scene_within : (s : Shape) (rows : List Row) → All (Good s.rules) rows → HasNumbers s.rules → SceneIsWithin rows
+scene_within : (s : Shape) (rows : List Row) → All (Good s.rules) rows → HasNumbers keep s.rules → SceneIsWithin rows
 scene_within s rows all has = record {
   spaces = within s.rules rows all 2 8 (codes "spaces") has.spaces;
   workers = within s.rules rows all 1 16 (codes "workers") has.workers;
-  calls = within s.rules rows all 0 10000 (codes "calls") has.calls;
+  calls = within s.rules rows all 0 (most_calls keep) (codes "calls") has.calls;
   loss = within s.rules rows all 0 9 (codes "loss") has.loss;
   seed = within s.rules rows all 0 greatest (codes "seed") has.seed;
 }
@@ -154,27 +194,28 @@ draw_within s rows all has = record {
   to = within s.rules rows all 1 greatest (codes "to") has.to;
 }
 
-are_within : (s : Shape) → IsRight s → (name : Text) (rows : List Row) → All (Good s.rules) rows → s.name ≡ name → AreWithin name rows
-are_within s is name rows all named = record {
-  scene = λ e. scene_within s rows all (is.scene ((bytes_eq-Decides s.name (codes "spaces")).1 (named ∙ e)));
+are_within : (keep : Keep) (s : Shape) → IsRight keep s → (name : Text) (rows : List Row) → All (Good s.rules) rows → s.name ≡ name → AreWithin keep name rows
+are_within keep s is name rows all named = record {
+  scene = λ e. scene_within keep s rows all (is.scene ((bytes_eq-Decides s.name (codes "spaces")).1 (named ∙ e)));
   draw = λ e. draw_within s rows all (is.draw ((bytes_eq-Decides s.name (codes "draw")).1 (named ∙ e)));
 }
 
-at_leaf : (subs : List Shape) → All IsRight subs → (called name : Text) (words : List Text) (rows : List Row) (found : Option Shape) → find (λ s. answers_to called (label_of s)) subs ≡ found
+at_leaf : (keep : Keep) (subs : List Shape) → All (IsRight keep) subs → (called name : Text) (words : List Text) (rows : List Row) (found : Option Shape) → find (λ s. answers_to called (label_of s)) subs ≡ found
     → option_map_or (λ s. level_fault s [] nothing_held words false []) found [] ≡ []
-    → option_map (λ s. rows_at s words) found ≡ Some (name, rows) → AreWithin name rows
-at_leaf subs right called name words rows None f fault e = let bad : false ≡ true = ap is_some e in absurd (true≢false (sym bad))
-at_leaf subs right called name words rows (Some s) f fault e =
-    let is_right = (find_own IsRight _ subs right s f).0 in
+    → option_map (λ s. rows_at s words) found ≡ Some (name, rows) → AreWithin keep name rows
+at_leaf keep subs right called name words rows None f fault e = let bad : false ≡ true = ap is_some e in absurd (true≢false (sym bad))
+at_leaf keep subs right called name words rows (Some s) f fault e =
+    let is_right = (find_own (IsRight keep) _ subs right s f).0 in
     let both : rows_at s words ≡ (name, rows) = ap (λ o. unwrap_or o (rows_at s words)) e in
     let all = good_level s is_right.own [] words fault in
-    are_within s is_right name rows (subst (All (Good s.rules)) (ap (λ (p : Text × List Row). p.1) both) all) (ap (λ (p : Text × List Row). p.0) both)
+    are_within keep s is_right name rows (subst (All (Good s.rules)) (ap (λ (p : Text × List Row). p.1) both) all) (ap (λ (p : Text × List Row). p.0) both)
 
-at_stop : (a : App) → All IsRight a.subs → (stop : Option (Text × List Text)) (name : Text) (rows : List Row) → entered_fault a stop ≡ [] → entered a stop ≡ Some (name, rows) → AreWithin name rows
-at_stop a right None name rows fault e = let bad : false ≡ true = ap is_some e in absurd (true≢false (sym bad))
-at_stop a right (Some p) name rows fault e = at_leaf a.subs right p.0 name p.1 rows (find (λ s. answers_to p.0 (label_of s)) a.subs) refl fault e
+at_stop : (keep : Keep) (a : App) → All (IsRight keep) a.subs → (stop : Option (Text × List Text)) (name : Text) (rows : List Row) → entered_fault a stop ≡ [] → entered a stop ≡ Some (name, rows) → AreWithin keep name rows
+at_stop keep a right None name rows fault e = let bad : false ≡ true = ap is_some e in absurd (true≢false (sym bad))
+at_stop keep a right (Some p) name rows fault e = at_leaf keep a.subs right p.0 name p.1 rows (find (λ s. answers_to p.0 (label_of s)) a.subs) refl fault e
 
 pub taken_are_within : TakenAreWithin
 taken_are_within words name rows taken e =
+    let a = built (nobj (keep_in words)) in
     let fault = no_kinds (word_faults words) taken in
-    at_stop (built nobj) all_right (walk (built nobj).top.rules (names_of (built nobj)) nothing_held (argument_words (built nobj) words)).stopped name rows (left_none _ _ (right_none _ _ fault)) e
+    at_stop (keep_in words) a (all_right (keep_in words)) (walk a.top.rules (names_of a) nothing_held (argument_words a words)).stopped name rows (left_none _ _ (right_none _ _ fault)) e

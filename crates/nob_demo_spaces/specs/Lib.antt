@@ -3,6 +3,6 @@ pub mod Scenes
 pub mod Words
 pub mod Counters
 pub mod Shares
-pub mod Tallies
+pub mod Scores
 pub mod Lines
 pub mod Endings

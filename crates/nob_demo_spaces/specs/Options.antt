@@ -8,13 +8,19 @@ use Rattle.clap.specs.Simple.{new_shape}
 use Rattle.clap.specs.Values.{IsUnsignedIn}
 use Rattle.clap.specs.declared.builder.action.ArgAction.TheVariants.{SetTrue}
 use Rattle.clap.specs.declared.builder.value_parser.ValueParser.TheVariants.{Unsigned}
-use Rattle.nob_demo_spaces.specs.Scenes.{Setting}
+use Rattle.nob_keeper.specs.declared.keep.Keep.{Keep}
+use Rattle.nob_keeper.specs.declared.keep.Keep.TheVariants.{All, Nothing}
+use Rattle.nob_demo_spaces.specs.Scenes.{Setting, most_calls}
 use Rattle.nob_demo_spaces.specs.declared.command_line.Subcommand.{Subcommand}
 use Rattle.nob_demo_spaces.specs.declared.command_line.Subcommand.TheVariants.{Draw}
 
 -- the option `--NAME N`, where N is a number from the lowest to the highest, as clap sees it
 abbrev pub number_rule : (name : Text) (lowest highest : ℕ) → Rule
 number_rule name lowest highest = record (new_rule name) { long = Some name; value_names = 1; parser = Some (Unsigned lowest highest) }
+
+-- the option `--NAME TEXT`, as clap sees it
+abbrev pub text_rule : (name : Text) → Rule
+text_rule name = record (new_rule name) { long = Some name; value_names = 1 }
 
 -- the flag `--NAME`, as clap sees it
 abbrev pub flag_rule : (name : Text) → Rule
@@ -24,13 +30,18 @@ flag_rule name = record (new_rule name) { long = Some name; action = Some SetTru
 abbrev pub greatest : ℕ
 greatest = 18446744073709551615
 
--- the options of `spaces`: five with a number in its range, and a flag
-abbrev pub spaces_rules : List Rule
-spaces_rules = number_rule (codes "spaces") 2 8 ∷ number_rule (codes "workers") 1 16 ∷ number_rule (codes "calls") 0 10000 ∷ number_rule (codes "loss") 0 9 ∷ number_rule (codes "seed") 0 greatest ∷ flag_rule (codes "traces") ∷ []
+-- the last option of `spaces`, by what the nodes keep: the flag `traces` where that is all, `keep` where it is nothing
+abbrev pub last_rule : Keep → Rule
+last_rule All = flag_rule (codes "traces")
+last_rule Nothing = text_rule (codes "keep")
 
--- the subcommand `spaces` as clap sees it
-abbrev pub spaces_shape : Shape
-spaces_shape = record (new_shape (codes "spaces")) { rules = spaces_rules }
+-- the options of `spaces`, by what the nodes keep: five with a number in its range, and the last one
+abbrev pub spaces_rules : Keep → List Rule
+spaces_rules keep = number_rule (codes "spaces") 2 8 ∷ number_rule (codes "workers") 1 16 ∷ number_rule (codes "calls") 0 (most_calls keep) ∷ number_rule (codes "loss") 0 9 ∷ number_rule (codes "seed") 0 greatest ∷ last_rule keep ∷ []
+
+-- the subcommand `spaces` as clap sees it, by what the nodes keep
+abbrev pub spaces_shape : Keep → Shape
+spaces_shape keep = record (new_shape (codes "spaces")) { rules = spaces_rules keep }
 
 -- the options of `draw`: the numbers of two rows, which count from 1
 abbrev pub draw_rules : List Rule
@@ -49,15 +60,16 @@ number_said default (Some text) = digits_value 10 (without_leading_plus text)
 abbrev pub is_said : Option Text → Bool
 is_said text = option_map_or (λ t. bytes_eq t (codes "true")) text false
 
--- the scene that the options say of which clap found these rows: 3 spaces, 2 workers, 50 calls, no loss and seed 1, where an option isn't there
-abbrev pub setting_in : List Row → Setting
-setting_in rows = record {
+-- the scene that the options say of which clap found these rows, whose nodes keep this: 3 spaces, 2 workers, 50 calls, no loss and seed 1, where an option isn't there
+abbrev pub setting_in : Keep → List Row → Setting
+setting_in keep rows = record {
   spaces = number_said 3 (one_of (codes "spaces") rows);
   workers = number_said 2 (one_of (codes "workers") rows);
   calls = number_said 50 (one_of (codes "calls") rows);
   loss = number_said 0 (one_of (codes "loss") rows);
   seed = number_said 1 (one_of (codes "seed") rows);
   traces = is_said (one_of (codes "traces") rows);
+  keep = keep;
 }
 
 -- the drawing that the options say of which clap found these rows: from the first row, and to the last that there may be, where an option isn't there
@@ -68,11 +80,11 @@ draw_in rows = Draw (number_said 1 (one_of (codes "from") rows)) (number_said gr
 abbrev pub IsWithin : (lowest highest : ℕ) → Option Text → Type 0
 IsWithin lowest highest text = IfSome text (IsUnsignedIn lowest highest)
 
--- the options of `spaces` of which clap found these rows say numbers in range
-pub record SceneIsWithin (rows : List Row) : Type 0 where
+-- the options of `spaces` of which clap found these rows say numbers in range, by what the nodes keep
+pub record SceneIsWithin (keep : Keep) (rows : List Row) : Type 0 where
   pub spaces : IsWithin 2 8 (one_of (codes "spaces") rows)
   pub workers : IsWithin 1 16 (one_of (codes "workers") rows)
-  pub calls : IsWithin 0 10000 (one_of (codes "calls") rows)
+  pub calls : IsWithin 0 (most_calls keep) (one_of (codes "calls") rows)
   pub loss : IsWithin 0 9 (one_of (codes "loss") rows)
   pub seed : IsWithin 0 greatest (one_of (codes "seed") rows)
 
@@ -81,7 +93,7 @@ pub record DrawIsWithin (rows : List Row) : Type 0 where
   pub from : IsWithin 1 greatest (one_of (codes "from") rows)
   pub to : IsWithin 1 greatest (one_of (codes "to") rows)
 
--- the options of the subcommand of this name, of which clap found these rows, say numbers in range
-pub record AreWithin (name : Text) (rows : List Row) : Type 0 where
-  pub scene : name ≡ codes "spaces" → SceneIsWithin rows
+-- the options of the subcommand of this name, of which clap found these rows, say numbers in range, by what the nodes of a scene keep
+pub record AreWithin (keep : Keep) (name : Text) (rows : List Row) : Type 0 where
+  pub scene : name ≡ codes "spaces" → SceneIsWithin keep rows
   pub draw : name ≡ codes "draw" → DrawIsWithin rows

@@ -6,10 +6,12 @@ ghost use Rattle.nob_demo_spaces.specs.Options.{AreWithin};
 ghost use Rattle.nob_demo_spaces.specs.Words.{nobj, nobj_with_check, nobj_with_draw, nobj_with_pair, nobj_with_script, subcommand_by, subcommand_in, subcommand_named, word_faults, takes_words, IsWordsFault};
 
 use crate::fault::Fault;
+use crate::keeping::keep_in;
 use crate::options::{draw_in, scene_in, with_rows, with_scene};
 use crate::scene::Scene;
 use clap::error::ErrorKind;
 use clap::{ArgMatches, Command, Error};
+use nob_node::Keep;
 use std::alloc::{AllocError, Global};
 use std::convert::AsStr;
 
@@ -147,6 +149,18 @@ or one line: `full`, where a trace was full, or `memory`, where there was none.
 With --traces the traces are written in place of these lines, for nobj check:
 it says `merged ..` and `verdict yes`.
 
+With `--keep nothing` (just so, or `--keep=nothing`) the spaces keep no traces,
+so K may be up to 1000000000, and there is no --traces. What is written then:
+
+  calls K      as above
+  total T      as above
+  unchecked    there are no traces to check
+  summary S entries E stamp T live L peer P sent M acted A open peer ..
+
+a summary for each space S: it made E entries, of which the last has stamp T; L
+of its objects are live; and of each peer P: M items were handed to it, A of its
+items were acted on, and the session is open, or `closed R` for reason R.
+
 Example: nobj spaces --spaces 4 --loss 3 --traces | nobj check";
 
 /// What the words run.
@@ -173,7 +187,8 @@ pub enum Subcommand {
 /// `check` checks traces, `draw` draws the rows of traces that its options say, `spaces` plays the
 /// scene that its options say, `pair`, or no further word, runs a script of a pair. Anything else
 /// is refused with clap's text, and so is the number of an option that is none, or out of its
-/// range.
+/// range. Where `--keep nothing` stands among the words `spaces` takes that option in place of
+/// `--traces`, and more calls.
 pub fn judge<S: AsStr>(alloc: Global, words: &[S]) -> Result<Subcommand, Fault>
     ensures taken { OnOk result (takes_words (word_faults (map S.text words.now)) ≡ true) }
     ensures subcommand { IfOk result (λ subcommand.
@@ -195,27 +210,28 @@ fn matched<S: AsStr>(alloc: Global, words: &[S]) -> Result<Subcommand, Error>
     ensures subcommand { IfOk result (λ subcommand.
         subcommand ≡ subcommand_in (map S.text words.now)) }
 {
-    let command = command(alloc)?;
+    let keep = keep_in(words);
+    let command = command(alloc, keep)?;
     let matches = command.try_get_matches_from(words)?;
-    Ok(met_in(&matches))
+    Ok(met_in(keep, &matches))
 }
 
-// What the subcommand runs that was met.
-fn met_in<'a>(matches: &ArgMatches<'a>) -> Subcommand
+// What the subcommand runs that was met, by what the nodes of a scene keep.
+fn met_in<'a>(keep: Keep, matches: &ArgMatches<'a>) -> Subcommand
     requires { (name : List ℕ) (rows : List Row)
-        → subcommand_rows_of matches.now ≡ Some (name, rows) → AreWithin name rows }
-    ensures { result ≡ subcommand_by (subcommand_rows_of matches.now) }
+        → subcommand_rows_of matches.now ≡ Some (name, rows) → AreWithin keep name rows }
+    ensures { result ≡ subcommand_by keep (subcommand_rows_of matches.now) }
 {
     match matches.subcommand() {
         None => Subcommand::Pair,
-        Some((name, options)) => named(name, options),
+        Some((name, options)) => named(keep, name, options),
     }
 }
 
-// What the subcommand of this name runs, with its options.
-fn named<'a>(name: &str, options: &ArgMatches<'a>) -> Subcommand
-    requires { AreWithin name.now (rows_of (found_of options.now)) }
-    ensures { result ≡ subcommand_named name.now (rows_of (found_of options.now)) }
+// What the subcommand of this name runs, with its options, by what the nodes of a scene keep.
+fn named<'a>(keep: Keep, name: &str, options: &ArgMatches<'a>) -> Subcommand
+    requires { AreWithin keep name.now (rows_of (found_of options.now)) }
+    ensures { result ≡ subcommand_named keep name.now (rows_of (found_of options.now)) }
 {
     if name == "script" {
         Subcommand::Script
@@ -224,20 +240,20 @@ fn named<'a>(name: &str, options: &ArgMatches<'a>) -> Subcommand
     } else if name == "draw" {
         draw_in(options)
     } else if name == "spaces" {
-        Subcommand::Spaces(scene_in(options))
+        Subcommand::Spaces(scene_in(keep, options))
     } else {
         Subcommand::Pair
     }
 }
 
-// The command with all subcommands.
-fn command<'a>(alloc: Global) -> Result<Command<'a>, AllocError>
-    ensures { IfOk result (λ command. app_of command ≡ nobj) }
+// The command with all subcommands, by what the nodes of a scene keep.
+fn command<'a>(alloc: Global, keep: Keep) -> Result<Command<'a>, AllocError>
+    ensures { IfOk result (λ command. app_of command ≡ nobj keep) }
 {
     let spaces = Command::new(alloc, "spaces")
         .about("Plays a scene of spaces in threads, and checks what they did")
         .after_help(SPACES_HELP);
-    let spaces = with_scene(alloc, spaces)?;
+    let spaces = with_scene(alloc, spaces, keep)?;
     let command = command_with_draw(alloc)?;
     command.subcommand(spaces)
 }

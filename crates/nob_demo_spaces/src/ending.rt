@@ -12,6 +12,8 @@ pub enum Ending {
     Refused,
     /// The traces are printed.
     Printed,
+    /// There are no traces, since nothing was kept.
+    Unchecked,
     /// A trace was full.
     Full,
     /// Memory ran out, or a thread couldn't be made.
@@ -27,6 +29,7 @@ impl Ending {
             Ending::Accepted => b"",
             Ending::Refused => b"",
             Ending::Printed => b"",
+            Ending::Unchecked => b"",
             Ending::Full => b"full\n",
             Ending::OutOfMemory => b"memory\n",
         }

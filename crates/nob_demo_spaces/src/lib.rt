@@ -1,12 +1,13 @@
 //! The words of the command line of `nobj`, and why a run ends before its input does. And what
 //! `nobj spaces` does: spaces in threads of one process, of which the first exports a counter that
-//! the others call; and then their traces are checked.
+//! the others call; and then their traces are checked, or told in numbers where none were kept.
 #![tactic(auto)]
 
 mod command_line;
 mod counter;
 mod ending;
 mod fault;
+mod keeping;
 pub mod laws;
 mod meeting;
 mod options;
@@ -15,7 +16,8 @@ mod player;
 mod playing;
 mod scene;
 mod shares;
-mod tally;
+mod summaries;
+mod score;
 mod telling;
 mod texts;
 
@@ -26,5 +28,5 @@ pub use fault::Fault;
 pub use playing::play;
 pub use scene::Scene;
 pub use shares::calls_of;
-pub use tally::Tally;
+pub use score::Score;
 pub use telling::say;

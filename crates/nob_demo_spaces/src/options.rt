@@ -3,28 +3,61 @@
 ghost use Rattle.std.specs.Prelude.{◌≡◌, ◌≤◌, codes, false, IfOk};
 ghost use Rattle.clap.specs.Words.{app_of, found_of, new_app, one_of, rows_of, rule_of, shape_of};
 ghost use Rattle.clap.specs.declared.builder.command.Command.TheViews.{out-Command as fields_of};
-ghost use Rattle.nob_demo_spaces.specs.Options.{draw_in, draw_shape, flag_rule, is_said, number_rule, setting_in, spaces_shape, DrawIsWithin, SceneIsWithin};
+ghost use Rattle.nob_demo_spaces.specs.Options.{draw_in, draw_shape, flag_rule, is_said, last_rule, number_rule, setting_in, spaces_shape, text_rule, DrawIsWithin, SceneIsWithin};
+ghost use Rattle.nob_demo_spaces.specs.Scenes.{most_calls};
 
 use crate::command_line::Subcommand;
 use crate::scene::Scene;
 use clap::builder::ValueParser;
 use clap::{Arg, ArgAction, ArgMatches, Command};
+use nob_node::Keep;
 use std::alloc::{AllocError, Global};
 
-/// The subcommand `spaces` with its options.
-pub fn with_scene<'a>(alloc: Global, spaces: Command<'a>) -> Result<Command<'a>, AllocError>
+/// The subcommand `spaces` with its options, by what the nodes keep.
+pub fn with_scene<'a>(
+    alloc: Global,
+    spaces: Command<'a>,
+    keep: Keep,
+) -> Result<Command<'a>, AllocError>
     requires new { app_of spaces ≡ new_app (codes "spaces") }
     requires local { (fields_of spaces).has_globals ≡ false }
-    ensures shape { IfOk result (λ command. shape_of command ≡ spaces_shape) }
+    ensures shape { IfOk result (λ command. shape_of command ≡ spaces_shape keep) }
     ensures local { IfOk result (λ command. (fields_of command).has_globals ≡ false) }
 {
     spaces
         .arg(number(alloc, "spaces", "N", 2, 8).help("How many spaces: 2 to 8, else 3"))?
         .arg(number(alloc, "workers", "W", 1, 16).help("Workers of each space: 1 to 16, else 2"))?
-        .arg(number(alloc, "calls", "K", 0, 10_000).help("Calls in all: 0 to 10000, else 50"))?
+        .arg(calls(alloc, keep))?
         .arg(number(alloc, "loss", "L", 0, 9).help("Frames of ten that are lost: 0 to 9, else 0"))?
         .arg(number(alloc, "seed", "X", 0, u64::MAX).help("Where chances start: a u64, else 1"))?
-        .arg(flag(alloc, "traces").help("Writes the traces"))
+        .arg(last(alloc, keep))
+}
+
+// The option that says how many calls are made, by what the nodes keep.
+fn calls<'a>(alloc: Global, keep: Keep) -> Arg<'a>
+    ensures rule { rule_of result ≡ number_rule (codes "calls") 0 (most_calls keep) }
+    ensures local { result.global ≡ false }
+{
+    match keep {
+        Keep::All => {
+            number(alloc, "calls", "K", 0, 10_000).help("Calls in all: 0 to 10000, else 50")
+        }
+        Keep::Nothing => number(alloc, "calls", "K", 0, 1_000_000_000)
+            .help("Calls in all: 0 to 1000000000, else 50"),
+    }
+}
+
+// The last option of `spaces`, by what the nodes keep.
+fn last<'a>(alloc: Global, keep: Keep) -> Arg<'a>
+    ensures rule { rule_of result ≡ last_rule keep }
+    ensures local { result.global ≡ false }
+{
+    match keep {
+        Keep::All => flag(alloc, "traces").help("Writes the traces"),
+        Keep::Nothing => {
+            text(alloc, "keep", "WHAT").help("What nodes keep of their entries: nothing")
+        }
+    }
 }
 
 /// The subcommand `draw` with its options.
@@ -55,6 +88,14 @@ fn number<'a>(
         .value_parser(ValueParser::unsigned(lowest, highest))
 }
 
+// The option `--NAME TEXT`.
+fn text<'a>(alloc: Global, name: &'a str, value_name: &'a str) -> Arg<'a>
+    ensures rule { rule_of result ≡ text_rule name.entry.now }
+    ensures local { result.global ≡ false }
+{
+    Arg::new(alloc, name).long(name).value_name(value_name)
+}
+
 // The flag `--NAME`.
 fn flag<'a>(alloc: Global, name: &'a str) -> Arg<'a>
     ensures rule { rule_of result ≡ flag_rule name.entry.now }
@@ -63,18 +104,18 @@ fn flag<'a>(alloc: Global, name: &'a str) -> Arg<'a>
     Arg::new(alloc, name).long(name).action(ArgAction::SetTrue)
 }
 
-/// The scene that the options say.
-pub fn scene_in<'a>(options: &ArgMatches<'a>) -> Scene
-    requires { SceneIsWithin (rows_of (found_of options.now)) }
-    ensures { result ≡ setting_in (rows_of (found_of options.now)) }
+/// The scene that the options say, whose nodes keep this.
+pub fn scene_in<'a>(keep: Keep, options: &ArgMatches<'a>) -> Scene
+    requires { SceneIsWithin keep (rows_of (found_of options.now)) }
+    ensures { result ≡ setting_in keep (rows_of (found_of options.now)) }
 {
     let spaces = options.get_one::<u8>("spaces").unwrap_or(3);
     let workers = options.get_one::<u8>("workers").unwrap_or(2);
-    let calls = options.get_one::<u16>("calls").unwrap_or(50);
+    let calls = options.get_one::<u32>("calls").unwrap_or(50);
     let loss = options.get_one::<u8>("loss").unwrap_or(0);
     let seed = options.get_one::<u64>("seed").unwrap_or(1);
     let traces = is_set(options, "traces");
-    Scene::new(spaces, workers, calls, loss, seed, traces)
+    Scene::new(spaces, workers, calls, loss, seed, traces, keep)
 }
 
 /// The drawing that the options say.

@@ -3,12 +3,11 @@
 use crate::meeting::Meeting;
 use crate::player::{Player, stop_of};
 use crate::scene::Scene;
-use crate::{Counter, Stop, Tally, calls_of};
+use crate::{Counter, Stop, Score, calls_of};
 use nob_fault::{Shim, words_between};
 use nob_ids::{Limits, SpaceId};
 use nob_link::link;
-use nob_node::{Config, Ends, Left, NodeError, OpenGate, Report, run};
-use nob_trace::Trace;
+use nob_node::{Config, Ends, Left, NodeError, OpenGate, Record, Report, run};
 use std::alloc::Global;
 use std::sync::{Mutex, Wait};
 use std::thread::Threads;
@@ -38,8 +37,8 @@ pub(crate) struct Part {
 /// What a thread leaves whose node has ended.
 #[derive(Drop)]
 pub(crate) struct Played {
-    pub(crate) tally: Tally,
-    pub(crate) trace: Trace,
+    pub(crate) score: Score,
+    pub(crate) record: Record,
 }
 
 /// The place of a space in the scene: what its thread is given, and what that leaves.
@@ -65,7 +64,8 @@ impl Place {
             scene.workers() as usize,
             PAUSE,
             0,
-        )?;
+        )?
+        .keeping(scene.keep());
         let counter = if space == owner {
             Some(Counter::new())
         } else {
@@ -152,18 +152,18 @@ fn run_part<R: Threads + Wait + Sync>(
     if let Some(stop) = player.stop {
         return Err(stop);
     }
-    left_by(player.tally, done)
+    left_by(player.score, done)
 }
 
 // What a node leaves that has run like this.
 fn left_by(
-    tally: Tally,
+    score: Score,
     done: Result<Report<Counter>, (NodeError, Vec<Left<Counter>>)>,
 ) -> Result<Played, Stop> {
     match done {
         Ok(report) => {
-            let Report { trace, objects: _ } = report;
-            Ok(Played { tally, trace })
+            let Report { record, objects: _ } = report;
+            Ok(Played { score, record })
         }
         Err((error, _objects)) => Err(stop_by(error)),
     }

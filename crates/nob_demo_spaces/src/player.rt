@@ -1,7 +1,7 @@
 //! What an application of the scene does.
 
 use crate::meeting::{MEETINGS, Meeting};
-use crate::{Counter, Stop, Tally};
+use crate::{Counter, Stop, Score};
 use nob_ids::SpaceId;
 use nob_node::{App, Hold, KeeperError, Node, NodeError, Returned};
 use nob_pickle::Value;
@@ -22,7 +22,7 @@ pub(crate) struct Player<'m> {
     owner: SpaceId,
     calls: u64,
     // What its calls came to.
-    pub(crate) tally: Tally,
+    pub(crate) score: Score,
     // Why it went no further.
     pub(crate) stop: Option<Stop>,
 }
@@ -43,7 +43,7 @@ impl<'m> Player<'m> {
             counter,
             owner,
             calls,
-            tally: Tally::new(),
+            score: Score::new(),
             stop: None,
         }
     }
@@ -124,7 +124,7 @@ impl<'m> Player<'m> {
     // Counts what a call returned.
     fn count(&mut self, returned: Returned) {
         if let Returned::Replied { status, value, .. } = &returned {
-            self.tally = self.tally.with_reply(*status, value);
+            self.score = self.score.with_reply(*status, value);
         }
         returned.forget();
     }

@@ -7,14 +7,15 @@ ghost use Rattle.nob_demo_spaces.specs.Endings.{Plays};
 use crate::meeting::Meeting;
 use crate::places::{Place, Played, places_of};
 use crate::scene::Scene;
-use crate::{Ending, Stop, Tally, graver, say};
+use crate::{Ending, Stop, Score, graver, say};
+use nob_node::{Record, Summary};
 use nob_trace::Trace;
 use std::alloc::Global;
 use std::sync::Wait;
 use std::thread::{self, Threads};
 
-/// Plays a scene, and writes onto an empty text what came of it: the three lines, or the traces;
-/// and how it ended, whose last line is still to follow. It makes a thread for each space, and each
+/// Plays a scene, and writes onto an empty text what came of it: the three lines, or the traces, or
+/// the summaries behind the lines; and how it ended, whose last line is still to follow. It makes a thread for each space, and each
 /// of these makes those of its node.
 pub fn play<R: Threads + Wait + Sync>(
     rt: &R,
@@ -51,29 +52,44 @@ fn say_of(alloc: Global, scene: Scene, places: Vec<Place>, text: &mut Vec<u8>) -
     ensures { Plays scene (text.new.items ++ last_line result) result }
 {
     let mut traces = Vec::new(alloc);
-    let (stop, tally) = summed(places, &mut traces);
-    say(alloc, scene, stop, tally, traces.as_slice(), text)
+    let mut summaries = Vec::new(alloc);
+    let (stop, score) = summed(places, &mut traces, &mut summaries);
+    let (traces, summaries) = (traces.as_slice(), summaries.as_slice());
+    say(alloc, scene, stop, score, traces, summaries, text)
 }
 
-// Why the scene stops, if a space stopped or there is no memory for the traces, and what callers
+// Why the scene stops, if a space stopped or there is no memory for what they left, and what callers
 // counted.
-fn summed(places: Vec<Place>, traces: &mut Vec<Trace>) -> (Option<Stop>, Tally) {
+fn summed(
+    places: Vec<Place>,
+    traces: &mut Vec<Trace>,
+    summaries: &mut Vec<Summary>,
+) -> (Option<Stop>, Score) {
     let mut stop = None;
-    let mut tally = Tally::new();
+    let mut score = Score::new();
     for place in places {
-        match kept(place.into_left(), traces) {
-            Ok(counted) => tally = tally.with_tally(counted),
+        match kept(place.into_left(), traces, summaries) {
+            Ok(counted) => score = score.with_score(counted),
             Err(reason) => stop = Some(graver(reason, stop)),
         }
     }
-    (stop, tally)
+    (stop, score)
 }
 
-// What the callers of a space counted, whose trace is kept.
-fn kept(left: Result<Played, Stop>, traces: &mut Vec<Trace>) -> Result<Tally, Stop> {
-    let Played { tally, trace } = left?;
-    match traces.push(trace) {
-        Ok(()) => Ok(tally),
-        Err(_) => Err(Stop::OutOfMemory),
+// What the callers of a space counted, whose trace or summary is put behind the others.
+fn kept(
+    left: Result<Played, Stop>,
+    traces: &mut Vec<Trace>,
+    summaries: &mut Vec<Summary>,
+) -> Result<Score, Stop> {
+    let Played { score, record } = left?;
+    let is_kept = match record {
+        Record::Trace(trace) => traces.push(trace).is_ok(),
+        Record::Summary(summary) => summaries.push(summary).is_ok(),
+    };
+    if is_kept {
+        Ok(score)
+    } else {
+        Err(Stop::OutOfMemory)
     }
 }

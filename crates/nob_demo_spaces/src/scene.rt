@@ -1,8 +1,9 @@
 //! What `nobj spaces` plays.
 
 ghost use Rattle.std.specs.Prelude.{◌≡◌};
-ghost use Rattle.nob_demo_spaces.specs.Scenes.{IsBetween, CanBePlayed};
+ghost use Rattle.nob_demo_spaces.specs.Scenes.{IsBetween, CanBePlayed, most_calls};
 
+use nob_node::Keep;
 use std::marker::Model;
 
 /// A scene of spaces in threads of one process, of which the first exports a counter that the
@@ -11,10 +12,11 @@ use std::marker::Model;
 pub struct Scene {
     spaces: u8,
     workers: u8,
-    calls: u16,
+    calls: u32,
     loss: u8,
     seed: u64,
     traces: bool,
+    keep: Keep,
 }
 
 impl Model for Scene {
@@ -29,9 +31,10 @@ impl Model for Scene {
       loss = s.loss;
       seed = s.seed;
       traces = s.traces;
+      keep = s.keep;
     } };
 
-    ghost invariant = { λ s. CanBePlayed s.spaces s.workers s.calls s.loss };
+    ghost invariant = { λ s. CanBePlayed s.keep s.spaces s.workers s.calls s.loss };
 
     ghost inverse = { λ s. record {
       spaces = s.spaces;
@@ -40,6 +43,7 @@ impl Model for Scene {
       loss = s.loss;
       seed = s.seed;
       traces = s.traces;
+      keep = s.keep;
     } };
 }
 
@@ -48,12 +52,13 @@ impl Scene {
     pub(crate) fn new(
         spaces: u8,
         workers: u8,
-        calls: u16,
+        calls: u32,
         loss: u8,
         seed: u64,
         traces: bool,
+        keep: Keep,
     ) -> Scene
-        requires { CanBePlayed spaces workers calls loss }
+        requires { CanBePlayed keep spaces workers calls loss }
         ensures { result ≡ record {
           spaces = spaces;
           workers = workers;
@@ -61,6 +66,7 @@ impl Scene {
           loss = loss;
           seed = seed;
           traces = traces;
+          keep = keep;
         } }
     {
         Scene {
@@ -70,6 +76,7 @@ impl Scene {
             loss,
             seed,
             traces,
+            keep,
         }
     }
 
@@ -90,9 +97,9 @@ impl Scene {
     }
 
     /// How many calls are made in all.
-    pub fn calls(self) -> u16
+    pub fn calls(self) -> u32
         ensures value { result ≡ self.calls }
-        ensures range { IsBetween 0 10000 result }
+        ensures range { IsBetween 0 (most_calls self.keep) result }
     {
         self.calls
     }
@@ -117,5 +124,12 @@ impl Scene {
         ensures { result ≡ self.traces }
     {
         self.traces
+    }
+
+    /// What the nodes keep of their entries.
+    pub fn keep(self) -> Keep
+        ensures { result ≡ self.keep }
+    {
+        self.keep
     }
 }

@@ -4,29 +4,29 @@ ghost use Rattle.std.specs.Prelude.{◌≡◌, IfOk};
 ghost use Rattle.std.specs.String.{string_bytes};
 ghost use Rattle.nob_demo_spaces.specs.Lines as spec;
 
-use crate::tally::Tally;
+use crate::score::Score;
 use std::alloc::{AllocError, Global};
 
 // The three lines of a scene whose traces were checked.
-pub(crate) fn lines(alloc: Global, tally: Tally, is_accepted: bool) -> Result<Vec<u8>, AllocError>
-    ensures { IfOk result (λ text. text.items ≡ spec.lines tally is_accepted) }
+pub(crate) fn lines(alloc: Global, score: Score, is_accepted: bool) -> Result<Vec<u8>, AllocError>
+    ensures { IfOk result (λ text. text.items ≡ spec.lines score is_accepted) }
 {
-    let mut text = calls_line(alloc, tally.answered())?.into_bytes();
-    let total = total_line(alloc, tally.greatest())?;
+    let mut text = calls_line(alloc, score.answered())?.into_bytes();
+    let total = total_line(alloc, score.greatest())?;
     text.extend_from_slice(total.as_bytes())?;
     text.extend_from_slice(check_line(is_accepted))?;
     Ok(text)
 }
 
 // The line that says how many calls were answered.
-fn calls_line(alloc: Global, answered: u64) -> Result<String, AllocError>
+pub(crate) fn calls_line(alloc: Global, answered: u64) -> Result<String, AllocError>
     ensures { IfOk result (λ text. string_bytes text ≡ spec.calls_line answered) }
 {
     format!(in alloc; "calls {answered}\n")
 }
 
 // The line that says the greatest total that was answered.
-fn total_line(alloc: Global, greatest: i64) -> Result<String, AllocError>
+pub(crate) fn total_line(alloc: Global, greatest: i64) -> Result<String, AllocError>
     ensures { IfOk result (λ text. string_bytes text ≡ spec.total_line greatest) }
 {
     format!(in alloc; "total {greatest}\n")

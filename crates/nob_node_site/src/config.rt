@@ -75,7 +75,15 @@ impl Config {
             × (result.pause ≡ self.pause) × (result.tick_every ≡ self.tick_every)
             × (result.keep ≡ keep) }
     {
-        Config { keep, ..self }
+        Config {
+            space: self.space,
+            n: self.n,
+            limits: self.limits,
+            workers: self.workers,
+            pause: self.pause,
+            tick_every: self.tick_every,
+            keep,
+        }
     }
 
     /// What the node keeps of its entries.

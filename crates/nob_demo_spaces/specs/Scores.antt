@@ -3,10 +3,10 @@ use Rattle.std.specs.Prelude.{ℕ, ℤ, pos, ◌+◌, ◌==◌, min, if◌then�
 use Rattle.std.specs.Int.{int_max}
 use Rattle.nob_pickle.specs.declared.value.Value.{Value}
 use Rattle.nob_pickle.specs.declared.value.Value.TheVariants as values
-use Rattle.nob_demo_spaces.specs.declared.tally.Tally.{Tally}
+use Rattle.nob_demo_spaces.specs.declared.score.Score.{Score}
 
 -- nothing was answered
-abbrev pub empty : Tally
+abbrev pub empty : Score
 empty = record { answered = 0; greatest = pos 0 }
 
 -- a sum, but at most the greatest number of 64 bits
@@ -18,10 +18,10 @@ abbrev pub greater_of : Value → ℤ → ℤ
 greater_of (values.Int number) total = int_max total number
 greater_of value total = total
 
--- a tally after a reply of this status and value: where the status is 0 the call was answered, and a whole number is a total
-abbrev pub with_reply : (status : ℕ) → Value → Tally → Tally
-with_reply status value tally = if status == 0 then record { answered = sum_of tally.answered 1; greatest = greater_of value tally.greatest } else tally
+-- a score after a reply of this status and value: where the status is 0 the call was answered, and a whole number is a total
+abbrev pub with_reply : (status : ℕ) → Value → Score → Score
+with_reply status value score = if status == 0 then record { answered = sum_of score.answered 1; greatest = greater_of value score.greatest } else score
 
--- what two tallies count
-abbrev pub with_tally : Tally → Tally → Tally
-with_tally other tally = record { answered = sum_of tally.answered other.answered; greatest = int_max tally.greatest other.greatest }
+-- what two scores count
+abbrev pub with_score : Score → Score → Score
+with_score other score = record { answered = sum_of score.answered other.answered; greatest = int_max score.greatest other.greatest }

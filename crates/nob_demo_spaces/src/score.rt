@@ -1,47 +1,47 @@
 //! What callers count.
 
 ghost use Rattle.std.specs.Prelude.{◌≡◌};
-ghost use Rattle.nob_demo_spaces.specs.Tallies as spec;
+ghost use Rattle.nob_demo_spaces.specs.Scores as spec;
 
 use nob_pickle::Value;
 
 /// What callers count: how many calls were answered, and the greatest total that was answered.
 #[derive(Clone, Copy, Debug, PartialEq, Eq)]
-pub struct Tally {
+pub struct Score {
     answered: u64,
     greatest: i64,
 }
 
-impl Tally {
+impl Score {
     /// Nothing was answered.
-    pub fn new() -> Tally
+    pub fn new() -> Score
         ensures { result ≡ spec.empty }
     {
-        Tally {
+        Score {
             answered: 0,
             greatest: 0,
         }
     }
 
-    /// This tally after a reply: where its status is 0 the call was answered, and a whole number is
+    /// This score after a reply: where its status is 0 the call was answered, and a whole number is
     /// a total.
-    pub fn with_reply(self, status: u8, value: &Value) -> Tally
+    pub fn with_reply(self, status: u8, value: &Value) -> Score
         ensures { result ≡ spec.with_reply status value.now self }
     {
         if status != 0 {
             return self;
         }
-        Tally {
+        Score {
             answered: self.answered.saturating_add(1),
             greatest: greater(self.greatest, value),
         }
     }
 
     /// What this and another one count.
-    pub fn with_tally(self, other: Tally) -> Tally
-        ensures { result ≡ spec.with_tally other self }
+    pub fn with_score(self, other: Score) -> Score
+        ensures { result ≡ spec.with_score other self }
     {
-        Tally {
+        Score {
             answered: self.answered.saturating_add(other.answered),
             greatest: self.greatest.max(other.greatest),
         }
