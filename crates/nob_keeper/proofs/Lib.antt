@@ -5,3 +5,4 @@ pub mod Newest
 pub mod Spots
 pub mod Marks
 pub mod Crossing
+pub mod Summaries

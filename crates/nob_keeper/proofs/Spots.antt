@@ -1,15 +1,22 @@
 -- What stays of the newest entries of seats once one of them has asked.
-use Rattle.std.proofs.Common.{◌≡◌, ◌≢◌, ◌⊎◌, inl, inr, ℕ, ◌+◌, ◌<◌, ◌≤◌, List, [], ◌∷◌, length, Option, Some, slice_get, refl, sym, ap, subst, ◌∙◌, arith}
+use Rattle.std.proofs.Common.{◌≡◌, ◌≢◌, ◌⊎◌, inl, inr, ℕ, ◌+◌, ◌-◌, ◌<◌, ◌≤◌, List, [], ◌∷◌, ◌++◌, length, Option, Some, None, Result, Ok, Err, IfErr, OnErr, slice_get, refl, sym, ap, subst, ◌∙◌, arith}
+use Prim.Native.Nat.{suc}
 use Rattle.std.proofs.lemmas.Option.{slice_get_within, get_or_from_slice_get}
 use Rattle.nob_keeper.specs.declared.keep.Keep.{Keep}
 use Rattle.nob_keeper.specs.declared.keep.Keep.TheVariants as keeps
 use Rattle.nob_keeper.specs.declared.receipt.Receipt.{Receipt}
-use Rattle.nob_keeper.specs.Staying.{IsAmong}
+use Rattle.nob_past.specs.Lists.{Listed}
+use Rattle.nob_trace.specs.declared.stamped.Stamped.{Stamped}
+use Rattle.nob_keeper.specs.declared.error.KeeperError.{KeeperError}
+use Rattle.nob_keeper.specs.declared.error.KeeperError.TheVariants as errors
+use Rattle.nob_keeper.specs.declared.noted.Noted.{Noted}
+use Rattle.nob_keeper.specs.Staying.{AreKept, AreNoted, IsAmong, IsNoted}
 use Rattle.nob_keeper.specs.Spots.{IsSpot, IsSpotOf, StaysAt, noted_after, noted_next}
 use Rattle.nob_keeper.specs.Accounts.{Account, with_next, with_noted}
-use Rattle.nob_keeper.specs.Receipts.{entry_of}
-use Rattle.nob_keeper.specs.Seats.{IsOther, StaysNewest, seats_more}
-use Rattle.nob_keeper.proofs.Staying.{put_among, put_others, put_count, put_more}
+use Rattle.nob_keeper.specs.Receipts.{Told, entry_of}
+use Rattle.nob_keeper.specs.Seats.{Has, IsOther, IsThere, StaysNewest, newest, seats_more}
+use Rattle.nob_keeper.proofs.Seats.{newest_told, newest_there}
+use Rattle.nob_keeper.proofs.Staying.{at_next, noted_stay, put_among, put_others, put_count, put_more}
 
 -- the place that was put there is among those that stay, where not all do
 newest_by : (k : Keep) (spot place : ℕ) (noted : List ℕ) → spot ≤ length noted → (k ≡ keeps.All) ⊎ IsAmong (noted_after k spot place noted) place
@@ -45,3 +52,49 @@ stays_newest account after receipts receipt spot its place is =
       others = λ other there different. others_by account.keep spot (length account.entries + 1) account.noted receipts its.stays other there different;
       few = few_by account.keep spot (length account.entries + 1) account.noted receipts its.stays;
     })
+
+-- where only what stays is kept, that is at its places
+pub noted_there : (keep : Keep) (entries : Listed Stamped) (noted : List Noted) → AreKept keep entries noted → keep ≡ keeps.Nothing → AreNoted entries.items noted
+noted_there keeps.All entries noted kept is = absurd (cc)
+noted_there keeps.Nothing entries noted kept is = kept.1
+
+-- a seat is refused only where its newest receipt isn't told of the entries, or its entry isn't there
+pub refused : (account : Account) (receipts : List Receipt) (receipt : Receipt) (result : Result ℕ KeeperError) → account.keep ≡ keeps.Nothing → newest receipts ≡ Some receipt
+    → IfErr result (λ error. error ≡ errors.Seats) → OnErr result (Told receipt account.entries → IsAmong account.noted receipt.place → ⊥)
+    → IfErr result (λ error. (error ≡ errors.Seats) × (Has account.entries receipts → IsThere account receipts → ⊥))
+refused account receipts receipt (Ok spot) nothing is error not = tt
+refused account receipts receipt (Err fault) nothing is error not =
+    (error, λ has there. elim (newest_there account receipts receipt is there) as (λ h. ⊥) [ inl all ↦ absurd (cc) | inr among ↦ not (newest_told account.entries receipts receipt is has) among ])
+
+-- what is kept of a list of which one entry more was passed on or kept
+pub kept_more : (keep : Keep) (old new : Listed Stamped) (entry : Stamped) (noted : List Noted) → new.items ≡ old.items ++ entry ∷ []
+    → (keep ≡ keeps.All → new.gone ≡ old.gone) → (keep ≡ keeps.Nothing → new.gone ≡ length new.items) → AreKept keep old noted → AreKept keep new noted
+kept_more keeps.All old new entry noted items all passed kept = (all refl ∙ kept.0, kept.1)
+kept_more keeps.Nothing old new entry noted items all passed kept =
+    (passed refl, subst (λ (es : List Stamped). AreNoted es noted) (sym items) (noted_stay old.items (entry ∷ []) noted kept.1))
+
+-- the entry behind others is that of the next place
+noted_next_one : (old new : List Stamped) (told entry : Stamped) (place : ℕ) → new ≡ old ++ told ∷ [] → Some told ≡ Some entry → place ≡ length old + 1
+    → IsNoted new (record { place = place; entry = entry })
+noted_next_one old new told entry place items is at =
+    let here : place - 1 ≡ length old = omega (arith, at) in
+    (omega (arith, at), ap (slice_get new) here ∙ ap (λ (es : List Stamped). slice_get es (length old)) items ∙ at_next old told ∙ is)
+
+-- what is kept where the entry that was passed on stays
+pub kept_put : (keep : Keep) (old new : Listed Stamped) (told entry : Stamped) (passed : Option Stamped) (place : ℕ) (noted before after : List Noted)
+    → new.items ≡ old.items ++ told ∷ [] → (keep ≡ keeps.All → (new.gone ≡ old.gone) × (passed ≡ None)) → (keep ≡ keeps.Nothing → (new.gone ≡ length new.items) × (passed ≡ Some told))
+    → passed ≡ Some entry → place ≡ length old.items + 1 → before ≡ noted → AreKept keep old noted
+    → ((entries : List Stamped) → AreNoted entries before → IsNoted entries (record { place = place; entry = entry }) → AreNoted entries after)
+    → AreKept keep new after
+kept_put keeps.All old new told entry passed place noted before after items all nothing is at same kept put =
+    let none : passed ≡ None = (all refl).1 in absurd (cc)
+kept_put keeps.Nothing old new told entry passed place noted before after items all nothing is at same kept put =
+    let stay : AreNoted new.items noted = subst (λ (es : List Stamped). AreNoted es noted) (sym items) (noted_stay old.items (told ∷ []) noted kept.1) in
+    ((nothing refl).0, put new.items (subst (AreNoted new.items) (sym same) stay) (noted_next_one old.items new.items told entry place items (sym (nothing refl).1 ∙ is) at))
+
+-- of a list of which all is kept the kept part is the list
+pub whole_kept : (keep : Keep) (list : Listed Stamped) (noted : List Noted) (before kept : List Stamped) → AreKept keep list noted → keep ≡ keeps.All
+    → list.items ≡ before ++ kept → length before ≡ list.gone → kept ≡ list.items
+whole_kept keeps.All list noted [] kept are is items long = sym items
+whole_kept keeps.All list noted (first ∷ before) kept are is items long = let none = are.0 in let some : suc (length before) ≡ list.gone = long in absurd (omega (arith, none, some))
+whole_kept keeps.Nothing list noted before kept are is items long = absurd (cc)

@@ -20,8 +20,8 @@ rising c = subst seats.PlacesRise c.self.view_is c.self.invariant.0
 above : (c : goal.After-add) → seats.Above c.in_ok-receipt.receipt.place c.args.self.now
 above c = above_next c.args.kept.now.entries c.args.self.now c.in_ok-receipt.receipt.place ((c.in_ok-spot.ensures {u = tt}).ok) (rising c) ((c.in_ok-receipt.ensures {u = tt}).next.place)
 
-pub invariant_of-self-3 : goal.invariant_of-self-3
-invariant_of-self-3 c =
+pub invariant_of-self-2 : goal.invariant_of-self-2
+invariant_of-self-2 c =
     (subst seats.PlacesRise (sym (added c)) (above c, rising c), c.add.ensures.newest (newest_same c.self.inside.receipts c.reserve.new.self c.reserve.ensures.items c.reserve.ensures.gone c.self.invariant.1))
 
 pub returns-clause-adds : goal.returns-clause-adds
@@ -34,4 +34,7 @@ returns-clause-next c =
     (c.in_ok-receipt.receipt, c.args.kept.now, added c, (c.in_ok-spot.ensures {u = tt}).account, (c.in_ok-spot.ensures {u = tt}).ok, (c.in_ok-receipt.ensures {u = tt}).next)
 
 pub returns-clause-stays : goal.returns-clause-stays
-returns-clause-stays c = ?
+returns-clause-stays c =
+    let receipt = c.in_ok-receipt.receipt in
+    subst (λ (receipts : List Receipt). seats.StaysNewest c.args.kept.now c.append_at.new.self c.args.self.now receipts) (sym (added c))
+    (stays_newest c.args.kept.now c.append_at.new.self c.args.self.now receipt c.in_ok-spot.spot ((c.in_ok-spot.ensures {u = tt}).spot) ((c.in_ok-receipt.ensures {u = tt}).next.place) ((c.in_ok-receipt.ensures {u = tt}).entry))
