@@ -10,8 +10,8 @@ use Rattle.nob_keeper.proofs.closing.judge.Goals as goal
 begun : (entries : List Stamped) (marks : List Bool) → marks ≡ replicate (length entries) false → closing.AreMarks marks entries []
 begun entries marks none = subst (λ (marks : List Bool). closing.AreMarks marks entries []) (sym none) (no_marks entries (length entries))
 
-pub returns-clause-ok : goal.returns-clause-ok
-returns-clause-ok c =
+pub returns-in-Ok-mark_all-clause-ok : goal.returns-in-Ok-mark_all-clause-ok
+returns-in-Ok-mark_all-clause-ok c =
     let entries = c.args.entries.now in
     let marks = c.mark_all.new.marks.items in
     let marked = c.in-Ok-mark_all.ensures {u = tt} in
@@ -32,3 +32,8 @@ returns-then-not-are_all_set-clause-seats c is are =
     let unset : (place : ℕ) × (place < length marks) × (get_or marks place false ≡ false) =
     subst (λ (marks : List Bool). (place : ℕ) × (place < length marks) × (get_or marks place false ≡ false)) c.as_slice.ensures.value ((c.if-not-are_all_set.ensures {u = tt}).unset refl) in
     unmarked_there marks entries (closing.receipts_of c.args.seats.now) unset.0 (marked.marks [] (begun entries c.in-Ok.marks.items none)) long unset.1 unset.2 are
+
+pub returns-clause-seats : goal.returns-clause-seats
+returns-clause-seats c is are =
+    (c.in-Err.ensures {u = tt}).fault [] [] is (begun c.args.entries.now c.in-Ok.marks.items (c.in-Ok.ensures {u = tt}))
+    (subst (closing.AreOf c.args.entries.now) (sym (append-nil (closing.receipts_of c.args.seats.now))) are)
