@@ -60,8 +60,8 @@ pub fn run<B: Object + Send, R: Threads + Wait + Sync, G: Gate + Sync, A: App<B>
     gate: &G,
     app: &mut A,
 ) -> Result<Report<B>, (NodeError, Vec<Left<B>>)>
-    ensures record { IfOk result (λ report. nodes.IsRecorded report.record) }
-    ensures kept { IfOk result (λ report. summaries.is_trace report.record
+    ensures record { IfOk result (λ report. nodes.IsRecorded report.«record») }
+    ensures kept { IfOk result (λ report. summaries.is_trace report.«record»
         ≡ keeps_all config.keep) }
 {
     let Some((site, crew)) = site_of::<B>(alloc, &config, ends) else {
@@ -152,8 +152,8 @@ fn finish<B: Object, R: Wait>(
     crew: Option<Crew<B>>,
     remains: Remains<B>,
 ) -> Result<Report<B>, (NodeError, Vec<Left<B>>)>
-    ensures record { IfOk result (λ report. nodes.IsRecorded report.record) }
-    ensures kept { IfOk result (λ report. summaries.is_trace report.record ≡ keeps_all kept) }
+    ensures record { IfOk result (λ report. nodes.IsRecorded report.«record») }
+    ensures kept { IfOk result (λ report. summaries.is_trace report.«record» ≡ keeps_all kept) }
 {
     let has_failed = site.has_failed();
     let Parts {
@@ -210,8 +210,8 @@ fn close<B: Object>(
     seats: Vec<Seat>,
     objects: Vec<Left<B>>,
 ) -> Result<Report<B>, (NodeError, Vec<Left<B>>)>
-    ensures record { IfOk result (λ report. nodes.IsRecorded report.record) }
-    ensures kept { IfOk result (λ report. summaries.is_trace report.record ≡ keeps_all kept) }
+    ensures record { IfOk result (λ report. nodes.IsRecorded report.«record») }
+    ensures kept { IfOk result (λ report. summaries.is_trace report.«record» ≡ keeps_all kept) }
 {
     match record_of(keeper, kept, seats) {
         Ok(record) => Ok(Report { record, objects }),
@@ -223,13 +223,9 @@ fn close<B: Object>(
 }
 
 // What was kept: the trace, or what the entries come to.
-fn record_of(
-    keeper: Keeper,
-    kept: Keep,
-    seats: Vec<Seat>,
-) -> Result<Record, (KeeperError, Keeper)>
-    ensures record { IfOk result (λ record. summaries.IsRecordOf seats.items record) }
-    ensures kept { IfOk result (λ record. summaries.is_trace record ≡ keeps_all kept) }
+fn record_of(keeper: Keeper, kept: Keep, seats: Vec<Seat>) -> Result<Record, (KeeperError, Keeper)>
+    ensures record { IfOk result (λ left. summaries.IsRecordOf seats.items left) }
+    ensures kept { IfOk result (λ left. summaries.is_trace left ≡ keeps_all kept) }
 {
     match kept {
         Keep::All => match keeper.close_with(seats) {
