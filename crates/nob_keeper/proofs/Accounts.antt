@@ -1,6 +1,7 @@
 -- What one entry more leaves of what is kept of a space.
-use Rattle.std.proofs.Common.{◌≡◌, ℕ, ◌+◌, ◌*◌, ◌^◌, ◌<◌, ◌≤◌, true, max, List, [], ◌∷◌, ◌++◌, length, map, reverse, Result, refl, sym, ap, subst, ◌∙◌, arith}
+use Rattle.std.proofs.Common.{◌≡◌, ℕ, ◌+◌, ◌*◌, ◌^◌, ◌<◌, ◌≤◌, Bool, true, false, max, List, [], ◌∷◌, ◌++◌, length, map, reverse, Result, refl, sym, ap, subst, ◌∙◌, arith}
 use Rattle.std.proofs.lemmas.List.{map-append, reverse-append, length-append}
+use Rattle.std.proofs.lemmas.Bool.Decides.{nat_tests}
 use Rattle.std.proofs.Math.Nat.{le-max_left, max-le}
 use Rattle.nob_ids.specs.declared.limits.Limits.{Limits}
 use Rattle.nob_model_types.specs.declared.entry.Entry.{Entry}
@@ -11,7 +12,8 @@ use Rattle.nob_trace.specs.declared.stamped.Stamped.{Stamped}
 use Rattle.nob_trace.specs.Stamps.{Rise, last_stamp}
 use Rattle.nob_trace.proofs.Rising.{rise_push, last_push}
 use Rattle.nob_keeper.specs.declared.keep.Keep.{Keep}
-use Rattle.nob_keeper.specs.Accounts.{Account, IsAccount, IsKept, account_of, keeps_all, most_entries, last_seen, entry_at, list_of, with_next, next_stamp}
+use Rattle.nob_keeper.specs.declared.keep.Keep.TheVariants as keeps
+use Rattle.nob_keeper.specs.Accounts.{Account, IsAccount, IsKept, account_of, full_at, keeps_all, most_entries, last_seen, entry_at, list_of, with_next, next_stamp}
 
 -- an entry behind a trace is the newest of its list
 pub list_next : (s : ℕ) (entries : List Stamped) (entry : Stamped) → list_of s (entries ++ entry ∷ []) ≡ entry_at s entry ∷ list_of s entries
@@ -45,3 +47,8 @@ kept_next old new keep entries entry seen before same room low stamp result stan
       stands = subst (λ (s : ℕ). StandsFor new (list_of s (entries ++ entry ∷ []))) (sym same.id) (subst (StandsFor new) (sym (list_next old.id entries entry)) stands);
       is_account = subst IsAccount (sym its) account;
     }
+
+-- where a trace isn't full and all is kept there is room for one entry more
+pub room_where_all : (keep : Keep) (len : ℕ) → full_at keep len ≡ false → keeps_all keep ≡ true → len < most_entries
+room_where_all keeps.All len not all = grind (arith, nat_tests, not)
+room_where_all keeps.Nothing len not all = absurd (cc)

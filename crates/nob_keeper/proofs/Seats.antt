@@ -1,12 +1,16 @@
 -- A seat with one receipt more.
-use Rattle.std.proofs.Common.{◌≡◌, ℕ, ◌+◌, ◌-◌, ◌<◌, ◌≤◌, max, List, [], ◌∷◌, ◌++◌, length, reverse, refl, sym, ap, subst, ◌∙◌, arith}
+use Rattle.std.proofs.Common.{◌≡◌, ◌⊎◌, inl, inr, Option, Some, unwrap_or, ℕ, ◌+◌, ◌-◌, ◌<◌, ◌≤◌, max, List, [], ◌∷◌, ◌++◌, length, reverse, refl, sym, ap, subst, ◌∙◌, arith}
 use Rattle.std.proofs.lemmas.List.{reverse-append}
 use Rattle.std.proofs.lemmas.Option.{slice_get_within}
 use Rattle.std.proofs.Math.Nat.{le-max_right}
 use Rattle.nob_trace.specs.declared.stamped.Stamped.{Stamped}
 use Rattle.nob_keeper.specs.declared.receipt.Receipt.{Receipt}
-use Rattle.nob_keeper.specs.Receipts.{entry_of}
-use Rattle.nob_keeper.specs.Seats.{Above, PlacesRise, Has}
+use Rattle.nob_keeper.specs.declared.keep.Keep.TheVariants as keeps
+use Rattle.nob_keeper.specs.Accounts.{Account}
+use Rattle.nob_keeper.specs.Staying.{IsAmong}
+use Rattle.nob_keeper.specs.Receipts.{Told, entry_of}
+use Rattle.nob_past.specs.Lists.{Listed}
+use Rattle.nob_keeper.specs.Seats.{Above, HasNewest, PlacesRise, Has, IsThere, newest}
 
 -- the receipt behind others is the newest
 pub receipts_next : (before now : List Receipt) (receipt : Receipt) → now ≡ before ++ receipt ∷ [] → reverse now ≡ receipt ∷ reverse before
@@ -27,3 +31,24 @@ above_next entries (receipt ∷ earlier) place has rise is =
 -- the next stamp is above what was seen
 pub stamp_above : (last seen stamp : ℕ) → stamp ≡ max last seen + 1 → seen < stamp
 stamp_above last seen stamp is = let top : seen ≤ max last seen = le-max_right last seen in omega (arith, top, is)
+
+-- one that is there is the one
+first_is : (first receipt : Receipt) → Some first ≡ Some receipt → first ≡ receipt
+first_is first receipt is = ap (λ (o : Option Receipt). unwrap_or o first) is
+
+-- the newest item of a list is there where it was, while nothing is added and nothing let go
+pub newest_same : {T : Type 0} (old new : Listed T) → new.items ≡ old.items → new.gone ≡ old.gone → HasNewest old → HasNewest new
+newest_same old new items gone has = elim has as (λ h. HasNewest new) [
+  | inl nothing ↦ inl (gone ∙ nothing)
+  | inr fewer ↦ inr (let same = ap length items in omega (arith, fewer, gone, same))
+]
+
+-- what a seat's newest receipt is told of has it
+pub newest_told : (entries : List Stamped) (receipts : List Receipt) (receipt : Receipt) → newest receipts ≡ Some receipt → Has entries receipts → Told receipt entries
+newest_told entries [] receipt is has = absurd (cc)
+newest_told entries (first ∷ earlier) receipt is has = subst (λ (r : Receipt). Told r entries) (first_is first receipt is) has
+
+-- and where its entry is there it is among those that stay
+pub newest_there : (account : Account) (receipts : List Receipt) (receipt : Receipt) → newest receipts ≡ Some receipt → IsThere account receipts → (account.keep ≡ keeps.All) ⊎ IsAmong account.noted receipt.place
+newest_there account [] receipt is there = absurd (cc)
+newest_there account (first ∷ earlier) receipt is there = subst (λ (r : Receipt). (account.keep ≡ keeps.All) ⊎ IsAmong account.noted r.place) (first_is first receipt is) there

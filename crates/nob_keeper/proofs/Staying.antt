@@ -1,8 +1,10 @@
 -- Entries that stay where others are let go.
-use Rattle.std.proofs.Common.{◌≡◌, ◌≢◌, ℕ, ◌+◌, ◌-◌, ◌<◌, ◌≤◌, Bool, true, false, nat_lt, List, [], ◌∷◌, ◌++◌, length, map, Option, Some, slice_get, get_or, cond, refl, sym, ap, subst, ◌∙◌, arith}
+use Rattle.std.proofs.Common.{◌≡◌, ◌≢◌, ℕ, ◌==◌, ◌+◌, ◌-◌, ◌<◌, ◌≤◌, Bool, true, false, nat_lt, List, [], ◌∷◌, ◌++◌, length, map, Option, Some, slice_get, get_or, cond, refl, sym, ap, subst, ◌∙◌, arith}
 use Prim.Native.Nat.{zero, suc}
 use lib.ListN.{set}
 use Rattle.std.specs.List.{AllByRecursion}
+use Rattle.std.proofs.Math.ListN.{get_or-map}
+use Rattle.std.proofs.lemmas.Bool.{eqb-true}
 use Rattle.std.proofs.lemmas.Bool.Decides.{nat_tests}
 use Rattle.std.proofs.lemmas.List.{length-append, length-set, length-map, map-append, map-set, get_or-set_same, get_or-set_other}
 use Rattle.std.proofs.lemmas.Option.{slice_get_within, slice_get-get_or, get_or_from_slice_get}
@@ -80,3 +82,24 @@ put_more spot place places = elim (nat_lt spot (length places)) as (λ b. length
   | true ↦ (let same = length-set places spot place in omega (arith, same))
   | false ↦ (let more = length-append places (place ∷ []) in omega (arith, more))
 ]
+
+-- an entry put in the place of another is at its place
+pub put_within : (noted : List Noted) (spot : ℕ) (one : Noted) → spot < length noted → places (set noted spot one) ≡ put_at spot one.place (places noted)
+put_within noted spot one within =
+    let is : nat_lt spot (length (places noted)) ≡ true = (let same = length-map noted (λ (n : Noted). n.place) in grind (arith, nat_tests, within, same)) in
+    map-set (λ (n : Noted). n.place) noted spot one ∙ sym (ap (λ (b : Bool). cond b (set (places noted) spot one.place) (places noted ++ one.place ∷ [])) is)
+
+-- a place that isn't among the first so many isn't among one more, where it isn't that of the next
+pub apart_next : (noted : List Noted) (spot place : ℕ) (d : Noted) → ((at : ℕ) → at < spot → slice_get (places noted) at ≢ Some place) → (get_or noted spot d).place ≢ place
+    → (at : ℕ) → at < spot + 1 → slice_get (places noted) at ≢ Some place
+apart_next noted spot place d before not at less is = elim (at == spot) as (λ b. at == spot ≡ b → ⊥) [
+  | true ↦ λ t. not (sym (get_or-map (λ (n : Noted). n.place) noted spot d) ∙ get_or_from_slice_get (places noted) spot place d.place (subst (λ (k : ℕ). slice_get (places noted) k ≡ Some place) (eqb-true at spot t) is))
+  | false ↦ λ f. before at (grind (arith, nat_tests, less, f)) is
+] refl
+
+-- a place that isn't among the first so many isn't among all
+pub apart_all : (noted : List Noted) (spot place : ℕ) → length noted ≤ spot → ((at : ℕ) → at < spot → slice_get (places noted) at ≢ Some place) → IsAmong (places noted) place → ⊥
+apart_all noted spot place all apart is =
+    let within = slice_get_within (places noted) is.0 place is.1 in
+    let long = length-map noted (λ (n : Noted). n.place) in
+    apart is.0 (omega (arith, within, long, all)) is.1

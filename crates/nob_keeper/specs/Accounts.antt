@@ -87,9 +87,13 @@ with_noted noted account = record { id = account.id; n = account.n; limits = acc
 abbrev pub next_stamp : (last seen : ℕ) → ℕ
 next_stamp last seen = max last seen + 1
 
--- whether the trace is full: all entries are kept, and there are 2^20
+-- whether a trace of so many entries is full, of which this is kept: all, and there are 2^20
+abbrev pub full_at : Keep → ℕ → Bool
+full_at keep len = keeps_all keep && nat_le most_entries len
+
+-- whether the trace is full
 abbrev pub is_full : Account → Bool
-is_full account = keeps_all account.keep && nat_le most_entries (length account.entries)
+is_full account = full_at account.keep (length account.entries)
 
 -- what refuses an entry more, memory aside: the trace is full, or else the stamp that was seen is too great
 abbrev pub fault_of : Account → ℕ → Option KeeperError

@@ -26,9 +26,9 @@ abbrev pub PlacesRise : List Receipt → Type 0
 PlacesRise [] = Unit {0}
 PlacesRise (receipt ∷ earlier) = Above receipt.place earlier × PlacesRise earlier
 
--- of a list that isn't empty the newest item wasn't let go
+-- of a list nothing was let go, or not the newest item
 abbrev pub HasNewest : {T : Type 0} → Listed T → Type 0
-HasNewest list = (list.items ≡ []) ⊎ (list.gone < length list.items)
+HasNewest list = (list.gone ≡ 0) ⊎ (list.gone < length list.items)
 
 -- the newest receipt of a seat, if it has one, is told of the entries
 abbrev pub Has : List Stamped → List Receipt → Type 0

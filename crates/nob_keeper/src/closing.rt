@@ -123,9 +123,13 @@ pub(crate) fn judge(alloc: Global, entries: &[Stamped], seats: &[Seat]) -> Resul
     let Ok(mut marks) = unmarked(alloc, entries.len()) else {
         return Err(KeeperError::OutOfMemory);
     };
-    mark_all(&mut marks, entries, seats)?;
-    if !are_all_set(marks.as_slice()) {
-        return Err(KeeperError::Seats);
+    match mark_all(&mut marks, entries, seats) {
+        Ok(()) => {
+            if !are_all_set(marks.as_slice()) {
+                return Err(KeeperError::Seats);
+            }
+            Ok(())
+        }
+        Err(error) => Err(error),
     }
-    Ok(())
 }

@@ -1,6 +1,6 @@
 //! A space with its trace.
 
-ghost use Rattle.std.specs.Prelude.{◌≡◌, ◌≢◌, ◌↔◌, ◌≤◌, ◌<◌, ◌^◌, ◌+◌, ◌-◌, ◌⊎◌, ◌&&◌, ◌||◌, ◌++◌, ◌∷◌, [], ℕ, List, Some, None, true, Err, nat_le, length, slice_get, IfOk, IfErr, OnOk, OnErr};
+ghost use Rattle.std.specs.Prelude.{◌≡◌, ◌≢◌, ◌↔◌, ◌≤◌, ◌<◌, ◌^◌, ◌+◌, ◌-◌, ◌⊎◌, ◌&&◌, ◌||◌, ◌++◌, ◌∷◌, [], ℕ, List, Some, None, true, Err, length, slice_get, IfOk, IfErr, OnOk, OnErr};
 ghost use Rattle.nob_ids.specs.Names.{IsSpace};
 ghost use Rattle.nob_model_types.specs.declared.entry.Entry.{Entry as EntryOf};
 ghost use Rattle.nob_model.specs.Next as next;
@@ -339,7 +339,8 @@ impl Kept {
     /// What went each way on the session with a peer, and how it ended: none where it is no peer.
     /// Constant time, and no memory.
     pub fn tally(&self, peer: SpaceId) -> Option<Tally>
-        ensures { result ≡ summaries.tally_in self.now peer }
+        ensures account { accounts.IsAccount self.now }
+        ensures tally { result ≡ summaries.tally_in self.now peer }
     {
         let here = Here {
             space: self.space.id(),
@@ -353,7 +354,8 @@ impl Kept {
 
     /// How many objects are live. Constant time, and no memory.
     pub fn live(&self) -> u64
-        ensures { result ≡ tallies.live_count self.now.id (accounts.history_in self.now) }
+        ensures account { accounts.IsAccount self.now }
+        ensures live { result ≡ tallies.live_count self.now.id (accounts.history_in self.now) }
     {
         self.space.live()
     }
@@ -361,7 +363,8 @@ impl Kept {
     /// How many own calls aren't taken, how many jobs are ready, and how many run. Constant time, and
     /// no memory.
     pub fn backlog(&self) -> Backlog
-        ensures { result ≡ tallies.backlog (accounts.history_in self.now) }
+        ensures account { accounts.IsAccount self.now }
+        ensures backlog { result ≡ tallies.backlog (accounts.history_in self.now) }
     {
         self.space.backlog()
     }
@@ -513,7 +516,7 @@ fn ask(
 
 // Whether a trace of so many entries is full, of which this is kept.
 fn is_full(keep: Keep, len: u64) -> bool
-    ensures { result ≡ accounts.keeps_all keep && nat_le accounts.most_entries len }
+    ensures { result ≡ accounts.full_at keep len }
 {
     match keep {
         Keep::All => len >= MOST_ENTRIES,

@@ -67,7 +67,8 @@ pub(crate) fn tallies_of(alloc: Global, kept: &Kept) -> Result<Vec<PeerTally>, A
         ≡ summaries.tallies_to kept.now kept.now.n) }
 {
     let mut tallies = Vec::new(alloc);
-    for number in 1..=kept.n().get() {
+    let end = kept.n().get() + 1;
+    for number in 1..end {
         add_tally(&mut tallies, kept, number)?;
     }
     Ok(tallies)

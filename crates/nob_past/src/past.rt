@@ -119,7 +119,7 @@ impl<T: Drop> Past<T> {
         ensures items { self.new.items ≡ self.old.items }
         ensures gone { self.new.gone ≡ self.old.gone }
         ensures room { OnOk result (0 < self.new.room) }
-        ensures few { OnOk result (length self.new.items < 2 ^ 63) }
+        ensures few { OnOk result (length self.new.items < 2 ^ 62) }
     {
         if self.len >= MAX_LEN {
             return Err(AllocError);

@@ -10,30 +10,30 @@ use Rattle.nob_keeper.proofs.closing.judge.Goals as goal
 begun : (entries : List Stamped) (marks : List Bool) → marks ≡ replicate (length entries) false → closing.AreMarks marks entries []
 begun entries marks none = subst (λ (marks : List Bool). closing.AreMarks marks entries []) (sym none) (no_marks entries (length entries))
 
-pub returns-clause-ok : goal.returns-clause-ok
-returns-clause-ok c =
+pub returns-in-Ok-mark_all-clause-ok : goal.returns-in-Ok-mark_all-clause-ok
+returns-in-Ok-mark_all-clause-ok c =
     let entries = c.args.entries.now in
     let marks = c.mark_all.new.marks.items in
-    let marked = c.if-not-mark_all.ensures {u = tt} in
+    let marked = c.in-Ok-mark_all.ensures {u = tt} in
     let none : c.in-Ok.marks.items ≡ replicate (length entries) false = c.in-Ok.ensures {u = tt} in
-    let are : closing.AreMarks marks entries (closing.receipts_of c.args.seats.now) = marked.marks [] refl (begun entries c.in-Ok.marks.items none) in
+    let are : closing.AreMarks marks entries (closing.receipts_of c.args.seats.now) = marked.marks [] (begun entries c.in-Ok.marks.items none) in
     let long : length marks ≡ length entries = marked.len ∙ ap length none ∙ length-replicate (length entries) false in
     let set : (place : ℕ) → place < length marks → get_or marks place false ≡ true =
     subst (λ (marks : List Bool). (place : ℕ) → place < length marks → get_or marks place false ≡ true) c.as_slice.ensures.value ((c.if-not-are_all_set.ensures {u = tt}).set refl) in
     all_marks marks entries (closing.receipts_of c.args.seats.now) are long set
 
-pub returns-then-not-mark_all-clause-seats : goal.returns-then-not-mark_all-clause-seats
-returns-then-not-mark_all-clause-seats c is are =
-    (c.if-not-mark_all.ensures {u = tt}).fault [] [] refl (begun c.args.entries.now c.in-Ok.marks.items (c.in-Ok.ensures {u = tt}))
-    (subst (closing.AreOf c.args.entries.now) (sym (append-nil (closing.receipts_of c.args.seats.now))) are)
-
 pub returns-then-not-are_all_set-clause-seats : goal.returns-then-not-are_all_set-clause-seats
 returns-then-not-are_all_set-clause-seats c is are =
     let entries = c.args.entries.now in
     let marks = c.mark_all.new.marks.items in
-    let marked = c.if-not-mark_all.ensures {u = tt} in
+    let marked = c.in-Ok-mark_all.ensures {u = tt} in
     let none : c.in-Ok.marks.items ≡ replicate (length entries) false = c.in-Ok.ensures {u = tt} in
     let long : length marks ≡ length entries = marked.len ∙ ap length none ∙ length-replicate (length entries) false in
     let unset : (place : ℕ) × (place < length marks) × (get_or marks place false ≡ false) =
     subst (λ (marks : List Bool). (place : ℕ) × (place < length marks) × (get_or marks place false ≡ false)) c.as_slice.ensures.value ((c.if-not-are_all_set.ensures {u = tt}).unset refl) in
-    unmarked_there marks entries (closing.receipts_of c.args.seats.now) unset.0 (marked.marks [] refl (begun entries c.in-Ok.marks.items none)) long unset.1 unset.2 are
+    unmarked_there marks entries (closing.receipts_of c.args.seats.now) unset.0 (marked.marks [] (begun entries c.in-Ok.marks.items none)) long unset.1 unset.2 are
+
+pub returns-clause-seats : goal.returns-clause-seats
+returns-clause-seats c is are =
+    (c.in-Err.ensures {u = tt}).fault [] [] is (begun c.args.entries.now c.in-Ok.marks.items (c.in-Ok.ensures {u = tt}))
+    (subst (closing.AreOf c.args.entries.now) (sym (append-nil (closing.receipts_of c.args.seats.now))) are)

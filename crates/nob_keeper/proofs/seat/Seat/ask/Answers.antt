@@ -1,26 +1,28 @@
 use Rattle.std.proofs.Common.{◌≡◌, ◌∷◌, [], ◌++◌, List, reverse, sym, ap, subst, ◌∙◌}
 use Rattle.nob_keeper.specs.declared.receipt.Receipt.{Receipt}
 use Rattle.nob_keeper.specs.Seats as seats
-use Rattle.nob_keeper.proofs.Seats.{receipts_next, above_next, stamp_above}
+use Rattle.nob_keeper.proofs.Seats.{receipts_next, above_next, stamp_above, newest_same}
+use Rattle.nob_keeper.proofs.Spots.{stays_newest}
 use Rattle.nob_keeper.proofs.seat.Seat.ask.Goals as goal
 
 -- the receipts are those before, behind the new one
-added : (c : goal.After-push_reserved) → reverse c.push_reserved.new.self.items ≡ c.in_ok-receipt.receipt ∷ c.args.self.now
+added : (c : goal.After-add) → reverse c.add.new.receipts.items ≡ c.in_ok-receipt.receipt ∷ c.args.self.now
 added c =
-    receipts_next c.self.inside.receipts.items c.push_reserved.new.self.items c.in_ok-receipt.receipt
-    (c.push_reserved.ensures.items ∙ ap (λ (receipts : List Receipt). receipts ++ c.in_ok-receipt.receipt ∷ []) c.reserve.ensures.items)
+    receipts_next c.self.inside.receipts.items c.add.new.receipts.items c.in_ok-receipt.receipt
+    (c.add.ensures.items ∙ ap (λ (receipts : List Receipt). receipts ++ c.in_ok-receipt.receipt ∷ []) c.reserve.ensures.items)
     ∙ ap (λ (receipts : List Receipt). c.in_ok-receipt.receipt ∷ receipts) c.self.view_is
 
 -- the places before rise
-rising : (c : goal.After-push_reserved) → seats.PlacesRise c.args.self.now
-rising c = subst seats.PlacesRise c.self.view_is c.self.invariant
+rising : (c : goal.After-add) → seats.PlacesRise c.args.self.now
+rising c = subst seats.PlacesRise c.self.view_is c.self.invariant.0
 
 -- the new receipt's place is above those before
-above : (c : goal.After-push_reserved) → seats.Above c.in_ok-receipt.receipt.place c.args.self.now
-above c = above_next c.args.kept.now.entries c.args.self.now c.in_ok-receipt.receipt.place ((c.in_ok-check.ensures {u = tt}).ok) (rising c) ((c.in_ok-receipt.ensures {u = tt}).next.place)
+above : (c : goal.After-add) → seats.Above c.in_ok-receipt.receipt.place c.args.self.now
+above c = above_next c.args.kept.now.entries c.args.self.now c.in_ok-receipt.receipt.place ((c.in_ok-spot.ensures {u = tt}).ok) (rising c) ((c.in_ok-receipt.ensures {u = tt}).next.place)
 
 pub invariant_of-self-2 : goal.invariant_of-self-2
-invariant_of-self-2 c = subst seats.PlacesRise (sym (added c)) (above c, rising c)
+invariant_of-self-2 c =
+    (subst seats.PlacesRise (sym (added c)) (above c, rising c), c.add.ensures.newest (newest_same c.self.inside.receipts c.reserve.new.self c.reserve.ensures.items c.reserve.ensures.gone c.self.invariant.1))
 
 pub returns-clause-adds : goal.returns-clause-adds
 returns-clause-adds c =
@@ -29,4 +31,10 @@ returns-clause-adds c =
 
 pub returns-clause-next : goal.returns-clause-next
 returns-clause-next c =
-    (c.in_ok-receipt.receipt, c.args.kept.now, added c, (c.in_ok-check.ensures {u = tt}).account, (c.in_ok-check.ensures {u = tt}).ok, (c.in_ok-receipt.ensures {u = tt}).next)
+    (c.in_ok-receipt.receipt, c.args.kept.now, added c, (c.in_ok-spot.ensures {u = tt}).account, (c.in_ok-spot.ensures {u = tt}).ok, (c.in_ok-receipt.ensures {u = tt}).next)
+
+pub returns-clause-stays : goal.returns-clause-stays
+returns-clause-stays c =
+    let receipt = c.in_ok-receipt.receipt in
+    subst (λ (receipts : List Receipt). seats.StaysNewest c.args.kept.now c.append_at.new.self c.args.self.now receipts) (sym (added c))
+    (stays_newest c.args.kept.now c.append_at.new.self c.args.self.now receipt c.in_ok-spot.spot ((c.in_ok-spot.ensures {u = tt}).spot) ((c.in_ok-receipt.ensures {u = tt}).next.place) ((c.in_ok-receipt.ensures {u = tt}).entry))

@@ -1,0 +1,6 @@
+use Rattle.std.proofs.Common.{◌≡◌, ◌-◌, ◌≤◌}
+use Rattle.nob_keeper.specs.Summaries as summaries
+use Rattle.nob_keeper.proofs.summary.tallies_of.Given as goal
+
+abbrev pub invariant-loop-number : goal.invariant-loop-number
+invariant-loop-number l = l.tallies.items ≡ summaries.tallies_to l.kept (l.number - 1)
