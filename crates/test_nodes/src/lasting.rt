@@ -207,7 +207,7 @@ pub(crate) fn play_lasting<R: Threads + Wait + Sync>(rt: &R, alloc: Global) -> O
     let mut owner = Place::new(alloc, first, true, ours)?;
     let mut caller = Place::new(alloc, second, false, theirs)?;
     play_both(rt, &mut owner, &mut caller);
-    Some(lasted(owner.left?, caller.left?))
+    Some(both_of(owner.left?, caller.left?))
 }
 
 // Runs both nodes, a thread each.
@@ -225,7 +225,7 @@ fn play_both<R: Threads + Wait + Sync>(rt: &R, owner: &mut Place, caller: &mut P
 }
 
 // What both come to.
-fn lasted(owner: Numbers, caller: Numbers) -> Lasted {
+fn both_of(owner: Numbers, caller: Numbers) -> Lasted {
     Lasted {
         answered: caller.answered,
         last: caller.last,
