@@ -1,15 +1,13 @@
 -- What one entry more leaves of what is kept of a space.
-use Rattle.std.proofs.Common.{◌≡◌, ℕ, ◌+◌, ◌*◌, ◌^◌, ◌<◌, ◌≤◌, Bool, true, false, max, List, [], ◌∷◌, ◌++◌, length, map, reverse, Result, refl, sym, ap, subst, ◌∙◌, arith}
+use Rattle.std.proofs.Common.{◌≡◌, ℕ, ◌+◌, ◌<◌, ◌≤◌, true, false, max, List, [], ◌∷◌, ◌++◌, length, map, refl, sym, subst, arith}
 use Rattle.std.proofs.lemmas.List.{map-append, reverse-append, length-append}
 use Rattle.std.proofs.lemmas.Bool.Decides.{nat_tests}
 use Rattle.std.proofs.Math.Nat.{le-max_left, max-le}
-use Rattle.nob_ids.specs.declared.limits.Limits.{Limits}
-use Rattle.nob_model_types.specs.declared.entry.Entry.{Entry}
 use Rattle.nob_model.specs.Lists.{AreRight}
 use Rattle.nob_model.specs.Right.{right}
 use Rattle.nob_space.specs.Spaces.{Owner, StandsFor, SameSpace}
 use Rattle.nob_trace.specs.declared.stamped.Stamped.{Stamped}
-use Rattle.nob_trace.specs.Stamps.{Rise, last_stamp}
+use Rattle.nob_trace.specs.Stamps.{last_stamp}
 use Rattle.nob_trace.proofs.Rising.{rise_push, last_push}
 use Rattle.nob_keeper.specs.declared.keep.Keep.{Keep}
 use Rattle.nob_keeper.specs.declared.keep.Keep.TheVariants as keeps

@@ -5,7 +5,6 @@ use denote.Struct.Declared.{shape}
 use denote.Struct.Field.{u64-field}
 use denote.Struct.Struct.{Struct}
 use Rattle.std.proofs.Crossing.{crosses, Vec-send, Vec-sync}
-use Rattle.std.specs.contracts.option.Option as Option
 use Rattle.std.specs.contracts.result.Result as Result
 use Rattle.std.specs.contracts.sync.Condvar as Condvar
 use Rattle.nob_bytes.proofs.owned.Bytes.TheSendSync as bytes
@@ -169,9 +168,19 @@ noted_send =
 kept_inside_send : IsSend KeptInside.the_row
 kept_inside_send =
     let T = KeptInside.the_type in
-    recorded_send (Struct (shape T)) T.D T.to T.to_one (struct_send (shape T)
-    (space_send, (search sendable depth 30, (search sendable depth 30, (search (stamped_send, past.crosses, crosses, sendable) depth 60,
-    (search sendable, (Vec-send Noted.the_row noted_send, tt)))))))
+    recorded_send (Struct (shape T)) T.D T.to T.to_one (struct_send (shape T) (
+      space_send,
+      (
+        search sendable depth 30,
+        (
+          search sendable depth 30,
+          (
+            search (stamped_send, past.crosses, crosses, sendable) depth 60,
+            (search sendable, (Vec-send Noted.the_row noted_send, tt)),
+          ),
+        ),
+      ),
+    ))
 
 pub kept_send : IsSend Kept.the_row
 kept_send = view_send KeptInside.the_row _ _ _ _ kept_inside_send

@@ -1,5 +1,5 @@
 -- Marks of the entries whose receipts were seen.
-use Rattle.std.proofs.Common.{◌≡◌, ◌≢◌, ℕ, ◌+◌, ◌-◌, ◌<◌, ◌≤◌, Bool, true, false, true≢false, ◌==◌, add-zero, List, [], ◌∷◌, ◌++◌, length, take, drop, reverse, replicate, get_or, append_assoc, refl, sym, ap, subst, ◌∙◌, arith}
+use Rattle.std.proofs.Common.{◌≡◌, ◌≢◌, ℕ, ◌+◌, ◌-◌, ◌<◌, Bool, true, false, true≢false, ◌==◌, add-zero, List, [], ◌∷◌, ◌++◌, length, take, drop, reverse, replicate, get_or, append_assoc, refl, sym, ap, subst, ◌∙◌, arith}
 use Prim.Native.Nat.{zero, suc}
 use lib.ListN.{set}
 use Rattle.std.specs.Prelude.{filter}

@@ -1,5 +1,5 @@
 -- The newest receipt of a seat.
-use Rattle.std.proofs.Common.{◌≡◌, ◌⊎◌, inl, inr, ℕ, ◌+◌, ◌-◌, ◌<◌, List, [], ◌∷◌, ◌++◌, length, reverse, take, Option, Some, None, IfSome, MatchOption, slice_get, get_or, unwrap_or, refl, sym, ap, subst, ◌∙◌, arith}
+use Rattle.std.proofs.Common.{◌≡◌, inl, inr, ◌+◌, ◌-◌, ◌<◌, List, [], ◌∷◌, ◌++◌, length, reverse, take, Option, Some, None, IfSome, MatchOption, slice_get, get_or, refl, sym, ap, ◌∙◌, arith}
 use Prim.Native.Nat.{suc}
 use Rattle.std.proofs.lemmas.List.{take_all, take_more, reverse-append}
 use Rattle.std.proofs.lemmas.Option.{slice_get_within, get_or_from_slice_get}
@@ -22,8 +22,8 @@ none_there : (list : Listed Receipt) → HasNewest list → list.gone ≡ length
 none_there list has all = elim list.items as (λ xs. list.items ≡ xs → xs ≡ []) [
   | [] ↦ λ is. refl
   | (x ∷ xs) ↦ λ is.
-    let long : length list.items ≡ suc (length xs) = ap length is in
-    elim has as (λ h. (x ∷ xs) ≡ []) [ inl zero_gone ↦ absurd (omega (arith, all, long, zero_gone)) | inr fewer ↦ absurd (omega (arith, all, fewer)) ]
+      let long : length list.items ≡ suc (length xs) = ap length is in
+      elim has as (λ h. (x ∷ xs) ≡ []) [ inl zero_gone ↦ absurd (omega (arith, all, long, zero_gone)) | inr fewer ↦ absurd (omega (arith, all, fewer)) ]
 ] refl
 
 -- the newest one as a list's last is read

@@ -1,5 +1,5 @@
 -- What stays of the newest entries of seats once one of them has asked.
-use Rattle.std.proofs.Common.{◌≡◌, ◌≢◌, ◌⊎◌, inl, inr, ℕ, ◌+◌, ◌-◌, ◌<◌, ◌≤◌, List, [], ◌∷◌, ◌++◌, length, Option, Some, None, Result, Ok, Err, IfErr, OnErr, slice_get, refl, sym, ap, subst, ◌∙◌, arith}
+use Rattle.std.proofs.Common.{◌≡◌, ◌≢◌, ◌⊎◌, inl, inr, ℕ, ◌+◌, ◌-◌, ◌≤◌, List, [], ◌∷◌, ◌++◌, length, Option, Some, None, Result, Ok, Err, IfErr, OnErr, slice_get, refl, sym, ap, subst, ◌∙◌, arith}
 use Prim.Native.Nat.{suc}
 use Rattle.std.proofs.lemmas.Option.{slice_get_within, get_or_from_slice_get}
 use Rattle.nob_keeper.specs.declared.keep.Keep.{Keep}
@@ -11,7 +11,7 @@ use Rattle.nob_keeper.specs.declared.error.KeeperError.{KeeperError}
 use Rattle.nob_keeper.specs.declared.error.KeeperError.TheVariants as errors
 use Rattle.nob_keeper.specs.declared.noted.Noted.{Noted}
 use Rattle.nob_keeper.specs.Staying.{AreKept, AreNoted, IsAmong, IsNoted}
-use Rattle.nob_keeper.specs.Spots.{IsSpot, IsSpotOf, StaysAt, noted_after, noted_next}
+use Rattle.nob_keeper.specs.Spots.{IsSpotOf, StaysAt, noted_after, noted_next}
 use Rattle.nob_keeper.specs.Accounts.{Account, with_next, with_noted}
 use Rattle.nob_keeper.specs.Receipts.{Told, entry_of}
 use Rattle.nob_keeper.specs.Seats.{Has, IsOther, IsThere, StaysNewest, newest, seats_more}

@@ -1,5 +1,5 @@
 -- The tallies of one space more.
-use Rattle.std.proofs.Common.{◌≡◌, ℕ, ◌+◌, ◌-◌, ◌≤◌, refl, ap, ◌∙◌, arith}
+use Rattle.std.proofs.Common.{◌≡◌, ℕ, ◌+◌, ◌-◌, ◌≤◌, ap, ◌∙◌, arith}
 use Prim.Native.Nat.{suc}
 use Rattle.nob_keeper.specs.Accounts.{Account}
 use Rattle.nob_keeper.specs.Summaries.{with_tally, tallies_to}

@@ -1,5 +1,5 @@
 -- Entries that stay where those around them are let go: the newest of each seat.
-use Rattle.std.specs.Prelude.{◌≡◌, ◌≤◌, ◌-◌, ◌⊎◌, ℕ, nat_lt, List, [], ◌∷◌, ◌++◌, length, map, Some, slice_get, if◌then◌else◌}
+use Rattle.std.specs.Prelude.{◌≡◌, ◌≤◌, ◌-◌, ℕ, nat_lt, List, [], ◌∷◌, ◌++◌, length, map, Some, slice_get, if◌then◌else◌}
 use Rattle.std.specs.List.{AllByRecursion}
 use lib.ListN.{set}
 use Rattle.nob_past.specs.Lists.{Listed}

@@ -62,11 +62,7 @@ fn mark(marks: &mut Vec<bool>, entries: &[Stamped], receipts: &[Receipt]) -> boo
 
 // Marks the places of the receipts of all seats: K4 where one is marked already or isn't told, or
 // else a seat has let receipts go.
-fn mark_all(
-    marks: &mut Vec<bool>,
-    entries: &[Stamped],
-    seats: &[Seat],
-) -> Result<(), KeeperError>
+fn mark_all(marks: &mut Vec<bool>, entries: &[Stamped], seats: &[Seat]) -> Result<(), KeeperError>
     requires { length marks.old.items ≡ length entries.now }
     ensures len { length marks.new.items ≡ length marks.old.items }
     ensures marks { (before : List ReceiptOf) → OnOk result

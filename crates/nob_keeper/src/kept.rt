@@ -75,7 +75,7 @@ impl Model for Kept {
 
     ghost invariant = { λ kept. (kept.n ≡ kept.space.n)
         × IsKept kept.space (account_of kept.space kept.keep kept.entries.items
-            (places kept.noted.items))
+        (places kept.noted.items))
         × (kept.last ≡ last_stamp 0 kept.entries.items)
         × AreKept kept.keep kept.entries kept.noted.items };
 }

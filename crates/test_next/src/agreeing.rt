@@ -78,8 +78,8 @@ fn tells_clients(alloc: Global, space: &Space, history: &History) -> Result<bool
     Ok(true)
 }
 
-// Whether a space says what went each way on the session with each peer, how many of its objects are
-// live, and what isn't done yet.
+// Whether a space says what went each way on the session with each peer, how many of its objects
+// are live, and what isn't done yet.
 fn tells_tallies(alloc: Global, space: &Space, history: &History) -> Result<bool, AllocError> {
     let here = Here {
         space: space.id(),

@@ -1,7 +1,6 @@
 use Rattle.std.proofs.Common.{◌≡◌, ℕ, ◌<◌, true, false, Bool, List, [], length, get_or, replicate, append-nil, refl, sym, ap, subst, ◌∙◌}
 use Rattle.std.proofs.lemmas.List.{length-replicate}
 use Rattle.nob_keeper.specs.Closing as closing
-use Rattle.nob_keeper.specs.declared.receipt.Receipt.{Receipt as ReceiptOf}
 use Rattle.nob_trace.specs.declared.stamped.Stamped.{Stamped}
 use Rattle.nob_keeper.proofs.Marks.{no_marks, all_marks, unmarked_there}
 use Rattle.nob_keeper.proofs.closing.judge.Goals as goal

@@ -1,5 +1,4 @@
 use Rattle.std.proofs.Common.{◌≡◌, ℕ, ◌+◌, ◌-◌, ◌<◌, false, Bool, ◌++◌, ◌∷◌, [], List, length, take, drop, get_or, append_assoc, true, true≢false, refl, sym, ap, subst, ◌∙◌, arith}
-use lib.ListN.{set}
 use Rattle.std.proofs.lemmas.List.{take_more, length-set, take_all, get_or_read}
 use Rattle.std.proofs.lemmas.Option.{slice_get_within}
 use Rattle.nob_keeper.specs.Closing as closing

@@ -1,4 +1,4 @@
-use Rattle.std.proofs.Common.{◌≡◌, ◌≢◌, ◌<◌, ℕ, Some, slice_get}
+use Rattle.std.proofs.Common.{◌≢◌, ◌<◌, ℕ, Some, slice_get}
 use Rattle.nob_keeper.specs.Staying as staying
 use Rattle.nob_keeper.proofs.noted.search.Given as goal
 

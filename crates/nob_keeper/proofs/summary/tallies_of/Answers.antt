@@ -1,4 +1,4 @@
-use Rattle.std.proofs.Common.{◌≡◌, ◌+◌, ◌-◌, ℕ, List, sym, ap, ◌∙◌, arith}
+use Rattle.std.proofs.Common.{◌≡◌, ◌-◌, List, sym, ap, ◌∙◌, arith}
 use Rattle.nob_keeper.specs.Summaries as summaries
 use Rattle.nob_keeper.specs.declared.summary.PeerTally.{PeerTally}
 use Rattle.nob_keeper.proofs.Summaries.{tallies_next}

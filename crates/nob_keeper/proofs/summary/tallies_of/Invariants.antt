@@ -1,4 +1,4 @@
-use Rattle.std.proofs.Common.{◌≡◌, ◌-◌, ◌≤◌}
+use Rattle.std.proofs.Common.{◌≡◌, ◌-◌}
 use Rattle.nob_keeper.specs.Summaries as summaries
 use Rattle.nob_keeper.proofs.summary.tallies_of.Given as goal
 
