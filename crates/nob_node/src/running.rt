@@ -214,7 +214,7 @@ fn record_of(
     kept: Keep,
     seats: Vec<Seat>,
 ) -> Result<Record, (KeeperError, Keeper)>
-    ensures record { IfOk result (λ record. summaries.IsRecordOf seats.items record) }
+    ensures right { IfOk result (λ left. summaries.IsRecordOf seats.items left) }
 {
     match kept {
         Keep::All => match keeper.close_with(seats) {
