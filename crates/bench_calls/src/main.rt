@@ -25,7 +25,7 @@ fn main(rt: HostRuntime) -> ExitCode {
     let done = match read_task(&rt) {
         Ok(Some(task)) => run(&rt, rt.alloc(), task),
         Ok(None) => rt.println(
-            "bench_calls floor|idle|null|apart|fresh|life|handoff CALLERS CALLS LOSS",
+            "bench_calls floor|idle|null|apart|fresh|life|handoff CALLERS CALLS LOSS [all|nothing]",
         ),
         Err(error) => Err(error),
     };

@@ -128,7 +128,7 @@ fn places_of(alloc: Global, task: Task) -> Option<Vec<Place>> {
         let space = SpaceId::new(number)?;
         let place = Place {
             alloc,
-            config: Config::new(space, count, Limits::default(), WORKERS, PAUSE, 0)?,
+            config: config_of(task, space, count)?,
             ends: Some(Vec::new(alloc)),
             space: number,
             players: count,
@@ -146,6 +146,12 @@ fn places_of(alloc: Global, task: Task) -> Option<Vec<Place>> {
         }
     }
     Some(places)
+}
+
+// How the node of a space runs.
+fn config_of(task: Task, space: SpaceId, count: u16) -> Option<Config> {
+    let config = Config::new(space, count, Limits::default(), WORKERS, PAUSE, 0)?;
+    Some(config.keeping(task.keep))
 }
 
 // Joins two places by a link each way. Only memory fails it.

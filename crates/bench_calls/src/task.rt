@@ -1,5 +1,6 @@
 //! What is measured.
 
+use nob_node::Keep;
 use std::{env, io};
 
 /// What each call is for.
@@ -22,16 +23,18 @@ pub(crate) enum Kind {
 }
 
 /// What is measured: so many callers, each of which makes so many calls, over links that lose about
-/// so many frames of ten.
+/// so many frames of ten, of nodes that keep all of their entries, or nothing.
 #[derive(Clone, Copy, Debug)]
 pub(crate) struct Task {
     pub(crate) kind: Kind,
     pub(crate) callers: u16,
     pub(crate) calls: u64,
     pub(crate) loss: u64,
+    pub(crate) keep: Keep,
 }
 
-/// The task of the command line: `None` where it has too few words.
+/// The task of the command line: `None` where it has too few words. Nodes keep all where the fifth
+/// word isn't `nothing`.
 pub(crate) fn read_task(rt: &HostRuntime) -> io::Result<Option<Task>> {
     let mut words = env::args(rt)?;
     let _program = words.next();
@@ -47,12 +50,25 @@ pub(crate) fn read_task(rt: &HostRuntime) -> io::Result<Option<Task>> {
     let Some(loss) = words.next() else {
         return Ok(None);
     };
+    let keep = match words.next() {
+        Some(word) => keep_of(word.as_str()),
+        None => Keep::All,
+    };
     Ok(Some(Task {
         kind: kind_of(kind.as_str()),
         callers: callers.as_str().parse::<u16>().unwrap_or(1).clamp(1, 8),
         calls: calls.as_str().parse::<u64>().unwrap_or(1),
         loss: loss.as_str().parse::<u64>().unwrap_or(0),
+        keep,
     }))
+}
+
+// What a word has the nodes keep.
+fn keep_of(word: &str) -> Keep {
+    match word {
+        "nothing" => Keep::Nothing,
+        _ => Keep::All,
+    }
 }
 
 // The kind of a word.

@@ -6,3 +6,4 @@ pub mod Readings
 pub mod Taken
 pub mod Within
 pub mod Commands
+pub mod Saying

@@ -86,49 +86,29 @@ abbrev leaf : Keep → ℕ → Shape
 leaf keep i = slice_index_or (built (nobj keep)).subs i help_shape
 
 pair_right : (keep : Keep) → IsRight keep (leaf keep 0)
-pair_right keeps.All = record {
-  own = All-from_recursion (IsOwn (leaf keeps.All 0).rules) (leaf keeps.All 0).rules ((refl, refl), tt);
-  scene = λ e. absurd (true≢false (sym e));
-  draw = λ e. absurd (true≢false (sym e));
-}
-pair_right keeps.Nothing = record {
-  own = All-from_recursion (IsOwn (leaf keeps.Nothing 0).rules) (leaf keeps.Nothing 0).rules ((refl, refl), tt);
+pair_right keep = record {
+  own = All-from_recursion (IsOwn (leaf keep 0).rules) (leaf keep 0).rules ((refl, refl), tt);
   scene = λ e. absurd (true≢false (sym e));
   draw = λ e. absurd (true≢false (sym e));
 }
 
 script_right : (keep : Keep) → IsRight keep (leaf keep 1)
-script_right keeps.All = record {
-  own = All-from_recursion (IsOwn (leaf keeps.All 1).rules) (leaf keeps.All 1).rules ((refl, refl), tt);
-  scene = λ e. absurd (true≢false (sym e));
-  draw = λ e. absurd (true≢false (sym e));
-}
-script_right keeps.Nothing = record {
-  own = All-from_recursion (IsOwn (leaf keeps.Nothing 1).rules) (leaf keeps.Nothing 1).rules ((refl, refl), tt);
+script_right keep = record {
+  own = All-from_recursion (IsOwn (leaf keep 1).rules) (leaf keep 1).rules ((refl, refl), tt);
   scene = λ e. absurd (true≢false (sym e));
   draw = λ e. absurd (true≢false (sym e));
 }
 
 check_right : (keep : Keep) → IsRight keep (leaf keep 2)
-check_right keeps.All = record {
-  own = All-from_recursion (IsOwn (leaf keeps.All 2).rules) (leaf keeps.All 2).rules ((refl, refl), tt);
-  scene = λ e. absurd (true≢false (sym e));
-  draw = λ e. absurd (true≢false (sym e));
-}
-check_right keeps.Nothing = record {
-  own = All-from_recursion (IsOwn (leaf keeps.Nothing 2).rules) (leaf keeps.Nothing 2).rules ((refl, refl), tt);
+check_right keep = record {
+  own = All-from_recursion (IsOwn (leaf keep 2).rules) (leaf keep 2).rules ((refl, refl), tt);
   scene = λ e. absurd (true≢false (sym e));
   draw = λ e. absurd (true≢false (sym e));
 }
 
 draw_right : (keep : Keep) → IsRight keep (leaf keep 3)
-draw_right keeps.All = record {
-  own = All-from_recursion (IsOwn (leaf keeps.All 3).rules) (leaf keeps.All 3).rules ((refl, refl), ((refl, refl), ((refl, refl), tt)));
-  scene = λ e. absurd (true≢false (sym e));
-  draw = λ e. record { from = (_, refl, refl); to = (_, refl, refl) };
-}
-draw_right keeps.Nothing = record {
-  own = All-from_recursion (IsOwn (leaf keeps.Nothing 3).rules) (leaf keeps.Nothing 3).rules ((refl, refl), ((refl, refl), ((refl, refl), tt)));
+draw_right keep = record {
+  own = All-from_recursion (IsOwn (leaf keep 3).rules) (leaf keep 3).rules ((refl, refl), ((refl, refl), ((refl, refl), tt)));
   scene = λ e. absurd (true≢false (sym e));
   draw = λ e. record { from = (_, refl, refl); to = (_, refl, refl) };
 }
@@ -158,13 +138,8 @@ spaces_right keeps.Nothing = record {
 }
 
 help_right : (keep : Keep) → IsRight keep (leaf keep 5)
-help_right keeps.All = record {
-  own = All-from_recursion (IsOwn (leaf keeps.All 5).rules) (leaf keeps.All 5).rules ((refl, refl), tt);
-  scene = λ e. absurd (true≢false (sym e));
-  draw = λ e. absurd (true≢false (sym e));
-}
-help_right keeps.Nothing = record {
-  own = All-from_recursion (IsOwn (leaf keeps.Nothing 5).rules) (leaf keeps.Nothing 5).rules ((refl, refl), tt);
+help_right keep = record {
+  own = All-from_recursion (IsOwn (leaf keep 5).rules) (leaf keep 5).rules ((refl, refl), tt);
   scene = λ e. absurd (true≢false (sym e));
   draw = λ e. absurd (true≢false (sym e));
 }
@@ -179,8 +154,8 @@ no_kinds : (ks : Kinds) → takes_words ks ≡ true → ks ≡ []
 no_kinds [] e = refl
 no_kinds (k ∷ ks) e = absurd (true≢false (sym e))
 
-scene_within : (s : Shape) (rows : List Row) → All (Good s.rules) rows → HasNumbers keep s.rules → SceneIsWithin rows
-scene_within s rows all has = record {
+scene_within : (keep : Keep) (s : Shape) (rows : List Row) → All (Good s.rules) rows → HasNumbers keep s.rules → SceneIsWithin keep rows
+scene_within keep s rows all has = record {
   spaces = within s.rules rows all 2 8 (codes "spaces") has.spaces;
   workers = within s.rules rows all 1 16 (codes "workers") has.workers;
   calls = within s.rules rows all 0 (most_calls keep) (codes "calls") has.calls;

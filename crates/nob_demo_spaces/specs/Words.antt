@@ -32,10 +32,14 @@ nobj_with_draw = with_subcommand nobj_with_check draw_shape
 abbrev pub nobj : Keep → App
 nobj keep = with_subcommand nobj_with_draw (spaces_shape keep)
 
--- whether `--keep=nothing` stands among the words, or `--keep` and then `nothing`; the word before them may be `--keep`
+-- whether a word says that nothing is kept: `--keep=nothing`, or `nothing` behind the word `--keep`
+abbrev pub says_nothing : (after_keep : Bool) → (word : List ℕ) → Bool
+says_nothing after_keep word = bytes_eq word (codes "--keep=nothing") || after_keep && bytes_eq word (codes "nothing")
+
+-- whether one of these words says so, before which `--keep` may stand
 abbrev pub say_nothing : (after_keep : Bool) → List (List ℕ) → Bool
 say_nothing after_keep [] = false
-say_nothing after_keep (word ∷ rest) = bytes_eq word (codes "--keep=nothing") || (after_keep && bytes_eq word (codes "nothing")) || say_nothing (bytes_eq word (codes "--keep")) rest
+say_nothing after_keep (word ∷ rest) = if says_nothing after_keep word then true else say_nothing (bytes_eq word (codes "--keep")) rest
 
 -- what the nodes of a scene are to keep by words of which the first is the program's name: nothing where the others say so, else all
 abbrev pub keep_in : List (List ℕ) → Keep

@@ -23,17 +23,24 @@ pub fn keep_in<S: AsStr>(words: &[S]) -> Keep
     }
 }
 
-// Whether `--keep=nothing` stands among the words, or `--keep` and then `nothing`.
+// Whether one of these words says that nothing is kept.
 fn say_nothing<S: AsStr>(words: &[S]) -> bool
     ensures { result ≡ spec.say_nothing false (map S.text words.now) }
 {
     let mut after_keep = false;
     for word in words {
         let word = word.as_str();
-        if word == "--keep=nothing" || (after_keep && word == "nothing") {
+        if says_nothing(after_keep, word) {
             return true;
         }
         after_keep = word == "--keep";
     }
     false
+}
+
+// Whether a word says that nothing is kept: `--keep=nothing`, or `nothing` behind the word `--keep`.
+fn says_nothing(after_keep: bool, word: &str) -> bool
+    ensures { result ≡ spec.says_nothing after_keep word.now }
+{
+    word == "--keep=nothing" || (after_keep && word == "nothing")
 }

@@ -60,7 +60,7 @@ pub fn run<B: Object + Send, R: Threads + Wait + Sync, G: Gate + Sync, A: App<B>
     gate: &G,
     app: &mut A,
 ) -> Result<Report<B>, (NodeError, Vec<Left<B>>)>
-    ensures record { IfOk result (λ report. nodes.IsRecorded report.«record») }
+    ensures recorded { IfOk result (λ report. nodes.IsRecorded report.«record») }
     ensures kept { IfOk result (λ report. summaries.is_trace report.«record»
         ≡ keeps_all config.keep) }
 {
@@ -152,7 +152,7 @@ fn finish<B: Object, R: Wait>(
     crew: Option<Crew<B>>,
     remains: Remains<B>,
 ) -> Result<Report<B>, (NodeError, Vec<Left<B>>)>
-    ensures record { IfOk result (λ report. nodes.IsRecorded report.«record») }
+    ensures recorded { IfOk result (λ report. nodes.IsRecorded report.«record») }
     ensures kept { IfOk result (λ report. summaries.is_trace report.«record» ≡ keeps_all kept) }
 {
     let has_failed = site.has_failed();
@@ -210,7 +210,7 @@ fn close<B: Object>(
     seats: Vec<Seat>,
     objects: Vec<Left<B>>,
 ) -> Result<Report<B>, (NodeError, Vec<Left<B>>)>
-    ensures record { IfOk result (λ report. nodes.IsRecorded report.«record») }
+    ensures recorded { IfOk result (λ report. nodes.IsRecorded report.«record») }
     ensures kept { IfOk result (λ report. summaries.is_trace report.«record» ≡ keeps_all kept) }
 {
     match record_of(keeper, kept, seats) {
@@ -224,7 +224,7 @@ fn close<B: Object>(
 
 // What was kept: the trace, or what the entries come to.
 fn record_of(keeper: Keeper, kept: Keep, seats: Vec<Seat>) -> Result<Record, (KeeperError, Keeper)>
-    ensures record { IfOk result (λ left. summaries.IsRecordOf seats.items left) }
+    ensures recorded { IfOk result (λ left. summaries.IsRecordOf seats.items left) }
     ensures kept { IfOk result (λ left. summaries.is_trace left ≡ keeps_all kept) }
 {
     match kept {

@@ -2,11 +2,13 @@
 //! returns or that a node ends: these runs show it.
 #![tactic(auto)]
 
+mod lasting;
 mod player;
 mod running;
 mod shared;
 mod thing;
 
+use crate::lasting::play_lasting;
 use crate::player::{Part, Said};
 use crate::running::{play, play_alone};
 use std::alloc::Global;
@@ -41,7 +43,25 @@ fn run<R: Threads + Wait + Sync + Print>(rt: &R, alloc: Global) -> io::Result<()
         "a call over a link whose other end is let go",
         &alone,
         0,
-    )
+    )?;
+    print_lasting(rt, alloc)
+}
+
+// Plays the scene of two nodes that keep nothing, and prints what it came to.
+fn print_lasting<R: Threads + Wait + Sync + Print>(rt: &R, alloc: Global) -> io::Result<()> {
+    let Some(lasted) = play_lasting(rt, alloc) else {
+        return println!(rt; "nodes that keep nothing: the scene failed");
+    };
+    let answered = lasted.answered;
+    let last = lasted.last;
+    println!(rt; "calls between nodes that keep nothing: {answered}, the last answered {last}")?;
+    let is_beyond = lasted.is_beyond;
+    println!(rt; "each made more entries than a trace has room for: {is_beyond}")?;
+    let is_even = lasted.is_even;
+    println!(rt; "each acted on all that the other handed to it: {is_even}")?;
+    let is_open = lasted.is_open;
+    let live = lasted.live;
+    println!(rt; "the session is open at both: {is_open}; live objects: {live}")
 }
 
 // Prints what the calls of one application came to.

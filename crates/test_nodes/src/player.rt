@@ -167,7 +167,7 @@ impl<'m> App<Thing> for Player<'m> {
 }
 
 // Exports an object, and has a name stand for it.
-fn offer<R: Wait>(rt: &R, node: &mut Node<Thing>, name: &[u8], thing: Thing) -> Option<Hold> {
+pub(crate) fn offer<R: Wait>(rt: &R, node: &mut Node<Thing>, name: &[u8], thing: Thing) -> Option<Hold> {
     let Ok(hold) = node.export(rt, thing) else {
         return None;
     };
@@ -176,7 +176,7 @@ fn offer<R: Wait>(rt: &R, node: &mut Node<Thing>, name: &[u8], thing: Thing) -> 
 }
 
 // The object that a name of the first space stands for.
-fn found<R: Wait>(rt: &R, node: &mut Node<Thing>, name: &[u8]) -> Option<Hold> {
+pub(crate) fn found<R: Wait>(rt: &R, node: &mut Node<Thing>, name: &[u8]) -> Option<Hold> {
     let first = SpaceId::new(1)?;
     let Ok(returned) = node.lookup(rt, first, name) else {
         return None;
@@ -191,7 +191,12 @@ fn found<R: Wait>(rt: &R, node: &mut Node<Thing>, name: &[u8]) -> Option<Hold> {
 }
 
 // Calls method 0 of an object: what that came to.
-fn said_by<R: Wait>(rt: &R, node: &mut Node<Thing>, hold: &Option<Hold>, value: Value) -> Said {
+pub(crate) fn said_by<R: Wait>(
+    rt: &R,
+    node: &mut Node<Thing>,
+    hold: &Option<Hold>,
+    value: Value,
+) -> Said {
     let Some(hold) = hold else {
         return Said::Other;
     };
@@ -215,7 +220,7 @@ fn said_of(returned: &Returned) -> Said {
 }
 
 // Gives a hold back.
-fn give_back<R: Wait>(rt: &R, node: &mut Node<Thing>, hold: Option<Hold>) {
+pub(crate) fn give_back<R: Wait>(rt: &R, node: &mut Node<Thing>, hold: Option<Hold>) {
     let Some(hold) = hold else {
         return;
     };
