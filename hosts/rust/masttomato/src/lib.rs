@@ -1,6 +1,8 @@
 //! Network Objects for programs in Rust: objects that are exported, looked up by name, called, handed
 //! on and dropped, from process to process, over a proved space.
 
+#[cfg(feature = "node")]
+pub mod engine;
 pub mod space;
 
 pub use space::{CallNo, Limits, Reason, Reference, SpaceId, Value};

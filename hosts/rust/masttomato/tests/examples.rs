@@ -2,8 +2,9 @@
 
 mod common;
 
+use common::checking::replay_fault;
 use common::{file, files, nobj};
-use masttomato::space::{Event, Limits, Space, SpaceId, script};
+use masttomato::space::script;
 
 const HAS_VERDICT: &str = "verdict yes\n";
 
@@ -70,32 +71,5 @@ fn spaces_answer_as_the_accepted_sets_of_traces_say() {
 
 // A space that is asked what a trace says gives that trace, byte for byte.
 fn assert_played_again(name: &str, trace: &str) {
-    let mut lines = trace.lines();
-    let mut space = space_of(lines.next().expect("a first line"));
-    for line in lines {
-        let (stamp, entry) = line.split_once(' ').expect("a stamp");
-        let (event, _) = entry.split_once(" = ").expect("an event and its result");
-        let event: Event = event.parse().unwrap_or_else(|_| panic!("{name}: {event}"));
-        space.rise_to(stamp.parse::<u64>().expect("a stamp") - 1);
-        let _ = space.step(&event);
-    }
-    let played = space.trace().expect("a trace").to_string();
-    let differs = played.lines().zip(trace.lines()).find(|(played, wanted)| played != wanted);
-    assert_eq!(differs, None, "{name}");
-    assert_eq!(played.len(), trace.len(), "{name}");
-}
-
-// A space as the first line of a trace says: `trace S of N window W retry R entries K`.
-fn space_of(line: &str) -> Space {
-    let words: Vec<&str> = line.split(' ').collect();
-    let ["trace", space, "of", spaces, "window", window, "retry", retry, "entries", _] = words[..]
-    else {
-        panic!("{line}");
-    };
-    let number = |text: &str| text.parse::<u16>().expect("a number");
-    let space_of = |text| SpaceId::new(number(text)).expect("a space");
-    let limits = Limits::new(number(window) as u8, number(retry) as u8).expect("limits");
-    let mut space = Space::new(space_of(space), space_of(spaces), limits).expect("memory");
-    space.keep_trace();
-    space
+    assert_eq!(replay_fault(trace), None, "{name}");
 }

@@ -1,6 +1,8 @@
 //! What tests share: the repository, and the program `nobj`. Not each of them uses all of it.
 #![allow(dead_code)]
 
+pub mod checking;
+
 use std::io::Write;
 use std::path::{Path, PathBuf};
 use std::process::{Command, Stdio};
