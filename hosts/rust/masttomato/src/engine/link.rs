@@ -85,6 +85,7 @@ pub(super) struct Link {
     pub(super) acked: u64,
     pub(super) acked_at_tick: u64,
     pub(super) blocked_at: Option<u64>,
+    pub(super) blocked_since: Option<Duration>,
     /// Data frames that came since anything was written, and when the first of them did.
     pub(super) owed: u32,
     pub(super) owed_since: Duration,
@@ -117,6 +118,7 @@ impl Link {
             acked: 0,
             acked_at_tick: 0,
             blocked_at: None,
+            blocked_since: None,
             owed: 0,
             owed_since: now,
             heard: now,

@@ -42,6 +42,7 @@ use crate::space::{
 use link::{HeldCall, HeldFinish, Link};
 use std::collections::{BTreeMap, HashMap};
 use std::fmt;
+use std::sync::Arc;
 use std::time::Duration;
 use wire::{ItemKind, Kind};
 
@@ -53,6 +54,9 @@ const SILENCE: Duration = Duration::from_secs(5);
 const NO_PONG: Duration = Duration::from_secs(10);
 /// An item that no room was there for is tried again after this.
 const STUCK: Duration = Duration::from_millis(20);
+/// So long a Finish waits for a peer to acknowledge anything. Its object runs no other call meanwhile, so
+/// then the session closes: an honest peer hardly ever has 4,096 items out, and never says nothing of them.
+const NO_ROOM: Duration = Duration::from_secs(5);
 /// More calls of one peer without a reply on its way are no honest space's.
 const MOST_UNANSWERED: u64 = 4_096;
 /// So many ticks without progress close a session.
@@ -220,6 +224,8 @@ pub struct Engine {
     space: Space,
     settings: Settings,
     links: BTreeMap<SpaceId, Link>,
+    peers: Arc<[SpaceId]>,
+    claims: bool,
     calls: HashMap<CallNo, (Ticket, SpaceId)>,
     // Jobs that weren't finished, and whose they are.
     jobs: HashMap<JobNo, SpaceId>,
@@ -246,9 +252,11 @@ impl Engine {
         let space = Space::new(settings.space, settings.spaces, limits)?;
         let links = space.peers().map(|peer| (peer, Link::new(now))).collect();
         Ok(Engine {
-            space,
             settings,
+            peers: space.peers().collect(),
+            space,
             links,
+            claims: true,
             calls: HashMap::new(),
             jobs: HashMap::new(),
             tickets: HashMap::new(),
@@ -279,6 +287,11 @@ impl Engine {
     /// What was counted until now.
     pub fn counts(&self) -> Counts {
         Counts { calls_open: self.calls.len() as u64, ..self.counts }
+    }
+
+    /// The number of the call of a ticket, once it was made and until it is answered.
+    pub fn number(&self, ticket: Ticket) -> Option<CallNo> {
+        self.tickets.get(&ticket).copied().flatten()
     }
 
     /// The stamp of the last entry of the trace.
@@ -699,10 +712,21 @@ impl Engine {
         }
     }
 
-    /// Does all that there is to do, and fills each connection's output that is empty.
+    /// Does all that there is to do, and fills each connection's output that is empty: `work`, then
+    /// `fill`.
     pub fn turn(&mut self, now: Duration) -> Turn {
-        let peers: Vec<SpaceId> = self.links.keys().copied().collect();
-        for peer in &peers {
+        let mut turn = self.work(now);
+        self.fill(now);
+        turn.changes.append(&mut self.turn.changes);
+        turn.silent.append(&mut self.turn.silent);
+        turn.next = self.next(now);
+        turn
+    }
+
+    /// Does all that there is to do, but writes nothing. Whoever has short jobs ends them before `fill`, so
+    /// that their replies go at once.
+    pub fn work(&mut self, now: Duration) -> Turn {
+        for peer in self.peers.clone().iter() {
             self.act(*peer, now);
             self.tick(*peer, now);
         }
@@ -710,15 +734,27 @@ impl Engine {
         for call in std::mem::take(&mut self.ready) {
             self.take_reply(call, Reason::Asked);
         }
-        self.retry(&peers);
-        self.work();
-        for peer in &peers {
-            self.fill(*peer, now);
+        self.retry();
+        self.claim();
+        std::mem::take(&mut self.turn)
+    }
+
+    /// Fills each connection's output that is empty and that there is something for.
+    pub fn fill(&mut self, now: Duration) {
+        for peer in self.peers.clone().iter() {
+            self.fill_for(*peer, now);
         }
         self.flush();
-        let mut turn = std::mem::take(&mut self.turn);
-        turn.next = peers.iter().filter_map(|peer| self.next_of(*peer, now)).min();
-        turn
+    }
+
+    /// When it wants the next turn at the latest.
+    pub fn next(&self, now: Duration) -> Option<Duration> {
+        self.peers.iter().filter_map(|peer| self.next_of(*peer, now)).min()
+    }
+
+    /// From now on no job is claimed.
+    pub fn claim_no_more(&mut self) {
+        self.claims = false;
     }
 
     fn settle(&mut self) {
@@ -731,8 +767,8 @@ impl Engine {
     }
 
     // What waited for room, where an acknowledgement has come or a session has closed.
-    fn retry(&mut self, peers: &[SpaceId]) {
-        for peer in peers {
+    fn retry(&mut self) {
+        for peer in self.peers.clone().iter() {
             while let Some(finish) = self.next_held(*peer, |link| link.finishes.pop_front()) {
                 if self.try_finish(&finish) {
                     self.release_all(finish.holds);
@@ -766,9 +802,10 @@ impl Engine {
     }
 
     // Claims, gives up and withdraws what can be.
-    fn work(&mut self) {
+    fn claim(&mut self) {
         loop {
-            let work = self.space.work();
+            let mut work = self.space.work();
+            work.claim &= self.claims;
             if !work.claim && !work.clean && work.withdraw.is_none() {
                 return;
             }
@@ -807,6 +844,12 @@ impl Engine {
         if is_given_up && self.space.close(peer).is_ok() {
             return self.closed(peer, Reason::RetriesUsedUp);
         }
+        if link.finishes.is_empty() || !link.is_blocked() {
+            link.blocked_since = None;
+        } else if now.saturating_sub(*link.blocked_since.get_or_insert(now)) >= NO_ROOM {
+            self.counts.misbehaved += 1;
+            return self.close(peer);
+        }
         if now < link.next_tick {
             return;
         }
@@ -828,7 +871,7 @@ impl Engine {
     }
 
     // Fills the output to a peer, where it is empty and there is something to write.
-    fn fill(&mut self, peer: SpaceId, now: Duration) {
+    fn fill_for(&mut self, peer: SpaceId, now: Duration) {
         let Some(link) = self.links.get_mut(&peer).filter(|link| link.is_up) else { return };
         let is_silent = now.saturating_sub(link.heard) >= SILENCE;
         let (was_empty, pings) = (link.out.is_empty(), is_silent && link.pinged.is_none());
@@ -931,6 +974,12 @@ impl Engine {
             }
             if matches!(due, Due::New | Due::Again) {
                 at(link.next_tick);
+            }
+            if link.is_up && link.out.is_empty() && self.is_time_to_transmit(peer, now) {
+                at(now);
+            }
+            if !link.finishes.is_empty() {
+                at(link.blocked_since.unwrap_or(now) + NO_ROOM);
             }
             if !link.is_up && link.life.is_some() {
                 at(link.down_since + self.settings.give_up_after);
