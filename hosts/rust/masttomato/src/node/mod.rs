@@ -392,7 +392,8 @@ impl Builder {
 
     // All that can be made on any thread.
     fn parts(self) -> Result<Parts, NodeError> {
-        let spaces = self.spaces.or(self.peers.last()).unwrap_or(self.space);
+        let named = self.peers.last().map_or(self.space, |last| last.max(self.space));
+        let spaces = self.spaces.unwrap_or(named);
         if self.space > spaces {
             return Err(NodeError::OtherSpaces);
         }
