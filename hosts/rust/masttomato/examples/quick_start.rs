@@ -1,7 +1,8 @@
 //! Two processes, one of which calls the other's counter: see README.md.
 //!
 //!     quick_start owner        in one terminal
-//!     quick_start              in another
+//!     quick_start 2            in another; and once more with the next number, 3, since each life of
+//!                              a process has a number of its own
 
 use masttomato::{Node, Peers, Remote, SpaceId, interface};
 
@@ -24,14 +25,16 @@ impl Counter for Tally {
 }
 
 fn main() -> Result<(), Box<dyn std::error::Error>> {
-    let [one, two] = [1, 2].map(|number| SpaceId::new(number).expect("1 to 32"));
+    let one = SpaceId::new(1).expect("1 to 32");
     let peers = Peers::read("world.peers")?; // a line each: 1 127.0.0.1:7001
-    if std::env::args().nth(1).as_deref() == Some("owner") {
+    let word = std::env::args().nth(1).unwrap_or_default();
+    if word == "owner" {
         let node = Node::builder(one, peers).start()?;
         node.bind("counter", &node.export::<dyn Counter>(Box::new(Tally { total: 0 }))?)?;
         node.run_until_stopped();
     } else {
-        let node = Node::builder(two, peers).start()?;
+        let here = SpaceId::new(word.parse()?).ok_or("a number from 2 to 32")?;
+        let node = Node::builder(here, peers).start()?;
         let counter: Remote<dyn Counter> = node.lookup(one, "counter").wait()?;
         println!("{}", counter.add(20).wait()?); // or: counter.add(20).await?
     } // the counter is given back, and the node says bye

@@ -12,7 +12,7 @@ mod pass;
 pub mod space;
 
 #[cfg(feature = "node")]
-pub use engine::{Counts, Session};
+pub use engine::{Counts, Session, Why};
 #[cfg(feature = "node")]
 pub use interface::Interface;
 #[cfg(feature = "node")]

@@ -5,7 +5,7 @@ use std::io::{BufRead, BufReader, Write};
 use std::net::TcpListener;
 use std::path::PathBuf;
 use std::process::{Child, ChildStdout, Command, Stdio};
-use std::time::{Duration, Instant};
+use std::sync::atomic::{AtomicU16, Ordering::SeqCst};
 
 const COUNTER: &str = "\
 space 2: looked the counter up
@@ -39,20 +39,29 @@ fn a_counter_over_three_processes() {
     assert!(output.status.success());
 }
 
-/// A folder that goes with the test, and a list of peers on ports that were free a moment ago.
+// A port that is free, and that no listener on port 0 is ever given: below those that systems give.
+fn port() -> u16 {
+    static NEXT: AtomicU16 = AtomicU16::new(0);
+    loop {
+        let port =
+            11_000 + (std::process::id() as u16 % 1_000) * 20 + NEXT.fetch_add(1, SeqCst) % 20;
+        if TcpListener::bind(("127.0.0.1", port)).is_ok() {
+            return port;
+        }
+    }
+}
+
+/// A folder that goes with the test, and a list of peers: so many, and all others have no address.
 struct Place(PathBuf);
 
 impl Place {
     fn new(name: &str, spaces: u16) -> Place {
         let folder = std::env::temp_dir().join(format!("masttomato-{name}-{}", std::process::id()));
         fs::create_dir_all(&folder).expect("a folder");
-        let listeners: Vec<_> =
-            (0..spaces).map(|_| TcpListener::bind("127.0.0.1:0").expect("a port")).collect();
-        let line = |(number, listener): (u16, &TcpListener)| {
-            format!("{number} {}\n", listener.local_addr().expect("an address"))
-        };
-        let peers: String = (1..).zip(&listeners).map(line).collect();
-        fs::write(folder.join("world.peers"), peers).expect("a file");
+        let line = |number: u16| format!("{number} 127.0.0.1:{}\n", port());
+        let peers: String = (1..=spaces).map(line).collect();
+        let others = format!("{}..=32 127.0.0.1:0\n", spaces + 1);
+        fs::write(folder.join("world.peers"), peers + &others).expect("a file");
         Place(folder)
     }
 }
@@ -94,21 +103,20 @@ impl Drop for Running {
 
 #[test]
 fn the_quick_start() {
-    let place = Place::new("quick-start", 2);
+    let place = Place::new("quick-start", 1);
     let _owner = Running::start(example("quick_start").current_dir(&place.0).arg("owner"));
-    for total in [20, 40] {
-        // The caller's number is used once: a further life of it would be refused. So the second one
-        // is told another.
-        let since = Instant::now();
-        let mut caller = Running::start(example("quick_start").current_dir(&place.0));
-        if total == 20 {
-            caller.hears("20");
-            assert!(caller.0.wait().expect("it ends").success());
-        } else {
-            drop(caller);
-        }
-        assert!(since.elapsed() < Duration::from_secs(20));
+    let run = |number: &str| {
+        let mut command = example("quick_start");
+        command.current_dir(&place.0).arg(number);
+        command.output().expect("it ends")
+    };
+    for (number, total) in [("2", "20\n"), ("3", "40\n")] {
+        assert_eq!(String::from_utf8_lossy(&run(number).stdout), total);
     }
+    // A number that was used is refused, in words.
+    let again = run("2");
+    let said = String::from_utf8_lossy(&again.stderr);
+    assert!(!again.status.success() && said.contains("NumberUsed"), "{said}");
 }
 
 #[test]

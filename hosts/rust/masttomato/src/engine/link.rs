@@ -1,6 +1,6 @@
 //! What an engine keeps of one peer.
 
-use super::wire::{ItemKind, Life};
+use super::wire::{ItemKind, Life, Why};
 use super::{Session, Ticket};
 use crate::space::{CallNo, JobNo, Outcome, Reference, Value};
 use std::collections::{HashMap, VecDeque};
@@ -67,6 +67,8 @@ pub(super) struct HeldFinish {
 pub(super) struct Link {
     pub(super) session: Session,
     pub(super) life: Option<Life>,
+    /// Why there never was, and never will be, a connection.
+    pub(super) refused: Option<Why>,
     pub(super) is_up: bool,
     pub(super) input: Vec<u8>,
     pub(super) out: OutBuffer,
@@ -105,6 +107,7 @@ impl Link {
         Link {
             session: Session::Down { since: now },
             life: None,
+            refused: None,
             is_up: false,
             input: Vec::new(),
             out: OutBuffer::default(),
@@ -134,7 +137,7 @@ impl Link {
     }
 
     pub(super) fn is_open(&self) -> bool {
-        !matches!(self.session, Session::Closed(_))
+        self.refused.is_none() && !matches!(self.session, Session::Closed(_))
     }
 
     /// Whether there was no room, and nothing was acknowledged since.

@@ -120,6 +120,8 @@ pub enum Answered {
     Ended(Reason),
     /// It wasn't made: there is no session with the owner, or it has closed.
     Down(SpaceId),
+    /// It wasn't made: there was never a session with this space, which refused this one's hello.
+    Refused(SpaceId, Why),
     /// It wasn't made: the value has no pickle.
     TooLarge,
     /// It wasn't made: a reference in it was lost, its owner has gone.
@@ -323,12 +325,21 @@ impl Engine {
         }
     }
 
-    /// A peer's hello was refused, by it or here.
+    /// A peer refused this node's hello, or the other way round. Where they were never connected, and
+    /// another try would end the same, the session closes, and what waited for it ends.
     pub fn refused(&mut self, peer: SpaceId, why: Why) {
         let Some(link) = self.links.get_mut(&peer) else { return };
-        if matches!(link.session, Session::Down { .. } | Session::Refused(_)) && !link.is_up {
-            link.session = Session::Refused(why);
-            self.turn.changes.push((peer, link.session));
+        if link.is_up || matches!(link.session, Session::Closed(_)) || link.refused.is_some() {
+            return;
+        }
+        link.session = Session::Refused(why);
+        self.turn.changes.push((peer, link.session));
+        let is_for_good = matches!(why, Why::NumberUsed | Why::OtherWorld | Why::OtherSpaces);
+        if is_for_good && link.life.is_none() {
+            link.refused = Some(why);
+            if let Ok(reason) = self.space.close(peer) {
+                self.closed(peer, reason);
+            }
         }
     }
 
@@ -388,10 +399,16 @@ impl Engine {
             Err(error) if self.is_want_of_room(peer, error) => return false,
             Err(SpaceError::Refused(Refusal::TooBig)) => Answered::TooLarge,
             Err(_) if self.links.get(&peer).is_some_and(Link::is_open) => Answered::Lost,
-            Err(_) => Answered::Down(peer),
+            Err(_) => self.down(peer),
         };
         self.answer(*ticket, not_made);
         true
+    }
+
+    // Why nothing goes to a peer whose session has closed.
+    fn down(&self, peer: SpaceId) -> Answered {
+        let refused = self.links.get(&peer).and_then(|link| link.refused);
+        refused.map_or(Answered::Down(peer), |why| Answered::Refused(peer, why))
     }
 
     // Whether what a peer was to be told wants room, which comes with an acknowledgement, or memory.
@@ -667,14 +684,17 @@ impl Engine {
             self.counts.misbehaved += 1;
         }
         let Some(link) = self.links.get_mut(&peer) else { return };
-        link.session = Session::Closed(reason);
-        self.turn.changes.push((peer, link.session));
+        if link.refused.is_none() {
+            link.session = Session::Closed(reason);
+            self.turn.changes.push((peer, link.session));
+        }
         link.inbox.clear();
         link.unsettled.clear();
         link.stuck_until = None;
         let held = std::mem::take(&mut link.calls);
         for call in held {
-            self.answer(call.ticket, Answered::Down(peer));
+            let down = self.down(peer);
+            self.answer(call.ticket, down);
             self.release_all(call.holds);
         }
         let mut to_peer: Vec<CallNo> = self.calls_to(peer);
@@ -697,7 +717,9 @@ impl Engine {
             }
             Ok(CallResult::Ended) => {
                 self.counts.calls_ended += 1;
-                Answered::Ended(reason)
+                let to = self.calls.get(&call).map(|(_, to)| *to);
+                let refused = to.filter(|to| self.links[to].refused.is_some());
+                refused.map_or(Answered::Ended(reason), |to| self.down(to))
             }
             Err(SpaceError::Refused(Refusal::NoCall)) => return,
             Err(_) => {

@@ -2,7 +2,7 @@
 
 use super::driver::driving;
 use super::shared::{Command, Shared};
-use crate::engine::Ticket;
+use crate::engine::{Ticket, Why};
 use crate::interface::Packed;
 use crate::pass::Pass;
 use crate::space::{CallNo, Reason, SpaceId, Value};
@@ -58,6 +58,8 @@ impl std::error::Error for Fault {}
 pub enum CallError {
     /// It wasn't made: the session with the object's owner has closed, or never was.
     Down(SpaceId),
+    /// It wasn't made, and none will be: that space and this one never connect, and why.
+    Refused(SpaceId, Why),
     /// It wasn't made: its arguments have more than 16,000 bytes, 32 references, 256 elements in a list
     /// or 16 levels.
     TooLarge,
@@ -83,6 +85,12 @@ impl fmt::Display for CallError {
     fn fmt(&self, f: &mut fmt::Formatter<'_>) -> fmt::Result {
         match self {
             CallError::Down(space) => write!(f, "there is no session with space {space}"),
+            CallError::Refused(space, why) => {
+                write!(
+                    f,
+                    "space {space} and this one don't connect. Of the one that was refused: {why}"
+                )
+            }
             CallError::TooLarge => f.write_str("the arguments are too large"),
             CallError::Ended(reason) => {
                 write!(f, "the session closed before a reply came, for reason {reason}")

@@ -361,6 +361,7 @@ impl Core {
             Answered::Replied { status, value } => Ok((status, self.packed(value))),
             Answered::Ended(reason) => Err(CallError::Ended(reason)),
             Answered::Down(space) => Err(CallError::Down(space)),
+            Answered::Refused(space, why) => Err(CallError::Refused(space, why)),
             Answered::TooLarge => Err(CallError::TooLarge),
             Answered::Lost => Err(CallError::Lost),
         };

@@ -460,8 +460,11 @@ fn a_number_that_was_used_is_refused() {
     let (one, two, counter, _alive) = pair();
     let peers = Peers::none().with(id(1), one.address().expect("it listens"));
     let again = Node::builder(id(2), peers).start().expect("a node");
-    let refused = Session::Refused(Why::NumberUsed);
-    eventually("it is refused", || again.session(id(1)) == refused);
+    let error = again.lookup::<dyn Counter>(id(1), "counter").wait_for(SOON).expect_err("refused");
+    assert_eq!(error, CallError::Refused(id(1), Why::NumberUsed));
+    assert_eq!(again.session(id(1)), Session::Refused(Why::NumberUsed));
+    let error = again.lookup::<dyn Counter>(id(1), "counter").wait().expect_err("refused");
+    assert_eq!(error, CallError::Refused(id(1), Why::NumberUsed));
     assert_eq!(counter.add(1).wait(), Ok(1), "the first life goes on");
     assert_eq!(two.session(id(1)), Session::Open);
     let peers = Peers::none().with(id(1), one.address().expect("it listens"));
