@@ -1,10 +1,11 @@
 //! `#[interface]`.
 
 use proc_macro2::{Ident, TokenStream};
-use quote::{format_ident, quote};
+use quote::{format_ident, quote, quote_spanned};
 use syn::{
-    Attribute, Error, FnArg, ItemTrait, LitInt, Pat, PatIdent, PatType, Receiver, Result,
-    ReturnType, TraitItem, TraitItemMethod, Type, parse2, spanned::Spanned,
+    Attribute, Error, FnArg, GenericArgument, ItemTrait, LitInt, Pat, PatIdent, PatType,
+    PathArguments, Receiver, Result, ReturnType, TraitItem, TraitItemMethod, Type, parse2,
+    spanned::Spanned,
 };
 
 /// Methods that a `Remote` has by itself, so that an interface's would never be found.
@@ -29,8 +30,9 @@ pub fn expand(arguments: TokenStream, item: TokenStream) -> Result<TokenStream> 
     let methods = methods_of(&mut item)?;
     item.supertraits.push(syn::parse_quote!(::core::marker::Send));
     item.supertraits.push(syn::parse_quote!('static));
-    let (served, stub) = (served(&item, &methods), stub(&item, &methods));
-    Ok(quote! { #item #served #stub })
+    let (passed, served) = (passed(&methods), served(&item, &methods));
+    let stub = stub(&item, &methods);
+    Ok(quote! { #item #passed #served #stub })
 }
 
 fn judge(item: &ItemTrait) -> Result<()> {
@@ -163,10 +165,41 @@ fn owned(kind: &Type) -> Result<()> {
              and Remote<dyn Trait> for an object"
         }
         Type::ImplTrait(_) => "what goes to another process has one type: name it",
-        Type::TraitObject(_) => "an object goes by reference: write Remote<dyn Trait>",
+        _ if is_boxed_object(kind) => {
+            "an object goes by reference: write Remote<dyn Trait> for Box<dyn Trait>"
+        }
         _ => return Ok(()),
     };
     Err(Error::new(kind.span(), text))
+}
+
+// `Box<dyn Trait>`, or something like it.
+fn is_boxed_object(kind: &Type) -> bool {
+    let Type::Path(path) = kind else { return matches!(kind, Type::TraitObject(_)) };
+    let Some(PathArguments::AngleBracketed(arguments)) =
+        path.path.segments.last().map(|segment| &segment.arguments)
+    else {
+        return false;
+    };
+    let is_box = path.path.segments.last().is_some_and(|segment| segment.ident != "Remote");
+    let is_object = |argument: &GenericArgument| {
+        matches!(argument, GenericArgument::Type(Type::TraitObject(_)))
+    };
+    is_box && arguments.args.iter().any(is_object)
+}
+
+// Says of each type that it can be passed, at its own place in the source.
+fn passed(methods: &[Method]) -> TokenStream {
+    let all = methods.iter().flat_map(|method| method.types.iter().chain([&method.answer]));
+    all.map(|kind| {
+        quote_spanned! { kind.span() =>
+            const _: fn() = || {
+                fn can_be_passed<T: ::masttomato::Pass>() {}
+                can_be_passed::<#kind>();
+            };
+        }
+    })
+    .collect()
 }
 
 // What carries a call out, by the method's number.

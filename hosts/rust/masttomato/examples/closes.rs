@@ -72,7 +72,7 @@ fn hold(kind: &str, [one, two, three]: &mut [Space; 3], left: u64) -> Fallible<(
             let object = pass(two, one)?;
             one.release(object)?;
         }
-        "pins" if left % TOGETHER == 0 => send(one, two.id().agent())?,
+        "pins" if left.is_multiple_of(TOGETHER) => send(one, two.id().agent())?,
         "pins" => {}
         _ => return Err(USAGE.into()),
     }

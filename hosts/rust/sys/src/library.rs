@@ -202,7 +202,7 @@ impl Handle {
         self.ask(|handle, told| unsafe { nob_push(handle, peer, at, length, told) })
     }
 
-    pub fn next(&mut self) -> Answered {
+    pub fn bring_next(&mut self) -> Answered {
         // SAFETY: as above; it takes nothing else.
         self.ask(|handle, told| unsafe { nob_next(handle, told) })
     }

@@ -134,7 +134,7 @@ mod compared {
             let cut = frames.len() / 2;
             for piece in [&frames[..cut], &frames[cut..]] {
                 both!(&mut *pair, push, from.into(), piece);
-                while both!(&mut *pair, next).0 != 62 {}
+                while both!(&mut *pair, bring_next).0 != 62 {}
             }
             both!(pair, restart, from.into());
             Default::default()

@@ -37,7 +37,7 @@ fn parent() -> Fallible<()> {
     let address = next(&mut said_by_one)?;
     // Space 2 reaches space 1 by a proxy that cuts its connections.
     let proxy = Proxy::to(address.clone())?;
-    let (mut two, mut said_by_two) = start(2, &folder, &[proxy.address.clone()])?;
+    let (mut two, mut said_by_two) = start(2, &folder, std::slice::from_ref(&proxy.address))?;
     let address_of_two = next(&mut said_by_two)?;
     let (mut three, mut said_by_three) = start(3, &folder, &[address, address_of_two])?;
     next(&mut said_by_three)?;

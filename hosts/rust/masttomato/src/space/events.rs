@@ -346,7 +346,7 @@ impl Space {
 
     /// The first frame that waits arrives: as `arrive`, or `None` where none waits.
     pub fn arrive_next(&mut self) -> Option<Result<Arrived, SpaceError>> {
-        let asked = self.handle.next();
+        let asked = self.handle.bring_next();
         if asked.0 == 62 {
             return None;
         }

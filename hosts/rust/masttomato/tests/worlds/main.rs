@@ -47,7 +47,7 @@ fn ten_thousand_worlds_keep_their_promises() {
         closed.fetch_add(any_closed.into(), Relaxed);
         replies.fetch_add(replied.into(), Relaxed);
         objects.fetch_add(exported, Relaxed);
-        if seed % CHECKED == 0
+        if seed.is_multiple_of(CHECKED)
             && let Some(said) = nobj("check", world.traces().concat().as_bytes())
         {
             assert!(said.ends_with("\nverdict yes\n"), "seed {seed}: {said}");

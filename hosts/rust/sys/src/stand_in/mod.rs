@@ -227,7 +227,7 @@ impl Handle {
     }
 
     /// The first frame that waits arrives.
-    pub fn next(&mut self) -> Answered {
+    pub fn bring_next(&mut self) -> Answered {
         let Some(bytes) = self.waiting.pop_front() else {
             return (NONE_WAITS, Told::default());
         };
