@@ -146,11 +146,13 @@ fn one_that_never_acknowledges() {
     }
     scene.serve_all();
     assert!(scene.owner.counts().wants > 0 && scene.owner.counts().jobs_finished <= 4_096);
-    for _ in 0..50 {
-        assert_eq!(scene.session(HOSTILE), Session::Open);
+    let since = scene.now;
+    while scene.session(HOSTILE) == Session::Open {
         scene.now += Duration::from_millis(100);
         let _ = scene.turn();
+        assert!(scene.now - since < Duration::from_secs(7), "it is never given up");
     }
+    assert!(scene.now - since >= Duration::from_secs(5));
     assert_eq!(scene.session(HOSTILE), Session::Closed(Reason::Asked));
     scene.assert_serves();
 }

@@ -2,7 +2,7 @@
 
 use super::wire::{ItemKind, Life, Why};
 use super::{Session, Ticket};
-use crate::space::{CallNo, JobNo, Outcome, Reference, Value};
+use crate::space::{CallNo, JobNo, Outcome, Reference, SpaceId, Value};
 use std::collections::{HashMap, VecDeque};
 use std::time::Duration;
 
@@ -178,5 +178,31 @@ impl Link {
     /// How many calls of the peer were acted on and have no reply on its way yet.
     pub(super) fn unanswered(&self) -> u64 {
         self.calls_acted_on.saturating_sub(self.replies_given)
+    }
+}
+
+/// The links to all peers, by their numbers.
+#[derive(Debug)]
+pub(super) struct Links(Vec<Option<Link>>);
+
+impl Links {
+    pub(super) fn new(peers: impl Iterator<Item = SpaceId>, now: Duration) -> Links {
+        let mut links: Vec<Option<Link>> = (0..=SpaceId::MOST).map(|_| None).collect();
+        for peer in peers {
+            links[usize::from(peer.get())] = Some(Link::new(now));
+        }
+        Links(links)
+    }
+
+    pub(super) fn get(&self, peer: SpaceId) -> Option<&Link> {
+        self.0[usize::from(peer.get())].as_ref()
+    }
+
+    pub(super) fn get_mut(&mut self, peer: SpaceId) -> Option<&mut Link> {
+        self.0[usize::from(peer.get())].as_mut()
+    }
+
+    pub(super) fn values_mut(&mut self) -> impl Iterator<Item = &mut Link> {
+        self.0.iter_mut().flatten()
     }
 }

@@ -27,8 +27,11 @@
 //! # }
 //! ```
 
+mod coming;
+mod going;
 mod link;
 mod trace;
+mod turning;
 mod wire;
 
 pub use link::OutBuffer;
@@ -36,15 +39,14 @@ pub use trace::{Files, TraceSink};
 pub use wire::{HELLO, Hello, LONGEST_BODY, Life, Why, World};
 
 use crate::space::{
-    ActResult, ArriveError, Arrived, CallNo, CallResult, Due, Job, JobNo, Limits, Outcome, Reason,
-    Reference, Refusal, Space, SpaceError, SpaceId, Value,
+    CallNo, Due, Job, JobNo, Limits, Outcome, Reason, Reference, Refusal, Space, SpaceError,
+    SpaceId, Value,
 };
-use link::{HeldCall, HeldFinish, Link};
-use std::collections::{BTreeMap, HashMap};
+use link::{HeldCall, HeldFinish, Link, Links};
+use std::collections::HashMap;
 use std::fmt;
 use std::sync::Arc;
 use std::time::Duration;
-use wire::{ItemKind, Kind};
 
 /// An acknowledgement alone waits so long, or for so many items, for an item that says it too.
 const ACK_WAITS: Duration = Duration::from_millis(2);
@@ -59,6 +61,8 @@ const STUCK: Duration = Duration::from_millis(20);
 const NO_ROOM: Duration = Duration::from_secs(5);
 /// More calls of one peer without a reply on its way are no honest space's.
 const MOST_UNANSWERED: u64 = 4_096;
+/// Timers of seconds are looked at so often.
+const LOOK: Duration = Duration::from_millis(500);
 /// So many ticks without progress close a session.
 const TICKS: u8 = 255;
 
@@ -225,9 +229,17 @@ pub struct Counts {
 pub struct Engine {
     space: Space,
     settings: Settings,
-    links: BTreeMap<SpaceId, Link>,
+    links: Links,
     peers: Arc<[SpaceId]>,
+    // Those that are connected.
+    up: Vec<SpaceId>,
     claims: bool,
+    // Whether there may be something to settle, claim, give up or withdraw; whether something is held
+    // until there is room, and whether an item waits for room; and when timers are looked at.
+    is_stirred: bool,
+    has_held: bool,
+    has_stuck: bool,
+    look_at: Duration,
     calls: HashMap<CallNo, (Ticket, SpaceId)>,
     // Jobs that weren't finished, and whose they are.
     jobs: HashMap<JobNo, SpaceId>,
@@ -252,13 +264,18 @@ impl Engine {
     pub fn new(settings: Settings, now: Duration) -> Result<Engine, SpaceError> {
         let limits = Limits::new(64, TICKS).expect("these are limits");
         let space = Space::new(settings.space, settings.spaces, limits)?;
-        let links = space.peers().map(|peer| (peer, Link::new(now))).collect();
+        let links = Links::new(space.peers(), now);
         Ok(Engine {
             settings,
             peers: space.peers().collect(),
             space,
             links,
+            up: Vec::new(),
             claims: true,
+            is_stirred: false,
+            has_held: false,
+            has_stuck: false,
+            look_at: now,
             calls: HashMap::new(),
             jobs: HashMap::new(),
             tickets: HashMap::new(),
@@ -283,7 +300,7 @@ impl Engine {
 
     /// How the session with a peer stands; that of a space which is no peer is closed.
     pub fn session(&self, peer: SpaceId) -> Session {
-        self.links.get(&peer).map_or(Session::Closed(Reason::Asked), |link| link.session)
+        self.links.get(peer).map_or(Session::Closed(Reason::Asked), |link| link.session)
     }
 
     /// What was counted until now.
@@ -306,11 +323,14 @@ impl Engine {
     /// # Errors
     /// `NumberUsed` where another life has used the peer's number, `OtherNumber` where it is none.
     pub fn connected(&mut self, peer: SpaceId, life: Life, now: Duration) -> Result<(), Why> {
-        let link = self.links.get_mut(&peer).ok_or(Why::OtherNumber)?;
+        let link = self.links.get_mut(peer).ok_or(Why::OtherNumber)?;
         if link.life.is_some_and(|known| known != life) {
             return Err(Why::NumberUsed);
         }
         link.up(life, now);
+        if !self.up.contains(&peer) {
+            self.up.push(peer);
+        }
         self.counts.connects += 1;
         self.turn.changes.push((peer, link.session));
         Ok(())
@@ -318,9 +338,10 @@ impl Engine {
 
     /// The connection with a peer is gone.
     pub fn disconnected(&mut self, peer: SpaceId, now: Duration) {
-        let Some(link) = self.links.get_mut(&peer) else { return };
+        let Some(link) = self.links.get_mut(peer) else { return };
         if link.is_up {
             link.down(now);
+            self.up.retain(|known| *known != peer);
             self.turn.changes.push((peer, link.session));
         }
     }
@@ -328,7 +349,7 @@ impl Engine {
     /// A peer refused this node's hello, or the other way round. Where they were never connected, and
     /// another try would end the same, the session closes, and what waited for it ends.
     pub fn refused(&mut self, peer: SpaceId, why: Why) {
-        let Some(link) = self.links.get_mut(&peer) else { return };
+        let Some(link) = self.links.get_mut(peer) else { return };
         if link.is_up || matches!(link.session, Session::Closed(_)) || link.refused.is_some() {
             return;
         }
@@ -361,6 +382,7 @@ impl Engine {
 
     /// A hold is given back.
     pub fn release(&mut self, reference: Reference) {
+        self.is_stirred = true;
         if self.space.release(reference).is_err() {
             self.counts.wants += 1;
         }
@@ -372,7 +394,7 @@ impl Engine {
     pub fn call(&mut self, ticket: Ticket, target: Reference, method: u16, value: Value) {
         self.tickets.insert(ticket, None);
         let mut call = HeldCall { ticket, target, method, value, holds: Vec::new() };
-        let Some(link) = self.links.get(&target.owner) else {
+        let Some(link) = self.links.get(target.owner) else {
             return self.answer(ticket, Answered::Down(target.owner));
         };
         let is_first = link.calls.is_empty() && !link.is_blocked();
@@ -380,8 +402,9 @@ impl Engine {
             return;
         }
         call.holds = self.hold_all(call.value.references().into_iter().chain([target]));
-        if let Some(link) = self.links.get_mut(&target.owner) {
+        if let Some(link) = self.links.get_mut(target.owner) {
             link.calls.push_back(call);
+            self.has_held = true;
         }
     }
 
@@ -398,7 +421,7 @@ impl Engine {
             }
             Err(error) if self.is_want_of_room(peer, error) => return false,
             Err(SpaceError::Refused(Refusal::TooBig)) => Answered::TooLarge,
-            Err(_) if self.links.get(&peer).is_some_and(Link::is_open) => Answered::Lost,
+            Err(_) if self.links.get(peer).is_some_and(Link::is_open) => Answered::Lost,
             Err(_) => self.down(peer),
         };
         self.answer(*ticket, not_made);
@@ -407,14 +430,14 @@ impl Engine {
 
     // Why nothing goes to a peer whose session has closed.
     fn down(&self, peer: SpaceId) -> Answered {
-        let refused = self.links.get(&peer).and_then(|link| link.refused);
+        let refused = self.links.get(peer).and_then(|link| link.refused);
         refused.map_or(Answered::Down(peer), |why| Answered::Refused(peer, why))
     }
 
     // Whether what a peer was to be told wants room, which comes with an acknowledgement, or memory.
     fn is_want_of_room(&mut self, peer: SpaceId, error: SpaceError) -> bool {
         let is_full = matches!(error, SpaceError::Refused(Refusal::QueueFull | Refusal::Limit));
-        if is_full && let Some(link) = self.links.get_mut(&peer) {
+        if is_full && let Some(link) = self.links.get_mut(peer) {
             link.blocked_at = Some(link.acked);
         }
         let is_want = is_full || error == SpaceError::OutOfMemory;
@@ -485,8 +508,9 @@ impl Engine {
             finish.holds = self.hold_all(value.references());
         }
         let client = self.jobs.get(&job).copied();
-        if let Some(link) = client.and_then(|client| self.links.get_mut(&client)) {
+        if let Some(link) = client.and_then(|client| self.links.get_mut(client)) {
             link.finishes.push_back(finish);
+            self.has_held = true;
         }
     }
 
@@ -511,6 +535,7 @@ impl Engine {
             }
         }
         self.jobs.remove(&finish.job);
+        self.is_stirred = true;
         self.counts.jobs_finished += 1;
         true
     }
@@ -526,7 +551,7 @@ impl Engine {
     pub fn close_all(&mut self) {
         for peer in self.space.peers() {
             self.close(peer);
-            if let Some(link) = self.links.get_mut(&peer) {
+            if let Some(link) = self.links.get_mut(peer) {
                 link.says_bye = link.is_up;
             }
         }
@@ -534,480 +559,14 @@ impl Engine {
 
     /// Whether anything is still to be written, or acknowledged by a peer that is connected.
     pub fn is_settled(&self) -> bool {
-        self.links.iter().all(|(peer, link)| {
-            !link.is_up
-                || (link.out.is_empty() && !link.says_bye && self.space.due(*peer) == Due::Nothing)
-        })
-    }
-
-    /// A piece of what came over the connection of a peer, cut anywhere.
-    ///
-    /// # Errors
-    /// What the peer did that no honest one does: its connection is to be dropped. Nothing of the
-    /// record in which it did so has come to the space.
-    pub fn bytes(&mut self, peer: SpaceId, piece: &[u8], now: Duration) -> Result<(), Misbehaved> {
-        let Some(link) = self.links.get_mut(&peer).filter(|link| link.is_up) else { return Ok(()) };
-        link.heard = now;
-        link.pinged = None;
-        self.counts.bytes_in += piece.len() as u64;
-        // What was left of the pieces before stands in front. Most pieces are whole records.
-        let mut kept = std::mem::take(&mut link.input);
-        let done = if kept.is_empty() {
-            self.records(peer, piece, now).inspect(|taken| kept.extend(&piece[*taken..]))
-        } else {
-            kept.extend(piece);
-            self.records(peer, &kept, now).inspect(|taken| drop(kept.drain(..*taken)))
-        };
-        if let Some(link) = self.links.get_mut(&peer) {
-            link.input = kept;
-        }
-        if done.is_err() {
-            self.counts.misbehaved += 1;
-        }
-        done.map(drop)
-    }
-
-    // Takes the whole records at the front: how long they are.
-    fn records(&mut self, peer: SpaceId, bytes: &[u8], now: Duration) -> Result<usize, Misbehaved> {
-        let mut taken = 0;
-        while let Some((kind, stamp, length)) = wire::head_of(&bytes[taken..])? {
-            let start = taken + wire::HEAD;
-            let Some(body) = bytes.get(start..start + length) else { break };
-            self.record_of(peer, kind, stamp, body, now)?;
-            taken = start + length;
-        }
-        Ok(taken)
-    }
-
-    fn record_of(
-        &mut self,
-        peer: SpaceId,
-        kind: Kind,
-        stamp: u64,
-        body: &[u8],
-        now: Duration,
-    ) -> Result<(), Misbehaved> {
-        match kind {
-            Kind::Frames => {
-                wire::check_frames(body, peer, self.space.id())?;
-                self.space.rise_to(stamp);
-                let arrived = self.arrive_all(peer, body, now);
-                self.act(peer, now);
-                arrived
-            }
-            Kind::Ping => {
-                self.links.entry(peer).and_modify(|link| link.owes_pong = true);
-                Ok(())
-            }
-            Kind::Pong => Ok(()),
-            Kind::Bye => {
-                if self.space.close(peer).is_ok() {
-                    self.closed(peer, Reason::PeerClosed);
-                }
-                Ok(())
-            }
-        }
-    }
-
-    fn arrive_all(&mut self, peer: SpaceId, body: &[u8], now: Duration) -> Result<(), Misbehaved> {
-        for seen in wire::frames_of(body) {
-            self.counts.frames_in += 1;
-            let arrived = match self.space.arrive_bytes(seen.bytes) {
-                Ok(arrived) => arrived,
-                Err(ArriveError::Fault(_)) => return Err(Misbehaved::NoFrame),
-                Err(ArriveError::Space(_)) => {
-                    self.counts.wants += 1;
-                    continue;
-                }
-            };
-            let Some(link) = self.links.get_mut(&peer) else { continue };
-            link.acked = link.acked.max(seen.ack());
-            if seen.is_data() {
-                if link.owed == 0 {
-                    link.owed_since = now;
-                }
-                link.owed += 1;
-            }
-            match arrived {
-                Arrived::Took(count) if count > 0 => link.inbox.push_back(seen.item()),
-                Arrived::Took(_) => {}
-                Arrived::Closed(reason) => self.closed(peer, reason),
-            }
-        }
-        Ok(())
-    }
-
-    // Acts on all that waits from a peer. What there is no room for is tried again later.
-    fn act(&mut self, peer: SpaceId, now: Duration) {
-        while let Some(link) = self.links.get_mut(&peer).filter(|link| !link.inbox.is_empty()) {
-            if link.stuck_until.is_some_and(|until| now < until) {
-                return;
-            }
-            link.stuck_until = None;
-            match self.space.act(peer) {
-                Ok(ActResult::Acted(item)) => self.acted(peer, item.get()),
-                Ok(ActResult::Closed(reason)) => self.closed(peer, reason),
-                Err(_) => {
-                    link.stuck_until = Some(now + STUCK);
-                    self.counts.wants += 1;
-                    return;
-                }
-            }
-        }
-    }
-
-    fn acted(&mut self, peer: SpaceId, item: u64) {
-        let Some(link) = self.links.get_mut(&peer) else { return };
-        match link.inbox.pop_front() {
-            Some(ItemKind::Call) => {
-                link.calls_acted_on += 1;
-                if link.unanswered() > MOST_UNANSWERED {
-                    self.counts.misbehaved += 1;
-                    self.close(peer);
-                }
-            }
-            Some(ItemKind::Reply(call)) => {
-                let call = CallNo::new(call);
-                if self.space.reply_ready(call) {
-                    self.ready.push(call);
-                } else {
-                    link.unsettled.insert(item, call);
-                }
-            }
-            Some(ItemKind::Other) | None => {}
-        }
-    }
-
-    // The session with a peer has closed: what waited for it ends.
-    fn closed(&mut self, peer: SpaceId, reason: Reason) {
-        if matches!(reason, Reason::BadItem | Reason::BadReference | Reason::OutOfPlace) {
-            self.counts.misbehaved += 1;
-        }
-        let Some(link) = self.links.get_mut(&peer) else { return };
-        if link.refused.is_none() {
-            link.session = Session::Closed(reason);
-            self.turn.changes.push((peer, link.session));
-        }
-        link.inbox.clear();
-        link.unsettled.clear();
-        link.stuck_until = None;
-        let held = std::mem::take(&mut link.calls);
-        for call in held {
-            let down = self.down(peer);
-            self.answer(call.ticket, down);
-            self.release_all(call.holds);
-        }
-        let mut to_peer: Vec<CallNo> = self.calls_to(peer);
-        to_peer.sort_unstable();
-        for call in to_peer {
-            self.take_reply(call, reason);
-        }
-    }
-
-    fn calls_to(&self, peer: SpaceId) -> Vec<CallNo> {
-        self.calls.iter().filter(|(_, (_, to))| *to == peer).map(|(call, _)| *call).collect()
-    }
-
-    // Takes a reply that is ready, or that never comes for this reason.
-    fn take_reply(&mut self, call: CallNo, reason: Reason) {
-        let answered = match self.space.take_reply(call) {
-            Ok(CallResult::Replied { status, value }) => {
-                self.counts.calls_answered += 1;
-                Answered::Replied { status, value }
-            }
-            Ok(CallResult::Ended) => {
-                self.counts.calls_ended += 1;
-                let to = self.calls.get(&call).map(|(_, to)| *to);
-                let refused = to.filter(|to| self.links[to].refused.is_some());
-                refused.map_or(Answered::Ended(reason), |to| self.down(to))
-            }
-            Err(SpaceError::Refused(Refusal::NoCall)) => return,
-            Err(_) => {
-                // The hand is full, or memory is: it is tried again in the next turn.
-                self.counts.wants += 1;
-                self.ready.push(call);
-                return;
-            }
-        };
-        if let Some((ticket, _)) = self.calls.remove(&call) {
-            self.answer(ticket, answered);
-        }
-    }
-
-    /// Does all that there is to do, and fills each connection's output that is empty: `work`, then
-    /// `fill`.
-    pub fn turn(&mut self, now: Duration) -> Turn {
-        let mut turn = self.work(now);
-        self.fill(now);
-        turn.changes.append(&mut self.turn.changes);
-        turn.silent.append(&mut self.turn.silent);
-        turn.next = self.next(now);
-        turn
-    }
-
-    /// Does all that there is to do, but writes nothing. Whoever has short jobs ends them before `fill`, so
-    /// that their replies go at once.
-    pub fn work(&mut self, now: Duration) -> Turn {
-        for peer in self.peers.clone().iter() {
-            self.act(*peer, now);
-            self.tick(*peer, now);
-        }
-        self.settle();
-        for call in std::mem::take(&mut self.ready) {
-            self.take_reply(call, Reason::Asked);
-        }
-        self.retry();
-        self.claim();
-        std::mem::take(&mut self.turn)
-    }
-
-    /// Fills each connection's output that is empty and that there is something for.
-    pub fn fill(&mut self, now: Duration) {
-        for peer in self.peers.clone().iter() {
-            self.fill_for(*peer, now);
-        }
-        self.flush();
-    }
-
-    /// When it wants the next turn at the latest.
-    pub fn next(&self, now: Duration) -> Option<Duration> {
-        self.peers.iter().filter_map(|peer| self.next_of(*peer, now)).min()
-    }
-
-    /// From now on no job is claimed.
-    pub fn claim_no_more(&mut self) {
-        self.claims = false;
-    }
-
-    fn settle(&mut self) {
-        while self.space.work().settle {
-            let Ok(settled) = self.space.settle() else { return };
-            let link = self.links.get_mut(&settled.peer);
-            let reply = link.and_then(|link| link.unsettled.remove(&settled.item.get()));
-            self.ready.extend(reply);
-        }
-    }
-
-    // What waited for room, where an acknowledgement has come or a session has closed.
-    fn retry(&mut self) {
-        for peer in self.peers.clone().iter() {
-            while let Some(finish) = self.next_held(*peer, |link| link.finishes.pop_front()) {
-                if self.try_finish(&finish) {
-                    self.release_all(finish.holds);
-                } else if let Some(link) = self.links.get_mut(peer) {
-                    link.finishes.push_front(finish);
-                    break;
-                }
-            }
-            while self.calls.len() < self.settings.open_calls
-                && let Some(call) = self.next_held(*peer, |link| link.calls.pop_front())
-            {
-                if self.try_call(&call) {
-                    self.release_all(call.holds);
-                } else if let Some(link) = self.links.get_mut(peer) {
-                    link.calls.push_front(call);
-                    break;
-                }
-            }
-        }
-    }
-
-    // What is held for a peer and may be tried again.
-    fn next_held<T>(
-        &mut self,
-        peer: SpaceId,
-        first: impl FnOnce(&mut Link) -> Option<T>,
-    ) -> Option<T> {
-        let link = self.links.get_mut(&peer).filter(|link| !link.is_blocked())?;
-        link.blocked_at = None;
-        first(link)
-    }
-
-    // Claims, gives up and withdraws what can be.
-    fn claim(&mut self) {
-        loop {
-            let mut work = self.space.work();
-            work.claim &= self.claims;
-            if !work.claim && !work.clean && work.withdraw.is_none() {
-                return;
-            }
-            let mut did = false;
-            if work.claim
-                && let Ok(job) = self.space.claim()
-            {
-                self.counts.jobs_claimed += 1;
-                self.jobs.insert(job.job, job.client);
-                self.turn.jobs.push(job);
-                did = true;
-            }
-            if work.clean {
-                did |= self.space.clean().is_ok();
-            }
-            if let Some(index) = work.withdraw
-                && self.space.withdraw(index).is_ok()
-            {
-                self.counts.withdrawn += 1;
-                self.turn.withdrawn.push(index);
-                did = true;
-            }
-            if !did {
-                return;
-            }
-        }
-    }
-
-    // Counts a tick where nothing was acknowledged since the last one, and gives up where it is time.
-    fn tick(&mut self, peer: SpaceId, now: Duration) {
-        let every = self.settings.give_up_after / u32::from(TICKS);
-        let Some(link) = self.links.get_mut(&peer).filter(|link| link.is_open()) else { return };
-        let is_given_up = !link.is_up
-            && link.life.is_some()
-            && now.saturating_sub(link.down_since) >= self.settings.give_up_after;
-        if is_given_up && self.space.close(peer).is_ok() {
-            return self.closed(peer, Reason::RetriesUsedUp);
-        }
-        if link.finishes.is_empty() || !link.is_blocked() {
-            link.blocked_since = None;
-        } else if now.saturating_sub(*link.blocked_since.get_or_insert(now)) >= NO_ROOM {
-            self.counts.misbehaved += 1;
-            return self.close(peer);
-        }
-        if now < link.next_tick {
-            return;
-        }
-        link.next_tick = now + every;
-        let is_stalled = link.acked == link.acked_at_tick;
-        link.acked_at_tick = link.acked;
-        let due = self.space.due(peer);
-        if !is_stalled || !matches!(due, Due::New | Due::Again) {
-            return;
-        }
-        link.again = true;
-        if !link.is_up && due == Due::New {
-            // A tick counts only what was transmitted: so it is, and goes nowhere.
-            let _lost = self.space.transmit(peer);
-        }
-        if let Ok(Some(reason)) = self.space.tick(peer) {
-            self.closed(peer, reason);
-        }
-    }
-
-    // Fills the output to a peer, where it is empty and there is something to write.
-    fn fill_for(&mut self, peer: SpaceId, now: Duration) {
-        let Some(link) = self.links.get_mut(&peer).filter(|link| link.is_up) else { return };
-        let is_silent = now.saturating_sub(link.heard) >= SILENCE;
-        let (was_empty, pings) = (link.out.is_empty(), is_silent && link.pinged.is_none());
-        if link.pinged.is_some_and(|since| now.saturating_sub(since) >= NO_PONG) {
-            self.turn.silent.push(peer);
-        }
-        if pings {
-            link.pinged = Some(now);
-        }
-        if !was_empty {
-            return;
-        }
-        if pings {
-            wire::put_head(link.out.bytes_mut(), Kind::Ping, 0, 0);
-        }
-        if std::mem::take(&mut link.owes_pong) {
-            wire::put_head(link.out.bytes_mut(), Kind::Pong, 0, 0);
-        }
-        if self.is_time_to_transmit(peer, now) {
-            self.transmit(peer);
-        }
-        let is_all_said = self.space.due(peer) == Due::Nothing;
-        let Some(link) = self.links.get_mut(&peer) else { return };
-        if is_all_said && std::mem::take(&mut link.says_bye) {
-            wire::put_head(link.out.bytes_mut(), Kind::Bye, 0, 0);
-        }
-        self.counts.bytes_out += link.out.left().len() as u64;
-        self.counts.records_out += u64::from(!link.out.is_empty());
-    }
-
-    fn is_time_to_transmit(&self, peer: SpaceId, now: Duration) -> bool {
-        let Some(link) = self.links.get(&peer) else { return false };
-        let owes_ack = link.owed >= ACK_ITEMS
-            || link.owed > 0 && now.saturating_sub(link.owed_since) >= ACK_WAITS;
-        match self.space.due(peer) {
-            Due::Nothing => false,
-            Due::Ack => owes_ack,
-            Due::Again => link.again || owes_ack,
-            Due::New | Due::Close => true,
-        }
-    }
-
-    // One Transmit, of which what this connection has already is left out; but where all would be, and
-    // an acknowledgement is owed, the shortest is written again, since each says it.
-    fn transmit(&mut self, peer: SpaceId) {
-        let Ok(frames) = self.space.transmit(peer) else {
-            self.counts.wants += 1;
-            return;
-        };
-        let stamp = self.space.stamp();
-        let Some(link) = self.links.get_mut(&peer) else { return };
-        let from = if std::mem::take(&mut link.again) { 0 } else { link.written };
-        let seen = || wire::frames_of(frames.as_bytes());
-        let is_new = |frame: &wire::Seen<'_>| !frame.is_data() || frame.seq() > from;
-        let mut chosen: Vec<wire::Seen<'_>> = seen().filter(is_new).collect();
-        if chosen.is_empty() && link.owed > 0 {
-            chosen.extend(seen().min_by_key(|frame| frame.bytes.len()));
-        }
-        self.counts.frames_left_out += (seen().count() - chosen.len()) as u64;
-        self.counts.frames_out += chosen.len() as u64;
-        let given = link.given;
-        for frame in seen().filter(|frame| frame.is_data() && frame.seq() > given) {
-            link.given = frame.seq();
-            link.replies_given += u64::from(matches!(frame.item(), ItemKind::Reply(_)));
-        }
-        link.written = seen().map(|frame| frame.seq()).max().unwrap_or(0).max(link.written);
-        if chosen.is_empty() {
-            return;
-        }
-        link.owed = 0;
-        let length = chosen.iter().map(|frame| frame.bytes.len()).sum();
-        let out = link.out.bytes_mut();
-        wire::put_head(out, Kind::Frames, stamp, length);
-        chosen.iter().for_each(|frame| out.extend(frame.bytes));
-    }
-
-    // The entries of the trace go to the sink before the bytes leave.
-    fn flush(&mut self) {
-        let Some(sink) = &mut self.sink else { return };
-        let lines = self.space.take_lines();
-        if !lines.is_empty() && sink.entries(&lines).is_err() {
-            self.counts.trace_faults += 1;
-            self.sink = None;
-        }
-    }
-
-    // When a peer wants the next turn at the latest.
-    fn next_of(&self, peer: SpaceId, now: Duration) -> Option<Duration> {
-        let link = self.links.get(&peer)?;
-        let mut next = link.stuck_until;
-        let mut at = |time: Duration| next = Some(next.map_or(time, |next| next.min(time)));
-        if link.is_up {
-            at(link.pinged.map_or(link.heard + SILENCE, |since| since + NO_PONG));
-        }
-        if link.is_open() {
-            let due = self.space.due(peer);
-            let waits_with_ack = link.owed > 0 && matches!(due, Due::Ack | Due::Again);
-            if link.is_up && link.out.is_empty() && waits_with_ack {
-                at(link.owed_since + ACK_WAITS);
-            }
-            if matches!(due, Due::New | Due::Again) {
-                at(link.next_tick);
-            }
-            if link.is_up && link.out.is_empty() && self.is_time_to_transmit(peer, now) {
-                at(now);
-            }
-            if !link.finishes.is_empty() {
-                at(link.blocked_since.unwrap_or(now) + NO_ROOM);
-            }
-            if !link.is_up && link.life.is_some() {
-                at(link.down_since + self.settings.give_up_after);
-            }
-        }
-        next.map(|time| time.max(now))
+        self.up.iter().filter_map(|peer| Some((peer, self.links.get(*peer)?))).all(
+            |(peer, link)| {
+                !link.is_up
+                    || (link.out.is_empty()
+                        && !link.says_bye
+                        && self.space.due(*peer) == Due::Nothing)
+            },
+        )
     }
 
     /// What is to be written to a peer: at most one record, and what goes with it. A turn fills it where
@@ -1016,7 +575,7 @@ impl Engine {
     /// # Panics
     /// Where the space is none of the peers.
     pub fn output(&mut self, peer: SpaceId) -> &mut OutBuffer {
-        &mut self.links.get_mut(&peer).expect("a peer").out
+        &mut self.links.get_mut(peer).expect("a peer").out
     }
 
     /// The peers, rising.

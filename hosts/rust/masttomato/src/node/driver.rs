@@ -69,37 +69,37 @@ impl Driver {
         ask(&mut self.core.borrow_mut())
     }
 
-    fn take_commands(&self) -> bool {
+    fn take_commands(&self) {
         let mut commands = self.commands.take();
         self.shared.take(&mut commands);
-        let did = !commands.is_empty();
         for command in commands.drain(..) {
             self.core.borrow_mut().command(command);
         }
         self.commands.replace(commands);
-        did
     }
 
-    /// Does what there is to do: whether there was anything.
+    /// Does what there is to do: whether there is more to do at once.
     pub(crate) fn turn(&self) -> bool {
         let now = self.now();
-        let mut did = self.take_commands();
-        did |= self.net.borrow_mut().read(&mut self.core.borrow_mut().engine, now);
+        self.take_commands();
+        self.net.borrow_mut().read(&mut self.core.borrow_mut().engine, now);
         loop {
             self.core.borrow_mut().work(now);
-            let Some(task) = self.core.borrow_mut().next_task() else { break };
-            did = true;
-            self.run(task);
+            let task = self.core.borrow_mut().next_task();
+            let Some(mut task) = task else { break };
             loop {
-                let next = self.core.borrow_mut().next_task();
-                let Some(task) = next else { break };
                 self.run(task);
+                match self.core.borrow_mut().next_task() {
+                    Some(next) => task = next,
+                    None => break,
+                }
             }
         }
         self.core.borrow_mut().engine.fill(now);
-        did |= self.write(now);
+        self.write(now);
         self.leave();
-        did
+        let has_more = self.core.borrow().engine.has_more(now) || self.net.borrow().has_more();
+        has_more || self.shared.has_commands()
     }
 
     fn run(&self, task: super::core::Task) {
@@ -107,12 +107,12 @@ impl Driver {
         self.core.borrow_mut().done(done);
     }
 
-    fn write(&self, now: Duration) -> bool {
+    fn write(&self, now: Duration) {
         let (mut net, mut core) = (self.net.borrow_mut(), self.core.borrow_mut());
         for peer in std::mem::take(&mut core.silent) {
             net.drop_link(peer, &mut core.engine, now);
         }
-        net.write(&mut core.engine, now)
+        net.write(&mut core.engine, now);
     }
 
     // Wakes and drops, with nothing borrowed.
@@ -139,7 +139,7 @@ impl Driver {
         }
         let now = self.now();
         let wanted = self.core.borrow().engine.next(now);
-        let wanted = wanted.into_iter().chain(self.net.borrow().next(now)).min();
+        let wanted = wanted.into_iter().chain(self.net.borrow().next()).min();
         let left = wanted.map_or(LONGEST_SLEEP, |time| time.saturating_sub(now));
         if self.shared.may_sleep() {
             self.net.borrow_mut().sleep(left.min(limit).min(LONGEST_SLEEP));
@@ -159,7 +159,7 @@ impl Driver {
         mut found: impl FnMut() -> Option<T>,
     ) -> Option<T> {
         loop {
-            let did = self.turn();
+            let has_more = self.turn();
             if let Some(found) = found() {
                 return Some(found);
             }
@@ -167,7 +167,7 @@ impl Driver {
                 None => LONGEST_SLEEP,
                 Some(end) => end.checked_duration_since(Instant::now())?,
             };
-            if !did {
+            if !has_more {
                 self.rest(left);
             }
         }

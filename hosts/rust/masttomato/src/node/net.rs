@@ -111,11 +111,10 @@ impl Net {
     }
 
     /// When it wants to be turned at the latest.
-    pub(crate) fn next(&self, _now: Duration) -> Option<Duration> {
+    pub(crate) fn next(&self) -> Option<Duration> {
         let dials = self.dials.iter().filter(|dial| !dial.is_busy).map(|dial| dial.at);
         let hellos = self.pending.values().map(|pending| pending.since + HELLO_WAITS);
-        let busy = self.links.values().any(|link| link.is_readable) || self.accepts;
-        dials.chain(hellos).chain(busy.then_some(Duration::ZERO)).min()
+        dials.chain(hellos).chain(self.has_more().then_some(Duration::ZERO)).min()
     }
 
     /// Sleeps until something comes, or for so long.
@@ -140,10 +139,19 @@ impl Net {
     pub(crate) fn look(&mut self, engine: &mut Engine, now: Duration) -> bool {
         if self.links.len() > 3 || !self.pending.is_empty() {
             self.sleep(Duration::ZERO);
-        } else {
-            self.links.values_mut().for_each(|link| link.is_readable = true);
+            return self.read(engine, now);
         }
-        self.read(engine, now)
+        let mut did = false;
+        for place in 0..self.links.len() {
+            let peer = self.links.keys().nth(place).copied();
+            did |= peer.is_some_and(|peer| self.read_from(peer, engine, now));
+        }
+        did
+    }
+
+    /// Whether more has come than was read.
+    pub(crate) fn has_more(&self) -> bool {
+        self.accepts || self.links.values().any(|link| link.is_readable)
     }
 
     /// Takes what came: whether anything did.
@@ -151,6 +159,9 @@ impl Net {
         let mut did = self.accept(now);
         self.dial(now);
         did |= self.greet(engine, now);
+        if !self.links.values().any(|link| link.is_readable) {
+            return did;
+        }
         let readable = self.links.iter().filter(|(_, link)| link.is_readable);
         let readable: Vec<SpaceId> = readable.map(|(peer, _)| *peer).collect();
         for peer in readable {
