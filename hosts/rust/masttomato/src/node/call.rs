@@ -124,6 +124,8 @@ pub(crate) type Completed = Result<Packed, CallError>;
 struct Slot {
     completed: Option<Completed>,
     waker: Option<Waker>,
+    // Somebody sleeps until it is completed: waking nobody would cost a call of the system too.
+    sleeps: bool,
 }
 
 /// Where a call's answer is put.
@@ -146,8 +148,11 @@ impl CallState {
         slot.completed = Some(completed);
         self.is_done.store(true, Ordering::Release);
         let waker = slot.waker.take();
+        let sleeps = slot.sleeps;
         drop(slot);
-        self.ready.notify_one();
+        if sleeps {
+            self.ready.notify_one();
+        }
         waker
     }
 
@@ -248,15 +253,18 @@ impl<T: Pass> Call<T> {
 
     // Looks for a while, since a reply comes soon or late; then sleeps.
     fn sleep_until(&self, end: Option<Instant>) -> Option<Completed> {
-        let looks_until = Instant::now() + self.shared.looks();
-        while !self.state.is_done.load(Ordering::Acquire) && Instant::now() < looks_until {
+        let looks = self.shared.looks_now();
+        let since = Instant::now();
+        while !self.state.is_done.load(Ordering::Acquire) && since.elapsed() < looks {
             hint::spin_loop();
         }
+        self.shared.looked(looks, self.state.is_done.load(Ordering::Acquire));
         let mut slot = self.state.slot();
         loop {
             if let Some(completed) = slot.completed.take() {
                 return Some(completed);
             }
+            slot.sleeps = true;
             let unpoisoned = |slot| match slot {
                 Ok(slot) => slot,
                 Err(poisoned) => std::sync::PoisonError::into_inner(poisoned),

@@ -2,15 +2,13 @@
 
 use super::core::Core;
 use super::net::Net;
-use super::shared::{Command, Shared};
+use super::shared::{Command, RESTS, Shared};
 use std::cell::{Cell, RefCell};
 use std::hint;
 use std::rc::{Rc, Weak};
 use std::sync::Arc;
 use std::time::{Duration, Instant};
 
-/// Where looking was in vain, it isn't tried for so many times.
-const RESTS: u32 = 20;
 /// So long a node sleeps at most, where nothing wants it earlier.
 const LONGEST_SLEEP: Duration = Duration::from_secs(60);
 

@@ -17,6 +17,8 @@ enum Errand {
 #[derive(Default)]
 struct Line {
     errands: VecDeque<Errand>,
+    // How many workers sleep: waking nobody would cost a call of the system too.
+    sleep: usize,
     is_closed: bool,
 }
 
@@ -45,8 +47,13 @@ impl Pool {
     }
 
     fn give(&self, errand: Errand) {
-        self.line().errands.push_back(errand);
-        self.comes.notify_one();
+        let mut line = self.line();
+        line.errands.push_back(errand);
+        let sleep = line.sleep;
+        drop(line);
+        if sleep > 0 {
+            self.comes.notify_one();
+        }
     }
 
     pub(crate) fn run(&self, task: Task) {
@@ -75,7 +82,9 @@ impl Pool {
             if line.is_closed {
                 return None;
             }
+            line.sleep += 1;
             line = self.comes.wait(line).unwrap_or_else(PoisonError::into_inner);
+            line.sleep -= 1;
         }
     }
 

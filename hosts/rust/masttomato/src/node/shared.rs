@@ -8,9 +8,13 @@ use crate::interface::{Description, Packed};
 use crate::space::{Reference, SpaceId};
 use mio::Waker;
 use std::fmt;
-use std::sync::atomic::{AtomicBool, AtomicU64, Ordering::SeqCst};
+use std::sync::atomic::Ordering::{Relaxed, SeqCst};
+use std::sync::atomic::{AtomicBool, AtomicU32, AtomicU64};
 use std::sync::{Arc, Condvar, Mutex, MutexGuard, PoisonError, mpsc};
 use std::time::{Duration, Instant};
+
+/// Where looking was in vain, it isn't tried for so many times.
+pub(crate) const RESTS: u32 = 20;
 
 /// What a node's thread is asked.
 pub(crate) enum Command {
@@ -57,6 +61,7 @@ pub struct Shared {
     waker: Waker,
     tickets: AtomicU64,
     looks: Duration,
+    rests: AtomicU32,
     stopped: Mutex<bool>,
     stops: Condvar,
 }
@@ -83,6 +88,7 @@ impl Shared {
             waker,
             tickets: AtomicU64::new(1),
             looks,
+            rests: AtomicU32::new(0),
             stopped: Mutex::new(false),
             stops: Condvar::new(),
         })
@@ -94,6 +100,21 @@ impl Shared {
 
     pub(crate) fn looks(&self) -> Duration {
         self.looks
+    }
+
+    /// How long whoever waits looks before it sleeps: not at all for some times after that was in vain.
+    pub(crate) fn looks_now(&self) -> Duration {
+        if self.rests.load(Relaxed) == 0 { self.looks } else { Duration::ZERO }
+    }
+
+    /// Whoever waits has looked for so long: whether that was in vain.
+    pub(crate) fn looked(&self, looks: Duration, found: bool) {
+        if looks.is_zero() {
+            let rest = |rests: u32| rests.checked_sub(1);
+            let _were_rests = self.rests.fetch_update(Relaxed, Relaxed, rest);
+        } else if !found {
+            self.rests.store(RESTS, Relaxed);
+        }
     }
 
     pub(crate) fn next_ticket(&self) -> Ticket {
