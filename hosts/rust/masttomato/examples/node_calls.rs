@@ -5,8 +5,8 @@
 //!
 //! The first process has a node with an object, whose method runs inline, or on a worker. In the second
 //! the callers are threads that share one node; where KIND begins with `local`, each has a LocalNode of
-//! its own. KIND is `null`, `pool-null`, `fresh` or `local-null` and `local-fresh`: a call with no
-//! argument, the same by a worker, or one that passes a reference to a new object, which nobody keeps.
+//! its own. KIND is `null` or `fresh`, behind `pool-` where the method runs on a worker or `local-`: a
+//! call with no argument, or one that passes a reference to a new object, which nobody keeps.
 //! AT_ONCE, 1 where it isn't named, is how many calls of a caller wait for their replies at once. It
 //! prints how many calls were answered in a second, after a fifth as many that aren't counted.
 
@@ -51,10 +51,7 @@ fn main() -> Fallible<()> {
         [kind, callers, calls, at_once] => {
             measure(kind, callers.parse()?, calls.parse()?, at_once.parse()?)
         }
-        _ => {
-            Err("node_calls null|pool-null|fresh|local-null|local-fresh CALLERS CALLS [AT_ONCE]"
-                .into())
-        }
+        _ => Err("node_calls [pool-|local-]null|fresh CALLERS CALLS [AT_ONCE]".into()),
     }
 }
 
