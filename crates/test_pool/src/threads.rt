@@ -11,7 +11,7 @@ use std::sync::Wait;
 use std::thread;
 
 /// Who carries the frames of one space to the other.
-#[derive(Debug, Drop)]
+#[derive(Drop)]
 pub(crate) struct Way {
     // Its seat at the space that transmits.
     pub(crate) seat: Seat,
