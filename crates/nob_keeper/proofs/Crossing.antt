@@ -203,7 +203,7 @@ keeper_sync =
     let one = condvar_field_sync in
     recorded_sync (Struct (shape T)) T.D T.to T.to_one (struct_sync (shape T) (
       search (crosses, sendable) depth 60,
-      (search (held_send, crosses, sendable) depth 60, (one, (one, (one, (Vec-sync Condvar.the_row condvar_sync, tt))))),
+      (search sendable depth 30, (search (held_send, crosses, sendable) depth 60, (one, (one, (one, (Vec-sync Condvar.the_row condvar_sync, tt)))))),
     ))
 
 receipt_send : IsSend Receipt.the_row

@@ -14,7 +14,7 @@ use Rattle.nob_keeper.specs.Staying.{AreKept, AreNoted, IsAmong, IsNoted}
 use Rattle.nob_keeper.specs.Spots.{IsSpotOf, StaysAt, noted_after, noted_next}
 use Rattle.nob_keeper.specs.Accounts.{Account, with_next, with_noted}
 use Rattle.nob_keeper.specs.Receipts.{Told, entry_of}
-use Rattle.nob_keeper.specs.Seats.{Has, IsOther, IsThere, StaysNewest, newest, seats_more}
+use Rattle.nob_keeper.specs.Seats.{Has, IsNotNewest, IsThere, StaysNewest, newest, first_call}
 use Rattle.nob_keeper.proofs.Seats.{newest_told, newest_there}
 use Rattle.nob_keeper.proofs.Staying.{at_next, noted_stay, put_among, put_others, put_count, put_more}
 
@@ -24,19 +24,19 @@ newest_by keeps.All spot place noted within = inl refl
 newest_by keeps.Nothing spot place noted within = inr (put_among spot place noted within)
 
 -- another seat's spot is another
-apart : (noted : List ℕ) (receipts : List Receipt) (spot at other : ℕ) → StaysAt noted receipts spot → slice_get noted at ≡ Some other → IsOther receipts other → at ≢ spot
+apart : (noted : List ℕ) (receipts : List Receipt) (spot at other : ℕ) → StaysAt noted receipts spot → slice_get noted at ≡ Some other → IsNotNewest receipts other → at ≢ spot
 apart noted [] spot at other stays is different same = let within = slice_get_within noted at other is in omega (arith, within, stays, same)
 apart noted (receipt ∷ earlier) spot at other stays is different same =
     different (sym (get_or_from_slice_get noted spot receipt.place 0 stays) ∙ get_or_from_slice_get noted spot other 0 (ap (slice_get noted) (sym same) ∙ is))
 
 -- and what stays there does so still
 others_by : (k : Keep) (spot place : ℕ) (noted : List ℕ) (receipts : List Receipt) → (k ≡ keeps.Nothing → StaysAt noted receipts spot)
-    → (other : ℕ) → IsAmong noted other → IsOther receipts other → IsAmong (noted_after k spot place noted) other
+    → (other : ℕ) → IsAmong noted other → IsNotNewest receipts other → IsAmong (noted_after k spot place noted) other
 others_by keeps.All spot place noted receipts stays other is different = is
 others_by keeps.Nothing spot place noted receipts stays other is different = put_others spot place noted other is.0 is.1 (apart noted receipts spot is.0 other (stays refl) is.1 different)
 
 -- one more stays at most, and none where the seat has a spot
-few_by : (k : Keep) (spot place : ℕ) (noted : List ℕ) (receipts : List Receipt) → (k ≡ keeps.Nothing → StaysAt noted receipts spot) → length (noted_after k spot place noted) ≤ length noted + seats_more receipts
+few_by : (k : Keep) (spot place : ℕ) (noted : List ℕ) (receipts : List Receipt) → (k ≡ keeps.Nothing → StaysAt noted receipts spot) → length (noted_after k spot place noted) ≤ length noted + first_call receipts
 few_by keeps.All spot place noted receipts stays = omega arith
 few_by keeps.Nothing spot place noted [] stays = put_more spot place noted
 few_by keeps.Nothing spot place noted (receipt ∷ earlier) stays =

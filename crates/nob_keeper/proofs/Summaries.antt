@@ -1,12 +1,20 @@
 -- The tallies of one space more.
-use Rattle.std.proofs.Common.{◌≡◌, ℕ, ◌+◌, ◌-◌, ◌≤◌, ap, ◌∙◌, arith}
+use Rattle.std.proofs.Common.{◌≡◌, ℕ, ◌+◌, ◌-◌, ◌≤◌, [], ◌∷◌, ◌++◌, map, filter, ap, ◌∙◌, arith}
 use Prim.Native.Nat.{suc}
+use Rattle.std.proofs.lemmas.List.{map-append}
+use Rattle.std.proofs.lemmas.List.Elements.{filter-append}
+use Rattle.nob_model_types.specs.Sessions.{is_peer}
 use Rattle.nob_keeper.specs.Accounts.{Account}
-use Rattle.nob_keeper.specs.Summaries.{with_tally, tallies_to}
+use Rattle.nob_keeper.specs.Summaries.{tally_with, tallies_among, spaces_to}
 
 -- the tallies up to a space are those before, and its own
-pub tallies_next : (account : Account) (number : ℕ) → 1 ≤ number → tallies_to account (number + 1 - 1) ≡ with_tally account number (tallies_to account (number - 1))
+pub tallies_next : (account : Account) (number : ℕ) → 1 ≤ number
+    → tallies_among account (spaces_to (number + 1 - 1)) ≡ tallies_among account (spaces_to (number - 1)) ++ tallies_among account (number ∷ [])
 tallies_next account number some =
+    let before = spaces_to (number - 1) in
     let next : number + 1 - 1 ≡ suc (number - 1) = omega (arith, some) in
     let same : number - 1 + 1 ≡ number = omega (arith, some) in
-    ap (tallies_to account) next ∙ ap (λ (n : ℕ). with_tally account n (tallies_to account (number - 1))) same
+    ap (λ (n : ℕ). tallies_among account (spaces_to n)) next
+    ∙ ap (λ (n : ℕ). tallies_among account (before ++ n ∷ [])) same
+    ∙ ap (map (tally_with account)) (filter-append (is_peer account.id account.n) before (number ∷ []))
+    ∙ map-append (tally_with account) (filter (is_peer account.id account.n) before) (filter (is_peer account.id account.n) (number ∷ []))

@@ -1,4 +1,4 @@
--- What is kept of a space: its number, how many there are, the limits of its sessions, what is kept of its entries, and its entries, those too that are kept no more.
+-- The account of a space: its number, how many there are, the limits of its sessions, what is kept of its entries, and all of them, those too that aren't kept.
 use Rattle.std.specs.Prelude.{◌≡◌, ◌≤◌, ℕ, ◌+◌, ◌^◌, nat_le, nat_lt, max, Bool, true, false, ◌&&◌, List, [], ◌∷◌, ◌++◌, length, map, reverse, Option, Some, None, if◌then◌else◌}
 use Rattle.nob_ids.specs.declared.limits.Limits.{Limits}
 use Rattle.nob_model_types.specs.declared.entry.Entry.{Entry}
@@ -53,7 +53,7 @@ account_of space keep entries noted = record { id = space.id; n = space.n; limit
 abbrev pub account_in : Trace → Account
 account_in trace = record { id = trace.space; n = trace.n; limits = trace.limits; keep = keeps.All; entries = trace.entries; noted = [] }
 
--- entries of a space, of which this is kept: each result is right after the entries before, and the stamps rise
+-- the entries of a space: each result is right after those before, and the stamps rise. (Apart from the account: which of them are noted is no part of it.)
 pub record AreEntries (id n : ℕ) (limits : Limits) (keep : Keep) (entries : List Stamped) : Type 0 where
   pub right : AreRight id n limits (list_of id entries)
   pub rise : Rise 0 entries
@@ -87,11 +87,11 @@ with_noted noted account = record { id = account.id; n = account.n; limits = acc
 abbrev pub next_stamp : (last seen : ℕ) → ℕ
 next_stamp last seen = max last seen + 1
 
--- whether a trace of so many entries is full, of which this is kept: all, and there are 2^20
+-- whether so many entries fill a trace: 2^20 do where all are kept, and none where nothing is
 abbrev pub full_at : Keep → ℕ → Bool
 full_at keep len = keeps_all keep && nat_le most_entries len
 
--- whether the trace is full
+-- whether the trace of an account is full
 abbrev pub is_full : Account → Bool
 is_full account = full_at account.keep (length account.entries)
 

@@ -26,7 +26,7 @@ abbrev pub PlacesRise : List Receipt → Type 0
 PlacesRise [] = Unit {0}
 PlacesRise (receipt ∷ earlier) = Above receipt.place earlier × PlacesRise earlier
 
--- of a list nothing was let go, or not the newest item
+-- nothing of a list was let go, or not its newest item
 abbrev pub HasNewest : {T : Type 0} → Listed T → Type 0
 HasNewest list = (list.gone ≡ 0) ⊎ (list.gone < length list.items)
 
@@ -40,21 +40,21 @@ abbrev pub IsThere : Account → List Receipt → Type 0
 IsThere account [] = Unit {0}
 IsThere account (receipt ∷ earlier) = (account.keep ≡ keeps.All) ⊎ IsAmong account.noted receipt.place
 
--- how many entries more stay once a seat has asked: one where it has no receipt, and else its newest one stays in the place of the one before
-abbrev pub seats_more : List Receipt → ℕ
-seats_more [] = 1
-seats_more (receipt ∷ earlier) = 0
+-- 1 for the first call of a seat, and 0 after it
+abbrev pub first_call : List Receipt → ℕ
+first_call [] = 1
+first_call (receipt ∷ earlier) = 0
 
--- the place isn't that of a seat's newest receipt
-abbrev pub IsOther : List Receipt → ℕ → Type 0
-IsOther [] place = Unit {0}
-IsOther (receipt ∷ earlier) place = receipt.place ≢ place
+-- a place isn't that of a seat's newest receipt
+abbrev pub IsNotNewest : List Receipt → ℕ → Type 0
+IsNotNewest [] place = Unit {0}
+IsNotNewest (receipt ∷ earlier) place = receipt.place ≢ place
 
 -- the entry of a seat's newest receipt stays, in the place of the one before: the others that stayed do so still
 pub record StaysNewest (before after : Account) (old new : List Receipt) : Type 0 where
   pub newest : IsThere after new
-  pub others : (place : ℕ) → IsAmong before.noted place → IsOther old place → IsAmong after.noted place
-  pub few : length after.noted ≤ length before.noted + seats_more old
+  pub others : (place : ℕ) → IsAmong before.noted place → IsNotNewest old place → IsAmong after.noted place
+  pub few : length after.noted ≤ length before.noted + first_call old
 
 -- the newest receipt of each of these seats is told of the entries
 abbrev pub HasAll : List Stamped → List (List Receipt) → Type 0

@@ -28,7 +28,7 @@ IsAmong places place = (spot : ℕ) × (slice_get places spot ≡ Some place)
 abbrev pub put_at : (spot place : ℕ) → List ℕ → List ℕ
 put_at spot place places = if nat_lt spot (length places) then set places spot place else places ++ place ∷ []
 
--- of a list and what stays of it there is what is kept: all of the list, or only what stays
+-- what has bytes: all entries, and none is noted; or the noted ones alone
 abbrev pub AreKept : Keep → Listed Stamped → List Noted → Type 0
 AreKept keeps.All entries noted = (entries.gone ≡ 0) × (noted ≡ [])
 AreKept keeps.Nothing entries noted = (entries.gone ≡ length entries.items) × AreNoted entries.items noted

@@ -1,5 +1,5 @@
 -- What is left of a space of which no trace is kept.
-use Rattle.std.specs.Prelude.{◌≡◌, ℕ, ◌+◌, List, [], ◌∷◌, ◌++◌, length, Option, Some, None, if◌then◌else◌}
+use Rattle.std.specs.Prelude.{◌≡◌, ℕ, ◌+◌, Bool, true, false, List, [], ◌∷◌, ◌++◌, length, map, filter, Option, Some, None, if◌then◌else◌}
 use Prim.Native.Nat.{zero, suc}
 use Rattle.nob_model_types.specs.Sessions.{is_peer}
 use Rattle.nob_model_types.specs.declared.tally.Tally.{Tally}
@@ -20,14 +20,18 @@ use Rattle.nob_keeper.specs.declared.summary.Record.TheVariants as records
 abbrev pub tally_in : Account → ℕ → Option Tally
 tally_in account peer = if is_peer account.id account.n peer then Some (tally peer (history_in account)) else None
 
--- tallies with that of one space more, where it is a peer
-abbrev pub with_tally : Account → ℕ → List PeerTally → List PeerTally
-with_tally account peer tallies = if is_peer account.id account.n peer then tallies ++ record { peer = peer; tally = tally peer (history_in account) } ∷ [] else tallies
+-- the tally of the session with a peer, with the peer
+abbrev pub tally_with : Account → ℕ → PeerTally
+tally_with account peer = record { peer = peer; tally = tally peer (history_in account) }
 
--- the tallies of the sessions with the peers among the first so many spaces, by rising peer
-abbrev pub tallies_to : Account → ℕ → List PeerTally
-tallies_to account zero = []
-tallies_to account (suc count) = with_tally account (count + 1) (tallies_to account count)
+-- the spaces from 1 to n
+abbrev pub spaces_to : ℕ → List ℕ
+spaces_to zero = []
+spaces_to (suc n) = spaces_to n ++ (n + 1) ∷ []
+
+-- the tallies of the sessions with the peers among some spaces, in their order
+abbrev pub tallies_among : Account → List ℕ → List PeerTally
+tallies_among account spaces = map (tally_with account) (filter (is_peer account.id account.n) spaces)
 
 -- a summary is what the entries of an account come to
 pub record IsSummary (account : Account) (summary : Summary) : Type 0 where
@@ -36,23 +40,28 @@ pub record IsSummary (account : Account) (summary : Summary) : Type 0 where
   pub entries : summary.entries ≡ length account.entries
   pub last_stamp_is : summary.last_stamp ≡ last_stamp 0 account.entries
   pub live : summary.live ≡ live_count account.id (history_in account)
-  pub peers : summary.peers ≡ tallies_to account account.n
+  pub peers : summary.peers ≡ tallies_among account (spaces_to account.n)
 
--- a tally is that of the session with a peer in an account of right entries
+-- a tally is that of the session with a peer in some account of right entries, be it an empty one
 abbrev pub IsTally : ℕ → Option Tally → Type 0
 IsTally peer answer = (account : Account) × IsAccount account × (answer ≡ tally_in account peer)
 
--- a number is how many objects are live in an account of right entries
+-- a number is how many objects are live in some account of right entries
 abbrev pub IsLive : ℕ → Type 0
 IsLive count = (account : Account) × IsAccount account × (count ≡ live_count account.id (history_in account))
 
--- a backlog is that of an account of right entries
+-- a backlog is that of some account of right entries
 abbrev pub IsBacklog : Backlog → Type 0
 IsBacklog answer = (account : Account) × IsAccount account × (answer ≡ backlog (history_in account))
 
--- a summary is what the right entries of an account come to, of which the newest receipts of these seats are told
+-- a summary is what the right entries of some account come to, of which the newest receipts of these seats are told
 abbrev pub IsSummaryOf : List (List Receipt) → Summary → Type 0
 IsSummaryOf seats summary = (account : Account) × IsAccount account × HasAll account.entries seats × IsSummary account summary
+
+-- whether a record is a trace
+abbrev pub is_trace : Record → Bool
+is_trace (records.Trace trace) = true
+is_trace (records.Summary summary) = false
 
 -- the trace of a record, if it has one
 abbrev pub trace_in : Record → Option Trace

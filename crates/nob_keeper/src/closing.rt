@@ -73,11 +73,11 @@ fn mark_all(marks: &mut Vec<bool>, entries: &[Stamped], seats: &[Seat]) -> Resul
         → closing.AreMarks marks.old.items entries.now before
         → closing.AreOf entries.now (before ++ (closing.receipts_of seats.now ++ later)) → ⊥) }
     ensures only { IfErr result (λ error. (error ≡ KeeperError.Seats)
-        ⊎ (error ≡ KeeperError.NotKept)) }
+        ⊎ (error ≡ KeeperError.NoTrace)) }
 {
     for seat in seats {
         let Some(receipts) = seat.whole() else {
-            return Err(KeeperError::NotKept);
+            return Err(KeeperError::NoTrace);
         };
         if !mark(marks, entries, receipts) {
             return Err(KeeperError::Seats);
@@ -114,7 +114,7 @@ pub(crate) fn judge(alloc: Global, entries: &[Stamped], seats: &[Seat]) -> Resul
     ensures seats { IfErr result (λ error. error ≡ KeeperError.Seats
         → closing.AreOf entries.now (closing.receipts_of seats.now) → ⊥) }
     ensures only { IfErr result (λ error. (error ≡ KeeperError.Seats)
-        ⊎ ((error ≡ KeeperError.OutOfMemory) ⊎ (error ≡ KeeperError.NotKept))) }
+        ⊎ ((error ≡ KeeperError.OutOfMemory) ⊎ (error ≡ KeeperError.NoTrace))) }
 {
     let Ok(mut marks) = unmarked(alloc, entries.len()) else {
         return Err(KeeperError::OutOfMemory);

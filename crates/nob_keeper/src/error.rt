@@ -18,9 +18,9 @@ pub enum KeeperError {
     /// K4: the seats and the trace don't belong together.
     #[error("K4: the seats and the trace don't belong together")]
     Seats,
-    /// The trace, or the receipts of a seat, weren't kept.
-    #[error("the trace wasn't kept")]
-    NotKept,
+    /// There is no trace: its entries, or the receipts of a seat, weren't kept.
+    #[error("there is no trace: nothing was kept")]
+    NoTrace,
 }
 
 impl From<AllocError> for KeeperError {

@@ -7,6 +7,7 @@ ghost use Rattle.nob_keeper.specs.Accounts as accounts;
 ghost use Rattle.nob_keeper.specs.Closing as closing;
 ghost use Rattle.nob_keeper.specs.Seats as seats;
 ghost use Rattle.nob_keeper.specs.Summaries as summaries;
+ghost use Rattle.nob_keeper.specs.declared.keep.Keep.TheVariants as keeps;
 
 use crate::desk::{Desk, REPLY_PLACES, reply_place};
 use crate::error::KeeperError;
@@ -28,6 +29,8 @@ use std::sync::{Condvar, Mutex, Wait};
 /// pins, so it can't be let go: `close_with` or `shut` ends it.
 pub struct Keeper {
     alloc: Global,
+    /// What it keeps of the entries.
+    pub keep: Keep,
     held: Mutex<Held>,
     // Who waits for work of a kind waits here.
     to_send: Condvar,
@@ -39,20 +42,23 @@ pub struct Keeper {
 }
 
 impl Keeper {
-    /// A keeper of a new space, which keeps all entries. Only memory fails it, and then the space is handed back. The
-    /// caller's conditions: the space has done nothing, and it is one of the spaces that there are.
+    /// A keeper of a new space, which keeps all entries. Only memory fails it, and then the space is
+    /// handed back. The caller's conditions: the space has done nothing, and it is one of the spaces
+    /// that there are.
     pub fn new(alloc: Global, space: Space) -> Result<Keeper, Space>
         requires new { StandsFor space [] }
         requires some { 1 ≤ space.n }
+        ensures keep { IfOk result (λ keeper. keeper.keep ≡ keeps.All) }
         ensures back { IfErr result (λ back. back ≡ space) }
     {
         Keeper::keeping(alloc, space, Keep::All)
     }
 
-    /// The same with what is kept of the entries.
+    /// The same, which keeps all entries or nothing.
     pub fn keeping(alloc: Global, space: Space, keep: Keep) -> Result<Keeper, Space>
         requires new { StandsFor space [] }
         requires some { 1 ≤ space.n }
+        ensures keep { IfOk result (λ keeper. keeper.keep ≡ keep) }
         ensures back { IfErr result (λ back. back ≡ space) }
     {
         let Some(replies) = reply_places(alloc) else {
@@ -61,6 +67,7 @@ impl Keeper {
         let kept = Kept::keeping(alloc, space, keep)?;
         Ok(Keeper {
             alloc,
+            keep,
             held: Mutex::new(Held {
                 kept,
                 desk: Desk::new(alloc),
@@ -247,12 +254,19 @@ impl Keeper {
         ensures receipts { IfOk result (λ trace.
             closing.AreOf trace.entries (closing.receipts_of seats.items)) }
         ensures account { IfOk result (λ trace. accounts.IsAccount (accounts.account_in trace)) }
+        ensures unkept { self.keep ≡ keeps.Nothing → IfErr result (λ back.
+            back.0 ≡ KeeperError.NoTrace) }
+        ensures ended { OnOk result (self.keep ≡ keeps.All) }
         ensures back { IfErr result (λ back. back.2.items ≡ seats.items) }
         ensures only { IfErr result (λ back. (back.0 ≡ KeeperError.Seats)
-            ⊎ ((back.0 ≡ KeeperError.OutOfMemory) ⊎ (back.0 ≡ KeeperError.NotKept))) }
+            ⊎ ((back.0 ≡ KeeperError.OutOfMemory) ⊎ (back.0 ≡ KeeperError.NoTrace))) }
     {
+        let Keep::All = self.keep else {
+            return Err((KeeperError::NoTrace, self, seats));
+        };
         let Keeper {
             alloc,
+            keep,
             held,
             to_send,
             to_care,
@@ -266,6 +280,7 @@ impl Keeper {
                 error,
                 Keeper {
                     alloc,
+                    keep,
                     held: Mutex::new(Held { kept, desk }),
                     to_send,
                     to_care,
@@ -288,6 +303,7 @@ impl Keeper {
     {
         let Keeper {
             alloc,
+            keep,
             held,
             to_send,
             to_care,
@@ -301,6 +317,7 @@ impl Keeper {
                 error,
                 Keeper {
                     alloc,
+                    keep,
                     held: Mutex::new(Held { kept, desk }),
                     to_send,
                     to_care,
@@ -316,6 +333,7 @@ impl Keeper {
     pub fn shut(self) {
         let Keeper {
             alloc: _,
+            keep: _,
             held,
             to_send: _,
             to_care: _,

@@ -23,7 +23,7 @@ ghost use Rattle.nob_keeper.specs.declared.error.KeeperError.{KeeperError as Kee
 use crate::closing::{is_told, judge};
 use crate::error::KeeperError;
 use crate::keep::Keep;
-use crate::noted::{Noted, find, put};
+use crate::noted::{Noted, find, make_room, put};
 use crate::receipt::Receipt;
 use crate::seat::Seat;
 use crate::summary::{Summary, check_all, tallies_of};
@@ -93,7 +93,7 @@ impl Kept {
         Kept::keeping(alloc, space, Keep::All)
     }
 
-    /// The same with what is kept of the entries.
+    /// The same, which keeps all entries or nothing.
     pub fn keeping(alloc: Global, space: Space, keep: Keep) -> Result<Kept, Space>
         requires new { StandsFor space [] }
         requires some { 1 ≤ space.n }
@@ -178,7 +178,7 @@ impl Kept {
         ensures err { OnErr result (self.new ≡ self.old) }
     {
         self.admit(seen)?;
-        let Ok(()) = self.noted.reserve(1) else {
+        let Ok(()) = make_room(&mut self.noted, self.keep) else {
             return Err(KeeperError::OutOfMemory);
         };
         let (receipt, entry) = append(
@@ -197,9 +197,9 @@ impl Kept {
         Ok(receipt)
     }
 
-    /// K4 where the trace hasn't the newest receipt of a seat, or where its entry isn't kept any
-    /// more: that of a seat that was let go, or that has asked another keeper. It costs what that
-    /// receipt owns.
+    /// K4 where the trace hasn't the newest receipt of a seat, or, where nothing is kept, its entry
+    /// isn't the newest of a seat here. A seat that asks this keeper alone never meets the second. It
+    /// costs what that receipt owns.
     pub fn check(&self, seat: &Seat) -> Result<(), KeeperError>
         ensures account { accounts.IsAccount self.now }
         ensures ok { OnOk result (Has self.now.entries seat.now) }
@@ -387,7 +387,7 @@ impl Kept {
 
     /// The trace, where the seats' receipts are those of its entries, each once: else K4, or K2
     /// where memory is wanted, and all is handed back; so it is where the entries or the receipts
-    /// of a seat weren't kept (`NotKept`): `end_with` ends such a one. The space is ended. Linear in
+    /// of a seat weren't kept (`NoTrace`): `end_with` ends such a one. The space is ended. Linear in
     /// the entries and what they own, which it compares and doesn't copy.
     pub fn close_with(self, seats: Vec<Seat>) -> Result<Trace, (KeeperError, Kept, Vec<Seat>)>
         ensures trace { IfOk result (λ trace. accounts.account_in trace ≡ self) }
@@ -400,13 +400,13 @@ impl Kept {
         ensures kept { IfErr result (λ back. back.1 ≡ self) }
         ensures back { IfErr result (λ back. back.2.items ≡ seats.items) }
         ensures unkept { self.keep ≡ keeps.Nothing → IfErr result (λ back.
-            back.0 ≡ KeeperError.NotKept) }
+            back.0 ≡ KeeperError.NoTrace) }
         ensures ended { OnOk result (self.keep ≡ keeps.All) }
         ensures only { IfErr result (λ back. (back.0 ≡ KeeperError.Seats)
-            ⊎ ((back.0 ≡ KeeperError.OutOfMemory) ⊎ (back.0 ≡ KeeperError.NotKept))) }
+            ⊎ ((back.0 ≡ KeeperError.OutOfMemory) ⊎ (back.0 ≡ KeeperError.NoTrace))) }
     {
         let Keep::All = self.keep else {
-            return Err((KeeperError::NotKept, self, seats));
+            return Err((KeeperError::NoTrace, self, seats));
         };
         let alloc = *self.noted.allocator();
         if let Err(error) = judge(alloc, self.entries.kept(), seats.as_slice()) {

@@ -4,11 +4,14 @@ ghost use Rattle.std.specs.Prelude.{◌≡◌, ◌≤◌, ◌<◌, ◌-◌, ◌+
 ghost use Rattle.nob_trace.specs.declared.stamped.Stamped.{Stamped as StampedOf};
 ghost use Rattle.nob_keeper.specs.Receipts.{Told};
 ghost use Rattle.nob_keeper.specs.Staying as staying;
+ghost use Rattle.nob_keeper.specs.declared.keep.Keep.TheVariants as keeps;
 
 use crate::closing::is_entry_of;
 use crate::error::KeeperError;
+use crate::keep::Keep;
 use crate::receipt::Receipt;
 use nob_trace::Stamped;
+use std::alloc::AllocError;
 
 /// An entry that stays, with its place in the list.
 #[derive(Drop)]
@@ -65,6 +68,18 @@ pub(crate) fn find(noted: &[Noted], first: usize, receipt: &Receipt) -> Result<u
         return Err(KeeperError::Seats);
     }
     Ok(spot)
+}
+
+// Room for one more, where nothing else is kept. Only memory fails it.
+pub(crate) fn make_room(noted: &mut Vec<Noted>, keep: Keep) -> Result<(), AllocError>
+    ensures items { noted.new.items ≡ noted.old.items }
+    ensures room { OnOk result (keep ≡ keeps.Nothing
+        → 0 < vec_capacity noted.new - length noted.new.items) }
+{
+    match keep {
+        Keep::All => Ok(()),
+        Keep::Nothing => noted.reserve(1),
+    }
 }
 
 // Puts an entry at a spot, in the place of the one there, or behind all others.

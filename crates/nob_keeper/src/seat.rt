@@ -18,7 +18,8 @@ use std::marker::Model;
 
 /// The place of one caller at a keeper: all receipts that its calls were given. Contracts see the
 /// list, the newest receipt first, those too that aren't kept: a keeper that keeps nothing leaves a
-/// seat the newest one alone. What is let go of it is missed by `close_with` and `end_with`.
+/// seat the newest one alone. A seat that is dropped is missed by `close_with`, and its newest entry
+/// stays with a keeper that keeps no others: make one for a thread, not for a call.
 #[derive(Drop)]
 pub struct Seat {
     // The first first. The newest one is always there.
@@ -58,7 +59,8 @@ impl Seat {
 
     /// The receipts that are kept, the first first: the last ones, the newest among them.
     pub fn receipts(&self) -> &[Receipt]
-        ensures { (earlier : List ReceiptOf) × (reverse self.now ≡ earlier ++ result.now) }
+        ensures kept { (earlier : List ReceiptOf) × (reverse self.now ≡ earlier ++ result.now) }
+        ensures newest { result.now ≡ [] → self.now ≡ [] }
     {
         self.receipts.kept()
     }
@@ -91,7 +93,7 @@ impl Seat {
     }
 
     /// One call, without a lock: an event of the space, whose receipt is added. K4 where the trace
-    /// hasn't the newest receipt, else K1, K3 and K2 as `Kept::append` has them; then nothing has
+    /// hasn't the newest receipt or its entry isn't kept any more, else K1, K3 and K2 as `Kept::append` has them; then nothing has
     /// changed.
     pub fn ask(&mut self, kept: &mut Kept, event: &Event, seen: u64) -> Result<(), KeeperError>
         ensures adds { OnOk result (seats.Adds self.old self.new event.now seen) }
@@ -102,6 +104,8 @@ impl Seat {
         ensures stays { OnOk result (seats.StaysNewest kept.old kept.new self.old self.new) }
         // K4 comes exactly where it is due, and then K1 and K3.
         ensures seats { (seats.Has kept.old.entries self.old → ⊥)
+            → result ≡ Err KeeperError.Seats }
+        ensures there { (seats.IsThere kept.old self.old → ⊥)
             → result ≡ Err KeeperError.Seats }
         ensures fault { (fault : KeeperErrorOf) → seats.Has kept.old.entries self.old
             → seats.IsThere kept.old self.old

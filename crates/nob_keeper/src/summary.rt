@@ -1,7 +1,6 @@
 //! What a keeper says of its space in numbers.
 
-ghost use Rattle.std.specs.Prelude.{◌≡◌, ◌≤◌, [], List, true, Some, None, IfOk, IfErr, IfSome, OnOk};
-ghost use Rattle.std.specs.List.{AllByRecursion};
+ghost use Rattle.std.specs.Prelude.{◌≡◌, ◌++◌, ◌∷◌, [], IfOk, IfErr, OnOk};
 ghost use Rattle.nob_ids.specs.Names.{IsSpace};
 ghost use Rattle.nob_keeper.specs.Seats.{HasAll, AreAllThere};
 ghost use Rattle.nob_keeper.specs.Summaries as summaries;
@@ -64,7 +63,7 @@ impl Record {
 // The tallies of the sessions with all peers, by rising peer. Only memory fails it.
 pub(crate) fn tallies_of(alloc: Global, kept: &Kept) -> Result<Vec<PeerTally>, AllocError>
     ensures { IfOk result (λ tallies. tallies.items
-        ≡ summaries.tallies_to kept.now kept.now.n) }
+        ≡ summaries.tallies_among kept.now (summaries.spaces_to kept.now.n)) }
 {
     let mut tallies = Vec::new(alloc);
     let end = kept.n().get() + 1;
@@ -78,7 +77,7 @@ pub(crate) fn tallies_of(alloc: Global, kept: &Kept) -> Result<Vec<PeerTally>, A
 fn add_tally(tallies: &mut Vec<PeerTally>, kept: &Kept, number: u16) -> Result<(), AllocError>
     requires { IsSpace number }
     ensures { OnOk result (tallies.new.items
-        ≡ summaries.with_tally kept.now number tallies.old.items) }
+        ≡ tallies.old.items ++ summaries.tallies_among kept.now (number ∷ [])) }
 {
     let Some(peer) = SpaceId::new(number) else {
         return Ok(());

@@ -334,7 +334,8 @@ impl<'x, B: Object> Node<'x, B> {
     /// The receipts of its calls that are kept, the first first: all, or where nothing is kept the
     /// newest.
     pub fn receipts(&self) -> &[Receipt]
-        ensures { (earlier : List ReceiptOf) × (reverse self.now ≡ earlier ++ result.now) }
+        ensures kept { (earlier : List ReceiptOf) × (reverse self.now ≡ earlier ++ result.now) }
+        ensures newest { result.now ≡ [] → self.now ≡ [] }
     {
         self.seat.receipts()
     }

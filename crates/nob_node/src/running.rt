@@ -1,7 +1,9 @@
 //! How a node runs.
 
-ghost use Rattle.std.specs.Prelude.{IfOk};
+ghost use Rattle.std.specs.Prelude.{◌≡◌, IfOk, IsErr};
+ghost use Rattle.nob_keeper.specs.Accounts.{keeps_all};
 ghost use Rattle.nob_keeper.specs.Summaries as summaries;
+ghost use Rattle.nob_node.specs.Records as nodes;
 ghost use denote.Param.Send.{IsSend, IsSync};
 
 use crate::app::App;
@@ -48,8 +50,8 @@ struct Remains<B: Object> {
 /// application runs. When that returns, no new job is claimed, methods that run go on to their ends,
 /// the end is put on each link, and what comes is taken until the peers' ends come. So a node ends
 /// after its peers' applications: each node wants a thread of its own. The application's objects
-/// come back in any case. J1 with K1 where the trace is full, which one that isn't kept never is, with K2 where memory is wanted or a
-/// thread can't be made: then the application may not have run.
+/// come back in any case. J1 with K1 where the trace is full (never where nothing is kept), with K2
+/// where memory is wanted or a thread can't be made: then the application may not have run.
 pub fn run<B: Object + Send, R: Threads + Wait + Sync, G: Gate + Sync, A: App<B>>(
     rt: &R,
     alloc: Global,
@@ -57,7 +59,11 @@ pub fn run<B: Object + Send, R: Threads + Wait + Sync, G: Gate + Sync, A: App<B>
     ends: Vec<Ends>,
     gate: &G,
     app: &mut A,
-) -> Result<Report<B>, (NodeError, Vec<Left<B>>)> {
+) -> Result<Report<B>, (NodeError, Vec<Left<B>>)>
+    ensures recorded { IfOk result (λ report. nodes.IsRecorded report.«record») }
+    ensures kept { IfOk result (λ report. summaries.is_trace report.«record»
+        ≡ keeps_all config.keep) }
+{
     let Some((site, crew)) = site_of::<B>(alloc, &config, ends) else {
         return without_memory(alloc);
     };
@@ -66,7 +72,9 @@ pub fn run<B: Object + Send, R: Threads + Wait + Sync, G: Gate + Sync, A: App<B>
 }
 
 // What a node answers that has no memory for its parts.
-fn without_memory<B: Object>(alloc: Global) -> Result<Report<B>, (NodeError, Vec<Left<B>>)> {
+fn without_memory<B: Object>(alloc: Global) -> Result<Report<B>, (NodeError, Vec<Left<B>>)>
+    ensures { IsErr result }
+{
     Err((NodeError::Keeper(KeeperError::OutOfMemory), Vec::new(alloc)))
 }
 
@@ -143,7 +151,10 @@ fn finish<B: Object, R: Wait>(
     site: Site<B>,
     crew: Option<Crew<B>>,
     remains: Remains<B>,
-) -> Result<Report<B>, (NodeError, Vec<Left<B>>)> {
+) -> Result<Report<B>, (NodeError, Vec<Left<B>>)>
+    ensures recorded { IfOk result (λ report. nodes.IsRecorded report.«record») }
+    ensures kept { IfOk result (λ report. summaries.is_trace report.«record» ≡ keeps_all kept) }
+{
     let has_failed = site.has_failed();
     let Parts {
         keeper,
@@ -198,7 +209,10 @@ fn close<B: Object>(
     kept: Keep,
     seats: Vec<Seat>,
     objects: Vec<Left<B>>,
-) -> Result<Report<B>, (NodeError, Vec<Left<B>>)> {
+) -> Result<Report<B>, (NodeError, Vec<Left<B>>)>
+    ensures recorded { IfOk result (λ report. nodes.IsRecorded report.«record») }
+    ensures kept { IfOk result (λ report. summaries.is_trace report.«record» ≡ keeps_all kept) }
+{
     match record_of(keeper, kept, seats) {
         Ok(record) => Ok(Report { record, objects }),
         Err((error, keeper)) => {
@@ -209,12 +223,9 @@ fn close<B: Object>(
 }
 
 // What was kept: the trace, or what the entries come to.
-fn record_of(
-    keeper: Keeper,
-    kept: Keep,
-    seats: Vec<Seat>,
-) -> Result<Record, (KeeperError, Keeper)>
-    ensures right { IfOk result (λ left. summaries.IsRecordOf seats.items left) }
+fn record_of(keeper: Keeper, kept: Keep, seats: Vec<Seat>) -> Result<Record, (KeeperError, Keeper)>
+    ensures recorded { IfOk result (λ left. summaries.IsRecordOf seats.items left) }
+    ensures kept { IfOk result (λ left. summaries.is_trace left ≡ keeps_all kept) }
 {
     match kept {
         Keep::All => match keeper.close_with(seats) {

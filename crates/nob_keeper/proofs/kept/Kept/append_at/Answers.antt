@@ -16,8 +16,8 @@ invariant_of-self-in-Some c =
       c.self.invariant.0 ∙ sym told.same.n,
       told.kept,
       sym (ap (stamps.last_stamp 0) told.entry ∙ last_push 0 inside.entries.items entry),
-      kept_put inside.keep inside.entries c.append.new.entries entry c.in-Some.entry c.in_ok-receipt.entry receipt.place inside.noted.items c.reserve.new.self.items c.put.new.noted.items
-          told.entry told.all told.passed c.in-Some.is told.next.place c.reserve.ensures.items c.self.invariant.3 c.put.ensures.noted,
+      kept_put inside.keep inside.entries c.append.new.entries entry c.in-Some.entry c.in_ok-receipt.entry receipt.place inside.noted.items c.make_room.new.noted.items c.put.new.noted.items
+          told.entry told.all told.passed c.in-Some.is told.next.place c.make_room.ensures.items c.self.invariant.3 c.put.ensures.noted,
     )
 
 pub invariant_of-self-in_default-entry : goal.invariant_of-self-in_default-entry
@@ -28,6 +28,6 @@ invariant_of-self-in_default-entry c =
       c.self.invariant.0 ∙ sym told.same.n,
       told.kept,
       sym (ap (stamps.last_stamp 0) told.entry ∙ last_push 0 inside.entries.items entry),
-      kept_more inside.keep inside.entries c.append.new.entries entry c.reserve.new.self.items told.entry (λ all. (told.all all).0) (λ nothing. (told.passed nothing).0)
-          (subst (λ (noted : List Noted). staying.AreKept inside.keep inside.entries noted) (sym c.reserve.ensures.items) c.self.invariant.3),
+      kept_more inside.keep inside.entries c.append.new.entries entry c.make_room.new.noted.items told.entry (λ all. (told.all all).0) (λ nothing. (told.passed nothing).0)
+          (subst (λ (noted : List Noted). staying.AreKept inside.keep inside.entries noted) (sym c.make_room.ensures.items) c.self.invariant.3),
     )

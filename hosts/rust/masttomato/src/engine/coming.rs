@@ -1,0 +1,211 @@
+//! What comes over connections: records, frames, and the items in them.
+
+use super::wire::{self, ItemKind, Kind};
+use super::{Answered, Engine, MOST_UNANSWERED, Misbehaved, STUCK, Session};
+use crate::space::{
+    ActResult, ArriveError, Arrived, CallNo, CallResult, Reason, Refusal, SpaceError, SpaceId,
+};
+use std::time::Duration;
+
+impl Engine {
+    /// A piece of what came over the connection of a peer, cut anywhere.
+    ///
+    /// # Errors
+    /// What the peer did that no honest one does: its connection is to be dropped. Nothing of the
+    /// record in which it did so has come to the space.
+    pub fn bytes(&mut self, peer: SpaceId, piece: &[u8], now: Duration) -> Result<(), Misbehaved> {
+        let Some(link) = self.links.get_mut(peer).filter(|link| link.is_up) else { return Ok(()) };
+        link.heard = now;
+        link.pinged = None;
+        self.counts.bytes_in += piece.len() as u64;
+        // What was left of the pieces before stands in front. Most pieces are whole records.
+        let mut kept = std::mem::take(&mut link.input);
+        let done = if kept.is_empty() {
+            self.records(peer, piece, now).inspect(|taken| kept.extend(&piece[*taken..]))
+        } else {
+            kept.extend(piece);
+            self.records(peer, &kept, now).inspect(|taken| drop(kept.drain(..*taken)))
+        };
+        if let Some(link) = self.links.get_mut(peer) {
+            link.input = kept;
+        }
+        if done.is_err() {
+            self.counts.misbehaved += 1;
+        }
+        done.map(drop)
+    }
+
+    // Takes the whole records at the front: how long they are.
+    fn records(&mut self, peer: SpaceId, bytes: &[u8], now: Duration) -> Result<usize, Misbehaved> {
+        let mut taken = 0;
+        while let Some((kind, stamp, length)) = wire::head_of(&bytes[taken..])? {
+            let start = taken + wire::HEAD;
+            let Some(body) = bytes.get(start..start + length) else { break };
+            self.record_of(peer, kind, stamp, body, now)?;
+            taken = start + length;
+        }
+        Ok(taken)
+    }
+
+    fn record_of(
+        &mut self,
+        peer: SpaceId,
+        kind: Kind,
+        stamp: u64,
+        body: &[u8],
+        now: Duration,
+    ) -> Result<(), Misbehaved> {
+        match kind {
+            Kind::Frames => {
+                wire::check_frames(body, peer, self.space.id())?;
+                self.space.rise_to(stamp);
+                let arrived = self.arrive_all(peer, body, now);
+                self.act(peer, now);
+                arrived
+            }
+            Kind::Ping => {
+                if let Some(link) = self.links.get_mut(peer) {
+                    link.owes_pong = true;
+                }
+                Ok(())
+            }
+            Kind::Pong => Ok(()),
+            Kind::Bye => {
+                if self.space.close(peer).is_ok() {
+                    self.closed(peer, Reason::PeerClosed);
+                }
+                Ok(())
+            }
+        }
+    }
+
+    fn arrive_all(&mut self, peer: SpaceId, body: &[u8], now: Duration) -> Result<(), Misbehaved> {
+        for seen in wire::frames_of(body) {
+            self.counts.frames_in += 1;
+            let arrived = match self.space.arrive_bytes(seen.bytes) {
+                Ok(arrived) => arrived,
+                Err(ArriveError::Fault(_)) => return Err(Misbehaved::NoFrame),
+                Err(ArriveError::Space(_)) => {
+                    self.counts.wants += 1;
+                    continue;
+                }
+            };
+            let Some(link) = self.links.get_mut(peer) else { continue };
+            link.acked = link.acked.max(seen.ack());
+            if seen.is_data() {
+                if link.owed == 0 {
+                    link.owed_since = now;
+                }
+                link.owed += 1;
+            }
+            match arrived {
+                Arrived::Took(count) if count > 0 => link.inbox.push_back(seen.item()),
+                Arrived::Took(_) => {}
+                Arrived::Closed(reason) => self.closed(peer, reason),
+            }
+        }
+        Ok(())
+    }
+
+    // Acts on all that waits from a peer. What there is no room for is tried again later.
+    pub(super) fn act(&mut self, peer: SpaceId, now: Duration) {
+        while let Some(link) = self.links.get_mut(peer).filter(|link| !link.inbox.is_empty()) {
+            if link.stuck_until.is_some_and(|until| now < until) {
+                self.has_stuck = true;
+                return;
+            }
+            link.stuck_until = None;
+            match self.space.act(peer) {
+                Ok(ActResult::Acted(item)) => self.acted(peer, item.get()),
+                Ok(ActResult::Closed(reason)) => self.closed(peer, reason),
+                Err(_) => {
+                    link.stuck_until = Some(now + STUCK);
+                    self.has_stuck = true;
+                    self.counts.wants += 1;
+                    return;
+                }
+            }
+        }
+    }
+
+    fn acted(&mut self, peer: SpaceId, item: u64) {
+        self.is_stirred = true;
+        let Some(link) = self.links.get_mut(peer) else { return };
+        match link.inbox.pop_front() {
+            Some(ItemKind::Call) => {
+                link.calls_acted_on += 1;
+                if link.unanswered() > MOST_UNANSWERED {
+                    self.counts.misbehaved += 1;
+                    self.close(peer);
+                }
+            }
+            Some(ItemKind::Reply(call)) => {
+                let call = CallNo::new(call);
+                if self.space.reply_ready(call) {
+                    self.ready.push(call);
+                } else {
+                    link.unsettled.insert(item, call);
+                }
+            }
+            Some(ItemKind::Other) | None => {}
+        }
+    }
+
+    // The session with a peer has closed: what waited for it ends.
+    pub(super) fn closed(&mut self, peer: SpaceId, reason: Reason) {
+        (self.is_stirred, self.has_held) = (true, true);
+        if matches!(reason, Reason::BadItem | Reason::BadReference | Reason::OutOfPlace) {
+            self.counts.misbehaved += 1;
+        }
+        let Some(link) = self.links.get_mut(peer) else { return };
+        if link.refused.is_none() {
+            link.session = Session::Closed(reason);
+            self.turn.changes.push((peer, link.session));
+        }
+        link.inbox.clear();
+        link.unsettled.clear();
+        link.stuck_until = None;
+        let held = std::mem::take(&mut link.calls);
+        for call in held {
+            let down = self.down(peer);
+            self.answer(call.ticket, down);
+            self.release_all(call.holds);
+        }
+        let mut to_peer: Vec<CallNo> = self.calls_to(peer);
+        to_peer.sort_unstable();
+        for call in to_peer {
+            self.take_reply(call, reason);
+        }
+    }
+
+    fn calls_to(&self, peer: SpaceId) -> Vec<CallNo> {
+        self.calls.iter().filter(|(_, (_, to))| *to == peer).map(|(call, _)| *call).collect()
+    }
+
+    // Takes a reply that is ready, or that never comes for this reason.
+    pub(super) fn take_reply(&mut self, call: CallNo, reason: Reason) {
+        let answered = match self.space.take_reply(call) {
+            Ok(CallResult::Replied { status, value }) => {
+                self.counts.calls_answered += 1;
+                Answered::Replied { status, value }
+            }
+            Ok(CallResult::Ended) => {
+                self.counts.calls_ended += 1;
+                let to = self.calls.get(&call).map(|(_, to)| *to);
+                let refused =
+                    to.filter(|to| self.links.get(*to).is_some_and(|link| link.refused.is_some()));
+                refused.map_or(Answered::Ended(reason), |to| self.down(to))
+            }
+            Err(SpaceError::Refused(Refusal::NoCall)) => return,
+            Err(_) => {
+                // The hand is full, or memory is: it is tried again in the next turn.
+                self.counts.wants += 1;
+                self.ready.push(call);
+                return;
+            }
+        };
+        if let Some((ticket, _)) = self.calls.remove(&call) {
+            self.answer(ticket, answered);
+        }
+    }
+}

@@ -1,0 +1,133 @@
+//! What goes over connections, and when.
+
+use super::wire::{self, ItemKind, Kind};
+use super::{ACK_ITEMS, ACK_WAITS, Engine, NO_PONG, SILENCE, STUCK};
+use crate::space::{Due, SpaceId};
+use std::time::Duration;
+
+impl Engine {
+    /// Fills each connection's output that is empty and that there is something for.
+    pub fn fill(&mut self, now: Duration) {
+        for place in 0..self.up.len() {
+            self.fill_for(self.up[place], now);
+        }
+        self.flush();
+    }
+
+    /// When it wants the next turn at the latest.
+    pub fn next(&self, now: Duration) -> Option<Duration> {
+        let waits = self.up.iter().filter_map(|peer| self.next_of(*peer, now));
+        waits.chain([self.look_at]).chain(self.has_stuck.then_some(now + STUCK)).min()
+    }
+
+    /// Whether there is more to write at once.
+    pub(crate) fn has_more(&self, now: Duration) -> bool {
+        self.up.iter().any(|peer| {
+            self.links.get(*peer).is_some_and(|link| link.out.is_empty())
+                && self.is_time_to_transmit(*peer, now)
+        })
+    }
+
+    // Fills the output to a peer, where it is empty and there is something to write.
+    fn fill_for(&mut self, peer: SpaceId, now: Duration) {
+        let Some(link) = self.links.get_mut(peer).filter(|link| link.is_up) else { return };
+        let is_silent = now.saturating_sub(link.heard) >= SILENCE;
+        let (was_empty, pings) = (link.out.is_empty(), is_silent && link.pinged.is_none());
+        if link.pinged.is_some_and(|since| now.saturating_sub(since) >= NO_PONG) {
+            self.turn.silent.push(peer);
+        }
+        if pings {
+            link.pinged = Some(now);
+        }
+        if !was_empty {
+            return;
+        }
+        if pings {
+            wire::put_head(link.out.bytes_mut(), Kind::Ping, 0, 0);
+        }
+        if std::mem::take(&mut link.owes_pong) {
+            wire::put_head(link.out.bytes_mut(), Kind::Pong, 0, 0);
+        }
+        if self.is_time_to_transmit(peer, now) {
+            self.transmit(peer);
+        }
+        let Some(link) = self.links.get_mut(peer) else { return };
+        if link.says_bye && self.space.due(peer) == Due::Nothing {
+            link.says_bye = false;
+            wire::put_head(link.out.bytes_mut(), Kind::Bye, 0, 0);
+        }
+        self.counts.bytes_out += link.out.left().len() as u64;
+        self.counts.records_out += u64::from(!link.out.is_empty());
+    }
+
+    fn is_time_to_transmit(&self, peer: SpaceId, now: Duration) -> bool {
+        let Some(link) = self.links.get(peer) else { return false };
+        let owes_ack = link.owed >= ACK_ITEMS
+            || link.owed > 0 && now.saturating_sub(link.owed_since) >= ACK_WAITS;
+        match self.space.due(peer) {
+            Due::Nothing => false,
+            Due::Ack => owes_ack,
+            Due::Again => link.again || owes_ack,
+            Due::New | Due::Close => true,
+        }
+    }
+
+    // One Transmit, of which what this connection has already is left out; but where all would be, and
+    // an acknowledgement is owed, the shortest is written again, since each says it.
+    fn transmit(&mut self, peer: SpaceId) {
+        let Ok(frames) = self.space.transmit(peer) else {
+            self.counts.wants += 1;
+            return;
+        };
+        let stamp = self.space.stamp();
+        let Some(link) = self.links.get_mut(peer) else { return };
+        let from = if std::mem::take(&mut link.again) { 0 } else { link.written };
+        let seen = || wire::frames_of(frames.as_bytes());
+        let is_new = |frame: &wire::Seen<'_>| !frame.is_data() || frame.seq() > from;
+        let mut chosen: Vec<wire::Seen<'_>> = seen().filter(is_new).collect();
+        if chosen.is_empty() && link.owed > 0 {
+            chosen.extend(seen().min_by_key(|frame| frame.bytes.len()));
+        }
+        self.counts.frames_left_out += (seen().count() - chosen.len()) as u64;
+        self.counts.frames_out += chosen.len() as u64;
+        let given = link.given;
+        for frame in seen().filter(|frame| frame.is_data() && frame.seq() > given) {
+            link.given = frame.seq();
+            link.replies_given += u64::from(matches!(frame.item(), ItemKind::Reply(_)));
+        }
+        link.written = seen().map(|frame| frame.seq()).max().unwrap_or(0).max(link.written);
+        if chosen.is_empty() {
+            return;
+        }
+        link.owed = 0;
+        let length = chosen.iter().map(|frame| frame.bytes.len()).sum();
+        let out = link.out.bytes_mut();
+        wire::put_head(out, Kind::Frames, stamp, length);
+        chosen.iter().for_each(|frame| out.extend(frame.bytes));
+    }
+
+    // The entries of the trace go to the sink before the bytes leave.
+    fn flush(&mut self) {
+        let Some(sink) = &mut self.sink else { return };
+        let lines = self.space.take_lines();
+        if !lines.is_empty() && sink.entries(&lines).is_err() {
+            self.counts.trace_faults += 1;
+            self.sink = None;
+        }
+    }
+
+    // When a peer that is connected wants the next turn at the latest.
+    fn next_of(&self, peer: SpaceId, now: Duration) -> Option<Duration> {
+        let link = self.links.get(peer)?;
+        let silence = link.pinged.map_or(link.heard + SILENCE, |since| since + NO_PONG);
+        if !link.out.is_empty() {
+            return Some(silence.max(now));
+        }
+        if self.is_time_to_transmit(peer, now) {
+            return Some(now);
+        }
+        let waits_with_ack = link.owed > 0 && matches!(self.space.due(peer), Due::Ack | Due::Again);
+        let ack = link.owed_since + ACK_WAITS;
+        Some(if waits_with_ack { silence.min(ack) } else { silence }.max(now))
+    }
+}

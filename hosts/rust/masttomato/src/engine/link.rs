@@ -1,0 +1,208 @@
+//! What an engine keeps of one peer.
+
+use super::wire::{ItemKind, Life, Why};
+use super::{Session, Ticket};
+use crate::space::{CallNo, JobNo, Outcome, Reference, SpaceId, Value};
+use std::collections::{HashMap, VecDeque};
+use std::time::Duration;
+
+/// Bytes that are to be written, and how many of them were.
+#[derive(Debug, Default)]
+pub struct OutBuffer {
+    bytes: Vec<u8>,
+    written: usize,
+}
+
+impl OutBuffer {
+    /// What is left to be written.
+    pub fn left(&self) -> &[u8] {
+        &self.bytes[self.written..]
+    }
+
+    /// Whether all of it was written.
+    pub fn is_empty(&self) -> bool {
+        self.written == self.bytes.len()
+    }
+
+    /// So many more bytes were written, at most those that are left.
+    pub fn advance(&mut self, count: usize) {
+        self.written = self.bytes.len().min(self.written + count);
+        if self.is_empty() {
+            self.bytes.clear();
+            self.written = 0;
+        }
+    }
+
+    pub(super) fn clear(&mut self) {
+        self.bytes.clear();
+        self.written = 0;
+    }
+
+    pub(super) fn bytes_mut(&mut self) -> &mut Vec<u8> {
+        &mut self.bytes
+    }
+}
+
+/// A call that waits to be made.
+#[derive(Debug)]
+pub(super) struct HeldCall {
+    pub(super) ticket: Ticket,
+    pub(super) target: Reference,
+    pub(super) method: u16,
+    pub(super) value: Value,
+    /// What the engine holds for it meanwhile.
+    pub(super) holds: Vec<Reference>,
+}
+
+/// A Finish that waits for room.
+#[derive(Debug)]
+pub(super) struct HeldFinish {
+    pub(super) job: JobNo,
+    pub(super) outcome: Outcome,
+    pub(super) holds: Vec<Reference>,
+}
+
+/// What an engine keeps of a peer.
+#[derive(Debug)]
+pub(super) struct Link {
+    pub(super) session: Session,
+    pub(super) life: Option<Life>,
+    /// Why there never was, and never will be, a connection.
+    pub(super) refused: Option<Why>,
+    pub(super) is_up: bool,
+    pub(super) input: Vec<u8>,
+    pub(super) out: OutBuffer,
+    /// The greatest number that was written on this connection, and ever.
+    pub(super) written: u64,
+    pub(super) given: u64,
+    /// All that isn't acknowledged is to be written again.
+    pub(super) again: bool,
+    /// The items that wait in the space's inbox, and the replies whose references aren't settled.
+    pub(super) inbox: VecDeque<ItemKind>,
+    pub(super) unsettled: HashMap<u64, CallNo>,
+    pub(super) calls_acted_on: u64,
+    pub(super) replies_given: u64,
+    /// What the peer has acknowledged, by its frames; how much of that was so at the last tick, and when
+    /// something that is held found no room.
+    pub(super) acked: u64,
+    pub(super) acked_at_tick: u64,
+    pub(super) blocked_at: Option<u64>,
+    pub(super) blocked_since: Option<Duration>,
+    /// Data frames that came since anything was written, and when the first of them did.
+    pub(super) owed: u32,
+    pub(super) owed_since: Duration,
+    pub(super) heard: Duration,
+    pub(super) pinged: Option<Duration>,
+    pub(super) owes_pong: bool,
+    pub(super) says_bye: bool,
+    pub(super) down_since: Duration,
+    pub(super) next_tick: Duration,
+    pub(super) stuck_until: Option<Duration>,
+    pub(super) calls: VecDeque<HeldCall>,
+    pub(super) finishes: VecDeque<HeldFinish>,
+}
+
+impl Link {
+    pub(super) fn new(now: Duration) -> Link {
+        Link {
+            session: Session::Down { since: now },
+            life: None,
+            refused: None,
+            is_up: false,
+            input: Vec::new(),
+            out: OutBuffer::default(),
+            written: 0,
+            given: 0,
+            again: false,
+            inbox: VecDeque::new(),
+            unsettled: HashMap::new(),
+            calls_acted_on: 0,
+            replies_given: 0,
+            acked: 0,
+            acked_at_tick: 0,
+            blocked_at: None,
+            blocked_since: None,
+            owed: 0,
+            owed_since: now,
+            heard: now,
+            pinged: None,
+            owes_pong: false,
+            says_bye: false,
+            down_since: now,
+            next_tick: now,
+            stuck_until: None,
+            calls: VecDeque::new(),
+            finishes: VecDeque::new(),
+        }
+    }
+
+    pub(super) fn is_open(&self) -> bool {
+        self.refused.is_none() && !matches!(self.session, Session::Closed(_))
+    }
+
+    /// Whether there was no room, and nothing was acknowledged since.
+    pub(super) fn is_blocked(&self) -> bool {
+        self.is_open() && self.blocked_at == Some(self.acked)
+    }
+
+    /// A connection stands, of which nothing was read or written yet.
+    pub(super) fn up(&mut self, life: Life, now: Duration) {
+        self.life = Some(life);
+        self.is_up = true;
+        self.fresh(now);
+        self.again = true;
+        if self.is_open() {
+            self.session = Session::Open;
+        }
+    }
+
+    pub(super) fn down(&mut self, now: Duration) {
+        self.is_up = false;
+        self.fresh(now);
+        self.down_since = now;
+        if self.is_open() {
+            self.session = Session::Down { since: now };
+        }
+    }
+
+    fn fresh(&mut self, now: Duration) {
+        self.input.clear();
+        self.input.shrink_to(1 << 16);
+        self.out.clear();
+        self.written = 0;
+        self.heard = now;
+        self.pinged = None;
+        self.owes_pong = false;
+    }
+
+    /// How many calls of the peer were acted on and have no reply on its way yet.
+    pub(super) fn unanswered(&self) -> u64 {
+        self.calls_acted_on.saturating_sub(self.replies_given)
+    }
+}
+
+/// The links to all peers, by their numbers.
+#[derive(Debug)]
+pub(super) struct Links(Vec<Option<Link>>);
+
+impl Links {
+    pub(super) fn new(peers: impl Iterator<Item = SpaceId>, now: Duration) -> Links {
+        let mut links: Vec<Option<Link>> = (0..=SpaceId::MOST).map(|_| None).collect();
+        for peer in peers {
+            links[usize::from(peer.get())] = Some(Link::new(now));
+        }
+        Links(links)
+    }
+
+    pub(super) fn get(&self, peer: SpaceId) -> Option<&Link> {
+        self.0[usize::from(peer.get())].as_ref()
+    }
+
+    pub(super) fn get_mut(&mut self, peer: SpaceId) -> Option<&mut Link> {
+        self.0[usize::from(peer.get())].as_mut()
+    }
+
+    pub(super) fn values_mut(&mut self) -> impl Iterator<Item = &mut Link> {
+        self.0.iter_mut().flatten()
+    }
+}

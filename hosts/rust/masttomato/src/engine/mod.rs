@@ -1,0 +1,597 @@
+//! A space with its connections' bytes and all that is to be kept of its peers, but without sockets,
+//! threads and clocks: bytes in, bytes out, time given. Nodes are made of it, and tests run several in
+//! one thread over a network and a clock that are made up.
+//!
+//! ```
+//! use masttomato::engine::{Answered, Engine, Life, Settings, Ticket};
+//! use masttomato::space::{Outcome, SpaceId, Value};
+//! use std::time::Duration;
+//!
+//! # fn main() -> Result<(), Box<dyn std::error::Error>> {
+//! let [one, two] = [1, 2].map(|number| SpaceId::new(number).expect("a space"));
+//! let now = Duration::ZERO;
+//! let mut owner = Engine::new(Settings::new(one, two), now)?;
+//! let mut caller = Engine::new(Settings::new(two, two), now)?;
+//! owner.connected(two, Life(12), now)?;
+//! caller.connected(one, Life(11), now)?;
+//! caller.call(Ticket(7), one.agent(), 3, Value::Int(20));
+//! caller.turn(now);
+//! owner.bytes(two, caller.output(one).left(), now)?;
+//! let job = owner.turn(now).jobs.remove(0);
+//! owner.finish(job.job, Outcome::Answer(Value::Int(42)));
+//! owner.turn(now);
+//! caller.bytes(one, owner.output(two).left(), now)?;
+//! let answers = caller.turn(now).answers;
+//! assert_eq!(answers, [(Ticket(7), Answered::Replied { status: 0, value: Value::Int(42) })]);
+//! # Ok(())
+//! # }
+//! ```
+
+mod coming;
+mod going;
+mod link;
+mod trace;
+mod turning;
+mod wire;
+
+pub use link::OutBuffer;
+pub use trace::{Files, TraceSink};
+pub use wire::{HELLO, Hello, LONGEST_BODY, Life, Why, World};
+
+use crate::space::{
+    CallNo, Due, Job, JobNo, Limits, Outcome, Reason, Reference, Refusal, Space, SpaceError,
+    SpaceId, Value,
+};
+use link::{HeldCall, HeldFinish, Link, Links};
+use std::collections::HashMap;
+use std::fmt;
+use std::sync::Arc;
+use std::time::Duration;
+
+/// An acknowledgement alone waits so long, or for so many items, for an item that says it too.
+const ACK_WAITS: Duration = Duration::from_millis(2);
+const ACK_ITEMS: u32 = 32;
+/// After so much silence a peer is pinged, and after so much more the connection is dropped.
+const SILENCE: Duration = Duration::from_secs(5);
+const NO_PONG: Duration = Duration::from_secs(10);
+/// An item that no room was there for is tried again after this.
+const STUCK: Duration = Duration::from_millis(20);
+/// So long a Finish waits for a peer to acknowledge anything. Its object runs no other call meanwhile, so
+/// then the session closes: an honest peer hardly ever has 4,096 items out, and never says nothing of them.
+const NO_ROOM: Duration = Duration::from_secs(5);
+/// More calls of one peer without a reply on its way are no honest space's.
+const MOST_UNANSWERED: u64 = 4_096;
+/// Timers of seconds are looked at so often.
+const LOOK: Duration = Duration::from_millis(500);
+/// So many ticks without progress close a session.
+const TICKS: u8 = 255;
+
+/// The program's own number of a call, by which it knows the answer again.
+#[derive(Clone, Copy, Debug, PartialEq, Eq, Hash, PartialOrd, Ord)]
+pub struct Ticket(pub u64);
+
+/// What an engine is made with.
+#[derive(Clone, Debug)]
+pub struct Settings {
+    /// The number of its space.
+    pub space: SpaceId,
+    /// The last space that there is.
+    pub spaces: SpaceId,
+    /// A session without progress, or without a connection, closes after this.
+    pub give_up_after: Duration,
+    /// So many calls are open at most; further ones wait.
+    pub open_calls: usize,
+}
+
+impl Settings {
+    /// The usual settings of a space among those from 1 to `spaces`: give up after ten minutes, and
+    /// 2,048 open calls.
+    pub fn new(space: SpaceId, spaces: SpaceId) -> Settings {
+        let give_up_after = Duration::from_secs(600);
+        Settings { space, spaces, give_up_after, open_calls: 2_048 }
+    }
+}
+
+/// How the session with a peer stands.
+#[derive(Clone, Copy, Debug, PartialEq, Eq)]
+#[non_exhaustive]
+pub enum Session {
+    /// There is a connection.
+    Open,
+    /// There is none, since this time of the engine. It may come back.
+    Down {
+        /// Since when.
+        since: Duration,
+    },
+    /// It has closed, and stays so.
+    Closed(Reason),
+    /// There is none, and the last one was refused.
+    Refused(Why),
+}
+
+/// What came of a call.
+#[derive(Clone, Debug, PartialEq, Eq)]
+#[non_exhaustive]
+pub enum Answered {
+    /// Its reply. Each reference in it is once in the hand, repeats included.
+    Replied {
+        /// 0 answered, 1 the method's fault, 2 no such method, 3 a reference was lost.
+        status: u8,
+        /// What it answered.
+        value: Value,
+    },
+    /// It was made, and the session closed before a reply came.
+    Ended(Reason),
+    /// It wasn't made: there is no session with the owner, or it has closed.
+    Down(SpaceId),
+    /// It wasn't made: there was never a session with this space, which refused this one's hello.
+    Refused(SpaceId, Why),
+    /// It wasn't made: the value has no pickle.
+    TooLarge,
+    /// It wasn't made: a reference in it was lost, its owner has gone.
+    Lost,
+}
+
+/// What a peer did that no honest one does. Its connection is to be dropped.
+#[derive(Clone, Copy, Debug, PartialEq, Eq, Hash)]
+#[non_exhaustive]
+pub enum Misbehaved {
+    /// It sent bytes that are no record.
+    NoRecord,
+    /// It sent the head of a record that is too long.
+    LongRecord,
+    /// It sent a record that cuts a frame.
+    CutFrame,
+    /// It sent a frame in another's name.
+    OtherSender,
+    /// It sent a frame for another.
+    OtherReceiver,
+    /// It sent bytes that are no frame.
+    NoFrame,
+}
+
+impl fmt::Display for Misbehaved {
+    fn fmt(&self, f: &mut fmt::Formatter<'_>) -> fmt::Result {
+        f.write_str(match self {
+            Misbehaved::NoRecord => "it sent bytes that are no record",
+            Misbehaved::LongRecord => "it sent a record that is too long",
+            Misbehaved::CutFrame => "it sent a record that cuts a frame",
+            Misbehaved::OtherSender => "it sent a frame in another's name",
+            Misbehaved::OtherReceiver => "it sent a frame for another",
+            Misbehaved::NoFrame => "it sent bytes that are no frame",
+        })
+    }
+}
+
+impl std::error::Error for Misbehaved {}
+
+/// What a turn of an engine gave.
+#[derive(Debug, Default)]
+#[must_use]
+pub struct Turn {
+    /// Jobs that were claimed: each wants one `finish`.
+    pub jobs: Vec<Job>,
+    /// What came of calls.
+    pub answers: Vec<(Ticket, Answered)>,
+    /// The indexes of own objects that nobody can use any more.
+    pub withdrawn: Vec<u64>,
+    /// Peers whose sessions stand otherwise than before.
+    pub changes: Vec<(SpaceId, Session)>,
+    /// Peers that are silent: their connections are to be dropped.
+    pub silent: Vec<SpaceId>,
+    /// When it wants the next turn at the latest.
+    pub next: Option<Duration>,
+}
+
+/// What an engine counted.
+#[derive(Clone, Copy, Debug, Default, PartialEq, Eq)]
+#[non_exhaustive]
+pub struct Counts {
+    /// Calls that were made.
+    pub calls_made: u64,
+    /// Calls whose replies came.
+    pub calls_answered: u64,
+    /// Calls whose sessions closed first.
+    pub calls_ended: u64,
+    /// Calls that nobody waited for any more.
+    pub calls_abandoned: u64,
+    /// Calls that are open.
+    pub calls_open: u64,
+    /// Jobs that were claimed, and that were finished.
+    pub jobs_claimed: u64,
+    /// Jobs that were finished.
+    pub jobs_finished: u64,
+    /// Frames that came.
+    pub frames_in: u64,
+    /// Frames that were given to be written.
+    pub frames_out: u64,
+    /// Frames that were left out, since this connection has them already.
+    pub frames_left_out: u64,
+    /// Bytes that came, and that were given.
+    pub bytes_in: u64,
+    /// Bytes that were given to be written.
+    pub bytes_out: u64,
+    /// Records that were given to be written: as many writes.
+    pub records_out: u64,
+    /// Connections that came to stand.
+    pub connects: u64,
+    /// Objects that were withdrawn.
+    pub withdrawn: u64,
+    /// Times that a peer misbehaved.
+    pub misbehaved: u64,
+    /// Times that something waited for want of memory or room.
+    pub wants: u64,
+    /// Times that the trace couldn't be written.
+    pub trace_faults: u64,
+}
+
+/// A space, its connections' bytes, and all that is kept of its peers.
+pub struct Engine {
+    space: Space,
+    settings: Settings,
+    links: Links,
+    peers: Arc<[SpaceId]>,
+    // Those that are connected.
+    up: Vec<SpaceId>,
+    claims: bool,
+    // Whether there may be something to settle, claim, give up or withdraw; whether something is held
+    // until there is room, and whether an item waits for room; and when timers are looked at.
+    is_stirred: bool,
+    has_held: bool,
+    has_stuck: bool,
+    look_at: Duration,
+    calls: HashMap<CallNo, (Ticket, SpaceId)>,
+    // Jobs that weren't finished, and whose they are.
+    jobs: HashMap<JobNo, SpaceId>,
+    tickets: HashMap<Ticket, Option<CallNo>>,
+    ready: Vec<CallNo>,
+    turn: Turn,
+    counts: Counts,
+    sink: Option<Box<dyn TraceSink>>,
+}
+
+impl fmt::Debug for Engine {
+    fn fmt(&self, f: &mut fmt::Formatter<'_>) -> fmt::Result {
+        f.debug_struct("Engine").field("space", &self.space.id()).finish_non_exhaustive()
+    }
+}
+
+impl Engine {
+    /// An engine of a space that has done nothing.
+    ///
+    /// # Errors
+    /// Where there is no memory for the space.
+    pub fn new(settings: Settings, now: Duration) -> Result<Engine, SpaceError> {
+        let limits = Limits::new(64, TICKS).expect("these are limits");
+        let space = Space::new(settings.space, settings.spaces, limits)?;
+        let links = Links::new(space.peers(), now);
+        Ok(Engine {
+            settings,
+            peers: space.peers().collect(),
+            space,
+            links,
+            up: Vec::new(),
+            claims: true,
+            is_stirred: false,
+            has_held: false,
+            has_stuck: false,
+            look_at: now,
+            calls: HashMap::new(),
+            jobs: HashMap::new(),
+            tickets: HashMap::new(),
+            ready: Vec::new(),
+            turn: Turn::default(),
+            counts: Counts::default(),
+            sink: None,
+        })
+    }
+
+    /// From now on the entries of the space's trace go to a sink, each before the bytes leave that it
+    /// tells of. It is to be asked for before anything else.
+    pub fn record(&mut self, sink: Box<dyn TraceSink>) {
+        self.space.keep_trace();
+        self.sink = Some(sink);
+    }
+
+    /// The number of the space.
+    pub fn id(&self) -> SpaceId {
+        self.space.id()
+    }
+
+    /// How the session with a peer stands; that of a space which is no peer is closed.
+    pub fn session(&self, peer: SpaceId) -> Session {
+        self.links.get(peer).map_or(Session::Closed(Reason::Asked), |link| link.session)
+    }
+
+    /// What was counted until now.
+    pub fn counts(&self) -> Counts {
+        Counts { calls_open: self.calls.len() as u64, ..self.counts }
+    }
+
+    /// The number of the call of a ticket, once it was made and until it is answered.
+    pub fn number(&self, ticket: Ticket) -> Option<CallNo> {
+        self.tickets.get(&ticket).copied().flatten()
+    }
+
+    /// The stamp of the last entry of the trace.
+    pub fn stamp(&self) -> u64 {
+        self.space.stamp()
+    }
+
+    /// A connection with a peer stands, over which nothing went yet but the hellos.
+    ///
+    /// # Errors
+    /// `NumberUsed` where another life has used the peer's number, `OtherNumber` where it is none.
+    pub fn connected(&mut self, peer: SpaceId, life: Life, now: Duration) -> Result<(), Why> {
+        let link = self.links.get_mut(peer).ok_or(Why::OtherNumber)?;
+        if link.life.is_some_and(|known| known != life) {
+            return Err(Why::NumberUsed);
+        }
+        link.up(life, now);
+        if !self.up.contains(&peer) {
+            self.up.push(peer);
+        }
+        self.counts.connects += 1;
+        self.turn.changes.push((peer, link.session));
+        Ok(())
+    }
+
+    /// The connection with a peer is gone.
+    pub fn disconnected(&mut self, peer: SpaceId, now: Duration) {
+        let Some(link) = self.links.get_mut(peer) else { return };
+        if link.is_up {
+            link.down(now);
+            self.up.retain(|known| *known != peer);
+            self.turn.changes.push((peer, link.session));
+        }
+    }
+
+    /// A peer refused this node's hello, or the other way round. Where they were never connected, and
+    /// another try would end the same, the session closes, and what waited for it ends.
+    pub fn refused(&mut self, peer: SpaceId, why: Why) {
+        let Some(link) = self.links.get_mut(peer) else { return };
+        if link.is_up || matches!(link.session, Session::Closed(_)) || link.refused.is_some() {
+            return;
+        }
+        link.session = Session::Refused(why);
+        self.turn.changes.push((peer, link.session));
+        let is_for_good = matches!(why, Why::NumberUsed | Why::OtherWorld | Why::OtherSpaces);
+        if is_for_good && link.life.is_none() {
+            link.refused = Some(why);
+            if let Ok(reason) = self.space.close(peer) {
+                self.closed(peer, reason);
+            }
+        }
+    }
+
+    /// A new object: its reference, once in the hand.
+    ///
+    /// # Errors
+    /// Where there are as many objects as there may be.
+    pub fn export(&mut self) -> Result<Reference, SpaceError> {
+        self.space.export()
+    }
+
+    /// One more hold of a reference.
+    ///
+    /// # Errors
+    /// Where it isn't held, or its owner has gone.
+    pub fn hold(&mut self, reference: Reference) -> Result<(), SpaceError> {
+        self.space.dup(reference)
+    }
+
+    /// A hold is given back.
+    pub fn release(&mut self, reference: Reference) {
+        self.is_stirred = true;
+        if self.space.release(reference).is_err() {
+            self.counts.wants += 1;
+        }
+    }
+
+    /// Calls a method of another space's object, as soon as there is room for it. What comes of it is
+    /// an answer of a later turn. What the value refers to and the target are held until this returns,
+    /// and needn't be any longer.
+    pub fn call(&mut self, ticket: Ticket, target: Reference, method: u16, value: Value) {
+        self.tickets.insert(ticket, None);
+        let mut call = HeldCall { ticket, target, method, value, holds: Vec::new() };
+        let Some(link) = self.links.get(target.owner) else {
+            return self.answer(ticket, Answered::Down(target.owner));
+        };
+        let is_first = link.calls.is_empty() && !link.is_blocked();
+        if is_first && self.calls.len() < self.settings.open_calls && self.try_call(&call) {
+            return;
+        }
+        call.holds = self.hold_all(call.value.references().into_iter().chain([target]));
+        if let Some(link) = self.links.get_mut(target.owner) {
+            link.calls.push_back(call);
+            self.has_held = true;
+        }
+    }
+
+    // Whether the call was made, or never will be.
+    fn try_call(&mut self, call: &HeldCall) -> bool {
+        let HeldCall { ticket, target, method, value, .. } = call;
+        let peer = target.owner;
+        let not_made = match self.space.call(*target, *method, value) {
+            Ok(number) => {
+                self.counts.calls_made += 1;
+                self.calls.insert(number, (*ticket, peer));
+                self.tickets.insert(*ticket, Some(number));
+                return true;
+            }
+            Err(error) if self.is_want_of_room(peer, error) => return false,
+            Err(SpaceError::Refused(Refusal::TooBig)) => Answered::TooLarge,
+            Err(_) if self.links.get(peer).is_some_and(Link::is_open) => Answered::Lost,
+            Err(_) => self.down(peer),
+        };
+        self.answer(*ticket, not_made);
+        true
+    }
+
+    // Why nothing goes to a peer whose session has closed.
+    fn down(&self, peer: SpaceId) -> Answered {
+        let refused = self.links.get(peer).and_then(|link| link.refused);
+        refused.map_or(Answered::Down(peer), |why| Answered::Refused(peer, why))
+    }
+
+    // Whether what a peer was to be told wants room, which comes with an acknowledgement, or memory.
+    fn is_want_of_room(&mut self, peer: SpaceId, error: SpaceError) -> bool {
+        let is_full = matches!(error, SpaceError::Refused(Refusal::QueueFull | Refusal::Limit));
+        if is_full && let Some(link) = self.links.get_mut(peer) {
+            link.blocked_at = Some(link.acked);
+        }
+        let is_want = is_full || error == SpaceError::OutOfMemory;
+        self.counts.wants += u64::from(is_want);
+        is_want
+    }
+
+    fn answer(&mut self, ticket: Ticket, answered: Answered) {
+        if self.tickets.remove(&ticket).is_some() {
+            self.turn.answers.push((ticket, answered));
+        } else if let Answered::Replied { value, .. } = answered {
+            self.release_all(value.references());
+        }
+    }
+
+    // Holds what can be held of these: what was.
+    fn hold_all(&mut self, references: impl IntoIterator<Item = Reference>) -> Vec<Reference> {
+        let counted = references.into_iter().filter(|reference| reference.is_counted());
+        counted.filter(|reference| self.space.dup(*reference).is_ok()).collect()
+    }
+
+    fn release_all(&mut self, references: Vec<Reference>) {
+        references.into_iter().for_each(|reference| self.release(reference));
+    }
+
+    /// Nobody waits for a call any more. One that wasn't made yet never is; the reply of another is
+    /// taken when it comes, and what it brings is given back.
+    pub fn abandon(&mut self, ticket: Ticket) {
+        let Some(made) = self.tickets.remove(&ticket) else {
+            return self.forget_answer(ticket);
+        };
+        self.counts.calls_abandoned += 1;
+        if made.is_some() {
+            return;
+        }
+        let mut holds = Vec::new();
+        for link in self.links.values_mut() {
+            link.calls.retain_mut(|call| {
+                let stays = call.ticket != ticket;
+                if !stays {
+                    holds.append(&mut call.holds);
+                }
+                stays
+            });
+        }
+        self.release_all(holds);
+    }
+
+    // An answer that no turn has given yet is given back.
+    fn forget_answer(&mut self, ticket: Ticket) {
+        let answers = &mut self.turn.answers;
+        let Some(place) = answers.iter().position(|(known, _)| *known == ticket) else { return };
+        self.counts.calls_abandoned += 1;
+        if let (_, Answered::Replied { value, .. }) = answers.remove(place) {
+            self.release_all(value.references());
+        }
+    }
+
+    /// A job's outcome goes to its client as soon as there is room for it. What it refers to is held
+    /// until this returns, and needn't be any longer. An answer without a pickle becomes a fault of
+    /// this value, and so does one that refers to what is lost.
+    pub fn finish(&mut self, job: JobNo, outcome: Outcome) {
+        let mut finish = HeldFinish { job, outcome, holds: Vec::new() };
+        if self.try_finish(&finish) {
+            return;
+        }
+        if let Outcome::Answer(value) | Outcome::Fault(value) = &finish.outcome {
+            finish.holds = self.hold_all(value.references());
+        }
+        let client = self.jobs.get(&job).copied();
+        if let Some(link) = client.and_then(|client| self.links.get_mut(client)) {
+            link.finishes.push_back(finish);
+            self.has_held = true;
+        }
+    }
+
+    // Whether the job was finished.
+    fn try_finish(&mut self, finish: &HeldFinish) -> bool {
+        let Some(client) = self.jobs.get(&finish.job).copied() else { return true };
+        match self.space.finish(finish.job, &finish.outcome) {
+            Ok(_) => {}
+            Err(error) if self.is_want_of_room(client, error) => return false,
+            Err(SpaceError::Refused(Refusal::NoJob)) => return true,
+            Err(error) => {
+                let fault = match error {
+                    SpaceError::Refused(Refusal::TooBig) => TOO_LARGE,
+                    _ => LOST,
+                };
+                let outcome = Outcome::Fault(fault_value(fault));
+                return self.try_finish(&HeldFinish {
+                    job: finish.job,
+                    outcome,
+                    holds: Vec::new(),
+                });
+            }
+        }
+        self.jobs.remove(&finish.job);
+        self.is_stirred = true;
+        self.counts.jobs_finished += 1;
+        true
+    }
+
+    /// Closes the session with a peer.
+    pub fn close(&mut self, peer: SpaceId) {
+        if let Ok(reason) = self.space.close(peer) {
+            self.closed(peer, reason);
+        }
+    }
+
+    /// Closes all sessions, and says bye over each connection once what is due was written.
+    pub fn close_all(&mut self) {
+        for peer in self.space.peers() {
+            self.close(peer);
+            if let Some(link) = self.links.get_mut(peer) {
+                link.says_bye = link.is_up;
+            }
+        }
+    }
+
+    /// Whether anything is still to be written, or acknowledged by a peer that is connected.
+    pub fn is_settled(&self) -> bool {
+        self.up.iter().filter_map(|peer| Some((peer, self.links.get(*peer)?))).all(
+            |(peer, link)| {
+                !link.is_up
+                    || (link.out.is_empty()
+                        && !link.says_bye
+                        && self.space.due(*peer) == Due::Nothing)
+            },
+        )
+    }
+
+    /// What is to be written to a peer: at most one record, and what goes with it. A turn fills it where
+    /// it is empty.
+    ///
+    /// # Panics
+    /// Where the space is none of the peers.
+    pub fn output(&mut self, peer: SpaceId) -> &mut OutBuffer {
+        &mut self.links.get_mut(peer).expect("a peer").out
+    }
+
+    /// The peers, rising.
+    pub fn peers(&self) -> impl Iterator<Item = SpaceId> + use<> {
+        self.space.peers()
+    }
+}
+
+/// The numbers of faults that a node answers in a method's place.
+pub(crate) const BAD_ARGUMENTS: i64 = 1;
+pub(crate) const PANICKED: i64 = 2;
+pub(crate) const TOO_LARGE: i64 = 3;
+pub(crate) const LOST: i64 = 4;
+pub(crate) const STOPPED: i64 = 5;
+
+/// A fault as it goes in a reply: a list of its number, which no fault of a method's own has alone.
+pub(crate) fn fault_value(number: i64) -> Value {
+    Value::List(vec![Value::Int(number), Value::Unit])
+}

@@ -1,0 +1,81 @@
+//! Where the entries of a trace go.
+
+use crate::space::{Limits, SpaceId, Trace};
+use std::fs::{self, File};
+use std::io::{self, Write};
+use std::path::{Path, PathBuf};
+
+/// Takes the entries of a trace, some lines at a time, before the bytes leave that they tell of.
+pub trait TraceSink: Send {
+    /// The next lines.
+    ///
+    /// # Errors
+    /// Where they can't be kept: then no more are given, and it is counted.
+    fn entries(&mut self, lines: &str) -> io::Result<()>;
+}
+
+impl<F: FnMut(&str) -> io::Result<()> + Send> TraceSink for F {
+    fn entries(&mut self, lines: &str) -> io::Result<()> {
+        self(lines)
+    }
+}
+
+/// Entries in files of a folder, `space-3.000001.entries` and so on, each up to a size. A process that
+/// is killed may leave half a line at the end.
+#[derive(Debug)]
+pub struct Files {
+    folder: PathBuf,
+    space: SpaceId,
+    size: u64,
+    number: u32,
+    open: Option<(File, u64)>,
+}
+
+impl Files {
+    /// Files of a space in a folder, each of which is left for the next one once it has this size.
+    pub fn new(folder: impl Into<PathBuf>, space: SpaceId, size: u64) -> Files {
+        Files { folder: folder.into(), space, size, number: 0, open: None }
+    }
+
+    /// The trace that a space's files in a folder have together, for `nobj check`. A last line that
+    /// isn't whole is left out.
+    ///
+    /// # Errors
+    /// Where they can't be read.
+    pub fn join(folder: &Path, space: SpaceId, spaces: SpaceId) -> io::Result<String> {
+        let mut paths: Vec<PathBuf> = fs::read_dir(folder)?
+            .map(|entry| entry.map(|entry| entry.path()))
+            .collect::<io::Result<_>>()?;
+        let prefix = format!("space-{space}.");
+        let is_its = |path: &PathBuf| {
+            path.file_name()
+                .and_then(|name| name.to_str())
+                .is_some_and(|name| name.starts_with(&prefix))
+        };
+        paths.retain(is_its);
+        paths.sort();
+        let text = paths.iter().map(fs::read_to_string).collect::<io::Result<String>>()?;
+        let whole = &text[..text.rfind('\n').map_or(0, |end| end + 1)];
+        let limits = Limits::new(64, 255).expect("these are limits");
+        let count = whole.lines().count() as u64;
+        Ok(Trace::first_line(space, spaces, limits, count) + whole)
+    }
+
+    fn file(&mut self) -> io::Result<&mut (File, u64)> {
+        if self.open.as_ref().is_none_or(|(_, written)| *written >= self.size) {
+            self.number += 1;
+            let name = format!("space-{}.{:06}.entries", self.space, self.number);
+            self.open = Some((File::create(self.folder.join(name))?, 0));
+        }
+        self.open.as_mut().ok_or_else(|| io::ErrorKind::NotFound.into())
+    }
+}
+
+impl TraceSink for Files {
+    fn entries(&mut self, lines: &str) -> io::Result<()> {
+        let (file, written) = self.file()?;
+        file.write_all(lines.as_bytes())?;
+        *written += lines.len() as u64;
+        Ok(())
+    }
+}

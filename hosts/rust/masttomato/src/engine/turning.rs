@@ -1,0 +1,170 @@
+//! What an engine does by itself: it settles, claims, gives up, counts ticks, and tries again.
+
+use super::link::Link;
+use super::{Engine, LOOK, NO_ROOM, TICKS, Turn};
+use crate::space::{Due, Reason, SpaceId};
+use std::time::Duration;
+
+impl Engine {
+    /// Does all that there is to do, and fills each connection's output that is empty: `work`, then
+    /// `fill`.
+    pub fn turn(&mut self, now: Duration) -> Turn {
+        let mut turn = self.work(now);
+        self.fill(now);
+        turn.changes.append(&mut self.turn.changes);
+        turn.silent.append(&mut self.turn.silent);
+        turn.next = self.next(now);
+        turn
+    }
+
+    /// Does all that there is to do, but writes nothing. Whoever has short jobs ends them before `fill`, so
+    /// that their replies go at once.
+    pub fn work(&mut self, now: Duration) -> Turn {
+        if std::mem::take(&mut self.has_stuck) {
+            for peer in self.peers.clone().iter() {
+                self.act(*peer, now);
+            }
+        }
+        if now >= self.look_at {
+            for peer in self.peers.clone().iter() {
+                self.tick(*peer, now);
+            }
+            self.look_at = now + LOOK.min(self.settings.give_up_after / u32::from(TICKS));
+        }
+        loop {
+            let did = self.is_stirred && self.stir();
+            for call in std::mem::take(&mut self.ready) {
+                self.take_reply(call, Reason::Asked);
+            }
+            if self.has_held {
+                self.retry();
+            }
+            if !did {
+                return std::mem::take(&mut self.turn);
+            }
+        }
+    }
+
+    /// From now on no job is claimed.
+    pub fn claim_no_more(&mut self) {
+        self.claims = false;
+    }
+
+    // Settles, gives up, claims and withdraws what can be: whether anything was.
+    fn stir(&mut self) -> bool {
+        let mut did_any = false;
+        loop {
+            let work = self.space.work();
+            let mut did = work.settle && self.settle();
+            did |= work.clean && self.space.clean().is_ok();
+            did |= work.claim && self.claims && self.claim();
+            did |= work.withdraw.is_some_and(|index| self.withdraw(index));
+            did_any |= did;
+            if !did {
+                // What memory was wanted for is tried again in the next turn.
+                self.is_stirred = work.settle || work.clean || work.withdraw.is_some();
+                return did_any;
+            }
+        }
+    }
+
+    fn settle(&mut self) -> bool {
+        let Ok(settled) = self.space.settle() else { return false };
+        let link = self.links.get_mut(settled.peer);
+        let reply = link.and_then(|link| link.unsettled.remove(&settled.item.get()));
+        self.ready.extend(reply);
+        true
+    }
+
+    fn claim(&mut self) -> bool {
+        let Ok(job) = self.space.claim() else { return false };
+        self.counts.jobs_claimed += 1;
+        self.jobs.insert(job.job, job.client);
+        self.turn.jobs.push(job);
+        true
+    }
+
+    fn withdraw(&mut self, index: u64) -> bool {
+        let is_withdrawn = self.space.withdraw(index).is_ok();
+        if is_withdrawn {
+            self.counts.withdrawn += 1;
+            self.turn.withdrawn.push(index);
+        }
+        is_withdrawn
+    }
+
+    // What waited for room, where an acknowledgement has come or a session has closed.
+    fn retry(&mut self) {
+        self.has_held = false;
+        for peer in self.peers.clone().iter() {
+            while let Some(finish) = self.next_held(*peer, |link| link.finishes.pop_front()) {
+                if self.try_finish(&finish) {
+                    self.release_all(finish.holds);
+                } else if let Some(link) = self.links.get_mut(*peer) {
+                    link.finishes.push_front(finish);
+                    break;
+                }
+            }
+            while self.calls.len() < self.settings.open_calls
+                && let Some(call) = self.next_held(*peer, |link| link.calls.pop_front())
+            {
+                if self.try_call(&call) {
+                    self.release_all(call.holds);
+                } else if let Some(link) = self.links.get_mut(*peer) {
+                    link.calls.push_front(call);
+                    break;
+                }
+            }
+            let link = self.links.get(*peer);
+            self.has_held |=
+                link.is_some_and(|link| !link.calls.is_empty() || !link.finishes.is_empty());
+        }
+    }
+
+    // What is held for a peer and may be tried again.
+    fn next_held<T>(
+        &mut self,
+        peer: SpaceId,
+        first: impl FnOnce(&mut Link) -> Option<T>,
+    ) -> Option<T> {
+        let link = self.links.get_mut(peer).filter(|link| !link.is_blocked())?;
+        link.blocked_at = None;
+        first(link)
+    }
+
+    // Counts a tick where nothing was acknowledged since the last one, and gives up where it is time.
+    fn tick(&mut self, peer: SpaceId, now: Duration) {
+        let every = self.settings.give_up_after / u32::from(TICKS);
+        let Some(link) = self.links.get_mut(peer).filter(|link| link.is_open()) else { return };
+        let is_given_up = !link.is_up
+            && link.life.is_some()
+            && now.saturating_sub(link.down_since) >= self.settings.give_up_after;
+        if is_given_up && self.space.close(peer).is_ok() {
+            return self.closed(peer, Reason::RetriesUsedUp);
+        }
+        if link.finishes.is_empty() || !link.is_blocked() {
+            link.blocked_since = None;
+        } else if now.saturating_sub(*link.blocked_since.get_or_insert(now)) >= NO_ROOM {
+            self.counts.misbehaved += 1;
+            return self.close(peer);
+        }
+        if now < link.next_tick {
+            return;
+        }
+        link.next_tick = now + every;
+        let is_stalled = link.acked == link.acked_at_tick;
+        link.acked_at_tick = link.acked;
+        let due = self.space.due(peer);
+        if !is_stalled || !matches!(due, Due::New | Due::Again) {
+            return;
+        }
+        link.again = true;
+        if !link.is_up && due == Due::New {
+            // A tick counts only what was transmitted: so it is, and goes nowhere.
+            let _lost = self.space.transmit(peer);
+        }
+        if let Ok(Some(reason)) = self.space.tick(peer) {
+            self.closed(peer, reason);
+        }
+    }
+}

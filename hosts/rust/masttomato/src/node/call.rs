@@ -1,0 +1,311 @@
+//! Calls that are waited for, or not.
+
+use super::driver::driving;
+use super::shared::{Command, Shared};
+use crate::engine::{Ticket, Why};
+use crate::interface::Packed;
+use crate::pass::Pass;
+use crate::space::{CallNo, Reason, SpaceId, Value};
+use std::fmt;
+use std::future::Future;
+use std::hint;
+use std::marker::PhantomData;
+use std::pin::Pin;
+use std::sync::atomic::{AtomicBool, AtomicU64, Ordering};
+use std::sync::{Arc, Condvar, Mutex, MutexGuard};
+use std::task::{Context, Poll, Waker};
+use std::time::{Duration, Instant};
+
+/// A fault that a node answered in a method's place, or that a method of another kind of program did.
+#[derive(Clone, Debug, PartialEq, Eq)]
+#[non_exhaustive]
+pub enum Fault {
+    /// The method takes other arguments.
+    BadArguments,
+    /// The method panicked, now or in an earlier call: its object answers nothing any more.
+    Panicked,
+    /// The answer was too large.
+    TooLarge,
+    /// The answer had a reference that was lost.
+    Lost,
+    /// No object has that name.
+    NoName,
+    /// The object has another interface, or another version of it.
+    OtherInterface,
+    /// Any other.
+    Other(Value),
+}
+
+impl fmt::Display for Fault {
+    fn fmt(&self, f: &mut fmt::Formatter<'_>) -> fmt::Result {
+        match self {
+            Fault::BadArguments => f.write_str("the method takes other arguments"),
+            Fault::Panicked => f.write_str("the method panicked"),
+            Fault::TooLarge => f.write_str("the answer was too large"),
+            Fault::Lost => f.write_str("the answer had a reference that was lost"),
+            Fault::NoName => f.write_str("no object has that name"),
+            Fault::OtherInterface => f.write_str("the object has another interface"),
+            Fault::Other(value) => write!(f, "the method failed with {value}"),
+        }
+    }
+}
+
+impl std::error::Error for Fault {}
+
+/// Why a call has no answer.
+#[derive(Clone, Debug, PartialEq, Eq)]
+#[non_exhaustive]
+pub enum CallError {
+    /// It wasn't made: the session with the object's owner has closed, or never was.
+    Down(SpaceId),
+    /// It wasn't made, and none will be: that space and this one never connect, and why.
+    Refused(SpaceId, Why),
+    /// It wasn't made: its arguments have more than 16,000 bytes, 32 references, 256 elements in a list
+    /// or 16 levels.
+    TooLarge,
+    /// It was made, and the session closed before a reply came: whether it ran isn't known.
+    Ended(Reason),
+    /// It was made, or will be, and goes on; its answer will be thrown away.
+    TimedOut,
+    /// The object has no such method.
+    NoMethod,
+    /// A reference among its arguments was lost, since its owner has gone.
+    Lost,
+    /// A reference among its arguments is another node's of this process.
+    OtherNode,
+    /// The method, or the node in its place, answered a fault.
+    Fault(Fault),
+    /// What was answered isn't of the type that is wanted.
+    BadAnswer,
+    /// The node has stopped.
+    NodeStopped,
+}
+
+impl fmt::Display for CallError {
+    fn fmt(&self, f: &mut fmt::Formatter<'_>) -> fmt::Result {
+        match self {
+            CallError::Down(space) => write!(f, "there is no session with space {space}"),
+            CallError::Refused(space, why) => {
+                write!(
+                    f,
+                    "space {space} and this one don't connect. Of the one that was refused: {why}"
+                )
+            }
+            CallError::TooLarge => f.write_str("the arguments are too large"),
+            CallError::Ended(reason) => {
+                write!(f, "the session closed before a reply came, for reason {reason}")
+            }
+            CallError::TimedOut => f.write_str("no reply came in time"),
+            CallError::NoMethod => f.write_str("the object has no such method"),
+            CallError::Lost => f.write_str("a reference among the arguments was lost"),
+            CallError::OtherNode => {
+                f.write_str("a reference among the arguments is another node's")
+            }
+            CallError::Fault(fault) => fault.fmt(f),
+            CallError::BadAnswer => f.write_str("the answer isn't of the type that is wanted"),
+            CallError::NodeStopped => f.write_str("the node has stopped"),
+        }
+    }
+}
+
+impl std::error::Error for CallError {
+    fn source(&self) -> Option<&(dyn std::error::Error + 'static)> {
+        match self {
+            CallError::Fault(fault) => Some(fault),
+            _ => None,
+        }
+    }
+}
+
+/// What a call came to, before it is known of which type the answer is to be.
+pub(crate) type Completed = Result<Packed, CallError>;
+
+#[derive(Debug, Default)]
+struct Slot {
+    completed: Option<Completed>,
+    waker: Option<Waker>,
+    // Somebody sleeps until it is completed: waking nobody would cost a call of the system too.
+    sleeps: bool,
+}
+
+/// Where a call's answer is put.
+#[derive(Debug, Default)]
+pub(crate) struct CallState {
+    slot: Mutex<Slot>,
+    ready: Condvar,
+    is_done: AtomicBool,
+    number: AtomicU64,
+}
+
+impl CallState {
+    fn slot(&self) -> MutexGuard<'_, Slot> {
+        self.slot.lock().unwrap_or_else(|poisoned| poisoned.into_inner())
+    }
+
+    /// Puts the answer there: who is to be woken, once nothing of the node is locked any more.
+    pub(crate) fn complete(&self, completed: Completed) -> Option<Waker> {
+        let mut slot = self.slot();
+        slot.completed = Some(completed);
+        self.is_done.store(true, Ordering::Release);
+        let waker = slot.waker.take();
+        let sleeps = slot.sleeps;
+        drop(slot);
+        if sleeps {
+            self.ready.notify_one();
+        }
+        waker
+    }
+
+    pub(crate) fn set_number(&self, number: CallNo) {
+        self.number.store(number.get(), Ordering::Relaxed);
+    }
+}
+
+/// A call that was asked for: a future, and something to wait for. Dropping it means that nobody waits
+/// any more; a call that was made goes on, and its node takes what it brings and gives it back.
+///
+/// ```
+/// # use masttomato::{interface, Node, Peers, SpaceId};
+/// # use std::time::Duration;
+/// # #[interface]
+/// # pub trait Bell { fn ring(&mut self) -> String; }
+/// # struct Brass;
+/// # impl Bell for Brass { fn ring(&mut self) -> String { "ding".into() } }
+/// # fn main() -> Result<(), Box<dyn std::error::Error>> {
+/// # let node = Node::builder(SpaceId::new(1).ok_or("1 to 32")?, Peers::none()).start()?;
+/// # let bell = node.export::<dyn Bell>(Box::new(Brass))?;
+/// let first = bell.ring();                                  // both are made now,
+/// let second = bell.ring();
+/// assert_eq!(second.wait()?, "ding");                       // and waited for in any order
+/// assert_eq!(first.wait_for(Duration::from_secs(5))?, "ding");
+/// # Ok(())
+/// # }
+/// ```
+#[must_use = "a call that is dropped goes on, but nobody has its answer"]
+pub struct Call<T> {
+    shared: Arc<Shared>,
+    ticket: Ticket,
+    state: Arc<CallState>,
+    is_taken: bool,
+    answer: PhantomData<fn() -> T>,
+}
+
+impl<T> fmt::Debug for Call<T> {
+    fn fmt(&self, f: &mut fmt::Formatter<'_>) -> fmt::Result {
+        write!(f, "Call({})", self.ticket.0)
+    }
+}
+
+impl<T> Call<T> {
+    pub(crate) fn posted(
+        shared: &Arc<Shared>,
+        command: impl FnOnce(Ticket, Arc<CallState>) -> Command,
+    ) -> Call<T> {
+        let state = Arc::new(CallState::default());
+        let ticket = shared.next_ticket();
+        let call = Call {
+            shared: shared.clone(),
+            ticket,
+            state: state.clone(),
+            is_taken: false,
+            answer: PhantomData,
+        };
+        if !shared.post(command(ticket, state)) {
+            call.state.complete(Err(CallError::NodeStopped));
+        }
+        call
+    }
+
+    /// The number of the call among those of this space, as the trace has it, once it was made. A call
+    /// of an own object has none.
+    pub fn number(&self) -> Option<CallNo> {
+        match self.state.number.load(Ordering::Relaxed) {
+            0 => None,
+            number => Some(CallNo::new(number)),
+        }
+    }
+}
+
+impl<T: Pass> Call<T> {
+    /// Waits for the answer.
+    ///
+    /// # Errors
+    /// Why there is none.
+    pub fn wait(mut self) -> Result<T, CallError> {
+        self.wait_until(None)
+    }
+
+    /// Waits for the answer for so long.
+    ///
+    /// # Errors
+    /// Why there is none; `TimedOut` where it may still come.
+    pub fn wait_for(mut self, limit: Duration) -> Result<T, CallError> {
+        self.wait_until(Instant::now().checked_add(limit))
+    }
+
+    fn wait_until(&mut self, end: Option<Instant>) -> Result<T, CallError> {
+        let completed = match driving(&self.shared) {
+            Some(driver) => driver.turn_until(end, || self.state.slot().completed.take()),
+            None => self.sleep_until(end),
+        };
+        self.taken(completed.unwrap_or(Err(CallError::TimedOut)))
+    }
+
+    // Looks for a while, since a reply comes soon or late; then sleeps.
+    fn sleep_until(&self, end: Option<Instant>) -> Option<Completed> {
+        let looks = self.shared.looks_now();
+        let since = Instant::now();
+        while !self.state.is_done.load(Ordering::Acquire) && since.elapsed() < looks {
+            hint::spin_loop();
+        }
+        self.shared.looked(looks, self.state.is_done.load(Ordering::Acquire));
+        let mut slot = self.state.slot();
+        loop {
+            if let Some(completed) = slot.completed.take() {
+                return Some(completed);
+            }
+            slot.sleeps = true;
+            let unpoisoned = |slot| match slot {
+                Ok(slot) => slot,
+                Err(poisoned) => std::sync::PoisonError::into_inner(poisoned),
+            };
+            slot = match end {
+                None => unpoisoned(self.state.ready.wait(slot)),
+                Some(end) => {
+                    let left = end.checked_duration_since(Instant::now())?;
+                    match self.state.ready.wait_timeout(slot, left) {
+                        Ok((slot, _)) => slot,
+                        Err(poisoned) => poisoned.into_inner().0,
+                    }
+                }
+            };
+        }
+    }
+
+    fn taken(&mut self, completed: Completed) -> Result<T, CallError> {
+        self.is_taken = !matches!(completed, Err(CallError::TimedOut));
+        completed?.unpack(&self.shared).ok_or(CallError::BadAnswer)
+    }
+}
+
+impl<T: Pass> Future for Call<T> {
+    type Output = Result<T, CallError>;
+
+    fn poll(mut self: Pin<&mut Self>, context: &mut Context<'_>) -> Poll<Self::Output> {
+        let mut slot = self.state.slot();
+        let Some(completed) = slot.completed.take() else {
+            slot.waker = Some(context.waker().clone());
+            return Poll::Pending;
+        };
+        drop(slot);
+        Poll::Ready(self.taken(completed))
+    }
+}
+
+impl<T> Drop for Call<T> {
+    fn drop(&mut self) {
+        if !self.is_taken {
+            self.shared.post(Command::Abandon(self.ticket));
+        }
+    }
+}

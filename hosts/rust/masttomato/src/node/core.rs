@@ -1,0 +1,604 @@
+//! A node's objects, names and open calls, on its own thread, over an engine.
+
+use super::call::{CallError, CallState, Completed, Fault};
+use super::hold::Hold;
+use super::pool::Pool;
+use super::shared::{Command, Shared};
+use super::{Changes, Context, NodeError, Run};
+use crate::engine::{
+    Answered, BAD_ARGUMENTS, Engine, LOST, PANICKED, STOPPED, Session, TOO_LARGE, Ticket,
+    fault_value,
+};
+use crate::interface::{Arguments, Description, Exported, Packed, Served};
+use crate::space::{Job, JobNo, Outcome, Reference, SpaceId, Value};
+use std::collections::{HashMap, VecDeque};
+use std::panic::{AssertUnwindSafe, catch_unwind};
+use std::sync::{Arc, mpsc};
+use std::task::Waker;
+use std::time::{Duration, Instant};
+
+/// The agent's methods: what other kinds of nodes have, and what these have beside.
+const PUT: u16 = 0;
+const GET: u16 = 1;
+const REMOVE: u16 = 2;
+const LOOKUP: u16 = 16;
+const DESCRIBE: u16 = 17;
+/// Its faults.
+const ARGUMENT: i64 = 1;
+const NO_NAME: i64 = 3;
+const REFUSED: i64 = 4;
+const OTHER_INTERFACE: i64 = 5;
+/// So many names there are at most, and so many bytes in one.
+const MOST_NAMES: usize = 1_024;
+const LONGEST_NAME: usize = 255;
+
+/// A call that an object is to carry out.
+enum Work {
+    Job { job: JobNo, client: SpaceId, method: u16, packed: Packed },
+    Local { state: Arc<CallState>, target: Arc<Hold>, method: u16, packed: Packed },
+}
+
+enum Place {
+    Here(Box<dyn Exported>),
+    Away,
+    Broken,
+}
+
+struct Object {
+    place: Place,
+    run: Run,
+    line: VecDeque<Work>,
+    description: Description,
+}
+
+/// Whom a method's outcome is for.
+enum End {
+    Job(JobNo),
+    Local(Arc<CallState>, Arc<Hold>),
+}
+
+/// A method that is to run, away from the node's tables.
+pub(crate) struct Task {
+    index: u64,
+    object: Box<dyn Exported>,
+    method: u16,
+    arguments: Arguments,
+    context: Context,
+    loans: Vec<Arc<Hold>>,
+    end: End,
+}
+
+/// A method that has run, and its object, unless it panicked.
+pub(crate) struct Done {
+    index: u64,
+    object: Option<Box<dyn Exported>>,
+    served: Served,
+    loans: Vec<Arc<Hold>>,
+    end: End,
+}
+
+impl Task {
+    pub(crate) fn run(self) -> Done {
+        let Task { index, mut object, method, arguments, context, loans, end } = self;
+        let served = catch_unwind(AssertUnwindSafe(|| object.serve(method, arguments, &context)));
+        let (object, served) = match served {
+            Ok(served) => (Some(object), served),
+            Err(_) => {
+                // The object is in an unknown state; what its drop does is caught too.
+                let _dropped = catch_unwind(AssertUnwindSafe(|| drop(object)));
+                (None, Served::Panicked)
+            }
+        };
+        Done { index, object, served, loans, end }
+    }
+}
+
+// What an open call is for.
+enum Purpose {
+    Method,
+    /// The name, to be asked for in the way of other nodes where the owner doesn't know this one's.
+    Lookup(SpaceId, Vec<u8>),
+    /// What is given where the owner says yes.
+    Cast(Arc<Hold>),
+}
+
+struct OpenCall {
+    state: Arc<CallState>,
+    purpose: Purpose,
+}
+
+/// What is on a node's own thread.
+pub(crate) struct Core {
+    pub(crate) engine: Engine,
+    shared: Arc<Shared>,
+    objects: HashMap<u64, Object>,
+    names: HashMap<Vec<u8>, Arc<Hold>>,
+    calls: HashMap<Ticket, OpenCall>,
+    tasks: VecDeque<Task>,
+    pool: Option<Arc<Pool>>,
+    watchers: Vec<mpsc::Sender<(SpaceId, Session)>>,
+    running: usize,
+    pub(crate) silent: Vec<SpaceId>,
+    pub(crate) stops_at: Option<Instant>,
+    wakers: Vec<Waker>,
+    withdrawn: Vec<Box<dyn Exported>>,
+}
+
+impl Core {
+    pub(crate) fn new(engine: Engine, shared: Arc<Shared>, pool: Option<Arc<Pool>>) -> Core {
+        Core {
+            engine,
+            shared,
+            objects: HashMap::new(),
+            names: HashMap::new(),
+            calls: HashMap::new(),
+            tasks: VecDeque::new(),
+            pool,
+            watchers: Vec::new(),
+            running: 0,
+            silent: Vec::new(),
+            stops_at: None,
+            wakers: Vec::new(),
+            withdrawn: Vec::new(),
+        }
+    }
+
+    /// How many methods run.
+    pub(crate) fn running(&self) -> usize {
+        self.running
+    }
+
+    pub(crate) fn command(&mut self, command: Command) {
+        match command {
+            Command::Call { ticket, target, method, packed, state } => {
+                self.call(ticket, &target, method, packed, state, Purpose::Method);
+            }
+            Command::Lookup { ticket, peer, name, wanted, state } => {
+                self.lookup(ticket, peer, name, wanted, state);
+            }
+            Command::Cast { ticket, hold, wanted, state } => self.cast(ticket, hold, wanted, state),
+            Command::Abandon(ticket) => {
+                self.calls.remove(&ticket);
+                self.engine.abandon(ticket);
+            }
+            Command::Release(reference) => self.engine.release(reference),
+            Command::Done(done) => self.done(*done),
+            Command::Ask(ask) => ask(self),
+            Command::Stop(by) => {
+                self.engine.claim_no_more();
+                self.stops_at = Some(self.stops_at.map_or(by, |known| known.min(by)));
+            }
+        }
+    }
+
+    pub(crate) fn export(
+        &mut self,
+        object: Box<dyn Exported>,
+        run: Run,
+    ) -> Result<Reference, NodeError> {
+        let reference = self.engine.export().map_err(|_| NodeError::Full)?;
+        let description = object.describe();
+        let place = Place::Here(object);
+        let object = Object { place, run, line: VecDeque::new(), description };
+        self.objects.insert(reference.index, object);
+        Ok(reference)
+    }
+
+    pub(crate) fn bind(&mut self, name: &str, hold: Arc<Hold>) -> Result<(), NodeError> {
+        let is_name = (1..=LONGEST_NAME).contains(&name.len());
+        if !is_name || self.names.len() >= MOST_NAMES && !self.names.contains_key(name.as_bytes()) {
+            return Err(NodeError::BadName);
+        }
+        self.names.insert(name.as_bytes().to_vec(), hold);
+        Ok(())
+    }
+
+    pub(crate) fn unbind(&mut self, name: &str) -> bool {
+        self.names.remove(name.as_bytes()).is_some()
+    }
+
+    pub(crate) fn watch(&mut self) -> Changes {
+        let (sender, receiver) = mpsc::channel();
+        self.watchers.push(sender);
+        Changes::new(receiver)
+    }
+
+    fn complete(&mut self, state: &CallState, completed: Completed) {
+        self.wakers.extend(state.complete(completed));
+    }
+
+    fn call(
+        &mut self,
+        ticket: Ticket,
+        target: &Arc<Hold>,
+        method: u16,
+        packed: Packed,
+        state: Arc<CallState>,
+        purpose: Purpose,
+    ) {
+        let owner = target.reference().owner;
+        let is_mine = |hold: &Arc<Hold>| Arc::ptr_eq(hold.shared(), &self.shared);
+        if !packed.holds.iter().all(is_mine) {
+            return self.complete(&state, Err(CallError::OtherNode));
+        }
+        if packed.holds.iter().any(|hold| hold.is_lost()) {
+            return self.complete(&state, Err(CallError::Lost));
+        }
+        if target.is_lost() {
+            return self.complete(&state, Err(CallError::Down(owner)));
+        }
+        if owner == self.engine.id() {
+            return self.call_here(target, method, packed, state, purpose);
+        }
+        self.calls.insert(ticket, OpenCall { state: state.clone(), purpose });
+        self.engine.call(ticket, target.reference(), method, packed.value);
+        if let Some(number) = self.engine.number(ticket) {
+            state.set_number(number);
+        }
+    }
+
+    // A call of an own object stands in its line beside those of others; it is no event of the space.
+    fn call_here(
+        &mut self,
+        target: &Arc<Hold>,
+        method: u16,
+        packed: Packed,
+        state: Arc<CallState>,
+        purpose: Purpose,
+    ) {
+        let index = target.reference().index;
+        if index == 0 {
+            let outcome = self.agent(method, &packed.value);
+            let (status, value) = status_of(outcome);
+            let holds = self.names.values().filter(|hold| value == Value::Ref(hold.reference()));
+            let packed = Packed { holds: holds.take(1).cloned().collect(), value };
+            let completed = completed_of(status, packed, &purpose);
+            return self.complete(&state, completed);
+        }
+        let Some(object) = self.objects.get_mut(&index) else {
+            return self.complete(&state, Err(CallError::NoMethod));
+        };
+        object.line.push_back(Work::Local { state, target: target.clone(), method, packed });
+        self.start(index);
+    }
+
+    fn lookup(
+        &mut self,
+        ticket: Ticket,
+        peer: SpaceId,
+        name: Vec<u8>,
+        wanted: Description,
+        state: Arc<CallState>,
+    ) {
+        let [interface, checksum] = wanted.values();
+        let value = Value::List(vec![Value::Bytes(name.clone()), interface, checksum]);
+        let agent = Hold::uncounted(&self.shared, peer.agent());
+        let purpose = Purpose::Lookup(peer, name);
+        self.call(ticket, &agent, LOOKUP, Packed::plain(value), state, purpose);
+    }
+
+    fn cast(
+        &mut self,
+        ticket: Ticket,
+        hold: Arc<Hold>,
+        wanted: Description,
+        state: Arc<CallState>,
+    ) {
+        let [interface, checksum] = wanted.values();
+        let index = Value::Bytes(hold.reference().index.to_be_bytes().to_vec());
+        let value = Value::List(vec![index, interface, checksum]);
+        let agent = Hold::uncounted(&self.shared, hold.reference().owner.agent());
+        self.call(ticket, &agent, DESCRIBE, Packed::plain(value), state, Purpose::Cast(hold));
+    }
+
+    // The node's agent: names, and what objects are.
+    fn agent(&mut self, method: u16, value: &Value) -> Outcome {
+        let fault = |number| Outcome::Fault(Value::Int(number));
+        match (method, value) {
+            (GET, Value::Bytes(name)) => match self.names.get(name) {
+                Some(hold) => Outcome::Answer(Value::Ref(hold.reference())),
+                None => fault(NO_NAME),
+            },
+            (LOOKUP, Value::List(list)) => match &list[..] {
+                [Value::Bytes(name), interface, checksum] => match self.names.get(name) {
+                    None => fault(NO_NAME),
+                    Some(hold) => {
+                        let reference = hold.reference();
+                        let is_own = reference.owner == self.engine.id();
+                        match !is_own || self.is_one(reference.index, interface, checksum) {
+                            true => Outcome::Answer(Value::Ref(reference)),
+                            false => fault(OTHER_INTERFACE),
+                        }
+                    }
+                },
+                _ => fault(ARGUMENT),
+            },
+            (DESCRIBE, Value::List(list)) => match &list[..] {
+                [Value::Bytes(index), interface, checksum] => {
+                    let index = index.first_chunk().map_or(0, |bytes| u64::from_be_bytes(*bytes));
+                    match self.is_one(index, interface, checksum) {
+                        true => Outcome::Answer(Value::Unit),
+                        false => fault(OTHER_INTERFACE),
+                    }
+                }
+                _ => fault(ARGUMENT),
+            },
+            // Nothing is bound or unbound from outside.
+            (PUT | REMOVE, _) => fault(REFUSED),
+            (GET | LOOKUP | DESCRIBE, _) => fault(ARGUMENT),
+            _ => Outcome::NoMethod,
+        }
+    }
+
+    fn is_one(&self, index: u64, interface: &Value, checksum: &Value) -> bool {
+        let values = self.objects.get(&index).map(|object| object.description.values());
+        values.is_some_and(|values| values[0] == *interface && values[1] == *checksum)
+    }
+
+    /// Does all that the engine has to do, up to what is to be written.
+    pub(crate) fn work(&mut self, now: Duration) {
+        let turn = self.engine.work(now);
+        for (ticket, answered) in turn.answers {
+            self.answered(ticket, answered);
+        }
+        for job in turn.jobs {
+            self.job(job);
+        }
+        for index in turn.withdrawn {
+            let object = self.objects.remove(&index).map(|object| object.place);
+            if let Some(Place::Here(object)) = object {
+                self.withdrawn.push(object);
+            }
+        }
+        for change in turn.changes {
+            self.watchers.retain(|watcher| watcher.send(change).is_ok());
+        }
+        self.silent.extend(turn.silent);
+    }
+
+    fn answered(&mut self, ticket: Ticket, answered: Answered) {
+        let packed = match answered {
+            Answered::Replied { status, value } => Ok((status, self.packed(value))),
+            Answered::Ended(reason) => Err(CallError::Ended(reason)),
+            Answered::Down(space) => Err(CallError::Down(space)),
+            Answered::Refused(space, why) => Err(CallError::Refused(space, why)),
+            Answered::TooLarge => Err(CallError::TooLarge),
+            Answered::Lost => Err(CallError::Lost),
+        };
+        let Some(OpenCall { state, purpose }) = self.calls.remove(&ticket) else { return };
+        let (status, packed) = match packed {
+            Ok(replied) => replied,
+            Err(error) => return self.complete(&state, Err(error)),
+        };
+        if let (2, Purpose::Lookup(peer, name)) = (status, &purpose) {
+            // A node of another kind, which knows names alone.
+            let agent = Hold::uncounted(&self.shared, peer.agent());
+            let name = Packed::plain(Value::Bytes(name.clone()));
+            return self.call(ticket, &agent, GET, name, state, Purpose::Lookup(*peer, Vec::new()));
+        }
+        let completed = completed_of(status, packed, &purpose);
+        self.complete(&state, completed);
+    }
+
+    // A value that came to the hand, with a hold of each of its references; further ones are given back.
+    fn packed(&mut self, value: Value) -> Packed {
+        let mut holds: Vec<Arc<Hold>> = Vec::new();
+        for reference in value.references() {
+            if holds.iter().any(|hold| hold.reference() == reference) {
+                self.engine.release(reference);
+            } else {
+                holds.push(Hold::held(&self.shared, reference));
+            }
+        }
+        Packed { value, holds }
+    }
+
+    fn job(&mut self, job: Job) {
+        let Job { job, client, target, method, value, .. } = job;
+        if target == 0 {
+            let outcome = self.agent(method, &value);
+            return self.engine.finish(job, outcome);
+        }
+        let mut holds: Vec<Arc<Hold>> = Vec::new();
+        for reference in value.references() {
+            if holds.iter().all(|hold| hold.reference() != reference) {
+                holds.push(Hold::loan(&self.shared, reference));
+            }
+        }
+        let packed = Packed { value, holds };
+        match self.objects.get_mut(&target) {
+            Some(object) => {
+                object.line.push_back(Work::Job { job, client, method, packed });
+                self.start(target);
+            }
+            None => {
+                packed.holds.iter().for_each(|hold| hold.end_loan(false));
+                self.engine.finish(job, Outcome::NoMethod);
+            }
+        }
+    }
+
+    // The next call in an object's line begins, where the object is there. Those to one that panicked end
+    // at once.
+    fn start(&mut self, index: u64) {
+        while let Some(done) = self.begin(index) {
+            self.end_of(done);
+        }
+    }
+
+    fn begin(&mut self, index: u64) -> Option<Done> {
+        let object = self.objects.get_mut(&index)?;
+        if matches!(object.place, Place::Away) {
+            return None;
+        }
+        let work = object.line.pop_front()?;
+        let (caller, method, packed, end) = match work {
+            Work::Job { job, client, method, packed } => (client, method, packed, End::Job(job)),
+            Work::Local { state, target, method, packed } => {
+                (self.engine.id(), method, packed, End::Local(state, target))
+            }
+        };
+        let loans = match &end {
+            End::Job(_) => packed.holds.clone(),
+            End::Local(..) => Vec::new(),
+        };
+        let Place::Here(there) = std::mem::replace(&mut object.place, Place::Away) else {
+            drop(packed);
+            self.running += 1;
+            return Some(Done { index, object: None, served: Served::Panicked, loans, end });
+        };
+        let run = object.run;
+        let arguments = Arguments { packed, shared: self.shared.clone() };
+        let context = Context::new(caller, self.shared.clone());
+        let task = Task { index, object: there, method, arguments, context, loans, end };
+        self.running += 1;
+        match &self.pool {
+            Some(pool) if run == Run::Pool => pool.run(task),
+            _ => self.tasks.push_back(task),
+        }
+        None
+    }
+
+    /// A method that is to run on the node's own thread.
+    pub(crate) fn next_task(&mut self) -> Option<Task> {
+        self.tasks.pop_front()
+    }
+
+    /// A method has run: its outcome goes to who called it.
+    pub(crate) fn done(&mut self, done: Done) {
+        let index = done.index;
+        self.end_of(done);
+        self.start(index);
+    }
+
+    fn end_of(&mut self, done: Done) {
+        let Done { index, object, served, loans, end } = done;
+        self.running -= 1;
+        if let Some(slot) = self.objects.get_mut(&index) {
+            slot.place = object.map_or(Place::Broken, Place::Here);
+        }
+        match end {
+            End::Job(job) => self.finish(job, served, loans),
+            End::Local(state, target) => {
+                let completed = match served {
+                    Served::Answer(packed) => Ok(packed),
+                    Served::NoMethod => Err(CallError::NoMethod),
+                    Served::BadArguments => Err(CallError::Fault(Fault::BadArguments)),
+                    Served::Panicked => Err(CallError::Fault(Fault::Panicked)),
+                };
+                self.complete(&state, completed);
+                drop(target);
+            }
+        }
+    }
+
+    // What the method keeps of what it was lent is held before its job ends; the rest costs nothing.
+    fn finish(&mut self, job: JobNo, served: Served, loans: Vec<Arc<Hold>>) {
+        let fault = |number| Outcome::Fault(fault_value(number));
+        let (outcome, holds) = match served {
+            Served::Answer(Packed { value, holds }) => {
+                let is_mine = |hold: &Arc<Hold>| Arc::ptr_eq(hold.shared(), &self.shared);
+                match holds.iter().all(is_mine) {
+                    true => (Outcome::Answer(value), holds),
+                    false => (fault(LOST), holds),
+                }
+            }
+            Served::NoMethod => (Outcome::NoMethod, Vec::new()),
+            Served::BadArguments => (fault(BAD_ARGUMENTS), Vec::new()),
+            Served::Panicked => (fault(PANICKED), Vec::new()),
+        };
+        // A hold that is dropped here is given back by a later command, so after the Finish.
+        drop(holds);
+        for loan in loans {
+            let is_kept = Arc::strong_count(&loan) > 1;
+            loan.end_loan(is_kept && self.engine.hold(loan.reference()).is_ok());
+        }
+        self.engine.finish(job, outcome);
+    }
+
+    /// What is to be done once nothing of the node is borrowed: who is woken, and objects to be dropped.
+    pub(crate) fn take_leftovers(&mut self) -> (Vec<Waker>, Vec<Box<dyn Exported>>) {
+        let withdrawn = std::mem::take(&mut self.withdrawn);
+        let wakers = std::mem::take(&mut self.wakers);
+        match &self.pool {
+            Some(pool) => {
+                withdrawn.into_iter().for_each(|object| pool.drop_object(object));
+                (wakers, Vec::new())
+            }
+            None => (wakers, withdrawn),
+        }
+    }
+
+    /// The node ends: nobody waits for a call any more.
+    pub(crate) fn end(&mut self, commands: &[Command]) {
+        for command in commands {
+            match command {
+                Command::Call { state, .. }
+                | Command::Lookup { state, .. }
+                | Command::Cast { state, .. } => {
+                    self.complete(state, Err(CallError::NodeStopped));
+                }
+                _ => {}
+            }
+        }
+        let open: Vec<OpenCall> = self.calls.drain().map(|(_, open)| open).collect();
+        for OpenCall { state, .. } in open {
+            self.complete(&state, Err(CallError::NodeStopped));
+        }
+        for object in self.objects.values_mut() {
+            for work in object.line.drain(..) {
+                if let Work::Local { state, .. } = work {
+                    self.wakers.extend(state.complete(Err(CallError::NodeStopped)));
+                }
+            }
+        }
+    }
+}
+
+fn status_of(outcome: Outcome) -> (u8, Value) {
+    match outcome {
+        Outcome::Answer(value) => (0, value),
+        Outcome::Fault(value) => (1, value),
+        Outcome::NoMethod => (2, Value::Unit),
+    }
+}
+
+// What a reply's status and value come to.
+fn completed_of(status: u8, packed: Packed, purpose: &Purpose) -> Completed {
+    match (status, purpose) {
+        (0, Purpose::Cast(hold)) => {
+            Ok(Packed { value: Value::Ref(hold.reference()), holds: vec![hold.clone()] })
+        }
+        (0, _) => Ok(packed),
+        (1, Purpose::Method) => Err(CallError::Fault(method_fault(packed.value))),
+        (1, _) => Err(CallError::Fault(agent_fault(packed.value))),
+        (2, _) => Err(CallError::NoMethod),
+        _ => Err(CallError::Lost),
+    }
+}
+
+fn method_fault(value: Value) -> Fault {
+    let number = match &value {
+        Value::List(list) => match list[..] {
+            [Value::Int(number), Value::Unit] => number,
+            _ => 0,
+        },
+        _ => 0,
+    };
+    match number {
+        BAD_ARGUMENTS => Fault::BadArguments,
+        PANICKED => Fault::Panicked,
+        TOO_LARGE => Fault::TooLarge,
+        LOST | STOPPED => Fault::Lost,
+        _ => Fault::Other(value),
+    }
+}
+
+fn agent_fault(value: Value) -> Fault {
+    match value {
+        Value::Int(ARGUMENT) => Fault::BadArguments,
+        Value::Int(NO_NAME) => Fault::NoName,
+        Value::Int(OTHER_INTERFACE) => Fault::OtherInterface,
+        value => Fault::Other(value),
+    }
+}

@@ -1,0 +1,200 @@
+//! What turns a node: on a thread of its own, or on the thread of whoever waits.
+
+use super::core::Core;
+use super::net::Net;
+use super::shared::{Command, RESTS, Shared};
+use std::cell::{Cell, RefCell};
+use std::hint;
+use std::rc::{Rc, Weak};
+use std::sync::Arc;
+use std::time::{Duration, Instant};
+
+/// So long a node sleeps at most, where nothing wants it earlier.
+const LONGEST_SLEEP: Duration = Duration::from_secs(60);
+
+thread_local! {
+    static DRIVERS: RefCell<Vec<Weak<Driver>>> = const { RefCell::new(Vec::new()) };
+}
+
+/// What turns the node of this on this thread, if anything does.
+pub(crate) fn driving(shared: &Arc<Shared>) -> Option<Rc<Driver>> {
+    DRIVERS
+        .try_with(|drivers| {
+            let drivers = drivers.borrow();
+            let mut alive = drivers.iter().filter_map(Weak::upgrade);
+            alive.find(|driver| Arc::ptr_eq(&driver.shared, shared))
+        })
+        .ok()
+        .flatten()
+}
+
+/// A node's tables and connections, on one thread. Nothing is borrowed while a method runs: so it may
+/// ask the node, and turn it by waiting.
+pub(crate) struct Driver {
+    core: RefCell<Core>,
+    net: RefCell<Net>,
+    shared: Arc<Shared>,
+    started: Instant,
+    rests: Cell<u32>,
+    commands: RefCell<Vec<Command>>,
+}
+
+impl Driver {
+    pub(crate) fn new(core: Core, net: Net, shared: Arc<Shared>, started: Instant) -> Rc<Driver> {
+        let driver = Rc::new(Driver {
+            core: RefCell::new(core),
+            net: RefCell::new(net),
+            shared,
+            started,
+            rests: Cell::new(0),
+            commands: RefCell::default(),
+        });
+        DRIVERS.with(|drivers| {
+            let mut drivers = drivers.borrow_mut();
+            drivers.retain(|known| known.strong_count() > 0);
+            drivers.push(Rc::downgrade(&driver));
+        });
+        driver
+    }
+
+    fn now(&self) -> Duration {
+        self.started.elapsed()
+    }
+
+    /// Asks the node's tables, on their own thread.
+    pub(crate) fn ask<T>(&self, ask: impl FnOnce(&mut Core) -> T) -> T {
+        self.take_commands();
+        ask(&mut self.core.borrow_mut())
+    }
+
+    fn take_commands(&self) {
+        let mut commands = self.commands.take();
+        self.shared.take(&mut commands);
+        for command in commands.drain(..) {
+            self.core.borrow_mut().command(command);
+        }
+        self.commands.replace(commands);
+    }
+
+    /// Does what there is to do: whether there is more to do at once.
+    pub(crate) fn turn(&self) -> bool {
+        let now = self.now();
+        self.take_commands();
+        self.net.borrow_mut().read(&mut self.core.borrow_mut().engine, now);
+        loop {
+            self.core.borrow_mut().work(now);
+            let task = self.core.borrow_mut().next_task();
+            let Some(mut task) = task else { break };
+            loop {
+                self.run(task);
+                match self.core.borrow_mut().next_task() {
+                    Some(next) => task = next,
+                    None => break,
+                }
+            }
+        }
+        self.core.borrow_mut().engine.fill(now);
+        self.write(now);
+        self.leave();
+        let has_more = self.core.borrow().engine.has_more(now) || self.net.borrow().has_more();
+        has_more || self.shared.has_commands()
+    }
+
+    fn run(&self, task: super::core::Task) {
+        let done = task.run();
+        self.core.borrow_mut().done(done);
+    }
+
+    fn write(&self, now: Duration) {
+        let (mut net, mut core) = (self.net.borrow_mut(), self.core.borrow_mut());
+        for peer in std::mem::take(&mut core.silent) {
+            net.drop_link(peer, &mut core.engine, now);
+        }
+        net.write(&mut core.engine, now);
+    }
+
+    // Wakes and drops, with nothing borrowed.
+    fn leave(&self) {
+        let (wakers, objects) = self.core.borrow_mut().take_leftovers();
+        wakers.into_iter().for_each(std::task::Waker::wake);
+        drop(objects);
+    }
+
+    /// Waits for something to do, for so long at most: looks for a while, then sleeps.
+    pub(crate) fn rest(&self, limit: Duration) {
+        let looks = self.shared.looks().min(limit);
+        let since = Instant::now();
+        if self.rests.get() == 0 && !looks.is_zero() {
+            while since.elapsed() < looks {
+                if self.shared.has_commands() || self.look() {
+                    return;
+                }
+                hint::spin_loop();
+            }
+            self.rests.set(RESTS);
+        } else {
+            self.rests.set(self.rests.get().saturating_sub(1));
+        }
+        let now = self.now();
+        let wanted = self.core.borrow().engine.next(now);
+        let wanted = wanted.into_iter().chain(self.net.borrow().next()).min();
+        let left = wanted.map_or(LONGEST_SLEEP, |time| time.saturating_sub(now));
+        if self.shared.may_sleep() {
+            self.net.borrow_mut().sleep(left.min(limit).min(LONGEST_SLEEP));
+            self.shared.awake();
+        }
+    }
+
+    // Whether anything came over a connection.
+    fn look(&self) -> bool {
+        self.net.borrow_mut().look(&mut self.core.borrow_mut().engine, self.now())
+    }
+
+    /// Turns the node until something is there, or until a time.
+    pub(crate) fn turn_until<T>(
+        &self,
+        end: Option<Instant>,
+        mut found: impl FnMut() -> Option<T>,
+    ) -> Option<T> {
+        loop {
+            let has_more = self.turn();
+            if let Some(found) = found() {
+                return Some(found);
+            }
+            let left = match end {
+                None => LONGEST_SLEEP,
+                Some(end) => end.checked_duration_since(Instant::now())?,
+            };
+            if !has_more {
+                self.rest(left);
+            }
+        }
+    }
+
+    /// Turns the node until it was told to stop, then ends it: how many methods still run, and whether
+    /// all peers that are connected were told.
+    pub(crate) fn run_to_the_end(&self) -> (usize, bool) {
+        let by = self.turn_until(None, || self.core.borrow().stops_at).unwrap_or_else(Instant::now);
+        self.end(by)
+    }
+
+    /// Ends the node by a time: methods go on to their ends, sessions close, and what is due is written.
+    pub(crate) fn end(&self, by: Instant) -> (usize, bool) {
+        self.core.borrow_mut().engine.claim_no_more();
+        let is_idle = || (self.core.borrow().running() == 0).then_some(());
+        self.turn_until(Some(by), is_idle);
+        let still_running = self.core.borrow().running();
+        self.core.borrow_mut().engine.close_all();
+        // The last word has a moment of its own, also where methods took all the time.
+        let by = by.max(Instant::now() + Duration::from_millis(100));
+        let is_settled = || self.core.borrow().engine.is_settled().then_some(());
+        let told = self.turn_until(Some(by), is_settled).is_some();
+        let commands = self.shared.close();
+        self.core.borrow_mut().end(&commands);
+        self.net.borrow_mut().close();
+        self.leave();
+        drop(commands);
+        self.shared.set_stopped();
+        (still_running, told)
+    }
+}

@@ -1,0 +1,157 @@
+//! A node on the thread of whoever uses it.
+
+use super::call::Call;
+use super::driver::Driver;
+use super::hold::Remote;
+use super::shared::Shared;
+use super::{Changes, NodeError, Run, Shutdown};
+use crate::engine::{Counts, Session};
+use crate::interface::Interface;
+use crate::space::SpaceId;
+use std::fmt;
+use std::future::Future;
+use std::net::SocketAddr;
+use std::pin::pin;
+use std::rc::Rc;
+use std::sync::Arc;
+use std::task::{Context, Poll, Wake, Waker};
+use std::time::{Duration, Instant};
+
+/// A node without threads: whoever waits for a call turns it, and its objects' methods run there. It is
+/// the fastest for a single caller, and for tests and tools; it does nothing while nobody waits or
+/// [turns](LocalNode::run_for) it.
+///
+/// ```
+/// # use masttomato::{interface, Node, Peers, SpaceId};
+/// # #[interface]
+/// # pub trait Bell { fn ring(&mut self) -> String; }
+/// # struct Brass;
+/// # impl Bell for Brass { fn ring(&mut self) -> String { "ding".into() } }
+/// # fn main() -> Result<(), Box<dyn std::error::Error>> {
+/// let node = Node::builder(SpaceId::new(1).ok_or("1 to 32")?, Peers::none()).start_local()?;
+/// let bell = node.export::<dyn Bell>(Box::new(Brass))?;
+/// assert_eq!(bell.ring().wait()?, "ding");
+/// assert_eq!(node.block_on(async { bell.ring().await })?, "ding");
+/// # Ok(())
+/// # }
+/// ```
+pub struct LocalNode {
+    driver: Rc<Driver>,
+    shared: Arc<Shared>,
+    address: Option<SocketAddr>,
+}
+
+impl fmt::Debug for LocalNode {
+    fn fmt(&self, f: &mut fmt::Formatter<'_>) -> fmt::Result {
+        write!(f, "LocalNode({})", self.id())
+    }
+}
+
+// Nobody sleeps while it turns, so nobody is to be woken.
+struct Nobody;
+
+impl Wake for Nobody {
+    fn wake(self: Arc<Nobody>) {}
+}
+
+impl LocalNode {
+    pub(super) fn new(
+        driver: Rc<Driver>,
+        shared: Arc<Shared>,
+        address: Option<SocketAddr>,
+    ) -> LocalNode {
+        LocalNode { driver, shared, address }
+    }
+
+    /// The number of its space.
+    pub fn id(&self) -> SpaceId {
+        self.shared.id()
+    }
+
+    /// Where it listens.
+    pub fn address(&self) -> Option<SocketAddr> {
+        self.address
+    }
+
+    /// Makes an object known: a reference to it.
+    ///
+    /// # Errors
+    /// Where there are as many objects as there may be.
+    pub fn export<I: Interface + ?Sized>(&self, object: Box<I>) -> Result<Remote<I>, NodeError> {
+        super::export(&self.shared, object, Run::Inline)
+    }
+
+    /// Makes an object known by a name, as [`Node::bind`](super::Node::bind).
+    ///
+    /// # Errors
+    /// Where it is no name, or there are too many; where the reference is another node's.
+    pub fn bind<I: ?Sized>(&self, name: &str, object: &Remote<I>) -> Result<(), NodeError> {
+        super::bind(&self.shared, name, object)
+    }
+
+    /// Whether the name was bound. It isn't any more.
+    pub fn unbind(&self, name: &str) -> bool {
+        super::unbind(&self.shared, name)
+    }
+
+    /// Asks a space for the object of a name, as [`Node::lookup`](super::Node::lookup).
+    pub fn lookup<I: Interface + ?Sized>(&self, peer: SpaceId, name: &str) -> Call<Remote<I>> {
+        super::lookup(&self.shared, peer, name)
+    }
+
+    /// How the session with a peer stands.
+    pub fn session(&self, peer: SpaceId) -> Session {
+        self.driver.ask(|core| core.engine.session(peer))
+    }
+
+    /// How sessions change from now on.
+    pub fn changes(&self) -> Changes {
+        self.driver.ask(super::Core::watch)
+    }
+
+    /// What was counted.
+    pub fn counts(&self) -> Counts {
+        self.driver.ask(|core| core.engine.counts())
+    }
+
+    /// Turns the node for so long.
+    pub fn run_for(&self, time: Duration) {
+        self.driver.turn_until(Instant::now().checked_add(time), || None::<()>);
+    }
+
+    /// Turns the node until something holds, or for so long: whether it holds.
+    pub fn run_until(&self, limit: Duration, mut holds: impl FnMut() -> bool) -> bool {
+        let end = Instant::now().checked_add(limit);
+        self.driver.turn_until(end, || holds().then_some(())).is_some()
+    }
+
+    /// Turns the node until a future is ready.
+    pub fn block_on<F: Future>(&self, future: F) -> F::Output {
+        let mut future = pin!(future);
+        let waker = Waker::from(Arc::new(Nobody));
+        let mut context = Context::from_waker(&waker);
+        let mut poll = || match future.as_mut().poll(&mut context) {
+            Poll::Ready(output) => Some(output),
+            Poll::Pending => None,
+        };
+        loop {
+            if let Some(output) = self.driver.turn_until(None, &mut poll) {
+                return output;
+            }
+        }
+    }
+
+    /// Shuts the node down, in so long at most: peers are told.
+    pub fn shutdown(self, limit: Duration) -> Shutdown {
+        let (still_running, told) = self.driver.end(Instant::now() + limit);
+        Shutdown { still_running, told }
+    }
+}
+
+impl Drop for LocalNode {
+    fn drop(&mut self) {
+        if !self.shared.is_closed() {
+            self.driver.end(Instant::now() + Duration::from_secs(1));
+        }
+    }
+}

@@ -1,0 +1,634 @@
+//! Nodes: objects, names, calls and connections of one process in a world.
+
+mod call;
+mod core;
+mod driver;
+mod hold;
+mod local;
+mod net;
+mod peers;
+mod pool;
+mod shared;
+
+pub use self::call::{Call, CallError, Fault};
+pub use self::hold::{Hold, Remote};
+pub use self::local::LocalNode;
+pub use self::peers::{BadPeers, Peers};
+pub use self::shared::Shared;
+
+use self::core::Core;
+use self::driver::{Driver, driving};
+use self::net::{Net, WAKER};
+use self::pool::Pool;
+use self::shared::Command;
+use crate::engine::{Counts, Engine, Hello, Life, Session, Settings, TraceSink, World};
+use crate::interface::{Description, Interface};
+use crate::space::{SpaceError, SpaceId};
+use mio::net::TcpListener;
+use mio::{Poll, Waker};
+use std::fmt;
+use std::hash::{BuildHasher, Hasher};
+use std::net::{SocketAddr, ToSocketAddrs};
+use std::sync::{Arc, Mutex, PoisonError, mpsc};
+use std::thread::JoinHandle;
+use std::time::{Duration, Instant};
+use std::{io, thread};
+
+/// Where an object's methods run.
+#[derive(Clone, Copy, Debug, Default, PartialEq, Eq)]
+#[non_exhaustive]
+pub enum Run {
+    /// On one of the node's workers: they may block, and wait for calls of others.
+    #[default]
+    Pool,
+    /// On the node's own thread: they never block. A reply goes sooner so.
+    Inline,
+}
+
+/// Why a node isn't started, or doesn't do something.
+#[derive(Debug)]
+#[non_exhaustive]
+pub enum NodeError {
+    /// The addresses aren't this machine's own, and without TLS `Builder::insecure` must allow that.
+    Insecure,
+    /// There is no memory for the space, or its number is above the last one.
+    Space(SpaceError),
+    /// The number of spaces, or the node's own number, doesn't fit the others.
+    OtherSpaces,
+    /// There are as many objects as there may be.
+    Full,
+    /// It is no name, of 1 to 255 bytes; or there are as many names as there may be.
+    BadName,
+    /// The reference is another node's of this process.
+    OtherNode,
+    /// The node has stopped.
+    Stopped,
+    /// An address, a socket or a thread can't be had.
+    Io(io::Error),
+}
+
+impl fmt::Display for NodeError {
+    fn fmt(&self, f: &mut fmt::Formatter<'_>) -> fmt::Result {
+        match self {
+            NodeError::Insecure => f.write_str(
+                "an address isn't this machine's own: without TLS, Builder::insecure must allow that",
+            ),
+            NodeError::Space(error) => error.fmt(f),
+            NodeError::OtherSpaces => f.write_str("the node's number is above the last space"),
+            NodeError::Full => f.write_str("there are as many objects as there may be"),
+            NodeError::BadName => f.write_str("a name has 1 to 255 bytes, and there are 1,024 at most"),
+            NodeError::OtherNode => f.write_str("the reference is another node's"),
+            NodeError::Stopped => f.write_str("the node has stopped"),
+            NodeError::Io(error) => error.fmt(f),
+        }
+    }
+}
+
+impl std::error::Error for NodeError {
+    fn source(&self) -> Option<&(dyn std::error::Error + 'static)> {
+        match self {
+            NodeError::Space(error) => Some(error),
+            NodeError::Io(error) => Some(error),
+            _ => None,
+        }
+    }
+}
+
+impl From<io::Error> for NodeError {
+    fn from(error: io::Error) -> NodeError {
+        NodeError::Io(error)
+    }
+}
+
+/// How sessions of a node change, from when it was asked for.
+#[derive(Debug)]
+pub struct Changes(mpsc::Receiver<(SpaceId, Session)>);
+
+impl Changes {
+    pub(crate) fn new(receiver: mpsc::Receiver<(SpaceId, Session)>) -> Changes {
+        Changes(receiver)
+    }
+
+    /// The next one, if it is there.
+    pub fn try_next(&self) -> Option<(SpaceId, Session)> {
+        self.0.try_recv().ok()
+    }
+
+    /// The next one within so long.
+    pub fn next_within(&self, limit: Duration) -> Option<(SpaceId, Session)> {
+        self.0.recv_timeout(limit).ok()
+    }
+}
+
+/// Waits for each change, until the node ends.
+impl Iterator for Changes {
+    type Item = (SpaceId, Session);
+
+    fn next(&mut self) -> Option<(SpaceId, Session)> {
+        self.0.recv().ok()
+    }
+}
+
+/// What a method may know of its call, as a first parameter `context: &Context` that callers don't give.
+///
+/// ```
+/// use masttomato::{Context, interface};
+///
+/// #[interface]
+/// pub trait Door {
+///     fn knock(&mut self, context: &Context) -> String;
+/// }
+///
+/// struct Oak;
+///
+/// impl Door for Oak {
+///     fn knock(&mut self, context: &Context) -> String {
+///         format!("space {} knocks", context.caller())
+///     }
+/// }
+/// ```
+#[derive(Debug)]
+pub struct Context {
+    caller: SpaceId,
+    shared: Arc<Shared>,
+}
+
+impl Context {
+    pub(crate) fn new(caller: SpaceId, shared: Arc<Shared>) -> Context {
+        Context { caller, shared }
+    }
+
+    /// The space that calls.
+    pub fn caller(&self) -> SpaceId {
+        self.caller
+    }
+
+    /// The space of this node.
+    pub fn here(&self) -> SpaceId {
+        self.shared.id()
+    }
+
+    /// Makes an object known, as [`Node::export`].
+    ///
+    /// # Errors
+    /// Where there are as many objects as there may be, or the node has stopped.
+    pub fn export<I: Interface + ?Sized>(&self, object: Box<I>) -> Result<Remote<I>, NodeError> {
+        export(&self.shared, object, Run::Pool)
+    }
+}
+
+// Asks a node's tables, from any thread.
+fn ask<T: Send + 'static>(
+    shared: &Arc<Shared>,
+    ask: impl FnOnce(&mut Core) -> T + Send + 'static,
+) -> Result<T, NodeError> {
+    match driving(shared) {
+        Some(driver) => Ok(driver.ask(ask)),
+        None => shared.ask(ask).ok_or(NodeError::Stopped),
+    }
+}
+
+fn export<I: Interface + ?Sized>(
+    shared: &Arc<Shared>,
+    object: Box<I>,
+    run: Run,
+) -> Result<Remote<I>, NodeError> {
+    let reference = ask(shared, move |core| core.export(Box::new(object), run))??;
+    Ok(Remote::new(Hold::held(shared, reference)))
+}
+
+fn bind<I: ?Sized>(shared: &Arc<Shared>, name: &str, object: &Remote<I>) -> Result<(), NodeError> {
+    if !Arc::ptr_eq(object.hold().shared(), shared) {
+        return Err(NodeError::OtherNode);
+    }
+    let (name, hold) = (name.to_string(), object.hold().clone());
+    ask(shared, move |core| core.bind(&name, hold))?
+}
+
+fn unbind(shared: &Arc<Shared>, name: &str) -> bool {
+    let name = name.to_string();
+    ask(shared, move |core| core.unbind(&name)).unwrap_or(false)
+}
+
+fn lookup<I: Interface + ?Sized>(
+    shared: &Arc<Shared>,
+    peer: SpaceId,
+    name: &str,
+) -> Call<Remote<I>> {
+    let (name, wanted) = (name.as_bytes().to_vec(), Description::of::<I>());
+    Call::posted(shared, |ticket, state| Command::Lookup { ticket, peer, name, wanted, state })
+}
+
+/// What a node is started with.
+///
+/// ```
+/// # use masttomato::{Node, Peers, SpaceId};
+/// # use std::time::Duration;
+/// # fn main() -> Result<(), Box<dyn std::error::Error>> {
+/// let node = Node::builder(SpaceId::new(1).ok_or("1 to 32")?, Peers::none())
+///     .listen("127.0.0.1:0")
+///     .spaces(SpaceId::new(2).ok_or("1 to 32")?)
+///     .give_up_after(Duration::from_secs(60))
+///     .start()?;
+/// assert!(node.address().is_some_and(|address| address.port() != 0));
+/// # Ok(())
+/// # }
+/// ```
+#[must_use = "a builder does nothing until it is started"]
+pub struct Builder {
+    space: SpaceId,
+    peers: Peers,
+    spaces: Option<SpaceId>,
+    listen: Option<String>,
+    world: World,
+    is_insecure: bool,
+    workers: usize,
+    looks: Duration,
+    give_up_after: Duration,
+    open_calls: usize,
+    life: Life,
+    sink: Option<Box<dyn TraceSink>>,
+}
+
+impl fmt::Debug for Builder {
+    fn fmt(&self, f: &mut fmt::Formatter<'_>) -> fmt::Result {
+        f.debug_struct("Builder").field("space", &self.space).finish_non_exhaustive()
+    }
+}
+
+// A number that no other life has, as far as chance goes.
+fn random_life() -> Life {
+    Life(std::collections::hash_map::RandomState::new().build_hasher().finish())
+}
+
+impl Builder {
+    fn new(space: SpaceId, peers: Peers) -> Builder {
+        Builder {
+            space,
+            peers,
+            spaces: None,
+            listen: None,
+            world: World::default(),
+            is_insecure: false,
+            workers: 4,
+            looks: Duration::from_micros(50),
+            give_up_after: Duration::from_secs(600),
+            open_calls: 2_048,
+            life: random_life(),
+            sink: None,
+        }
+    }
+
+    /// Where it listens, in place of its own address among the peers.
+    pub fn listen(mut self, address: impl fmt::Display) -> Builder {
+        self.listen = Some(address.to_string());
+        self
+    }
+
+    /// How many spaces there are, in place of the last one among the peers. All nodes of a world must
+    /// say the same.
+    pub fn spaces(mut self, last: SpaceId) -> Builder {
+        self.spaces = Some(last);
+        self
+    }
+
+    /// The world's name, of which the first 16 bytes count: nodes of two worlds never connect.
+    pub fn world(mut self, name: &str) -> Builder {
+        self.world = World::named(name);
+        self
+    }
+
+    /// Allows addresses of other machines, though nothing is encrypted and nobody is asked who they are.
+    pub fn insecure(mut self) -> Builder {
+        self.is_insecure = true;
+        self
+    }
+
+    /// How many threads run methods; 4 where it isn't said.
+    pub fn workers(mut self, count: usize) -> Builder {
+        self.workers = count;
+        self
+    }
+
+    /// For how long a thread that waits looks before it sleeps; 50 microseconds where it isn't said.
+    /// That is most of the speed where there are processors for it, and a loss where there aren't.
+    pub fn looks(mut self, time: Duration) -> Builder {
+        self.looks = time;
+        self
+    }
+
+    /// When a session closes that has no connection, or whose peer acknowledges nothing; ten minutes
+    /// where it isn't said.
+    pub fn give_up_after(mut self, time: Duration) -> Builder {
+        self.give_up_after = time;
+        self
+    }
+
+    /// How many calls are open at most, up to 4,096, while further ones wait; 2,048 where it isn't said.
+    pub fn open_calls(mut self, count: usize) -> Builder {
+        self.open_calls = count.clamp(1, 4_096);
+        self
+    }
+
+    /// The entries of the space's trace go to a sink: for `nobj check`, which then says of the traces
+    /// of all nodes whether they kept their promises.
+    pub fn record(mut self, sink: impl TraceSink + 'static) -> Builder {
+        self.sink = Some(Box::new(sink));
+        self
+    }
+
+    // Tests say which life it is.
+    #[doc(hidden)]
+    pub fn life(mut self, life: u64) -> Builder {
+        self.life = Life(life);
+        self
+    }
+
+    /// Starts the node, with a thread of its own and its workers.
+    ///
+    /// # Errors
+    /// Where an address isn't this machine's own and `insecure` wasn't said; where the node's number is
+    /// above the last space; where an address, a socket or a thread can't be had.
+    pub fn start(self) -> Result<Node, NodeError> {
+        let workers = self.workers;
+        let parts = self.parts()?;
+        let (shared, address) = (parts.shared.clone(), parts.address);
+        let pool = Pool::start(&shared, workers)?;
+        let (says, said) = mpsc::sync_channel(1);
+        let (run_pool, name) = (pool.clone(), format!("masttomato-{}", shared.id()));
+        // The space is made on the thread that has it, since it never leaves that.
+        let run = move || match parts.driver(Some(run_pool)) {
+            Ok(driver) => {
+                let _heard = says.send(Ok(()));
+                driver.run_to_the_end()
+            }
+            Err(error) => {
+                let _heard = says.send(Err(error));
+                (0, false)
+            }
+        };
+        let thread = thread::Builder::new().name(name).spawn(run)?;
+        match said.recv() {
+            Ok(Ok(())) => {}
+            Ok(Err(error)) => {
+                pool.close();
+                return Err(error);
+            }
+            Err(_) => return Err(NodeError::Stopped),
+        }
+        let inner = Inner { shared, pool, address, thread: Mutex::new(Some(thread)) };
+        Ok(Node { inner: Arc::new(inner) })
+    }
+
+    /// Starts the node on this thread, which turns it where it waits.
+    ///
+    /// # Errors
+    /// As [`Builder::start`].
+    pub fn start_local(self) -> Result<LocalNode, NodeError> {
+        let parts = self.parts()?;
+        let (shared, address) = (parts.shared.clone(), parts.address);
+        Ok(LocalNode::new(parts.driver(None)?, shared, address))
+    }
+
+    // All that can be made on any thread.
+    fn parts(self) -> Result<Parts, NodeError> {
+        let named = self.peers.last().map_or(self.space, |last| last.max(self.space));
+        let spaces = self.spaces.unwrap_or(named);
+        if self.space > spaces {
+            return Err(NodeError::OtherSpaces);
+        }
+        let own = self.peers.lines().iter().find(|line| line.has(self.space));
+        let listen = self.listen.clone().or(own.map(|line| line.address.clone()));
+        let listened: Vec<SocketAddr> = match &listen {
+            Some(address) => address.to_socket_addrs()?.collect(),
+            None => Vec::new(),
+        };
+        let lower = |line: &&peers::Line| line.last < self.space;
+        let mut dialed = Vec::new();
+        for line in self.peers.lines().iter().filter(lower) {
+            dialed.push((line.clone(), line.addresses()?));
+        }
+        let all = dialed.iter().flat_map(|(_, addresses)| addresses).chain(&listened);
+        if !self.is_insecure && all.into_iter().any(|address| !address.ip().is_loopback()) {
+            return Err(NodeError::Insecure);
+        }
+        let listener = listened.first().map(|address| TcpListener::bind(*address)).transpose()?;
+        let address = listener.as_ref().map(TcpListener::local_addr).transpose()?;
+        let poll = Poll::new()?;
+        let waker = Waker::new(poll.registry(), WAKER)?;
+        let (space, world, life) = (self.space, self.world, self.life);
+        let hello = Hello { space, spaces, world, life, refused: None };
+        let net = Net::new(poll, listener, hello, dialed)?;
+        let settings = Settings {
+            space,
+            spaces,
+            give_up_after: self.give_up_after,
+            open_calls: self.open_calls,
+        };
+        let shared = Shared::new(space, waker, self.looks);
+        Ok(Parts { shared, net, settings, sink: self.sink, address })
+    }
+}
+
+struct Parts {
+    shared: Arc<Shared>,
+    net: Net,
+    settings: Settings,
+    sink: Option<Box<dyn TraceSink>>,
+    address: Option<SocketAddr>,
+}
+
+impl Parts {
+    fn driver(self, pool: Option<Arc<Pool>>) -> Result<std::rc::Rc<Driver>, NodeError> {
+        let started = Instant::now();
+        let mut engine = Engine::new(self.settings, Duration::ZERO).map_err(NodeError::Space)?;
+        if let Some(sink) = self.sink {
+            engine.record(sink);
+        }
+        let core = Core::new(engine, self.shared.clone(), pool);
+        Ok(Driver::new(core, self.net, self.shared, started))
+    }
+}
+
+/// What was left when a node had been shut down.
+#[derive(Clone, Copy, Debug, PartialEq, Eq)]
+#[non_exhaustive]
+pub struct Shutdown {
+    /// How many methods still ran.
+    pub still_running: usize,
+    /// Whether each peer that was connected was told.
+    pub told: bool,
+}
+
+struct Inner {
+    shared: Arc<Shared>,
+    pool: Arc<Pool>,
+    address: Option<SocketAddr>,
+    thread: Mutex<Option<JoinHandle<(usize, bool)>>>,
+}
+
+impl Inner {
+    fn shut_down(&self, limit: Duration) -> Shutdown {
+        self.shared.post(Command::Stop(Instant::now() + limit));
+        let thread = self.thread.lock().unwrap_or_else(PoisonError::into_inner).take();
+        // A node that is shut down by its own thread, as by an object's drop, ends later by itself.
+        let is_other = |thread: &JoinHandle<_>| thread.thread().id() != thread::current().id();
+        let ended = thread.filter(is_other).map(JoinHandle::join);
+        self.pool.close();
+        match ended {
+            Some(Ok((still_running, told))) => Shutdown { still_running, told },
+            _ => Shutdown { still_running: 0, told: false },
+        }
+    }
+}
+
+impl Drop for Inner {
+    fn drop(&mut self) {
+        self.shut_down(Duration::from_secs(5));
+    }
+}
+
+/// A node: a space in a world, with its objects and its connections, turned by a thread of its own.
+/// Clones are one node. The last of them that is dropped shuts it down, in five seconds at most;
+/// [`Remote`]s don't keep it up.
+///
+/// ```
+/// use masttomato::{interface, Node, Peers, Remote, SpaceId};
+///
+/// #[interface]
+/// pub trait Counter {
+///     /// Adds a number: the new total.
+///     fn add(&mut self, by: i64) -> i64;
+/// }
+///
+/// struct Tally(i64);
+///
+/// impl Counter for Tally {
+///     fn add(&mut self, by: i64) -> i64 {
+///         self.0 += by;
+///         self.0
+///     }
+/// }
+///
+/// # fn main() -> Result<(), Box<dyn std::error::Error>> {
+/// let [one, two] = [1, 2].map(|number| SpaceId::new(number).expect("1 to 32"));
+/// let owner = Node::builder(one, Peers::none()).listen("127.0.0.1:0").spaces(two).start()?;
+/// owner.bind("counter", &owner.export::<dyn Counter>(Box::new(Tally(0)))?)?;
+///
+/// let peers = Peers::none().with(one, owner.address().ok_or("it listens")?);
+/// let caller = Node::builder(two, peers).spaces(two).start()?;
+/// let counter: Remote<dyn Counter> = caller.lookup(one, "counter").wait()?;
+/// assert_eq!(counter.add(20).wait()?, 20);
+/// assert_eq!(counter.add(22).wait()?, 42);
+/// # Ok(())
+/// # }
+/// ```
+#[derive(Clone)]
+pub struct Node {
+    inner: Arc<Inner>,
+}
+
+impl fmt::Debug for Node {
+    fn fmt(&self, f: &mut fmt::Formatter<'_>) -> fmt::Result {
+        write!(f, "Node({})", self.id())
+    }
+}
+
+impl Node {
+    /// What a node of this number among these peers is started with.
+    pub fn builder(space: SpaceId, peers: Peers) -> Builder {
+        Builder::new(space, peers)
+    }
+
+    /// The number of its space.
+    pub fn id(&self) -> SpaceId {
+        self.inner.shared.id()
+    }
+
+    /// Where it listens.
+    pub fn address(&self) -> Option<SocketAddr> {
+        self.inner.address
+    }
+
+    /// Makes an object known, whose methods run on a worker: a reference to it. The object is dropped
+    /// once nobody has one.
+    ///
+    /// # Errors
+    /// Where there are as many objects as there may be, or the node has stopped.
+    pub fn export<I: Interface + ?Sized>(&self, object: Box<I>) -> Result<Remote<I>, NodeError> {
+        self.export_with(object, Run::Pool)
+    }
+
+    /// Makes an object known, and says where its methods run.
+    ///
+    /// # Errors
+    /// As [`Node::export`].
+    pub fn export_with<I: Interface + ?Sized>(
+        &self,
+        object: Box<I>,
+        run: Run,
+    ) -> Result<Remote<I>, NodeError> {
+        export(&self.inner.shared, object, run)
+    }
+
+    /// Makes an object known by a name to all that look it up here, until `unbind`, or another object is
+    /// bound to that name.
+    ///
+    /// # Errors
+    /// Where it is no name, or there are too many; where the reference is another node's.
+    pub fn bind<I: ?Sized>(&self, name: &str, object: &Remote<I>) -> Result<(), NodeError> {
+        bind(&self.inner.shared, name, object)
+    }
+
+    /// Whether the name was bound. It isn't any more.
+    pub fn unbind(&self, name: &str) -> bool {
+        unbind(&self.inner.shared, name)
+    }
+
+    /// Asks a space for the object of a name. An object of another interface is
+    /// [`Fault::OtherInterface`]. Where the space can't be reached, the call waits, up to
+    /// `give_up_after`.
+    pub fn lookup<I: Interface + ?Sized>(&self, peer: SpaceId, name: &str) -> Call<Remote<I>> {
+        lookup(&self.inner.shared, peer, name)
+    }
+
+    /// How the session with a peer stands; closed where the node has stopped.
+    pub fn session(&self, peer: SpaceId) -> Session {
+        let stopped = Session::Closed(crate::space::Reason::Asked);
+        ask(&self.inner.shared, move |core| core.engine.session(peer)).unwrap_or(stopped)
+    }
+
+    /// How sessions change from now on.
+    ///
+    /// # Errors
+    /// Where the node has stopped.
+    pub fn changes(&self) -> Result<Changes, NodeError> {
+        ask(&self.inner.shared, Core::watch)
+    }
+
+    /// Closes the session with a peer, for good: what either has of the other is lost.
+    pub fn close(&self, peer: SpaceId) {
+        let _asked = ask(&self.inner.shared, move |core| core.engine.close(peer));
+    }
+
+    /// What was counted; nothing where the node has stopped.
+    pub fn counts(&self) -> Counts {
+        ask(&self.inner.shared, |core| core.engine.counts()).unwrap_or_default()
+    }
+
+    /// Has the node stop, in five seconds at most, and returns at once.
+    pub fn stop(&self) {
+        self.inner.shared.post(Command::Stop(Instant::now() + Duration::from_secs(5)));
+    }
+
+    /// Waits until the node has stopped.
+    pub fn run_until_stopped(&self) {
+        self.inner.shared.wait_until_stopped();
+    }
+
+    /// Shuts the node down, also where there are other clones: no new call is carried out; methods that
+    /// run go on to their ends, for so long at most; peers are told; the node's thread ends.
+    pub fn shutdown(self, limit: Duration) -> Shutdown {
+        self.inner.shut_down(limit)
+    }
+}

@@ -1,0 +1,416 @@
+//! A node's connections: who is connected to, who connects, and what goes over them.
+
+use super::peers::Line;
+use crate::engine::{Engine, HELLO, Hello, Why};
+use crate::space::SpaceId;
+use mio::net::{TcpListener, TcpStream};
+use mio::{Events, Interest, Poll, Token};
+use std::collections::{BTreeMap, HashMap};
+use std::io::{self, ErrorKind, Read, Write};
+use std::net::SocketAddr;
+use std::time::Duration;
+
+pub(crate) const WAKER: Token = Token(0);
+const LISTENER: Token = Token(1);
+const FIRST: usize = 2;
+
+/// So many connections at once may still have to say hello, for so long each.
+const MOST_PENDING: usize = 64;
+const HELLO_WAITS: Duration = Duration::from_secs(5);
+/// A connection that broke, or that wasn't taken, is opened again after this, doubled up to that.
+const FIRST_WAIT: Duration = Duration::from_millis(50);
+const LONGEST_WAIT: Duration = Duration::from_secs(5);
+/// A peer that misbehaved isn't let in again for this.
+const SHUNNED: Duration = Duration::from_secs(1);
+/// So much is read of a peer in one turn.
+const PIECE: usize = 64 * 1024;
+
+struct Link {
+    stream: TcpStream,
+    is_readable: bool,
+    is_writable: bool,
+    dial: Option<usize>,
+}
+
+// A connection over which not both hellos went yet.
+struct Pending {
+    stream: TcpStream,
+    dial: Option<usize>,
+    came: Vec<u8>,
+    said: usize,
+    since: Duration,
+}
+
+// Who is connected to: the lower numbers.
+struct Dial {
+    line: Line,
+    addresses: Vec<SocketAddr>,
+    tries: usize,
+    wait: Duration,
+    at: Duration,
+    is_busy: bool,
+}
+
+/// A node's connections.
+pub(crate) struct Net {
+    poll: Poll,
+    events: Events,
+    listener: Option<TcpListener>,
+    accepts: bool,
+    hello: Hello,
+    links: BTreeMap<SpaceId, Link>,
+    tokens: HashMap<usize, SpaceId>,
+    pending: HashMap<usize, Pending>,
+    dials: Vec<Dial>,
+    shunned: HashMap<SpaceId, Duration>,
+    next_token: usize,
+    piece: Vec<u8>,
+    jitter: u64,
+}
+
+impl Net {
+    pub(crate) fn new(
+        poll: Poll,
+        mut listener: Option<TcpListener>,
+        hello: Hello,
+        dialed: Vec<(Line, Vec<SocketAddr>)>,
+    ) -> io::Result<Net> {
+        if let Some(listener) = &mut listener {
+            poll.registry().register(listener, LISTENER, Interest::READABLE)?;
+        }
+        let dial = |(line, addresses)| Dial {
+            line,
+            addresses,
+            tries: 0,
+            wait: FIRST_WAIT,
+            at: Duration::ZERO,
+            is_busy: false,
+        };
+        Ok(Net {
+            poll,
+            events: Events::with_capacity(128),
+            listener,
+            accepts: true,
+            hello,
+            links: BTreeMap::new(),
+            tokens: HashMap::new(),
+            pending: HashMap::new(),
+            dials: dialed.into_iter().map(dial).collect(),
+            shunned: HashMap::new(),
+            next_token: FIRST,
+            piece: vec![0; PIECE],
+            jitter: hello.life.0 | 1,
+        })
+    }
+
+    pub(crate) fn close(&mut self) {
+        self.links.clear();
+        self.pending.clear();
+        self.listener = None;
+        self.dials.clear();
+    }
+
+    /// When it wants to be turned at the latest.
+    pub(crate) fn next(&self) -> Option<Duration> {
+        let dials = self.dials.iter().filter(|dial| !dial.is_busy).map(|dial| dial.at);
+        let hellos = self.pending.values().map(|pending| pending.since + HELLO_WAITS);
+        dials.chain(hellos).chain(self.has_more().then_some(Duration::ZERO)).min()
+    }
+
+    /// Sleeps until something comes, or for so long.
+    pub(crate) fn sleep(&mut self, limit: Duration) {
+        // A poll that is interrupted is one that nothing came to.
+        let _slept = self.poll.poll(&mut self.events, Some(limit));
+        for event in &self.events {
+            let Token(token) = event.token();
+            if event.token() == LISTENER {
+                self.accepts = true;
+            }
+            let Some(link) = self.tokens.get(&token).and_then(|peer| self.links.get_mut(peer))
+            else {
+                continue;
+            };
+            link.is_readable |= event.is_readable() || event.is_read_closed() || event.is_error();
+            link.is_writable |= event.is_writable();
+        }
+    }
+
+    /// Takes what came over connections, whether or not the system has said so: whether anything did.
+    pub(crate) fn look(&mut self, engine: &mut Engine, now: Duration) -> bool {
+        if self.links.len() > 3 || !self.pending.is_empty() {
+            self.sleep(Duration::ZERO);
+            return self.read(engine, now);
+        }
+        let mut did = false;
+        for place in 0..self.links.len() {
+            let peer = self.links.keys().nth(place).copied();
+            did |= peer.is_some_and(|peer| self.read_from(peer, engine, now));
+        }
+        did
+    }
+
+    /// Whether more has come than was read.
+    pub(crate) fn has_more(&self) -> bool {
+        self.accepts || self.links.values().any(|link| link.is_readable)
+    }
+
+    /// Takes what came: whether anything did.
+    pub(crate) fn read(&mut self, engine: &mut Engine, now: Duration) -> bool {
+        let mut did = self.accept(now);
+        self.dial(now);
+        did |= self.greet(engine, now);
+        if !self.links.values().any(|link| link.is_readable) {
+            return did;
+        }
+        let readable = self.links.iter().filter(|(_, link)| link.is_readable);
+        let readable: Vec<SpaceId> = readable.map(|(peer, _)| *peer).collect();
+        for peer in readable {
+            did |= self.read_from(peer, engine, now);
+        }
+        did
+    }
+
+    fn read_from(&mut self, peer: SpaceId, engine: &mut Engine, now: Duration) -> bool {
+        let Some(link) = self.links.get_mut(&peer) else { return false };
+        match link.stream.read(&mut self.piece) {
+            Ok(0) => self.drop_link(peer, engine, now),
+            Ok(count) => {
+                // The system says again when more comes behind a piece that isn't full.
+                link.is_readable = count == PIECE;
+                if engine.bytes(peer, &self.piece[..count], now).is_err() {
+                    self.shunned.insert(peer, now + SHUNNED);
+                    self.drop_link(peer, engine, now);
+                }
+            }
+            Err(error) if error.kind() == ErrorKind::WouldBlock => {
+                link.is_readable = false;
+                return false;
+            }
+            Err(error) if error.kind() == ErrorKind::Interrupted => {}
+            Err(_) => self.drop_link(peer, engine, now),
+        }
+        true
+    }
+
+    /// Writes what is to be written: whether anything was.
+    pub(crate) fn write(&mut self, engine: &mut Engine, now: Duration) -> bool {
+        let mut did = false;
+        let mut broken = Vec::new();
+        for (peer, link) in &mut self.links {
+            let out = engine.output(*peer);
+            while !out.is_empty() && link.is_writable {
+                match link.stream.write(out.left()) {
+                    Ok(count) => {
+                        did = true;
+                        out.advance(count);
+                    }
+                    Err(error) if error.kind() == ErrorKind::WouldBlock => link.is_writable = false,
+                    Err(error) if error.kind() == ErrorKind::Interrupted => {}
+                    Err(_) => {
+                        broken.push(*peer);
+                        break;
+                    }
+                }
+            }
+        }
+        for peer in broken {
+            self.drop_link(peer, engine, now);
+        }
+        did
+    }
+
+    /// A connection goes; whoever opened it opens it again later.
+    pub(crate) fn drop_link(&mut self, peer: SpaceId, engine: &mut Engine, now: Duration) {
+        let Some(link) = self.links.remove(&peer) else { return };
+        self.tokens.retain(|_, known| *known != peer);
+        engine.disconnected(peer, now);
+        if let Some(dial) = link.dial {
+            self.wait_to_dial(dial, now);
+        }
+    }
+
+    // A try failed or a connection broke: the next try waits, longer each time.
+    fn wait_to_dial(&mut self, place: usize, now: Duration) {
+        self.jitter ^= self.jitter << 13;
+        self.jitter ^= self.jitter >> 7;
+        self.jitter ^= self.jitter << 17;
+        let Some(dial) = self.dials.get_mut(place) else { return };
+        let quarter = dial.wait.as_millis() as u64 / 4;
+        dial.at = now + dial.wait + Duration::from_millis(self.jitter % (quarter + 1));
+        dial.wait = (dial.wait * 2).min(LONGEST_WAIT);
+        dial.is_busy = false;
+    }
+
+    fn token(&mut self) -> usize {
+        self.next_token += 1;
+        self.next_token - 1
+    }
+
+    fn accept(&mut self, now: Duration) -> bool {
+        let mut did = false;
+        while self.accepts {
+            let accepted = self.listener.as_ref().map(TcpListener::accept);
+            let Some(Ok((stream, _))) = accepted else {
+                self.accepts = false;
+                break;
+            };
+            did = true;
+            let accepted = self.pending.values().filter(|pending| pending.dial.is_none()).count();
+            if accepted < MOST_PENDING {
+                self.begin(stream, None, now);
+            }
+        }
+        did
+    }
+
+    fn dial(&mut self, now: Duration) {
+        for place in 0..self.dials.len() {
+            let dial = &mut self.dials[place];
+            if dial.is_busy || now < dial.at || dial.addresses.is_empty() {
+                continue;
+            }
+            dial.is_busy = true;
+            dial.tries += 1;
+            let address = dial.addresses[dial.tries % dial.addresses.len()];
+            match TcpStream::connect(address) {
+                Ok(stream) => self.begin(stream, Some(place), now),
+                Err(_) => self.wait_to_dial(place, now),
+            }
+        }
+    }
+
+    fn begin(&mut self, mut stream: TcpStream, dial: Option<usize>, now: Duration) {
+        let token = self.token();
+        let both = Interest::READABLE | Interest::WRITABLE;
+        if self.poll.registry().register(&mut stream, Token(token), both).is_err() {
+            if let Some(dial) = dial {
+                self.wait_to_dial(dial, now);
+            }
+            return;
+        }
+        let pending = Pending { stream, dial, came: Vec::new(), said: 0, since: now };
+        self.pending.insert(token, pending);
+    }
+
+    // Hellos come and go: whether any did.
+    fn greet(&mut self, engine: &mut Engine, now: Duration) -> bool {
+        if self.pending.is_empty() {
+            return false;
+        }
+        let mut did = false;
+        let tokens: Vec<usize> = self.pending.keys().copied().collect();
+        for token in tokens {
+            let Some(pending) = self.pending.get_mut(&token) else { continue };
+            let is_late = now.saturating_sub(pending.since) > HELLO_WAITS;
+            match pending.step(&self.hello) {
+                Ok(None) if !is_late => {}
+                Ok(Some(peer)) => {
+                    did = true;
+                    self.greeted(token, peer, engine, now);
+                }
+                Ok(None) | Err(_) => self.forget(token, now),
+            }
+        }
+        did
+    }
+
+    fn forget(&mut self, token: usize, now: Duration) {
+        if let Some(dial) = self.pending.remove(&token).and_then(|pending| pending.dial) {
+            self.wait_to_dial(dial, now);
+        }
+    }
+
+    // The peer's hello is there: it is judged, and answered where it connected.
+    fn greeted(
+        &mut self,
+        token: usize,
+        peer: Result<Hello, Why>,
+        engine: &mut Engine,
+        now: Duration,
+    ) {
+        let judged = peer.and_then(|peer| self.judge(token, &peer, now).map(|()| peer));
+        let connected = judged.and_then(|peer| {
+            if self.links.contains_key(&peer.space) {
+                self.drop_link(peer.space, engine, now);
+            }
+            engine.connected(peer.space, peer.life, now).map(|()| peer.space)
+        });
+        let Some(mut pending) = self.pending.remove(&token) else { return };
+        if pending.dial.is_none() {
+            let said = Hello { refused: connected.err(), ..self.hello };
+            if pending.stream.write(&said.to_bytes()).ok() != Some(HELLO) {
+                return connected.into_iter().for_each(|space| engine.disconnected(space, now));
+            }
+        }
+        match connected {
+            Ok(space) => {
+                if let Some(dial) = pending.dial.and_then(|place| self.dials.get_mut(place)) {
+                    dial.wait = FIRST_WAIT;
+                }
+                let Pending { stream, dial, .. } = pending;
+                let link = Link { stream, is_readable: true, is_writable: true, dial };
+                self.links.insert(space, link);
+                self.tokens.insert(token, space);
+            }
+            Err(why) => {
+                let peer = peer.ok().map(|peer| peer.space);
+                if let Some(space) = peer.filter(|_| pending.dial.is_some()) {
+                    engine.refused(space, why);
+                }
+                if let Some(place) = pending.dial {
+                    if let Some(dial) = self.dials.get_mut(place) {
+                        dial.wait = LONGEST_WAIT;
+                    }
+                    self.wait_to_dial(place, now);
+                }
+            }
+        }
+    }
+
+    // Whether a peer that says this hello may be connected: of two the higher one connects.
+    fn judge(&self, token: usize, peer: &Hello, now: Duration) -> Result<(), Why> {
+        if let Some(why) = peer.refused {
+            return Err(why);
+        }
+        self.hello.judge(peer)?;
+        let dial = self.pending.get(&token).and_then(|pending| pending.dial);
+        let is_expected = match dial.and_then(|place| self.dials.get(place)) {
+            Some(dial) => dial.line.has(peer.space),
+            None => peer.space > self.hello.space,
+        };
+        let is_shunned = self.shunned.get(&peer.space).is_some_and(|until| now < *until);
+        if is_expected && !is_shunned { Ok(()) } else { Err(Why::OtherNumber) }
+    }
+}
+
+impl Pending {
+    // Says hello where this side connects, and hears the peer's: it, once it is there.
+    fn step(&mut self, hello: &Hello) -> io::Result<Option<Result<Hello, Why>>> {
+        if self.dial.is_some() && self.said < HELLO {
+            let bytes = hello.to_bytes();
+            match self.stream.write(&bytes[self.said..]) {
+                Ok(count) => self.said += count,
+                Err(error) if is_for_later(&error) => return Ok(None),
+                Err(error) => return Err(error),
+            }
+            self.stream.set_nodelay(true)?;
+        }
+        let mut room = [0; HELLO];
+        match self.stream.read(&mut room[self.came.len()..]) {
+            Ok(0) => return Err(ErrorKind::UnexpectedEof.into()),
+            Ok(count) => {
+                let start = self.came.len();
+                self.came.extend(&room[start..start + count]);
+            }
+            Err(error) if is_for_later(&error) => return Ok(None),
+            Err(error) => return Err(error),
+        }
+        let Ok(bytes) = <&[u8; HELLO]>::try_from(&self.came[..]) else { return Ok(None) };
+        self.stream.set_nodelay(true)?;
+        Ok(Some(Hello::from_bytes(bytes)))
+    }
+}
+
+fn is_for_later(error: &io::Error) -> bool {
+    matches!(error.kind(), ErrorKind::WouldBlock | ErrorKind::NotConnected | ErrorKind::Interrupted)
+}

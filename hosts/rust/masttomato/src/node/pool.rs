@@ -1,0 +1,105 @@
+//! Threads that run methods.
+
+use super::core::Task;
+use super::shared::{Command, Shared};
+use crate::interface::Exported;
+use std::collections::VecDeque;
+use std::io;
+use std::panic::{AssertUnwindSafe, catch_unwind};
+use std::sync::{Arc, Condvar, Mutex, MutexGuard, PoisonError};
+use std::thread;
+
+enum Errand {
+    Run(Task),
+    Drop(Box<dyn Exported>),
+}
+
+#[derive(Default)]
+struct Line {
+    errands: VecDeque<Errand>,
+    // How many workers sleep: waking nobody would cost a call of the system too.
+    sleep: usize,
+    is_closed: bool,
+}
+
+/// Threads that run methods, and drop objects.
+pub(crate) struct Pool {
+    shared: Arc<Shared>,
+    line: Mutex<Line>,
+    comes: Condvar,
+}
+
+impl Pool {
+    /// So many threads, each of which ends once the pool is closed and its errand is done.
+    pub(crate) fn start(shared: &Arc<Shared>, workers: usize) -> io::Result<Arc<Pool>> {
+        let shared = shared.clone();
+        let pool = Arc::new(Pool { shared, line: Mutex::default(), comes: Condvar::new() });
+        for number in 1..=workers.max(1) {
+            let pool = pool.clone();
+            let name = format!("masttomato-{}-worker-{number}", pool.shared.id());
+            thread::Builder::new().name(name).spawn(move || pool.work())?;
+        }
+        Ok(pool)
+    }
+
+    fn line(&self) -> MutexGuard<'_, Line> {
+        self.line.lock().unwrap_or_else(PoisonError::into_inner)
+    }
+
+    fn give(&self, errand: Errand) {
+        let mut line = self.line();
+        line.errands.push_back(errand);
+        let sleep = line.sleep;
+        drop(line);
+        if sleep > 0 {
+            self.comes.notify_one();
+        }
+    }
+
+    pub(crate) fn run(&self, task: Task) {
+        self.give(Errand::Run(task));
+    }
+
+    pub(crate) fn drop_object(&self, object: Box<dyn Exported>) {
+        self.give(Errand::Drop(object));
+    }
+
+    pub(crate) fn close(&self) {
+        let mut line = self.line();
+        line.is_closed = true;
+        let left = std::mem::take(&mut line.errands);
+        drop(line);
+        self.comes.notify_all();
+        drop(left);
+    }
+
+    fn next(&self) -> Option<Errand> {
+        let mut line = self.line();
+        loop {
+            if let Some(errand) = line.errands.pop_front() {
+                return Some(errand);
+            }
+            if line.is_closed {
+                return None;
+            }
+            line.sleep += 1;
+            line = self.comes.wait(line).unwrap_or_else(PoisonError::into_inner);
+            line.sleep -= 1;
+        }
+    }
+
+    fn work(&self) {
+        while let Some(errand) = self.next() {
+            match errand {
+                Errand::Run(task) => {
+                    let done = Box::new(task.run());
+                    self.shared.post(Command::Done(done));
+                }
+                Errand::Drop(object) => {
+                    // A drop that panics ends no worker.
+                    let _dropped = catch_unwind(AssertUnwindSafe(|| drop(object)));
+                }
+            }
+        }
+    }
+}

@@ -1,0 +1,204 @@
+//! What a node's threads, its handles and its remote objects share: a line of commands, and who is woken.
+
+use super::call::CallState;
+use super::core::{Core, Done};
+use super::hold::Hold;
+use crate::engine::Ticket;
+use crate::interface::{Description, Packed};
+use crate::space::{Reference, SpaceId};
+use mio::Waker;
+use std::fmt;
+use std::sync::atomic::Ordering::{Relaxed, SeqCst};
+use std::sync::atomic::{AtomicBool, AtomicU32, AtomicU64};
+use std::sync::{Arc, Condvar, Mutex, MutexGuard, PoisonError, mpsc};
+use std::time::{Duration, Instant};
+
+/// Where looking was in vain, it isn't tried for so many times.
+pub(crate) const RESTS: u32 = 20;
+
+/// What a node's thread is asked.
+pub(crate) enum Command {
+    Call {
+        ticket: Ticket,
+        target: Arc<Hold>,
+        method: u16,
+        packed: Packed,
+        state: Arc<CallState>,
+    },
+    Lookup {
+        ticket: Ticket,
+        peer: SpaceId,
+        name: Vec<u8>,
+        wanted: Description,
+        state: Arc<CallState>,
+    },
+    Cast {
+        ticket: Ticket,
+        hold: Arc<Hold>,
+        wanted: Description,
+        state: Arc<CallState>,
+    },
+    Abandon(Ticket),
+    Release(Reference),
+    Done(Box<Done>),
+    Ask(Box<dyn FnOnce(&mut Core) + Send>),
+    /// The node is to stop, by this time at the latest.
+    Stop(Instant),
+}
+
+#[derive(Default)]
+struct Line {
+    commands: Vec<Command>,
+    is_closed: bool,
+}
+
+/// What all that belongs to a node shares.
+pub struct Shared {
+    id: SpaceId,
+    line: Mutex<Line>,
+    has_commands: AtomicBool,
+    sleeps: AtomicBool,
+    waker: Waker,
+    tickets: AtomicU64,
+    looks: Duration,
+    rests: AtomicU32,
+    stopped: Mutex<bool>,
+    stops: Condvar,
+}
+
+impl fmt::Debug for Shared {
+    fn fmt(&self, f: &mut fmt::Formatter<'_>) -> fmt::Result {
+        write!(f, "Shared({})", self.id)
+    }
+}
+
+type Locked<'a, T> = MutexGuard<'a, T>;
+
+fn unpoisoned<'a, T>(locked: Result<Locked<'a, T>, PoisonError<Locked<'a, T>>>) -> Locked<'a, T> {
+    locked.unwrap_or_else(PoisonError::into_inner)
+}
+
+impl Shared {
+    pub(crate) fn new(id: SpaceId, waker: Waker, looks: Duration) -> Arc<Shared> {
+        Arc::new(Shared {
+            id,
+            line: Mutex::default(),
+            has_commands: AtomicBool::new(false),
+            sleeps: AtomicBool::new(false),
+            waker,
+            tickets: AtomicU64::new(1),
+            looks,
+            rests: AtomicU32::new(0),
+            stopped: Mutex::new(false),
+            stops: Condvar::new(),
+        })
+    }
+
+    pub(crate) fn id(&self) -> SpaceId {
+        self.id
+    }
+
+    pub(crate) fn looks(&self) -> Duration {
+        self.looks
+    }
+
+    /// How long whoever waits looks before it sleeps: not at all for some times after that was in vain.
+    pub(crate) fn looks_now(&self) -> Duration {
+        if self.rests.load(Relaxed) == 0 { self.looks } else { Duration::ZERO }
+    }
+
+    /// Whoever waits has looked for so long: whether that was in vain.
+    pub(crate) fn looked(&self, looks: Duration, found: bool) {
+        if looks.is_zero() {
+            let rest = |rests: u32| rests.checked_sub(1);
+            let _were_rests = self.rests.fetch_update(Relaxed, Relaxed, rest);
+        } else if !found {
+            self.rests.store(RESTS, Relaxed);
+        }
+    }
+
+    pub(crate) fn next_ticket(&self) -> Ticket {
+        Ticket(self.tickets.fetch_add(1, SeqCst))
+    }
+
+    /// Whether the command is in the line; it isn't once the node has stopped.
+    pub(crate) fn post(&self, command: Command) -> bool {
+        let mut line = unpoisoned(self.line.lock());
+        if line.is_closed {
+            drop(line);
+            // What is in the command may post when it is dropped, so nothing is locked then.
+            drop(command);
+            return false;
+        }
+        line.commands.push(command);
+        self.has_commands.store(true, SeqCst);
+        drop(line);
+        if self.sleeps.swap(false, SeqCst) {
+            // A waker that fails has nobody to wake.
+            let _woken = self.waker.wake();
+        }
+        true
+    }
+
+    pub(crate) fn has_commands(&self) -> bool {
+        self.has_commands.load(SeqCst)
+    }
+
+    /// All commands that are in the line, in place of an empty list.
+    pub(crate) fn take(&self, into: &mut Vec<Command>) {
+        if self.has_commands.swap(false, SeqCst) {
+            std::mem::swap(&mut unpoisoned(self.line.lock()).commands, into);
+        }
+    }
+
+    /// Whether the node's thread may sleep: whoever posts from now on wakes it.
+    pub(crate) fn may_sleep(&self) -> bool {
+        self.sleeps.store(true, SeqCst);
+        let may = !self.has_commands();
+        if !may {
+            self.sleeps.store(false, SeqCst);
+        }
+        may
+    }
+
+    pub(crate) fn awake(&self) {
+        self.sleeps.store(false, SeqCst);
+    }
+
+    /// No command is taken any more: those that were in the line.
+    pub(crate) fn close(&self) -> Vec<Command> {
+        let mut line = unpoisoned(self.line.lock());
+        line.is_closed = true;
+        std::mem::take(&mut line.commands)
+    }
+
+    pub(crate) fn is_closed(&self) -> bool {
+        unpoisoned(self.line.lock()).is_closed
+    }
+
+    /// Asks the node's thread, and waits for what it says: `None` where it has stopped.
+    pub(crate) fn ask<T: Send + 'static>(
+        &self,
+        ask: impl FnOnce(&mut Core) -> T + Send + 'static,
+    ) -> Option<T> {
+        let (sender, receiver) = mpsc::sync_channel(1);
+        let asked = self.post(Command::Ask(Box::new(move |core: &mut Core| {
+            // Who asked may have gone.
+            let _heard = sender.send(ask(core));
+        })));
+        if asked { receiver.recv().ok() } else { None }
+    }
+
+    /// The node has stopped.
+    pub(crate) fn set_stopped(&self) {
+        *unpoisoned(self.stopped.lock()) = true;
+        self.stops.notify_all();
+    }
+
+    pub(crate) fn wait_until_stopped(&self) {
+        let mut stopped = unpoisoned(self.stopped.lock());
+        while !*stopped {
+            stopped = unpoisoned(self.stops.wait(stopped));
+        }
+    }
+}

@@ -1,0 +1,563 @@
+//! A space: the proved one of the static library, behind safe methods.
+
+use super::answers::{ActResult, Arrived, CallResult, ReplyFate, SettledItem};
+use super::event::{Answer, Event, Job, Outcome};
+use super::frame::{Frame, FrameFault, Frames};
+use super::names::{CallNo, ItemNo, JobNo, Limits, Reason, Reference, SpaceId};
+use super::refusal::{Refusal, SpaceError};
+use super::trace::Trace;
+use super::value::Value;
+use masttomato_sys::{Handle, Told};
+
+/// A space among those from 1 to `spaces`: it owns objects, holds references to those of others,
+/// and has a session with each other space. What it answers is proved to be right; which frames
+/// arrive, how often and when is up to the program. A refused event, or one that memory is wanted
+/// for, leaves it as it was. Dropping it closes its sessions, tells no peer, and frees its memory.
+///
+/// A space stays on the thread that made it: it is neither `Send` nor `Sync`.
+///
+/// ```compile_fail
+/// fn sent(space: masttomato::space::Space) {
+///     std::thread::spawn(move || drop(space));
+/// }
+/// ```
+#[derive(Debug)]
+pub struct Space {
+    handle: Handle,
+    id: SpaceId,
+    spaces: SpaceId,
+    limits: Limits,
+    trace: Option<Trace>,
+    // Where bytes of the library are copied to.
+    room: Vec<u8>,
+}
+
+/// What a Transmit would give.
+#[derive(Clone, Copy, Debug, PartialEq, Eq)]
+pub enum Due {
+    /// Nothing.
+    Nothing,
+    /// An Ack alone.
+    Ack,
+    /// Items that were given before, and no other.
+    Again,
+    /// An item that was never given, or more.
+    New,
+    /// The Close that a closed end owes.
+    Close,
+}
+
+/// What a space could do next, limits, free numbers and want of memory aside.
+#[derive(Clone, Copy, Debug, PartialEq, Eq)]
+pub struct Work {
+    act: u32,
+    send: u32,
+    /// Whether there is a message to settle.
+    pub settle: bool,
+    /// Whether there is a surrogate to give up.
+    pub clean: bool,
+    /// Whether there is a job to claim.
+    pub claim: bool,
+    /// The least index of an object that Withdraw would take.
+    pub withdraw: Option<u64>,
+}
+
+impl Work {
+    /// Whether there is an item from this space to act on, also one whose fault closes the session.
+    pub fn act(&self, peer: SpaceId) -> bool {
+        self.act >> (peer.get() - 1) & 1 == 1
+    }
+
+    /// Whether a Transmit to this space would give a frame.
+    pub fn send(&self, peer: SpaceId) -> bool {
+        self.send >> (peer.get() - 1) & 1 == 1
+    }
+}
+
+/// Why a piece of a stream of frames wasn't taken.
+#[derive(Clone, Copy, Debug, PartialEq, Eq)]
+pub enum StreamError {
+    /// The stream isn't one of frames: said from then on, until the stream is restarted.
+    Fault(FrameFault),
+    /// Frames of an earlier piece still wait.
+    Waiting,
+    /// Memory ran out; the same piece may be pushed again.
+    OutOfMemory,
+}
+
+impl std::fmt::Display for StreamError {
+    fn fmt(&self, f: &mut std::fmt::Formatter<'_>) -> std::fmt::Result {
+        match self {
+            StreamError::Fault(fault) => fault.fmt(f),
+            StreamError::Waiting => f.write_str("frames still wait"),
+            StreamError::OutOfMemory => f.write_str("out of memory"),
+        }
+    }
+}
+
+impl std::error::Error for StreamError {}
+
+/// Why bytes didn't arrive as a frame.
+#[derive(Clone, Copy, Debug, PartialEq, Eq)]
+pub enum ArriveError {
+    /// They spell no frame.
+    Fault(FrameFault),
+    /// The space doesn't take it.
+    Space(SpaceError),
+}
+
+impl std::fmt::Display for ArriveError {
+    fn fmt(&self, f: &mut std::fmt::Formatter<'_>) -> std::fmt::Result {
+        match self {
+            ArriveError::Fault(fault) => fault.fmt(f),
+            ArriveError::Space(error) => error.fmt(f),
+        }
+    }
+}
+
+impl std::error::Error for ArriveError {}
+
+impl From<FrameFault> for StreamError {
+    fn from(fault: FrameFault) -> StreamError {
+        StreamError::Fault(fault)
+    }
+}
+
+impl Space {
+    /// A space that has done nothing: its sessions with all others, those from 1 to `spaces`, are
+    /// open. Only memory fails it.
+    pub fn new(id: SpaceId, spaces: SpaceId, limits: Limits) -> Result<Space, SpaceError> {
+        let (window, retry) = (limits.window().into(), limits.retry().into());
+        let handle = Handle::new(id.get(), spaces.get(), window, retry).map_err(error_of)?;
+        Ok(Space { handle, id, spaces, limits, trace: None, room: vec![0; 1024] })
+    }
+
+    /// The number of the space.
+    pub fn id(&self) -> SpaceId {
+        self.id
+    }
+
+    /// How many spaces there are, named by the last of them.
+    pub fn spaces(&self) -> SpaceId {
+        self.spaces
+    }
+
+    /// All other spaces.
+    pub fn peers(&self) -> impl Iterator<Item = SpaceId> + use<> {
+        let id = self.id;
+        self.spaces.up_to().filter(move |space| *space != id)
+    }
+
+    /// The limits of its sessions.
+    pub fn limits(&self) -> Limits {
+        self.limits
+    }
+
+    /// From now on the space keeps a trace of what it is asked and answers. It is to be asked for
+    /// before the first event, since `nobj check` judges a trace from the beginning.
+    pub fn keep_trace(&mut self) {
+        self.trace = Some(Trace::new(self.id, self.spaces, self.limits));
+    }
+
+    /// Takes the lines of the trace that weren't taken yet, so that they need no more memory: none
+    /// where no trace is kept.
+    pub fn take_lines(&mut self) -> String {
+        self.trace.as_mut().map(Trace::take_lines).unwrap_or_default()
+    }
+
+    /// The trace, where one is kept.
+    pub fn trace(&self) -> Option<&Trace> {
+        self.trace.as_ref()
+    }
+
+    /// The stamp of the trace's last entry, or what it was risen to since; 0 where none is kept.
+    pub fn stamp(&self) -> u64 {
+        self.trace.as_ref().map_or(0, Trace::stamp)
+    }
+
+    /// The trace's next entry has a stamp above this one.
+    pub fn rise_to(&mut self, stamp: u64) {
+        if let Some(trace) = &mut self.trace {
+            trace.rise_to(stamp);
+        }
+    }
+
+    /// A new object: its reference, once in the hand. Limit where the space has all the live
+    /// objects or indexes that it may have.
+    pub fn export(&mut self) -> Result<Reference, SpaceError> {
+        let result = told(self.handle.export()).map(reference_of);
+        self.noted(result, || Event::Export, Answer::Exported)
+    }
+
+    /// One more hold in the hand. NoObject where an own object isn't live, NotHeld where nothing
+    /// holds the reference or it is an agent's, Closed where the session with its owner has closed
+    /// here, Limit where the hand is full.
+    pub fn dup(&mut self, reference: Reference) -> Result<(), SpaceError> {
+        let result = told(self.handle.dup(reference.owner.get(), reference.index)).map(drop);
+        self.noted(result, || Event::Dup(reference), done)
+    }
+
+    /// A hold in the hand is given back. NoObject where an own object isn't live, NotHeld where none
+    /// is in the hand.
+    pub fn release(&mut self, reference: Reference) -> Result<(), SpaceError> {
+        let result = told(self.handle.release(reference.owner.get(), reference.index)).map(drop);
+        self.noted(result, || Event::Release(reference), done)
+    }
+
+    /// Calls a method of an object with a value, whose references are pinned until the object's
+    /// owner has settled them: the number of the call. NoPeer, Closed, NotHeld of the target; TooBig
+    /// where the value has no pickle; NoObject, NotHeld or Closed of a reference in it; then Limit,
+    /// QueueFull or SeqEnd. Linear in the value.
+    pub fn call(
+        &mut self,
+        target: Reference,
+        method: u16,
+        value: &Value,
+    ) -> Result<CallNo, SpaceError> {
+        let (pickle, has_pickle) = self.pickle_of(value);
+        let asked = self.handle.call(target.owner.get(), target.index, method, &pickle);
+        let result = judged(told(asked), has_pickle).map(|told| CallNo::new(told.number));
+        let event = || Event::Call { target, method, value: value.clone() };
+        self.noted(result, event, Answer::Called)
+    }
+
+    /// What a call brought: its reply, whose references come into the hand, or that there will be
+    /// none. NoCall where there is no such call, NotReady while there is no reply, Limit where a
+    /// hand would be too full.
+    pub fn take_reply(&mut self, call: CallNo) -> Result<CallResult, SpaceError> {
+        let result = told(self.handle.take_reply(call.get())).map(|told| match told.kind {
+            4 => CallResult::Replied { status: told.number as u8, value: self.value() },
+            5 => CallResult::Ended,
+            other => unknown("kind", other),
+        });
+        self.noted(result, || Event::TakeReply(call), Answer::from)
+    }
+
+    /// The first ready job, in order of becoming ready, whose target isn't running. Nothing where
+    /// there is none, Limit where the numbers are used up.
+    pub fn claim(&mut self) -> Result<Job, SpaceError> {
+        let result = told(self.handle.claim()).map(|told| Job {
+            job: JobNo::new(told.number),
+            client: space_of(told.space),
+            call: CallNo::new(told.call),
+            target: told.index,
+            method: told.method,
+            value: self.value(),
+        });
+        self.noted(result, || Event::Claim, Answer::Job)
+    }
+
+    /// A job's outcome goes to its client, or is dropped where the session with the client has
+    /// closed; what the job had on loan is given back. NoJob where no such job runs; then refused as
+    /// the value of a call is, or by QueueFull or SeqEnd.
+    pub fn finish(&mut self, job: JobNo, outcome: &Outcome) -> Result<ReplyFate, SpaceError> {
+        let (number, (pickle, has_pickle)) = match outcome {
+            Outcome::Answer(value) => (0, self.pickle_of(value)),
+            Outcome::Fault(value) => (1, self.pickle_of(value)),
+            Outcome::NoMethod => (2, (Vec::new(), true)),
+        };
+        let asked = told(self.handle.finish(job.get(), number, &pickle));
+        let result = judged(asked, has_pickle).map(|told| match told.kind {
+            7 => ReplyFate::HandedOn,
+            8 => ReplyFate::Dropped,
+            other => unknown("kind", other),
+        });
+        self.noted(result, || Event::Finish(job, outcome.clone()), Answer::from)
+    }
+
+    /// The item at the front of the inbox from a peer is acted on; one with a fault closes the
+    /// session instead. NoPeer, Closed, Nothing where none waits; and the item stays where a limit
+    /// would be passed or a session has no number for what it asks for.
+    pub fn act(&mut self, peer: SpaceId) -> Result<ActResult, SpaceError> {
+        let result = told(self.handle.act(peer.get())).map(|told| match told.kind {
+            9 => ActResult::Acted(ItemNo::new(told.number)),
+            10 => ActResult::Closed(reason_of(told)),
+            other => unknown("kind", other),
+        });
+        self.noted(result, || Event::Act(peer), Answer::from)
+    }
+
+    /// The first message, in order of acting, whose references are all resolved is settled, and
+    /// its sender told: whose item that was. Nothing where there is none, SeqEnd where a session has
+    /// no number left.
+    pub fn settle(&mut self) -> Result<SettledItem, SpaceError> {
+        let result = told(self.handle.settle())
+            .map(|told| SettledItem { peer: space_of(told.space), item: ItemNo::new(told.number) });
+        self.noted(result, || Event::Settle, Answer::from)
+    }
+
+    /// The first surrogate, in the order of their last Dirties, that is granted on an open session,
+    /// without holds and without pins, is given up, and its owner told: its reference. Nothing where
+    /// there is none, SeqEnd where the session has no number left.
+    pub fn clean(&mut self) -> Result<Reference, SpaceError> {
+        let result = told(self.handle.clean()).map(reference_of);
+        self.noted(result, || Event::Clean, Answer::Cleaned)
+    }
+
+    /// The object of an index is live no more. NoObject where none is live, StillUsed where it is
+    /// held, pinned here, listed for a client, or the agent.
+    pub fn withdraw(&mut self, index: u64) -> Result<(), SpaceError> {
+        let result = told(self.handle.withdraw(index)).map(drop);
+        self.noted(result, || Event::Withdraw(index), withdrawn)
+    }
+
+    /// The frames that are to be sent to a peer now: what isn't acknowledged, a window at most, or
+    /// an Ack or a Close that is owed, or none. NoPeer where there is no such peer.
+    pub fn transmit(&mut self, peer: SpaceId) -> Result<Frames, SpaceError> {
+        let result = told(self.handle.transmit(peer.get())).map(|told| match told.number {
+            0 => Frames::default(),
+            _ => Frames::from_library(self.answer()),
+        });
+        self.noted(result, || Event::Transmit(peer), Answer::Frames)
+    }
+
+    /// A frame came for this space: how many items it brought, or that it closed the session with
+    /// its sender. NoPeer where it isn't for this space or from none of its peers.
+    pub fn arrive(&mut self, frame: &Frame) -> Result<Arrived, SpaceError> {
+        let result = told(self.handle.arrive(frame.as_bytes())).map(arrived_of);
+        self.noted(result, || Event::Arrive(frame.clone()), Answer::from)
+    }
+
+    /// The frame that these bytes spell came for this space: as `arrive`.
+    ///
+    /// # Errors
+    /// [`ArriveError::Fault`] where they spell no frame, and else what `arrive` answers.
+    pub fn arrive_bytes(&mut self, bytes: &[u8]) -> Result<Arrived, ArriveError> {
+        let asked = self.handle.arrive(bytes);
+        if let status @ 41..=51 = asked.0 {
+            return Err(ArriveError::Fault(FrameFault::ALL[status as usize - 41]));
+        }
+        let result = told(asked).map(arrived_of);
+        let event = || Event::Arrive(Frame::from_bytes(bytes.to_vec()).expect("a frame"));
+        self.noted(result, event, Answer::from).map_err(ArriveError::Space)
+    }
+
+    /// The next piece of a stream of frames from a peer, cut anywhere: how many frames are whole
+    /// now and wait. They arrive by `arrive_next`, all of them before the next piece.
+    pub fn push(&mut self, peer: SpaceId, piece: &[u8]) -> Result<u64, StreamError> {
+        match self.handle.push(peer.get(), piece) {
+            (0, told) => Ok(told.number),
+            (14, _) => Err(StreamError::OutOfMemory),
+            (61, _) => Err(StreamError::Waiting),
+            (status @ 41..=51, _) => Err(FrameFault::ALL[status as usize - 41].into()),
+            (other, _) => unknown("status of nob_push", other),
+        }
+    }
+
+    /// The first frame that waits arrives: as `arrive`, or `None` where none waits.
+    pub fn arrive_next(&mut self) -> Option<Result<Arrived, SpaceError>> {
+        let asked = self.handle.bring_next();
+        if asked.0 == 62 {
+            return None;
+        }
+        let result = told(asked).map(arrived_of);
+        if self.trace.is_none() || result == Err(SpaceError::OutOfMemory) {
+            return Some(result);
+        }
+        let frame = Frame::from_bytes(self.answer().to_vec()).expect("the frame that came");
+        Some(self.noted(result, || Event::Arrive(frame), Answer::from))
+    }
+
+    /// Forgets what is kept of a peer's stream, and its fault, for a new stream. Frames that wait
+    /// stay.
+    pub fn restart(&mut self, peer: SpaceId) {
+        let status = self.handle.restart(peer.get());
+        assert_eq!(status, 0, "nob_restart takes any space's number");
+    }
+
+    /// The session with a peer counts one tick more: for which reason it closes, where its retries
+    /// are used up. NoPeer, Closed.
+    pub fn tick(&mut self, peer: SpaceId) -> Result<Option<Reason>, SpaceError> {
+        let result = told(self.handle.tick(peer.get())).map(|told| match told.kind {
+            2 => None,
+            10 => Some(reason_of(told)),
+            other => unknown("kind", other),
+        });
+        self.noted(result, || Event::Tick(peer), ticked)
+    }
+
+    /// Closes the session with a peer, for the reason that it was asked to. NoPeer, Closed.
+    pub fn close(&mut self, peer: SpaceId) -> Result<Reason, SpaceError> {
+        let result = told(self.handle.close(peer.get())).map(reason_of);
+        self.noted(result, || Event::Close(peer), Answer::Closed)
+    }
+
+    /// One event, by its own method.
+    pub fn step(&mut self, event: &Event) -> Result<Answer, SpaceError> {
+        match event {
+            Event::Export => self.export().map(Answer::Exported),
+            Event::Dup(reference) => self.dup(*reference).map(done),
+            Event::Release(reference) => self.release(*reference).map(done),
+            Event::Call { target, method, value } => {
+                self.call(*target, *method, value).map(Answer::Called)
+            }
+            Event::TakeReply(call) => self.take_reply(*call).map(Answer::from),
+            Event::Claim => self.claim().map(Answer::Job),
+            Event::Finish(job, outcome) => self.finish(*job, outcome).map(Answer::from),
+            Event::Act(peer) => self.act(*peer).map(Answer::from),
+            Event::Settle => self.settle().map(Answer::from),
+            Event::Clean => self.clean().map(Answer::Cleaned),
+            Event::Withdraw(index) => self.withdraw(*index).map(withdrawn),
+            Event::Transmit(peer) => self.transmit(*peer).map(Answer::Frames),
+            Event::Arrive(frame) => self.arrive(frame).map(Answer::from),
+            Event::Tick(peer) => self.tick(*peer).map(ticked),
+            Event::Close(peer) => self.close(*peer).map(Answer::Closed),
+        }
+    }
+
+    /// Whether a client is listed for the object of an index: it asked for it, was granted it, and
+    /// hasn't given it up.
+    pub fn lists(&self, index: u64, client: SpaceId) -> bool {
+        self.handle.lists(index, client.get())
+    }
+
+    /// Whether TakeReply of a call would say anything but that the reply isn't ready.
+    pub fn reply_ready(&self, call: CallNo) -> bool {
+        self.handle.reply_ready(call.get())
+    }
+
+    /// What the space could do next: to ask it that would be no refusal, limits, free numbers and
+    /// want of memory aside.
+    pub fn work(&self) -> Work {
+        let work = self.handle.work();
+        Work {
+            act: work.act,
+            send: work.send,
+            settle: work.settle,
+            clean: work.clean,
+            claim: work.claim,
+            withdraw: work.withdraw.then_some(work.index),
+        }
+    }
+
+    /// What a Transmit to a peer would give.
+    pub fn due(&self, peer: SpaceId) -> Due {
+        match self.handle.due(peer.get()) {
+            0 => Due::Nothing,
+            1 => Due::Ack,
+            2 => Due::Again,
+            3 => Due::New,
+            4 => Due::Close,
+            other => unknown("due", other),
+        }
+    }
+
+    // Where a trace is kept, what was asked and what came of it is its next entry; but not where
+    // memory was wanted.
+    fn noted<T: Clone>(
+        &mut self,
+        result: Result<T, SpaceError>,
+        event: impl FnOnce() -> Event,
+        answer: impl FnOnce(T) -> Answer,
+    ) -> Result<T, SpaceError> {
+        if let Some(trace) = &mut self.trace {
+            match result.clone() {
+                Ok(given) => trace.push(&event(), &Ok(answer(given))),
+                Err(SpaceError::Refused(refusal)) => trace.push(&event(), &Err(refusal)),
+                Err(SpaceError::OutOfMemory) => {}
+            }
+        }
+        result
+    }
+
+    // The pickle of a value, and whether it is one. A value without a pickle can't be given to the
+    // library. So it is given a reference in its place which this space can't hold, since no object
+    // has that index: it refuses that, by S3, just where it would refuse the value by S7, and does
+    // else what it would do with the value.
+    fn pickle_of(&self, value: &Value) -> (Vec<u8>, bool) {
+        if let Ok(pickle) = value.encode() {
+            return (pickle, true);
+        }
+        let nothing = Reference { owner: self.id, index: u64::MAX };
+        (Value::Ref(nothing).encode().expect("a reference has a pickle"), false)
+    }
+
+    // The value that the last reply or job brought.
+    fn value(&mut self) -> Value {
+        match self.handle.value() {
+            0 => Value::decode(self.answer()).expect("a value's pickle"),
+            14 => panic!("out of memory: a value was brought, and there is none for its pickle"),
+            other => unknown("status of nob_value", other),
+        }
+    }
+
+    // The bytes of the library's answer.
+    fn answer(&mut self) -> &[u8] {
+        let mut length = self.handle.answer(&mut self.room);
+        if length > self.room.len() {
+            self.room.resize(length.next_power_of_two(), 0);
+            length = self.handle.answer(&mut self.room);
+        }
+        &self.room[..length]
+    }
+}
+
+fn done((): ()) -> Answer {
+    Answer::Done
+}
+
+fn withdrawn((): ()) -> Answer {
+    Answer::Withdrawn
+}
+
+fn ticked(closed: Option<Reason>) -> Answer {
+    closed.map_or(Answer::Done, Answer::Closed)
+}
+
+// What was told, or why nothing was done.
+fn told((status, told): (u32, Told)) -> Result<Told, SpaceError> {
+    match status {
+        0 => Ok(told),
+        _ => Err(error_of(status)),
+    }
+}
+
+// Why nothing was done, by a status other than 0.
+fn error_of(status: u32) -> SpaceError {
+    let place = match status {
+        1..=10 => status - 1,
+        111..=114 => status - 101,
+        12..=13 => status + 2,
+        14 => return SpaceError::OutOfMemory,
+        _ => unknown("status", status),
+    };
+    SpaceError::Refused(Refusal::ALL[place as usize])
+}
+
+// What came of a value, or of what stood in its place and is refused by S3 where it is by S7.
+fn judged(result: Result<Told, SpaceError>, has_pickle: bool) -> Result<Told, SpaceError> {
+    match result {
+        Err(SpaceError::Refused(Refusal::NoObject)) if !has_pickle => {
+            Err(SpaceError::Refused(Refusal::TooBig))
+        }
+        _ => result,
+    }
+}
+
+fn reference_of(told: Told) -> Reference {
+    Reference { owner: space_of(told.space), index: told.index }
+}
+
+fn space_of(number: u16) -> SpaceId {
+    SpaceId::new(number).unwrap_or_else(|| unknown("space", number.into()))
+}
+
+fn reason_of(told: Told) -> Reason {
+    u8::try_from(told.number)
+        .ok()
+        .and_then(Reason::from_number)
+        .unwrap_or_else(|| unknown("reason", told.kind))
+}
+
+fn arrived_of(told: Told) -> Arrived {
+    match told.kind {
+        15 => Arrived::Took(told.number),
+        10 => Arrived::Closed(reason_of(told)),
+        other => unknown("kind", other),
+    }
+}
+
+// The archive doesn't keep to what its README says: it isn't the one of this crate's version.
+fn unknown(what: &str, number: u32) -> ! {
+    panic!("libnob_host.a and this crate don't belong together: {what} {number} is unknown")
+}

@@ -1,0 +1,274 @@
+//! Frames: what spaces give to be carried to other spaces, as bytes.
+
+use super::hex::Hex;
+use super::names::{Reason, SpaceId};
+use std::fmt;
+use std::io::{self, Read};
+
+/// A header is so long, and a payload at most so long.
+const HEADER: usize = 28;
+const LONGEST_PAYLOAD: usize = 16_384;
+/// The greatest number of an item.
+const LAST_ITEM: u64 = 1 << 40;
+
+/// What a frame is for.
+#[derive(Clone, Copy, Debug, PartialEq, Eq)]
+pub enum FrameKind {
+    /// It carries one item.
+    Data,
+    /// It carries an acknowledgement alone.
+    Ack,
+    /// It says that its sender's end has closed, and why.
+    Close,
+}
+
+/// Why bytes are no frame.
+#[derive(Clone, Copy, Debug, PartialEq, Eq)]
+pub enum FrameFault {
+    /// F1: the header or the payload isn't all there.
+    Short,
+    /// F2: the first byte isn't a frame's.
+    Magic,
+    /// F3: the version isn't 1.
+    Version,
+    /// F4: the kind is none of the three.
+    Kind,
+    /// F5: a flag is set.
+    Flags,
+    /// F6: one of the two spaces is outside 1 to 32, or they are one.
+    Spaces,
+    /// F7: the number of the item is outside 1 to 2^40, or isn't 0 in a frame without an item.
+    Seq,
+    /// F8: the acknowledgement is outside 1 to 2^40 + 1.
+    Ack,
+    /// F9: the payload is longer or shorter than the kind allows.
+    Length,
+    /// F10: the reason of a close is outside 1 to 6.
+    Reason,
+    /// F11: bytes stand after the frame.
+    Trailing,
+}
+
+impl FrameFault {
+    /// All faults, F1 to F11.
+    pub const ALL: [FrameFault; 11] = [
+        FrameFault::Short,
+        FrameFault::Magic,
+        FrameFault::Version,
+        FrameFault::Kind,
+        FrameFault::Flags,
+        FrameFault::Spaces,
+        FrameFault::Seq,
+        FrameFault::Ack,
+        FrameFault::Length,
+        FrameFault::Reason,
+        FrameFault::Trailing,
+    ];
+}
+
+impl fmt::Display for FrameFault {
+    fn fmt(&self, f: &mut fmt::Formatter<'_>) -> fmt::Result {
+        f.write_str(match self {
+            FrameFault::Short => "F1: the frame isn't all there",
+            FrameFault::Magic => "F2: the first byte isn't 4e",
+            FrameFault::Version => "F3: an unknown version",
+            FrameFault::Kind => "F4: an unknown kind",
+            FrameFault::Flags => "F5: a flag is set",
+            FrameFault::Spaces => "F6: not two spaces",
+            FrameFault::Seq => "F7: the item's number is out of range",
+            FrameFault::Ack => "F8: the acknowledgement is out of range",
+            FrameFault::Length => "F9: the payload's length is out of range",
+            FrameFault::Reason => "F10: an unknown reason",
+            FrameFault::Trailing => "F11: bytes after the frame",
+        })
+    }
+}
+
+impl std::error::Error for FrameFault {}
+
+/// A frame: bytes that spell one. Its text is these bytes in lower case hexadecimal.
+#[derive(Clone, Debug, PartialEq, Eq, Hash)]
+pub struct Frame {
+    bytes: Vec<u8>,
+}
+
+impl Frame {
+    /// The frame that all of these bytes spell, or the first of F1 to F11 that they are refused for.
+    pub fn from_bytes(bytes: Vec<u8>) -> Result<Frame, FrameFault> {
+        let header = bytes.first_chunk().ok_or(FrameFault::Short)?;
+        let end = HEADER + judge_header(header)?;
+        let payload = bytes.get(HEADER..end).ok_or(FrameFault::Short)?;
+        judge_payload(header, payload)?;
+        if bytes.len() > end {
+            return Err(FrameFault::Trailing);
+        }
+        Ok(Frame { bytes })
+    }
+
+    /// The next frame of a stream on which frames stand one after the other: `None` where the
+    /// stream ends before one begins. Bytes that are no frame are an error of kind `InvalidData`.
+    pub fn read_from(stream: &mut impl Read) -> io::Result<Option<Frame>> {
+        let mut header = [0; HEADER];
+        if !fill_or_end(stream, &mut header)? {
+            return Ok(None);
+        }
+        let length = judge_header(&header).map_err(invalid)?;
+        let mut bytes = vec![0; HEADER + length];
+        bytes[..HEADER].copy_from_slice(&header);
+        stream.read_exact(&mut bytes[HEADER..])?;
+        judge_payload(&header, &bytes[HEADER..]).map_err(invalid)?;
+        Ok(Some(Frame { bytes }))
+    }
+
+    /// The bytes that spell the frame.
+    pub fn as_bytes(&self) -> &[u8] {
+        &self.bytes
+    }
+
+    /// The bytes that spell the frame.
+    pub fn into_bytes(self) -> Vec<u8> {
+        self.bytes
+    }
+
+    /// What the frame is for.
+    pub fn kind(&self) -> FrameKind {
+        match self.bytes[2] {
+            1 => FrameKind::Data,
+            2 => FrameKind::Ack,
+            _ => FrameKind::Close,
+        }
+    }
+
+    /// The space that transmitted it.
+    pub fn from(&self) -> SpaceId {
+        self.space_at(4)
+    }
+
+    /// The space that it goes to.
+    pub fn to(&self) -> SpaceId {
+        self.space_at(6)
+    }
+
+    /// The number of the item that a Data frame carries; 0 in the others.
+    pub fn seq(&self) -> u64 {
+        u64_at(&self.bytes, 8)
+    }
+
+    /// The number of the next item that its sender hasn't accepted yet.
+    pub fn ack(&self) -> u64 {
+        u64_at(&self.bytes, 16)
+    }
+
+    fn space_at(&self, place: usize) -> SpaceId {
+        SpaceId::new(u16_at(&self.bytes, place)).expect("the header was judged")
+    }
+}
+
+impl fmt::Display for Frame {
+    fn fmt(&self, f: &mut fmt::Formatter<'_>) -> fmt::Result {
+        Hex(&self.bytes).fmt(f)
+    }
+}
+
+/// The frames that one Transmit gave, in order. They may be none.
+#[derive(Clone, Debug, Default, PartialEq, Eq)]
+pub struct Frames {
+    // They stand one after the other.
+    bytes: Vec<u8>,
+}
+
+impl Frames {
+    // The frames whose bytes the library gave.
+    pub(crate) fn from_library(bytes: &[u8]) -> Frames {
+        Frames { bytes: bytes.to_vec() }
+    }
+
+    /// Whether there is none.
+    pub fn is_empty(&self) -> bool {
+        self.bytes.is_empty()
+    }
+
+    /// The bytes of the frames, one after the other: what a stream of frames is made of.
+    pub fn as_bytes(&self) -> &[u8] {
+        &self.bytes
+    }
+
+    /// The frames.
+    pub fn iter(&self) -> impl Iterator<Item = Frame> + '_ {
+        let mut left = &self.bytes[..];
+        std::iter::from_fn(move || Frame::read_from(&mut left).expect("whole frames"))
+    }
+}
+
+// How long the payload is behind a header, or the first of F2 to F9.
+fn judge_header(header: &[u8; HEADER]) -> Result<usize, FrameFault> {
+    if header[0] != 0x4e {
+        return Err(FrameFault::Magic);
+    }
+    if header[1] != 1 {
+        return Err(FrameFault::Version);
+    }
+    let kind = header[2];
+    if !(1..=3).contains(&kind) {
+        return Err(FrameFault::Kind);
+    }
+    if header[3] != 0 {
+        return Err(FrameFault::Flags);
+    }
+    let (from, to) = (SpaceId::new(u16_at(header, 4)), SpaceId::new(u16_at(header, 6)));
+    if from.is_none() || to.is_none() || from == to {
+        return Err(FrameFault::Spaces);
+    }
+    let is_data = kind == 1;
+    let items = if is_data { 1..=LAST_ITEM } else { 0..=0 };
+    if !items.contains(&u64_at(header, 8)) {
+        return Err(FrameFault::Seq);
+    }
+    if !(1..=LAST_ITEM + 1).contains(&u64_at(header, 16)) {
+        return Err(FrameFault::Ack);
+    }
+    let length = u32::from_be_bytes([header[24], header[25], header[26], header[27]]) as usize;
+    let fits = match kind {
+        1 => (1..=LONGEST_PAYLOAD).contains(&length),
+        2 => length == 0,
+        _ => length == 1,
+    };
+    if fits { Ok(length) } else { Err(FrameFault::Length) }
+}
+
+// F10, of a Close.
+fn judge_payload(header: &[u8; HEADER], payload: &[u8]) -> Result<(), FrameFault> {
+    if header[2] == 3 && Reason::from_number(payload[0]).is_none() {
+        return Err(FrameFault::Reason);
+    }
+    Ok(())
+}
+
+// Reads until these bytes are filled: whether a first one came before the stream's end.
+fn fill_or_end(stream: &mut impl Read, bytes: &mut [u8]) -> io::Result<bool> {
+    let mut filled = 0;
+    while filled == 0 {
+        match stream.read(bytes) {
+            Ok(0) => return Ok(false),
+            Ok(count) => filled = count,
+            Err(error) if error.kind() == io::ErrorKind::Interrupted => {}
+            Err(error) => return Err(error),
+        }
+    }
+    stream.read_exact(&mut bytes[filled..])?;
+    Ok(true)
+}
+
+fn invalid(fault: FrameFault) -> io::Error {
+    io::Error::new(io::ErrorKind::InvalidData, fault)
+}
+
+fn u16_at(bytes: &[u8], place: usize) -> u16 {
+    u16::from_be_bytes([bytes[place], bytes[place + 1]])
+}
+
+fn u64_at(bytes: &[u8], place: usize) -> u64 {
+    let mut number = [0; 8];
+    number.copy_from_slice(&bytes[place..place + 8]);
+    u64::from_be_bytes(number)
+}

@@ -1,0 +1,49 @@
+//! Spaces of Network Objects for programs in Rust: the proved space of `nob_host`, a static library,
+//! behind safe methods.
+//!
+//! A *space* owns objects and hands out references to them, holds references to those of other
+//! spaces, calls their methods and carries out what others call. Its owner reclaims an object once
+//! no space refers to it, and not before. A program carries the frames that a space gives for
+//! another to that one, in whatever way: they may be lost, repeated and reordered.
+//!
+//! ```
+//! # use masttomato::space::{Limits, Refusal, Space, SpaceId, SpaceError, Use, Value};
+//! # fn main() -> Result<(), SpaceError> {
+//! let [first, second] = [1, 2].map(|number| SpaceId::new(number).expect("a space"));
+//! let mut space = Space::new(first, second, Limits::default())?;
+//! let object = space.export()?;
+//! let call = space.call(second.agent(), 1, &Value::Ref(object))?;
+//! space.release(object)?;
+//! // A reference to the object is on its way to space 2.
+//! let in_transit = Refusal::StillUsed(Use::InTransit);
+//! assert_eq!(space.withdraw(object.index), Err(in_transit.into()));
+//! for frame in space.transmit(second)?.iter() {
+//!     // To be brought to space 2, whose program has it arrive there.
+//!     println!("{frame}");
+//! }
+//! assert!(!space.reply_ready(call));
+//! # Ok(())
+//! # }
+//! ```
+
+mod answers;
+mod event;
+mod events;
+mod frame;
+mod hex;
+mod names;
+mod reading;
+mod refusal;
+pub mod script;
+mod trace;
+mod value;
+
+pub use answers::{ActResult, Arrived, CallResult, ReplyFate, SettledItem};
+pub use event::{Answer, Event, Job, Outcome};
+pub use events::{ArriveError, Due, Space, StreamError, Work};
+pub use frame::{Frame, FrameFault, FrameKind, Frames};
+pub use names::{CallNo, ItemNo, JobNo, Limits, Reason, Reference, SpaceId};
+pub use reading::NoText;
+pub use refusal::{Refusal, SpaceError, Use};
+pub use trace::Trace;
+pub use value::{PickleFault, Value};

@@ -1,0 +1,167 @@
+//! Scripts of a world: spaces in one process, and the frames between them, as `nobj script` has them.
+
+use super::event::{Answer, Event};
+use super::events::Space;
+use super::frame::Frame;
+use super::names::{Limits, SpaceId};
+use super::reading::{opening_of, step_of};
+use super::refusal::SpaceError;
+use std::fmt::{self, Write};
+
+/// What the first line of a script says.
+#[derive(Clone, Copy, Debug)]
+pub struct Opening {
+    /// The last space: there are those from 1 to it.
+    pub spaces: SpaceId,
+    /// The limits of their sessions.
+    pub limits: Limits,
+}
+
+/// A step of a world.
+#[derive(Clone, Debug, PartialEq, Eq)]
+pub enum Step {
+    /// A space is asked something.
+    Do(SpaceId, Event),
+    /// The frame of this number, counted from 1 over all that were ever transmitted, arrives.
+    Deliver(u64),
+}
+
+impl fmt::Display for Step {
+    fn fmt(&self, f: &mut fmt::Formatter<'_>) -> fmt::Result {
+        match self {
+            Step::Do(space, event) => write!(f, "{space} {event}"),
+            Step::Deliver(number) => write!(f, "deliver {number}"),
+        }
+    }
+}
+
+/// Why a step isn't done.
+#[derive(Clone, Copy, Debug, PartialEq, Eq)]
+pub enum StepError {
+    /// X1: there is no such space.
+    NoSpace,
+    /// X2: no such frame was transmitted.
+    NoFrame,
+    /// The space doesn't do it.
+    Space(SpaceError),
+}
+
+impl fmt::Display for StepError {
+    fn fmt(&self, f: &mut fmt::Formatter<'_>) -> fmt::Result {
+        f.write_str(match self {
+            StepError::NoSpace => "X1",
+            StepError::NoFrame => "X2",
+            StepError::Space(SpaceError::Refused(refusal)) => refusal.name(),
+            StepError::Space(SpaceError::OutOfMemory) => "S14",
+        })
+    }
+}
+
+/// Spaces of one process and the frames that they gave. Each space keeps its trace, and the stamps
+/// of all traces come from one clock, so that together they say in which order everything was.
+#[derive(Debug)]
+pub struct World {
+    spaces: Vec<Space>,
+    frames: Vec<Frame>,
+    stamp: u64,
+}
+
+impl World {
+    /// Spaces that did nothing. Only memory fails it.
+    pub fn new(opening: Opening) -> Result<World, SpaceError> {
+        let Opening { spaces, limits } = opening;
+        let all = spaces.up_to().map(|id| {
+            let mut space = Space::new(id, spaces, limits)?;
+            space.keep_trace();
+            Ok::<_, SpaceError>(space)
+        });
+        Ok(World { spaces: all.collect::<Result<_, _>>()?, frames: Vec::new(), stamp: 0 })
+    }
+
+    /// One step: what its space answers. It is written as a script has it.
+    pub fn step(&mut self, step: &Step) -> Result<Answer, StepError> {
+        let answer = match step {
+            Step::Do(space, event) => self.ask(*space, event)?,
+            Step::Deliver(number) => {
+                let frame = self.frame(*number).ok_or(StepError::NoFrame)?.clone();
+                self.ask(frame.to(), &Event::Arrive(frame))?
+            }
+        };
+        if let Answer::Frames(frames) = &answer {
+            self.frames.extend(frames.iter());
+        }
+        Ok(answer)
+    }
+
+    /// The frame of a number, counted from 1.
+    pub fn frame(&self, number: u64) -> Option<&Frame> {
+        self.frames.get(usize::try_from(number).ok()?.checked_sub(1)?)
+    }
+
+    /// How many frames were transmitted.
+    pub fn frame_count(&self) -> u64 {
+        self.frames.len() as u64
+    }
+
+    /// The spaces, from 1 on.
+    pub fn spaces(&self) -> &[Space] {
+        &self.spaces
+    }
+
+    /// The traces of all spaces, one after the other: what `nobj check` reads.
+    pub fn traces(&self) -> String {
+        self.spaces.iter().filter_map(Space::trace).map(|trace| trace.to_string()).collect()
+    }
+
+    fn ask(&mut self, space: SpaceId, event: &Event) -> Result<Answer, StepError> {
+        let place = usize::from(space.get()) - 1;
+        let space = self.spaces.get_mut(place).ok_or(StepError::NoSpace)?;
+        space.rise_to(self.stamp);
+        let result = space.step(event);
+        self.stamp = space.stamp();
+        result.map_err(StepError::Space)
+    }
+}
+
+/// Makes the steps of a script, whose last line may lack its newline, and writes them with their
+/// results, up to the first line that is no step, which it names. With it comes the world, where
+/// all lines were read. The verdict, which `nobj script` writes as the last line, isn't judged here:
+/// `nobj check` reads it off the world's traces.
+pub fn play(script: &[u8]) -> Result<(String, Option<World>), SpaceError> {
+    let script = script.strip_suffix(b"\n").unwrap_or(script);
+    let mut lines = script.split(|byte| *byte == b'\n').map(|line| str::from_utf8(line).ok());
+    let first = lines.next().flatten().unwrap_or_default();
+    let Some(opening) = opening_of(first) else {
+        return Ok(("line 1: bad step\n".into(), None));
+    };
+    let mut world = World::new(opening)?;
+    let mut text = format!("{first}\n");
+    for (place, line) in lines.enumerate() {
+        let Some((line, step)) = line.and_then(|line| Some((line, step_of(line)?))) else {
+            text.push_str(&format!("line {}: bad step\n", place + 2));
+            return Ok((text, None));
+        };
+        put_step(&mut text, line, &mut world, &step);
+    }
+    Ok((text, Some(world)))
+}
+
+// Makes a step and writes it with its result.
+fn put_step(text: &mut String, line: &str, world: &mut World, step: &Step) {
+    let before = world.frame_count();
+    let written = match world.step(step) {
+        Ok(Answer::Frames(frames)) => numbers(before, frames.iter().count() as u64),
+        Ok(answer) => answer.to_string(),
+        Err(error) => error.to_string(),
+    };
+    writeln!(text, "{line} = {written}").expect("a String takes any text");
+}
+
+// The numbers of so many frames behind so many others.
+fn numbers(before: u64, count: u64) -> String {
+    if count == 0 {
+        return "frames none".into();
+    }
+    let numbers = (before + 1..=before + count).map(|number| format!(" {number}"));
+    format!("frames{}", numbers.collect::<String>())
+}

@@ -1,0 +1,83 @@
+//! Traces: what a space was asked and answered, as the text that `nobj check` reads.
+
+use super::event::{Answer, Event};
+use super::names::{Limits, SpaceId};
+use super::refusal::Refusal;
+use std::fmt::{self, Write};
+
+/// What one space was asked and answered, in order, each entry with its stamp. Its text is a trace:
+/// the traces of all spaces, written one after the other, are what `nobj check` reads.
+///
+/// Stamps rise by one from entry to entry, and more where `rise_to` says so. Several traces are
+/// merged by their stamps, and a frame must be transmitted before it arrives in what they make
+/// together. So where frames come from elsewhere, carry beside each the stamp of the entry that
+/// transmitted it, and rise to it before the frame arrives.
+#[derive(Clone, Debug)]
+pub struct Trace {
+    space: SpaceId,
+    spaces: SpaceId,
+    limits: Limits,
+    count: u64,
+    stamp: u64,
+    lines: String,
+}
+
+impl Trace {
+    /// A trace without entries, of a space among those from 1 to `spaces`.
+    pub fn new(space: SpaceId, spaces: SpaceId, limits: Limits) -> Trace {
+        Trace { space, spaces, limits, count: 0, stamp: 0, lines: String::new() }
+    }
+
+    /// The stamp of the last entry, or what it was risen to since.
+    pub fn stamp(&self) -> u64 {
+        self.stamp
+    }
+
+    /// The next entry has a stamp above this one, if it is below 2^63: so whatever stamps others
+    /// send, there are some left.
+    pub fn rise_to(&mut self, stamp: u64) {
+        if stamp < 1 << 63 {
+            self.stamp = self.stamp.max(stamp);
+        }
+    }
+
+    /// Puts an entry behind the others, with a stamp above the last one.
+    pub fn push(&mut self, event: &Event, result: &Result<Answer, Refusal>) {
+        self.count += 1;
+        self.stamp += 1;
+        let (stamp, lines) = (self.stamp, &mut self.lines);
+        match result {
+            Ok(answer) => writeln!(lines, "{stamp} {event} = {answer}"),
+            Err(refusal) => writeln!(lines, "{stamp} {event} = {}", refusal.name()),
+        }
+        .expect("a String takes any text");
+    }
+
+    /// How many entries there are.
+    pub fn count(&self) -> u64 {
+        self.count
+    }
+
+    /// Takes the lines that weren't taken yet: they are in the trace no more, and are counted still.
+    pub fn take_lines(&mut self) -> String {
+        std::mem::take(&mut self.lines)
+    }
+
+    /// The lines of all entries that weren't taken, without the trace's first line.
+    pub fn lines(&self) -> &str {
+        &self.lines
+    }
+
+    /// The first line of a trace with so many entries.
+    pub fn first_line(space: SpaceId, spaces: SpaceId, limits: Limits, count: u64) -> String {
+        let (window, retry) = (limits.window(), limits.retry());
+        format!("trace {space} of {spaces} window {window} retry {retry} entries {count}\n")
+    }
+}
+
+impl fmt::Display for Trace {
+    fn fmt(&self, f: &mut fmt::Formatter<'_>) -> fmt::Result {
+        f.write_str(&Trace::first_line(self.space, self.spaces, self.limits, self.count))?;
+        f.write_str(&self.lines)
+    }
+}

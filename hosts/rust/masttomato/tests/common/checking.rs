@@ -1,0 +1,76 @@
+//! Whether traces are together a run: each answer is what a space answers (it is asked all of it
+//! again), and each frame that arrives was transmitted before. `nobj check` says more, where it is there.
+
+use masttomato::space::{Event, Limits, Space, SpaceId};
+use std::collections::HashMap;
+
+/// What is wrong with the traces, which each begin with their first lines.
+pub fn fault_of(traces: &[String]) -> Option<String> {
+    let mut given: HashMap<&str, (u64, usize)> = HashMap::new();
+    for (place, trace) in traces.iter().enumerate() {
+        for (stamp, event, result) in entries(trace) {
+            if event.starts_with("send ") {
+                for frame in result.split(' ').skip(1) {
+                    let first = given.entry(frame).or_insert((stamp, place));
+                    *first = (*first).min((stamp, place));
+                }
+            }
+        }
+    }
+    for (place, trace) in traces.iter().enumerate() {
+        for (stamp, event, _) in entries(trace) {
+            let Some(frame) = event.strip_prefix("arrive ") else { continue };
+            match given.get(frame) {
+                None => return Some(format!("{}: {stamp} came from nobody", place + 1)),
+                Some(first) if *first >= (stamp, place) => {
+                    return Some(format!("{}: {stamp} came before it was transmitted", place + 1));
+                }
+                Some(_) => {}
+            }
+        }
+    }
+    traces.iter().find_map(|trace| replay_fault(trace))
+}
+
+fn entries(trace: &str) -> impl Iterator<Item = (u64, &str, &str)> {
+    trace.lines().skip(1).map(|line| {
+        let (stamp, entry) = line.split_once(' ').expect("a stamp");
+        let (event, result) = entry.split_once(" = ").expect("an event and its result");
+        (stamp.parse().expect("a number"), event, result)
+    })
+}
+
+/// What a space answers otherwise than its trace says.
+pub fn replay_fault(trace: &str) -> Option<String> {
+    let mut lines = trace.lines();
+    let mut space = space_of(lines.next().expect("a first line"));
+    for line in lines {
+        let (stamp, entry) = line.split_once(' ').expect("a stamp");
+        let (event, _) = entry.split_once(" = ").expect("an event and its result");
+        let event: Event = event.parse().unwrap_or_else(|_| panic!("no event: {event}"));
+        space.rise_to(stamp.parse::<u64>().expect("a stamp") - 1);
+        let _ = space.step(&event);
+    }
+    let played = space.trace().expect("a trace").to_string();
+    let differs = played.lines().zip(trace.lines()).find(|(played, wanted)| played != wanted);
+    match differs {
+        Some((played, wanted)) => Some(format!("played {played}, wanted {wanted}")),
+        None if played.len() != trace.len() => Some("a trace of another length".into()),
+        None => None,
+    }
+}
+
+// A space as the first line of a trace says: `trace S of N window W retry R entries K`.
+fn space_of(line: &str) -> Space {
+    let words: Vec<&str> = line.split(' ').collect();
+    let ["trace", space, "of", spaces, "window", window, "retry", retry, "entries", _] = words[..]
+    else {
+        panic!("{line}");
+    };
+    let number = |text: &str| text.parse::<u16>().expect("a number");
+    let space_of = |text| SpaceId::new(number(text)).expect("a space");
+    let limits = Limits::new(number(window) as u8, number(retry) as u8).expect("limits");
+    let mut space = Space::new(space_of(space), space_of(spaces), limits).expect("memory");
+    space.keep_trace();
+    space
+}

@@ -1,0 +1,75 @@
+//! The worked examples of the repository's examples/, through this crate.
+
+mod common;
+
+use common::checking::replay_fault;
+use common::{file, files, nobj};
+use masttomato::space::script;
+
+const HAS_VERDICT: &str = "verdict yes\n";
+
+#[test]
+fn scripts_give_what_is_stated() {
+    let scripts = files("examples/spaces/world", ".in");
+    assert!(scripts.len() >= 8, "{scripts:?}");
+    play_scripts(scripts);
+}
+
+// More scripts and traces than the repository has, in the folders `world` and `space` of the one that
+// MASTTOMATO_VECTORS names.
+#[test]
+fn further_scripts_and_traces_give_what_is_stated() {
+    let Ok(folder) = std::env::var("MASTTOMATO_VECTORS") else { return };
+    let (scripts, traces) =
+        (files(&format!("{folder}/world"), ".in"), files(&format!("{folder}/space"), ".trace"));
+    println!("{} scripts and {} traces", scripts.len(), traces.len());
+    play_scripts(scripts);
+    for name in traces {
+        assert_played_again(&name, &file(&format!("{name}.trace")));
+    }
+}
+
+fn play_scripts(scripts: Vec<String>) {
+    for name in scripts {
+        let (input, wanted) = (file(&format!("{name}.in")), file(&format!("{name}.out")));
+        let (text, world) = script::play(input.as_bytes()).expect("memory");
+        let Some(world) = world else {
+            assert_eq!(text, wanted, "{name}");
+            continue;
+        };
+        assert_eq!(text + HAS_VERDICT, wanted, "{name}");
+        if let Some(checked) = nobj("check", world.traces().as_bytes()) {
+            assert!(checked.ends_with(HAS_VERDICT), "{name}: {checked}");
+        }
+    }
+}
+
+#[test]
+fn spaces_answer_as_the_traces_say() {
+    let traces = files("examples/spaces/space", ".trace");
+    assert!(traces.len() >= 13, "{traces:?}");
+    for name in traces {
+        assert_played_again(&name, &file(&format!("{name}.trace")));
+    }
+}
+
+#[test]
+fn spaces_answer_as_the_accepted_sets_of_traces_say() {
+    let sets = files("examples/spaces/check", ".traces");
+    let accepted = |name: &String| file(&format!("{name}.out")).ends_with(HAS_VERDICT);
+    let sets: Vec<String> = sets.into_iter().filter(accepted).collect();
+    assert!(sets.len() >= 8, "{sets:?}");
+    for name in sets {
+        let text = file(&format!("{name}.traces"));
+        let places: Vec<usize> = text.match_indices("trace ").map(|(place, _)| place).collect();
+        let ends = places.iter().skip(1).copied().chain([text.len()]);
+        for (start, end) in places.iter().copied().zip(ends) {
+            assert_played_again(&name, &text[start..end]);
+        }
+    }
+}
+
+// A space that is asked what a trace says gives that trace, byte for byte.
+fn assert_played_again(name: &str, trace: &str) {
+    assert_eq!(replay_fault(trace), None, "{name}");
+}

@@ -1,0 +1,158 @@
+//! The examples of several processes, which say the same each time.
+
+use std::fs;
+use std::io::{BufRead, BufReader, Write};
+use std::net::TcpListener;
+use std::path::PathBuf;
+use std::process::{Child, ChildStdout, Command, Stdio};
+use std::sync::atomic::{AtomicU16, Ordering::SeqCst};
+
+const COUNTER: &str = "\
+space 2: looked the counter up
+space 2: added 39 times 1: 39
+space 2: handed it to space 3, and dropped it
+space 3: added 3: 42, and dropped it
+space 1: nobody has the counter any more, and it is dropped
+the connection was cut: true
+space 3 is killed
+space 1: the session with space 3 closed for reason 3
+space 2: the session with space 3 closed for reason 3
+";
+
+// An example that was built beside this test.
+fn example(name: &str) -> Command {
+    let this = std::env::current_exe().expect("this test's program");
+    let folder = this.ancestors().nth(2).expect("its folder").join("examples");
+    let program = folder.join(name);
+    assert!(program.is_file(), "cargo build --examples makes {}", program.display());
+    Command::new(program)
+}
+
+#[test]
+fn a_counter_over_three_processes() {
+    let output = example("counter").stderr(Stdio::inherit()).output().expect("the example");
+    let said = String::from_utf8_lossy(&output.stdout);
+    let (played, last) = said.trim_end().rsplit_once('\n').expect("lines");
+    assert_eq!(format!("{played}\n"), COUNTER);
+    assert!(matches!(last, "verdict yes" | "not checked: there is no nobj"), "{last}");
+    eprintln!("{last}");
+    assert!(output.status.success());
+}
+
+// A port that is free, and that no listener on port 0 is ever given: below those that systems give.
+fn port() -> u16 {
+    static NEXT: AtomicU16 = AtomicU16::new(0);
+    loop {
+        let port =
+            11_000 + (std::process::id() as u16 % 1_000) * 20 + NEXT.fetch_add(1, SeqCst) % 20;
+        if TcpListener::bind(("127.0.0.1", port)).is_ok() {
+            return port;
+        }
+    }
+}
+
+/// A folder that goes with the test, and a list of peers: so many, and all others have no address.
+struct Place(PathBuf);
+
+impl Place {
+    fn new(name: &str, spaces: u16) -> Place {
+        let folder = std::env::temp_dir().join(format!("masttomato-{name}-{}", std::process::id()));
+        fs::create_dir_all(&folder).expect("a folder");
+        let line = |number: u16| format!("{number} 127.0.0.1:{}\n", port());
+        let peers: String = (1..=spaces).map(line).collect();
+        let others = format!("{}..=32 127.0.0.1:0\n", spaces + 1);
+        fs::write(folder.join("world.peers"), peers + &others).expect("a file");
+        Place(folder)
+    }
+}
+
+impl Drop for Place {
+    fn drop(&mut self) {
+        let _removed = fs::remove_dir_all(&self.0);
+    }
+}
+
+/// A process that ends with the test.
+struct Running(Child, BufReader<ChildStdout>);
+
+impl Running {
+    fn start(command: &mut Command) -> Running {
+        let mut child =
+            command.stdin(Stdio::piped()).stdout(Stdio::piped()).spawn().expect("a program");
+        let said = BufReader::new(child.stdout.take().expect("a pipe"));
+        Running(child, said)
+    }
+
+    fn hears(&mut self, wanted: &str) {
+        let mut line = String::new();
+        self.1.read_line(&mut line).expect("a line");
+        assert_eq!(line.trim_end(), wanted);
+    }
+
+    fn says(&mut self, line: &str) {
+        let stdin = self.0.stdin.as_mut().expect("a pipe");
+        writeln!(stdin, "{line}").expect("it runs");
+    }
+}
+
+impl Drop for Running {
+    fn drop(&mut self) {
+        let _ended = (self.0.kill(), self.0.wait());
+    }
+}
+
+#[test]
+fn the_quick_start() {
+    let place = Place::new("quick-start", 1);
+    let _owner = Running::start(example("quick_start").current_dir(&place.0).arg("owner"));
+    let run = |number: &str| {
+        let mut command = example("quick_start");
+        command.current_dir(&place.0).arg(number);
+        command.output().expect("it ends")
+    };
+    for (number, total) in [("2", "20\n"), ("3", "40\n")] {
+        assert_eq!(String::from_utf8_lossy(&run(number).stdout), total);
+    }
+    // A number that was used is refused, in words.
+    let again = run("2");
+    let said = String::from_utf8_lossy(&again.stderr);
+    assert!(!again.status.success() && said.contains("NumberUsed"), "{said}");
+}
+
+#[test]
+fn a_chat_of_three() {
+    let place = Place::new("chat", 3);
+    let start = |number: &str, name: &str| {
+        let mut command = example("chat");
+        Running::start(command.current_dir(&place.0).args(["world.peers", number, name]))
+    };
+    let mut ann = start("1", "ann");
+    ann.hears("ann: is here");
+    ann.hears("0 were here before");
+    let mut ben = start("2", "ben");
+    ann.hears("ben: is here");
+    ben.hears("ben: is here");
+    ben.hears("1 were here before");
+    let mut cas = start("3", "cas");
+    for who in [&mut ann, &mut ben, &mut cas] {
+        who.hears("cas: is here");
+    }
+    cas.hears("2 were here before");
+    for (place, line) in [(0, "good evening"), (1, "has anybody seen the cat?"), (2, "on the mat")]
+    {
+        [&mut ann, &mut ben, &mut cas][place].says(line);
+        let name = ["ann", "ben", "cas"][place];
+        for who in [&mut ann, &mut ben, &mut cas] {
+            who.hears(&format!("{name}: {line}"));
+        }
+    }
+    // One leaves in order; of one that is killed the others are told once it can't be told anything.
+    drop(ben.0.stdin.take());
+    assert!(ben.0.wait().expect("it ends").success());
+    ann.hears("ben: has left");
+    cas.hears("ben: has left");
+    drop(cas);
+    ann.says("is anybody there?");
+    ann.hears("ann: is anybody there?");
+    ann.hears("cas: has left");
+}

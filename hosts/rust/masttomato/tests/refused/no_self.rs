@@ -1,0 +1,7 @@
+//~ a method of an interface takes &mut self: an object runs one call at a time
+#[masttomato::interface]
+pub trait Greeter {
+    fn greet(name: String) -> String;
+}
+
+fn main() {}

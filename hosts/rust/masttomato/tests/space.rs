@@ -1,0 +1,231 @@
+//! What a space says by its own methods.
+
+mod common;
+
+use common::file;
+use masttomato::space::{
+    Answer, Arrived, CallResult, Due, Event, FrameFault, Limits, Outcome, PickleFault, Reason,
+    Reference, Refusal, ReplyFate, Space, SpaceError, SpaceId, StreamError, Use, Value,
+};
+
+fn id(number: u16) -> SpaceId {
+    SpaceId::new(number).expect("a space")
+}
+
+// All spaces from 1 on, each with a trace.
+fn spaces<const N: usize>() -> [Space; N] {
+    std::array::from_fn(|place| {
+        let mut space = Space::new(id(place as u16 + 1), id(N as u16), Limits::default()).unwrap();
+        space.keep_trace();
+        space
+    })
+}
+
+fn refused(refusal: Refusal) -> SpaceError {
+    SpaceError::Refused(refusal)
+}
+
+fn used(left: Use) -> Result<(), SpaceError> {
+    Err(refused(Refusal::StillUsed(left)))
+}
+
+// Carries frames to and fro, and has both do what they can, until there are no more.
+fn exchange(one: &mut Space, other: &mut Space) {
+    while carry(one, other) | carry(other, one) {}
+}
+
+fn carry(from: &mut Space, to: &mut Space) -> bool {
+    let frames = from.transmit(to.id()).unwrap();
+    for frame in frames.iter() {
+        to.arrive(&frame).unwrap();
+    }
+    while to.act(from.id()).is_ok() | to.settle().is_ok() | to.clean().is_ok() {}
+    !frames.is_empty()
+}
+
+#[test]
+fn a_reference_lives_as_long_as_somebody_holds_it() {
+    let [mut one, mut two, mut three] = spaces();
+    let object = one.export().unwrap();
+    let call = one.call(id(2).agent(), 1, &Value::Ref(object)).unwrap();
+    one.release(object).unwrap();
+    assert_eq!(one.withdraw(object.index), used(Use::InTransit));
+
+    exchange(&mut one, &mut two);
+    two.dup(object).unwrap();
+    let job = two.claim().unwrap();
+    assert_eq!((job.client, job.target, job.value), (id(1), 0, Value::Ref(object)));
+    assert_eq!(two.finish(job.job, &Outcome::Answer(Value::Unit)), Ok(ReplyFate::HandedOn));
+    assert!(!one.reply_ready(call));
+    exchange(&mut one, &mut two);
+    assert!(one.reply_ready(call));
+    let replied = CallResult::Replied { status: 0, value: Value::Unit };
+    assert_eq!(one.take_reply(call), Ok(replied));
+    assert!(one.lists(object.index, id(2)) && !one.lists(object.index, id(3)));
+    assert_eq!(one.withdraw(object.index), used(Use::Listed));
+
+    two.call(id(3).agent(), 1, &Value::Ref(object)).unwrap();
+    two.release(object).unwrap();
+    exchange(&mut two, &mut three);
+    exchange(&mut one, &mut three);
+    exchange(&mut two, &mut three);
+    exchange(&mut one, &mut two);
+    assert!(one.lists(object.index, id(3)) && !one.lists(object.index, id(2)));
+    let job = three.claim().unwrap();
+    three.finish(job.job, &Outcome::Fault(Value::Int(7))).unwrap();
+    exchange(&mut one, &mut three);
+    assert_eq!(one.work().withdraw, Some(object.index));
+    assert_eq!(one.withdraw(object.index), Ok(()));
+    assert_eq!(one.withdraw(object.index), Err(refused(Refusal::NoObject)));
+    assert_eq!(one.withdraw(0), used(Use::Agent));
+}
+
+#[test]
+fn a_stream_may_be_cut_anywhere() {
+    let mut stream = Vec::new();
+    let [mut one, _] = spaces();
+    for number in 0..5 {
+        let value = Value::List(vec![Value::Int(number), Value::Bytes(vec![1; 50])]);
+        one.call(id(2).agent(), 0, &value).unwrap();
+    }
+    stream.extend_from_slice(one.transmit(id(2)).unwrap().as_bytes());
+    let [_, mut whole] = spaces();
+    assert_eq!(whole.push(id(1), &stream), Ok(5));
+    assert_eq!(whole.push(id(1), &stream), Err(StreamError::Waiting));
+    let mut arrivals = 0;
+    while let Some(arrived) = whole.arrive_next() {
+        assert_eq!(arrived, Ok(Arrived::Took(1)));
+        arrivals += 1;
+    }
+    assert_eq!(arrivals, 5);
+    for size in 1..stream.len() {
+        let [_, mut cut] = spaces();
+        for piece in stream.chunks(size) {
+            cut.push(id(1), piece).unwrap();
+            while let Some(arrived) = cut.arrive_next() {
+                arrived.unwrap();
+            }
+        }
+        assert_eq!(cut.trace().unwrap().to_string(), whole.trace().unwrap().to_string());
+    }
+}
+
+#[test]
+fn a_stream_of_other_bytes_is_refused_until_it_is_restarted() {
+    let [mut one, mut two] = spaces();
+    one.call(id(2).agent(), 0, &Value::Unit).unwrap();
+    let frames = one.transmit(id(2)).unwrap();
+    let fault = Err(StreamError::Fault(FrameFault::Version));
+    let mut changed = frames.as_bytes().to_vec();
+    changed[1] = 9;
+    assert_eq!(two.push(id(1), &changed), fault);
+    assert_eq!(two.push(id(1), frames.as_bytes()), fault);
+    two.restart(id(1));
+    assert_eq!(two.push(id(1), frames.as_bytes()), Ok(1));
+    assert_eq!(two.arrive_next(), Some(Ok(Arrived::Took(1))));
+    assert_eq!(two.arrive_next(), None);
+}
+
+#[test]
+fn a_frame_of_others_that_waits_is_refused() {
+    let [mut one, _, mut three] = spaces();
+    one.call(id(2).agent(), 0, &Value::Unit).unwrap();
+    let frames = one.transmit(id(2)).unwrap();
+    assert_eq!(three.push(id(1), frames.as_bytes()), Ok(1));
+    assert_eq!(three.arrive_next(), Some(Err(refused(Refusal::NoPeer))));
+    let frame = frames.iter().next().unwrap();
+    let entry = format!("1 arrive {frame} = S1\n");
+    assert_eq!(three.trace().unwrap().lines(), entry);
+}
+
+#[test]
+fn a_value_without_a_pickle_is_refused_in_its_turn() {
+    let [mut one, mut two] = spaces();
+    let value = Value::Bytes(vec![0; 8_193]);
+    assert_eq!(value.encode(), Err(PickleFault::Bytes));
+    let mut call = |target| one.call(target, 0, &value);
+    let held = Reference { owner: id(2), index: 1 };
+    assert_eq!(call(id(3).agent()), Err(refused(Refusal::NoPeer)));
+    assert_eq!(call(held), Err(refused(Refusal::NotHeld)));
+    assert_eq!(call(id(2).agent()), Err(refused(Refusal::TooBig)));
+    let too_big = Outcome::Answer(value.clone());
+    one.call(id(2).agent(), 0, &Value::Unit).unwrap();
+    exchange(&mut one, &mut two);
+    let job = two.claim().unwrap().job;
+    assert_eq!(two.finish(job, &too_big), Err(refused(Refusal::TooBig)));
+    two.close(id(1)).unwrap();
+    assert_eq!(two.finish(job, &too_big), Ok(ReplyFate::Dropped));
+    assert_eq!(two.finish(job, &too_big), Err(refused(Refusal::NoJob)));
+    assert_eq!(two.call(id(1).agent(), 0, &value), Err(refused(Refusal::Closed)));
+}
+
+#[test]
+fn what_is_due_is_said() {
+    let [mut one, mut two] = spaces();
+    assert_eq!(one.due(id(2)), Due::Nothing);
+    one.call(id(2).agent(), 0, &Value::Unit).unwrap();
+    assert_eq!((one.due(id(2)), one.work().send(id(2))), (Due::New, true));
+    let frames = one.transmit(id(2)).unwrap();
+    assert_eq!(one.due(id(2)), Due::Again);
+    for frame in frames.iter() {
+        two.arrive(&frame).unwrap();
+    }
+    assert_eq!((two.due(id(1)), two.work().act(id(1))), (Due::Ack, true));
+    assert_eq!(two.close(id(1)), Ok(Reason::Asked));
+    assert_eq!(two.due(id(1)), Due::Close);
+    let close = two.transmit(id(1)).unwrap().iter().next().unwrap();
+    assert_eq!(one.arrive(&close), Ok(Arrived::Closed(Reason::PeerClosed)));
+}
+
+#[test]
+fn retries_are_counted() {
+    let limits = Limits::new(1, 3).unwrap();
+    let mut space = Space::new(id(1), id(2), limits).unwrap();
+    let call = space.call(id(2).agent(), 0, &Value::Unit).unwrap();
+    space.transmit(id(2)).unwrap();
+    let ticks: Vec<_> = (0..4).map(|_| space.tick(id(2))).collect();
+    let closed = Ok(Some(Reason::RetriesUsedUp));
+    assert_eq!(ticks, [Ok(None), Ok(None), closed, Err(refused(Refusal::Closed))]);
+    assert_eq!(space.take_reply(call), Ok(CallResult::Ended));
+}
+
+#[test]
+fn a_session_takes_so_many_calls_and_no_more() {
+    let mut space = Space::new(id(1), id(2), Limits::default()).unwrap();
+    let mut made = 0;
+    let refusal = loop {
+        match space.call(id(2).agent(), 0, &Value::Unit) {
+            Ok(_) => made += 1,
+            Err(error) => break error,
+        }
+    };
+    assert_eq!((made, refusal), (4_096, refused(Refusal::Limit)));
+}
+
+#[test]
+fn an_event_and_its_method_are_one() {
+    let [mut one, _] = spaces();
+    let answer = one.step(&Event::Export).unwrap();
+    let Answer::Exported(object) = answer else { panic!("{answer:?}") };
+    assert_eq!(one.step(&Event::Dup(object)), Ok(Answer::Done));
+    let lines = one.trace().unwrap().lines();
+    assert_eq!(lines, "1 export = exported 1.1\n2 dup 1.1 = ok\n");
+    one.rise_to(70);
+    one.settle().unwrap_err();
+    let text = one.trace().unwrap().to_string();
+    let first = "trace 1 of 2 window 8 retry 16 entries 3\n";
+    assert_eq!(text, format!("{first}1 export = exported 1.1\n2 dup 1.1 = ok\n71 settle = S10\n"));
+}
+
+// The texts are those of the proved crates.
+#[test]
+fn refusals_have_the_texts_of_the_proved_crates() {
+    let sources = ["nob_model_types/src/refusal", "nob_pickle/src/fault", "nob_frame/src/fault"];
+    let sources = sources.map(|source| file(&format!("crates/{source}.rt")));
+    let has = |place: usize, text: String| {
+        assert!(sources[place].contains(&format!("#[error(\"{text}\")]")), "{text}");
+    };
+    Refusal::ALL.iter().for_each(|refusal| has(0, refusal.to_string()));
+    PickleFault::ALL.iter().for_each(|fault| has(1, fault.to_string()));
+    FrameFault::ALL.iter().for_each(|fault| has(2, fault.to_string()));
+}

@@ -1,0 +1,119 @@
+//! Worlds of engines without a network: 10,000 scripts from seeds, in which connections break at any
+//! byte and clocks jump. In each every call is answered once and carried out once at most, all objects are
+//! withdrawn once nobody holds them, and the traces of all nodes are a run. A script that fails is made
+//! shorter and printed; WORLD_SCRIPT names a file with one that is to be played again.
+
+#[path = "../common/mod.rs"]
+mod common;
+mod deeds;
+mod net;
+mod world;
+
+use common::nobj;
+use deeds::{Deed, Kind, Script};
+use std::panic::{AssertUnwindSafe, catch_unwind};
+use std::sync::atomic::{AtomicU64, Ordering::Relaxed};
+use std::thread;
+use world::World;
+
+const RUNS: u64 = 10_000;
+const THREADS: u64 = 2;
+/// `nobj check`, a process each time, judges one of so many.
+const CHECKED: u64 = 25;
+
+fn play(script: &Script) -> World {
+    let mut world = World::new(script);
+    world.play(script);
+    world.judge();
+    world
+}
+
+fn fails(script: &Script, play: impl Fn(&Script)) -> bool {
+    catch_unwind(AssertUnwindSafe(|| play(script))).is_err()
+}
+
+#[test]
+fn ten_thousand_worlds_keep_their_promises() {
+    let (closed, replies, objects, checked) =
+        (AtomicU64::new(0), AtomicU64::new(0), AtomicU64::new(0), AtomicU64::new(0));
+    let run = |seed: u64| {
+        let script = Script::of_seed(seed);
+        let played = catch_unwind(|| play(&script));
+        let Ok(world) = played else {
+            let shorter = script.shrink(|script| fails(script, |script| drop(play(script))));
+            panic!("seed {seed} fails, and so does this script:\n{shorter}");
+        };
+        let (any_closed, replied, exported) = world.sums();
+        closed.fetch_add(any_closed.into(), Relaxed);
+        replies.fetch_add(replied.into(), Relaxed);
+        objects.fetch_add(exported, Relaxed);
+        if seed.is_multiple_of(CHECKED)
+            && let Some(said) = nobj("check", world.traces().concat().as_bytes())
+        {
+            assert!(said.ends_with("\nverdict yes\n"), "seed {seed}: {said}");
+            checked.fetch_add(1, Relaxed);
+        }
+    };
+    thread::scope(|scope| {
+        for first in 1..=THREADS {
+            let run = &run;
+            scope.spawn(move || (first..=RUNS).step_by(THREADS as usize).for_each(run));
+        }
+    });
+    let [closed, replies, objects, checked] =
+        [closed, replies, objects, checked].map(AtomicU64::into_inner);
+    println!(
+        "{RUNS} worlds: {replies} replies, {objects} objects, all withdrawn; sessions closed in {closed}; \
+         nobj checked {checked}"
+    );
+    assert!(replies > 5 * RUNS && closed > RUNS / 50 && closed < RUNS / 2);
+}
+
+#[test]
+fn a_script_is_played_again() {
+    let Ok(path) = std::env::var("WORLD_SCRIPT") else { return };
+    let text = std::fs::read_to_string(path).expect("the script");
+    play(&Script::read(&text).expect("a script"));
+}
+
+#[test]
+fn a_script_has_a_text() {
+    let script = Script::of_seed(5);
+    assert_eq!(Script::read(&script.to_string()), Some(script));
+}
+
+// A network that changes bytes is seen by the first script that has anything go over it, and what is
+// left of the script is the little that is needed to see it.
+#[test]
+fn a_failure_shrinks_to_a_short_script() {
+    let spoiled = |script: &Script| {
+        let mut world = World::new(script);
+        world.spoil();
+        world.play(script);
+        world.judge();
+    };
+    let script = Script::of_seed(3);
+    assert!(fails(&script, spoiled));
+    let shorter = script.shrink(|script| fails(script, spoiled));
+    assert!(shorter.deeds.len() <= 4, "{shorter}");
+}
+
+// A connection that is cut behind each byte of a call and its reply, one after the other.
+#[test]
+fn a_connection_may_be_cut_behind_each_byte() {
+    let deed = |kind, node, with, how| Deed { kind, node, with, how };
+    for cut in 0..400 {
+        let deeds = vec![
+            deed(Kind::Export, 0, 0, 0),
+            deed(Kind::Call, 0, 1, 1),
+            deed(Kind::Turn, 0, 0, 1_999),
+            deed(Kind::Carry, 0, 0, cut),
+            deed(Kind::Turn, 1, 0, 1_999),
+            deed(Kind::Carry, 1, 0, cut),
+            deed(Kind::Break, (cut / 200) % 2, 0, cut),
+            deed(Kind::Connect, 0, 0, 0),
+        ];
+        let world = play(&Script { nodes: 2, give_up: 600, deeds });
+        assert_eq!(world.sums(), (false, 1, 1), "cut behind {cut}");
+    }
+}

@@ -1,0 +1,343 @@
+//! A world: engines in one thread, with a network and clocks that are made up.
+
+use crate::common::checking::fault_of;
+use crate::deeds::{Deed, Kind, Script};
+use crate::net::Net;
+use masttomato::engine::{Answered, Engine, Life, Session, Settings, Ticket};
+use masttomato::space::{Job, Limits, Outcome, Reference, SpaceId, Trace, Value};
+use std::collections::HashMap;
+use std::sync::{Arc, Mutex};
+use std::time::Duration;
+
+/// A node of a world: an engine, and what its program has.
+struct Node {
+    engine: Engine,
+    now: Duration,
+    hands: Vec<Reference>,
+    jobs: Vec<Job>,
+    exported: u64,
+    withdrawn: u64,
+    lines: Arc<Mutex<String>>,
+}
+
+/// What became of a call, by its ticket.
+#[derive(Clone, Copy, Debug, Default)]
+struct Fate {
+    ran: u32,
+    answers: u32,
+    replies: u32,
+    is_abandoned: bool,
+}
+
+pub struct World {
+    nodes: Vec<Node>,
+    net: Net,
+    calls: HashMap<u64, Fate>,
+    made: u64,
+    spoils: bool,
+}
+
+pub fn space(place: usize) -> SpaceId {
+    SpaceId::new(place as u16 + 1).expect("a space")
+}
+
+impl World {
+    pub fn new(script: &Script) -> World {
+        let count = usize::from(script.nodes);
+        let node = |place| {
+            let mut settings = Settings::new(space(place), space(count - 1));
+            settings.give_up_after = Duration::from_secs(script.give_up);
+            settings.open_calls = 8;
+            let mut engine = Engine::new(settings, Duration::ZERO).expect("memory");
+            let lines = Arc::new(Mutex::new(String::new()));
+            let sink = lines.clone();
+            engine.record(Box::new(move |text: &str| {
+                sink.lock().expect("no panic").push_str(text);
+                Ok(())
+            }));
+            let (now, hands, jobs) = (Duration::ZERO, Vec::new(), Vec::new());
+            Node { engine, now, hands, jobs, exported: 0, withdrawn: 0, lines }
+        };
+        let nodes = (0..count).map(node).collect();
+        let mut world =
+            World { nodes, net: Net::default(), calls: HashMap::new(), made: 0, spoils: false };
+        for one in 0..count {
+            (0..one).for_each(|other| world.connect(one, other));
+        }
+        world
+    }
+
+    /// From now on bytes are changed on their way, which is to be seen.
+    pub fn spoil(&mut self) {
+        self.spoils = true;
+    }
+
+    pub fn play(&mut self, script: &Script) {
+        for deed in &script.deeds {
+            self.make(*deed);
+        }
+        self.heal();
+    }
+
+    fn make(&mut self, deed: Deed) {
+        let count = self.nodes.len();
+        let one = usize::from(deed.node) % count;
+        let other = (one + 1 + usize::from(deed.with) % (count - 1)) % count;
+        let (with, how) = (usize::from(deed.with), usize::from(deed.how));
+        match deed.kind {
+            Kind::Export => self.export(one),
+            Kind::Call => self.call(one, with, how),
+            Kind::Drop => self.give_back(one, with),
+            Kind::Finish => self.finish(one, with, how),
+            Kind::Abandon => self.abandon(one, with),
+            Kind::Turn => self.turn(one, 1 + how % 2_000),
+            Kind::Carry => self.carry(one, other, 1 + how % 400),
+            Kind::Break => self.break_off(one, other, how % 2 == 0),
+            Kind::Connect => self.connect(one, other),
+            Kind::Pass => self.pass(one, how),
+        }
+    }
+
+    fn export(&mut self, one: usize) {
+        let node = &mut self.nodes[one];
+        node.hands.push(node.engine.export().expect("room for an object"));
+        node.exported += 1;
+    }
+
+    // The list of the call's ticket and of some references that the node holds.
+    fn call(&mut self, one: usize, with: usize, how: usize) {
+        let count = self.nodes.len();
+        let node = &mut self.nodes[one];
+        self.made += 1;
+        let ticket = self.made * count as u64 + one as u64;
+        let others = (1..count).map(|step| space((one + step) % count).agent());
+        let targets: Vec<Reference> = node.hands.iter().copied().chain(others).collect();
+        let target = targets[with % targets.len()];
+        let passed = node.hands.iter().cycle().skip(how).take(how % 4).copied();
+        let list = [Value::Int(ticket as i64)].into_iter().chain(passed.map(Value::Ref));
+        let value = Value::List(list.take(1 + node.hands.len().min(3)).collect());
+        self.calls.insert(ticket, Fate::default());
+        node.engine.call(Ticket(ticket), target, how as u16, value);
+    }
+
+    fn give_back(&mut self, one: usize, with: usize) {
+        let node = &mut self.nodes[one];
+        if !node.hands.is_empty() {
+            let reference = node.hands.swap_remove(with % node.hands.len());
+            node.engine.release(reference);
+        }
+    }
+
+    // Ends a job: what it was passed is answered, or kept, or dropped, or a fresh object is answered.
+    fn finish(&mut self, one: usize, with: usize, how: usize) {
+        let node = &mut self.nodes[one];
+        if node.jobs.is_empty() {
+            return;
+        }
+        let job = node.jobs.swap_remove(with % node.jobs.len());
+        let passed = job.value.references();
+        for reference in passed.iter().take(how % 3) {
+            if node.engine.hold(*reference).is_ok() {
+                node.hands.push(*reference);
+            }
+        }
+        let outcome = match how % 7 {
+            0 => Outcome::Answer(Value::Unit),
+            1 => Outcome::Answer(job.value),
+            2 => Outcome::Fault(Value::List(passed.into_iter().map(Value::Ref).collect())),
+            3 => Outcome::NoMethod,
+            4 => Outcome::Answer(Value::Bytes(vec![7; 9_000])),
+            5 => Outcome::Answer(Value::Bytes(vec![7; 1 + how % 5_000])),
+            _ => {
+                let fresh = node.engine.export().expect("room for an object");
+                node.exported += 1;
+                node.engine.finish(job.job, Outcome::Answer(Value::Ref(fresh)));
+                return node.engine.release(fresh);
+            }
+        };
+        node.engine.finish(job.job, outcome);
+    }
+
+    fn abandon(&mut self, one: usize, with: usize) {
+        let count = self.nodes.len() as u64;
+        let is_its = |ticket: &u64| *ticket % count == one as u64;
+        let mut waits: Vec<u64> = self.calls.keys().copied().filter(is_its).collect();
+        waits.retain(|ticket| self.calls[ticket].answers == 0);
+        waits.sort_unstable();
+        if let Some(ticket) = waits.get(with % waits.len().max(1)) {
+            self.nodes[one].engine.abandon(Ticket(*ticket));
+            self.calls.entry(*ticket).or_default().is_abandoned = true;
+        }
+    }
+
+    // A turn, and so many bytes of each output are written.
+    fn turn(&mut self, one: usize, count: usize) {
+        let node = &mut self.nodes[one];
+        let turn = node.engine.turn(node.now);
+        node.withdrawn += turn.withdrawn.len() as u64;
+        for job in turn.jobs {
+            if let Value::List(list) = &job.value
+                && let Some(Value::Int(ticket)) = list.first()
+            {
+                self.calls.entry(*ticket as u64).or_default().ran += 1;
+            }
+            node.jobs.push(job);
+        }
+        for (Ticket(ticket), answered) in turn.answers {
+            let fate = self.calls.entry(ticket).or_default();
+            fate.answers += 1;
+            if let Answered::Replied { value, status } = answered {
+                fate.replies += u32::from(status != 3);
+                node.hands.extend(value.references());
+            }
+        }
+        for peer in turn.silent {
+            let other = usize::from(peer.get()) - 1;
+            self.break_off(one, other, false);
+        }
+        self.write(one, count);
+    }
+
+    fn write(&mut self, one: usize, count: usize) {
+        for other in (0..self.nodes.len()).filter(|other| *other != one) {
+            if self.net.is_up(one, other) {
+                let out = self.nodes[one].engine.output(space(other));
+                let left = out.left();
+                let taken = self.net.write(one, other, &left[..left.len().min(count)]);
+                out.advance(taken);
+            }
+        }
+    }
+
+    // So many bytes come from one node to the other.
+    fn carry(&mut self, one: usize, other: usize, count: usize) {
+        if self.spoils {
+            self.net.spoil(one, other);
+        }
+        let bytes = self.net.read(one, other, count);
+        let node = &mut self.nodes[other];
+        if !bytes.is_empty() {
+            node.engine.bytes(space(one), &bytes, node.now).expect("what an honest peer sends");
+        }
+    }
+
+    fn break_off(&mut self, one: usize, other: usize, both: bool) {
+        for (here, there) in [(one, other), (other, one)].into_iter().take(1 + usize::from(both)) {
+            if self.net.is_up(here, there) {
+                self.net.cut(here, there);
+                let node = &mut self.nodes[here];
+                node.engine.disconnected(space(there), node.now);
+            }
+        }
+        // Nothing that is on its way to who knows of no connection comes any more.
+        self.net.read(other, one, usize::MAX);
+    }
+
+    fn connect(&mut self, one: usize, other: usize) {
+        if self.net.is_up(one, other) && self.net.is_up(other, one) {
+            return;
+        }
+        self.break_off(one, other, true);
+        self.net.connect(one, other);
+        for (here, there) in [(one, other), (other, one)] {
+            let node = &mut self.nodes[here];
+            let life = Life(there as u64 + 100);
+            node.engine.connected(space(there), life, node.now).expect("its own life");
+        }
+    }
+
+    fn pass(&mut self, one: usize, how: usize) {
+        self.nodes[one].now += match how % 12 {
+            0 => Duration::from_secs(3_600 * (how as u64 % 5)),
+            1..=3 => Duration::from_secs(how as u64 % 8),
+            _ => Duration::from_millis(how as u64 % 30),
+        };
+    }
+
+    // All connections come back, all jobs end, all is given back, until there is nothing to do.
+    fn heal(&mut self) {
+        let count = self.nodes.len();
+        for round in 0..4_000 {
+            for one in 0..count {
+                (0..one).for_each(|other| self.connect(one, other));
+                self.nodes[one].now += Duration::from_millis(5);
+                (0..self.nodes[one].jobs.len()).for_each(|_| self.finish(one, 0, 0));
+                (0..self.nodes[one].hands.len()).for_each(|_| self.give_back(one, 0));
+                self.turn(one, usize::MAX);
+            }
+            for one in 0..count {
+                (1..count).for_each(|step| self.carry(one, (one + step) % count, usize::MAX));
+            }
+            if round % 8 == 7 && self.is_quiet() {
+                return;
+            }
+        }
+        panic!("it never gets quiet: {}", self.state());
+    }
+
+    fn is_quiet(&mut self) -> bool {
+        let is_idle = |node: &Node| {
+            node.jobs.is_empty()
+                && node.hands.is_empty()
+                && node.engine.is_settled()
+                && node.exported == node.withdrawn
+        };
+        self.net.is_quiet() && self.nodes.iter().all(is_idle) && self.has_all_answers()
+    }
+
+    fn has_all_answers(&self) -> bool {
+        self.calls.values().all(|fate| fate.is_abandoned || fate.answers > 0)
+    }
+
+    fn state(&self) -> String {
+        let state = |node: &Node| {
+            let (exported, withdrawn) = (node.exported, node.withdrawn);
+            let (jobs, hands) = (node.jobs.len(), node.hands.len());
+            let settled = node.engine.is_settled();
+            format!(
+                "{exported} exported, {withdrawn} withdrawn, {jobs} jobs, {hands} held, settled {settled}; "
+            )
+        };
+        let open = self.calls.iter().filter(|(_, fate)| !fate.is_abandoned && fate.answers == 0);
+        let open: Vec<_> = open.map(|(ticket, _)| ticket).collect();
+        self.nodes.iter().map(state).collect::<String>() + &format!("open calls {open:?}")
+    }
+
+    /// Whether each call was answered once, and ran once if it was replied to and at most once in any
+    /// case; and what is wrong with the traces.
+    pub fn judge(&self) {
+        for (ticket, fate) in &self.calls {
+            let wanted = u32::from(!fate.is_abandoned);
+            assert!(
+                fate.answers == wanted || fate.is_abandoned && fate.answers == 0,
+                "{ticket}: {fate:?}"
+            );
+            assert!(fate.ran <= 1 && fate.replies <= fate.ran, "{ticket}: {fate:?}");
+        }
+        let traces = self.traces();
+        if let Some(fault) = fault_of(&traces) {
+            panic!("{fault}");
+        }
+    }
+
+    /// The traces of all nodes.
+    pub fn traces(&self) -> Vec<String> {
+        let spaces = space(self.nodes.len() - 1);
+        let limits = Limits::new(64, 255).expect("limits");
+        let trace = |(place, node): (usize, &Node)| {
+            let lines = node.lines.lock().expect("no panic");
+            let count = lines.lines().count() as u64;
+            Trace::first_line(space(place), spaces, limits, count) + &lines
+        };
+        self.nodes.iter().enumerate().map(trace).collect()
+    }
+
+    /// Whether any session has closed, and how many calls were replied to.
+    pub fn sums(&self) -> (bool, u32, u64) {
+        let closed = self.nodes.iter().any(|node| {
+            node.engine.peers().any(|peer| matches!(node.engine.session(peer), Session::Closed(_)))
+        });
+        let replies = self.calls.values().map(|fate| fate.replies).sum();
+        (closed, replies, self.nodes.iter().map(|node| node.exported).sum())
+    }
+}

@@ -1,0 +1,68 @@
+//! The static library `nob_host`, declared for Rust: a space behind a handle, in numbers and bytes.
+//! What each function says stands in the README of `crates/nob_host`, and safe types over it are in
+//! the crate `masttomato`.
+//!
+//! There are two of it. Where the build finds a `libnob_host.a`, [`Handle`] is the proved library's
+//! (`IS_PROVED`); else it is the [`stand_in`]'s, plain Rust that gives the same answers and that nothing is
+//! proved of, so that a program is built and tested in seconds where nothing was proved. A release
+//! build without a library is refused, unless the feature `stand-in` asks for it.
+
+#[cfg(nob_host_library)]
+#[allow(unsafe_code)]
+mod library;
+pub mod stand_in;
+
+#[cfg(nob_host_library)]
+pub use library::Handle;
+#[cfg(not(nob_host_library))]
+pub use stand_in::Handle;
+
+/// The proved library's handle, where it is linked, beside the stand-in's: to compare them.
+#[cfg(nob_host_library)]
+pub mod proved {
+    pub use crate::library::Handle;
+}
+
+/// Whether [`Handle`] is that of the proved library, and not the stand-in's.
+pub const IS_PROVED: bool = cfg!(nob_host_library);
+
+/// What came of what was asked.
+#[repr(C)]
+#[derive(Clone, Copy, Debug, Default, PartialEq, Eq)]
+pub struct Told {
+    /// What kind of thing it is.
+    pub kind: u32,
+    /// A space.
+    pub space: u16,
+    /// The number of a method.
+    pub method: u16,
+    /// A number, which one depends on the kind.
+    pub number: u64,
+    /// The index of an object.
+    pub index: u64,
+    /// The number of a call.
+    pub call: u64,
+}
+
+/// What a space could do next.
+#[repr(C)]
+#[derive(Clone, Copy, Debug, Default, PartialEq, Eq)]
+pub struct Work {
+    /// Bit p - 1: whether there is an item from space p to act on.
+    pub act: u32,
+    /// Bit p - 1: whether a Transmit to space p would give a frame.
+    pub send: u32,
+    /// Whether there is something to settle.
+    pub settle: bool,
+    /// Whether there is something to give up.
+    pub clean: bool,
+    /// Whether there is something to claim.
+    pub claim: bool,
+    /// Whether an object could be withdrawn.
+    pub withdraw: bool,
+    /// The least index of such an object, or 0.
+    pub index: u64,
+}
+
+/// What a call answered: a status, and what it told.
+pub type Answered = (u32, Told);

@@ -1,0 +1,248 @@
+//! The functions of the static library, declared by hand after the README of `nob_host`. This is the
+//! one file with `unsafe` in it; what it offers is safe.
+//!
+//! What every call below meets, by what `Handle` is:
+//! - The handle is made by `Handle::new` alone, from null, and never copied or read. It is private
+//!   here, so nothing else ever sees it. `nob_end` is called once, by `Drop`, and nothing after it.
+//! - A `Handle` is neither `Send` nor `Sync`: all calls of one handle are made by one thread, so one
+//!   at a time, and none of them calls back. A signal handler, or the forked child of a process with
+//!   threads, can't make one but by unsafe code of another crate.
+//! - A pointer and a length come from one slice, which lives through the call and which nothing
+//!   writes meanwhile. The pointer of a slice is never null, and no function keeps it.
+//! - `Told` and `Work` are laid out as the library has them. They, and what bytes are copied to, are
+//!   the caller's own, and apart from the handle and from every slice.
+//! - The library allocates by the `malloc`, `realloc` and `free` of the process, which is what it
+//!   is linked with. What it allocates it frees itself.
+
+use crate::{Answered, Told, Work};
+use std::cell::UnsafeCell;
+use std::ffi::c_void;
+use std::fmt;
+
+/// The pointer by which the library knows a space. Null: it keeps nothing.
+#[repr(C)]
+struct RawHandle {
+    at: *mut c_void,
+}
+
+// Each takes a handle that keeps a space, but for `nob_new`, which takes one that keeps nothing.
+unsafe extern "C" {
+    fn nob_new(handle: *mut RawHandle, id: u16, n: u16, window: u64, retry: u64) -> u32;
+    fn nob_end(handle: *mut RawHandle);
+
+    fn nob_export(handle: *mut RawHandle, told: *mut Told) -> u32;
+    fn nob_dup(handle: *mut RawHandle, owner: u16, index: u64, told: *mut Told) -> u32;
+    fn nob_release(handle: *mut RawHandle, owner: u16, index: u64, told: *mut Told) -> u32;
+    fn nob_call(
+        handle: *mut RawHandle,
+        owner: u16,
+        index: u64,
+        method: u16,
+        pickle: *const u8,
+        length: usize,
+        told: *mut Told,
+    ) -> u32;
+    fn nob_take_reply(handle: *mut RawHandle, call: u64, told: *mut Told) -> u32;
+    fn nob_claim(handle: *mut RawHandle, told: *mut Told) -> u32;
+    fn nob_finish(
+        handle: *mut RawHandle,
+        job: u64,
+        outcome: u32,
+        pickle: *const u8,
+        length: usize,
+        told: *mut Told,
+    ) -> u32;
+    fn nob_act(handle: *mut RawHandle, peer: u16, told: *mut Told) -> u32;
+    fn nob_settle(handle: *mut RawHandle, told: *mut Told) -> u32;
+    fn nob_clean(handle: *mut RawHandle, told: *mut Told) -> u32;
+    fn nob_withdraw(handle: *mut RawHandle, index: u64, told: *mut Told) -> u32;
+    fn nob_transmit(handle: *mut RawHandle, peer: u16, told: *mut Told) -> u32;
+    fn nob_arrive(handle: *mut RawHandle, frame: *const u8, length: usize, told: *mut Told) -> u32;
+    fn nob_tick(handle: *mut RawHandle, peer: u16, told: *mut Told) -> u32;
+    fn nob_close(handle: *mut RawHandle, peer: u16, told: *mut Told) -> u32;
+
+    fn nob_push(
+        handle: *mut RawHandle,
+        peer: u16,
+        piece: *const u8,
+        length: usize,
+        told: *mut Told,
+    ) -> u32;
+    fn nob_next(handle: *mut RawHandle, told: *mut Told) -> u32;
+    fn nob_restart(handle: *mut RawHandle, peer: u16) -> u32;
+
+    fn nob_value(handle: *mut RawHandle) -> u32;
+    fn nob_answer(handle: *mut RawHandle, out: *mut u8, room: usize) -> usize;
+
+    fn nob_lists(handle: *mut RawHandle, index: u64, client: u16) -> bool;
+    fn nob_reply_ready(handle: *mut RawHandle, call: u64) -> bool;
+    fn nob_work(handle: *mut RawHandle, work: *mut Work);
+    fn nob_due(handle: *mut RawHandle, peer: u16) -> u32;
+}
+
+/// A space in the library. The cell is there since looks, too, are given a pointer that may be
+/// written through.
+pub struct Handle(UnsafeCell<RawHandle>);
+
+impl fmt::Debug for Handle {
+    fn fmt(&self, f: &mut fmt::Formatter<'_>) -> fmt::Result {
+        f.write_str("Handle")
+    }
+}
+
+impl Drop for Handle {
+    fn drop(&mut self) {
+        // SAFETY: the handle keeps a space, since only such handles leave `new`; nothing is called
+        // afterwards, since it is dropped.
+        unsafe { nob_end(self.0.get()) }
+    }
+}
+
+impl Handle {
+    /// A space, or the status that says why there is none.
+    pub fn new(id: u16, n: u16, window: u64, retry: u64) -> Result<Handle, u32> {
+        let mut raw = RawHandle { at: std::ptr::null_mut() };
+        // SAFETY: the handle is null, so it keeps nothing. If the status is another than 0 it
+        // keeps nothing afterwards either, and is forgotten.
+        match unsafe { nob_new(&mut raw, id, n, window, retry) } {
+            0 => Ok(Handle(UnsafeCell::new(raw))),
+            status => Err(status),
+        }
+    }
+
+    // Asks by a function that wants the handle and a place for what it tells. It is given both as
+    // they must be; the closures below only add numbers, and slices as said above.
+    fn ask(&mut self, function: impl FnOnce(*mut RawHandle, *mut Told) -> u32) -> Answered {
+        let mut told = Told::default();
+        let status = function(self.0.get(), &mut told);
+        (status, told)
+    }
+
+    pub fn export(&mut self) -> Answered {
+        // SAFETY: as above; it takes nothing else.
+        self.ask(|handle, told| unsafe { nob_export(handle, told) })
+    }
+
+    pub fn dup(&mut self, owner: u16, index: u64) -> Answered {
+        // SAFETY: as above; any numbers may be given.
+        self.ask(|handle, told| unsafe { nob_dup(handle, owner, index, told) })
+    }
+
+    pub fn release(&mut self, owner: u16, index: u64) -> Answered {
+        // SAFETY: as above; any numbers may be given.
+        self.ask(|handle, told| unsafe { nob_release(handle, owner, index, told) })
+    }
+
+    pub fn call(&mut self, owner: u16, index: u64, method: u16, pickle: &[u8]) -> Answered {
+        let (at, length) = (pickle.as_ptr(), pickle.len());
+        // SAFETY: as above; any numbers may be given, and the pickle is one slice.
+        self.ask(|handle, told| unsafe { nob_call(handle, owner, index, method, at, length, told) })
+    }
+
+    pub fn take_reply(&mut self, call: u64) -> Answered {
+        // SAFETY: as above; any number may be given.
+        self.ask(|handle, told| unsafe { nob_take_reply(handle, call, told) })
+    }
+
+    pub fn claim(&mut self) -> Answered {
+        // SAFETY: as above; it takes nothing else.
+        self.ask(|handle, told| unsafe { nob_claim(handle, told) })
+    }
+
+    pub fn finish(&mut self, job: u64, outcome: u32, pickle: &[u8]) -> Answered {
+        let (at, length) = (pickle.as_ptr(), pickle.len());
+        // SAFETY: as above; any numbers may be given, and the pickle is one slice.
+        self.ask(|handle, told| unsafe { nob_finish(handle, job, outcome, at, length, told) })
+    }
+
+    pub fn act(&mut self, peer: u16) -> Answered {
+        // SAFETY: as above; any number may be given.
+        self.ask(|handle, told| unsafe { nob_act(handle, peer, told) })
+    }
+
+    pub fn settle(&mut self) -> Answered {
+        // SAFETY: as above; it takes nothing else.
+        self.ask(|handle, told| unsafe { nob_settle(handle, told) })
+    }
+
+    pub fn clean(&mut self) -> Answered {
+        // SAFETY: as above; it takes nothing else.
+        self.ask(|handle, told| unsafe { nob_clean(handle, told) })
+    }
+
+    pub fn withdraw(&mut self, index: u64) -> Answered {
+        // SAFETY: as above; any number may be given.
+        self.ask(|handle, told| unsafe { nob_withdraw(handle, index, told) })
+    }
+
+    pub fn transmit(&mut self, peer: u16) -> Answered {
+        // SAFETY: as above; any number may be given.
+        self.ask(|handle, told| unsafe { nob_transmit(handle, peer, told) })
+    }
+
+    pub fn arrive(&mut self, frame: &[u8]) -> Answered {
+        let (at, length) = (frame.as_ptr(), frame.len());
+        // SAFETY: as above; any bytes may be given, and they are one slice.
+        self.ask(|handle, told| unsafe { nob_arrive(handle, at, length, told) })
+    }
+
+    pub fn tick(&mut self, peer: u16) -> Answered {
+        // SAFETY: as above; any number may be given.
+        self.ask(|handle, told| unsafe { nob_tick(handle, peer, told) })
+    }
+
+    pub fn close(&mut self, peer: u16) -> Answered {
+        // SAFETY: as above; any number may be given.
+        self.ask(|handle, told| unsafe { nob_close(handle, peer, told) })
+    }
+
+    pub fn push(&mut self, peer: u16, piece: &[u8]) -> Answered {
+        let (at, length) = (piece.as_ptr(), piece.len());
+        // SAFETY: as above; any bytes may be given, and they are one slice.
+        self.ask(|handle, told| unsafe { nob_push(handle, peer, at, length, told) })
+    }
+
+    pub fn bring_next(&mut self) -> Answered {
+        // SAFETY: as above; it takes nothing else.
+        self.ask(|handle, told| unsafe { nob_next(handle, told) })
+    }
+
+    pub fn restart(&mut self, peer: u16) -> u32 {
+        // SAFETY: as above; any number may be given.
+        unsafe { nob_restart(self.0.get(), peer) }
+    }
+
+    pub fn value(&mut self) -> u32 {
+        // SAFETY: as above; it takes nothing else.
+        unsafe { nob_value(self.0.get()) }
+    }
+
+    /// How many bytes the answer has; as many as there is room for are copied.
+    pub fn answer(&mut self, out: &mut [u8]) -> usize {
+        // SAFETY: as above; the room is one slice that nothing else sees during the call.
+        unsafe { nob_answer(self.0.get(), out.as_mut_ptr(), out.len()) }
+    }
+
+    pub fn lists(&self, index: u64, client: u16) -> bool {
+        // SAFETY: as above; any numbers may be given. The cell is borrowed by nobody, since no
+        // reference into it is ever made.
+        unsafe { nob_lists(self.0.get(), index, client) }
+    }
+
+    pub fn reply_ready(&self, call: u64) -> bool {
+        // SAFETY: as of `lists`.
+        unsafe { nob_reply_ready(self.0.get(), call) }
+    }
+
+    pub fn work(&self) -> Work {
+        let mut work = Work::default();
+        // SAFETY: as of `lists`; the work is written alone.
+        unsafe { nob_work(self.0.get(), &mut work) };
+        work
+    }
+
+    pub fn due(&self, peer: u16) -> u32 {
+        // SAFETY: as of `lists`.
+        unsafe { nob_due(self.0.get(), peer) }
+    }
+}

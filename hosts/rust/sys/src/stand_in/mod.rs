@@ -1,0 +1,296 @@
+//! A stand-in for the static library: a space by the same rules (docs/FORMATS.md, docs/SESSIONS.md,
+//! docs/REFERENCES.md) in plain Rust, with the same functions, numbers and bytes. Nothing is proved
+//! of it. Tests compare it with the proved library wherever that is linked.
+
+mod frame;
+mod item;
+mod pickle;
+mod session;
+mod space;
+mod table;
+
+use crate::{Answered, Told, Work};
+use frame::Feed;
+use pickle::Pickle;
+use space::{Space, refusal};
+use std::collections::VecDeque;
+use std::marker::PhantomData;
+
+/// A number is outside its range.
+const OUT_OF_RANGE: u32 = 60;
+const STILL_WAITING: u32 = 61;
+const NONE_WAITS: u32 = 62;
+const NO_VALUE: u32 = 63;
+/// What is added to the number of a pickle's or a frame's fault.
+const PICKLE: u32 = 20;
+const FRAME: u32 = 40;
+
+/// A reference.
+#[derive(Clone, Copy, Debug, PartialEq, Eq, Hash, PartialOrd, Ord)]
+struct Reference {
+    owner: u16,
+    index: u64,
+}
+
+// What a space answers to an event.
+#[derive(Clone, Copy, Debug)]
+enum Answer {
+    Done,
+    Ended,
+    Finished,
+    Dropped,
+    Withdrawn,
+    Reference(u32, Reference),
+    Number(u32, u64),
+    Settled(u16, u64),
+    Job { job: u64, client: u16, call: u64, target: u64, method: u16 },
+}
+
+impl Answer {
+    fn told(self) -> Told {
+        let only = |kind| Told { kind, ..Told::default() };
+        match self {
+            Answer::Done => only(2),
+            Answer::Ended => only(5),
+            Answer::Finished => only(7),
+            Answer::Dropped => only(8),
+            Answer::Withdrawn => only(13),
+            Answer::Number(kind, number) => Told { number, ..only(kind) },
+            Answer::Reference(kind, Reference { owner, index }) => {
+                Told { space: owner, index, ..only(kind) }
+            }
+            Answer::Settled(space, number) => Told { space, number, ..only(11) },
+            Answer::Job { job, client, call, target, method } => {
+                Told { kind: 6, space: client, method, number: job, index: target, call }
+            }
+        }
+    }
+}
+
+/// A space, with the answer that is kept and the streams that come to it.
+#[derive(Debug)]
+pub struct Handle {
+    space: Space,
+    feeds: Vec<Feed>,
+    waiting: VecDeque<Vec<u8>>,
+    value: Option<Vec<u8>>,
+    answer: Vec<u8>,
+    // It stays on its thread, as the library's does.
+    stays: PhantomData<*const ()>,
+}
+
+fn answered(result: Result<Answer, u32>) -> Answered {
+    match result {
+        Ok(answer) => (0, answer.told()),
+        Err(status) => (status, Told::default()),
+    }
+}
+
+fn is_space(number: u16) -> bool {
+    (1..=32).contains(&number)
+}
+
+// Asks what is about a space, whose number may be out of range.
+fn in_range(space: u16, ask: impl FnOnce() -> Result<Answer, u32>) -> Answered {
+    answered(if is_space(space) { ask() } else { Err(OUT_OF_RANGE) })
+}
+
+/// The functions of the library, each by the same name without its `nob_`: a status, and what is told.
+impl Handle {
+    /// A space, or the status that says why there is none.
+    ///
+    /// # Errors
+    /// 60 where a number is outside its range.
+    pub fn new(id: u16, n: u16, window: u64, retry: u64) -> Result<Handle, u32> {
+        let fits = (1..=64).contains(&window) && (1..=255).contains(&retry);
+        if !is_space(id) || n > 32 || id > n || !fits {
+            return Err(OUT_OF_RANGE);
+        }
+        Ok(Handle {
+            space: Space::new(id, n, window, retry),
+            feeds: (0..=32).map(|_| Feed::new()).collect(),
+            waiting: VecDeque::new(),
+            value: None,
+            answer: Vec::new(),
+            stays: PhantomData,
+        })
+    }
+
+    /// Export.
+    pub fn export(&mut self) -> Answered {
+        answered(self.space.export())
+    }
+
+    /// Dup.
+    pub fn dup(&mut self, owner: u16, index: u64) -> Answered {
+        in_range(owner, || self.space.dup(Reference { owner, index }))
+    }
+
+    /// Release.
+    pub fn release(&mut self, owner: u16, index: u64) -> Answered {
+        in_range(owner, || self.space.release(Reference { owner, index }))
+    }
+
+    /// Call.
+    pub fn call(&mut self, owner: u16, index: u64, method: u16, pickle: &[u8]) -> Answered {
+        in_range(owner, || {
+            let value = Pickle::judge(pickle).map_err(|fault| PICKLE + fault)?;
+            self.space.call(Reference { owner, index }, method, value)
+        })
+    }
+
+    /// TakeReply.
+    pub fn take_reply(&mut self, call: u64) -> Answered {
+        answered(self.space.take_reply(call).map(|(answer, value)| {
+            self.value = value.map(|value| value.bytes).or(self.value.take());
+            answer
+        }))
+    }
+
+    /// Claim.
+    pub fn claim(&mut self) -> Answered {
+        answered(self.space.claim().map(|(answer, value)| {
+            self.value = Some(value.bytes);
+            answer
+        }))
+    }
+
+    /// Finish.
+    pub fn finish(&mut self, job: u64, outcome: u32, pickle: &[u8]) -> Answered {
+        answered(match outcome {
+            0 | 1 => Pickle::judge(pickle)
+                .map_err(|fault| PICKLE + fault)
+                .and_then(|value| self.space.finish(job, outcome as u8, value)),
+            2 => self.space.finish(job, 2, Pickle::unit()),
+            _ => Err(OUT_OF_RANGE),
+        })
+    }
+
+    /// Act.
+    pub fn act(&mut self, peer: u16) -> Answered {
+        in_range(peer, || self.space.act(peer))
+    }
+
+    /// Settle.
+    pub fn settle(&mut self) -> Answered {
+        answered(self.space.settle())
+    }
+
+    /// Clean.
+    pub fn clean(&mut self) -> Answered {
+        answered(self.space.clean())
+    }
+
+    /// Withdraw.
+    pub fn withdraw(&mut self, index: u64) -> Answered {
+        answered(self.space.withdraw(index))
+    }
+
+    /// Transmit.
+    pub fn transmit(&mut self, peer: u16) -> Answered {
+        in_range(peer, || {
+            let (bytes, count) = self.space.transmit(peer)?;
+            self.answer = bytes;
+            Ok(Answer::Number(14, count))
+        })
+    }
+
+    /// Arrive.
+    pub fn arrive(&mut self, bytes: &[u8]) -> Answered {
+        answered(match frame::whole(bytes) {
+            Ok(frame) => self.space.arrive(&frame),
+            Err(fault) => Err(FRAME + fault),
+        })
+    }
+
+    /// Tick.
+    pub fn tick(&mut self, peer: u16) -> Answered {
+        in_range(peer, || self.space.tick(peer))
+    }
+
+    /// Close.
+    pub fn close(&mut self, peer: u16) -> Answered {
+        in_range(peer, || self.space.asked_to_close(peer))
+    }
+
+    /// The next piece of a stream of frames.
+    pub fn push(&mut self, peer: u16, piece: &[u8]) -> Answered {
+        in_range(peer, || {
+            if !self.waiting.is_empty() {
+                return Err(STILL_WAITING);
+            }
+            let frames =
+                self.feeds[usize::from(peer)].push(piece).map_err(|fault| FRAME + fault)?;
+            self.waiting = frames.into();
+            Ok(Answer::Number(16, self.waiting.len() as u64))
+        })
+    }
+
+    /// The first frame that waits arrives.
+    pub fn bring_next(&mut self) -> Answered {
+        let Some(bytes) = self.waiting.pop_front() else {
+            return (NONE_WAITS, Told::default());
+        };
+        self.answer = bytes;
+        match frame::whole(&self.answer) {
+            Ok(frame) => answered(self.space.arrive(&frame)),
+            Err(_) => (refusal::NO_PEER, Told::default()),
+        }
+    }
+
+    /// A new stream from a peer.
+    pub fn restart(&mut self, peer: u16) -> u32 {
+        if !is_space(peer) {
+            return OUT_OF_RANGE;
+        }
+        self.feeds[usize::from(peer)] = Feed::new();
+        0
+    }
+
+    /// The kept value's pickle becomes the answer.
+    pub fn value(&mut self) -> u32 {
+        let Some(value) = &self.value else { return NO_VALUE };
+        self.answer.clone_from(value);
+        0
+    }
+
+    /// How many bytes the answer has; as many as there is room for are copied.
+    pub fn answer(&mut self, out: &mut [u8]) -> usize {
+        let length = self.answer.len().min(out.len());
+        out[..length].copy_from_slice(&self.answer[..length]);
+        self.answer.len()
+    }
+
+    /// Whether a client is listed for an object.
+    pub fn lists(&self, index: u64, client: u16) -> bool {
+        self.space.is_listed(index, client)
+    }
+
+    /// Whether TakeReply of a call would say anything but that it isn't ready.
+    pub fn reply_ready(&self, call: u64) -> bool {
+        self.space.reply_ready(call)
+    }
+
+    /// What the space could do next.
+    pub fn work(&self) -> Work {
+        let bits = |holds: &dyn Fn(u16) -> bool| {
+            let peers = self.space.peers().filter(|peer| holds(*peer));
+            peers.fold(0, |bits, peer| bits | 1 << (peer - 1))
+        };
+        let unused = self.space.first_unused();
+        Work {
+            act: bits(&|peer| self.space.session(peer).front().is_some()),
+            send: bits(&|peer| self.space.session(peer).due() != 0),
+            settle: self.space.can_settle(),
+            clean: self.space.can_clean(),
+            claim: self.space.can_claim(),
+            withdraw: unused.is_some(),
+            index: unused.unwrap_or(0),
+        }
+    }
+
+    /// What a Transmit to a peer would give.
+    pub fn due(&self, peer: u16) -> u32 {
+        if self.space.is_peer(peer) { self.space.session(peer).due() } else { 0 }
+    }
+}

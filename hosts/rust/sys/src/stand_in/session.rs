@@ -1,0 +1,180 @@
+//! One end of a session.
+
+use super::frame::{ACK, CLOSE, DATA, Frame};
+use std::collections::VecDeque;
+
+/// The greatest number of an item.
+pub(super) const LAST_ITEM: u64 = 1 << 40;
+/// So many unacknowledged items refuse a call or a reply.
+const MOST_OUT: usize = 4_096;
+/// So many accepted items wait to be acted on.
+const MOST_WAITING: usize = 256;
+
+/// An end of a session: what it sent, what it accepted, and whether it has closed.
+#[derive(Debug)]
+pub(super) struct Session {
+    here: u16,
+    peer: u16,
+    window: u64,
+    retry: u64,
+    // Unacknowledged payloads; the first has the number `lowest`.
+    out: VecDeque<Vec<u8>>,
+    lowest: u64,
+    transmitted: u64,
+    inbox: VecDeque<Vec<u8>>,
+    accepted: u64,
+    data_came: bool,
+    ticks: u64,
+    closed: Option<u8>,
+    owes: bool,
+}
+
+/// What a frame brought: so many items, or that the session closed for a reason.
+pub(super) enum Arrival {
+    Took(u64),
+    Closed(u8),
+}
+
+impl Session {
+    pub(super) fn new(here: u16, peer: u16, window: u64, retry: u64) -> Session {
+        Session {
+            here,
+            peer,
+            window,
+            retry,
+            out: VecDeque::new(),
+            lowest: 1,
+            transmitted: 0,
+            inbox: VecDeque::new(),
+            accepted: 0,
+            data_came: false,
+            ticks: 0,
+            closed: None,
+            owes: false,
+        }
+    }
+
+    pub(super) fn is_open(&self) -> bool {
+        self.closed.is_none()
+    }
+
+    /// How many items were handed on.
+    pub(super) fn handed(&self) -> u64 {
+        self.lowest - 1 + self.out.len() as u64
+    }
+
+    pub(super) fn free_numbers(&self) -> u64 {
+        LAST_ITEM - self.handed()
+    }
+
+    pub(super) fn has_room(&self) -> bool {
+        self.out.len() < MOST_OUT
+    }
+
+    /// Hands an item on: its number.
+    pub(super) fn send(&mut self, payload: Vec<u8>) -> u64 {
+        self.out.push_back(payload);
+        self.handed()
+    }
+
+    /// The item at the front of the inbox, with its number.
+    pub(super) fn front(&self) -> Option<(u64, &[u8])> {
+        let front = self.inbox.front()?;
+        Some((self.accepted + 1 - self.inbox.len() as u64, front))
+    }
+
+    pub(super) fn take(&mut self) {
+        self.inbox.pop_front();
+    }
+
+    // The greatest number that a transmit would give.
+    fn last_in_window(&self) -> u64 {
+        self.handed().min(self.lowest + self.window - 1)
+    }
+
+    /// What a transmit would give: 0 nothing, 1 an Ack, 2 given items alone, 3 new ones, 4 a Close.
+    pub(super) fn due(&self) -> u32 {
+        match () {
+            () if self.closed.is_some() => 4 * u32::from(self.owes),
+            () if self.out.is_empty() => u32::from(self.data_came),
+            () if self.last_in_window() > self.transmitted => 3,
+            () => 2,
+        }
+    }
+
+    /// The bytes of the frames that are to be sent now, and how many they are.
+    pub(super) fn transmit(&mut self) -> (Vec<u8>, u64) {
+        let due = self.due();
+        let reason = self.closed.unwrap_or(0);
+        let ack = self.accepted + 1;
+        let (from, to) = (self.here, self.peer);
+        let alone = |kind, payload| Frame { kind, from, to, seq: 0, ack, payload };
+        let mut bytes = Vec::new();
+        self.data_came = false;
+        match due {
+            0 => return (bytes, 0),
+            1 => alone(ACK, &[]).put(&mut bytes),
+            4 => {
+                alone(CLOSE, &[reason]).put(&mut bytes);
+                self.owes = false;
+            }
+            _ => {
+                let last = self.last_in_window();
+                for (seq, payload) in (self.lowest..=last).zip(&self.out) {
+                    Frame { kind: DATA, from, to, seq, ack, payload }.put(&mut bytes);
+                }
+                self.transmitted = self.transmitted.max(last);
+                return (bytes, last + 1 - self.lowest);
+            }
+        }
+        (bytes, 1)
+    }
+
+    /// A frame from the peer.
+    pub(super) fn arrive(&mut self, frame: &Frame<'_>) -> Arrival {
+        if self.closed.is_some() {
+            self.owes |= frame.kind != CLOSE;
+            return Arrival::Took(0);
+        }
+        if frame.kind == CLOSE {
+            return Arrival::Closed(2);
+        }
+        if frame.ack > self.transmitted + 1 {
+            return Arrival::Closed(4);
+        }
+        if frame.ack > self.lowest {
+            self.out.drain(..(frame.ack - self.lowest) as usize);
+            self.lowest = frame.ack;
+            self.ticks = 0;
+        }
+        Arrival::Took(u64::from(frame.kind == DATA && self.accept(frame)))
+    }
+
+    // Whether a frame's item is the next one, and there is room for it.
+    fn accept(&mut self, frame: &Frame<'_>) -> bool {
+        self.data_came = true;
+        let is_next = frame.seq == self.accepted + 1 && self.inbox.len() < MOST_WAITING;
+        if is_next {
+            self.accepted += 1;
+            self.inbox.push_back(frame.payload.to_vec());
+        }
+        is_next
+    }
+
+    /// One tick more: whether the retries are used up.
+    pub(super) fn tick(&mut self) -> bool {
+        if self.transmitted >= self.lowest {
+            self.ticks += 1;
+        }
+        self.ticks == self.retry
+    }
+
+    /// Ends for a reason.
+    pub(super) fn close(&mut self, reason: u8) {
+        self.closed = Some(reason);
+        self.owes = reason != 2;
+        self.lowest = self.handed() + 1;
+        self.out = VecDeque::new();
+        self.inbox = VecDeque::new();
+    }
+}
