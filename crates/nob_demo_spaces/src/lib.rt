@@ -15,9 +15,9 @@ mod places;
 mod player;
 mod playing;
 mod scene;
+mod score;
 mod shares;
 mod summaries;
-mod score;
 mod telling;
 mod texts;
 
@@ -27,6 +27,6 @@ pub use ending::{Ending, Stop, graver};
 pub use fault::Fault;
 pub use playing::play;
 pub use scene::Scene;
-pub use shares::calls_of;
 pub use score::Score;
+pub use shares::calls_of;
 pub use telling::say;

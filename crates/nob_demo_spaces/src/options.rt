@@ -40,10 +40,13 @@ fn calls<'a>(alloc: Global, keep: Keep) -> Arg<'a>
 {
     match keep {
         Keep::All => {
-            number(alloc, "calls", "K", 0, 10_000).help("Calls in all: 0 to 10000, else 50")
+            let calls = number(alloc, "calls", "K", 0, 10_000);
+            calls.help("Calls in all: 0 to 10000, else 50")
         }
-        Keep::Nothing => number(alloc, "calls", "K", 0, 1_000_000_000)
-            .help("Calls in all: 0 to 1000000000, else 50"),
+        Keep::Nothing => {
+            let calls = number(alloc, "calls", "K", 0, 1_000_000_000);
+            calls.help("Calls in all: 0 to 1000000000, else 50")
+        }
     }
 }
 

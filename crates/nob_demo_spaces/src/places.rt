@@ -3,7 +3,7 @@
 use crate::meeting::Meeting;
 use crate::player::{Player, stop_of};
 use crate::scene::Scene;
-use crate::{Counter, Stop, Score, calls_of};
+use crate::{Counter, Score, Stop, calls_of};
 use nob_fault::{Shim, words_between};
 use nob_ids::{Limits, SpaceId};
 use nob_link::link;

@@ -1,7 +1,7 @@
 //! What an application of the scene does.
 
 use crate::meeting::{MEETINGS, Meeting};
-use crate::{Counter, Stop, Score};
+use crate::{Counter, Score, Stop};
 use nob_ids::SpaceId;
 use nob_node::{App, Hold, KeeperError, Node, NodeError, Returned};
 use nob_pickle::Value;

@@ -7,7 +7,7 @@ ghost use Rattle.nob_demo_spaces.specs.Endings.{Plays};
 use crate::meeting::Meeting;
 use crate::places::{Place, Played, places_of};
 use crate::scene::Scene;
-use crate::{Ending, Stop, Score, graver, say};
+use crate::{Ending, Score, Stop, graver, say};
 use nob_node::{Record, Summary};
 use nob_trace::Trace;
 use std::alloc::Global;

@@ -28,11 +28,7 @@ pub(crate) fn unchecked_lines(
 }
 
 // Puts the lines of summaries behind a text.
-fn put_summaries(
-    alloc: Global,
-    text: &mut String,
-    summaries: &[Summary],
-) -> Result<(), AllocError>
+fn put_summaries(alloc: Global, text: &mut String, summaries: &[Summary]) -> Result<(), AllocError>
     ensures { OnOk result (string_bytes text.new
         ≡ string_bytes text.old ++ spec.summaries_text summaries.now) }
 {
@@ -57,11 +53,7 @@ fn space_text(alloc: Global, summary: &Summary) -> Result<String, AllocError>
 }
 
 // Puts what is said of sessions behind a text.
-fn put_sessions(
-    alloc: Global,
-    text: &mut String,
-    sessions: &[PeerTally],
-) -> Result<(), AllocError>
+fn put_sessions(alloc: Global, text: &mut String, sessions: &[PeerTally]) -> Result<(), AllocError>
     ensures { OnOk result (string_bytes text.new
         ≡ string_bytes text.old ++ spec.sessions_text sessions.now) }
 {

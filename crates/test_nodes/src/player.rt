@@ -167,7 +167,12 @@ impl<'m> App<Thing> for Player<'m> {
 }
 
 // Exports an object, and has a name stand for it.
-pub(crate) fn offer<R: Wait>(rt: &R, node: &mut Node<Thing>, name: &[u8], thing: Thing) -> Option<Hold> {
+pub(crate) fn offer<R: Wait>(
+    rt: &R,
+    node: &mut Node<Thing>,
+    name: &[u8],
+    thing: Thing,
+) -> Option<Hold> {
     let Ok(hold) = node.export(rt, thing) else {
         return None;
     };
