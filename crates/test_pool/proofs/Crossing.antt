@@ -54,7 +54,7 @@ held_send =
 keeper_field_sync : IsSync (Keeper.the_field).row
 keeper_field_sync = struct_sync (shape Keeper.the_type) (
   search (crosses, sendable) depth 60,
-  (search (held_send, crosses, sendable) depth 60, (condvar_sync, (condvar_sync, (condvar_sync, (Vec-sync Condvar.the_row condvar_row_sync, tt))))),
+  (search sendable depth 30, (search (held_send, crosses, sendable) depth 60, (condvar_sync, (condvar_sync, (condvar_sync, (Vec-sync Condvar.the_row condvar_row_sync, tt)))))),
 )
 
 pub site_sync : IsSync Site.the_row
