@@ -8,6 +8,8 @@ mod interface;
 #[cfg(feature = "node")]
 mod node;
 #[cfg(feature = "node")]
+mod numbers;
+#[cfg(feature = "node")]
 mod pass;
 pub mod space;
 

@@ -38,12 +38,12 @@ pub use link::OutBuffer;
 pub use trace::{Files, TraceSink};
 pub use wire::{HELLO, Hello, LONGEST_BODY, Life, Why, World};
 
+use crate::numbers::ByNumber;
 use crate::space::{
     CallNo, Due, Job, JobNo, Limits, Outcome, Reason, Reference, Refusal, Space, SpaceError,
     SpaceId, Value,
 };
 use link::{HeldCall, HeldFinish, Link, Links};
-use std::collections::HashMap;
 use std::fmt;
 use std::sync::Arc;
 use std::time::Duration;
@@ -240,10 +240,10 @@ pub struct Engine {
     has_held: bool,
     has_stuck: bool,
     look_at: Duration,
-    calls: HashMap<CallNo, (Ticket, SpaceId)>,
+    calls: ByNumber<CallNo, (Ticket, SpaceId)>,
     // Jobs that weren't finished, and whose they are.
-    jobs: HashMap<JobNo, SpaceId>,
-    tickets: HashMap<Ticket, Option<CallNo>>,
+    jobs: ByNumber<JobNo, SpaceId>,
+    tickets: ByNumber<Ticket, Option<CallNo>>,
     ready: Vec<CallNo>,
     turn: Turn,
     counts: Counts,
@@ -276,9 +276,9 @@ impl Engine {
             has_held: false,
             has_stuck: false,
             look_at: now,
-            calls: HashMap::new(),
-            jobs: HashMap::new(),
-            tickets: HashMap::new(),
+            calls: ByNumber::default(),
+            jobs: ByNumber::default(),
+            tickets: ByNumber::default(),
             ready: Vec::new(),
             turn: Turn::default(),
             counts: Counts::default(),

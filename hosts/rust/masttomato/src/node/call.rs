@@ -251,14 +251,9 @@ impl<T: Pass> Call<T> {
         self.taken(completed.unwrap_or(Err(CallError::TimedOut)))
     }
 
-    // Looks for a while, since a reply comes soon or late; then sleeps.
+    // Looks, since a reply comes soon or late; then sleeps.
     fn sleep_until(&self, end: Option<Instant>) -> Option<Completed> {
-        let looks = self.shared.looks_now();
-        let since = Instant::now();
-        while !self.state.is_done.load(Ordering::Acquire) && since.elapsed() < looks {
-            hint::spin_loop();
-        }
-        self.shared.looked(looks, self.state.is_done.load(Ordering::Acquire));
+        self.look();
         let mut slot = self.state.slot();
         loop {
             if let Some(completed) = slot.completed.take() {
@@ -280,6 +275,18 @@ impl<T: Pass> Call<T> {
                 }
             };
         }
+    }
+
+    // Looks for a while whether the answer has come, if nobody else does: others would only take the
+    // processors from those who bring it.
+    fn look(&self) {
+        let is_done = || self.state.is_done.load(Ordering::Acquire);
+        let Some(looks) = self.shared.begin_look() else { return };
+        let since = Instant::now();
+        while !is_done() && since.elapsed() < looks {
+            (0..64).for_each(|_| hint::spin_loop());
+        }
+        self.shared.end_look(is_done());
     }
 
     fn taken(&mut self, completed: Completed) -> Result<T, CallError> {

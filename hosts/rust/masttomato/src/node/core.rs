@@ -10,6 +10,7 @@ use crate::engine::{
     fault_value,
 };
 use crate::interface::{Arguments, Description, Exported, Packed, Served};
+use crate::numbers::ByNumber;
 use crate::space::{Job, JobNo, Outcome, Reference, SpaceId, Value};
 use std::collections::{HashMap, VecDeque};
 use std::panic::{AssertUnwindSafe, catch_unwind};
@@ -111,9 +112,9 @@ struct OpenCall {
 pub(crate) struct Core {
     pub(crate) engine: Engine,
     shared: Arc<Shared>,
-    objects: HashMap<u64, Object>,
+    objects: ByNumber<u64, Object>,
     names: HashMap<Vec<u8>, Arc<Hold>>,
-    calls: HashMap<Ticket, OpenCall>,
+    calls: ByNumber<Ticket, OpenCall>,
     tasks: VecDeque<Task>,
     pool: Option<Arc<Pool>>,
     watchers: Vec<mpsc::Sender<(SpaceId, Session)>>,
@@ -129,9 +130,9 @@ impl Core {
         Core {
             engine,
             shared,
-            objects: HashMap::new(),
+            objects: ByNumber::default(),
             names: HashMap::new(),
-            calls: HashMap::new(),
+            calls: ByNumber::default(),
             tasks: VecDeque::new(),
             pool,
             watchers: Vec::new(),

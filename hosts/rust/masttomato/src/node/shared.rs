@@ -62,6 +62,7 @@ pub struct Shared {
     tickets: AtomicU64,
     looks: Duration,
     rests: AtomicU32,
+    is_looked_for: AtomicBool,
     stopped: Mutex<bool>,
     stops: Condvar,
 }
@@ -89,6 +90,7 @@ impl Shared {
             tickets: AtomicU64::new(1),
             looks,
             rests: AtomicU32::new(0),
+            is_looked_for: AtomicBool::new(false),
             stopped: Mutex::new(false),
             stops: Condvar::new(),
         })
@@ -102,17 +104,20 @@ impl Shared {
         self.looks
     }
 
-    /// How long whoever waits looks before it sleeps: not at all for some times after that was in vain.
-    pub(crate) fn looks_now(&self) -> Duration {
-        if self.rests.load(Relaxed) == 0 { self.looks } else { Duration::ZERO }
+    /// How long whoever waits for an answer may look before it sleeps: not where another does, nor for
+    /// some times after that was in vain.
+    pub(crate) fn begin_look(&self) -> Option<Duration> {
+        let rest = |rests: u32| rests.checked_sub(1);
+        if self.looks.is_zero() || self.rests.fetch_update(Relaxed, Relaxed, rest).is_ok() {
+            return None;
+        }
+        (!self.is_looked_for.swap(true, Relaxed)).then_some(self.looks)
     }
 
-    /// Whoever waits has looked for so long: whether that was in vain.
-    pub(crate) fn looked(&self, looks: Duration, found: bool) {
-        if looks.is_zero() {
-            let rest = |rests: u32| rests.checked_sub(1);
-            let _were_rests = self.rests.fetch_update(Relaxed, Relaxed, rest);
-        } else if !found {
+    /// Who looked has ended: whether that was in vain.
+    pub(crate) fn end_look(&self, found: bool) {
+        self.is_looked_for.store(false, Relaxed);
+        if !found {
             self.rests.store(RESTS, Relaxed);
         }
     }
