@@ -1,6 +1,6 @@
 //! How a node runs.
 
-ghost use Rattle.std.specs.Prelude.{◌≡◌, IfOk, IsErr};
+ghost use Rattle.std.specs.Prelude.{◌≡◌, IfOk};
 ghost use Rattle.nob_keeper.specs.Accounts.{keeps_all};
 ghost use Rattle.nob_keeper.specs.Summaries as summaries;
 ghost use Rattle.nob_node.specs.Records as nodes;
@@ -65,17 +65,15 @@ pub fn run<B: Object + Send, R: Threads + Wait + Sync, G: Gate + Sync, A: App<B>
         ≡ keeps_all config.keep) }
 {
     let Some((site, crew)) = site_of::<B>(alloc, &config, ends) else {
-        return without_memory(alloc);
+        return Err(without_memory(alloc));
     };
     let (crew, remains) = run_threads(rt, alloc, &site, gate, crew, app);
     finish(rt, alloc, config.keep(), site, crew, remains)
 }
 
 // What a node answers that has no memory for its parts.
-fn without_memory<B: Object>(alloc: Global) -> Result<Report<B>, (NodeError, Vec<Left<B>>)>
-    ensures { IsErr result }
-{
-    Err((NodeError::Keeper(KeeperError::OutOfMemory), Vec::new(alloc)))
+fn without_memory<B: Object>(alloc: Global) -> (NodeError, Vec<Left<B>>) {
+    (NodeError::Keeper(KeeperError::OutOfMemory), Vec::new(alloc))
 }
 
 // Runs the crew in threads, and the application in this one, until all have ended. The crew is gone
@@ -170,7 +168,7 @@ fn finish<B: Object, R: Wait>(
     } = remains;
     let Some(crew) = crew else {
         keeper.shut();
-        return without_memory(alloc);
+        return Err(without_memory(alloc));
     };
     let Crew { hands, mut seats } = crew;
     keep(&mut seats, seat);
