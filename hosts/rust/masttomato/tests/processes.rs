@@ -110,11 +110,18 @@ fn the_quick_start() {
         command.current_dir(&place.0).arg(number);
         command.output().expect("it ends")
     };
-    for (number, total) in [("2", "20\n"), ("3", "40\n")] {
-        assert_eq!(String::from_utf8_lossy(&run(number).stdout), total);
-    }
+    // Who comes before the owner has bound the name finds nothing there, and the next one tries again.
+    let answered = |number: &u16| {
+        let said = run(&number.to_string()).stdout;
+        (!said.is_empty()).then(|| (*number, String::from_utf8_lossy(&said).into_owned()))
+    };
+    let mut found = (2..=32).filter_map(|number| answered(&number));
+    let (first, said) = found.next().expect("the owner binds the name");
+    assert_eq!(said, "20\n");
+    let (_second, said) = found.next().expect("it stays bound");
+    assert_eq!(said, "40\n");
     // A number that was used is refused, in words.
-    let again = run("2");
+    let again = run(&first.to_string());
     let said = String::from_utf8_lossy(&again.stderr);
     assert!(!again.status.success() && said.contains("NumberUsed"), "{said}");
 }
