@@ -13,7 +13,7 @@ use std::sync::Wait;
 use std::thread::{self, Threads};
 
 /// So many calls are made.
-pub(crate) const CALLS: u64 = 200_000;
+pub(crate) const CALLS: u64 = 300_000;
 
 /// So many entries a trace has room for.
 const TRACE: u64 = 1 << 20;
