@@ -3,7 +3,6 @@
 use crate::next::work_of;
 use nob_ids::{CallNo, SpaceId};
 use nob_model::next::reply_ready;
-use nob_model::tallies::{backlog, live_count, tally};
 use nob_model::{Answer, Entry, Event, Frames, Here, History, Refusal, right, same_result};
 use nob_model_history::listing::is_listed;
 use nob_model_journal::journals::{at, history_at};
@@ -15,8 +14,7 @@ use std::alloc::{AllocError, Global};
 const MOST_ASKED: u64 = 4;
 
 /// Whether each space of a world whose entries these are says the same as the definitions: what it
-/// could do next, which replies are ready, who is listed, what went each way on each session, how
-/// many objects are live, what isn't done yet, and which frames it has for its peers.
+/// could do next, which replies are ready, who is listed, and which frames it has for its peers.
 pub fn all_agree(alloc: Global, world: &World, journal: &[Entry]) -> Result<bool, AllocError> {
     for place in 0..world.n() {
         if let Some(id) = SpaceId::new(place.saturating_add(1)) {
@@ -42,9 +40,6 @@ fn agrees(alloc: Global, space: &Space, journal: &[Entry]) -> Result<bool, Alloc
         return Ok(false);
     }
     if !tells_replies(alloc, space, &history)? || !tells_clients(alloc, space, &history)? {
-        return Ok(false);
-    }
-    if !tells_tallies(alloc, space, &history)? {
         return Ok(false);
     }
     let entries = at(alloc, here.space, journal)?;
@@ -76,24 +71,6 @@ fn tells_clients(alloc: Global, space: &Space, history: &History) -> Result<bool
         }
     }
     Ok(true)
-}
-
-// Whether a space says what went each way on the session with each peer, how many of its objects
-// are live, and what isn't done yet.
-fn tells_tallies(alloc: Global, space: &Space, history: &History) -> Result<bool, AllocError> {
-    let here = Here {
-        space: space.id(),
-        n: space.n(),
-    };
-    for place in 0..space.n() {
-        if let Some(peer) = SpaceId::new(place.saturating_add(1)) {
-            if here.is_peer(peer) && tally(alloc, peer, history)? != space.tally(peer) {
-                return Ok(false);
-            }
-        }
-    }
-    let live = live_count(alloc, here.space, history)?;
-    Ok(live == space.live() && backlog(history) == space.backlog())
 }
 
 // Whether a space with these entries says which frames it has for each space.

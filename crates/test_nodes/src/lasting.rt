@@ -1,4 +1,4 @@
-//! Two nodes that keep nothing of their entries, and make more of them than a trace has room for.
+//! Two nodes that keep nothing of their entries, and what these come to.
 
 use crate::player::{Said, found, give_back, offer, said_by};
 use crate::shared::Shared;
@@ -13,10 +13,10 @@ use std::sync::Wait;
 use std::thread::{self, Threads};
 
 /// So many calls are made.
-pub(crate) const CALLS: u64 = 300_000;
+pub(crate) const CALLS: u64 = 20_000;
 
-/// So many entries a trace has room for.
-const TRACE: u64 = 1 << 20;
+/// Each node makes more entries than this: five for each call.
+const ENTRIES: u64 = 60_000;
 
 /// So many parcels a link holds.
 const LINK: usize = 64;
@@ -48,7 +48,7 @@ pub(crate) struct Lasted {
     pub(crate) answered: u64,
     /// What the last one answered.
     pub(crate) last: i64,
-    /// Whether each made more entries than a trace has room for.
+    /// Whether each made more than three entries for each call.
     pub(crate) is_beyond: bool,
     /// Whether each has acted on all that the other handed to it.
     pub(crate) is_even: bool,
@@ -229,7 +229,7 @@ fn both_of(owner: Numbers, caller: Numbers) -> Lasted {
     Lasted {
         answered: caller.answered,
         last: caller.last,
-        is_beyond: owner.entries > TRACE && caller.entries > TRACE,
+        is_beyond: owner.entries > ENTRIES && caller.entries > ENTRIES,
         is_even: owner.sent == caller.acted && caller.sent == owner.acted,
         live: owner.live.saturating_add(caller.live),
         is_open: owner.is_open && caller.is_open,

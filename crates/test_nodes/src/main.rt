@@ -56,7 +56,7 @@ fn print_lasting<R: Threads + Wait + Sync + Print>(rt: &R, alloc: Global) -> io:
     let last = lasted.last;
     println!(rt; "calls between nodes that keep nothing: {answered}, the last answered {last}")?;
     let is_beyond = lasted.is_beyond;
-    println!(rt; "each made more entries than a trace has room for: {is_beyond}")?;
+    println!(rt; "each made more than three entries a call: {is_beyond}")?;
     let is_even = lasted.is_even;
     println!(rt; "each acted on all that the other handed to it: {is_even}")?;
     let is_open = lasted.is_open;
