@@ -1,7 +1,8 @@
 -- The words of one end of a session, read off the whole list of its calls. The newest call stands FIRST, so that
 -- each word of a list with one call more is computed from that call and the words before. An entry with a
 -- refusal changes no word.
-use Rattle.std.specs.Prelude.{ℕ, suc, ◌+◌, ◌-◌, max, Bool, true, false, not, ◌&&◌, ◌||◌, nat_lt, nat_le, List, [], ◌∷◌, ◌++◌, drop, Option, Some, None, is_none, Ok, if◌then◌else◌}
+use Rattle.std.specs.Prelude.{ℕ, zero, suc, ◌+◌, ◌-◌, ◌^◌, max, Bool, true, false, not, ◌&&◌, ◌||◌, ◌==◌, nat_lt, nat_le, List, [], ◌∷◌, ◌++◌, drop, Option, Some, None, is_none, Ok, if◌then◌else◌}
+use Rattle.std.specs.Option.{option_or}
 use Rattle.nob_ids.specs.declared.reason.Reason.{Reason}
 use Rattle.nob_ids.specs.declared.reason.Reason.TheVariants.{PeerClosed, Asked, RetriesUsedUp, BadItem, BadReference, OutOfPlace}
 use Rattle.nob_frame.specs.declared.frame.Frame.{Frame}
@@ -49,11 +50,54 @@ transmitted [] = 0
 transmitted (Transmit frames ∷ L) = max (transmitted L) (greatest_seq frames)
 transmitted (_ ∷ L) = transmitted L
 
+-- the greatest number of an item
+abbrev pub last_item : ℕ
+last_item = 2 ^ 40
+
+-- so many numbers from the next on are in reach: what comes there is kept
+abbrev pub reach : ℕ
+reach = 64
+
+-- how many items were accepted: the sum of what the arrivals took
+abbrev pub accepted_count : List EndEntry → ℕ
+accepted_count [] = 0
+accepted_count (Arrive frame (Ok (arrived.Took k)) ∷ L) = k + accepted_count L
+accepted_count (_ ∷ L) = accepted_count L
+
+-- whether number n is in reach where so many items are accepted: the next, or one of the 63 behind it, at most 2^40
+abbrev pub is_in_reach : (accepted n : ℕ) → Bool
+is_in_reach accepted n = nat_lt accepted n && nat_le n (accepted + reach) && nat_le n last_item
+
+-- whether a frame that arrives where so many items are accepted brings the payload of item n: a Data frame with this number, while it is in reach
+abbrev pub brings_at : ℕ → Frame → (accepted : ℕ) → Bool
+brings_at n frame accepted = is_data frame.kind && (frame.seq == n) && is_in_reach accepted n
+
+-- the payload of item n, where it came: that of the first frame that brought it
+abbrev pub payload : ℕ → List EndEntry → Option (List ℕ)
+payload n [] = None
+payload n (Arrive frame (Ok (arrived.Took k)) ∷ L) = option_or (payload n L) (if brings_at n frame (accepted_count L) then Some frame.payload else None)
+payload n (_ ∷ L) = payload n L
+
+-- the places of so many numbers from n on, each with the payload that came there, if one did
+abbrev pub places : (n count : ℕ) → List EndEntry → List (Option (List ℕ))
+places n zero L = []
+places n (suc count) L = payload n L ∷ places (n + 1) count L
+
+-- what stands in these places, in order
+abbrev pub filled : {A : Type 0} → List (Option A) → List A
+filled [] = []
+filled (None ∷ more) = filled more
+filled (Some x ∷ more) = x ∷ filled more
+
 -- the payloads that were accepted, the first first: their numbers are 1, 2, ..
 abbrev pub accepted : List EndEntry → List (List ℕ)
 accepted [] = []
-accepted (Arrive frame (Ok (arrived.Took (suc k))) ∷ L) = accepted L ++ frame.payload ∷ []
+accepted (Arrive frame (Ok (arrived.Took k)) ∷ L) = accepted L ++ filled (places (accepted_count L + 1) k (Arrive frame (Ok (arrived.Took k)) ∷ L))
 accepted (_ ∷ L) = accepted L
+
+-- what is kept of the numbers in reach, the next first: a close throws it away
+abbrev pub early : List EndEntry → List (Option (List ℕ))
+early L = if is_open L then places (accepted_count L + 1) reach L else []
 
 -- how many items were taken
 abbrev pub takes : List EndEntry → ℕ

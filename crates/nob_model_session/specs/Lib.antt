@@ -5,3 +5,4 @@ pub mod Texts
 pub mod End
 pub mod Right
 pub mod Pair
+pub mod Accepting

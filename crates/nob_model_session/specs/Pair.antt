@@ -1,5 +1,6 @@
 -- Two ends of one session: the runs of a pair, and what becomes of their items. The newest call stands first.
-use Rattle.std.specs.Prelude.{◌≡◌, ℕ, ◌+◌, ◌≤◌, IsTrue, List, [], ◌∷◌, ◌++◌, length, Option, Some, None, Ok, option_to_list, Contains}
+use Rattle.std.specs.Prelude.{◌≡◌, ℕ, ◌+◌, ◌-◌, ◌≤◌, IsTrue, List, [], ◌∷◌, ◌++◌, length, Option, Some, None, Ok, option_to_list, Contains}
+use Rattle.std.specs.List.{slice_get}
 use Rattle.std.specs.Option.{option_or}
 use Rattle.nob_ids.specs.declared.limits.Limits.{Limits}
 use Rattle.nob_frame.specs.declared.frame.Frame.{Frame}
@@ -7,7 +8,7 @@ use Rattle.nob_model_session.specs.declared.entry.EndEntry.{EndEntry}
 use Rattle.nob_model_session.specs.declared.entry.EndEntry.TheVariants.{Send, Transmit, Arrive, Front, Take}
 use Rattle.nob_model_session.specs.declared.entry.PairEntry.{PairEntry}
 use Rattle.nob_model_session.specs.declared.entry.PairEntry.TheVariants.{First, Second}
-use Rattle.nob_model_session.specs.End.{is_open, handed, lowest, accepted, transmitted}
+use Rattle.nob_model_session.specs.End.{is_open, handed, lowest, payload, accepted, transmitted}
 use Rattle.nob_model_session.specs.Right.{right_front, IsRight}
 
 -- the calls on the first end
@@ -86,8 +87,9 @@ pub record PairFronts (J : List PairEntry) : Type 0 where
 abbrev pub PairLaw : Type 0
 PairLaw = (a b : ℕ) (at_a at_b : Limits) (J : List PairEntry) → PairRun a b at_a at_b J → PairFronts J
 
--- how far an end's items came: accepted ones are a beginning of the handed, the highest transmitted lies between, the acknowledged were accepted
+-- how far an end's items came: accepted ones are a beginning of the handed, the highest transmitted lies between, the acknowledged were accepted, and what came of an item was handed and transmitted
 pub record Reaches (sender receiver : List EndEntry) : Type 0 where
+  pub kept : (n : ℕ) (p : List ℕ) → payload n receiver ≡ Some p → (n ≤ transmitted sender) × (slice_get (handed sender) (n - 1) ≡ Some p)
   pub front : IsBeginning (accepted receiver) (handed sender)
   pub acknowledged_accepted : lowest sender ≤ length (accepted receiver) + 1
   pub accepted_transmitted : length (accepted receiver) ≤ transmitted sender

@@ -1,5 +1,5 @@
 -- The one right answer to each call on an end of a session, from the list of the calls before it (newest first).
-use Rattle.std.specs.Prelude.{◌≡◌, ℕ, ◌+◌, ◌^◌, Bool, true, false, not, ◌&&◌, ◌==◌, nat_lt, nat_le, List, [], ◌∷◌, length, take, Option, Some, None, IsSome, Result, Ok, Err, if◌then◌else◌}
+use Rattle.std.specs.Prelude.{◌≡◌, ℕ, zero, suc, ◌+◌, ◌-◌, max, Bool, true, false, not, ◌&&◌, ◌==◌, nat_lt, nat_le, List, [], ◌∷◌, ◌++◌, length, take, drop, Option, Some, None, IsSome, Result, Ok, Err, if◌then◌else◌}
 use Rattle.nob_ids.specs.Reasons.{reason_number}
 use Rattle.nob_ids.specs.declared.limits.Limits.{Limits}
 use Rattle.nob_ids.specs.declared.reason.Reason.{Reason}
@@ -16,7 +16,7 @@ use Rattle.nob_model_session.specs.declared.entry.Arrived.{Arrived}
 use Rattle.nob_model_session.specs.declared.entry.Arrived.TheVariants as arrived
 use Rattle.nob_model_session.specs.declared.entry.EndEntry.{EndEntry}
 use Rattle.nob_model_session.specs.declared.entry.EndEntry.TheVariants.{Send, Transmit, Arrive, Front, Take, IsOpen, Tick, Close}
-use Rattle.nob_model_session.specs.End.{ending, is_open, handed, lowest, unacknowledged, accepted, takes, waiting, transmitted, data_arrived, is_out, ticks, owes_close}
+use Rattle.nob_model_session.specs.End.{last_item, ending, is_open, handed, lowest, unacknowledged, accepted_count, early, takes, waiting, transmitted, data_arrived, is_out, ticks, owes_close}
 
 -- so many unacknowledged items and no more before a limited one is refused
 abbrev pub queue_limit : ℕ
@@ -25,10 +25,6 @@ queue_limit = 4096
 -- so many accepted items wait at most
 abbrev pub inbox_limit : ℕ
 inbox_limit = 256
-
--- the greatest number of an item
-abbrev pub last_item : ℕ
-last_item = 2 ^ 40
 
 -- whether `send` refuses it while too many are unacknowledged
 abbrev pub is_limited : Kind → Bool
@@ -56,39 +52,45 @@ ack_frame me peer ack = record { kind = kind.Ack; from = me; to = peer; seq = 0;
 abbrev pub close_frame : (me peer ack : ℕ) → Reason → Frame
 close_frame me peer ack reason = record { kind = kind.Close; from = me; to = peer; seq = 0; ack = ack; payload = reason_number reason ∷ [] }
 
--- what an open end gives: Data frames for these payloads if there are any, else an Ack frame if one is due
-abbrev pub open_frames : (me peer ack n : ℕ) → Bool → List (List ℕ) → List Frame
-open_frames me peer ack n due [] = if due then ack_frame me peer ack ∷ [] else []
-open_frames me peer ack n due (payload ∷ payloads) = data_frames me peer ack n (payload ∷ payloads)
+-- what an open end gives of the payloads from number n on: Data frames for the first of them and for those above the highest number given before, else an Ack frame if one is due
+abbrev pub open_frames : (me peer ack n transmitted : ℕ) → Bool → List (List ℕ) → List Frame
+open_frames me peer ack n transmitted due [] = if due then ack_frame me peer ack ∷ [] else []
+open_frames me peer ack n transmitted due (payload ∷ payloads) = data_frames me peer ack n (payload ∷ []) ++ data_frames me peer ack (max n transmitted + 1) (drop (transmitted - n) payloads)
 
 -- what an end gives that has closed for a reason (or, with none, hasn't): the Close frame that it owes
 abbrev pub closed_frames : (me peer ack : ℕ) → Bool → Option Reason → List Frame
 closed_frames me peer ack owes None = []
 closed_frames me peer ack owes (Some reason) = if owes then close_frame me peer ack reason ∷ [] else []
 
--- `transmit`: an open end gives a window of unacknowledged items, or an Ack if Data arrived since the last; a closed end the Close that it owes
+-- `transmit`: an open end gives of a window of unacknowledged items the lowest and those that it never gave, or an Ack if Data arrived since the last; a closed end the Close that it owes
 abbrev pub right_transmit : (me peer window : ℕ) → List EndEntry → List Frame
 right_transmit me peer window L =
-    if is_open L then open_frames me peer (length (accepted L) + 1) (lowest L) (data_arrived L) (take window (unacknowledged L))
-    else closed_frames me peer (length (accepted L) + 1) (owes_close L) (ending L)
+    if is_open L then open_frames me peer (accepted_count L + 1) (lowest L) (transmitted L) (data_arrived L) (take window (unacknowledged L))
+    else closed_frames me peer (accepted_count L + 1) (owes_close L) (ending L)
 
 -- whether a frame is for this end of this pair
 abbrev pub is_of_pair : (me peer : ℕ) → Frame → Bool
 is_of_pair me peer frame = (frame.from == peer) && (frame.to == me)
 
--- whether an arriving Data frame's item is the next, has a number in range, and finds room
-abbrev pub is_accepted : Frame → List EndEntry → Bool
-is_accepted frame L = is_data frame.kind && (frame.seq == length (accepted L) + 1) && nat_le frame.seq last_item && nat_lt (length (waiting L)) inbox_limit
+-- how many of these places are filled in a row, from the first on and at most so many
+abbrev pub in_a_row : {A : Type 0} → (most : ℕ) → List (Option A) → ℕ
+in_a_row zero places = 0
+in_a_row (suc most) [] = 0
+in_a_row (suc most) (None ∷ more) = 0
+in_a_row (suc most) (Some x ∷ more) = suc (in_a_row most more)
 
--- `arrive`: another pair's frame is refused; a closed end takes nothing; a Close or a wrong `ack` closes; else the item is accepted or ignored
+-- how many items an open end accepts with a frame that it hears: with a Data frame those that are kept in a row from the next on, what this frame brings with them, while the inbox has room
+abbrev pub taken_by : Frame → List EndEntry → ℕ
+taken_by frame L = if is_data frame.kind then in_a_row (inbox_limit - length (waiting L)) (early (Arrive frame (Ok (arrived.Took 0)) ∷ L)) else 0
+
+-- `arrive`: another pair's frame is refused; a closed end takes nothing; a Close or a wrong `ack` closes; else the end accepts what is kept in a row
 abbrev pub right_arrive : (me peer : ℕ) → Frame → List EndEntry → Result Arrived EndRefusal
 right_arrive me peer frame L =
     if not (is_of_pair me peer frame) then Err refusal.Strange
     else (if not (is_open L) then Ok (arrived.Took 0)
     else (if is_close frame.kind then Ok (arrived.Closed (record { peer = peer; reason = PeerClosed }))
     else (if nat_lt (transmitted L + 1) frame.ack then Ok (arrived.Closed (record { peer = peer; reason = BadItem }))
-    else (if is_accepted frame L then Ok (arrived.Took 1)
-    else Ok (arrived.Took 0)))))
+    else Ok (arrived.Took (taken_by frame L)))))
 
 -- the first of these payloads, with its number
 abbrev pub first_of : ℕ → List (List ℕ) → Option (ℕ × List ℕ)

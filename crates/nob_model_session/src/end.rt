@@ -1,6 +1,7 @@
 //! The words of one end, computed plainly from the whole list of its calls, the newest first.
 
-ghost use Rattle.std.specs.Prelude.{◌≡◌, ◌≤◌, ◌<◌, ◌+◌, ◌-◌, ◌^◌, IfOk, length, drop};
+ghost use Rattle.std.specs.Prelude.{◌≡◌, ◌≤◌, ◌<◌, ◌+◌, ◌-◌, ◌*◌, ◌^◌, IfOk, length, drop};
+ghost use Rattle.std.specs.Option.{option_map};
 ghost use Rattle.nob_model_session.specs.Texts.{texts};
 ghost use Rattle.nob_model_session.specs.End as words;
 
@@ -8,6 +9,12 @@ use crate::entry::{Arrived, EndEntry};
 use nob_frame::Frame;
 use nob_ids::Reason;
 use std::alloc::{AllocError, Global};
+
+/// The greatest number of an item.
+pub const LAST_ITEM: u64 = 1 << 40;
+
+/// So many numbers from the next on are in reach.
+pub const REACH: usize = 64;
 
 /// Why the end closed, if it has.
 pub fn ending(calls: &[EndEntry]) -> Option<Reason>
@@ -88,16 +95,81 @@ pub fn transmitted(calls: &[EndEntry]) -> u64
     }
 }
 
+/// How many items were accepted.
+pub fn accepted_count(calls: &[EndEntry]) -> u128
+    ensures value { result ≡ words.accepted_count calls.now }
+    ensures bound { result ≤ length calls.now * 2 ^ 64 }
+{
+    match calls {
+        [] => 0,
+        [EndEntry::Arrive(_, Ok(Arrived::Took(count))), older @ ..] => {
+            u128::from(*count) + accepted_count(older)
+        }
+        [_, older @ ..] => accepted_count(older),
+    }
+}
+
+/// Whether a frame that arrives where so many items are accepted brings the payload of an item.
+pub fn brings_at(number: u128, frame: &Frame, accepted: u128) -> bool
+    ensures { result ≡ words.brings_at number frame.now accepted }
+{
+    frame.kind.is_data()
+        && u128::from(frame.seq) == number
+        && accepted < number
+        && number - accepted <= REACH as u128
+        && number <= u128::from(LAST_ITEM)
+}
+
+/// The payload of an item, where it came.
+pub fn payload(number: u128, calls: &[EndEntry]) -> Option<&[u8]>
+    ensures { option_map (λ payload. payload.now) result ≡ words.payload number calls.now }
+{
+    match calls {
+        [] => None,
+        [EndEntry::Arrive(frame, Ok(Arrived::Took(_))), older @ ..] => {
+            if let Some(before) = payload(number, older) {
+                return Some(before);
+            }
+            if brings_at(number, frame, accepted_count(older)) {
+                return Some(frame.payload.as_slice());
+            }
+            None
+        }
+        [_, older @ ..] => payload(number, older),
+    }
+}
+
+// The payloads that came of so many numbers from one on.
+fn filled(
+    alloc: Global,
+    first: u128,
+    count: u64,
+    calls: &[EndEntry],
+) -> Result<Vec<&[u8]>, AllocError>
+    requires { first + count < 2 ^ 128 }
+    ensures { IfOk result (λ payloads. texts payloads.items
+        ≡ words.filled (words.places first count calls.now)) }
+{
+    if count == 0 {
+        return Ok(Vec::new(alloc));
+    }
+    let mut payloads = filled(alloc, first + 1, count - 1, calls)?;
+    if let Some(payload) = payload(first, calls) {
+        payloads.insert(0, payload)?;
+    }
+    Ok(payloads)
+}
+
 /// The payloads that were accepted, the first first.
 pub fn accepted(alloc: Global, calls: &[EndEntry]) -> Result<Vec<&[u8]>, AllocError>
     ensures { IfOk result (λ payloads. texts payloads.items ≡ words.accepted calls.now) }
 {
     match calls {
         [] => Ok(Vec::new(alloc)),
-        [EndEntry::Arrive(_, Ok(Arrived::Took(0))), older @ ..] => accepted(alloc, older),
-        [EndEntry::Arrive(frame, Ok(Arrived::Took(_))), older @ ..] => {
+        [EndEntry::Arrive(_, Ok(Arrived::Took(count))), older @ ..] => {
             let mut payloads = accepted(alloc, older)?;
-            payloads.push(frame.payload.as_slice())?;
+            let more = filled(alloc, accepted_count(older) + 1, *count, calls)?;
+            payloads.extend_from_slice(&more)?;
             Ok(payloads)
         }
         [_, older @ ..] => accepted(alloc, older),

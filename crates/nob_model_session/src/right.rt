@@ -1,11 +1,14 @@
 //! The one right answer to each call on an end, computed plainly from the whole list of the calls
 //! before it, the newest first.
 
-ghost use Rattle.std.specs.Prelude.{◌≡◌, ◌≤◌, ◌<◌, ◌+◌, ◌^◌, IfOk, length, take, [], ◌∷◌};
+ghost use Rattle.std.specs.Prelude.{◌≡◌, ◌≤◌, ◌<◌, ◌+◌, ◌^◌, Bool, true, IfOk, Ok, length, take, [], ◌∷◌};
+ghost use Rattle.nob_model_session.specs.declared.entry.Arrived.TheVariants as arrived;
+ghost use Rattle.nob_model_session.specs.declared.entry.EndEntry.TheVariants.{Arrive};
+ghost use Rattle.nob_model_session.specs.End as words;
 ghost use Rattle.nob_model_session.specs.Texts.{texts, front_text};
 ghost use Rattle.nob_model_session.specs.Right as right;
 
-use crate::end;
+use crate::end::{self, LAST_ITEM};
 use crate::entry::{Arrived, EndEntry, Ending, Kind};
 use crate::refusal::EndRefusal;
 use nob_bytes::Bytes;
@@ -18,9 +21,6 @@ pub const QUEUE_LIMIT: usize = 4096;
 
 /// So many accepted items wait at most.
 pub const INBOX_LIMIT: usize = 256;
-
-/// The greatest number of an item.
-pub const LAST_ITEM: u64 = 1 << 40;
 
 /// What `send` answers.
 pub fn send(
@@ -69,15 +69,36 @@ pub fn arrive(
         let reason = Reason::BadItem;
         return Ok(Ok(Arrived::Closed(Ending { peer, reason })));
     }
-    let accepted = end::accepted(alloc, calls)?;
-    let waiting = end::waiting(alloc, calls)?;
-    let next = accepted.len() as u64 + 1;
-    let is_next = frame.seq == next && frame.seq <= LAST_ITEM;
-    if frame.kind.is_data() && is_next && waiting.len() < INBOX_LIMIT {
-        Ok(Ok(Arrived::Took(1)))
-    } else {
-        Ok(Ok(Arrived::Took(0)))
+    Ok(Ok(Arrived::Took(taken_by(alloc, frame, calls)?)))
+}
+
+// How many items the open end accepts with a frame that it hears.
+fn taken_by(alloc: Global, frame: &Frame, calls: &[EndEntry]) -> Result<u64, AllocError>
+    requires { words.is_open calls.now ≡ true }
+    ensures { IfOk result (λ count. count ≡ right.taken_by frame.now calls.now) }
+{
+    if !frame.kind.is_data() {
+        return Ok(0);
     }
+    let waiting = end::waiting(alloc, calls)?;
+    let room = INBOX_LIMIT.saturating_sub(waiting.len());
+    let first = end::accepted_count(calls) + 1;
+    Ok(in_a_row(first, end::REACH, room as u64, frame, calls))
+}
+
+// How many of so many numbers from one on came in a row, this frame with them, and at most so many.
+fn in_a_row(first: u128, count: usize, most: u64, frame: &Frame, calls: &[EndEntry]) -> u64
+    requires { first + count < 2 ^ 128 }
+    ensures value { result ≡ right.in_a_row most (words.places first count
+        (Arrive frame.now (Ok (arrived.Took 0)) ∷ calls.now)) }
+    ensures bound { result ≤ most }
+{
+    let came = end::payload(first, calls).is_some()
+        || end::brings_at(first, frame, end::accepted_count(calls));
+    if most == 0 || count == 0 || !came {
+        return 0;
+    }
+    1 + in_a_row(first + 1, count - 1, most - 1, frame, calls)
 }
 
 /// What `front` answers.
@@ -190,8 +211,7 @@ pub fn transmit(
 ) -> Result<Vec<Frame>, AllocError>
     ensures { IfOk result (λ frames. frames.items ≡ right.right_transmit me peer window calls.now) }
 {
-    let accepted = end::accepted(alloc, calls)?;
-    let ack = accepted.len() as u64 + 1;
+    let ack = next_of(calls)?;
     if let Some(reason) = end::ending(calls) {
         if !end::owes_close(calls) {
             return Ok(Vec::new(alloc));
@@ -201,10 +221,51 @@ pub fn transmit(
     let unacknowledged = end::unacknowledged(alloc, calls)?;
     let given = window_of(&unacknowledged, window);
     if !given.is_empty() {
-        return data_frames(alloc, me, peer, ack, end::lowest(calls), given);
+        let (first, transmitted) = (end::lowest(calls), end::transmitted(calls));
+        return given_frames(alloc, me, peer, ack, first, transmitted, given);
     }
     if !end::data_arrived(calls) {
         return Ok(Vec::new(alloc));
     }
     lone_frame(alloc, FrameKind::Ack, me, peer, ack, &[])
+}
+
+// The next number: one more than the number of items accepted. No end that memory has room for accepts more than a `u64` counts.
+fn next_of(calls: &[EndEntry]) -> Result<u64, AllocError>
+    ensures { IfOk result (λ next. next ≡ words.accepted_count calls.now + 1) }
+{
+    let next = end::accepted_count(calls) + 1;
+    if next > u128::from(u64::MAX) {
+        return Err(AllocError);
+    }
+    Ok(next as u64)
+}
+
+// Data frames for the first of these payloads, numbered from `first`, and for those above the
+// highest number given before.
+fn given_frames(
+    alloc: Global,
+    me: SpaceId,
+    peer: SpaceId,
+    ack: u64,
+    first: u64,
+    transmitted: u64,
+    payloads: &[&[u8]],
+) -> Result<Vec<Frame>, AllocError>
+    requires some { 0 < length payloads.now }
+    requires numbers { first + length payloads.now < 2 ^ 64 }
+    ensures { (due : Bool) → IfOk result (λ frames. frames.items
+        ≡ right.open_frames me peer ack first transmitted due (texts payloads.now)) }
+{
+    let (lowest, later) = payloads.split_at(1);
+    let mut frames = data_frames(alloc, me, peer, ack, first, lowest)?;
+    let repeated = transmitted.saturating_sub(first);
+    if repeated >= later.len() as u64 {
+        return Ok(frames);
+    }
+    let new = later.split_at(repeated as usize).1;
+    let first_new = first.max(transmitted) + 1;
+    let mut more = data_frames(alloc, me, peer, ack, first_new, new)?;
+    frames.append(&mut more)?;
+    Ok(frames)
 }
