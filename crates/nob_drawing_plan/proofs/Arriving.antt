@@ -14,7 +14,7 @@ use Rattle.nob_model_journal.specs.Runs.{ArrivesGiven}
 use Rattle.nob_drawing_plan.specs.declared.flight.Departure.{Departure}
 use Rattle.nob_drawing_plan.specs.declared.flight.Arrow.{Arrow}
 use Rattle.nob_drawing_plan.specs.Bars.{row_after}
-use Rattle.nob_drawing_plan.specs.Flights.{same_frame, departure_of, with_departures, departures, last_of, is_ignored, arrow_from, arrow_of, arrows}
+use Rattle.nob_drawing_plan.specs.Flights.{same_frame, departure_of, with_departures, departures, last_of, takes_nothing, arrow_from, arrow_of, arrows}
 use Rattle.nob_drawing_plan.specs.Laws.{IsArrowOf, AreGiven, HaveArrows}
 use Rattle.nob_drawing_plan.proofs.Frames.{frame_is, frame_self}
 
@@ -166,12 +166,12 @@ arrow_here before arrival frame given is = (arrow, there, right)
     origin = was_given before found.0 last.0
 
     arrow : Arrow
-    arrow = record { departure = found.0; to = arrival.space; row = row_after before; ignored = is_ignored frame arrival.result }
+    arrow = record { departure = found.0; to = arrival.space; row = row_after before; took_nothing = takes_nothing frame arrival.result }
 
     is_own : arrow_of arrival.space (row_after before) arrival.event arrival.result (departures before) ≡ arrow ∷ []
     is_own =
         ap (λ (e : Event). arrow_of arrival.space (row_after before) e arrival.result (departures before)) is
-        ∙ ap (λ (o : Option Departure). arrow_from arrival.space (row_after before) (is_ignored frame arrival.result) o) found.1
+        ∙ ap (λ (o : Option Departure). arrow_from arrival.space (row_after before) (takes_nothing frame arrival.result) o) found.1
 
     there : Contains (arrows (arrival ∷ before)) arrow
     there = Contains-append_right (arrows before) (arrow_of arrival.space (row_after before) arrival.event arrival.result (departures before)) arrow
