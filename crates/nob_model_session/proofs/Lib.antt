@@ -1,1 +1,3 @@
 pub mod TextLists
+pub mod Arriving
+pub mod Fronts

@@ -87,6 +87,7 @@ fn taken_by(alloc: Global, frame: &Frame, calls: &[EndEntry]) -> Result<u64, All
 }
 
 // How many of so many numbers from one on came in a row, this frame with them, and at most so many.
+#[tactic(auto, unfolding(crate::specs::End::places))]
 fn in_a_row(first: u128, count: usize, most: u64, frame: &Frame, calls: &[EndEntry]) -> u64
     requires { first + count < 2 ^ 128 }
     ensures value { result ≡ right.in_a_row most (words.places first count
@@ -230,7 +231,8 @@ pub fn transmit(
     lone_frame(alloc, FrameKind::Ack, me, peer, ack, &[])
 }
 
-// The next number: one more than the number of items accepted. No end that memory has room for accepts more than a `u64` counts.
+// The next number: one more than the number of items accepted. No end that memory has room for
+// accepts more than a `u64` counts.
 fn next_of(calls: &[EndEntry]) -> Result<u64, AllocError>
     ensures { IfOk result (λ next. next ≡ words.accepted_count calls.now + 1) }
 {
