@@ -1,1 +1,2 @@
 pub mod TextLists
+pub mod Arriving

@@ -79,7 +79,7 @@ payload n (Arrive frame (Ok (arrived.Took k)) ∷ L) = option_or (payload n L) (
 payload n (_ ∷ L) = payload n L
 
 -- the places of so many numbers from n on, each with the payload that came there, if one did
-abbrev pub places : (n count : ℕ) → List EndEntry → List (Option (List ℕ))
+unfoldable pub places : (n count : ℕ) → List EndEntry → List (Option (List ℕ))
 places n zero L = []
 places n (suc count) L = payload n L ∷ places (n + 1) count L
 

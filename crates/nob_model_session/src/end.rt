@@ -140,6 +140,7 @@ pub fn payload(number: u128, calls: &[EndEntry]) -> Option<&[u8]>
 }
 
 // The payloads that came of so many numbers from one on.
+#[tactic(auto, unfolding(crate::specs::End::places))]
 fn filled(
     alloc: Global,
     first: u128,

@@ -87,6 +87,7 @@ fn taken_by(alloc: Global, frame: &Frame, calls: &[EndEntry]) -> Result<u64, All
 }
 
 // How many of so many numbers from one on came in a row, this frame with them, and at most so many.
+#[tactic(auto, unfolding(crate::specs::End::places))]
 fn in_a_row(first: u128, count: usize, most: u64, frame: &Frame, calls: &[EndEntry]) -> u64
     requires { first + count < 2 ^ 128 }
     ensures value { result ≡ right.in_a_row most (words.places first count

@@ -1,4 +1,3 @@
-use Rattle.std.proofs.Common.{ℕ}
 use Rattle.nob_model_session.proofs.end.+filled.Given as goal
 
 abbrev pub decreases-filled : goal.decreases-filled

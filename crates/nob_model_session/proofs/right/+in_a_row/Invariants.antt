@@ -1,4 +1,3 @@
-use Rattle.std.proofs.Common.{ℕ}
 use Rattle.nob_model_session.proofs.right.+in_a_row.Given as goal
 
 abbrev pub decreases-in_a_row : goal.decreases-in_a_row
