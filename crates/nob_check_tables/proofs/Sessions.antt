@@ -1,15 +1,20 @@
 -- The tables say which sessions have closed and which items came.
-use Rattle.std.proofs.Common.{◌≡◌, ◌&&◌, ◌||◌, not, ℕ, Bool, true, false, cond, List, [], ◌∷◌, Option, Some, None, is_some, refl, sym, ap, subst, true≢false, ◌∙◌}
+use Rattle.std.proofs.Common.{◌≡◌, ◌+◌, ◌&&◌, ◌||◌, not, ℕ, Bool, true, false, cond, List, [], ◌∷◌, Option, Some, None, is_some, refl, sym, ap, subst, true≢false, ◌∙◌}
 use Rattle.std.specs.Prelude.{◌==◌, option_and_then}
-use Rattle.std.specs.Option.{option_map}
+use Rattle.std.specs.Map.{lookup}
+use Rattle.std.specs.Option.{option_map, option_or}
 use Rattle.std.proofs.lemmas.Bool.{and_parts, and_from, eqb-true, eq-eqb}
-use Rattle.nob_frame.specs.Kinds.{is_data}
+use Rattle.indexmap.specs.IndexMap.{insert_entry}
 use Rattle.nob_frame.specs.declared.frame.Frame.{Frame}
+use Rattle.nob_frame.specs.Kinds.{is_data}
+use Rattle.nob_model_session.specs.End.{is_in_reach}
 use Rattle.nob_item.specs.declared.item.Item.{Item}
+use Rattle.nob_model_session.specs.End.{brings_at}
 use Rattle.nob_model_types.specs.declared.deed.Deed.{Deed}
 use Rattle.nob_model_types.specs.declared.deed.Deed.TheVariants.{Arrive, Closing}
-use Rattle.nob_model_types.specs.Sessions.{closed, is_accepted, or_else, payload_at, item_spelt, item_at}
+use Rattle.nob_model_types.specs.Sessions.{closed, accepted_from, payload_at, item_spelt, item_at}
 use Rattle.nob_check_tables.specs.Closed.{is_among, with_peer}
+use Rattle.nob_check_tables.specs.Taken.{found_count, taken_from, with_taken}
 use Rattle.nob_check_tables.specs.Came.{is_same_arrival, found_item, came_at, item_in, with_item, with_frame}
 use Rattle.nob_check_tables.specs.Tables.{tables_of}
 use Rattle.nob_check_tables.specs.declared.came.Arrival.{Arrival}
@@ -34,6 +39,42 @@ closed_is s n p [] = refl
 closed_is s n p (Closing q reason cause ∷ D) = among_with p q (tables_of s n D).closed ∙ ap (λ (b : Bool). (q == p) || b) (closed_is s n p D)
 closed_is s n p (_ ∷ D) = closed_is s n p D
 
+-- ---- counts
+
+-- the counts with another one of a peer
+abbrev with_count : (q count : ℕ) → List (ℕ × ℕ) → List (ℕ × ℕ)
+with_count q count taken = insert_entry (λ a b. a == b) taken q count
+
+taken_with : (p q count : ℕ) (taken : List (ℕ × ℕ)) → taken_from p (with_count q count taken) ≡ cond (p == q) count (taken_from p taken)
+taken_with p q count taken =
+    ap found_count (put_at (λ a b. a == b) (λ a b. eqb-true a b) (λ a. eq-eqb a a refl) p q count taken) ∙ by (p == q)
+  where
+    by : (b : Bool) → found_count (cond b (Some count) (lookup (λ other. p == other) taken)) ≡ cond b count (taken_from p taken)
+    by true = refl
+    by false = refl
+
+-- how many items of p were accepted
+pub taken_is : (s n p : ℕ) (D : List Deed) → taken_from p (tables_of s n D).taken ≡ accepted_from p D
+taken_is s n p [] = refl
+taken_is s n p (Arrive frame count ∷ D) = taken_with p frame.from (count + taken_from frame.from taken) taken ∙ by (p == frame.from) (frame.from == p) refl refl
+  where
+    taken : List (ℕ × ℕ)
+    taken = (tables_of s n D).taken
+
+    by : (a b : Bool) → p == frame.from ≡ a → frame.from == p ≡ b → cond (p == frame.from) (count + taken_from frame.from taken) (taken_from p taken) ≡ cond (frame.from == p) (count + accepted_from p D) (accepted_from p D)
+    by true true one two =
+        ap (λ (t : Bool). cond t (count + taken_from frame.from taken) (taken_from p taken)) one
+        ∙ ap (λ (q : ℕ). count + taken_from q taken) (eqb-true frame.from p two)
+        ∙ ap (λ (k : ℕ). count + k) (taken_is s n p D)
+        ∙ sym (ap (λ (t : Bool). cond t (count + accepted_from p D) (accepted_from p D)) two)
+    by false false one two =
+        ap (λ (t : Bool). cond t (count + taken_from frame.from taken) (taken_from p taken)) one
+        ∙ taken_is s n p D
+        ∙ sym (ap (λ (t : Bool). cond t (count + accepted_from p D) (accepted_from p D)) two)
+    by true false one two = absurd (true≢false (sym (eq-eqb frame.from p (sym (eqb-true p frame.from one))) ∙ two))
+    by false true one two = absurd (true≢false (sym (eq-eqb p frame.from (sym (eqb-true frame.from p two))) ∙ one))
+taken_is s n p (_ ∷ D) = taken_is s n p D
+
 -- ---- items
 
 same_arrival : (a b : Arrival) → is_same_arrival a b ≡ true → a ≡ b
@@ -46,11 +87,11 @@ same_arrival a b h =
 own_arrival : (a : Arrival) → is_same_arrival a a ≡ true
 own_arrival a = and_from (a.from == a.from) (a.number == a.number) (eq-eqb a.from a.from refl) (eq-eqb a.number a.number refl)
 
-or_none : {A : Type 0} (x : Option A) → or_else x None ≡ x
+or_none : {A : Type 0} (x : Option A) → option_or x None ≡ x
 or_none None = refl
 or_none (Some x) = refl
 
-some_first : {A : Type 0} (x y : Option A) → is_some x ≡ true → x ≡ or_else x y
+some_first : {A : Type 0} (x y : Option A) → is_some x ≡ true → x ≡ option_or x y
 some_first None y is = absurd (true≢false (sym is))
 some_first (Some x) y is = refl
 
@@ -69,18 +110,18 @@ at_number p k frame h =
     (eqb-true frame.from p parts.0, eqb-true frame.seq k parts.1)
 
 -- what was put in stands at its number
-put_in : (p k : ℕ) (frame : Frame) (item : Option Item) (came : List (Arrival × Option Item)) → came_at frame.from frame.seq came ≡ None → came_at p k (with_item (record { from = frame.from; number = frame.seq }) item came) ≡ or_else (came_at p k came) (cond (has_number p k frame) (Some item) None)
+put_in : (p k : ℕ) (frame : Frame) (item : Option Item) (came : List (Arrival × Option Item)) → came_at frame.from frame.seq came ≡ None → came_at p k (with_item (record { from = frame.from; number = frame.seq }) item came) ≡ option_or (came_at p k came) (cond (has_number p k frame) (Some item) None)
 put_in p k frame item came none =
     put_at is_same_arrival same_arrival own_arrival (record { from = p; number = k }) (record { from = frame.from; number = frame.seq }) item came
     ∙ by (is_same_arrival (record { from = p; number = k }) (record { from = frame.from; number = frame.seq })) (has_number p k frame) refl refl
   where
-    by : (a b : Bool) → is_same_arrival (record { from = p; number = k }) (record { from = frame.from; number = frame.seq }) ≡ a → has_number p k frame ≡ b → cond (is_same_arrival (record { from = p; number = k }) (record { from = frame.from; number = frame.seq })) (Some item) (came_at p k came) ≡ or_else (came_at p k came) (cond (has_number p k frame) (Some item) None)
+    by : (a b : Bool) → is_same_arrival (record { from = p; number = k }) (record { from = frame.from; number = frame.seq }) ≡ a → has_number p k frame ≡ b → cond (is_same_arrival (record { from = p; number = k }) (record { from = frame.from; number = frame.seq })) (Some item) (came_at p k came) ≡ option_or (came_at p k came) (cond (has_number p k frame) (Some item) None)
     by true true here there =
         let at = at_number p k frame there in
         let before : came_at p k came ≡ None = subst (λ (x : ℕ). came_at x k came ≡ None) at.0 (subst (λ (y : ℕ). came_at frame.from y came ≡ None) at.1 none) in
         ap (λ (b : Bool). cond b (Some item) (came_at p k came)) here
-        ∙ sym (ap (λ (x : Option (Option Item)). or_else x (Some item)) before)
-        ∙ sym (ap (λ (b : Bool). or_else (came_at p k came) (cond b (Some item) None)) there)
+        ∙ sym (ap (λ (x : Option (Option Item)). option_or x (Some item)) before)
+        ∙ sym (ap (λ (b : Bool). option_or (came_at p k came) (cond b (Some item) None)) there)
     by true false here there =
         let parts = and_parts (p == frame.from) (k == frame.seq) here in
         absurd (true≢false (sym (and_from (frame.from == p) (frame.seq == k) (eq-eqb frame.from p (sym (eqb-true p frame.from parts.0))) (eq-eqb frame.seq k (sym (eqb-true k frame.seq parts.1)))) ∙ there))
@@ -90,56 +131,84 @@ put_in p k frame item came none =
     by false false here there =
         ap (λ (b : Bool). cond b (Some item) (came_at p k came)) here
         ∙ sym (or_none (came_at p k came))
-        ∙ sym (ap (λ (b : Bool). or_else (came_at p k came) (cond b (Some item) None)) there)
+        ∙ sym (ap (λ (b : Bool). option_or (came_at p k came) (cond b (Some item) None)) there)
 
 -- what came first stays
-stays_in : (p k : ℕ) (frame : Frame) (item : Option Item) (came : List (Arrival × Option Item)) → is_some (came_at frame.from frame.seq came) ≡ true → came_at p k came ≡ or_else (came_at p k came) (cond (has_number p k frame) (Some item) None)
+stays_in : (p k : ℕ) (frame : Frame) (item : Option Item) (came : List (Arrival × Option Item)) → is_some (came_at frame.from frame.seq came) ≡ true → came_at p k came ≡ option_or (came_at p k came) (cond (has_number p k frame) (Some item) None)
 stays_in p k frame item came some = by (has_number p k frame) refl
   where
-    by : (b : Bool) → has_number p k frame ≡ b → came_at p k came ≡ or_else (came_at p k came) (cond (has_number p k frame) (Some item) None)
+    by : (b : Bool) → has_number p k frame ≡ b → came_at p k came ≡ option_or (came_at p k came) (cond (has_number p k frame) (Some item) None)
     by true there =
         let at = at_number p k frame there in
         some_first (came_at p k came) _ (subst (λ (x : ℕ). is_some (came_at x k came) ≡ true) at.0 (subst (λ (y : ℕ). is_some (came_at frame.from y came) ≡ true) at.1 some))
-    by false there = sym (or_none (came_at p k came)) ∙ sym (ap (λ (b : Bool). or_else (came_at p k came) (cond b (Some item) None)) there)
+    by false there = sym (or_none (came_at p k came)) ∙ sym (ap (λ (b : Bool). option_or (came_at p k came) (cond b (Some item) None)) there)
 
-accepted_by : (p k count : ℕ) (frame : Frame) → is_data frame.kind ≡ true → (count == 1) ≡ true → has_number p k frame ≡ is_accepted p k frame count
-accepted_by p k count frame kind one = three (is_data frame.kind) (frame.from == p) (frame.seq == k) (count == 1) kind one
+-- whether a frame brings item k from p, where so many items of each were accepted
+abbrev pub brings : (p k : ℕ) → Frame → List Deed → Bool
+brings p k frame D = frame.from == p && brings_at k frame (accepted_from p D)
+
+-- it does if it has that number, and is in reach
+brings_by : (p k : ℕ) (frame : Frame) (D : List Deed) → (has_number p k frame && brings_at frame.seq frame (accepted_from frame.from D)) ≡ brings p k frame D
+brings_by p k frame D = by (frame.from == p) (frame.seq == k) refl refl
   where
-    three : (a b c d : Bool) → a ≡ true → d ≡ true → (b && c) ≡ (a && b && c && d)
-    three true true true d e f = sym f
-    three true true false d e f = refl
-    three true false c d e f = refl
-    three false b c d e f = absurd (true≢false (sym e))
+    right : ℕ → Bool
+    right q = brings_at k frame (accepted_from q D)
 
-not_data : (p k count : ℕ) (frame : Frame) → is_data frame.kind ≡ false → is_accepted p k frame count ≡ false
-not_data p k count frame none = ap (λ (b : Bool). b && frame.from == p && frame.seq == k && count == 1) none
+    none : (b : Bool) → (b && false) ≡ false
+    none true = refl
+    none false = refl
 
-not_one : (p k count : ℕ) (frame : Frame) → (count == 1) ≡ false → is_accepted p k frame count ≡ false
-not_one p k count frame none = ap (λ (b : Bool). is_data frame.kind && frame.from == p && frame.seq == k && b) none ∙ last (is_data frame.kind && frame.from == p && frame.seq == k)
-  where
-    last : (a : Bool) → (a && false) ≡ false
-    last true = refl
-    last false = refl
+    unlike : frame.seq == k ≡ false → brings_at k frame (accepted_from p D) ≡ false
+    unlike other = ap (λ (b : Bool). (is_data frame.kind && b) && is_in_reach (accepted_from p D) k) other ∙ ap (λ (b : Bool). b && is_in_reach (accepted_from p D) k) (none (is_data frame.kind))
 
-came_with : (p k count : ℕ) (frame : Frame) (came : List (Arrival × Option Item)) → came_at p k (with_frame frame count came) ≡ or_else (came_at p k came) (cond (is_accepted p k frame count) (Some (item_spelt frame.payload)) None)
-came_with p k count frame came = by (is_data frame.kind) (count == 1) (is_some (came_at frame.from frame.seq came)) refl refl refl
+    by : (a b : Bool) → frame.from == p ≡ a → frame.seq == k ≡ b → (has_number p k frame && brings_at frame.seq frame (accepted_from frame.from D)) ≡ brings p k frame D
+    by true true from number =
+        ap (λ (x : Bool). (x && (frame.seq == k)) && brings_at frame.seq frame (accepted_from frame.from D)) from
+        ∙ ap (λ (x : Bool). x && brings_at frame.seq frame (accepted_from frame.from D)) number
+        ∙ ap (λ (x : ℕ). brings_at x frame (accepted_from frame.from D)) (eqb-true frame.seq k number)
+        ∙ ap right (eqb-true frame.from p from)
+        ∙ sym (ap (λ (x : Bool). x && brings_at k frame (accepted_from p D)) from)
+    by true false from number =
+        ap (λ (x : Bool). (x && (frame.seq == k)) && brings_at frame.seq frame (accepted_from frame.from D)) from
+        ∙ ap (λ (x : Bool). x && brings_at frame.seq frame (accepted_from frame.from D)) number
+        ∙ sym (unlike number)
+        ∙ sym (ap (λ (x : Bool). x && brings_at k frame (accepted_from p D)) from)
+    by false b from number =
+        ap (λ (x : Bool). (x && (frame.seq == k)) && brings_at frame.seq frame (accepted_from frame.from D)) from
+        ∙ sym (ap (λ (x : Bool). x && brings_at k frame (accepted_from p D)) from)
+
+came_with : (p k accepted : ℕ) (frame : Frame) (came : List (Arrival × Option Item)) → came_at p k (with_frame frame accepted came) ≡ option_or (came_at p k came) (cond (has_number p k frame && brings_at frame.seq frame accepted) (Some (item_spelt frame.payload)) None)
+came_with p k accepted frame came = by (brings_at frame.seq frame accepted) (is_some (came_at frame.from frame.seq came)) refl refl
   where
     new : List (Arrival × Option Item)
     new = with_item (record { from = frame.from; number = frame.seq }) (item_spelt frame.payload) came
 
-    steps : Bool → Bool → Bool → Option (Option Item)
-    steps a b c = came_at p k (cond (not a) came (cond (not b) came (cond c came new)))
+    steps : Bool → Bool → Option (Option Item)
+    steps a b = came_at p k (cond (not a) came (cond b came new))
 
     whole : Bool → Option (Option Item)
-    whole b = or_else (came_at p k came) (cond b (Some (item_spelt frame.payload)) None)
+    whole b = option_or (came_at p k came) (cond b (Some (item_spelt frame.payload)) None)
 
-    by : (a b c : Bool) → is_data frame.kind ≡ a → (count == 1) ≡ b → is_some (came_at frame.from frame.seq came) ≡ c → came_at p k (with_frame frame count came) ≡ whole (is_accepted p k frame count)
-    by false b c kind one some = ap (λ x. steps x (count == 1) (is_some (came_at frame.from frame.seq came))) kind ∙ sym (or_none (came_at p k came)) ∙ sym (ap whole (not_data p k count frame kind))
-    by true false c kind one some = (λ i. steps (kind i) (one i) (is_some (came_at frame.from frame.seq came))) ∙ sym (or_none (came_at p k came)) ∙ sym (ap whole (not_one p k count frame one))
-    by true true true kind one some = (λ i. steps (kind i) (one i) (some i)) ∙ stays_in p k frame (item_spelt frame.payload) came some ∙ ap whole (accepted_by p k count frame kind one)
-    by true true false kind one some = (λ i. steps (kind i) (one i) (some i)) ∙ put_in p k frame (item_spelt frame.payload) came (is_none (came_at frame.from frame.seq came) some) ∙ ap whole (accepted_by p k count frame kind one)
+    both : (b : Bool) → b ≡ (b && true)
+    both true = refl
+    both false = refl
 
-spelt_or : (x : Option (List ℕ)) (b : Bool) (bytes : List ℕ) → or_else (option_map item_spelt x) (cond b (Some (item_spelt bytes)) None) ≡ option_map item_spelt (or_else x (cond b (Some bytes) None))
+    none : (b : Bool) → (b && false) ≡ false
+    none true = refl
+    none false = refl
+
+    by : (a b : Bool) → brings_at frame.seq frame accepted ≡ a → is_some (came_at frame.from frame.seq came) ≡ b → came_at p k (with_frame frame accepted came) ≡ whole (has_number p k frame && brings_at frame.seq frame accepted)
+    by false b reached some =
+        ap (λ x. steps x (is_some (came_at frame.from frame.seq came))) reached ∙ sym (or_none (came_at p k came))
+        ∙ sym (ap (λ (x : Bool). whole (has_number p k frame && x)) reached ∙ ap whole (none (has_number p k frame)))
+    by true true reached some =
+        (λ i. steps (reached i) (some i)) ∙ stays_in p k frame (item_spelt frame.payload) came some
+        ∙ ap whole (both (has_number p k frame)) ∙ sym (ap (λ (x : Bool). whole (has_number p k frame && x)) reached)
+    by true false reached some =
+        (λ i. steps (reached i) (some i)) ∙ put_in p k frame (item_spelt frame.payload) came (is_none (came_at frame.from frame.seq came) some)
+        ∙ ap whole (both (has_number p k frame)) ∙ sym (ap (λ (x : Bool). whole (has_number p k frame && x)) reached)
+
+spelt_or : (x : Option (List ℕ)) (b : Bool) (bytes : List ℕ) → option_or (option_map item_spelt x) (cond b (Some (item_spelt bytes)) None) ≡ option_map item_spelt (option_or x (cond b (Some bytes) None))
 spelt_or None true bytes = refl
 spelt_or None false bytes = refl
 spelt_or (Some y) b bytes = refl
@@ -148,9 +217,11 @@ spelt_or (Some y) b bytes = refl
 came_is : (s n p k : ℕ) (D : List Deed) → came_at p k (tables_of s n D).came ≡ option_map item_spelt (payload_at p k D)
 came_is s n p k [] = refl
 came_is s n p k (Arrive frame count ∷ D) =
-    came_with p k count frame (tables_of s n D).came
-    ∙ ap (λ (x : Option (Option Item)). or_else x (cond (is_accepted p k frame count) (Some (item_spelt frame.payload)) None)) (came_is s n p k D)
-    ∙ spelt_or (payload_at p k D) (is_accepted p k frame count) frame.payload
+    ap (λ (a : ℕ). came_at p k (with_frame frame a (tables_of s n D).came)) (taken_is s n frame.from D)
+    ∙ came_with p k (accepted_from frame.from D) frame (tables_of s n D).came
+    ∙ ap (λ (b : Bool). option_or (came_at p k (tables_of s n D).came) (cond b (Some (item_spelt frame.payload)) None)) (brings_by p k frame D)
+    ∙ ap (λ (x : Option (Option Item)). option_or x (cond (brings p k frame D) (Some (item_spelt frame.payload)) None)) (came_is s n p k D)
+    ∙ spelt_or (payload_at p k D) (brings p k frame D) frame.payload
 came_is s n p k (_ ∷ D) = came_is s n p k D
 
 found_spelt : (x : Option (List ℕ)) → found_item (option_map item_spelt x) ≡ option_and_then item_spelt x

@@ -2,12 +2,13 @@
 use Rattle.std.specs.Prelude.{ℕ, Bool, ◌&&◌, not, ◌==◌, List, Option, Some, None, is_some, if◌then◌else◌}
 use Rattle.std.specs.Map.{lookup}
 use Rattle.indexmap.specs.IndexMap.{insert_entry}
-use Rattle.nob_frame.specs.Kinds.{is_data}
 use Rattle.nob_frame.specs.declared.frame.Frame.{Frame}
 use Rattle.nob_item.specs.declared.item.Item.{Item}
+use Rattle.nob_model_session.specs.End.{brings_at}
 use Rattle.nob_model_types.specs.Sessions.{item_spelt}
 use Rattle.nob_model_types.specs.declared.deed.Deed.{Deed}
 use Rattle.nob_model_types.specs.declared.deed.Deed.TheVariants.{Arrive}
+use Rattle.nob_check_tables.specs.Taken.{taken_from}
 use Rattle.nob_check_tables.specs.declared.came.Arrival.{Arrival}
 
 -- whether two arrivals are of one item
@@ -31,11 +32,11 @@ item_in p k came = found_item (came_at p k came)
 abbrev pub with_item : Arrival → Option Item → List (Arrival × Option Item) → List (Arrival × Option Item)
 with_item arrival item came = insert_entry is_same_arrival came arrival item
 
--- what came once a frame accepted so many items: the item of a Data frame that was accepted, unless one with its number came before
-abbrev pub with_frame : Frame → ℕ → List (Arrival × Option Item) → List (Arrival × Option Item)
-with_frame frame count came = if not (is_data frame.kind) then came else if not (count == 1) then came else if is_some (came_at frame.from frame.seq came) then came else with_item (record { from = frame.from; number = frame.seq }) (item_spelt frame.payload) came
+-- what came once a frame arrived where so many items of its sender were accepted: the item of a Data frame in reach, unless one with its number came before
+abbrev pub with_frame : Frame → (accepted : ℕ) → List (Arrival × Option Item) → List (Arrival × Option Item)
+with_frame frame accepted came = if not (brings_at frame.seq frame accepted) then came else if is_some (came_at frame.from frame.seq came) then came else with_item (record { from = frame.from; number = frame.seq }) (item_spelt frame.payload) came
 
--- what came, after a deed
-abbrev pub came_after : Deed → List (Arrival × Option Item) → List (Arrival × Option Item)
-came_after (Arrive frame count) came = with_frame frame count came
-came_after (_) came = came
+-- what came, after a deed, where so many items of each peer were accepted before
+abbrev pub came_after : Deed → (taken : List (ℕ × ℕ)) → List (Arrival × Option Item) → List (Arrival × Option Item)
+came_after (Arrive frame count) taken came = with_frame frame (taken_from frame.from taken) came
+came_after (_) taken came = came

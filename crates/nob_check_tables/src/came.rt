@@ -8,6 +8,7 @@ use indexmap::IndexMap;
 use nob_frame::Frame;
 use nob_ids::{ItemNo, SpaceId};
 use nob_item::Item;
+use nob_model_session::end::brings_at;
 use nob_model_types::sessions;
 use std::alloc::{AllocError, Global};
 use std::marker::Model;
@@ -73,17 +74,22 @@ impl Came {
         }
     }
 
-    /// What came once a frame accepted so many items. Only memory fails it. It reads the payload of
-    /// the frame.
-    pub fn with_frame(self, alloc: Global, frame: &Frame, count: u64) -> Result<Came, AllocError>
-        ensures { IfOk result (λ more. more ≡ words.with_frame frame.now count self) }
+    /// What came once a frame arrived where so many items of its sender were accepted. Only memory
+    /// fails it. It reads the payload of the frame.
+    pub fn with_frame(
+        self,
+        alloc: Global,
+        frame: &Frame,
+        accepted: u128,
+    ) -> Result<Came, AllocError>
+        ensures { IfOk result (λ more. more ≡ words.with_frame frame.now accepted self) }
     {
         let Came { mut map } = self;
         let arrival = Arrival {
             from: frame.from,
             number: frame.seq,
         };
-        if !frame.kind.is_data() || count != 1 || map.contains_key(&arrival) {
+        if !brings_at(u128::from(frame.seq), frame, accepted) || map.contains_key(&arrival) {
             return Ok(Came { map });
         }
         let item = sessions::item_spelt(alloc, frame.payload.as_slice())?;

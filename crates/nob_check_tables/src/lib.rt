@@ -8,8 +8,10 @@ mod closed;
 pub mod laws;
 mod rows;
 mod tables;
+mod taken;
 
 pub use came::{Arrival, Came};
 pub use closed::Closed;
 pub use rows::TurnRows;
 pub use tables::{Tables, new_tables, with_deed};
+pub use taken::Taken;

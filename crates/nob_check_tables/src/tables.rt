@@ -8,6 +8,7 @@ ghost use Rattle.nob_check_tables.specs.Tables as words;
 use crate::came::Came;
 use crate::closed::Closed;
 use crate::rows::{TurnRows, rows_with_clean, with_item};
+use crate::taken::Taken;
 use nob_ids::{ItemNo, SpaceId};
 use nob_model_types::{Deed, Here};
 use std::alloc::{AllocError, Global};
@@ -19,6 +20,8 @@ pub struct Tables {
     pub here: Here,
     /// Which sessions have closed.
     pub closed: Closed,
+    /// How many items of each peer were accepted.
+    pub taken: Taken,
     /// Which items came.
     pub came: Came,
     /// What was asked of the owner of each reference, and answered.
@@ -32,6 +35,7 @@ pub fn new_tables(alloc: Global, here: Here) -> Tables
     Tables {
         here,
         closed: Closed::none(alloc),
+        taken: Taken::none(alloc),
         came: Came::none(alloc),
         rows: TurnRows::none(alloc),
     }
@@ -65,6 +69,7 @@ pub fn with_deed(alloc: Global, deed: &Deed, tables: Tables) -> Result<Tables, A
     let Tables {
         here,
         closed,
+        taken,
         came,
         rows,
     } = tables;
@@ -74,6 +79,7 @@ pub fn with_deed(alloc: Global, deed: &Deed, tables: Tables) -> Result<Tables, A
             Ok(Tables {
                 here,
                 closed,
+                taken,
                 came,
                 rows,
             })
@@ -83,15 +89,18 @@ pub fn with_deed(alloc: Global, deed: &Deed, tables: Tables) -> Result<Tables, A
             Ok(Tables {
                 here,
                 closed,
+                taken,
                 came,
                 rows,
             })
         }
         Deed::Arrive(frame, count) => {
-            let came = came.with_frame(alloc, frame, *count)?;
+            let came = came.with_frame(alloc, frame, taken.count(frame.from))?;
+            let taken = taken.with_taken(frame, *count)?;
             Ok(Tables {
                 here,
                 closed,
+                taken,
                 came,
                 rows,
             })
@@ -101,6 +110,7 @@ pub fn with_deed(alloc: Global, deed: &Deed, tables: Tables) -> Result<Tables, A
             Ok(Tables {
                 here,
                 closed,
+                taken,
                 came,
                 rows,
             })
@@ -108,6 +118,7 @@ pub fn with_deed(alloc: Global, deed: &Deed, tables: Tables) -> Result<Tables, A
         _ => Ok(Tables {
             here,
             closed,
+            taken,
             came,
             rows,
         }),

@@ -153,9 +153,10 @@ filled_at n (suc count) zero L came within =
     elim (payload n L) as (λ o. IsSome o → slice_get (filled (o ∷ places (n + 1) count L)) 0 ≡ o)
     [ None ↦ λ some. absurd cc | Some p ↦ λ some. refl ] (came_first n count L came) ∙ ap (λ (m : ℕ). payload m L) (omega arith)
 filled_at n (suc count) (suc i) L came within =
-    elim (payload n L) as (λ o. IsSome o → slice_get (filled (o ∷ places (n + 1) count L)) (suc i) ≡ payload (n + suc i) L)
-    [ None ↦ λ some. absurd cc
-    | Some p ↦ λ some. filled_at (n + 1) count i L (came_later n count L came) (omega (arith, within)) ∙ ap (λ (m : ℕ). payload m L) (omega arith) ] (came_first n count L came)
+    elim (payload n L) as (λ o. IsSome o → slice_get (filled (o ∷ places (n + 1) count L)) (suc i) ≡ payload (n + suc i) L) [
+      | None ↦ λ some. absurd cc
+      | Some p ↦ λ some. filled_at (n + 1) count i L (came_later n count L came) (omega (arith, within)) ∙ ap (λ (m : ℕ). payload m L) (omega arith)
+    ] (came_first n count L came)
 
 -- ---- what an arrival answers
 
@@ -185,7 +186,7 @@ not_false false e = absurd cc
 pub took_is : (me peer : ℕ) (frame : Frame) (L : List EndEntry) (k : ℕ) → Ok (arrived.Took (suc k)) ≡ right_arrive me peer frame L → Took me peer frame (suc k) L
 took_is me peer frame L k e =
     let parts = took_by (record { peer = peer; reason = reason.PeerClosed }) (record { peer = peer; reason = reason.BadItem }) (not (is_of_pair me peer frame)) (not (is_open L)) (is_close frame.kind) (nat_lt (transmitted L + 1) frame.ack) (is_data frame.kind)
-        (in_a_row (inbox_limit - length (waiting L)) (early (Arrive frame (Ok (arrived.Took 0)) ∷ L))) k e in
+    (in_a_row (inbox_limit - length (waiting L)) (early (Arrive frame (Ok (arrived.Took 0)) ∷ L))) k e in
     record { pair = not_false _ parts.0; open_end = not_false _ parts.1; no_close = parts.2; ack = parts.3; count = parts.4; is_item = parts.5 }
 
 -- what a Data frame makes an open end accept, as the places say
@@ -259,7 +260,8 @@ get_behind : (xs ys : List (List ℕ)) (i : ℕ) → slice_get (xs ++ ys) (lengt
 get_behind [] ys i = ap (slice_get ys) (omega arith)
 get_behind (x ∷ xs) ys i = let next : length (x ∷ xs) + i ≡ suc (length xs + i) = omega arith in ap (slice_get (x ∷ xs ++ ys)) next ∙ get_behind xs ys i
 
-within_some : (xs : List (List ℕ)) (i : ℕ) → i < length xs → (p : List ℕ) × (slice_get xs i ≡ Some p)
+-- within a list something stands
+pub within_some : (xs : List (List ℕ)) (i : ℕ) → i < length xs → (p : List ℕ) × (slice_get xs i ≡ Some p)
 within_some [] i within = absurd (omega arith)
 within_some (x ∷ xs) zero within = (x, refl)
 within_some (x ∷ xs) (suc i) within = within_some xs i (omega (arith, within))
@@ -272,32 +274,34 @@ accepted_at (Arrive frame (Ok (arrived.Took k)) ∷ L) came i within =
     let n = accepted_count L + 1 in
     let more = filled (places n k (e ∷ L)) in
     let len = accepted_length L came.1 in
-    elim (nat_lt i (accepted_count L)) as (λ b. nat_lt i (accepted_count L) ≡ b → slice_get (accepted L ++ more) i ≡ payload (i + 1) (e ∷ L))
-    [ true ↦ λ before.
-        let low : i < accepted_count L = grind (arith, nat_tests, before) in
-        let old = accepted_at L came.1 i low in
-        let there = within_some (accepted L) i (omega (arith, low, len)) in
-        let stays : payload (i + 1) (e ∷ L) ≡ Some there.0 = payload_stays (i + 1) e L there.0 (sym old ∙ there.1) in
-        get_before (accepted L) more i (omega (arith, low, len)) ∙ there.1 ∙ sym stays
-    | false ↦ λ behind.
-        let high : accepted_count L ≤ i = grind (arith, nat_tests, behind) in
-        let place : length (accepted L) + (i - accepted_count L) ≡ i = omega (arith, high, len) in
-        let number : n + (i - accepted_count L) ≡ i + 1 = omega (arith, high) in
-        ap (slice_get (accepted L ++ more)) (sym place)
-        ∙ get_behind (accepted L) more (i - accepted_count L)
-        ∙ filled_at n k (i - accepted_count L) (e ∷ L) came.0 (omega (arith, high, within))
-        ∙ ap (λ (m : ℕ). payload m (e ∷ L)) number ] refl
+    elim (nat_lt i (accepted_count L)) as (λ b. nat_lt i (accepted_count L) ≡ b → slice_get (accepted L ++ more) i ≡ payload (i + 1) (e ∷ L)) [
+      | true ↦ λ before.
+          let low : i < accepted_count L = grind (arith, nat_tests, before) in
+          let old = accepted_at L came.1 i low in
+          let there = within_some (accepted L) i (omega (arith, low, len)) in
+          let stays : payload (i + 1) (e ∷ L) ≡ Some there.0 = payload_stays (i + 1) e L there.0 (sym old ∙ there.1) in
+          get_before (accepted L) more i (omega (arith, low, len)) ∙ there.1 ∙ sym stays
+      | false ↦ λ behind.
+          let high : accepted_count L ≤ i = grind (arith, nat_tests, behind) in
+          let place : length (accepted L) + (i - accepted_count L) ≡ i = omega (arith, high, len) in
+          let number : n + (i - accepted_count L) ≡ i + 1 = omega (arith, high) in
+          ap (slice_get (accepted L ++ more)) (sym place)
+          ∙ get_behind (accepted L) more (i - accepted_count L)
+          ∙ filled_at n k (i - accepted_count L) (e ∷ L) came.0 (omega (arith, high, within))
+          ∙ ap (λ (m : ℕ). payload m (e ∷ L)) number
+    ] refl
 accepted_at (_ ∷ L) came i within = accepted_at L came.1 i within
 
 -- no more than have numbers
 pub accepted_few : (L : List EndEntry) → AllCame L → accepted_count L ≤ last_item
 accepted_few L came =
-    elim (nat_lt last_item (accepted_count L)) as (λ b. nat_lt last_item (accepted_count L) ≡ b → accepted_count L ≤ last_item)
-    [ true ↦ λ over.
-        let high : last_item < accepted_count L = grind (arith, nat_tests, over) in
-        let len = accepted_length L came in
-        let there = within_some (accepted L) (accepted_count L - 1) (omega (arith, high, len)) in
-        let number : last_item < accepted_count L - 1 + 1 = omega (arith, high) in
-        let none : Some there.0 ≡ None = sym there.1 ∙ accepted_at L came (accepted_count L - 1) (omega (arith, high)) ∙ payload_last (accepted_count L - 1 + 1) L number in
-        absurd cc
-    | false ↦ λ under. grind (arith, nat_tests, under) ] refl
+    elim (nat_lt last_item (accepted_count L)) as (λ b. nat_lt last_item (accepted_count L) ≡ b → accepted_count L ≤ last_item) [
+      | true ↦ λ over.
+          let high : last_item < accepted_count L = grind (arith, nat_tests, over) in
+          let len = accepted_length L came in
+          let there = within_some (accepted L) (accepted_count L - 1) (omega (arith, high, len)) in
+          let number : last_item < accepted_count L - 1 + 1 = omega (arith, high) in
+          let none : Some there.0 ≡ None = sym there.1 ∙ accepted_at L came (accepted_count L - 1) (omega (arith, high)) ∙ payload_last (accepted_count L - 1 + 1) L number in
+          absurd cc
+      | false ↦ λ under. grind (arith, nat_tests, under)
+    ] refl

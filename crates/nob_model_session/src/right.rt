@@ -231,7 +231,8 @@ pub fn transmit(
     lone_frame(alloc, FrameKind::Ack, me, peer, ack, &[])
 }
 
-// The next number: one more than the number of items accepted. No end that memory has room for accepts more than a `u64` counts.
+// The next number: one more than the number of items accepted. No end that memory has room for
+// accepts more than a `u64` counts.
 fn next_of(calls: &[EndEntry]) -> Result<u64, AllocError>
     ensures { IfOk result (λ next. next ≡ words.accepted_count calls.now + 1) }
 {

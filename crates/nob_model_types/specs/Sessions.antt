@@ -1,10 +1,10 @@
 -- Which sessions have closed here, and which items came from each peer.
-use Rattle.std.specs.Prelude.{ℕ, Bool, true, false, ◌&&◌, ◌||◌, not, ◌==◌, nat_le, List, [], ◌∷◌, ◌++◌, Option, Some, None, Result, Ok, Err, option_and_then, if◌then◌else◌}
-use Rattle.nob_frame.specs.declared.frame.Frame.{Frame}
-use Rattle.nob_frame.specs.Kinds.{is_data}
+use Rattle.std.specs.Prelude.{ℕ, ◌+◌, Bool, true, false, ◌&&◌, ◌||◌, not, ◌==◌, nat_le, List, [], ◌∷◌, ◌++◌, Option, Some, None, Result, Ok, Err, option_and_then, if◌then◌else◌}
+use Rattle.std.specs.Option.{option_or}
 use Rattle.nob_item.specs.Reading.{item_read}
 use Rattle.nob_item.specs.declared.item.Item.{Item}
 use Rattle.nob_item.specs.declared.fault.ItemFault.{ItemFault}
+use Rattle.nob_model_session.specs.End.{brings_at}
 use Rattle.nob_model_types.specs.declared.deed.Deed.{Deed}
 use Rattle.nob_model_types.specs.declared.deed.Deed.TheVariants.{Act, Arrive, Closing}
 
@@ -18,19 +18,16 @@ closed p [] = false
 closed p (Closing q reason cause ∷ D) = q == p || closed p D
 closed p (_ ∷ D) = closed p D
 
--- whether a frame that accepted so many items is a Data frame from p with number n that was accepted itself
-abbrev pub is_accepted : (p n : ℕ) → Frame → ℕ → Bool
-is_accepted p n frame count = is_data frame.kind && frame.from == p && frame.seq == n && count == 1
+-- how many items from p were accepted: the sum of what arrivals from p took
+abbrev pub accepted_from : ℕ → List Deed → ℕ
+accepted_from p [] = 0
+accepted_from p (Arrive frame count ∷ D) = if frame.from == p then count + accepted_from p D else accepted_from p D
+accepted_from p (_ ∷ D) = accepted_from p D
 
--- the first of two, where there is one
-abbrev pub or_else : {A : Type 0} → Option A → Option A → Option A
-or_else (Some x) later = Some x
-or_else None later = later
-
--- the payload of item n from p: that of the first Data frame with this number that was accepted
+-- the payload of item n from p: that of the first Data frame with this number that arrived while the number was in reach
 abbrev pub payload_at : (p n : ℕ) → List Deed → Option (List ℕ)
 payload_at p n [] = None
-payload_at p n (Arrive frame count ∷ D) = or_else (payload_at p n D) (if is_accepted p n frame count then Some frame.payload else None)
+payload_at p n (Arrive frame count ∷ D) = option_or (payload_at p n D) (if frame.from == p && brings_at n frame (accepted_from p D) then Some frame.payload else None)
 payload_at p n (_ ∷ D) = payload_at p n D
 
 -- the item that was read, if it was

@@ -1,13 +1,13 @@
 //! Which sessions have closed here, and which items came from each peer.
 
-ghost use Rattle.std.specs.Prelude.{◌≡◌, IfOk, Some, None};
+ghost use Rattle.std.specs.Prelude.{◌≡◌, ◌≤◌, ◌*◌, ◌^◌, IfOk, length};
 ghost use Rattle.std.specs.Option.{option_map};
 ghost use Rattle.nob_model_types.specs.Sessions as words;
 
 use crate::deed::Deed;
-use nob_frame::Frame;
 use nob_ids::{ItemNo, SpaceId};
 use nob_item::{Item, ItemError};
+use nob_model_session::end::brings_at;
 use std::alloc::{AllocError, Global};
 
 /// Whether the session with a peer has closed here.
@@ -21,11 +21,23 @@ pub fn closed(peer: SpaceId, deeds: &[Deed]) -> bool
     }
 }
 
-// Whether a frame brought item `number` from a peer and was accepted.
-fn is_accepted(peer: SpaceId, number: ItemNo, frame: &Frame, count: u64) -> bool
-    ensures { result ≡ words.is_accepted peer number frame.now count }
+/// How many items from a peer were accepted.
+pub fn accepted_from(peer: SpaceId, deeds: &[Deed]) -> u128
+    ensures value { result ≡ words.accepted_from peer deeds.now }
+    ensures bound { result ≤ length deeds.now * 2 ^ 64 }
 {
-    frame.kind.is_data() && frame.from == peer && frame.seq == number.get() && count == 1
+    match deeds {
+        [] => 0,
+        [Deed::Arrive(frame, count), older @ ..] => {
+            let before = accepted_from(peer, older);
+            if frame.from == peer {
+                u128::from(*count) + before
+            } else {
+                before
+            }
+        }
+        [_, older @ ..] => accepted_from(peer, older),
+    }
 }
 
 /// The payload of an item from a peer, where it came.
@@ -34,11 +46,13 @@ pub fn payload_at(peer: SpaceId, number: ItemNo, deeds: &[Deed]) -> Option<&[u8]
 {
     match deeds {
         [] => None,
-        [Deed::Arrive(frame, count), older @ ..] => {
+        [Deed::Arrive(frame, _), older @ ..] => {
             if let Some(payload) = payload_at(peer, number, older) {
                 return Some(payload);
             }
-            if is_accepted(peer, number, frame, *count) {
+            if frame.from == peer
+                && brings_at(u128::from(number.get()), frame, accepted_from(peer, older))
+            {
                 return Some(frame.payload.as_slice());
             }
             None

@@ -12,7 +12,7 @@ pub returns : goal.returns
 returns c =
     let len : c.len.result ≡ length c.in_ok-waiting.waiting.items = search rules in
     let room : c.saturating_sub-room.result ≡ 256 - length (words.waiting c.args.calls.now) =
-        c.saturating_sub-room.ensures ∙ ap (λ (n : ℕ). 256 - n) (len ∙ sym (length-map _ _) ∙ ap length c.in_ok-waiting.ensures) in
+    c.saturating_sub-room.ensures ∙ ap (λ (n : ℕ). 256 - n) (len ∙ sym (length-map _ _) ∙ ap length c.in_ok-waiting.ensures) in
     let more : List EndEntry = Arrive c.args.frame.now (Ok (arrived.Took 0)) ∷ c.args.calls.now in
     c.in_a_row.ensures.value
     ∙ ap (λ (n : ℕ). right.in_a_row n (words.places (c.accepted_count-first.result + 1) 64 more)) room

@@ -1,0 +1,65 @@
+//! How many items of each peer were accepted.
+
+ghost use Rattle.std.specs.Prelude.{◌≡◌, [], IfOk};
+ghost use Rattle.nob_check_tables.specs.Taken as words;
+
+use indexmap::IndexMap;
+use nob_frame::Frame;
+use nob_ids::SpaceId;
+use std::alloc::{AllocError, Global};
+use std::marker::Model;
+
+/// How many items of each peer were accepted. Contracts see the pairs, in the order in which the
+/// peers came.
+pub struct Taken {
+    map: IndexMap<SpaceId, u128>,
+}
+
+// By hand, so that the table is taken apart here alone and not at each end of each caller.
+impl Drop for Taken {
+    fn drop(self) {
+        let Taken { map: _ } = self;
+    }
+}
+
+impl Model for Taken {
+    ghost use Rattle.std.specs.Prelude.{ℕ, List};
+
+    ghost Value = { List (ℕ × ℕ) };
+
+    ghost view = { λ taken. taken.map.entries };
+}
+
+impl Taken {
+    /// Nothing was accepted.
+    pub fn none(alloc: Global) -> Taken
+        ensures { result ≡ [] }
+    {
+        Taken {
+            map: IndexMap::new(alloc),
+        }
+    }
+
+    /// How many items of a peer were accepted. Constant time on average.
+    pub fn count(&self, peer: SpaceId) -> u128
+        ensures { result ≡ words.taken_from peer self.now }
+    {
+        match self.map.get(&peer) {
+            Some(count) => *count,
+            None => 0,
+        }
+    }
+
+    /// The counts once a frame took so many items. Only memory fails it: no journal takes so many
+    /// that they can't be counted.
+    pub fn with_taken(self, frame: &Frame, count: u64) -> Result<Taken, AllocError>
+        ensures { IfOk result (λ more. more ≡ words.with_taken frame.now count self) }
+    {
+        let Some(count) = u128::from(count).checked_add(self.count(frame.from)) else {
+            return Err(AllocError);
+        };
+        let Taken { mut map } = self;
+        map.insert(frame.from, count)?;
+        Ok(Taken { map })
+    }
+}
