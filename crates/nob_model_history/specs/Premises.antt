@@ -1,6 +1,5 @@
 -- What holds of every list of right answers, as far as the laws of one deed more need it: nob_model proves that it does.
-use Rattle.std.specs.Prelude.{◌≡◌, ◌≤◌, ⊤, ℕ, ◌+◌, Bool, true, false, List, [], ◌∷◌, length, Option, Some, None, Ok}
-use Rattle.nob_ids.specs.declared.wire_rep.WireRep.{WireRep}
+use Rattle.std.specs.Prelude.{◌≡◌, ◌≤◌, ⊤, ℕ, ◌+◌, true, List, [], ◌∷◌, length, Option, Some, Ok}
 use Rattle.nob_item.specs.declared.item.Item.{Item}
 use Rattle.nob_item.specs.declared.item.Item.TheVariants as items
 use Rattle.nob_model_session.specs.Accepting.{AcceptsWhatCame}
