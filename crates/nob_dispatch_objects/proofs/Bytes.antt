@@ -1,9 +1,10 @@
 -- The table's entries, and the names in them, change alike.
-use Rattle.std.proofs.Common.{◌≡◌, ℕ, ◌+◌, Bool, true, false, List, [], ◌∷◌, length, Option, Some, refl, ap, cond, arith}
+use Rattle.std.proofs.Common.{◌≡◌, ℕ, ◌+◌, Bool, true, false, List, [], ◌∷◌, length, Option, Some, None, refl, sym, ap, cond, arith}
 use Rattle.std.proofs.lemmas.Bool.Decides.{nat_tests}
 use Rattle.std.specs.Prelude.{◌≤◌, ◌&&◌, not, nat_le, is_some, if◌then◌else◌}
 use Rattle.std.specs.Prelude.{Vec}
 use Rattle.std.specs.declared.alloc.Global.{Global}
+use Rattle.std.proofs.lemmas.Option.{none-some}
 use Prim.Native.Nat.{suc}
 use Rattle.std.specs.declared.cmp.Ordering.TheVariants.{Less, Equal, Greater}
 use Rattle.std.specs.Ordering.{match_ordering}
@@ -48,3 +49,12 @@ few_left before old new most is_full few full none len =
       | true ↦ λ full len. omega (arith, len, few)
       | false ↦ λ full len. grind (arith, nat_tests)
     ] full len
+
+-- a name that isn't there is taken out of nothing
+pub without_none : (name : List ℕ) (table : List (List ℕ × WireRep)) → reference_of name table ≡ None → without_name name table ≡ table
+without_none name [] none = refl
+without_none name (e ∷ es) none =
+    elim (same_name name e.0) as (λ b. cond b (Some e.1) (reference_of name es) ≡ None → cond b es (e ∷ without_name name es) ≡ e ∷ es) [
+      | true ↦ λ some. absurd (none-some e.1 (sym some))
+      | false ↦ λ none. ap (λ (xs : List (List ℕ × WireRep)). e ∷ xs) (without_none name es none)
+    ] none

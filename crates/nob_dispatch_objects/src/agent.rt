@@ -1,8 +1,15 @@
 //! The agent of a node: an object whose methods put, get and remove names.
 //!
-//! Method 0, of a list of a name and a reference, has the name stand for the reference; method 1, of
-//! a name, answers the reference; method 2, of a name, removes it. A fault's value is a number: 1 the
-//! argument is another, 2 there is no room, 3 there is no such name, 4 the reference can't be kept.
+//! Method 0, of a list of a name and a reference, has the name stand for the reference; method 1,
+//! of a name, answers the reference; method 2, of a name, removes it. A fault's value is a number:
+//! 1 the argument is another, 2 there is no room, 3 there is no such name, 4 the reference can't be
+//! kept.
+
+ghost use Rattle.std.specs.Prelude.{◌≡◌, ◌⊎◌, None, Some, pos, MatchOption};
+ghost use Rattle.nob_pickle.specs.Shape.{tree, forest};
+ghost use Rattle.nob_pickle.specs.declared.value.Value.TheVariants as values;
+ghost use Rattle.nob_dispatch_objects.specs.Agents as spec;
+ghost use Rattle.nob_dispatch_objects.specs.declared.agent.Waiting.TheVariants as waits;
 
 use crate::names::{Name, NameTable, is_name};
 use crate::object::{Done, Object, Outcome};
@@ -25,7 +32,9 @@ enum AgentFault {
 
 impl AgentFault {
     // The number.
-    fn number(self) -> i64 {
+    fn number(self) -> i64
+        ensures { result ≡ pos (spec.number_of self) }
+    {
         match self {
             AgentFault::Argument => 1,
             AgentFault::Full => 2,
@@ -35,7 +44,9 @@ impl AgentFault {
     }
 
     // The fault as what a method comes to.
-    fn outcome(self) -> Outcome {
+    fn outcome(self) -> Outcome
+        ensures { result ≡ spec.fault (spec.number_of self) }
+    {
         Outcome::Fault(Value::Int(self.number()))
     }
 }
@@ -50,8 +61,8 @@ enum Waiting {
     // The hold on a reference that no name stands for any more is given back; then the method ends
     // with unit.
     Answering,
-    // The hold on a reference that there is no room for is given back; then the method ends with the
-    // fault.
+    // The hold on a reference that there is no room for is given back; then the method ends with
+    // the fault.
     Refusing,
 }
 
@@ -84,7 +95,10 @@ impl Agent {
     }
 
     // Begins to have a name stand for a reference.
-    fn put(&mut self, args: &Value) -> Outcome {
+    fn put(&mut self, args: &Value) -> Outcome
+        ensures { ((result, self.new) ≡ spec.put (spec.entry_in (tree args.now)) self.old)
+            ⊎ spec.LacksMemory (spec.entry_in (tree args.now)) self.old (result, self.new) }
+    {
         let Some((bytes, rep)) = put_arguments(args) else {
             return AgentFault::Argument.outcome();
         };
@@ -102,7 +116,9 @@ impl Agent {
     }
 
     // The reference that a name stands for.
-    fn get(&self, args: &Value) -> Outcome {
+    fn get(&self, args: &Value) -> Outcome
+        ensures { (result, self.now) ≡ spec.get (spec.name_in (tree args.now)) self.now }
+    {
         let Some(bytes) = name_argument(args) else {
             return AgentFault::Argument.outcome();
         };
@@ -113,7 +129,10 @@ impl Agent {
     }
 
     // Removes a name, and begins to give its reference back.
-    fn remove(&mut self, args: &Value) -> Outcome {
+    #[tactic(auto, using(crate::proofs::Bytes::without_none))]
+    fn remove(&mut self, args: &Value) -> Outcome
+        ensures { (result, self.new) ≡ spec.remove (spec.name_in (tree args.now)) self.old }
+    {
         let Some(bytes) = name_argument(args) else {
             return AgentFault::Argument.outcome();
         };
@@ -128,7 +147,10 @@ impl Agent {
 
     // The reference is held: the name stands for it from now on, and the one that it stood for
     // before is given back.
-    fn held(&mut self, name: Name, rep: &WireRep) -> Outcome {
+    fn held(&mut self, name: Name, rep: &WireRep) -> Outcome
+        ensures { ((result, self.new) ≡ spec.held name rep.now self.old)
+            ⊎ spec.LacksRoom name rep.now self.old (result, self.new) }
+    {
         match self.names.put(name, *rep) {
             Ok(None) => Outcome::Answer(Value::Unit),
             Ok(Some(before)) => {
@@ -144,7 +166,9 @@ impl Agent {
 }
 
 impl Object for Agent {
-    fn invoke(&mut self, method: u16, args: &Value) -> Outcome {
+    fn invoke(&mut self, method: u16, args: &Value) -> Outcome
+        ensures { spec.IsBegun method args.now self.old result self.new }
+    {
         match method {
             0 => self.put(args),
             1 => self.get(args),
@@ -153,7 +177,9 @@ impl Object for Agent {
         }
     }
 
-    fn resume(&mut self, done: &Done) -> Outcome {
+    fn resume(&mut self, done: &Done) -> Outcome
+        ensures { spec.IsResumed done.now self.old result self.new }
+    {
         let waiting = std::mem::replace(&mut self.waiting, Waiting::Idle);
         match waiting {
             Waiting::Hold { name, rep } => match done {
@@ -168,20 +194,39 @@ impl Object for Agent {
 }
 
 // The name that an argument is.
-fn name_argument(args: &Value) -> Option<&[u8]> {
+fn name_argument(args: &Value) -> Option<&[u8]>
+    ensures { MatchOption result (spec.name_in (tree args.now) ≡ None)
+        (λ bytes. spec.name_in (tree args.now) ≡ Some bytes.now) }
+{
     match args {
         Value::Bytes(bytes) if is_name(bytes.as_slice()) => Some(bytes.as_slice()),
         _ => None,
     }
 }
 
+// The counted reference that an argument is.
+fn counted_argument(args: &Value) -> Option<&WireRep>
+    ensures { MatchOption result (spec.counted_in (tree args.now) ≡ None)
+        (λ rep. spec.counted_in (tree args.now) ≡ Some rep.now) }
+{
+    match args {
+        Value::Ref(rep) if rep.is_counted() => Some(rep),
+        _ => None,
+    }
+}
+
 // The name and the counted reference that an argument is a list of.
-fn put_arguments(args: &Value) -> Option<(&[u8], &WireRep)> {
+#[tactic(auto, using(crate::proofs::Calls::not_two))]
+fn put_arguments(args: &Value) -> Option<(&[u8], &WireRep)>
+    ensures { MatchOption result (spec.entry_in (tree args.now) ≡ None)
+        (λ entry. spec.entry_in (tree args.now) ≡ Some (entry.0.now, entry.1.now)) }
+{
     let Value::List(values) = args else {
         return None;
     };
-    match values.as_slice() {
-        [name, Value::Ref(rep)] if rep.is_counted() => Some((name_argument(name)?, rep)),
-        _ => None,
+    let pair = values.as_slice();
+    if pair.len() != 2 {
+        return None;
     }
+    Some((name_argument(&pair[0])?, counted_argument(&pair[1])?))
 }

@@ -1,5 +1,5 @@
 -- The two ends of a link, as contracts see them.
-use Rattle.std.specs.Prelude.{ℕ, ◌≤◌, ◌<◌, List, [], ◌∷◌, ◌++◌, length}
+use Rattle.std.specs.Prelude.{ℕ, ◌≤◌, ◌<◌, Bool, true, List, [], ◌∷◌, ◌++◌, length}
 use Rattle.atomic_table.specs.Seated.{TableId}
 use Rattle.atomic_table.specs.declared.badge.Badge.{Badge}
 use Rattle.crossbeam_channel.specs.declared.flavors.array.Key.{Key}
@@ -27,11 +27,12 @@ link_of p = (p.table_id, p.me.0.of)
 abbrev pub known_by : Pass Parcel Known → Known
 known_by p = view p
 
--- the end that puts: its link, how many parcels that holds at most, and what the end has put, the first first
+-- the end that puts: its link, how many parcels that holds at most, what the end has put, the first first, and whether it was answered L1
 pub record Putting : Type 0 where
   pub link : LinkId
   pub capacity : ℕ
   pub put : List Parcel
+  pub gone : Bool
 
 -- the end that takes: its link, and what the end has taken, the first first
 pub record Taking : Type 0 where
@@ -40,7 +41,11 @@ pub record Taking : Type 0 where
 
 -- the end that puts, once it has put this parcel too
 abbrev pub with_put : Putting → Parcel → Putting
-with_put end parcel = record { link = end.link; capacity = end.capacity; put = end.put ++ parcel ∷ [] }
+with_put end parcel = record { link = end.link; capacity = end.capacity; put = end.put ++ parcel ∷ []; gone = end.gone }
+
+-- the end that puts, once it was answered L1
+abbrev pub told_gone : Putting → Putting
+told_gone end = record { link = end.link; capacity = end.capacity; put = end.put; gone = true }
 
 -- the end that takes, once it has taken this parcel too
 abbrev pub with_taken : Taking → Parcel → Taking
@@ -59,3 +64,8 @@ parcel_back (Gone gone) = gone.parcel
 abbrev pub IsFull : TryPutError → Type 0
 IsFull (Full parcel) = Unit {0}
 IsFull (Gone gone) = ⊥
+
+-- the end that puts, after a refusal: L1 is heard, and nothing else has changed
+abbrev pub refused_by : TryPutError → Putting → Putting
+refused_by (Full parcel) end = end
+refused_by (Gone gone) end = told_gone end

@@ -8,7 +8,7 @@ use Rattle.nob_link.specs.Ends.{Putting, Taking, link_of, known_by}
 
 -- the end that puts, as contracts see it
 abbrev pub putting_of : PutInside → Putting
-putting_of end = record { link = link_of end.pass; capacity = ruled_capacity (sends_on end.sender); put = (known_by end.pass).put }
+putting_of end = record { link = link_of end.pass; capacity = ruled_capacity (sends_on end.sender); put = (known_by end.pass).put; gone = end.has_heard_gone }
 
 -- the end that takes, as contracts see it
 abbrev pub taking_of : TakeInside → Taking

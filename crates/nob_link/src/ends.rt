@@ -1,9 +1,9 @@
 //! The two ends of a link.
 
-ghost use Rattle.std.specs.Prelude.{◌≡◌, ◌≤◌, [], length, true, IfOk, IfErr, OnErr, MatchResult, MatchOption};
+ghost use Rattle.std.specs.Prelude.{◌≡◌, ◌≤◌, [], length, true, false, IfOk, IfErr, OnErr, MatchResult, MatchOption};
 ghost use Rattle.crossbeam_channel.specs.Claims.{IsSeatAt};
 ghost use Rattle.crossbeam_channel.specs.Ends.{sends_on, receives_on};
-ghost use Rattle.nob_link.specs.Ends.{link_of, known_by, with_put, with_taken, parcel_back, IsFull, IsCapacity};
+ghost use Rattle.nob_link.specs.Ends.{link_of, known_by, with_put, with_taken, told_gone, refused_by, parcel_back, IsFull, IsCapacity};
 ghost use Rattle.nob_link.specs.declared.fault.LinkError.TheVariants as link_errors;
 
 use crate::MOST_PARCELS;
@@ -17,16 +17,21 @@ use std::alloc::Global;
 use std::marker::Model;
 use std::sync::Wait;
 
-/// The end of a link that puts parcels. Contracts see its link, the link's capacity and the parcels
-/// that it has put.
+/// The end of a link that puts parcels. Contracts see its link, the link's capacity, the parcels
+/// that it has put, and whether it was answered L1.
 pub struct PutEnd {
     pub(crate) sender: RuledSender<Parcel, Known, InOrder>,
     pub(crate) pass: Pass<Parcel, Known>,
+    pub(crate) has_heard_gone: bool,
 }
 
 impl Drop for PutEnd {
     fn drop(self) {
-        let PutEnd { sender: _, pass: _ } = self;
+        let PutEnd {
+            sender: _,
+            pass: _,
+            has_heard_gone: _,
+        } = self;
     }
 }
 
@@ -73,6 +78,7 @@ impl Model for TakeEnd {
 pub fn link(alloc: Global, capacity: usize) -> Result<(PutEnd, TakeEnd), LinkError>
     ensures one { IfOk result (λ ends. ends.0.link ≡ ends.1.link) }
     ensures new { IfOk result (λ ends. (ends.0.put ≡ []) × (ends.1.taken ≡ [])) }
+    ensures gone { IfOk result (λ ends. ends.0.gone ≡ false) }
     ensures capacity { IfOk result (λ ends. (ends.0.capacity ≡ capacity) × IsCapacity capacity) }
     ensures refused { result ≡ Err link_errors.Capacity → ¬ IsCapacity capacity }
     ensures judged { ¬ IsCapacity capacity → result ≡ Err link_errors.Capacity }
@@ -85,7 +91,11 @@ pub fn link(alloc: Global, capacity: usize) -> Result<(PutEnd, TakeEnd), LinkErr
     )?;
     let taker = sender.another::<Roles>(&mut pass);
     Ok((
-        PutEnd { sender, pass },
+        PutEnd {
+            sender,
+            pass,
+            has_heard_gone: false,
+        },
         TakeEnd {
             receiver,
             pass: taker,
@@ -101,8 +111,19 @@ impl PutEnd {
         ensures seat { IsSeatAt (sends_on result.0) result.1 }
         ensures puts { (known_by result.1).puts ≡ true }
     {
-        let PutEnd { sender, pass } = self;
+        let PutEnd {
+            sender,
+            pass,
+            has_heard_gone: _,
+        } = self;
         (sender, pass)
+    }
+
+    /// Whether it was answered L1: it has heard that the other end is gone.
+    pub fn has_heard_gone(&self) -> bool
+        ensures { result ≡ self.now.gone }
+    {
+        self.has_heard_gone
     }
 
     /// Puts a parcel, and waits while the link is full. L1 where the other end is gone: the parcel
@@ -110,13 +131,16 @@ impl PutEnd {
     pub fn put_as<R: Wait>(&mut self, rt: &R, parcel: Parcel) -> Result<(), Gone>
         ensures answer { MatchResult result
             (λ _. self.new ≡ with_put self.old parcel) (λ gone. gone.parcel ≡ parcel) }
-        ensures err { OnErr result (self.new ≡ self.old) }
+        ensures err { OnErr result (self.new ≡ told_gone self.old) }
     {
         match self.sender.send_as::<Put, R>(rt, &mut self.pass, parcel) {
             Ok(()) => Ok(()),
-            Err(error) => Err(Gone {
-                parcel: error.into_inner(),
-            }),
+            Err(error) => {
+                self.has_heard_gone = true;
+                Err(Gone {
+                    parcel: error.into_inner(),
+                })
+            }
         }
     }
 
@@ -125,7 +149,7 @@ impl PutEnd {
     pub fn try_put_as<R: Wait>(&mut self, rt: &R, parcel: Parcel) -> Result<(), TryPutError>
         ensures answer { MatchResult result
             (λ _. self.new ≡ with_put self.old parcel) (λ error. parcel_back error ≡ parcel) }
-        ensures err { OnErr result (self.new ≡ self.old) }
+        ensures err { IfErr result (λ error. self.new ≡ refused_by error self.old) }
         ensures full { IfErr result (λ error. IsFull error
             → self.old.capacity ≤ length self.old.put) }
     {
@@ -135,9 +159,12 @@ impl PutEnd {
         {
             Ok(()) => Ok(()),
             Err(TrySendError::Full(parcel)) => Err(TryPutError::Full { parcel }),
-            Err(error) => Err(TryPutError::Gone(Gone {
-                parcel: error.into_inner(),
-            })),
+            Err(error) => {
+                self.has_heard_gone = true;
+                Err(TryPutError::Gone(Gone {
+                    parcel: error.into_inner(),
+                }))
+            }
         }
     }
 }
