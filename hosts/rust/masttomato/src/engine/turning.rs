@@ -160,8 +160,8 @@ impl Engine {
         }
         link.again = true;
         if !link.is_up && due == Due::New {
-            // A tick counts only what was transmitted: so it is, and goes nowhere.
-            let _lost = self.space.transmit(peer);
+            // A tick counts only what was transmitted: so it is, and waits for a connection.
+            let _kept = self.give(peer);
         }
         if let Ok(Some(reason)) = self.space.tick(peer) {
             self.closed(peer, reason);

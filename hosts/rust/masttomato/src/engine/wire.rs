@@ -10,7 +10,7 @@ pub const HELLO: usize = 64;
 pub(crate) const HEAD: usize = 16;
 /// The header of a frame.
 const FRAME_HEADER: usize = 28;
-/// The longest body: as many frames as one Transmit gives, each as long as one can be.
+/// The longest body: as many frames as a peer may have to acknowledge, each as long as one can be.
 pub const LONGEST_BODY: usize = 64 * 16_412;
 
 const MARK: [u8; 4] = *b"NOBN";

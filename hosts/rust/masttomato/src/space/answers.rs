@@ -39,7 +39,8 @@ pub enum ActResult {
 /// What a frame brought.
 #[derive(Clone, Copy, Debug, PartialEq, Eq)]
 pub enum Arrived {
-    /// So many items, 0 or 1.
+    /// So many items, 0 to 64: it may be kept until those before it come, and bring those behind it that
+    /// came early.
     Took(u64),
     /// It closed the session with its sender.
     Closed(Reason),

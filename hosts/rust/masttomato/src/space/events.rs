@@ -39,7 +39,7 @@ pub enum Due {
     Nothing,
     /// An Ack alone.
     Ack,
-    /// Items that were given before, and no other.
+    /// An item that was given before, and no other.
     Again,
     /// An item that was never given, or more.
     New,
@@ -301,8 +301,9 @@ impl Space {
         self.noted(result, || Event::Withdraw(index), withdrawn)
     }
 
-    /// The frames that are to be sent to a peer now: what isn't acknowledged, a window at most, or
-    /// an Ack or a Close that is owed, or none. NoPeer where there is no such peer.
+    /// The frames that are to be sent to a peer now: the first item that isn't acknowledged and, up to a
+    /// window from it on, those that were never given; or an Ack or a Close that is owed, or none. NoPeer
+    /// where there is no such peer.
     pub fn transmit(&mut self, peer: SpaceId) -> Result<Frames, SpaceError> {
         let result = told(self.handle.transmit(peer.get())).map(|told| match told.number {
             0 => Frames::default(),
@@ -311,7 +312,7 @@ impl Space {
         self.noted(result, || Event::Transmit(peer), Answer::Frames)
     }
 
-    /// A frame came for this space: how many items it brought, or that it closed the session with
+    /// A frame came for this space: how many items are there with it, or that it closed the session with
     /// its sender. NoPeer where it isn't for this space or from none of its peers.
     pub fn arrive(&mut self, frame: &Frame) -> Result<Arrived, SpaceError> {
         let result = told(self.handle.arrive(frame.as_bytes())).map(arrived_of);

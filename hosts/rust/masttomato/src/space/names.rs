@@ -115,7 +115,7 @@ impl Limits {
         Some(Limits { window, retry })
     }
 
-    /// How many unacknowledged items one transmit gives at most.
+    /// How many items may be given and not acknowledged.
     pub const fn window(self) -> u8 {
         self.window
     }
