@@ -65,7 +65,7 @@ fn what_is_wrong_is_refused_with_a_sentence() {
     let mut programs: Vec<PathBuf> =
         entries.map(|entry| entry.expect("a program").path()).collect();
     programs.sort();
-    assert!(programs.len() >= 36);
+    assert!(programs.len() >= 35);
     let mut wrong = Vec::new();
     for program in &programs {
         let source = fs::read_to_string(program).expect("a program");

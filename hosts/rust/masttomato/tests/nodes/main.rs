@@ -2,6 +2,7 @@
 
 #[path = "../common/mod.rs"]
 mod common;
+mod later;
 mod plain;
 mod proxy;
 mod things;
@@ -544,6 +545,10 @@ fn other_programs_look_names_up_at_a_node() {
     assert_eq!(plain.call(agent, 0, pair), fault(4), "nothing is bound from outside");
     let none = Answered::Replied { status: 2, value: Value::Unit };
     assert_eq!(plain.call(agent, 3, Value::Unit), none);
+    // Which of its calls it wants no more: any number, also one of no call.
+    let unit = Answered::Replied { status: 0, value: Value::Unit };
+    assert_eq!(plain.call(agent, 18, Value::Int(i64::MAX)), unit);
+    assert_eq!(plain.call(agent, 18, Value::Int(-1)), fault(1));
     one.unbind("counter");
     drop(counter);
     plain.engine.release(reference);

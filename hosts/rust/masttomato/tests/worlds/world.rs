@@ -117,7 +117,10 @@ impl World {
         let list = [Value::Int(ticket as i64)].into_iter().chain(passed.map(Value::Ref));
         let value = Value::List(list.take(1 + node.hands.len().min(3)).collect());
         self.calls.insert(ticket, Fate::default());
-        node.engine.call(Ticket(ticket), target, how as u16, value);
+        match how % 8 {
+            7 => node.engine.try_call(Ticket(ticket), target, how as u16, value),
+            _ => node.engine.call(Ticket(ticket), target, how as u16, value),
+        }
     }
 
     fn give_back(&mut self, one: usize, with: usize) {
