@@ -4,7 +4,7 @@
 //!
 //! ```
 //! use masttomato::engine::{Answered, Engine, Life, Settings, Ticket};
-//! use masttomato::space::{Outcome, SpaceId, Value};
+//! use masttomato::space::{Outcome, SpaceId, Status, Value};
 //! use std::time::Duration;
 //!
 //! # fn main() -> Result<(), Box<dyn std::error::Error>> {
@@ -22,7 +22,7 @@
 //! owner.turn(now);
 //! caller.bytes(one, owner.output(two).left(), now)?;
 //! let answers = caller.turn(now).answers;
-//! assert_eq!(answers, [(Ticket(7), Answered::Replied { status: 0, value: Value::Int(42) })]);
+//! assert_eq!(answers, [(Ticket(7), Answered::Replied { status: Status::Answered, value: Value::Int(42) })]);
 //! # Ok(())
 //! # }
 //! ```
@@ -41,7 +41,7 @@ pub use wire::{HELLO, Hello, LONGEST_BODY, Life, Why, World};
 use crate::numbers::ByNumber;
 use crate::space::{
     CallNo, Due, Job, JobNo, Limits, Outcome, Reason, Reference, Refusal, Space, SpaceError,
-    SpaceId, Value,
+    SpaceId, Status, Value,
 };
 use link::{HeldCall, HeldFinish, Link, Links};
 use std::fmt;
@@ -115,8 +115,8 @@ pub enum Session {
 pub enum Answered {
     /// Its reply. Each reference in it is once in the hand, repeats included.
     Replied {
-        /// 0 answered, 1 the method's fault, 2 no such method, 3 a reference was lost.
-        status: u8,
+        /// What kind of answer it is.
+        status: Status,
         /// What it answered.
         value: Value,
     },

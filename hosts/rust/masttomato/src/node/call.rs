@@ -120,6 +120,7 @@ impl std::error::Error for CallError {
     fn source(&self) -> Option<&(dyn std::error::Error + 'static)> {
         match self {
             CallError::Fault(fault) => Some(fault),
+            CallError::Refused(_, why) => Some(why),
             _ => None,
         }
     }

@@ -13,7 +13,7 @@ use crate::engine::{
 };
 use crate::interface::{Arguments, Description, Exported, Packed, Served};
 use crate::numbers::ByNumber;
-use crate::space::{CallNo, Job, JobNo, Outcome, Reference, SpaceId, Value};
+use crate::space::{CallNo, Job, JobNo, Outcome, Reference, SpaceId, Status, Value};
 use std::collections::{HashMap, VecDeque};
 use std::panic::{AssertUnwindSafe, catch_unwind};
 use std::sync::{Arc, mpsc};
@@ -468,7 +468,7 @@ impl Core {
             Ok(replied) => replied,
             Err(error) => return self.complete(&state, Err(error)),
         };
-        if let (2, Purpose::Lookup(peer, name)) = (status, &purpose) {
+        if let (Status::NoMethod, Purpose::Lookup(peer, name)) = (status, &purpose) {
             // A node of another kind, which knows names alone.
             let agent = Hold::uncounted(&self.shared, peer.agent());
             let name = Packed::plain(Value::Bytes(name.clone()));
@@ -677,25 +677,27 @@ impl Core {
     }
 }
 
-fn status_of(outcome: Outcome) -> (u8, Value) {
+fn status_of(outcome: Outcome) -> (Status, Value) {
     match outcome {
-        Outcome::Answer(value) => (0, value),
-        Outcome::Fault(value) => (1, value),
-        Outcome::NoMethod => (2, Value::Unit),
+        Outcome::Answer(value) => (Status::Answered, value),
+        Outcome::Fault(value) => (Status::Fault, value),
+        Outcome::NoMethod => (Status::NoMethod, Value::Unit),
     }
 }
 
 // What a reply's status and value come to.
-fn completed_of(status: u8, packed: Packed, purpose: &Purpose) -> Completed {
+fn completed_of(status: Status, packed: Packed, purpose: &Purpose) -> Completed {
     match (status, purpose) {
-        (0, Purpose::Cast(hold)) => {
+        (Status::Answered, Purpose::Cast(hold)) => {
             Ok(Packed { value: Value::Ref(hold.reference()), holds: vec![hold.clone()] })
         }
-        (0, _) => Ok(packed),
-        (1, Purpose::Method | Purpose::Try) => Err(CallError::Fault(method_fault(packed.value))),
-        (1, _) => Err(CallError::Fault(agent_fault(packed.value))),
-        (2, _) => Err(CallError::NoMethod),
-        _ => Err(CallError::Lost),
+        (Status::Answered, _) => Ok(packed),
+        (Status::Fault, Purpose::Method | Purpose::Try) => {
+            Err(CallError::Fault(method_fault(packed.value)))
+        }
+        (Status::Fault, _) => Err(CallError::Fault(agent_fault(packed.value))),
+        (Status::NoMethod, _) => Err(CallError::NoMethod),
+        (Status::Lost, _) => Err(CallError::Lost),
     }
 }
 

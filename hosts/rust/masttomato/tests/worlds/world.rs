@@ -4,7 +4,7 @@ use crate::common::checking::fault_of;
 use crate::deeds::{Deed, Kind, Script};
 use crate::net::Net;
 use masttomato::engine::{Answered, Engine, Life, Session, Settings, Ticket};
-use masttomato::space::{Job, Limits, Outcome, Reference, SpaceId, Trace, Value};
+use masttomato::space::{Job, Limits, Outcome, Reference, SpaceId, Status, Trace, Value};
 use std::collections::HashMap;
 use std::sync::{Arc, Mutex};
 use std::time::Duration;
@@ -190,7 +190,7 @@ impl World {
             let fate = self.calls.entry(ticket).or_default();
             fate.answers += 1;
             if let Answered::Replied { value, status } = answered {
-                fate.replies += u32::from(status != 3);
+                fate.replies += u32::from(status != Status::Lost);
                 node.hands.extend(value.references());
             }
         }
