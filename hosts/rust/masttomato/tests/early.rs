@@ -4,7 +4,7 @@ mod common;
 
 use common::checking::fault_of;
 use masttomato::engine::{Answered, Engine, Life, Session, Settings, Ticket};
-use masttomato::space::{Job, Limits, Outcome, Reference, SpaceId, Trace, Value};
+use masttomato::space::{Job, Limits, Outcome, Reference, SpaceId, Status, Trace, Value};
 use std::collections::HashMap;
 use std::sync::{Arc, Mutex};
 use std::time::Duration;
@@ -267,7 +267,9 @@ fn play(seed: u64) {
     assert!(scene.is_done(), "seed {seed} never gets quiet");
     scene.ran.sort_unstable();
     assert_eq!(scene.ran, (1..=scene.made).collect::<Vec<_>>(), "seed {seed}");
-    let replied = |answered: &Answered| matches!(answered, Answered::Replied { status: 0, .. });
+    let replied = |answered: &Answered| {
+        matches!(answered, Answered::Replied { status: Status::Answered, .. })
+    };
     assert!(scene.answers.values().all(replied), "seed {seed}");
     assert!(
         scene

@@ -4,7 +4,7 @@
 use masttomato::engine::{
     Answered, Engine, LONGEST_BODY, Life, Misbehaved, Session, Settings, Ticket, Turn,
 };
-use masttomato::space::{Outcome, Reason, SpaceId, Value};
+use masttomato::space::{Outcome, Reason, SpaceId, Status, Value};
 use std::time::Duration;
 
 const HERE: u16 = 1;
@@ -73,7 +73,7 @@ impl Scene {
             self.now += Duration::from_millis(1);
             let answers = self.honest.turn(self.now).answers;
             if let [(answered, what)] = &answers[..] {
-                let wanted = Answered::Replied { status: 0, value: Value::Unit };
+                let wanted = Answered::Replied { status: Status::Answered, value: Value::Unit };
                 assert_eq!((*answered, what), (ticket, &wanted));
                 return;
             }
@@ -285,7 +285,7 @@ fn one_that_sends_its_items_backwards_and_two_of_each_number() {
         scene.send(&sent(number, item)).expect("an item");
         scene.send(&sent(number, &call(9, &[0]))).expect("another item");
     }
-    let wanted = Answered::Replied { status: 0, value: Value::Int(5) };
+    let wanted = Answered::Replied { status: Status::Answered, value: Value::Int(5) };
     assert_eq!(scene.turn().answers, [(Ticket(900), wanted)]);
     scene.serve_all();
     assert_eq!((scene.served, scene.session(HOSTILE)), (3, Session::Open));
@@ -309,7 +309,9 @@ fn one_that_sends_400_items_in_one_record() {
         let frames = (1..=400).flat_map(|number| frame(HOSTILE, HERE, number, &item(number)));
         record(0, 1, &frames.collect::<Vec<u8>>())
     };
-    let answered = |ticket| (Ticket(ticket), Answered::Replied { status: 0, value: Value::Int(5) });
+    let answered = |ticket| {
+        (Ticket(ticket), Answered::Replied { status: Status::Answered, value: Value::Int(5) })
+    };
     scene.send(&items([320, 400])).expect("items");
     scene.serve_all();
     assert_eq!(scene.served, 256);

@@ -5,7 +5,8 @@ mod common;
 use common::file;
 use masttomato::space::{
     Answer, Arrived, CallResult, Due, Event, Frame, FrameFault, Limits, Outcome, PickleFault,
-    Reason, Reference, Refusal, ReplyFate, Space, SpaceError, SpaceId, StreamError, Use, Value,
+    Reason, Reference, Refusal, ReplyFate, Space, SpaceError, SpaceId, Status, StreamError, Use,
+    Value,
 };
 
 fn id(number: u16) -> SpaceId {
@@ -59,7 +60,7 @@ fn a_reference_lives_as_long_as_somebody_holds_it() {
     assert!(!one.reply_ready(call));
     exchange(&mut one, &mut two);
     assert!(one.reply_ready(call));
-    let replied = CallResult::Replied { status: 0, value: Value::Unit };
+    let replied = CallResult::Replied { status: Status::Answered, value: Value::Unit };
     assert_eq!(one.take_reply(call), Ok(replied));
     assert!(one.lists(object.index, id(2)) && !one.lists(object.index, id(3)));
     assert_eq!(one.withdraw(object.index), used(Use::Listed));

@@ -135,8 +135,9 @@ impl Engine {
         self.is_stirred = true;
         let Some(link) = self.links.get_mut(peer) else { return };
         match link.inbox.pop_front() {
-            Some(ItemKind::Call) => {
+            Some(ItemKind::Call(call)) => {
                 link.calls_acted_on += 1;
+                link.asked.insert(call, false);
                 if link.unanswered() > MOST_UNANSWERED {
                     self.counts.misbehaved += 1;
                     self.close(peer);

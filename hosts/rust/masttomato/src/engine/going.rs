@@ -1,6 +1,6 @@
 //! What goes over connections, and when.
 
-use super::wire::{self, ItemKind, Kind, Seen};
+use super::wire::{self, Kind, Seen};
 use super::{ACK_ITEMS, ACK_WAITS, Engine, NO_PONG, SILENCE, STUCK};
 use crate::space::{Due, Frames, SpaceId};
 use std::time::Duration;
@@ -82,9 +82,7 @@ impl Engine {
         let link = self.links.get_mut(peer)?;
         let known = link.given;
         for frame in wire::frames_of(frames.as_bytes()).filter(|frame| frame.seq() > known) {
-            link.given = frame.seq();
-            link.replies_given += u64::from(matches!(frame.item(), ItemKind::Reply(_)));
-            link.sent.keep(&frame);
+            link.gave(&frame);
         }
         Some((frames, known))
     }

@@ -122,6 +122,9 @@ pub(super) struct Link {
     early: VecDeque<Option<ItemKind>>,
     accepted: u64,
     pub(super) unsettled: HashMap<u64, CallNo>,
+    /// The calls of the peer that were acted on and have no reply on its way: whether each was cancelled;
+    /// and how many calls were acted on, and replies given.
+    pub(super) asked: HashMap<u64, bool>,
     pub(super) calls_acted_on: u64,
     pub(super) replies_given: u64,
     /// What the peer has acknowledged, by its frames; how much of that was so at the last tick, and when
@@ -160,6 +163,7 @@ impl Link {
             early: VecDeque::new(),
             accepted: 0,
             unsettled: HashMap::new(),
+            asked: HashMap::new(),
             calls_acted_on: 0,
             replies_given: 0,
             acked: 0,
@@ -241,7 +245,18 @@ impl Link {
         self.inbox.clear();
         self.early.clear();
         self.unsettled.clear();
+        self.asked.clear();
         self.stuck_until = None;
+    }
+
+    /// A frame was given for the first time: it is kept, and a reply that it carries is on its way.
+    pub(super) fn gave(&mut self, frame: &Seen<'_>) {
+        self.given = frame.seq();
+        self.sent.keep(frame);
+        if let ItemKind::Reply(call) = frame.item() {
+            self.asked.remove(&call);
+            self.replies_given += 1;
+        }
     }
 
     /// How many calls of the peer were acted on and have no reply on its way yet.

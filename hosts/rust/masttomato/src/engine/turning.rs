@@ -108,7 +108,7 @@ impl Engine {
             while self.calls.len() < self.settings.open_calls
                 && let Some(call) = self.next_held(*peer, |link| link.calls.pop_front())
             {
-                if self.try_call(&call) {
+                if self.make(&call) {
                     self.release_all(call.holds);
                 } else if let Some(link) = self.links.get_mut(*peer) {
                     link.calls.push_front(call);

@@ -1,6 +1,6 @@
 //! A space: the proved one of the static library, behind safe methods.
 
-use super::answers::{ActResult, Arrived, CallResult, ReplyFate, SettledItem};
+use super::answers::{ActResult, Arrived, CallResult, ReplyFate, SettledItem, Status};
 use super::event::{Answer, Event, Job, Outcome};
 use super::frame::{Frame, FrameFault, Frames};
 use super::names::{CallNo, ItemNo, JobNo, Limits, Reason, Reference, SpaceId};
@@ -34,6 +34,7 @@ pub struct Space {
 
 /// What a Transmit would give.
 #[derive(Clone, Copy, Debug, PartialEq, Eq)]
+#[non_exhaustive]
 pub enum Due {
     /// Nothing.
     Nothing,
@@ -76,6 +77,7 @@ impl Work {
 
 /// Why a piece of a stream of frames wasn't taken.
 #[derive(Clone, Copy, Debug, PartialEq, Eq)]
+#[non_exhaustive]
 pub enum StreamError {
     /// The stream isn't one of frames: said from then on, until the stream is restarted.
     Fault(FrameFault),
@@ -95,10 +97,18 @@ impl std::fmt::Display for StreamError {
     }
 }
 
-impl std::error::Error for StreamError {}
+impl std::error::Error for StreamError {
+    fn source(&self) -> Option<&(dyn std::error::Error + 'static)> {
+        match self {
+            StreamError::Fault(fault) => Some(fault),
+            _ => None,
+        }
+    }
+}
 
 /// Why bytes didn't arrive as a frame.
 #[derive(Clone, Copy, Debug, PartialEq, Eq)]
+#[non_exhaustive]
 pub enum ArriveError {
     /// They spell no frame.
     Fault(FrameFault),
@@ -115,7 +125,14 @@ impl std::fmt::Display for ArriveError {
     }
 }
 
-impl std::error::Error for ArriveError {}
+impl std::error::Error for ArriveError {
+    fn source(&self) -> Option<&(dyn std::error::Error + 'static)> {
+        match self {
+            ArriveError::Fault(fault) => Some(fault),
+            ArriveError::Space(error) => Some(error),
+        }
+    }
+}
 
 impl From<FrameFault> for StreamError {
     fn from(fault: FrameFault) -> StreamError {
@@ -226,7 +243,7 @@ impl Space {
     /// hand would be too full.
     pub fn take_reply(&mut self, call: CallNo) -> Result<CallResult, SpaceError> {
         let result = told(self.handle.take_reply(call.get())).map(|told| match told.kind {
-            4 => CallResult::Replied { status: told.number as u8, value: self.value() },
+            4 => CallResult::Replied { status: status_of(told), value: self.value() },
             5 => CallResult::Ended,
             other => unknown("kind", other),
         });
@@ -548,6 +565,12 @@ fn reason_of(told: Told) -> Reason {
         .ok()
         .and_then(Reason::from_number)
         .unwrap_or_else(|| unknown("reason", told.kind))
+}
+
+fn status_of(told: Told) -> Status {
+    let number = u8::try_from(told.number).ok();
+    let status = number.and_then(Status::from_number);
+    status.unwrap_or_else(|| unknown("status of a reply", told.kind))
 }
 
 fn arrived_of(told: Told) -> Arrived {
