@@ -360,17 +360,10 @@ impl Session {
         let (me, peer) = (self.me, self.peer);
         let (lowest, payloads) = (self.lowest, &self.unacknowledged);
         let first_new = self.transmitted.saturating_sub(lowest) as usize + 1;
+        let new = first_new..count;
         let mut frames = Vec::with_capacity(self.alloc, count.saturating_sub(first_new) + 1)?;
         push_data(&mut frames, me, peer, ack, lowest, payloads, 0..1)?;
-        push_data(
-            &mut frames,
-            me,
-            peer,
-            ack,
-            lowest,
-            payloads,
-            first_new..count,
-        )?;
+        push_data(&mut frames, me, peer, ack, lowest, payloads, new)?;
         Ok(frames)
     }
 
