@@ -15,7 +15,8 @@ use Rattle.nob_model_session.specs.End as words
 use Rattle.nob_model_session.specs.End.{is_open, accepted, accepted_count, takes, waiting, brings_at, is_in_reach, payload, places, filled}
 use Rattle.nob_model_session.specs.Right.{IsRight, in_a_row, is_of_pair, right_arrive, taken_by}
 use Rattle.nob_model_session.proofs.Arriving.{payload_beyond, places_append, places_at, places_drop, places_length, places_take, row_length, taken_is}
-use Rattle.nob_session.specs.Calls.{KeepsAnew, acceptable, accepting, keeping}
+use Rattle.nob_session.specs.Answers.{KeepsAnew}
+use Rattle.nob_session.specs.Calls.{acceptable, accepting, keeping}
 use Rattle.nob_session.specs.declared.session.Session.TheInside.{Inside}
 use Rattle.nob_session.specs.Keeping.{moved_up, put_at}
 use Rattle.nob_session.specs.Sound.{IsSound, as_seen}
@@ -179,13 +180,13 @@ heard_item me peer limits L frame k opened its other low taken count =
     })
 
 -- nothing is accepted with a frame that takes nothing
-pub accepted_none : (frame : Frame) (L : List EndEntry) → accepted L ++ filled (places (accepted_count L + 1) 0 (Arrive frame (Ok (arrived.Took 0)) ∷ L)) ≡ accepted L
+pub none_taken : (frame : Frame) (L : List EndEntry) → accepted L ++ filled (places (accepted_count L + 1) 0 (Arrive frame (Ok (arrived.Took 0)) ∷ L)) ≡ accepted L
 unfolding places
-accepted_none frame L = append-nil (accepted L)
+none_taken frame L = append-nil (accepted L)
 
 -- a refused frame brings nothing
-pub places_refused : (n count : ℕ) (frame : Frame) (refusal : EndRefusal) (L : List EndEntry) → places n count (Arrive frame (Err refusal) ∷ L) ≡ places n count L
-places_refused n count frame refusal L = same_places n count (Arrive frame (Err refusal) ∷ L) L (λ m. refl)
+pub none_brought : (n count : ℕ) (frame : Frame) (refusal : EndRefusal) (L : List EndEntry) → places n count (Arrive frame (Err refusal) ∷ L) ≡ places n count L
+none_brought n count frame refusal L = same_places n count (Arrive frame (Err refusal) ∷ L) L (λ m. refl)
 
 -- nor does a frame that has no item
 places_other : (n count : ℕ) (frame : Frame) (L : List EndEntry) → is_data frame.kind ≡ false → places n count (Arrive frame (Ok (arrived.Took 0)) ∷ L) ≡ places n count L
@@ -204,9 +205,9 @@ heard_other me peer limits L frame opened plain other low =
       unacknowledged = left_by L frame opened other low;
       transmitted = refl;
       accepted = omega arith;
-      came = ap length (sym (accepted_none frame L));
+      came = ap length (sym (none_taken frame L));
       taken = refl;
-      waiting = rw opened (ap (drop (takes L)) (sym (accepted_none frame L)));
+      waiting = rw opened (ap (drop (takes L)) (sym (none_taken frame L)));
       early =
           let start : accepted_count L + 1 ≡ 0 + accepted_count L + 1 = omega arith in
           rw opened (sym (places_other (accepted_count L + 1) 64 frame L plain) ∙ ap (λ (m : ℕ). places m 64 (with_arrival frame 0 L)) start);

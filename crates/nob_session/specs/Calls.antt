@@ -1,15 +1,12 @@
 -- What the calls on an end answer and leave, by the end alone: for callers who know no list of calls.
 use Rattle.std.specs.Prelude.{◌≡◌, ℕ, ◌+◌, ◌-◌, true, false, not, ◌&&◌, nat_le, max, List, [], ◌∷◌, ◌++◌, length, take, drop, Option, Some, None, Result, Ok, Err, if◌then◌else◌}
 use Rattle.nob_frame.specs.declared.frame.Frame.{Frame}
-use Rattle.nob_frame.specs.Kinds.{is_data}
 use Rattle.nob_model_session.specs.declared.refusal.EndRefusal.{EndRefusal}
 use Rattle.nob_model_session.specs.declared.refusal.EndRefusal.TheVariants as refusal
 use Rattle.nob_model_session.specs.declared.entry.Kind.{Kind}
 use Rattle.nob_model_session.specs.declared.entry.Ending.{Ending}
-use Rattle.nob_model_session.specs.declared.entry.Arrived.TheVariants as arrived
-use Rattle.nob_model_session.specs.declared.entry.EndEntry.{EndEntry}
-use Rattle.nob_model_session.specs.End.{is_open, greatest_seq, last_item, accepted_count, is_in_reach, payload, filled}
-use Rattle.nob_model_session.specs.Right.{queue_limit, inbox_limit, is_limited, open_frames, closed_frames, in_a_row, taken_by, right_arrive}
+use Rattle.nob_model_session.specs.End.{greatest_seq, last_item, is_in_reach, filled}
+use Rattle.nob_model_session.specs.Right.{queue_limit, inbox_limit, is_limited, open_frames, closed_frames, in_a_row}
 use Rattle.nob_session.specs.Keeping.{put_at, moved_up}
 use Rattle.nob_session.specs.declared.closed.Arrival.{Arrival}
 use Rattle.nob_session.specs.declared.closed.Arrival.TheVariants as arrival
@@ -120,14 +117,6 @@ accepting count e =
       ending = e.ending;
       owes_close = e.owes_close;
     }
-
--- an open end keeps this frame's payload anew: the frame is heard and in reach, and no other with its number was kept or accepted
-pub record KeepsAnew (me peer : ℕ) (frame : Frame) (L : List EndEntry) : Type 0 where
-  pub heard : right_arrive me peer frame L ≡ Ok (arrived.Took (taken_by frame L))
-  pub open_end : is_open L ≡ true
-  pub is_item : is_data frame.kind ≡ true
-  pub in_reach : is_in_reach (accepted_count L) frame.seq ≡ true
-  pub anew : payload frame.seq L ≡ None
 
 -- an end without the first item that waited
 abbrev pub without_front : End → End

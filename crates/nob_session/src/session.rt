@@ -15,8 +15,8 @@ ghost use Rattle.nob_frame.specs.Kinds.{is_data};
 ghost use Rattle.nob_frame.specs.Spelling.{Fits};
 ghost use Rattle.nob_session.specs.Items.{IsItem, IsPair};
 ghost use Rattle.nob_session.specs.Stands.{KeepsRoom, Stands, closed_end, heard, is_open_end};
-ghost use Rattle.nob_session.specs.Calls.{EndsBy, KeepsAnew, SameHanded, acceptable, accepting, after_transmit, evidence_of, frames_of, keeping, next_of, with_item, without_front};
-ghost use Rattle.nob_session.specs.Answers.{Answered, arrived_of};
+ghost use Rattle.nob_session.specs.Calls.{EndsBy, SameHanded, acceptable, accepting, after_transmit, evidence_of, frames_of, keeping, next_of, with_item, without_front};
+ghost use Rattle.nob_session.specs.Answers.{Answered, KeepsAnew, arrived_of};
 ghost use Rattle.nob_session.specs.Dues.{due_of, due_up_to};
 
 use crate::closed::{Arrival, Closed};
@@ -117,8 +117,8 @@ impl Session {
         self.ending.is_none()
     }
 
-    /// How many payloads this end holds: the unacknowledged ones, and those that wait. What it keeps
-    /// of items that came before their turn, 64 at most, is in neither number.
+    /// How many payloads this end holds: the unacknowledged ones, and those that wait. What it
+    /// keeps of items that came before their turn, 64 at most, is in neither number.
     pub fn held(&self) -> (usize, usize)
         ensures { result
             ≡ (length self.now.end.unacknowledged, length self.now.end.waiting) }
@@ -277,12 +277,14 @@ impl Session {
         Ok(frames)
     }
 
-    // How many items are in the window of the open end: at most so many of the unacknowledged ones.
+    // How many items are in the window of the open end: the unacknowledged ones, and at most so
+    // many.
     fn in_window(&self) -> usize
         requires { self.now.end.ending ≡ None }
         ensures window { take result self.now.end.unacknowledged
             ≡ take self.now.end.limits.window self.now.end.unacknowledged }
-        ensures count { length (take self.now.end.limits.window self.now.end.unacknowledged) ≡ result }
+        ensures count { length (take self.now.end.limits.window self.now.end.unacknowledged)
+            ≡ result }
         ensures there { result ≤ length self.now.end.unacknowledged }
         ensures few { result ≤ 64 }
         ensures last { self.now.end.lowest + result ≤ self.now.end.handed + 1 }
@@ -358,17 +360,10 @@ impl Session {
         let (me, peer) = (self.me, self.peer);
         let (lowest, payloads) = (self.lowest, &self.unacknowledged);
         let first_new = self.transmitted.saturating_sub(lowest) as usize + 1;
+        let new = first_new..count;
         let mut frames = Vec::with_capacity(self.alloc, count.saturating_sub(first_new) + 1)?;
         push_data(&mut frames, me, peer, ack, lowest, payloads, 0..1)?;
-        push_data(
-            &mut frames,
-            me,
-            peer,
-            ack,
-            lowest,
-            payloads,
-            first_new..count,
-        )?;
+        push_data(&mut frames, me, peer, ack, lowest, payloads, new)?;
         Ok(frames)
     }
 
@@ -404,7 +399,7 @@ impl Session {
     /// yet; then those that are kept in a row from the next on are accepted, while fewer than 256
     /// wait, and the answer says how many. A closed end takes nothing. N4 for a frame of another
     /// pair. Only an item that is kept takes memory.
-    #[tactic(auto, using(crate::proofs::Arrived::accepted_none, crate::proofs::Arrived::places_refused))]
+    #[tactic(auto, using(crate::proofs::Arrived::none_taken, crate::proofs::Arrived::none_brought))]
     pub fn arrive(&mut self, frame: &Frame) -> Result<Arrival, SessionError>
         ensures answer { (me peer : ℕ) (limits : LimitsOf) (L : List EndEntry)
             → Stands me peer limits self.old.end L →
@@ -466,7 +461,7 @@ impl Session {
         Ok(())
     }
 
-    // Whether a number is in reach: the next, or one of the 63 behind it, and at most 2^40.
+    // Whether a number is in reach: the next one or one of the 63 behind it, and at most 2^40.
     fn is_in_reach(&self, seq: u64) -> bool
         ensures { result ≡ is_in_reach self.now.end.accepted seq }
     {
