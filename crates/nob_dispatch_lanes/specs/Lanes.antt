@@ -1,5 +1,5 @@
 -- All ends of a lane.
-use Rattle.std.specs.Prelude.{◌≡◌, ℕ, ◌+◌, ◌≤◌, List, [], ◌∷◌, ◌++◌}
+use Rattle.std.specs.Prelude.{◌≡◌, ℕ, ◌+◌, ◌≤◌, false, List, [], ◌∷◌, ◌++◌}
 use Rattle.std.specs.List.{AllByRecursion}
 use Rattle.crossbeam_channel.specs.Ends.{sends_on, receives_on}
 use Rattle.nob_dispatch_lanes.specs.declared.ends.LanePut.{LanePut}
@@ -26,6 +26,10 @@ giving_parts (end ∷ ends) = parts_of end.pass + giving_parts ends
 abbrev pub getting_parts : {X : Type 0} → List (LaneTake X) → ℕ
 getting_parts [] = 0
 getting_parts (end ∷ ends) = parts_of end.pass + getting_parts ends
+
+-- none of these ends has heard that nobody gets from the lane any more
+abbrev pub HaveNotHeard : {X : Type 0} → List (LanePut X) → Type 0
+HaveNotHeard ends = AllByRecursion (λ end. end.has_heard_gone ≡ false) ends
 
 -- two ends are of one lane
 abbrev pub IsOneLane : {X : Type 0} → LanePut X → LaneTake X → Type 0

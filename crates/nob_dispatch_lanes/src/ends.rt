@@ -1,6 +1,6 @@
 //! The ends of a lane.
 
-ghost use Rattle.std.specs.Prelude.{◌≡◌, ◌≤◌, ◌++◌, ◌∷◌, [], OnErr, MatchResult, MatchOption};
+ghost use Rattle.std.specs.Prelude.{◌≡◌, ◌≤◌, ◌++◌, ◌∷◌, [], true, OnErr, MatchResult, MatchOption};
 ghost use Rattle.crossbeam_channel.specs.Claims.{IsSeatAt};
 ghost use Rattle.crossbeam_channel.specs.Ends.{sends_on, receives_on, ruled_capacity};
 ghost use Rattle.nob_dispatch_lanes.specs.Ends.{parts_of, given_by, got_by, IsGiver, IsGetter};
@@ -10,11 +10,12 @@ use crate::rule::{Fair, Get, Give, Numbered, Tally};
 use crossbeam_channel::{Pass, RuledReceiver, RuledSender};
 use std::sync::Wait;
 
-/// An end of a lane that gives errands.
+/// An end of a lane that gives errands. It knows whether it was answered H1.
 #[derive(Drop)]
 pub struct LanePut<T: Numbered + Drop> {
     pub(crate) sender: RuledSender<T, Tally, Fair>,
     pub(crate) pass: Pass<T, Tally>,
+    pub(crate) has_heard_gone: bool,
     pub ghost seated: { IsSeatAt (sends_on sender) pass },
     pub ghost gives: { IsGiver pass },
     pub ghost few: { ruled_capacity (sends_on sender) ≤ 1024 },
@@ -30,6 +31,13 @@ pub struct LaneTake<T: Numbered + Drop> {
 }
 
 impl<T: Numbered + Drop> LanePut<T> {
+    /// Whether it was answered H1: it has heard that nobody gets from the lane any more.
+    pub fn has_heard_gone(&self) -> bool
+        ensures { result ≡ self.now.has_heard_gone }
+    {
+        self.has_heard_gone
+    }
+
     /// Gives an errand, and waits while the lane is full. H1 where nobody gets from it any more: the
     /// errand comes back. It takes no memory.
     pub fn give_as<R: Wait>(&mut self, rt: &R, errand: T) -> Result<(), Gone<T>>
@@ -37,14 +45,19 @@ impl<T: Numbered + Drop> LanePut<T> {
             (λ _. given_by self.new.pass ≡ given_by self.old.pass ++ T.number errand ∷ [])
             (λ gone. gone.errand ≡ errand) }
         ensures err { OnErr result (given_by self.new.pass ≡ given_by self.old.pass) }
+        ensures gone { MatchResult result (λ _. self.new.has_heard_gone ≡ self.old.has_heard_gone)
+            (λ _. self.new.has_heard_gone ≡ true) }
         ensures lane { sends_on self.new.sender ≡ sends_on self.old.sender }
         ensures parts { parts_of self.new.pass ≡ parts_of self.old.pass }
     {
         match self.sender.send_as::<Give, R>(rt, &mut self.pass, errand) {
             Ok(()) => Ok(()),
-            Err(error) => Err(Gone {
-                errand: error.into_inner(),
-            }),
+            Err(error) => {
+                self.has_heard_gone = true;
+                Err(Gone {
+                    errand: error.into_inner(),
+                })
+            }
         }
     }
 }

@@ -36,7 +36,7 @@ pub fn gather<T: Numbered + Drop, R: Wait>(
     };
     let mut puts = puts;
     let mut takes = takes;
-    let LanePut { sender, pass } = puts.remove(0);
+    let LanePut { sender, pass, .. } = puts.remove(0);
     let pass = join_givers(&sender, pass, puts);
     let LaneTake {
         receiver,
@@ -85,6 +85,7 @@ fn join_givers<T: Numbered + Drop>(
     let LanePut {
         sender: _sender,
         pass: other,
+        ..
     } = ends.remove(0);
     let pass = join(sender, pass, other);
     join_givers(sender, pass, ends)

@@ -1,10 +1,10 @@
 //! How a lane is made.
 
-ghost use Rattle.std.specs.Prelude.{◌≡◌, ◌≤◌, ◌<◌, ◌+◌, [], length, IfOk};
+ghost use Rattle.std.specs.Prelude.{◌≡◌, ◌≤◌, ◌<◌, ◌+◌, [], false, length, IfOk};
 ghost use Rattle.std.specs.List.{AllByRecursion};
 ghost use Rattle.crossbeam_channel.specs.Ends.{sends_on, receives_on};
 ghost use Rattle.nob_dispatch_lanes.specs.Ends.{parts_of, given_by, got_by};
-ghost use Rattle.nob_dispatch_lanes.specs.Lanes.{AreAllEnds, IsCapacity, all_given, all_got, getting_parts, giving_parts};
+ghost use Rattle.nob_dispatch_lanes.specs.Lanes.{AreAllEnds, HaveNotHeard, IsCapacity, all_given, all_got, getting_parts, giving_parts};
 ghost use Rattle.nob_dispatch_lanes.specs.declared.fault.LaneError.TheVariants as lane_errors;
 
 use crate::MOST_ERRANDS;
@@ -29,6 +29,7 @@ pub fn lane<T: Numbered + Drop>(
     ensures ends { IfOk result (λ ends. AreAllEnds ends.0.items ends.1.items) }
     ensures new { IfOk result (λ ends.
         (all_given ends.0.items ≡ []) × (all_got ends.1.items ≡ [])) }
+    ensures gone { IfOk result (λ ends. HaveNotHeard ends.0.items) }
     ensures refused { result ≡ Err lane_errors.Capacity → ¬ IsCapacity capacity }
     ensures judged { ¬ IsCapacity capacity → result ≡ Err lane_errors.Capacity }
 {
@@ -36,7 +37,11 @@ pub fn lane<T: Numbered + Drop>(
         return Err(LaneError::Capacity);
     }
     let (sender, receiver, pass) = bounded_with::<T, Tally, Fair, Global>(alloc, capacity)?;
-    let mut first = LanePut { sender, pass };
+    let mut first = LanePut {
+        sender,
+        pass,
+        has_heard_gone: false,
+    };
     let getting = getters(alloc, &mut first, receiver, takes)?;
     let giving = givers(alloc, first, puts)?;
     Ok((giving, getting))
@@ -54,6 +59,7 @@ fn getters<T: Numbered + Drop>(
     requires some { 1 ≤ takes }
     ensures first { (sends_on first.new.sender ≡ sends_on first.old.sender)
         × (given_by first.new.pass ≡ given_by first.old.pass) }
+    ensures heard { first.new.has_heard_gone ≡ first.old.has_heard_gone }
     ensures parts { IfOk result (λ ends. (getting_parts ends.items ≡ takes)
         × (parts_of first.new.pass + takes ≡ parts_of first.old.pass)) }
     ensures count { IfOk result (λ ends. length ends.items ≡ takes) }
@@ -78,6 +84,7 @@ fn getter<T: Numbered + Drop>(
     requires parts { 1 < parts_of first.old.pass }
     ensures first { (sends_on first.new.sender ≡ sends_on first.old.sender)
         × (given_by first.new.pass ≡ given_by first.old.pass) }
+    ensures heard { first.new.has_heard_gone ≡ first.old.has_heard_gone }
     ensures parts { IfOk result (λ end. (parts_of end.pass ≡ 1)
         × (parts_of first.new.pass + 1 ≡ parts_of first.old.pass)) }
     ensures new { IfOk result (λ end. got_by end.pass ≡ []) }
@@ -100,6 +107,7 @@ fn givers<T: Numbered + Drop>(
     ensures parts { IfOk result (λ ends. giving_parts ends.items ≡ parts_of first.pass) }
     ensures count { IfOk result (λ ends. length ends.items ≡ puts) }
     ensures new { given_by first.pass ≡ [] → IfOk result (λ ends. all_given ends.items ≡ []) }
+    ensures gone { first.has_heard_gone ≡ false → IfOk result (λ ends. HaveNotHeard ends.items) }
     ensures lane { IfOk result (λ ends.
         AllByRecursion (λ end. sends_on end.sender ≡ sends_on first.sender) ends.items) }
 {
@@ -117,12 +125,18 @@ fn giver<T: Numbered + Drop>(first: &mut LanePut<T>) -> Result<LanePut<T>, Alloc
     requires parts { 1 < parts_of first.old.pass }
     ensures first { (sends_on first.new.sender ≡ sends_on first.old.sender)
         × (given_by first.new.pass ≡ given_by first.old.pass) }
+    ensures heard { first.new.has_heard_gone ≡ first.old.has_heard_gone }
     ensures parts { IfOk result (λ end. (parts_of end.pass ≡ 1)
         × (parts_of first.new.pass + 1 ≡ parts_of first.old.pass)) }
     ensures new { IfOk result (λ end. given_by end.pass ≡ []) }
+    ensures gone { IfOk result (λ end. end.has_heard_gone ≡ false) }
     ensures lane { IfOk result (λ end. sends_on end.sender ≡ sends_on first.old.sender) }
 {
     let sender = first.sender.try_clone()?;
     let pass = first.sender.another::<Cut>(&mut first.pass);
-    Ok(LanePut { sender, pass })
+    Ok(LanePut {
+        sender,
+        pass,
+        has_heard_gone: false,
+    })
 }

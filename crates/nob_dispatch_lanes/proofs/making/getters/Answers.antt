@@ -16,4 +16,5 @@ loop-first-preserved g c =
       omega (arith, len, inv.4, test, c.len.ensures),
       none_got_push ends end inv.5 c.in_ok-another.ensures.new,
       all_push (λ end. sends_on c.args.first.now.sender ≡ receives_on end.receiver) ends end inv.6 (sym inv.0 ∙ c.in_ok-another.ensures.lane),
+      c.getter.ensures.heard ∙ inv.7,
     )

@@ -11,6 +11,7 @@ invariant-loop-first g l =
     × (getting_parts l.ends.items ≡ length l.ends.items) × (parts_of l.first.pass + length l.ends.items ≡ parts_of l.fn.first.pass)
     × (length l.ends.items ≤ l.fn.takes) × (all_got l.ends.items ≡ [])
     × AllByRecursion (λ end. sends_on l.fn.first.sender ≡ receives_on end.receiver) l.ends.items
+    × (l.first.has_heard_gone ≡ l.fn.first.has_heard_gone)
 
 abbrev pub decreases-loop-first : goal.decreases-loop-first
 decreases-loop-first g l = l.fn.takes - length l.ends.items

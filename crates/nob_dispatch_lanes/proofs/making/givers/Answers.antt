@@ -1,4 +1,4 @@
-use Rattle.std.proofs.Common.{arith, ◌≡◌, [], ◌∷◌, ◌∙◌, length-append}
+use Rattle.std.proofs.Common.{arith, ◌≡◌, [], ◌∷◌, ◌∙◌, false, length-append}
 use Rattle.crossbeam_channel.specs.Ends.{sends_on}
 use Rattle.nob_dispatch_lanes.proofs.Together.{giving_parts_push, none_given_push, all_push}
 use Rattle.nob_dispatch_lanes.proofs.making.givers.Goals as goal
@@ -16,6 +16,8 @@ loop-first-preserved g c =
       omega (arith, len, inv.4, test, c.len.ensures),
       none_given_push ends end inv.5 c.in_ok-another.ensures.new,
       all_push (λ end. sends_on end.sender ≡ sends_on c.args.first.sender) ends end inv.6 (c.in_ok-another.ensures.lane ∙ inv.0),
+      c.giver.ensures.heard ∙ inv.7,
+      all_push (λ end. end.has_heard_gone ≡ false) ends end inv.8 c.in_ok-another.ensures.gone,
     )
 
 pub returns-clause-parts : goal.returns-clause-parts
@@ -23,3 +25,6 @@ returns-clause-parts g c = let inv = c.loop-first.invariant in rw c.in_ok-push-2
 
 pub returns-clause-new : goal.returns-clause-new
 returns-clause-new g c none = let inv = c.loop-first.invariant in rw c.in_ok-push-2.ensures.items (none_given_push c.loop-first.ends.items c.loop-first.first inv.5 (inv.1 ∙ none))
+
+pub returns-clause-gone : goal.returns-clause-gone
+returns-clause-gone g c none = let inv = c.loop-first.invariant in rw c.in_ok-push-2.ensures.items (all_push (λ end. end.has_heard_gone ≡ false) c.loop-first.ends.items c.loop-first.first inv.8 (inv.7 ∙ none))
