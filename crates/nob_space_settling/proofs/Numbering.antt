@@ -59,7 +59,7 @@ all_came me peer limits (call ∷ L) right = (right_came me peer limits call L r
 -- what was taken was accepted
 taken_accepted : (me peer : ℕ) (limits : Limits) (L : List EndEntry) → AreRightCalls me peer limits L → takes L ≤ length (accepted L)
 taken_accepted me peer limits [] right = omega arith
-taken_accepted me peer limits (ends.Take ∷ L) right = some_waits (is_open L) (takes L + 1) (takes L) (accepted L) right.0
+taken_accepted me peer limits (ends.Take ∷ L) right = let more = some_waits (is_open L) (takes L + 1) (takes L) (accepted L) right.0 in omega (arith, more)
 taken_accepted me peer limits (ends.Arrive frame (Ok (arrived.Took k)) ∷ L) right =
     let before = taken_accepted me peer limits L right.1 in
     let more = length-append (accepted L) (filled (places (accepted_count L + 1) k (ends.Arrive frame (Ok (arrived.Took k)) ∷ L))) in
