@@ -195,13 +195,7 @@ fn frame_of_run(items: &[Bytes], run: ItemRun, place: u64) -> Result<Option<Fram
 
 // Adds rows for the frames of a transmit, before which so many stand: one for a run of items, two
 // for the first item and a run of later ones. It takes no memory.
-fn add_rows(
-    first: &[Bytes],
-    second: &[Bytes],
-    before: u64,
-    frames: Vec<Frame>,
-    rows: &mut Vec<Row>,
-)
+fn add_rows(first: &[Bytes], second: &[Bytes], before: u64, frames: Vec<Frame>, rows: &mut Vec<Row>)
     requires room { vec_len rows.old + 1 < vec_capacity rows.old }
     requires numbers { before + length frames.items < 2 ^ 64 }
     requires counted { AreCounted first.now second.now 0 rows.old.items }

@@ -64,10 +64,11 @@ window_whole w k payloads = ap (λ ps. take k payloads ++ ps) (take-append-drop 
 first_good : (me peer count k given : ℕ) (front ps rest payloads : List (List ℕ)) (p : List ℕ) → k ≡ length front + 1 → front ++ (p ∷ (ps ++ rest)) ≡ payloads → AllByRecursion (IsGood payloads count) (data_frames me peer (count + 1) k (p ∷ []) ++ data_frames me peer (count + 1) (max k given + 1) (drop (given - k) ps))
 first_good me peer count k given front ps rest payloads p place whole =
     let longer = length_push front p in
-    let number : (k + 1) + (given - k) ≡ max k given + 1 = omega arith in
-    ((data_good me peer count k front (p ∷ []) (ps ++ rest) payloads place whole).0,
-    subst (λ (m : ℕ). AllByRecursion (IsGood payloads count) (data_frames me peer (count + 1) m (drop (given - k) ps))) number
-    (behind_good me peer count (k + 1) (given - k) (front ++ p ∷ []) ps rest payloads (omega (arith, place, longer)) (append_assoc front (p ∷ []) (ps ++ rest) ∙ whole)))
+    let number : (k + 1) + (given - k) ≡ max k given + 1 = omega arith in (
+      (data_good me peer count k front (p ∷ []) (ps ++ rest) payloads place whole).0,
+      subst (λ (m : ℕ). AllByRecursion (IsGood payloads count) (data_frames me peer (count + 1) m (drop (given - k) ps))) number
+          (behind_good me peer count (k + 1) (given - k) (front ++ p ∷ []) ps rest payloads (omega (arith, place, longer)) (append_assoc front (p ∷ []) (ps ++ rest) ∙ whole)),
+    )
 
 open_good : (me peer count k given w : ℕ) (due : Bool) (payloads ps : List (List ℕ)) → 1 ≤ k → ps ≡ take w (drop (k - 1) payloads) → AllByRecursion (IsGood payloads count) (open_frames me peer (count + 1) k given due ps)
 open_good me peer count k given w true payloads [] low is = ((omega arith, λ d. absurd (not_data d)), tt)
