@@ -1,12 +1,10 @@
 -- A message that waits has the number of an item.
-use Rattle.std.proofs.Common.{◌≡◌, ℕ, ◌+◌, ◌≤◌, ◌<◌, Bool, true, false, not, nat_le, nat_lt, ◌&&◌, ◌==◌, List, [], ◌∷◌, ◌++◌, length, drop, find, Option, Some, None, Ok, Err, IsOk, IsSome, if◌then◌else◌, refl, sym, subst, arith}
+use Rattle.std.proofs.Common.{◌≡◌, ℕ, ◌+◌, ◌≤◌, ◌<◌, Bool, true, false, List, [], ◌∷◌, length, drop, find, Option, Some, None, Ok, IsOk, IsSome, if◌then◌else◌, refl, sym, subst, arith}
 use Prim.Native.Nat.{zero, suc}
 use Rattle.std.specs.List.{AllByRecursion}
-use Rattle.std.proofs.lemmas.Bool.{and_parts}
 use Rattle.std.proofs.lemmas.Bool.Decides.{nat_tests}
 use Rattle.std.proofs.lemmas.List.{length-append}
 use Rattle.nob_ids.specs.declared.limits.Limits.{Limits}
-use Rattle.nob_frame.specs.Kinds.{is_data, is_close}
 use Rattle.nob_item.specs.Judging.{is_call_number, is_item_number}
 use Rattle.nob_item.specs.Writing.{bytes_of}
 use Rattle.nob_item.specs.declared.item.Item.{Item}
@@ -18,8 +16,6 @@ use Rattle.nob_model_session.specs.Accepting.{AllCame}
 use Rattle.nob_model_session.specs.declared.entry.Arrived.TheVariants as arrived
 use Rattle.nob_model_session.specs.declared.entry.EndEntry.{EndEntry}
 use Rattle.nob_model_session.specs.declared.entry.EndEntry.TheVariants as ends
-use Rattle.nob_model_session.specs.declared.entry.Ending.{Ending}
-use Rattle.nob_model_session.specs.declared.refusal.EndRefusal.{EndRefusal}
 use Rattle.nob_model_types.specs.declared.answer.Job.{Job}
 use Rattle.nob_model_types.specs.declared.deed.Deed.{Deed}
 use Rattle.nob_model_types.specs.declared.deed.Deed.TheVariants.{Call, TakeReply, TakeEnd, Claim, Finish, DropReply, Act, Settle, Closing}
