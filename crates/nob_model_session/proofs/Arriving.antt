@@ -169,15 +169,15 @@ pub record Took (me peer : ℕ) (frame : Frame) (k : ℕ) (L : List EndEntry) : 
   pub count : k ≡ taken_by frame L
   pub is_item : is_data frame.kind ≡ true
 
-took_by : (x y : Ending) (strange closed close bad data_frame : Bool) (row k : ℕ)
-    → Ok (arrived.Took (suc k)) ≡ cond strange (Err refusal.Strange) (cond closed (Ok (arrived.Took 0)) (cond close (Ok (arrived.Closed x)) (cond bad (Ok (arrived.Closed y)) (Ok (arrived.Took (cond data_frame row 0))))))
-    → (strange ≡ false) × (closed ≡ false) × (close ≡ false) × (bad ≡ false) × (suc k ≡ cond data_frame row 0) × (data_frame ≡ true)
-took_by x y true closed close bad data_frame row k e = absurd cc
-took_by x y false true close bad data_frame row k e = let none : suc k ≡ 0 = cc in absurd (omega arith)
-took_by x y false false true bad data_frame row k e = absurd cc
-took_by x y false false false true data_frame row k e = absurd cc
-took_by x y false false false false true row k e = (refl, refl, refl, refl, cc, refl)
-took_by x y false false false false false row k e = let none : suc k ≡ 0 = cc in absurd (omega arith)
+took_by : (x y : Ending) (strange closed close bad data_frame : Bool) (found k : ℕ)
+    → Ok (arrived.Took (suc k)) ≡ cond strange (Err refusal.Strange) (cond closed (Ok (arrived.Took 0)) (cond close (Ok (arrived.Closed x)) (cond bad (Ok (arrived.Closed y)) (Ok (arrived.Took (cond data_frame found 0))))))
+    → (strange ≡ false) × (closed ≡ false) × (close ≡ false) × (bad ≡ false) × (suc k ≡ cond data_frame found 0) × (data_frame ≡ true)
+took_by x y true closed close bad data_frame found k e = absurd cc
+took_by x y false true close bad data_frame found k e = let none : suc k ≡ 0 = cc in absurd (omega arith)
+took_by x y false false true bad data_frame found k e = absurd cc
+took_by x y false false false true data_frame found k e = absurd cc
+took_by x y false false false false true found k e = (refl, refl, refl, refl, cc, refl)
+took_by x y false false false false false found k e = let none : suc k ≡ 0 = cc in absurd (omega arith)
 
 not_false : (b : Bool) → not b ≡ false → b ≡ true
 not_false true e = refl

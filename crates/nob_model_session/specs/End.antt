@@ -54,7 +54,7 @@ transmitted (_ ∷ L) = transmitted L
 abbrev pub last_item : ℕ
 last_item = 2 ^ 40
 
--- so many numbers from the next on are in reach: what comes there is kept
+-- how many numbers, from the next one on, are in reach: what comes there is kept
 abbrev pub reach : ℕ
 reach = 64
 
@@ -64,11 +64,11 @@ accepted_count [] = 0
 accepted_count (Arrive frame (Ok (arrived.Took k)) ∷ L) = k + accepted_count L
 accepted_count (_ ∷ L) = accepted_count L
 
--- whether number n is in reach where so many items are accepted: the next, or one of the 63 behind it, at most 2^40
+-- whether number n is in reach of an end that has accepted this many items: it is the next, or one of the 63 behind it, and at most 2^40
 abbrev pub is_in_reach : (accepted n : ℕ) → Bool
 is_in_reach accepted n = nat_lt accepted n && nat_le n (accepted + reach) && nat_le n last_item
 
--- whether a frame that arrives where so many items are accepted brings the payload of item n: a Data frame with this number, while it is in reach
+-- whether a frame brings the payload of item n to an end that has accepted this many: it is a Data frame with this number, which is in reach
 abbrev pub brings_at : ℕ → Frame → (accepted : ℕ) → Bool
 brings_at n frame accepted = is_data frame.kind && (frame.seq == n) && is_in_reach accepted n
 
@@ -78,7 +78,7 @@ payload n [] = None
 payload n (Arrive frame (Ok (arrived.Took k)) ∷ L) = option_or (payload n L) (if brings_at n frame (accepted_count L) then Some frame.payload else None)
 payload n (_ ∷ L) = payload n L
 
--- the places of so many numbers from n on, each with the payload that came there, if one did
+-- the places of the numbers from n on, as many as are asked for, each with the payload that came there, if one did
 unfoldable pub places : (n count : ℕ) → List EndEntry → List (Option (List ℕ))
 places n zero L = []
 places n (suc count) L = payload n L ∷ places (n + 1) count L

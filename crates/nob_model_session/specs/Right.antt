@@ -72,14 +72,14 @@ right_transmit me peer window L =
 abbrev pub is_of_pair : (me peer : ℕ) → Frame → Bool
 is_of_pair me peer frame = (frame.from == peer) && (frame.to == me)
 
--- how many of these places are filled in a row, from the first on and at most so many
+-- how many of these places are filled in a row from the first on, none counted beyond the most that are asked for
 abbrev pub in_a_row : {A : Type 0} → (most : ℕ) → List (Option A) → ℕ
 in_a_row zero places = 0
 in_a_row (suc most) [] = 0
 in_a_row (suc most) (None ∷ more) = 0
 in_a_row (suc most) (Some x ∷ more) = suc (in_a_row most more)
 
--- how many items an open end accepts with a frame that it hears: with a Data frame those that are kept in a row from the next on, what this frame brings with them, while the inbox has room
+-- how many items an open end accepts when it hears a frame: where that is a Data frame, all that are kept in a row from the next one on, its own among them, while the inbox has room
 abbrev pub taken_by : Frame → List EndEntry → ℕ
 taken_by frame L = if is_data frame.kind then in_a_row (inbox_limit - length (waiting L)) (early (Arrive frame (Ok (arrived.Took 0)) ∷ L)) else 0
 

@@ -13,7 +13,7 @@ use std::alloc::{AllocError, Global};
 /// The greatest number of an item.
 pub const LAST_ITEM: u64 = 1 << 40;
 
-/// So many numbers from the next on are in reach.
+/// How many numbers, from the next one on, are in reach.
 pub const REACH: usize = 64;
 
 /// Why the end closed, if it has.
@@ -109,7 +109,7 @@ pub fn accepted_count(calls: &[EndEntry]) -> u128
     }
 }
 
-/// Whether a frame that arrives where so many items are accepted brings the payload of an item.
+/// Whether a frame brings the payload of an item to an end that has accepted this many.
 pub fn brings_at(number: u128, frame: &Frame, accepted: u128) -> bool
     ensures { result ≡ words.brings_at number frame.now accepted }
 {
@@ -140,7 +140,7 @@ pub fn payload(number: u128, calls: &[EndEntry]) -> Option<&[u8]>
     }
 }
 
-// The payloads that came of so many numbers from one on.
+// The payloads that came of `count` numbers, from the first one on.
 #[tactic(auto, unfolding(crate::specs::End::places))]
 fn filled(
     alloc: Global,

@@ -86,7 +86,8 @@ fn taken_by(alloc: Global, frame: &Frame, calls: &[EndEntry]) -> Result<u64, All
     Ok(in_a_row(first, end::REACH, room as u64, frame, calls))
 }
 
-// How many of so many numbers from one on came in a row, this frame with them, and at most so many.
+// How many of `count` numbers from the first one on came in a row, with this frame at the latest,
+// none counted beyond `most`.
 #[tactic(auto, unfolding(crate::specs::End::places))]
 fn in_a_row(first: u128, count: usize, most: u64, frame: &Frame, calls: &[EndEntry]) -> u64
     requires { first + count < 2 ^ 128 }
