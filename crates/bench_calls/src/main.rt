@@ -25,7 +25,7 @@ fn main(rt: HostRuntime) -> ExitCode {
     let done = match read_task(&rt) {
         Ok(Some(task)) => run(&rt, rt.alloc(), task),
         Ok(None) => rt.println(
-            "bench_calls floor|idle|null|apart|fresh|life|handoff CALLERS CALLS LOSS [all|nothing]",
+            "bench_calls floor|idle|null|apart|fresh|life|handoff CALLERS CALLS LOSS [all|nothing [WINDOW]]",
         ),
         Err(error) => Err(error),
     };
@@ -37,11 +37,19 @@ fn main(rt: HostRuntime) -> ExitCode {
 
 // Runs a task, and says how many calls were answered.
 fn run<R: Threads + Wait + Sync + Print>(rt: &R, alloc: Global, task: Task) -> io::Result<()> {
-    let answered = if task.kind == Kind::Floor {
-        run_floor(rt, alloc, task.callers, task.calls)
-    } else {
-        run_all(rt, alloc, task)
-    };
+    if task.kind == Kind::Floor {
+        return say_answered(rt, run_floor(rt, alloc, task.callers, task.calls));
+    }
+    let outcome = run_all(rt, alloc, task);
+    if let (Some(outcome), Some(_)) = (outcome, task.window) {
+        let frames = outcome.frames;
+        println!(rt; "{frames} frames")?;
+    }
+    say_answered(rt, outcome.map(|outcome| outcome.answered))
+}
+
+// Says how many calls were answered.
+fn say_answered<R: Print>(rt: &R, answered: Option<u64>) -> io::Result<()> {
     match answered {
         Some(answered) => println!(rt; "{answered} calls answered"),
         None => println!(rt; "it failed"),

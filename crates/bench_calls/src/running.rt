@@ -9,9 +9,10 @@ use crate::saying::{BEGIN, END, say};
 use crate::task::{Kind, Task};
 use crate::thing::Thing;
 use nob_fault::{Shim, words_between};
-use nob_ids::{Limits, SpaceId};
+use nob_ids::SpaceId;
 use nob_link::link;
-use nob_node::{Config, Ends, OpenGate, run};
+use nob_model_types::Answer;
+use nob_node::{Config, Ends, OpenGate, Record, run};
 use std::alloc::Global;
 use std::sync::Wait;
 use std::thread::{self, Threads};
@@ -38,6 +39,15 @@ struct Place {
     server: SpaceId,
     relay: SpaceId,
     answered: Option<u64>,
+    frames: u64,
+}
+
+/// What came of a task: how many calls were answered, and how many frames the nodes gave, as far as
+/// they kept what they did.
+#[derive(Clone, Copy, Debug)]
+pub(crate) struct Outcome {
+    pub(crate) answered: u64,
+    pub(crate) frames: u64,
 }
 
 impl Place {
@@ -58,8 +68,9 @@ impl Place {
         );
         let done = run(rt, self.alloc, self.config, ends, &OpenGate, &mut player);
         player.leave(rt);
-        if done.is_ok() {
+        if let Ok(report) = done {
             self.answered = Some(player.answered);
+            self.frames = frames_in(&report.record);
         }
     }
 
@@ -72,21 +83,39 @@ impl Place {
     }
 }
 
-// Runs a task: how many calls were answered. `None` where memory is wanted, or a thread can't be
+// How many frames a node gave, as far as it kept what it did.
+fn frames_in(record: &Record) -> u64 {
+    let Record::Trace(trace) = record else {
+        return 0;
+    };
+    let mut count: u64 = 0;
+    for entry in trace.entries.as_slice() {
+        if let Ok(Answer::Frames(frames)) = &entry.result {
+            count = count.saturating_add(frames.as_slice().len() as u64);
+        }
+    }
+    count
+}
+
+// Runs a task, and says what came of it. `None` where memory is wanted, or a thread can't be
 // made.
 pub(crate) fn run_all<R: Threads + Wait + Sync + Print>(
     rt: &R,
     alloc: Global,
     task: Task,
-) -> Option<u64> {
+) -> Option<Outcome> {
     let mut places = places_of(alloc, task)?;
     let meeting = Meeting::new();
     play_all(rt, &meeting, places.as_mut_slice());
-    let mut answered: u64 = 0;
+    let mut outcome = Outcome {
+        answered: 0,
+        frames: 0,
+    };
     for place in places {
-        answered = answered.saturating_add(place.answered?);
+        outcome.answered = outcome.answered.saturating_add(place.answered?);
+        outcome.frames = outcome.frames.saturating_add(place.frames);
     }
-    Some(answered)
+    Some(outcome)
 }
 
 // Runs all nodes, a thread each, and says when all are there to call or to be called, and when all
@@ -137,6 +166,7 @@ fn places_of(alloc: Global, task: Task) -> Option<Vec<Place>> {
             server,
             relay,
             answered: None,
+            frames: 0,
         };
         places.push(place).ok()?;
     }
@@ -150,7 +180,7 @@ fn places_of(alloc: Global, task: Task) -> Option<Vec<Place>> {
 
 // How the node of a space runs.
 fn config_of(task: Task, space: SpaceId, count: u16) -> Option<Config> {
-    let config = Config::new(space, count, Limits::default(), WORKERS, PAUSE, 0)?;
+    let config = Config::new(space, count, task.limits()?, WORKERS, PAUSE, 0)?;
     Some(config.keeping(task.keep))
 }
 

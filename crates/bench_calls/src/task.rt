@@ -1,5 +1,6 @@
 //! What is measured.
 
+use nob_ids::Limits;
 use nob_node::Keep;
 use std::{env, io};
 
@@ -23,7 +24,8 @@ pub(crate) enum Kind {
 }
 
 /// What is measured: so many callers, each of which makes so many calls, over links that lose about
-/// so many frames of ten, of nodes that keep all of their entries, or nothing.
+/// so many frames of ten, of nodes that keep all of their entries, or nothing. Where a window is
+/// named, it is that of all sessions, and the frames are counted that the nodes give.
 #[derive(Clone, Copy, Debug)]
 pub(crate) struct Task {
     pub(crate) kind: Kind,
@@ -31,6 +33,18 @@ pub(crate) struct Task {
     pub(crate) calls: u64,
     pub(crate) loss: u64,
     pub(crate) keep: Keep,
+    pub(crate) window: Option<u64>,
+}
+
+impl Task {
+    // The limits of all sessions. `None` where a window is named that is out of range.
+    pub(crate) fn limits(self) -> Option<Limits> {
+        let limits = Limits::default();
+        match self.window {
+            Some(window) => Limits::new(window, limits.retry),
+            None => Some(limits),
+        }
+    }
 }
 
 /// The task of the command line: `None` where it has too few words. Nodes keep all where the fifth
@@ -54,12 +68,17 @@ pub(crate) fn read_task(rt: &HostRuntime) -> io::Result<Option<Task>> {
         Some(word) => keep_of(word.as_str()),
         None => Keep::All,
     };
+    let window = match words.next() {
+        Some(word) => word.as_str().parse::<u64>().ok(),
+        None => None,
+    };
     Ok(Some(Task {
         kind: kind_of(kind.as_str()),
         callers: callers.as_str().parse::<u16>().unwrap_or(1).clamp(1, 8),
         calls: calls.as_str().parse::<u64>().unwrap_or(1),
         loss: loss.as_str().parse::<u64>().unwrap_or(0),
         keep,
+        window,
     }))
 }
 

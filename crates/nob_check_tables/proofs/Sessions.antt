@@ -56,23 +56,23 @@ taken_with p q count taken =
 -- how many items of p were accepted
 pub taken_is : (s n p : ℕ) (D : List Deed) → taken_from p (tables_of s n D).taken ≡ accepted_from p D
 taken_is s n p [] = refl
-taken_is s n p (Arrive frame count ∷ D) = taken_with p frame.from (count + taken_from frame.from taken) taken ∙ by (p == frame.from) (frame.from == p) refl refl
+taken_is s n p (Arrive frame count ∷ D) = taken_with p frame.from (count + taken_from frame.from taken) taken ∙ by (taken_is s n p D) (p == frame.from) (frame.from == p) refl refl
   where
     taken : List (ℕ × ℕ)
     taken = (tables_of s n D).taken
 
-    by : (a b : Bool) → p == frame.from ≡ a → frame.from == p ≡ b → cond (p == frame.from) (count + taken_from frame.from taken) (taken_from p taken) ≡ cond (frame.from == p) (count + accepted_from p D) (accepted_from p D)
-    by true true one two =
+    by : taken_from p taken ≡ accepted_from p D → (a b : Bool) → p == frame.from ≡ a → frame.from == p ≡ b → cond (p == frame.from) (count + taken_from frame.from taken) (taken_from p taken) ≡ cond (frame.from == p) (count + accepted_from p D) (accepted_from p D)
+    by same true true one two =
         ap (λ (t : Bool). cond t (count + taken_from frame.from taken) (taken_from p taken)) one
         ∙ ap (λ (q : ℕ). count + taken_from q taken) (eqb-true frame.from p two)
-        ∙ ap (λ (k : ℕ). count + k) (taken_is s n p D)
+        ∙ ap (λ (k : ℕ). count + k) same
         ∙ sym (ap (λ (t : Bool). cond t (count + accepted_from p D) (accepted_from p D)) two)
-    by false false one two =
+    by same false false one two =
         ap (λ (t : Bool). cond t (count + taken_from frame.from taken) (taken_from p taken)) one
-        ∙ taken_is s n p D
+        ∙ same
         ∙ sym (ap (λ (t : Bool). cond t (count + accepted_from p D) (accepted_from p D)) two)
-    by true false one two = absurd (true≢false (sym (eq-eqb frame.from p (sym (eqb-true p frame.from one))) ∙ two))
-    by false true one two = absurd (true≢false (sym (eq-eqb p frame.from (sym (eqb-true frame.from p two))) ∙ one))
+    by same true false one two = absurd (true≢false (sym (eq-eqb frame.from p (sym (eqb-true p frame.from one))) ∙ two))
+    by same false true one two = absurd (true≢false (sym (eq-eqb p frame.from (sym (eqb-true frame.from p two))) ∙ one))
 taken_is s n p (_ ∷ D) = taken_is s n p D
 
 -- ---- items

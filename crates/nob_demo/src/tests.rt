@@ -26,7 +26,7 @@ fn pair<H: Threads + Wait + Sync>(rt: &H, alloc: Global, script: &[u8]) -> (u8, 
 
 // The worked example *first frame lost*.
 const FIRST_FRAME_LOST: &[u8] =
-    b"pair window 2 retry 4\n1 put aa\n1 put bb\n1 put cc\n1 send\ndeliver 2\n1 send\ndeliver 3\ndeliver 4\n2 send\ndeliver 5\n1 send\ndeliver 6\n2 get\n2 get\n2 get\n2 get\n";
+    b"pair window 2 retry 4\n1 put aa\n1 put bb\n1 put cc\n1 send\ndeliver 2\n1 send\ndeliver 3\n2 send\ndeliver 4\n1 send\ndeliver 5\ndeliver 1\n2 get\n2 get\n2 get\n2 get\n";
 
 // A reader that gives three bytes a read. The read after so many others fails, and those after it
 // go on.

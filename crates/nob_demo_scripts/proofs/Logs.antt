@@ -97,6 +97,15 @@ row_more f s rows row frames counted before there are = (
   frames-append f s rows (row ∷ []) ∙ ap (λ (fs : List Frame). all_frames f s rows ++ fs) (append-nil (frames_in f s row.batch) ∙ are),
 )
 
+-- two rows more, the first of one frame: the frames of both come behind the others
+pub rows_more : (f s : List (List ℕ)) (rows : List Row) (n : ℕ) (one two : Batch) (frames : List Frame) → AreCounted f s 0 rows → n ≡ length (all_frames f s rows) → IsThere f s one → IsThere f s two → length (frames_in f s one) ≡ 1 → frames ≡ frames_in f s one ++ frames_in f s two
+    → AreCounted f s 0 ((rows ++ record { before = n; batch = one } ∷ []) ++ record { before = n + 1; batch = two } ∷ []) × (all_frames f s ((rows ++ record { before = n; batch = one } ∷ []) ++ record { before = n + 1; batch = two } ∷ []) ≡ all_frames f s rows ++ frames)
+rows_more f s rows n one two frames counted before one_there two_there single are =
+    let first = row_more f s rows (record { before = n; batch = one }) (frames_in f s one) counted before one_there refl in
+    let longer : n + 1 ≡ length (all_frames f s (rows ++ record { before = n; batch = one } ∷ [])) = omega (arith, before, single, ap length first.1, length-append (all_frames f s rows) (frames_in f s one)) in
+    let second = row_more f s (rows ++ record { before = n; batch = one } ∷ []) (record { before = n + 1; batch = two }) (frames_in f s two) first.0 longer two_there refl in
+    (second.0, second.1 ∙ ap (λ (fs : List Frame). fs ++ frames_in f s two) first.1 ∙ append_assoc (all_frames f s rows) (frames_in f s one) (frames_in f s two) ∙ ap (λ (fs : List Frame). all_frames f s rows ++ fs) (sym are))
+
 -- ---- places
 
 pub get-front : {X : Type 0} (xs ys : List X) (i : ℕ) → i < length xs → slice_get (xs ++ ys) i ≡ slice_get xs i

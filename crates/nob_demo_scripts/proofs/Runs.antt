@@ -1,5 +1,5 @@
 -- A step makes a run of a pair one call longer, or more.
-use Rattle.std.proofs.Common.{◌≡◌, ℕ, suc, ◌+◌, arith, Bool, true, false, cond, List, [], ◌∷◌, ◌++◌, Option, Some, None, ◌⊎◌, inl, inr, refl, sym, subst, take, length}
+use Rattle.std.proofs.Common.{◌≡◌, ℕ, suc, ◌+◌, ◌-◌, max, arith, Bool, true, false, cond, List, [], ◌∷◌, ◌++◌, Option, Some, None, ◌⊎◌, inl, inr, refl, sym, subst, take, drop}
 use Rattle.std.specs.List.{AllByRecursion, Contains}
 use Rattle.std.proofs.lemmas.List.Elements.{Contains-append_cases, Contains-append_left, Contains-append_right}
 use Rattle.nob_ids.specs.declared.limits.Limits.{Limits}
@@ -9,7 +9,7 @@ use Rattle.nob_model_session.specs.declared.entry.EndEntry.{EndEntry}
 use Rattle.nob_model_session.specs.declared.entry.EndEntry.TheVariants.{Send, Transmit, Arrive, Front, Take, IsOpen, Tick, Close}
 use Rattle.nob_model_session.specs.declared.entry.PairEntry.{PairEntry}
 use Rattle.nob_model_session.specs.declared.entry.PairEntry.TheVariants.{First, Second}
-use Rattle.nob_model_session.specs.End.{is_open, lowest, accepted, unacknowledged, data_arrived, owes_close, ending}
+use Rattle.nob_model_session.specs.End.{is_open, lowest, transmitted, accepted_count, unacknowledged, data_arrived, owes_close, ending}
 use Rattle.nob_model_session.specs.Right.{right_transmit, data_frames, open_frames, closed_frames}
 use Rattle.nob_model_session.specs.Pair.{first_calls, second_calls, transmitted_frames, PairRun}
 use Rattle.std.proofs.lemmas.Option.{slice_get_within, get_or_from_slice_get}
@@ -33,19 +33,19 @@ to_peer_data : (me peer ack n : ℕ) (xs : List (List ℕ)) → AllByRecursion (
 to_peer_data me peer ack n [] = tt
 to_peer_data me peer ack n (x ∷ xs) = (refl, to_peer_data me peer ack (n + 1) xs)
 
-to_peer_open : (me peer ack n : ℕ) (due : Bool) (xs : List (List ℕ)) → AllByRecursion (λ (f : Frame). f.to ≡ peer) (open_frames me peer ack n due xs)
-to_peer_open me peer ack n true [] = (refl, tt)
-to_peer_open me peer ack n false [] = tt
-to_peer_open me peer ack n due (x ∷ xs) = to_peer_data me peer ack n (x ∷ xs)
+to_peer_open : (me peer ack n given : ℕ) (due : Bool) (xs : List (List ℕ)) → AllByRecursion (λ (f : Frame). f.to ≡ peer) (open_frames me peer ack n given due xs)
+to_peer_open me peer ack n given true [] = (refl, tt)
+to_peer_open me peer ack n given false [] = tt
+to_peer_open me peer ack n given due (x ∷ xs) = (refl, to_peer_data me peer ack (max n given + 1) (drop (given - n) xs))
 
 to_peer_closed : (me peer ack : ℕ) (owes : Bool) (reason : Option Reason) → AllByRecursion (λ (f : Frame). f.to ≡ peer) (closed_frames me peer ack owes reason)
 to_peer_closed me peer ack owes None = tt
 to_peer_closed me peer ack true (Some reason) = (refl, tt)
 to_peer_closed me peer ack false (Some reason) = tt
 
-to_peer_either : (me peer window : ℕ) (L : List EndEntry) (b : Bool) → AllByRecursion (λ (f : Frame). f.to ≡ peer) (cond b (open_frames me peer (length (accepted L) + 1) (lowest L) (data_arrived L) (take window (unacknowledged L))) (closed_frames me peer (length (accepted L) + 1) (owes_close L) (ending L)))
-to_peer_either me peer window L true = to_peer_open me peer (length (accepted L) + 1) (lowest L) (data_arrived L) (take window (unacknowledged L))
-to_peer_either me peer window L false = to_peer_closed me peer (length (accepted L) + 1) (owes_close L) (ending L)
+to_peer_either : (me peer window : ℕ) (L : List EndEntry) (b : Bool) → AllByRecursion (λ (f : Frame). f.to ≡ peer) (cond b (open_frames me peer (accepted_count L + 1) (lowest L) (transmitted L) (data_arrived L) (take window (unacknowledged L))) (closed_frames me peer (accepted_count L + 1) (owes_close L) (ending L)))
+to_peer_either me peer window L true = to_peer_open me peer (accepted_count L + 1) (lowest L) (transmitted L) (data_arrived L) (take window (unacknowledged L))
+to_peer_either me peer window L false = to_peer_closed me peer (accepted_count L + 1) (owes_close L) (ending L)
 
 to_peer : (me peer window : ℕ) (L : List EndEntry) → AllByRecursion (λ (f : Frame). f.to ≡ peer) (right_transmit me peer window L)
 to_peer me peer window L = to_peer_either me peer window L (is_open L)

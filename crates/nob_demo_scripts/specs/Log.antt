@@ -37,4 +37,4 @@ AreCounted first second n (row ∷ rows) = (row.before ≡ n) × IsThere first s
 
 -- how many frames can be added at once without memory, where so many rows are free and so many frames are there
 abbrev pub room_of : (free count : ℕ) → ℕ
-room_of free count = if nat_lt 0 free then 2 ^ 64 - 1 - count else 0
+room_of free count = if nat_lt 1 free then 2 ^ 64 - 1 - count else 0

@@ -1,6 +1,6 @@
 //! All frames that were ever transmitted: a payload stands once, however many frames carry it.
 
-ghost use Rattle.std.specs.Prelude.{◌≡◌, ◌++◌, ◌+◌, ◌-◌, ◌<◌, ◌≤◌, ◌^◌, ℕ, List, true, [], length, take, drop, slice_get, IfOk, IfSome, IsSome, OnOk, OnErr, MatchOption};
+ghost use Rattle.std.specs.Prelude.{◌≡◌, ◌++◌, ◌∷◌, ◌+◌, ◌-◌, ◌<◌, ◌≤◌, ◌^◌, ℕ, List, true, [], length, take, drop, slice_get, vec_len, vec_capacity, IfOk, IfSome, IsSome, OnOk, OnErr, MatchOption};
 ghost use Rattle.nob_frame.specs.declared.frame.FrameKind.TheVariants as kinds;
 ghost use Rattle.nob_model_session.specs.Right.{data_frames};
 ghost use Rattle.nob_demo_scripts.specs.Run.{frame_numbered};
@@ -14,8 +14,8 @@ use nob_model_session::Frames;
 use std::alloc::{AllocError, Global};
 use std::marker::Model;
 
-/// All frames that were ever transmitted, in order, with a row for each transmit. Contracts see the
-/// frames, and how many more can be added at once without memory.
+/// All frames that were ever transmitted, in order, with a row or two for each transmit. Contracts
+/// see the frames, and how many more can be added at once without memory.
 #[derive(Debug, Drop)]
 pub struct FrameLog {
     // the items of space 1 and those of space 2, the first first
@@ -88,7 +88,7 @@ impl FrameLog {
         if u64::MAX - self.count < count {
             return Err(AllocError);
         }
-        self.rows.reserve(1)
+        self.rows.reserve(2)
     }
 
     /// Adds the frames of a transmit, for which there is room. It takes no memory.
@@ -99,10 +99,7 @@ impl FrameLog {
     {
         let before = self.count;
         let count = frames.len() as u64;
-        let batch = batch_of(&self.first, &self.second, frames);
-        let Ok(()) = self.rows.push(Row { before, batch }) else {
-            unreachable!();
-        };
+        add_rows(&self.first, &self.second, before, frames, &mut self.rows);
         self.count += count;
     }
 
@@ -196,15 +193,52 @@ fn frame_of_run(items: &[Bytes], run: ItemRun, place: u64) -> Result<Option<Fram
     }))
 }
 
-// The batch of these frames.
-fn batch_of(first: &[Bytes], second: &[Bytes], frames: Vec<Frame>) -> Batch
-    ensures there { IsThere first.now second.now result }
-    ensures frames { frames_in first.now second.now result ≡ frames.items }
+// Adds rows for the frames of a transmit, before which so many stand: one for a run of items, two
+// for the first item and a run of later ones. It takes no memory.
+fn add_rows(first: &[Bytes], second: &[Bytes], before: u64, frames: Vec<Frame>, rows: &mut Vec<Row>)
+    requires room { vec_len rows.old + 1 < vec_capacity rows.old }
+    requires numbers { before + length frames.items < 2 ^ 64 }
+    requires counted { AreCounted first.now second.now 0 rows.old.items }
+    requires before { before ≡ length (all_frames first.now second.now rows.old.items) }
+    ensures counted { AreCounted first.now second.now 0 rows.new.items }
+    ensures frames { all_frames first.now second.now rows.new.items
+        ≡ all_frames first.now second.now rows.old.items ++ frames.items }
 {
-    match run_of(first, second, &frames) {
-        Some(run) => Batch::Run(run),
-        None => Batch::Whole(Frames::from_vec(frames)),
+    if let Some(run) = run_of(first, second, &frames) {
+        push_row(rows, before, Batch::Run(run));
+        return;
     }
+    if let Some((head, rest)) = runs_of(first, second, &frames) {
+        push_row(rows, before, Batch::Run(head));
+        push_row(rows, before + 1, Batch::Run(rest));
+        return;
+    }
+    push_row(rows, before, Batch::Whole(Frames::from_vec(frames)));
+}
+
+// Adds a row for which there is room. It takes no memory.
+fn push_row(rows: &mut Vec<Row>, before: u64, batch: Batch)
+    requires room { vec_len rows.old < vec_capacity rows.old }
+    ensures items { rows.new.items
+        ≡ rows.old.items ++ record { before = before; batch = batch } ∷ [] }
+    ensures capacity { vec_capacity rows.new ≡ vec_capacity rows.old }
+{
+    rows.push_reserved(Row { before, batch });
+}
+
+// The run of the first frame's item and that of the others', if the others' are one.
+fn runs_of(first: &[Bytes], second: &[Bytes], frames: &[Frame]) -> Option<(ItemRun, ItemRun)>
+    ensures { IfSome result (λ runs. IsThere first.now second.now (Batch.Run runs.0)
+        × IsThere first.now second.now (Batch.Run runs.1)
+        × (length (frames_in first.now second.now (Batch.Run runs.0)) ≡ 1)
+        × (frames.now ≡ frames_in first.now second.now (Batch.Run runs.0)
+        ++ frames_in first.now second.now (Batch.Run runs.1))) }
+{
+    if frames.is_empty() {
+        return None;
+    }
+    let (head, rest) = frames.split_at(1);
+    Some((run_of(first, second, head)?, run_of(first, second, rest)?))
 }
 
 // The run of items that these frames carry, if they are one.

@@ -110,12 +110,12 @@ abbrev pub entries_shapes : Page → List Entry → List Shape
 entries_shapes page [] = []
 entries_shapes page (entry ∷ J) = entries_shapes page J ++ (if is_shown page (row_after J) then entry_shapes page (row_after J) entry else [])
 
--- how an arrow is drawn: thin where its item was given before, grey where it is ignored
-abbrev pub arrow_style : (again ignored : Bool) → Style
+-- how an arrow is drawn: thin where its item was given before, grey where it took nothing
+abbrev pub arrow_style : (again took_nothing : Bool) → Style
 arrow_style false false = styles.Sent
 arrow_style true false = styles.Again
-arrow_style false true = styles.Ignored
-arrow_style true true = styles.IgnoredAgain
+arrow_style false true = styles.TookNothing
+arrow_style true true = styles.TookNothingAgain
 
 -- the words at the head of an arrow: below it, in front of the lifeline that it comes to, on the side from which it comes
 abbrev pub head_words : Page → Arrow → Shape
@@ -127,7 +127,7 @@ is_arrow_seen page arrow = is_seen page arrow.departure.row arrow.row
 
 -- an arrow: from the lifeline of its Transmit to that of its Arrive
 abbrev pub arrow_line : Page → Arrow → Shape
-arrow_line page arrow = shapes.Line (arrow_style arrow.departure.again arrow.ignored) (point_at page arrow.departure.space arrow.departure.row) (point_at page arrow.to arrow.row)
+arrow_line page arrow = shapes.Line (arrow_style arrow.departure.again arrow.took_nothing) (point_at page arrow.departure.space arrow.departure.row) (point_at page arrow.to arrow.row)
 
 -- the lines of the arrows that are seen
 abbrev pub arrows_lines : Page → List Arrow → List Shape

@@ -12,14 +12,14 @@ use nob_drawing_plan::{Arrow, Departure};
 use std::alloc::{AllocError, Global};
 
 // How an arrow is drawn.
-fn arrow_style(again: bool, ignored: bool) -> Style
-    ensures { result ≡ spec.arrow_style again ignored }
+fn arrow_style(again: bool, took_nothing: bool) -> Style
+    ensures { result ≡ spec.arrow_style again took_nothing }
 {
-    match (again, ignored) {
+    match (again, took_nothing) {
         (false, false) => Style::Sent,
         (true, false) => Style::Again,
-        (false, true) => Style::Ignored,
-        (true, true) => Style::IgnoredAgain,
+        (false, true) => Style::TookNothing,
+        (true, true) => Style::TookNothingAgain,
     }
 }
 
@@ -43,7 +43,7 @@ fn arrow_line(page: &Page, arrow: &Arrow) -> Shape
     let start = point_at(page, arrow.departure.space, arrow.departure.row as u128);
     let end = point_at(page, arrow.to, arrow.row as u128);
     Shape::Line(
-        arrow_style(arrow.departure.again, arrow.ignored),
+        arrow_style(arrow.departure.again, arrow.took_nothing),
         start,
         end,
     )

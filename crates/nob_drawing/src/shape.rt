@@ -34,10 +34,10 @@ pub enum Style {
     Sent,
     /// One whose item was given before.
     Again,
-    /// One that is ignored.
-    Ignored,
-    /// One that is ignored, whose item was given before.
-    IgnoredAgain,
+    /// One that took nothing.
+    TookNothing,
+    /// One that took nothing, whose item was given before.
+    TookNothingAgain,
     /// A frame that never arrives.
     Lost,
     /// One whose item was given before.

@@ -22,7 +22,7 @@ rect { stroke: none; }
 .closing { fill: #8000a0; font-weight: bold; }
 .fault { fill: #d00000; font-weight: bold; }
 .sent { stroke: #1c4f9c; stroke-width: 1.6; marker-end: url(#head); }
-.ignored { stroke: #b4b4b4; marker-end: url(#grey); }
+.took-nothing { stroke: #b4b4b4; marker-end: url(#grey); }
 .again { stroke-width: 0.7; }
 .lost { stroke: #1c4f9c; stroke-width: 1.6; }
 .cross { stroke: #d00000; stroke-width: 1.6; }
@@ -44,7 +44,7 @@ rect { stroke: none; }
 <text class='refused' x='12' y='42'>refused</text>
 <text class='closing' x='68' y='42'>closes a session</text>
 <text class='fault' x='184' y='42'>wrong</text>
-<text class='words' x='232' y='42'>thin: given before, grey: ignored, cross: lost</text>
+<text class='words' x='232' y='42'>thin: given before, grey: took nothing, cross: lost</text>
 ";
 
 // The name of a style.
@@ -62,8 +62,8 @@ fn class_name(style: Style) -> &'static str
         Style::Fault => "fault",
         Style::Sent => "sent",
         Style::Again => "sent again",
-        Style::Ignored => "sent ignored",
-        Style::IgnoredAgain => "sent ignored again",
+        Style::TookNothing => "sent took-nothing",
+        Style::TookNothingAgain => "sent took-nothing again",
         Style::Lost => "lost",
         Style::LostAgain => "lost again",
         Style::Cross => "cross",

@@ -3,18 +3,18 @@ use Rattle.std.proofs.Common.{◌≡◌, ℕ, ◌+◌, ◌<◌, ◌⊎◌, inl, 
 use Prim.Native.Nat.{zero, suc}
 use Rattle.std.specs.List.{Contains}
 use Rattle.std.proofs.lemmas.List.Elements.{Contains-append_left, Contains-append_right, Contains-append_cases}
+use Rattle.std.specs.Option.{option_or}
 use Rattle.nob_frame.specs.declared.frame.Frame.{Frame}
 use Rattle.nob_model_types.specs.declared.entry.Entry.{Entry}
 use Rattle.nob_model_types.specs.declared.event.Event.{Event}
 use Rattle.nob_model_types.specs.declared.event.Event.TheVariants.{Arrive}
 use Rattle.nob_model_types.specs.Deeds.{deed_in}
-use Rattle.nob_model_types.specs.Sessions.{or_else}
 use Rattle.nob_model_journal.specs.Journals.{frames_of, transmitted_frames}
 use Rattle.nob_model_journal.specs.Runs.{ArrivesGiven}
 use Rattle.nob_drawing_plan.specs.declared.flight.Departure.{Departure}
 use Rattle.nob_drawing_plan.specs.declared.flight.Arrow.{Arrow}
 use Rattle.nob_drawing_plan.specs.Bars.{row_after}
-use Rattle.nob_drawing_plan.specs.Flights.{same_frame, departure_of, with_departures, departures, last_of, is_ignored, arrow_from, arrow_of, arrows}
+use Rattle.nob_drawing_plan.specs.Flights.{same_frame, departure_of, with_departures, departures, last_of, takes_nothing, arrow_from, arrow_of, arrows}
 use Rattle.nob_drawing_plan.specs.Laws.{IsArrowOf, AreGiven, HaveArrows}
 use Rattle.nob_drawing_plan.proofs.Frames.{frame_is, frame_self}
 
@@ -116,15 +116,15 @@ is_found : (frame : Frame) (D : List Departure) (d : Departure) → Contains D d
 is_found frame [] d there is = absurd (contains_none d there)
 is_found frame (x ∷ D) d (suc k, less, at) is =
     let found = is_found frame D d (k, omega (arith, less), at) is in
-    (found.0, ap (λ (o : Option Departure). or_else o (cond (same_frame frame x.frame) (Some x) None)) found.1)
+    (found.0, ap (λ (o : Option Departure). option_or o (cond (same_frame frame x.frame) (Some x) None)) found.1)
 is_found frame (x ∷ D) d (zero, less, at) is = by (last_of frame D) refl
   where
     this : same_frame frame x.frame ≡ true
     this = subst (λ (f : Frame). same_frame frame f ≡ true) (sym (ap (λ (y : Departure). y.frame) at ∙ is)) (frame_self frame)
 
     by : (o : Option Departure) → last_of frame D ≡ o → (e : Departure) × (last_of frame (x ∷ D) ≡ Some e)
-    by (Some e) was = (e, ap (λ (o : Option Departure). or_else o (cond (same_frame frame x.frame) (Some x) None)) was)
-    by None was = (x, ap (λ (o : Option Departure). or_else o (cond (same_frame frame x.frame) (Some x) None)) was ∙ ap (λ (b : Bool). cond b (Some x) None) this)
+    by (Some e) was = (e, ap (λ (o : Option Departure). option_or o (cond (same_frame frame x.frame) (Some x) None)) was)
+    by None was = (x, ap (λ (o : Option Departure). option_or o (cond (same_frame frame x.frame) (Some x) None)) was ∙ ap (λ (b : Bool). cond b (Some x) None) this)
 
 -- what the last of a frame says
 abbrev IsLast : Frame → List Departure → Departure → Type 0
@@ -140,7 +140,7 @@ last_is frame (x ∷ D) d h = by (last_is frame D d) (last_of frame D) refl h
         (contains_here d x D one, subst (λ (y : Departure). y.frame ≡ frame) one (sym (frame_is frame x.frame same)))
     own false other h2 = absurd cc
 
-    by : (last_of frame D ≡ Some d → IsLast frame D d) → (o : Option Departure) → last_of frame D ≡ o → or_else o (cond (same_frame frame x.frame) (Some x) None) ≡ Some d → IsLast frame (x ∷ D) d
+    by : (last_of frame D ≡ Some d → IsLast frame D d) → (o : Option Departure) → last_of frame D ≡ o → option_or o (cond (same_frame frame x.frame) (Some x) None) ≡ Some d → IsLast frame (x ∷ D) d
     by rest (Some e) was h2 = let found = rest (was ∙ h2) in (contains_there d x D found.0, found.1)
     by rest None was h2 = own (same_frame frame x.frame) refl h2
 
@@ -166,12 +166,12 @@ arrow_here before arrival frame given is = (arrow, there, right)
     origin = was_given before found.0 last.0
 
     arrow : Arrow
-    arrow = record { departure = found.0; to = arrival.space; row = row_after before; ignored = is_ignored frame arrival.result }
+    arrow = record { departure = found.0; to = arrival.space; row = row_after before; took_nothing = takes_nothing frame arrival.result }
 
     is_own : arrow_of arrival.space (row_after before) arrival.event arrival.result (departures before) ≡ arrow ∷ []
     is_own =
         ap (λ (e : Event). arrow_of arrival.space (row_after before) e arrival.result (departures before)) is
-        ∙ ap (λ (o : Option Departure). arrow_from arrival.space (row_after before) (is_ignored frame arrival.result) o) found.1
+        ∙ ap (λ (o : Option Departure). arrow_from arrival.space (row_after before) (takes_nothing frame arrival.result) o) found.1
 
     there : Contains (arrows (arrival ∷ before)) arrow
     there = Contains-append_right (arrows before) (arrow_of arrival.space (row_after before) arrival.event arrival.result (departures before)) arrow

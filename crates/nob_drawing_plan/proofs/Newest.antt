@@ -1,9 +1,9 @@
 -- Walking back along what was given, the newest of a frame comes first; and along a journal, the oldest entry.
 use Rattle.std.proofs.Common.{◌≡◌, ℕ, ◌<◌, ◌+◌, ◌-◌, Bool, true, false, List, [], ◌∷◌, ◌++◌, length, take, drop, get_or, Option, Some, None, if◌then◌else◌, refl, sym, ap, ◌∙◌, arith}
 use Rattle.std.proofs.lemmas.List.{take_more}
+use Rattle.std.specs.Option.{option_or}
 use Rattle.nob_frame.specs.declared.frame.Frame.{Frame}
 use Rattle.nob_model_types.specs.declared.entry.Entry.{Entry}
-use Rattle.nob_model_types.specs.Sessions.{or_else}
 use Rattle.nob_drawing_plan.specs.declared.flight.Departure.{Departure}
 use Rattle.nob_drawing_plan.specs.declared.flight.Arrow.{Arrow}
 use Rattle.nob_model_types.specs.Deeds.{deed_in}
@@ -15,10 +15,10 @@ use Rattle.nob_drawing_plan.specs.Flights as spec
 last_behind : (frame : Frame) (x : Departure) (older : List Departure) → spec.last_of frame (older ++ x ∷ []) ≡ (if spec.is_of frame x then Some x else spec.last_of frame older)
 last_behind frame x [] = refl
 last_behind frame x (d ∷ older) =
-    ap (λ (found : Option Departure). or_else found (if spec.is_of frame d then Some d else None)) (last_behind frame x older)
+    ap (λ (found : Option Departure). option_or found (if spec.is_of frame d then Some d else None)) (last_behind frame x older)
     ∙ by (spec.is_of frame x)
   where
-    by : (b : Bool) → or_else (if b then Some x else spec.last_of frame older) (if spec.is_of frame d then Some d else None) ≡ (if b then Some x else or_else (spec.last_of frame older) (if spec.is_of frame d then Some d else None))
+    by : (b : Bool) → option_or (if b then Some x else spec.last_of frame older) (if spec.is_of frame d then Some d else None) ≡ (if b then Some x else option_or (spec.last_of frame older) (if spec.is_of frame d then Some d else None))
     by true = refl
     by false = refl
 

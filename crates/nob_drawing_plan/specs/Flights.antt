@@ -3,6 +3,7 @@
 use Rattle.std.specs.Prelude.{ℕ, ◌+◌, Bool, true, false, ◌&&◌, not, ◌==◌, List, [], ◌∷◌, ◌++◌, filter, Option, Some, None, Result, Ok, Err, if◌then◌else◌}
 use Rattle.std.specs.List.{list_any}
 use Rattle.std.specs.Str.{bytes_eq}
+use Rattle.std.specs.Option.{option_or}
 use Rattle.nob_frame.specs.Kinds.{kind_number, is_data, is_ack}
 use Rattle.nob_frame.specs.declared.frame.Frame.{Frame}
 use Rattle.nob_model_types.specs.declared.event.Event.{Event}
@@ -12,7 +13,6 @@ use Rattle.nob_model_types.specs.declared.answer.Answer.TheVariants.{Took}
 use Rattle.nob_model_types.specs.declared.refusal.Refusal.{Refusal}
 use Rattle.nob_model_types.specs.declared.entry.Entry.{Entry}
 use Rattle.nob_model_types.specs.Deeds.{deed_in}
-use Rattle.nob_model_types.specs.Sessions.{or_else}
 use Rattle.nob_model_journal.specs.Journals.{frames_of}
 use Rattle.nob_drawing_plan.specs.declared.flight.Departure.{Departure}
 use Rattle.nob_drawing_plan.specs.declared.flight.Arrow.{Arrow}
@@ -51,22 +51,22 @@ is_of frame departure = same_frame frame departure.frame
 -- the newest departure of a frame
 abbrev pub last_of : Frame → List Departure → Option Departure
 last_of frame [] = None
-last_of frame (departure ∷ departures) = or_else (last_of frame departures) (if is_of frame departure then Some departure else None)
+last_of frame (departure ∷ departures) = option_or (last_of frame departures) (if is_of frame departure then Some departure else None)
 
--- whether an arrival is ignored: it is refused, or accepts no item though its frame is no Ack
-abbrev pub is_ignored : Frame → Result Answer Refusal → Bool
-is_ignored frame (Err refusal) = true
-is_ignored frame (Ok (Took count)) = count == 0 && not (is_ack frame.kind)
-is_ignored frame (Ok _) = false
+-- whether an arrival takes nothing: it is refused, or accepts no item though its frame is no Ack (what it brings may be kept)
+abbrev pub takes_nothing : Frame → Result Answer Refusal → Bool
+takes_nothing frame (Err refusal) = true
+takes_nothing frame (Ok (Took count)) = count == 0 && not (is_ack frame.kind)
+takes_nothing frame (Ok _) = false
 
 -- the arrow of a frame that arrives from this departure
-abbrev pub arrow_from : (s row : ℕ) → (ignored : Bool) → Option Departure → List Arrow
-arrow_from s row ignored None = []
-arrow_from s row ignored (Some departure) = record { departure = departure; to = s; row = row; ignored = ignored } ∷ []
+abbrev pub arrow_from : (s row : ℕ) → (took_nothing : Bool) → Option Departure → List Arrow
+arrow_from s row took_nothing None = []
+arrow_from s row took_nothing (Some departure) = record { departure = departure; to = s; row = row; took_nothing = took_nothing } ∷ []
 
 -- the arrow of an event with its result: from the newest departure of the frame that arrives
 abbrev pub arrow_of : (s row : ℕ) → Event → Result Answer Refusal → List Departure → List Arrow
-arrow_of s row (Arrive frame) result before = arrow_from s row (is_ignored frame result) (last_of frame before)
+arrow_of s row (Arrive frame) result before = arrow_from s row (takes_nothing frame result) (last_of frame before)
 arrow_of s row _ result before = []
 
 -- the arrows of a journal, in the order of arrivals

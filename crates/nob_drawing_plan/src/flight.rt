@@ -58,8 +58,8 @@ pub struct Arrow {
     pub to: SpaceId,
     /// The row of the Arrive.
     pub row: usize,
-    /// Whether it is refused, or accepts no item though it is no Ack.
-    pub ignored: bool,
+    /// Whether it is refused, or accepts no item though it is no Ack: what it brings may be kept.
+    pub took_nothing: bool,
 }
 
 // Whether two frames are the same.
@@ -138,9 +138,9 @@ fn last_of<'a>(frame: &Frame, departures: &'a [Departure]) -> Option<&'a Departu
     None
 }
 
-// Whether an arrival is ignored.
-fn is_ignored(frame: &Frame, answer: &Result<Answer, Refusal>) -> bool
-    ensures { result ≡ spec.is_ignored frame.now answer.now }
+// Whether an arrival takes nothing.
+fn takes_nothing(frame: &Frame, answer: &Result<Answer, Refusal>) -> bool
+    ensures { result ≡ spec.takes_nothing frame.now answer.now }
 {
     match answer {
         Err(_) => true,
@@ -170,7 +170,7 @@ fn with_arrival(
                 departure: departure.copy()?,
                 to: entry.space,
                 row,
-                ignored: is_ignored(frame, &entry.result),
+                took_nothing: takes_nothing(frame, &entry.result),
             })?;
             Ok(arrows)
         }

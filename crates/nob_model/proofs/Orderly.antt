@@ -144,6 +144,6 @@ strangers s n limits [] right p stranger = refl
 strangers s n limits (did.Closing q reason cause ∷ D) right p stranger = stranger_step s n p q D stranger (closing_peer s n limits q reason cause D right.0) (strangers s n limits D right.1 p stranger) (q == p) refl
 strangers s n limits (deed ∷ D) right p stranger = strangers s n limits D right.1 p stranger
 
--- the payload of an item is the one that was accepted in its turn
-pub payloads : (s n : ℕ) (limits : Limits) (D : List Deed) → AreRightDeeds s n limits D → (p k : ℕ) → payload_at p (k + 1) D ≡ slice_get (accepted (calls_at p (history_of s n D))) k
+-- the payload of an accepted item is the one that was accepted in its turn
+pub payloads : (s n : ℕ) (limits : Limits) (D : List Deed) → AreRightDeeds s n limits D → (p k : ℕ) → k < length (accepted (calls_at p (history_of s n D))) → payload_at p (k + 1) D ≡ slice_get (accepted (calls_at p (history_of s n D))) k
 payloads s n limits D right = payloads_are s n D (in_turn s n limits D right)

@@ -1,24 +1,16 @@
 -- What the laws of nob_model_history ask of a list holds of every list of right deeds.
-use Rattle.std.proofs.Common.{◌≡◌, ℕ, zero, suc, ◌+◌, ◌≤◌, not, Bool, true, false, cond, List, [], ◌∷◌, length, Option, Some, None, Result, Ok, Err, refl, sym, ap, subst, ◌∙◌, arith}
-use Rattle.std.specs.Prelude.{◌==◌, nat_lt}
+use Rattle.std.proofs.Common.{◌≡◌, ℕ, ◌+◌, ◌≤◌, Bool, true, false, List, [], ◌∷◌, length, Option, Some, None, Ok, refl, sym, ap, subst, ◌∙◌}
 use Rattle.std.specs.Option.{option_and_then}
 use Rattle.std.proofs.lemmas.Bool.{eqb-true, and_parts, not-false}
 use Rattle.nob_ids.specs.declared.limits.Limits.{Limits}
 use Rattle.nob_ids.specs.declared.reason.Reason.{Reason}
-use Rattle.nob_ids.specs.declared.reason.Reason.TheVariants.{PeerClosed, BadItem, OutOfPlace}
+use Rattle.nob_ids.specs.declared.reason.Reason.TheVariants.{OutOfPlace}
 use Rattle.nob_ids.specs.declared.wire_rep.WireRep.{WireRep}
-use Rattle.nob_frame.specs.declared.frame.Frame.{Frame}
-use Rattle.nob_frame.specs.Kinds.{is_data, is_close}
 use Rattle.nob_item.specs.declared.item.Item.{Item}
 use Rattle.nob_item.specs.declared.item.Item.TheVariants as items
-use Rattle.nob_model_session.specs.End.{accepted, is_open, transmitted}
-use Rattle.nob_model_session.specs.Right.{right_arrive, right_front, is_of_pair, is_accepted}
-use Rattle.nob_model_session.specs.declared.entry.Ending.{Ending}
-use Rattle.nob_model_session.specs.declared.entry.EndEntry.{EndEntry}
-use Rattle.nob_model_session.specs.declared.entry.Arrived.{Arrived}
+use Rattle.nob_model_session.specs.Right.{right_front}
+use Rattle.nob_model_session.specs.declared.entry.EndEntry.TheVariants as ends
 use Rattle.nob_model_session.specs.declared.entry.Arrived.TheVariants as arrived
-use Rattle.nob_model_session.specs.declared.refusal.EndRefusal.{EndRefusal}
-use Rattle.nob_model_session.specs.declared.refusal.EndRefusal.TheVariants as end_refusals
 use Rattle.nob_model_types.specs.declared.deed.Deed.{Deed}
 use Rattle.nob_model_types.specs.declared.deed.Deed.TheVariants as did
 use Rattle.nob_model_types.specs.Sessions.{item_spelt, item_at}
@@ -29,6 +21,7 @@ use Rattle.nob_model_history.specs.Histories.{history_of}
 use Rattle.nob_model_history.specs.Ends.{calls_at}
 use Rattle.nob_model_history.specs.Transit.{count_to, sent, is_settle_of, has_bundle, is_idle, by_last_dirty}
 use Rattle.nob_model_history.specs.Premises.{AcceptsNext, InTurn, SettlesSent, AnswersPending, TookTurns, ObjectsInTurn}
+use Rattle.nob_model_session.proofs.Arriving.{right_came}
 use Rattle.nob_model_history.proofs.Arriving.{front_payload}
 use Rattle.nob_model_history.proofs.Pinning.{bundle_sent}
 use Rattle.nob_model_acting.specs.Acting.{fault_of, fault_if, awaits_answer}
@@ -39,43 +32,13 @@ use Rattle.nob_model.proofs.Accepted.{found_passes, export_tells, withdraw_tells
 
 -- ---- frames
 
--- a result of an arrival that is no refusal
-abbrev arrives : Arrived → Result Arrived EndRefusal
-arrives did = Ok did
-
-refused : (refusal : EndRefusal) (a : Arrived) → Err refusal ≡ arrives a → ⊥
-refused refusal a e = cc
-
-ended : (ending : Ending) (count : ℕ) → arrives (arrived.Closed ending) ≡ arrives (arrived.Took count) → ⊥
-ended ending count e = cc
-
-took_same : (a b : ℕ) → arrives (arrived.Took a) ≡ arrives (arrived.Took b) → a ≡ b
-took_same a b e = cc
-
--- a frame that took items took one, and was the next
-took_next : (strange shut ends behind next : Bool) (one two : Ending) (k : ℕ) → cond strange (Err end_refusals.Strange) (cond shut (Ok (arrived.Took 0)) (cond ends (Ok (arrived.Closed one)) (cond behind (Ok (arrived.Closed two)) (cond next (Ok (arrived.Took 1)) (Ok (arrived.Took 0)))))) ≡ arrives (arrived.Took (suc k)) → (k ≡ 0) × (next ≡ true)
-took_next true shut ends behind next one two k e = absurd (refused end_refusals.Strange (arrived.Took (suc k)) e)
-took_next false true ends behind next one two k e = let clash = took_same 0 (suc k) e in absurd (omega (arith, clash))
-took_next false false true behind next one two k e = absurd (ended one (suc k) e)
-took_next false false false true next one two k e = absurd (ended two (suc k) e)
-took_next false false false false true one two k e = let same = took_same 1 (suc k) e in (omega (arith, same), refl)
-took_next false false false false false one two k e = let clash = took_same 0 (suc k) e in absurd (omega (arith, clash))
-
--- a frame that took so many items at an end accepted the next item or none
-accepts_next : (s n : ℕ) (frame : Frame) (count : ℕ) (D : List Deed) → right_arrive s frame.from frame (calls_at frame.from (history_of s n D)) ≡ Ok (arrived.Took count) → AcceptsNext s n (did.Arrive frame count) D
-accepts_next s n frame zero D took = tt
-accepts_next s n frame (suc k) D took =
-    let calls : List EndEntry = calls_at frame.from (history_of s n D) in
-    let next = took_next (not (is_of_pair s frame.from frame)) (not (is_open calls)) (is_close frame.kind) (nat_lt (transmitted calls + 1) frame.ack) (is_accepted frame calls) (record { peer = frame.from; reason = PeerClosed }) (record { peer = frame.from; reason = BadItem }) k took in
-    let parts = and_parts (is_data frame.kind) (frame.seq == length (accepted calls) + 1) (and_parts _ _ (and_parts _ _ next.1).0).0 in
-    (next.0, parts.0, eqb-true frame.seq (length (accepted calls) + 1) parts.1)
-
 turn_step : (s n : ℕ) (limits : Limits) (deed : Deed) (D : List Deed) → IsRightDeed s n limits deed D → AcceptsNext s n deed D
 unfolding right_after
-turn_step s n limits (did.Arrive frame count) D right = accepts_next s n frame count D (arrive_tells s n count frame (history_of s n D) (was_answered s n limits (did.Arrive frame count) D right)).2
+turn_step s n limits (did.Arrive frame count) D right =
+    right_came s frame.from limits (ends.Arrive frame (Ok (arrived.Took count))) (calls_at frame.from (history_of s n D)) (sym (arrive_tells s n count frame (history_of s n D) (was_answered s n limits (did.Arrive frame count) D right)).2)
 turn_step s n limits deed D right = tt
 
--- in a list of right deeds each one accepted the next item or none
+-- in a list of right deeds each one accepted the next items or none
 pub in_turn : (s n : ℕ) (limits : Limits) (D : List Deed) → AreRightDeeds s n limits D → InTurn s n D
 in_turn s n limits [] right = tt
 in_turn s n limits (deed ∷ D) right = (turn_step s n limits deed D right.0, in_turn s n limits D right.1)

@@ -34,7 +34,7 @@ DeedsLaw = (s n : ℕ) (limits : Limits) (L : List Entry) → AreRight s n limit
 abbrev pub EntriesLaw : Type 0
 EntriesLaw = (s n : ℕ) (limits : Limits) (D : List Deed) → AreRightDeeds s n limits D → (L : List Entry) × AreRight s n limits L × (deeds L ≡ D)
 
--- in a list of right deeds each one accepted the next item or none
+-- in a list of right deeds each one accepted the next items or none
 abbrev pub TurnLaw : Type 0
 TurnLaw = (s n : ℕ) (limits : Limits) (D : List Deed) → AreRightDeeds s n limits D → InTurn s n D
 

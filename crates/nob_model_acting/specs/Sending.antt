@@ -9,8 +9,8 @@ use Rattle.nob_pickle.specs.declared.fault.PickleFault.{PickleFault}
 use Rattle.nob_model_session.specs.declared.refusal.EndRefusal.{EndRefusal}
 use Rattle.nob_model_session.specs.declared.refusal.EndRefusal.TheVariants as end_refusals
 use Rattle.nob_model_session.specs.declared.entry.Kind.{Kind}
-use Rattle.nob_model_session.specs.End.{handed}
-use Rattle.nob_model_session.specs.Right.{right_send, last_item}
+use Rattle.nob_model_session.specs.End.{last_item, handed}
+use Rattle.nob_model_session.specs.Right.{right_send}
 use Rattle.nob_model_types.specs.declared.refusal.Refusal.{Refusal}
 use Rattle.nob_model_types.specs.declared.refusal.Refusal.TheVariants as refusals
 use Rattle.nob_model_types.specs.Sessions.{closed}

@@ -10,7 +10,7 @@ use nob_ids::{SpaceId, WireRep};
 use nob_model_history::History;
 use nob_model_history::ends::calls_at;
 use nob_model_history::holds::is_held;
-use nob_model_session::right::LAST_ITEM;
+use nob_model_session::end::LAST_ITEM;
 use nob_model_session::{EndRefusal, Kind, end as end_words, right};
 use nob_model_types::{Refusal, objects, sessions};
 use nob_pickle::Value;

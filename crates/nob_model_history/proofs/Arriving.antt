@@ -1,51 +1,153 @@
--- The payload of an item from a peer is the one that the end with the peer accepted under this number.
-use Rattle.std.proofs.Common.{◌≡◌, ℕ, zero, suc, ◌+◌, ◌&&◌, Bool, true, false, cond, List, [], ◌∷◌, ◌++◌, length, drop, Option, Some, None, Ok, refl, sym, ap, subst, ◌∙◌, arith}
+-- The payload of an item from a peer is the one that came at the end with the peer, and what the end accepted under its number.
+use Rattle.std.proofs.Common.{◌≡◌, ℕ, zero, suc, ◌+◌, ◌<◌, ◌&&◌, Bool, true, false, cond, List, [], ◌∷◌, length, drop, Option, Some, None, Ok, refl, sym, ap, subst, ◌∙◌}
 use Rattle.std.specs.Prelude.{◌==◌}
 use Rattle.std.specs.List.{slice_get}
-use Rattle.std.proofs.lemmas.Bool.{eqb-true, eqb-false, eq-eqb, ne_eqb}
+use Rattle.std.specs.Option.{option_or}
+use Rattle.std.proofs.lemmas.Bool.{eqb-true}
+use Rattle.std.proofs.lemmas.Option.{slice_get_within}
 use Rattle.nob_ids.specs.declared.reason.Reason.{Reason}
 use Rattle.nob_item.specs.declared.item.Item.{Item}
 use Rattle.nob_frame.specs.declared.frame.Frame.{Frame}
-use Rattle.nob_frame.specs.Kinds.{is_data}
-use Rattle.nob_model_session.specs.End.{accepted, handed, takes, is_open}
+use Rattle.nob_model_session.specs.End.{accepted_count, brings_at, payload, accepted, handed, takes, is_open}
 use Rattle.nob_model_session.specs.Right.{right_front, first_of}
+use Rattle.nob_model_session.specs.Accepting.{AcceptsWhatCame, AllCame}
 use Rattle.nob_model_session.specs.declared.entry.EndEntry.{EndEntry}
 use Rattle.nob_model_session.specs.declared.entry.EndEntry.TheVariants as ends
 use Rattle.nob_model_session.specs.declared.entry.Arrived.TheVariants as arrived
+use Rattle.nob_model_session.proofs.Arriving.{accepted_length, accepted_at}
 use Rattle.nob_model_types.specs.declared.deed.Deed.{Deed}
 use Rattle.nob_model_types.specs.declared.deed.Deed.TheVariants as did
 use Rattle.nob_model_types.specs.declared.deed.Cause.{Cause}
 use Rattle.nob_model_types.specs.declared.deed.Cause.TheVariants as causes
-use Rattle.nob_model_types.specs.Sessions.{is_accepted, or_else, payload_at}
+use Rattle.nob_model_types.specs.Sessions.{accepted_from, payload_at}
 use Rattle.nob_model_work.specs.Work.{work}
 use Rattle.nob_model_work.specs.Gifts.{gifts}
 use Rattle.nob_model_history.specs.Histories.{history_of}
 use Rattle.nob_model_history.specs.Premises.{AcceptsNext, InTurn}
 use Rattle.nob_model_history.specs.Ends.{items_to, payload_of, kind_of, with_sends, own_calls, call_of_closing, calls_at}
+use Rattle.nob_model_history.proofs.Inbox.{calls_sent}
 
--- ---- what is accepted
+-- ---- how many were accepted
 
 -- a send accepts nothing
-pub sends_accepted : (items : List Item) (calls : List EndEntry) → accepted (with_sends items calls) ≡ accepted calls
-sends_accepted [] calls = refl
-sends_accepted (item ∷ items) calls = sends_accepted items (ends.Send (payload_of item) (kind_of item) (Ok (length (handed calls) + 1)) ∷ calls)
+pub sends_count : (items : List Item) (calls : List EndEntry) → accepted_count (with_sends items calls) ≡ accepted_count calls
+sends_count [] calls = refl
+sends_count (item ∷ items) calls = sends_count items (ends.Send (payload_of item) (kind_of item) (Ok (length (handed calls) + 1)) ∷ calls)
 
-if_accepted : (b : Bool) (call : EndEntry) (calls : List EndEntry) → accepted (call ∷ calls) ≡ accepted calls → accepted (cond b (call ∷ calls) calls) ≡ accepted calls
-if_accepted true call calls same = same
-if_accepted false call calls same = refl
+if_count : (b : Bool) (call : EndEntry) (calls : List EndEntry) → accepted_count (call ∷ calls) ≡ accepted_count calls → accepted_count (cond b (call ∷ calls) calls) ≡ accepted_count calls
+if_count true call calls same = same
+if_count false call calls same = refl
 
-closing_accepted : (p : ℕ) (reason : Reason) (cause : Cause) (calls : List EndEntry) → accepted (call_of_closing p reason cause ∷ calls) ≡ accepted calls
-closing_accepted p reason causes.Item calls = refl
-closing_accepted p reason (causes.Frame frame) calls = refl
-closing_accepted p reason causes.Ticks calls = refl
-closing_accepted p reason causes.Asked calls = refl
+closing_count : (p : ℕ) (reason : Reason) (cause : Cause) (calls : List EndEntry) → accepted_count (call_of_closing p reason cause ∷ calls) ≡ accepted_count calls
+closing_count p reason causes.Item calls = refl
+closing_count p reason (causes.Frame frame) calls = refl
+closing_count p reason causes.Ticks calls = refl
+closing_count p reason causes.Asked calls = refl
 
--- what an arrival accepts on the end with p
-arrival_accepted : (p : ℕ) (frame : Frame) (count : ℕ) (calls : List EndEntry) (before : List (List ℕ)) → accepted calls ≡ before → (b : Bool) → accepted (cond b (ends.Arrive frame (Ok (arrived.Took (suc count))) ∷ calls) calls) ≡ cond b (before ++ frame.payload ∷ []) before
-arrival_accepted p frame count calls before is true = ap (λ (xs : List (List ℕ)). xs ++ frame.payload ∷ []) is
-arrival_accepted p frame count calls before is false = is
+arrival_count : (b : Bool) (frame : Frame) (count : ℕ) (calls : List EndEntry) → accepted_count (cond b (ends.Arrive frame (Ok (arrived.Took count)) ∷ calls) calls) ≡ cond b (count + accepted_count calls) (accepted_count calls)
+arrival_count true frame count calls = refl
+arrival_count false frame count calls = refl
+
+own_count : (p : ℕ) (deed : Deed) (D : List Deed) (calls : List EndEntry) → accepted_count calls ≡ accepted_from p D → accepted_count (own_calls p deed calls) ≡ accepted_from p (deed ∷ D)
+own_count p (did.Act q j) D calls is = if_count (q == p) _ calls refl ∙ is
+own_count p (did.Transmit q frames) D calls is = if_count (q == p) _ calls refl ∙ is
+own_count p (did.Arrive frame count) D calls is = arrival_count (frame.from == p) frame count calls ∙ ap (λ (m : ℕ). cond (frame.from == p) (count + m) m) is
+own_count p (did.Tick q) D calls is = if_count (q == p) _ calls refl ∙ is
+own_count p (did.Closing q reason cause) D calls is = if_count (q == p) _ calls (closing_count p reason cause calls) ∙ is
+own_count p deed D calls is = is
+
+-- as many items from p were accepted as were at the end with p
+pub count_is : (s n p : ℕ) (D : List Deed) → accepted_count (calls_at p (history_of s n D)) ≡ accepted_from p D
+count_is s n p [] = refl
+count_is s n p (deed ∷ D) = own_count p deed D (calls_sent s n p deed D) (sends_count (items_to p (gifts s n deed D (work s n D))) (calls_at p (history_of s n D)) ∙ count_is s n p D)
 
 -- ---- payloads
+
+-- a send brings no payload
+pub sends_payload : (k : ℕ) (items : List Item) (calls : List EndEntry) → payload k (with_sends items calls) ≡ payload k calls
+sends_payload k [] calls = refl
+sends_payload k (item ∷ items) calls = sends_payload k items (ends.Send (payload_of item) (kind_of item) (Ok (length (handed calls) + 1)) ∷ calls)
+
+if_payload : (k : ℕ) (b : Bool) (call : EndEntry) (calls : List EndEntry) → payload k (call ∷ calls) ≡ payload k calls → payload k (cond b (call ∷ calls) calls) ≡ payload k calls
+if_payload k true call calls same = same
+if_payload k false call calls same = refl
+
+closing_payload : (k p : ℕ) (reason : Reason) (cause : Cause) (calls : List EndEntry) → payload k (call_of_closing p reason cause ∷ calls) ≡ payload k calls
+closing_payload k p reason causes.Item calls = refl
+closing_payload k p reason (causes.Frame frame) calls = refl
+closing_payload k p reason causes.Ticks calls = refl
+closing_payload k p reason causes.Asked calls = refl
+
+-- nothing behind
+or_none : (found : Option (List ℕ)) → option_or found None ≡ found
+or_none (Some bytes) = refl
+or_none None = refl
+
+arrival_payload : (k : ℕ) (b : Bool) (frame : Frame) (count : ℕ) (calls : List EndEntry) → payload k (cond b (ends.Arrive frame (Ok (arrived.Took count)) ∷ calls) calls) ≡ option_or (payload k calls) (cond (b && brings_at k frame (accepted_count calls)) (Some frame.payload) None)
+arrival_payload k true frame count calls = refl
+arrival_payload k false frame count calls = sym (or_none (payload k calls))
+
+own_payload : (p k : ℕ) (deed : Deed) (D : List Deed) (calls : List EndEntry) → accepted_count calls ≡ accepted_from p D → payload k calls ≡ payload_at p k D → payload k (own_calls p deed calls) ≡ payload_at p k (deed ∷ D)
+own_payload p k (did.Act q j) D calls count is = if_payload k (q == p) _ calls refl ∙ is
+own_payload p k (did.Transmit q frames) D calls count is = if_payload k (q == p) _ calls refl ∙ is
+own_payload p k (did.Arrive frame took) D calls count is =
+    arrival_payload k (frame.from == p) frame took calls
+    ∙ ap (λ (found : Option (List ℕ)). option_or found (cond (frame.from == p && brings_at k frame (accepted_count calls)) (Some frame.payload) None)) is
+    ∙ ap (λ (m : ℕ). option_or (payload_at p k D) (cond (frame.from == p && brings_at k frame m) (Some frame.payload) None)) count
+own_payload p k (did.Tick q) D calls count is = if_payload k (q == p) _ calls refl ∙ is
+own_payload p k (did.Closing q reason cause) D calls count is = if_payload k (q == p) _ calls (closing_payload k p reason cause calls) ∙ is
+own_payload p k deed D calls count is = is
+
+-- the payload of item k from p is the one that came at the end with p, in every list
+pub payload_is : (s n p k : ℕ) (D : List Deed) → payload_at p k D ≡ payload k (calls_at p (history_of s n D))
+payload_is s n p k [] = refl
+payload_is s n p k (deed ∷ D) =
+    let given : List Item = items_to p (gifts s n deed D (work s n D)) in
+    let before : List EndEntry = calls_at p (history_of s n D) in
+    sym (own_payload p k deed D (calls_sent s n p deed D) (sends_count given before ∙ count_is s n p D) (sends_payload k given before ∙ sym (payload_is s n p k D)))
+
+-- ---- what was accepted
+
+sends_came : (items : List Item) (calls : List EndEntry) → AllCame calls → AllCame (with_sends items calls)
+sends_came [] calls came = came
+sends_came (item ∷ items) calls came = sends_came items (ends.Send (payload_of item) (kind_of item) (Ok (length (handed calls) + 1)) ∷ calls) (tt, came)
+
+sends_found : (frame : Frame) (count : ℕ) (items : List Item) (calls : List EndEntry) → AcceptsWhatCame (ends.Arrive frame (Ok (arrived.Took count))) calls → AcceptsWhatCame (ends.Arrive frame (Ok (arrived.Took count))) (with_sends items calls)
+sends_found frame count [] calls found = found
+sends_found frame count (item ∷ items) calls found = sends_found frame count items (ends.Send (payload_of item) (kind_of item) (Ok (length (handed calls) + 1)) ∷ calls) found
+
+if_came : (b : Bool) (call : EndEntry) (calls : List EndEntry) → (b ≡ true → AcceptsWhatCame call calls) → AllCame calls → AllCame (cond b (call ∷ calls) calls)
+if_came true call calls now came = (now refl, came)
+if_came false call calls now came = came
+
+closing_came : (p : ℕ) (reason : Reason) (cause : Cause) (calls : List EndEntry) → AcceptsWhatCame (call_of_closing p reason cause) calls
+closing_came p reason causes.Item calls = tt
+closing_came p reason (causes.Frame frame) calls = tt
+closing_came p reason causes.Ticks calls = tt
+closing_came p reason causes.Asked calls = tt
+
+came_more : (s n p : ℕ) (deed : Deed) (D : List Deed) → AcceptsNext s n deed D → AllCame (calls_sent s n p deed D) → AllCame (calls_at p (history_of s n (deed ∷ D)))
+came_more s n p (did.Act q j) D next came = if_came (q == p) _ _ (λ own. tt) came
+came_more s n p (did.Transmit q frames) D next came = if_came (q == p) _ _ (λ own. tt) came
+came_more s n p (did.Arrive frame count) D next came =
+    if_came (frame.from == p) _ _ (λ own. sends_found frame count (items_to p (gifts s n (did.Arrive frame count) D (work s n D))) (calls_at p (history_of s n D)) (subst (λ (q : ℕ). AcceptsWhatCame (ends.Arrive frame (Ok (arrived.Took count))) (calls_at q (history_of s n D))) (eqb-true frame.from p own) next)) came
+came_more s n p (did.Tick q) D next came = if_came (q == p) _ _ (λ own. tt) came
+came_more s n p (did.Closing q reason cause) D next came = if_came (q == p) _ _ (λ own. closing_came p reason cause (calls_sent s n p (did.Closing q reason cause) D)) came
+came_more s n p deed D next came = came
+
+-- where each deed accepted the next items or none, each call on the end with a peer accepted what had come
+pub all_came : (s n p : ℕ) (D : List Deed) → InTurn s n D → AllCame (calls_at p (history_of s n D))
+all_came s n p [] turn = tt
+all_came s n p (deed ∷ D) turn = came_more s n p deed D turn.0 (sends_came (items_to p (gifts s n deed D (work s n D))) (calls_at p (history_of s n D)) (all_came s n p D turn.1))
+
+-- there the payload of item k + 1 from p is the one that the end with p accepted as its item k + 1, if it accepted so many
+pub payloads_are : (s n : ℕ) (D : List Deed) → InTurn s n D → (p k : ℕ) → k < length (accepted (calls_at p (history_of s n D))) → payload_at p (k + 1) D ≡ slice_get (accepted (calls_at p (history_of s n D))) k
+payloads_are s n D turn p k few =
+    let calls : List EndEntry = calls_at p (history_of s n D) in
+    let came : AllCame calls = all_came s n p D turn in
+    payload_is s n p (k + 1) D ∙ sym (accepted_at calls came k (subst (λ (m : ℕ). k < m) (accepted_length calls came) few))
+
+-- ---- the front of an inbox
 
 none_some : {A : Type 0} (x : A) → None ≡ Some x → ⊥
 none_some x e = cc
@@ -53,139 +155,24 @@ none_some x e = cc
 some_same : {A : Type 0} (x y : A) → Some x ≡ Some y → x ≡ y
 some_same x y e = cc
 
--- nothing behind
-pub or_else_none : {A : Type 0} (found : Option A) → or_else found None ≡ found
-or_else_none (Some x) = refl
-or_else_none None = refl
-
-suc_test : (a b : ℕ) → (suc a == suc b) ≡ (a == b)
-suc_test a b =
-    elim (a == b) as (λ t. (a == b) ≡ t → (suc a == suc b) ≡ t) [
-      | true ↦ λ e. eq-eqb _ _ (ap suc (eqb-true a b e))
-      | false ↦ λ e. ne_eqb _ _ (λ same. eqb-false a b e (omega (arith, same)))
-    ] refl
-
-plus_test : (a b : ℕ) → (a + 1 == b + 1) ≡ (a == b)
-plus_test a b =
-    elim (a == b) as (λ t. (a == b) ≡ t → (a + 1 == b + 1) ≡ t) [
-      | true ↦ λ e. eq-eqb _ _ (ap (λ (m : ℕ). m + 1) (eqb-true a b e))
-      | false ↦ λ e. ne_eqb _ _ (λ same. eqb-false a b e (omega (arith, same)))
-    ] refl
-
--- the payload of a number once one more is accepted
-pub after_push : {A : Type 0} (xs : List A) (x : A) (k : ℕ) → or_else (slice_get xs k) (cond (length xs == k) (Some x) None) ≡ slice_get (xs ++ x ∷ []) k
-after_push [] x zero = refl
-after_push [] x (suc k) = ap (λ (test : Bool). cond test (Some x) None) (ne_eqb 0 (suc k) (λ e. omega (arith, e)))
-after_push (y ∷ xs) x zero = refl
-after_push (y ∷ xs) x (suc k) = ap (λ (test : Bool). or_else (slice_get xs k) (cond test (Some x) None)) (suc_test (length xs) k) ∙ after_push xs x k
-
-last_false : (a b c : Bool) → (a && b && c && false) ≡ false
-last_false true true true = refl
-last_false true true false = refl
-last_false true false c = refl
-last_false false b c = refl
-
-second_false : (a b c d : Bool) → b ≡ false → (a && b && c && d) ≡ false
-second_false true true c d e = cc
-second_false true false c d e = refl
-second_false false b c d e = refl
-
-third_alone : (a b c : Bool) → a ≡ true → b ≡ true → (a && b && c && true) ≡ c
-third_alone true true true e f = refl
-third_alone true true false e f = refl
-third_alone true false c e f = cc
-third_alone false b c e f = cc
-
--- a frame that took no item isn't accepted
-none_taken : (p k : ℕ) (frame : Frame) → is_accepted p k frame 0 ≡ false
-none_taken p k frame = last_false (is_data frame.kind) (frame.from == p) (frame.seq == k)
-
--- a frame of another space isn't accepted as an item of p
-other_taken : (p k : ℕ) (frame : Frame) (count : ℕ) → (frame.from == p) ≡ false → is_accepted p k frame count ≡ false
-other_taken p k frame count other = second_false (is_data frame.kind) (frame.from == p) (frame.seq == k) (count == 1) other
-
--- the next item is accepted under its own number and no other
-next_taken : (p k : ℕ) (frame : Frame) (count : ℕ) → (frame.from == p) ≡ true → is_data frame.kind ≡ true → frame.seq ≡ count + 1 → is_accepted p (k + 1) frame 1 ≡ (count == k)
-next_taken p k frame count own kind seq =
-    third_alone (is_data frame.kind) (frame.from == p) (frame.seq == k + 1) kind own ∙ ap (λ (m : ℕ). m == k + 1) seq ∙ plus_test count k
-
--- ---- one deed more
-
--- that the payloads of items from peers are those that the ends accepted
-abbrev pub ArePayloads : (s n : ℕ) → List Deed → Type 0
-ArePayloads s n D = (p k : ℕ) → payload_at p (k + 1) D ≡ slice_get (accepted (calls_at p (history_of s n D))) k
-
--- what the end with p accepted by what a deed gave is nothing
-same_accepted : (s n p : ℕ) (deed : Deed) (D : List Deed) → accepted (with_sends (items_to p (gifts s n deed D (work s n D))) (calls_at p (history_of s n D))) ≡ accepted (calls_at p (history_of s n D))
-same_accepted s n p deed D = sends_accepted (items_to p (gifts s n deed D (work s n D))) (calls_at p (history_of s n D))
-
-arrival_payloads : (s n p k : ℕ) (frame : Frame) (count : ℕ) (D : List Deed) → AcceptsNext s n (did.Arrive frame count) D → ArePayloads s n D → (b : Bool) → (frame.from == p) ≡ b → payload_at p (k + 1) (did.Arrive frame count ∷ D) ≡ slice_get (accepted (calls_at p (history_of s n (did.Arrive frame count ∷ D)))) k
-arrival_payloads s n p k frame zero D next are b own =
-    ap (λ (test : Bool). or_else (payload_at p (k + 1) D) (cond test (Some frame.payload) None)) (none_taken p (k + 1) frame)
-    ∙ or_else_none (payload_at p (k + 1) D)
-    ∙ are p k
-    ∙ ap (λ (xs : List (List ℕ)). slice_get xs k) (sym (if_accepted (frame.from == p) (ends.Arrive frame (Ok (arrived.Took 0))) (with_sends (items_to p (gifts s n (did.Arrive frame 0) D (work s n D))) (calls_at p (history_of s n D))) refl ∙ same_accepted s n p (did.Arrive frame 0) D))
-arrival_payloads s n p k frame (suc count) D next are true own =
-    let before : List (List ℕ) = accepted (calls_at p (history_of s n D)) in
-    let seq : frame.seq ≡ length before + 1 = subst (λ (q : ℕ). frame.seq ≡ length (accepted (calls_at q (history_of s n D))) + 1) (eqb-true frame.from p own) next.2 in
-    let test : is_accepted p (k + 1) frame (suc count) ≡ (length before == k) = ap (λ (m : ℕ). is_accepted p (k + 1) frame (suc m)) next.0 ∙ next_taken p k frame (length before) own next.1 seq in
-    ap (λ (test : Bool). or_else (payload_at p (k + 1) D) (cond test (Some frame.payload) None)) test
-    ∙ ap (λ (found : Option (List ℕ)). or_else found (cond (length before == k) (Some frame.payload) None)) (are p k)
-    ∙ after_push before frame.payload k
-    ∙ ap (λ (xs : List (List ℕ)). slice_get xs k) (sym (arrival_accepted p frame count (with_sends (items_to p (gifts s n (did.Arrive frame (suc count)) D (work s n D))) (calls_at p (history_of s n D))) before (same_accepted s n p (did.Arrive frame (suc count)) D) (frame.from == p) ∙ ap (λ (b : Bool). cond b (before ++ frame.payload ∷ []) before) own))
-arrival_payloads s n p k frame (suc count) D next are false own =
-    ap (λ (test : Bool). or_else (payload_at p (k + 1) D) (cond test (Some frame.payload) None)) (other_taken p (k + 1) frame (suc count) own)
-    ∙ or_else_none (payload_at p (k + 1) D)
-    ∙ are p k
-    ∙ ap (λ (xs : List (List ℕ)). slice_get xs k) (sym (arrival_accepted p frame count (with_sends (items_to p (gifts s n (did.Arrive frame (suc count)) D (work s n D))) (calls_at p (history_of s n D))) _ (same_accepted s n p (did.Arrive frame (suc count)) D) (frame.from == p) ∙ ap (λ (b : Bool). cond b (accepted (calls_at p (history_of s n D)) ++ frame.payload ∷ []) (accepted (calls_at p (history_of s n D)))) own))
-
--- a deed that isn't an arrival changes no payload and accepts nothing
-other_payloads : (s n p k : ℕ) (deed : Deed) (D : List Deed) → payload_at p (k + 1) (deed ∷ D) ≡ payload_at p (k + 1) D → ((calls : List EndEntry) → accepted (own_calls p deed calls) ≡ accepted calls) → ArePayloads s n D → payload_at p (k + 1) (deed ∷ D) ≡ slice_get (accepted (calls_at p (history_of s n (deed ∷ D)))) k
-other_payloads s n p k deed D same none are =
-    same ∙ are p k
-    ∙ ap (λ (xs : List (List ℕ)). slice_get xs k) (sym (none (with_sends (items_to p (gifts s n deed D (work s n D))) (calls_at p (history_of s n D))) ∙ same_accepted s n p deed D))
-
--- by one deed more, which accepts the next item or none, the payloads are still those that the ends accepted
-pub payloads_more : (s n : ℕ) (deed : Deed) (D : List Deed) → AcceptsNext s n deed D → ArePayloads s n D → ArePayloads s n (deed ∷ D)
-payloads_more s n (did.Arrive frame count) D next are p k = arrival_payloads s n p k frame count D next are (frame.from == p) refl
-payloads_more s n (did.Act q j) D next are p k = other_payloads s n p k (did.Act q j) D refl (λ calls. if_accepted (q == p) _ calls refl) are
-payloads_more s n (did.Transmit q frames) D next are p k = other_payloads s n p k (did.Transmit q frames) D refl (λ calls. if_accepted (q == p) _ calls refl) are
-payloads_more s n (did.Tick q) D next are p k = other_payloads s n p k (did.Tick q) D refl (λ calls. if_accepted (q == p) _ calls refl) are
-payloads_more s n (did.Closing q reason cause) D next are p k = other_payloads s n p k (did.Closing q reason cause) D refl (λ calls. if_accepted (q == p) _ calls (closing_accepted p reason cause calls)) are
-payloads_more s n (did.Export rep) D next are p k = other_payloads s n p k (did.Export rep) D refl (λ calls. refl) are
-payloads_more s n (did.Dup rep) D next are p k = other_payloads s n p k (did.Dup rep) D refl (λ calls. refl) are
-payloads_more s n (did.Release rep) D next are p k = other_payloads s n p k (did.Release rep) D refl (λ calls. refl) are
-payloads_more s n (did.Call target method value call) D next are p k = other_payloads s n p k (did.Call target method value call) D refl (λ calls. refl) are
-payloads_more s n (did.TakeReply call status value) D next are p k = other_payloads s n p k (did.TakeReply call status value) D refl (λ calls. refl) are
-payloads_more s n (did.TakeEnd call) D next are p k = other_payloads s n p k (did.TakeEnd call) D refl (λ calls. refl) are
-payloads_more s n (did.Claim job) D next are p k = other_payloads s n p k (did.Claim job) D refl (λ calls. refl) are
-payloads_more s n (did.Finish job outcome) D next are p k = other_payloads s n p k (did.Finish job outcome) D refl (λ calls. refl) are
-payloads_more s n (did.DropReply job) D next are p k = other_payloads s n p k (did.DropReply job) D refl (λ calls. refl) are
-payloads_more s n (did.Settle q j) D next are p k = other_payloads s n p k (did.Settle q j) D refl (λ calls. refl) are
-payloads_more s n (did.Clean rep) D next are p k = other_payloads s n p k (did.Clean rep) D refl (λ calls. refl) are
-payloads_more s n (did.Withdraw index) D next are p k = other_payloads s n p k (did.Withdraw index) D refl (λ calls. refl) are
-
--- where each deed accepted the next item or none, the payload of item k + 1 from p is the one that the end with p accepted as its item k + 1
-pub payloads_are : (s n : ℕ) (D : List Deed) → InTurn s n D → ArePayloads s n D
-payloads_are s n [] turn = λ p k. refl
-payloads_are s n (deed ∷ D) turn = payloads_more s n deed D turn.0 (payloads_are s n D turn.1)
-
--- ---- the front of an inbox
-
 -- the first of what is left behind some payloads stands at that place, under its number
-first_behind : (xs : List (List ℕ)) (m number k : ℕ) (payload : List ℕ) → first_of number (drop m xs) ≡ Some (k, payload) → (k ≡ number) × (slice_get xs m ≡ Some payload)
-first_behind [] zero number k payload e = absurd (none_some _ e)
-first_behind [] (suc m) number k payload e = absurd (none_some _ e)
-first_behind (x ∷ xs) zero number k payload e = let same : (number, x) ≡ (k, payload) = some_same _ _ e in (sym (ap (λ (pair : ℕ × List ℕ). pair.0) same), ap (λ (pair : ℕ × List ℕ). Some pair.1) same)
-first_behind (x ∷ xs) (suc m) number k payload e = first_behind xs m number k payload e
+first_behind : (xs : List (List ℕ)) (m number k : ℕ) (bytes : List ℕ) → first_of number (drop m xs) ≡ Some (k, bytes) → (k ≡ number) × (slice_get xs m ≡ Some bytes)
+first_behind [] zero number k bytes e = absurd (none_some _ e)
+first_behind [] (suc m) number k bytes e = absurd (none_some _ e)
+first_behind (x ∷ xs) zero number k bytes e = let same : (number, x) ≡ (k, bytes) = some_same _ _ e in (sym (ap (λ (pair : ℕ × List ℕ). pair.0) same), ap (λ (pair : ℕ × List ℕ). Some pair.1) same)
+first_behind (x ∷ xs) (suc m) number k bytes e = first_behind xs m number k bytes e
 
-front_where : (calls : List EndEntry) (is_up : Bool) (k : ℕ) (payload : List ℕ) → first_of (takes calls + 1) (cond is_up (drop (takes calls) (accepted calls)) []) ≡ Some (k, payload) → (k ≡ takes calls + 1) × (slice_get (accepted calls) (takes calls) ≡ Some payload)
-front_where calls true k payload e = first_behind (accepted calls) (takes calls) (takes calls + 1) k payload e
-front_where calls false k payload e = absurd (none_some _ e)
+front_where : (calls : List EndEntry) (is_up : Bool) (k : ℕ) (bytes : List ℕ) → first_of (takes calls + 1) (cond is_up (drop (takes calls) (accepted calls)) []) ≡ Some (k, bytes) → (k ≡ takes calls + 1) × (slice_get (accepted calls) (takes calls) ≡ Some bytes)
+front_where calls true k bytes e = first_behind (accepted calls) (takes calls) (takes calls + 1) k bytes e
+front_where calls false k bytes e = absurd (none_some _ e)
+
+-- the front of an inbox is the first that was accepted and not taken
+pub front_place : (calls : List EndEntry) (k : ℕ) (bytes : List ℕ) → right_front calls ≡ Some (k, bytes) → (k ≡ takes calls + 1) × (slice_get (accepted calls) (takes calls) ≡ Some bytes)
+front_place calls k bytes front = front_where calls (is_open calls) k bytes front
 
 -- the front of the inbox of a peer is the item of its number from that peer
 pub front_payload : (s n p : ℕ) (D : List Deed) → InTurn s n D → (k : ℕ) (payload : List ℕ) → right_front (calls_at p (history_of s n D)) ≡ Some (k, payload) → payload_at p k D ≡ Some payload
-front_payload s n p D turn k payload front =
+front_payload s n p D turn k bytes front =
     let calls : List EndEntry = calls_at p (history_of s n D) in
-    let found = front_where calls (is_open calls) k payload front in
-    ap (λ (m : ℕ). payload_at p m D) found.0 ∙ payloads_are s n D turn p (takes calls) ∙ found.1
+    let found = front_place calls k bytes front in
+    ap (λ (m : ℕ). payload_at p m D) found.0 ∙ payloads_are s n D turn p (takes calls) (slice_get_within (accepted calls) (takes calls) bytes found.1) ∙ found.1

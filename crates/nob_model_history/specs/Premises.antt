@@ -1,10 +1,10 @@
 -- What holds of every list of right answers, as far as the laws of one deed more need it: nob_model proves that it does.
-use Rattle.std.specs.Prelude.{◌≡◌, ◌≤◌, ⊤, ℕ, suc, ◌+◌, Bool, true, false, List, [], ◌∷◌, length, Option, Some, None}
-use Rattle.nob_frame.specs.Kinds.{is_data}
-use Rattle.nob_ids.specs.declared.wire_rep.WireRep.{WireRep}
+use Rattle.std.specs.Prelude.{◌≡◌, ◌≤◌, ⊤, ℕ, ◌+◌, true, List, [], ◌∷◌, length, Option, Some, Ok}
 use Rattle.nob_item.specs.declared.item.Item.{Item}
 use Rattle.nob_item.specs.declared.item.Item.TheVariants as items
-use Rattle.nob_model_session.specs.End.{accepted}
+use Rattle.nob_model_session.specs.Accepting.{AcceptsWhatCame}
+use Rattle.nob_model_session.specs.declared.entry.Arrived.TheVariants as arrived
+use Rattle.nob_model_session.specs.declared.entry.EndEntry.TheVariants as ends
 use Rattle.nob_model_types.specs.Sessions.{item_at}
 use Rattle.nob_model_types.specs.Objects.{exports, is_live}
 use Rattle.nob_model_types.specs.Turns.{turns, is_pending, is_granted}
@@ -14,12 +14,12 @@ use Rattle.nob_model_history.specs.Histories.{history_of}
 use Rattle.nob_model_history.specs.Ends.{calls_at}
 use Rattle.nob_model_history.specs.Transit.{count_to, sent, is_settle_of}
 
--- a deed accepts no item, or the next: by a Data frame that took one, whose number is one more than was accepted from its sender before
+-- a deed accepts no item, or the next ones: a payload had come for each that an arrival took, at the latest with its frame
 abbrev pub AcceptsNext : (s n : ℕ) → Deed → List Deed → Type 0
-AcceptsNext s n (Arrive frame (suc k)) D = (k ≡ 0) × (is_data frame.kind ≡ true) × (frame.seq ≡ length (accepted (calls_at frame.from (history_of s n D))) + 1)
+AcceptsNext s n (Arrive frame count) D = AcceptsWhatCame (ends.Arrive frame (Ok (arrived.Took count))) (calls_at frame.from (history_of s n D))
 AcceptsNext s n (_) D = ⊤
 
--- each deed accepted the next item or none
+-- each deed accepted the next items or none
 abbrev pub InTurn : (s n : ℕ) → List Deed → Type 0
 InTurn s n [] = ⊤
 InTurn s n (deed ∷ D) = AcceptsNext s n deed D × InTurn s n D

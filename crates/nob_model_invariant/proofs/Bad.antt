@@ -11,7 +11,7 @@ use Rattle.nob_frame.specs.Kinds.{is_close}
 use Rattle.nob_item.specs.declared.item.Item.{Item}
 use Rattle.nob_item.specs.declared.item.Item.TheVariants as items
 use Rattle.nob_model_session.specs.End.{is_open, accepted, transmitted, is_out, ticks}
-use Rattle.nob_model_session.specs.Right.{is_of_pair, is_accepted}
+use Rattle.nob_model_session.specs.Right.{is_of_pair, taken_by}
 use Rattle.nob_model_session.specs.declared.entry.Ending.{Ending}
 use Rattle.nob_model_session.specs.declared.entry.Arrived.{Arrived}
 use Rattle.nob_model_session.specs.declared.entry.Arrived.TheVariants as arrived
@@ -100,13 +100,12 @@ same_ending : (one ending : Ending) → arrives (arrived.Closed one) ≡ arrives
 same_ending one ending e = cc
 
 -- an arrival that acknowledges only what was transmitted closes a session as its peer did
-arrival_reason : (strange shut ends_it behind next : Bool) (one two ending : Ending) → behind ≡ false → cond strange (Err end_refusals.Strange) (cond shut (Ok (arrived.Took 0)) (cond ends_it (Ok (arrived.Closed one)) (cond behind (Ok (arrived.Closed two)) (cond next (Ok (arrived.Took 1)) (Ok (arrived.Took 0)))))) ≡ arrives (arrived.Closed ending) → one ≡ ending
-arrival_reason true shut ends_it behind next one two ending known e = absurd (refused end_refusals.Strange _ e)
-arrival_reason false true ends_it behind next one two ending known e = absurd (took_ended 0 ending e)
-arrival_reason false false true behind next one two ending known e = same_ending one ending e
-arrival_reason false false false true next one two ending known e = cc
-arrival_reason false false false false true one two ending known e = absurd (took_ended 1 ending e)
-arrival_reason false false false false false one two ending known e = absurd (took_ended 0 ending e)
+arrival_reason : (strange shut ends_it behind : Bool) (count : ℕ) (one two ending : Ending) → behind ≡ false → cond strange (Err end_refusals.Strange) (cond shut (Ok (arrived.Took 0)) (cond ends_it (Ok (arrived.Closed one)) (cond behind (Ok (arrived.Closed two)) (Ok (arrived.Took count))))) ≡ arrives (arrived.Closed ending) → one ≡ ending
+arrival_reason true shut ends_it behind count one two ending known e = absurd (refused end_refusals.Strange _ e)
+arrival_reason false true ends_it behind count one two ending known e = absurd (took_ended 0 ending e)
+arrival_reason false false true behind count one two ending known e = same_ending one ending e
+arrival_reason false false false true count one two ending known e = cc
+arrival_reason false false false false count one two ending known e = absurd (took_ended count ending e)
 
 -- a result of a tick that is no refusal
 abbrev ticked : Option Ending → Result (Option Ending) EndRefusal
@@ -145,7 +144,7 @@ arrive_bad s n frame limits J run given_it e =
     let carried : frame.ack ≤ length (accepted peers) + 1 = subst (λ (q : ℕ). frame.ack ≤ length (accepted (calls_at q (history_at frame.from n J))) + 1) (eqb-true frame.to s told.0) (frames_carried n limits J run frame given_it).acknowledges in
     let reach : length (accepted peers) ≤ transmitted calls = (reached s frame.from n limits J apart run).accepted_transmitted in
     let known : nat_lt (transmitted calls + 1) frame.ack ≡ false = le-ltb _ _ (omega (arith, carried, reach)) in
-    let ended : record_of frame.from ≡ told.2.0 = arrival_reason (not (is_of_pair s frame.from frame)) (not (is_open calls)) (is_close frame.kind) (nat_lt (transmitted calls + 1) frame.ack) (is_accepted frame calls) (record_of frame.from) (record { peer = frame.from; reason = BadItem }) told.2.0 known told.2.1 in
+    let ended : record_of frame.from ≡ told.2.0 = arrival_reason (not (is_of_pair s frame.from frame)) (not (is_open calls)) (is_close frame.kind) (nat_lt (transmitted calls + 1) frame.ack) (taken_by frame calls) (record_of frame.from) (record { peer = frame.from; reason = BadItem }) told.2.0 known told.2.1 in
     peer_bad (ap (λ (ending : Ending). ending.reason) ended ∙ told.2.2)
   where
     record_of : ℕ → Ending

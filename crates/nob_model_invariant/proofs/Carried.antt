@@ -1,18 +1,20 @@
 -- Every frame that was given is as its sender's end gave it: what it acknowledges, its number and its payload.
-use Rattle.std.proofs.Common.{◌≡◌, ℕ, suc, ◌+◌, ◌-◌, ◌≤◌, ◌&&◌, not, Bool, true, false, cond, max, List, [], ◌∷◌, ◌++◌, length, take, drop, Option, Some, None, Ok, refl, sym, ap, subst, ◌∙◌, append_assoc, arith}
+use Rattle.std.proofs.Common.{◌≡◌, ℕ, zero, suc, ◌+◌, ◌-◌, ◌≤◌, ◌&&◌, not, Bool, true, false, cond, max, List, [], ◌∷◌, ◌++◌, length, take, drop, Option, Some, None, Ok, refl, sym, ap, subst, ◌∙◌, append_assoc, arith}
 use Rattle.std.specs.List.{AllByRecursion, Contains, slice_get}
-use Rattle.std.proofs.lemmas.List.{append-nil, length-take, length-drop, length_push, take-append-drop}
+use Rattle.std.proofs.lemmas.List.{append-nil, length-take, length-drop, length_push, length-append, take-append-drop}
 use Rattle.std.proofs.lemmas.List.Elements.{All-from_recursion, All-contains}
 use Rattle.nob_ids.specs.declared.limits.Limits.{Limits}
 use Rattle.nob_ids.specs.declared.reason.Reason.{Reason}
 use Rattle.nob_frame.specs.declared.frame.Frame.{Frame}
 use Rattle.nob_frame.specs.Kinds.{is_data, is_close}
-use Rattle.nob_model_session.specs.End.{is_open, ending, handed, lowest, greatest_seq, accepted, transmitted, data_arrived, owes_close}
+use Rattle.nob_model_session.specs.End.{is_open, ending, handed, lowest, greatest_seq, accepted_count, places, filled, accepted, transmitted, data_arrived, owes_close}
 use Rattle.nob_model_session.specs.Right.{data_frames, open_frames, closed_frames, right_transmit}
 use Rattle.nob_model_session.specs.Pair as pair
+use Rattle.nob_model_session.specs.Accepting.{AllCame}
 use Rattle.nob_model_session.specs.declared.entry.Arrived.TheVariants as arrived
 use Rattle.nob_model_session.specs.declared.entry.EndEntry.{EndEntry}
 use Rattle.nob_model_session.specs.declared.entry.EndEntry.TheVariants as ends
+use Rattle.nob_model_session.proofs.Arriving.{right_came, accepted_length}
 use Rattle.nob_model_types.specs.declared.entry.Entry.{Entry}
 use Rattle.nob_model_history.specs.Ends.{calls_at}
 use Rattle.nob_model.specs.Laws.{AreRightCalls}
@@ -42,6 +44,15 @@ data_good me peer count k front (p ∷ ps) rest payloads place whole =
     let here : slice_get payloads (k - 1) ≡ Some p = ap (slice_get payloads) (let at : k - 1 ≡ length front = omega (arith, place) in at) ∙ subst (λ hs. slice_get hs (length front) ≡ Some p) whole (behind_front front (ps ++ rest) p) in
     ((omega arith, λ d. (omega (arith, place), here)), data_good me peer count (k + 1) (front ++ p ∷ []) ps rest payloads (omega (arith, place, longer)) (append_assoc front (p ∷ []) (ps ++ rest) ∙ whole))
 
+-- Data frames for the payloads behind so many that are left out
+behind_good : (me peer count k gap : ℕ) (front ps rest payloads : List (List ℕ)) → k ≡ length front + 1 → front ++ (ps ++ rest) ≡ payloads → AllByRecursion (IsGood payloads count) (data_frames me peer (count + 1) (k + gap) (drop gap ps))
+behind_good me peer count k zero front ps rest payloads place whole = data_good me peer count (k + 0) front ps rest payloads (omega (arith, place)) whole
+behind_good me peer count k (suc gap) front [] rest payloads place whole = tt
+behind_good me peer count k (suc gap) front (p ∷ ps) rest payloads place whole =
+    let longer = length_push front p in
+    subst (λ (m : ℕ). AllByRecursion (IsGood payloads count) (data_frames me peer (count + 1) m (drop gap ps))) (let same : (k + 1) + gap ≡ k + suc gap = omega arith in same)
+    (behind_good me peer count (k + 1) gap (front ++ p ∷ []) ps rest payloads (omega (arith, place, longer)) (append_assoc front (p ∷ []) (ps ++ rest) ∙ whole))
+
 not_data : false ≡ true → ⊥
 not_data e = cc
 
@@ -49,13 +60,23 @@ not_data e = cc
 window_whole : (w k : ℕ) (payloads : List (List ℕ)) → take k payloads ++ (take w (drop k payloads) ++ drop w (drop k payloads)) ≡ payloads
 window_whole w k payloads = ap (λ ps. take k payloads ++ ps) (take-append-drop w (drop k payloads)) ∙ take-append-drop k payloads
 
-open_good : (me peer count k w : ℕ) (due : Bool) (payloads ps : List (List ℕ)) → 1 ≤ k → ps ≡ take w (drop (k - 1) payloads) → AllByRecursion (IsGood payloads count) (open_frames me peer (count + 1) k due ps)
-open_good me peer count k w true payloads [] low is = ((omega arith, λ d. absurd (not_data d)), tt)
-open_good me peer count k w false payloads [] low is = tt
-open_good me peer count k w due payloads (p ∷ ps) low is =
+-- the first of the payloads behind others, and those above the highest number given before
+first_good : (me peer count k given : ℕ) (front ps rest payloads : List (List ℕ)) (p : List ℕ) → k ≡ length front + 1 → front ++ (p ∷ (ps ++ rest)) ≡ payloads → AllByRecursion (IsGood payloads count) (data_frames me peer (count + 1) k (p ∷ []) ++ data_frames me peer (count + 1) (max k given + 1) (drop (given - k) ps))
+first_good me peer count k given front ps rest payloads p place whole =
+    let longer = length_push front p in
+    let number : (k + 1) + (given - k) ≡ max k given + 1 = omega arith in (
+      (data_good me peer count k front (p ∷ []) (ps ++ rest) payloads place whole).0,
+      subst (λ (m : ℕ). AllByRecursion (IsGood payloads count) (data_frames me peer (count + 1) m (drop (given - k) ps))) number
+          (behind_good me peer count (k + 1) (given - k) (front ++ p ∷ []) ps rest payloads (omega (arith, place, longer)) (append_assoc front (p ∷ []) (ps ++ rest) ∙ whole)),
+    )
+
+open_good : (me peer count k given w : ℕ) (due : Bool) (payloads ps : List (List ℕ)) → 1 ≤ k → ps ≡ take w (drop (k - 1) payloads) → AllByRecursion (IsGood payloads count) (open_frames me peer (count + 1) k given due ps)
+open_good me peer count k given w true payloads [] low is = ((omega arith, λ d. absurd (not_data d)), tt)
+open_good me peer count k given w false payloads [] low is = tt
+open_good me peer count k given w due payloads (p ∷ ps) low is =
     let size : length (p ∷ ps) ≡ length (take w (drop (k - 1) payloads)) = ap length is in
     let short : length (take (k - 1) payloads) ≡ k - 1 = omega (arith, size, length-take w (drop (k - 1) payloads), length-drop (k - 1) payloads, length-take (k - 1) payloads) in
-    data_good me peer count k (take (k - 1) payloads) (p ∷ ps) (drop w (drop (k - 1) payloads)) payloads (omega (arith, short, low))
+    first_good me peer count k given (take (k - 1) payloads) ps (drop w (drop (k - 1) payloads)) payloads p (omega (arith, short, low))
     (ap (λ xs. take (k - 1) payloads ++ (xs ++ drop w (drop (k - 1) payloads))) is ∙ window_whole w (k - 1) payloads)
 
 closed_good : (me peer count : ℕ) (owes : Bool) (reason : Option Reason) (payloads : List (List ℕ)) → AllByRecursion (IsGood payloads count) (closed_frames me peer (count + 1) owes reason)
@@ -63,9 +84,9 @@ closed_good me peer count owes None payloads = tt
 closed_good me peer count true (Some reason) payloads = ((omega arith, λ d. absurd (not_data d)), tt)
 closed_good me peer count false (Some reason) payloads = tt
 
-frames_good : (up : Bool) (me peer count k w : ℕ) (due owes : Bool) (reason : Option Reason) (payloads : List (List ℕ)) → 1 ≤ k → AllByRecursion (IsGood payloads count) (cond up (open_frames me peer (count + 1) k due (take w (cond up (drop (k - 1) payloads) []))) (closed_frames me peer (count + 1) owes reason))
-frames_good true me peer count k w due owes reason payloads low = open_good me peer count k w due payloads (take w (drop (k - 1) payloads)) low refl
-frames_good false me peer count k w due owes reason payloads low = closed_good me peer count owes reason payloads
+frames_good : (up : Bool) (me peer count k given w : ℕ) (due owes : Bool) (reason : Option Reason) (payloads : List (List ℕ)) → 1 ≤ k → AllByRecursion (IsGood payloads count) (cond up (open_frames me peer (count + 1) k given due (take w (cond up (drop (k - 1) payloads) []))) (closed_frames me peer (count + 1) owes reason))
+frames_good true me peer count k given w due owes reason payloads low = open_good me peer count k given w due payloads (take w (drop (k - 1) payloads)) low refl
+frames_good false me peer count k given w due owes reason payloads low = closed_good me peer count owes reason payloads
 
 lowest_max : (b : Bool) (m k : ℕ) → 1 ≤ m → 1 ≤ cond b (max m k) m
 lowest_max true m k low = omega arith
@@ -76,8 +97,8 @@ lowest_positive [] = omega arith
 lowest_positive (ends.Arrive frame (Ok (arrived.Took k)) ∷ calls) = lowest_max (is_open calls && not (is_close frame.kind)) (lowest calls) frame.ack (lowest_positive calls)
 lowest_positive (_ ∷ calls) = lowest_positive calls
 
-transmit_good : (me peer w : ℕ) (calls : List EndEntry) → AllByRecursion (IsGood (handed calls) (length (accepted calls))) (right_transmit me peer w calls)
-transmit_good me peer w calls = frames_good (is_open calls) me peer (length (accepted calls)) (lowest calls) w (data_arrived calls) (owes_close calls) (ending calls) (handed calls) (lowest_positive calls)
+transmit_good : (me peer w : ℕ) (calls : List EndEntry) → AllByRecursion (IsGood (handed calls) (accepted_count calls)) (right_transmit me peer w calls)
+transmit_good me peer w calls = frames_good (is_open calls) me peer (accepted_count calls) (lowest calls) (transmitted calls) w (data_arrived calls) (owes_close calls) (ending calls) (handed calls) (lowest_positive calls)
 
 -- ---- what was transmitted
 
@@ -117,12 +138,19 @@ carried_later before after longer frame carried = record {
 
 call_longer : (call : EndEntry) (calls : List EndEntry) → IsLonger calls (call ∷ calls)
 call_longer (ends.Send payload kind (Ok number)) calls = record { more = payload ∷ []; handed_more = refl; accepted_more = omega arith; transmitted_more = omega arith }
-call_longer (ends.Arrive frame (Ok (arrived.Took (suc k)))) calls = record { more = []; handed_more = append-nil (handed calls); accepted_more = (let longer = length_push (accepted calls) frame.payload in omega (arith, longer)); transmitted_more = omega arith }
+call_longer (ends.Arrive frame (Ok (arrived.Took k))) calls =
+    let longer = length-append (accepted calls) (filled (places (accepted_count calls + 1) k (ends.Arrive frame (Ok (arrived.Took k)) ∷ calls))) in
+    record { more = []; handed_more = append-nil (handed calls); accepted_more = omega (arith, longer); transmitted_more = omega arith }
 call_longer (ends.Transmit frames) calls = record { more = []; handed_more = append-nil (handed calls); accepted_more = omega arith; transmitted_more = omega arith }
 call_longer call calls = record { more = []; handed_more = append-nil (handed calls); accepted_more = omega arith; transmitted_more = omega arith }
 
 later_all : (call : EndEntry) (calls : List EndEntry) (frames : List Frame) → AllByRecursion (IsCarried calls) frames → AllByRecursion (IsCarried (call ∷ calls)) frames
 later_all call calls frames all = all_weaker (IsCarried calls) (IsCarried (call ∷ calls)) (carried_later calls (call ∷ calls) (call_longer call calls)) frames all
+
+-- by right calls all that they accepted had come
+all_came : (me peer : ℕ) (limits : Limits) (calls : List EndEntry) → AreRightCalls me peer limits calls → AllCame calls
+all_came me peer limits [] right = tt
+all_came me peer limits (call ∷ calls) right = (right_came me peer limits call calls right.0, all_came me peer limits calls right.1)
 
 -- each frame that right calls gave is carried
 all_carried : (me peer : ℕ) (limits : Limits) (calls : List EndEntry) → AreRightCalls me peer limits calls → AllByRecursion (IsCarried calls) (pair.transmitted_frames calls)
@@ -130,7 +158,7 @@ all_carried me peer limits [] right = tt
 all_carried me peer limits (ends.Transmit frames ∷ calls) right =
     all_append (IsCarried (ends.Transmit frames ∷ calls)) (pair.transmitted_frames calls) frames
     (later_all (ends.Transmit frames) calls (pair.transmitted_frames calls) (all_carried me peer limits calls right.1))
-    (now_carried (handed calls) (length (accepted calls)) (ends.Transmit frames ∷ calls) frames refl refl (omega arith) (subst (AllByRecursion (IsGood (handed calls) (length (accepted calls)))) (sym right.0) (transmit_good me peer limits.window calls)))
+    (now_carried (handed calls) (accepted_count calls) (ends.Transmit frames ∷ calls) frames refl (accepted_length calls (all_came me peer limits calls right.1)) (omega arith) (subst (AllByRecursion (IsGood (handed calls) (accepted_count calls))) (sym right.0) (transmit_good me peer limits.window calls)))
 all_carried me peer limits (call ∷ calls) right = later_all call calls (pair.transmitted_frames calls) (all_carried me peer limits calls right.1)
 
 -- ---- in a run

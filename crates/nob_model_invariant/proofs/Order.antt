@@ -1,5 +1,5 @@
 -- What each space acted on from each peer is a beginning of what that peer sent it, and all that is sent has a spelling.
-use Rattle.std.proofs.Common.{◌≡◌, ℕ, ◌+◌, ◌≤◌, ◌&&◌, not, Bool, true, false, cond, List, [], ◌∷◌, ◌++◌, length, map, Option, Some, Ok, Err, refl, sym, ap, subst, ◌∙◌, inl, inr, arith}
+use Rattle.std.proofs.Common.{◌≡◌, ℕ, ◌+◌, ◌-◌, ◌≤◌, ◌&&◌, not, Bool, true, false, cond, List, [], ◌∷◌, ◌++◌, length, map, Option, Some, Ok, Err, refl, sym, ap, subst, ◌∙◌, inl, inr, arith}
 use Rattle.std.specs.Prelude.{◌==◌, ◌≢◌, nat_le}
 use Rattle.std.specs.List.{AllByRecursion, slice_get}
 use Rattle.std.proofs.lemmas.Bool.{eqb-true, eqb-false, leb-false, and_parts, not-true}
@@ -8,8 +8,8 @@ use Rattle.std.proofs.lemmas.Option.{slice_get_within}
 use Rattle.nob_ids.specs.declared.limits.Limits.{Limits}
 use Rattle.nob_item.specs.Spelling.{Fits, IsItemNumber}
 use Rattle.nob_item.specs.declared.item.Item.{Item}
-use Rattle.nob_model_session.specs.End.{handed, accepted, takes, is_open, unacknowledged}
-use Rattle.nob_model_session.specs.Right.{right_front, last_item, is_limited, queue_limit}
+use Rattle.nob_model_session.specs.End.{last_item, handed, takes, is_open, unacknowledged}
+use Rattle.nob_model_session.specs.Right.{right_front, is_limited, queue_limit}
 use Rattle.nob_model_session.specs.Pair.{IsBeginning, Reaches, first_calls}
 use Rattle.nob_model_session.specs.declared.refusal.EndRefusal.TheVariants as end_refusals
 use Rattle.nob_model_session.specs.declared.entry.EndEntry.{EndEntry}
@@ -18,7 +18,7 @@ use Rattle.nob_model_session.proofs.Fronts.{accepted_law}
 use Rattle.nob_model_types.specs.declared.entry.Entry.{Entry}
 use Rattle.nob_model_types.specs.declared.deed.Deed.{Deed}
 use Rattle.nob_model_types.specs.declared.deed.Deed.TheVariants as did
-use Rattle.nob_model_types.specs.Sessions.{is_peer, item_at, item_spelt, payload_at, acted}
+use Rattle.nob_model_types.specs.Sessions.{is_peer, item_at, item_spelt, acted}
 use Rattle.nob_model_work.specs.Work.{work}
 use Rattle.nob_model_work.specs.Gifts.{gifts}
 use Rattle.nob_model_history.specs.declared.transit.SentItem.{SentItem}
@@ -26,7 +26,7 @@ use Rattle.nob_model_history.specs.Histories.{history_of}
 use Rattle.nob_model_history.specs.Ends.{items_to, payload_of, calls_at}
 use Rattle.nob_model_history.specs.Transit.{sent}
 use Rattle.nob_model_history.proofs.Inbox.{acted_takes, front_number}
-use Rattle.nob_model_history.proofs.Arriving.{payloads_are, front_payload}
+use Rattle.nob_model_history.proofs.Arriving.{payload_is, front_payload}
 use Rattle.nob_model_history.proofs.Numbered.{gifts_sent_to, payloads_handed, items_sent_to}
 use Rattle.nob_model.specs.Right.{right_after}
 use Rattle.nob_model.specs.Lists.{IsRightDeed, AreRightDeeds}
@@ -41,7 +41,7 @@ use Rattle.nob_model_journal.specs.Runs.{WorldRun}
 use Rattle.nob_model_journal.specs.Fronts.{with_numbers, ActsInOrder}
 use Rattle.nob_model_invariant.specs.Typed.{AreOfTypes}
 use Rattle.nob_model_invariant.specs.SafetyInvariant.{Sessions}
-use Rattle.nob_model_invariant.proofs.Lists.{all_map, all_at, some_same, place_in_whole, place_before, begins_longer, begins_further, numbered-append, numbered_at}
+use Rattle.nob_model_invariant.proofs.Lists.{all_map, all_at, some_same, place_before, begins_longer, begins_further, numbered-append, numbered_at}
 use Rattle.nob_model_invariant.proofs.Reading.{payload_back}
 use Rattle.nob_model_invariant.proofs.Giving.{SentFits, ActsOnWhole, AllFit, fits_more, fits_none}
 use Rattle.nob_model_invariant.proofs.Entries.{grows, right_deeds_at}
@@ -119,11 +119,10 @@ front_is_next a b n k limits payload J run all peer front =
     let turn = in_turn b n (limits b) D (right_deeds_at n limits J run b) in
     let count : t ≡ takes calls = acted_takes b n a D in
     let next : k ≡ t + 1 = front_number calls k payload front ∙ ap (λ (m : ℕ). m + 1) (sym count) in
-    let place : slice_get (accepted calls) t ≡ Some payload =
-    ap (slice_get (accepted calls)) count ∙ sym (payloads_are b n D turn a (takes calls)) ∙ ap (λ (m : ℕ). payload_at a (m + 1) D) (sym count) ∙ ap (λ (m : ℕ). payload_at a m D) (sym next) ∙ front_payload b n a D turn k payload front in
-    let reach = (reached a b n limits J apart run).front in
-    let whole : accepted calls ++ reach.0 ≡ map payload_of S = reach.1 ∙ payloads_handed a n b (deeds_at a J) in
-    let before = place_before payload_of S t payload (place_in_whole (accepted calls) reach.0 (map payload_of S) t payload whole place) in
+    let came = sym (payload_is b n a k D) ∙ front_payload b n a D turn k payload front in
+    let there : slice_get (handed (calls_at b (history_at a n J))) (k - 1) ≡ Some payload = ((reached a b n limits J apart run).kept k payload came).1 in
+    let place : slice_get (map payload_of S) t ≡ Some payload = ap (slice_get (map payload_of S)) (let at : t ≡ k - 1 = omega (arith, next) in at) ∙ ap (λ ps. slice_get ps (k - 1)) (sym (payloads_handed a n b (deeds_at a J))) ∙ there in
+    let before = place_before payload_of S t payload place in
     let fits : Fits before.0 = all_at Fits S t before.0 (sent_fits a b n J all) before.1 in
     let low = slice_get_within S t before.0 before.1 in
     let few = sent_few a b n limits J run in

@@ -41,7 +41,7 @@ pub record IsCarried (calls : List EndEntry) (frame : Frame) : Type 0 where
 pub record Sessions (n : ℕ) (J : List Entry) : Type 0 where
   -- every item that a sent has a spelling
   pub items_spelt : (a b : ℕ) → AllByRecursion Fits (sent_to n a b J)
-  -- each that b accepted was transmitted before, and what a heard acknowledged was accepted
+  -- what came there of an item, accepted or kept, is a's of its number and was transmitted before, and what a heard acknowledged was accepted
   pub reached : (a b : ℕ) → a ≢ b → Reaches (calls_at b (history_at a n J)) (calls_at a (history_at b n J))
   -- b accepted a beginning of them
   pub accepted_in_order : (a b : ℕ) → a ≢ b → IsBeginning (accepted (calls_at a (history_at b n J))) (map payload_of (sent_to n a b J))

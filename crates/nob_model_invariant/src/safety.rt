@@ -3,9 +3,10 @@
 ghost use Rattle.nob_model_invariant.specs.SafetyLaws.{ClientsLaw, FrontsLaw, HoldingsLaw, ListingsLaw, LivingLaw, NamesLaw, OwnersLaw, ReadingsLaw, SafeWithdrawLaw, SessionsLaw, SettlementsLaw};
 
 /// In every run of a world, of every two spaces: each item that one sent the other has a spelling;
-/// of these the other accepted a beginning and acted on a beginning, in order; and each frame that
-/// was ever given carries what its sender handed on. Asked of the run: what each Call and Finish
-/// handed on is of its types.
+/// what came of an item, accepted or kept until its turn, is the one of its number; of these the
+/// other accepted a beginning and acted on a beginning, in order; and each frame that was ever given
+/// carries what its sender handed on. Asked of the run: what each Call and Finish handed on is of
+/// its types.
 #[tactic(auto, using(crate::proofs::Order::sessions))]
 pub fn sessions()
     ensures { SessionsLaw }

@@ -130,7 +130,8 @@ pub fn payload(number: u128, calls: &[EndEntry]) -> Option<&[u8]>
             if let Some(before) = payload(number, older) {
                 return Some(before);
             }
-            if brings_at(number, frame, accepted_count(older)) {
+            // the number first, since to count takes a walk
+            if u128::from(frame.seq) == number && brings_at(number, frame, accepted_count(older)) {
                 return Some(frame.payload.as_slice());
             }
             None

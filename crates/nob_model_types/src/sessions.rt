@@ -50,7 +50,9 @@ pub fn payload_at(peer: SpaceId, number: ItemNo, deeds: &[Deed]) -> Option<&[u8]
             if let Some(payload) = payload_at(peer, number, older) {
                 return Some(payload);
             }
+            // Most frames have another number: those need no count.
             if frame.from == peer
+                && frame.seq == number.get()
                 && brings_at(u128::from(number.get()), frame, accepted_from(peer, older))
             {
                 return Some(frame.payload.as_slice());

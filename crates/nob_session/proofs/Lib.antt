@@ -1,4 +1,9 @@
+pub mod Arrived
 pub mod Given
+pub mod Kept
+pub mod Low
+pub mod Moving
+pub mod Sent
 pub mod Sizes
 pub mod Spelt
 pub mod Taken

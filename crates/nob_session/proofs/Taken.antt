@@ -4,10 +4,11 @@ use Rattle.std.proofs.lemmas.List.{drop-drop}
 use Rattle.nob_ids.specs.declared.limits.Limits.{Limits}
 use Rattle.nob_model_session.specs.declared.entry.EndEntry.{EndEntry}
 use Rattle.nob_model_session.specs.declared.entry.EndEntry.TheVariants.{Take}
-use Rattle.nob_model_session.specs.End.{accepted, is_open, takes, waiting}
+use Rattle.nob_model_session.specs.End.{accepted, accepted_count, is_open, takes, waiting}
 use Rattle.nob_model_session.specs.Right.{IsRight, first_of}
 use Rattle.nob_session.specs.Calls.{without_front}
 use Rattle.nob_session.specs.Stands.{End, Stands}
+use Rattle.nob_session.proofs.Kept.{places_take}
 
 -- what waits is what waited, without the first of it
 waiting_taken : (L : List EndEntry) → waiting (Take ∷ L) ≡ drop 1 (waiting L)
@@ -20,5 +21,5 @@ some_waits n (payload ∷ payloads) some = refl
 pub taken_stands : (me peer : ℕ) (limits : Limits) (L : List EndEntry) (e : End) → 0 < length e.waiting → Stands me peer limits e L → IsRight me peer limits Take L × Stands me peer limits (without_front e) (Take ∷ L)
 taken_stands me peer limits L e some stands =
     subst (λ (x : End). 0 < length x.waiting → IsRight me peer limits Take L × Stands me peer limits (without_front x) (Take ∷ L)) (sym stands)
-    (λ waits. (some_waits (takes L + 1) (waiting L) waits, rw (waiting_taken L) refl))
+    (λ waits. (some_waits (takes L + 1) (waiting L) waits, rw (waiting_taken L, places_take (accepted_count L + 1) 64 L) refl))
     some

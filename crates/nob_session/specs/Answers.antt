@@ -1,8 +1,13 @@
--- Answers of a session as those of which the definitions speak.
-use Rattle.std.specs.Prelude.{Result, Ok, Err}
+-- Answers of a session as those of which the definitions speak, and when a frame that arrives wants memory.
+use Rattle.std.specs.Prelude.{◌≡◌, ℕ, true, List, None, Result, Ok, Err}
+use Rattle.nob_frame.specs.declared.frame.Frame.{Frame}
+use Rattle.nob_frame.specs.Kinds.{is_data}
 use Rattle.nob_model_session.specs.declared.refusal.EndRefusal.{EndRefusal}
 use Rattle.nob_model_session.specs.declared.entry.Arrived.{Arrived}
 use Rattle.nob_model_session.specs.declared.entry.Arrived.TheVariants as arrived
+use Rattle.nob_model_session.specs.declared.entry.EndEntry.{EndEntry}
+use Rattle.nob_model_session.specs.End.{is_open, accepted_count, is_in_reach, payload}
+use Rattle.nob_model_session.specs.Right.{right_arrive, taken_by}
 use Rattle.nob_session.specs.declared.error.SessionError.{SessionError}
 use Rattle.nob_session.specs.declared.error.SessionError.TheVariants.{Refused, OutOfMemory}
 use Rattle.nob_session.specs.declared.closed.Arrival.{Arrival}
@@ -18,3 +23,11 @@ abbrev pub Answered : {A B : Type 0} → (A → B) → Result A SessionError →
 Answered view (Ok x) P = P (Ok (view x))
 Answered view (Err (Refused refusal)) P = P (Err refusal)
 Answered view (Err OutOfMemory) P = Unit {0}
+
+-- an open end keeps this frame's payload anew: the frame is heard and in reach, and no other with its number was kept or accepted
+pub record KeepsAnew (me peer : ℕ) (frame : Frame) (L : List EndEntry) : Type 0 where
+  pub heard : right_arrive me peer frame L ≡ Ok (arrived.Took (taken_by frame L))
+  pub open_end : is_open L ≡ true
+  pub is_item : is_data frame.kind ≡ true
+  pub in_reach : is_in_reach (accepted_count L) frame.seq ≡ true
+  pub anew : payload frame.seq L ≡ None

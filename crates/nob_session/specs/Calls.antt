@@ -1,12 +1,13 @@
 -- What the calls on an end answer and leave, by the end alone: for callers who know no list of calls.
-use Rattle.std.specs.Prelude.{◌≡◌, ℕ, ◌+◌, true, false, not, ◌&&◌, nat_le, max, List, [], ◌∷◌, ◌++◌, length, take, drop, Option, Some, None, Result, Ok, Err, if◌then◌else◌}
+use Rattle.std.specs.Prelude.{◌≡◌, ℕ, ◌+◌, ◌-◌, true, false, not, ◌&&◌, nat_le, max, List, [], ◌∷◌, ◌++◌, length, take, drop, Option, Some, None, Result, Ok, Err, if◌then◌else◌}
 use Rattle.nob_frame.specs.declared.frame.Frame.{Frame}
 use Rattle.nob_model_session.specs.declared.refusal.EndRefusal.{EndRefusal}
 use Rattle.nob_model_session.specs.declared.refusal.EndRefusal.TheVariants as refusal
 use Rattle.nob_model_session.specs.declared.entry.Kind.{Kind}
 use Rattle.nob_model_session.specs.declared.entry.Ending.{Ending}
-use Rattle.nob_model_session.specs.End.{greatest_seq}
-use Rattle.nob_model_session.specs.Right.{queue_limit, last_item, is_limited, open_frames, closed_frames}
+use Rattle.nob_model_session.specs.End.{greatest_seq, last_item, is_in_reach, filled}
+use Rattle.nob_model_session.specs.Right.{queue_limit, inbox_limit, is_limited, open_frames, closed_frames, in_a_row}
+use Rattle.nob_session.specs.Keeping.{put_at, moved_up}
 use Rattle.nob_session.specs.declared.closed.Arrival.{Arrival}
 use Rattle.nob_session.specs.declared.closed.Arrival.TheVariants as arrival
 use Rattle.nob_session.specs.Stands.{End, is_open_end, closed_end}
@@ -31,18 +32,20 @@ with_item e payload =
       unacknowledged = e.unacknowledged ++ payload ∷ [];
       transmitted = e.transmitted;
       accepted = e.accepted;
+      came = e.came;
       taken = e.taken;
       waiting = e.waiting;
+      early = e.early;
       data_arrived = e.data_arrived;
       ticks = e.ticks;
       ending = e.ending;
       owes_close = e.owes_close;
     }
 
--- what a transmit gives: of an open end a window of unacknowledged items, or an Ack if one is due; of a closed end the Close that it owes
+-- what a transmit gives: of an open end, of a window of unacknowledged items, the lowest and those that it never gave, or an Ack if one is due; of a closed end the Close that it owes
 abbrev pub frames_of : End → List Frame
 frames_of e =
-    if is_open_end e then open_frames e.me e.peer (e.accepted + 1) e.lowest e.data_arrived (take e.limits.window e.unacknowledged)
+    if is_open_end e then open_frames e.me e.peer (e.accepted + 1) e.lowest e.transmitted e.data_arrived (take e.limits.window e.unacknowledged)
     else closed_frames e.me e.peer (e.accepted + 1) e.owes_close e.ending
 
 -- an end once it has transmitted
@@ -57,12 +60,62 @@ after_transmit e =
       unacknowledged = e.unacknowledged;
       transmitted = max e.transmitted (greatest_seq (frames_of e));
       accepted = e.accepted;
+      came = e.came;
       taken = e.taken;
       waiting = e.waiting;
+      early = e.early;
       data_arrived = false;
       ticks = e.ticks;
       ending = e.ending;
       owes_close = false;
+    }
+
+-- an open end that keeps what a Data frame brings: its payload is kept in the place of its number, if that is in reach and empty
+abbrev pub keeping : End → Frame → End
+keeping e frame =
+    record {
+      me = e.me;
+      peer = e.peer;
+      limits = e.limits;
+      handed = e.handed;
+      lowest = e.lowest;
+      unacknowledged = e.unacknowledged;
+      transmitted = e.transmitted;
+      accepted = e.accepted;
+      came = e.came;
+      taken = e.taken;
+      waiting = e.waiting;
+      early = if is_in_reach e.accepted frame.seq then put_at (frame.seq - (e.accepted + 1)) frame.payload e.early else e.early;
+      data_arrived = e.data_arrived;
+      ticks = e.ticks;
+      ending = e.ending;
+      owes_close = e.owes_close;
+    }
+
+-- how many items an open end can accept: those that are kept in a row from the next on, while its inbox has room
+abbrev pub acceptable : End → ℕ
+acceptable e = in_a_row (inbox_limit - length e.waiting) e.early
+
+-- an open end once it has accepted so many of the items that it kept: they wait
+abbrev pub accepting : ℕ → End → End
+accepting count e =
+    record {
+      me = e.me;
+      peer = e.peer;
+      limits = e.limits;
+      handed = e.handed;
+      lowest = e.lowest;
+      unacknowledged = e.unacknowledged;
+      transmitted = e.transmitted;
+      accepted = e.accepted + count;
+      came = e.came + count;
+      taken = e.taken;
+      waiting = e.waiting ++ filled (take count e.early);
+      early = moved_up count e.early;
+      data_arrived = e.data_arrived;
+      ticks = e.ticks;
+      ending = e.ending;
+      owes_close = e.owes_close;
     }
 
 -- an end without the first item that waited
@@ -77,8 +130,10 @@ without_front e =
       unacknowledged = e.unacknowledged;
       transmitted = e.transmitted;
       accepted = e.accepted;
+      came = e.came;
       taken = e.taken + 1;
       waiting = drop 1 e.waiting;
+      early = e.early;
       data_arrived = e.data_arrived;
       ticks = e.ticks;
       ending = e.ending;

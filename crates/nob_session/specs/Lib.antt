@@ -8,6 +8,7 @@ pub use Rattle.nob_model_session.specs.Right
 pub use Rattle.nob_model_session.specs.Pair
 pub mod Items
 pub mod Wire
+pub mod Keeping
 pub mod Stands
 pub mod Calls
 pub mod Dues

@@ -4,6 +4,7 @@ use Rattle.std.specs.List.{AllByRecursion}
 use Rattle.std.specs.VecDeque.{deque_len, deque_capacity}
 use Rattle.nob_session.specs.declared.session.Session.TheInside.{Inside}
 use Rattle.nob_session.specs.Items.{IsItem}
+use Rattle.nob_session.specs.Keeping.{AreLow}
 use Rattle.nob_session.specs.Stands.{Roomy}
 
 -- a session's fields as callers see them
@@ -19,8 +20,10 @@ as_seen s =
         unacknowledged = s.unacknowledged.items;
         transmitted = s.transmitted;
         accepted = s.accepted;
+        came = s.accepted;
         taken = s.taken;
         waiting = s.waiting.items;
+        early = s.early;
         data_arrived = s.data_arrived;
         ticks = s.ticks;
         ending = s.ending;
@@ -29,7 +32,7 @@ as_seen s =
       room = deque_capacity s.unacknowledged - deque_len s.unacknowledged;
     }
 
--- the counts are in order; an open end holds each unacknowledged payload and each that waits, a closed one none, and the ring has 256 places
+-- the counts are in order; an open end holds each unacknowledged payload, each that waits and each that is kept in one of 64 places, a closed one none, and the ring has 256 places
 pub record IsSound (s : Inside) : Type 0 where
   pub unacknowledged_open : is_none s.ending ≡ true → length s.unacknowledged.items + s.lowest ≡ s.handed + 1
   pub unacknowledged_closed : is_none s.ending ≡ false → s.unacknowledged.items ≡ []
@@ -37,6 +40,9 @@ pub record IsSound (s : Inside) : Type 0 where
   pub waiting_open : is_none s.ending ≡ true → length s.waiting.items + s.taken ≡ s.accepted
   pub waiting_closed : is_none s.ending ≡ false → s.waiting.items ≡ []
   pub places : deque_capacity s.waiting ≡ 256
+  pub early_open : is_none s.ending ≡ true → length s.early ≡ 64
+  pub early_closed : is_none s.ending ≡ false → s.early ≡ []
+  pub early_low : AreLow (s.accepted + 1) s.early
   pub owes_nothing : is_none s.ending ≡ true → s.owes_close ≡ false
   pub lowest_positive : 1 ≤ s.lowest
   pub lowest_out : s.lowest ≤ s.transmitted + 1

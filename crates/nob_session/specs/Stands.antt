@@ -7,7 +7,7 @@ use Rattle.nob_ids.specs.declared.reason.Reason.{Reason}
 use Rattle.nob_model_session.specs.declared.entry.EndEntry.{EndEntry}
 use Rattle.nob_model_session.specs.End as word
 
--- an end as its callers see it: what is unacknowledged and what waits, how far each count has come, and whether it is closed
+-- an end as its callers see it: what is unacknowledged, what waits and what is kept early, how far each count has come, and whether it is closed; `came` counts the payloads of the accepted items: each has one
 pub record End : Type 0 where
   pub me : ℕ
   pub peer : ℕ
@@ -17,8 +17,10 @@ pub record End : Type 0 where
   pub unacknowledged : List (List ℕ)
   pub transmitted : ℕ
   pub accepted : ℕ
+  pub came : ℕ
   pub taken : ℕ
   pub waiting : List (List ℕ)
+  pub early : List (Option (List ℕ))
   pub data_arrived : Bool
   pub ticks : ℕ
   pub ending : Option Reason
@@ -48,16 +50,18 @@ end_of me peer limits L =
       lowest = word.lowest L;
       unacknowledged = word.unacknowledged L;
       transmitted = word.transmitted L;
-      accepted = length (word.accepted L);
+      accepted = word.accepted_count L;
+      came = length (word.accepted L);
       taken = word.takes L;
       waiting = word.waiting L;
+      early = word.early L;
       data_arrived = word.data_arrived L;
       ticks = word.ticks L;
       ending = word.ending L;
       owes_close = word.owes_close L;
     }
 
--- an open end once it is closed for a reason: what is unacknowledged and what waits is thrown away, and a Close is owed unless the peer has closed
+-- an open end once it is closed for a reason: what is unacknowledged, what waits and what is kept early is thrown away, and a Close is owed unless the peer has closed
 abbrev pub closed_end : End → Reason → End
 closed_end e reason =
     record {
@@ -69,8 +73,10 @@ closed_end e reason =
       unacknowledged = [];
       transmitted = e.transmitted;
       accepted = e.accepted;
+      came = e.came;
       taken = e.taken;
       waiting = [];
+      early = [];
       data_arrived = e.data_arrived;
       ticks = e.ticks;
       ending = Some reason;
@@ -89,8 +95,10 @@ heard e frame =
       unacknowledged = drop (frame.ack - e.lowest) e.unacknowledged;
       transmitted = e.transmitted;
       accepted = e.accepted;
+      came = e.came;
       taken = e.taken;
       waiting = e.waiting;
+      early = e.early;
       data_arrived = e.data_arrived || is_data frame.kind;
       ticks = if nat_lt e.lowest frame.ack then 0 else e.ticks;
       ending = e.ending;

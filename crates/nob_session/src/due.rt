@@ -7,7 +7,7 @@ pub enum Due {
     Nothing,
     /// An Ack alone.
     Ack,
-    /// Items that were given before, and no other.
+    /// The lowest item alone, which was given before.
     Again,
     /// An item that was never given, or more.
     New,

@@ -5,6 +5,7 @@
 mod closed;
 mod due;
 mod error;
+mod places;
 mod session;
 pub mod wire;
 

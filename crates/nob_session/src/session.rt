@@ -1,40 +1,42 @@
 //! One end of a session.
 
-ghost use Rattle.std.specs.Prelude.{◌≡◌, ◌≢◌, ◌+◌, ◌-◌, ◌<◌, ◌≤◌, ◌^◌, List, ℕ, Ok, Err, Some, None, Bool, true, false, ◌&&◌, ◌==◌, is_ok, nat_le, nat_lt, max, IfOk, IfErr, IfSome, OnOk, OnErr, IsOk, IsOkUnless, length, take, drop, vec_len, [], ◌∷◌};
+ghost use Rattle.std.specs.Prelude.{◌≡◌, ◌≢◌, ◌+◌, ◌-◌, ◌<◌, ◌≤◌, ◌^◌, List, ℕ, Ok, Err, Some, None, Bool, true, false, ◌&&◌, ◌==◌, is_ok, nat_le, nat_lt, max, IfOk, IfErr, IfSome, OnOk, OnErr, IsOk, IsOkUnless, length, take, drop, vec_len, [], ◌∷◌, ◌++◌};
 ghost use Rattle.nob_ids.specs.declared.limits.Limits.{Limits as LimitsOf};
 ghost use Rattle.nob_ids.specs.declared.reason.Reason.{Reason as ReasonOf};
 ghost use Rattle.nob_model_session.specs.declared.entry.EndEntry.{EndEntry};
 ghost use Rattle.nob_model_session.specs.declared.entry.EndEntry.TheVariants.{Send, Transmit, Arrive, Front, Take, IsOpen, Tick, Close};
 ghost use Rattle.nob_model_session.specs.Texts.{front_text};
-ghost use Rattle.nob_model_session.specs.End.{greatest_seq};
+ghost use Rattle.nob_model_session.specs.End.{greatest_seq, is_in_reach, last_item};
 ghost use Rattle.nob_model_session.specs.Right as right;
-ghost use Rattle.nob_model_session.specs.declared.entry.Arrived.TheVariants.{Took};
 ghost use Rattle.nob_model_session.specs.Right.{IsRight};
-ghost use Rattle.std.specs.List.{AllByRecursion};
+ghost use Rattle.std.specs.List.{AllByRecursion, slice_get};
 ghost use Rattle.std.specs.VecDeque.{deque_len, deque_capacity};
 ghost use Rattle.nob_frame.specs.Kinds.{is_data};
 ghost use Rattle.nob_frame.specs.Spelling.{Fits};
 ghost use Rattle.nob_session.specs.Items.{IsItem, IsPair};
 ghost use Rattle.nob_session.specs.Stands.{KeepsRoom, Stands, closed_end, heard, is_open_end};
-ghost use Rattle.nob_session.specs.Calls.{EndsBy, SameHanded, after_transmit, evidence_of, frames_of, next_of, with_item, without_front};
-ghost use Rattle.nob_session.specs.Answers.{Answered, arrived_of};
+ghost use Rattle.nob_session.specs.Calls.{EndsBy, SameHanded, acceptable, accepting, after_transmit, evidence_of, frames_of, keeping, next_of, with_item, without_front};
+ghost use Rattle.nob_session.specs.Answers.{Answered, KeepsAnew, arrived_of};
 ghost use Rattle.nob_session.specs.Dues.{due_of, due_up_to};
 
 use crate::closed::{Arrival, Closed};
 use crate::due::Due;
 use crate::error::SessionError;
+use crate::places::Places;
 use nob_bytes::Bytes;
 use nob_frame::{Frame, FrameKind};
 use nob_ids::{ItemNo, Limits, Reason, SpaceId};
-use nob_model_session::right::{INBOX_LIMIT, LAST_ITEM, QUEUE_LIMIT};
+use nob_model_session::end::{LAST_ITEM, REACH};
+use nob_model_session::right::{INBOX_LIMIT, QUEUE_LIMIT};
 use nob_model_session::{EndRefusal, Kind};
 use std::alloc::{AllocError, Global};
 use std::collections::VecDeque;
 use std::marker::Model;
+use std::ops::Range;
 
-/// One end of the session between two spaces. It holds the payloads that are unacknowledged and
-/// those that wait, and no other: what is acknowledged or taken is given up at once, and so is all
-/// when the end closes.
+/// One end of the session between two spaces. It holds the payloads that are unacknowledged, those
+/// that wait and those that came before their turn, and no other: what is acknowledged or taken is
+/// given up at once, and so is all when the end closes.
 #[derive(Debug, Drop)]
 pub struct Session {
     alloc: Global,
@@ -50,6 +52,9 @@ pub struct Session {
     // the accepted payloads that wait, the first first, in a ring of 256 places; none once it is
     // closed
     waiting: VecDeque<Bytes>,
+    // what came before its turn: a place for each of the 64 numbers from the next on; none once it
+    // is closed
+    early: Places,
     accepted: u64,
     taken: u64,
     // whether a Data frame arrived since the last transmit
@@ -72,8 +77,9 @@ impl Model for Session {
 }
 
 impl Session {
-    /// Opens the end of `me` towards `peer`, with places for all items that can wait. Only memory
-    /// fails it.
+    /// Opens the end of `me` towards `peer`, with places for all items that can wait and for those
+    /// that can be kept before their turn. Only memory fails it.
+    #[tactic(auto, using(crate::proofs::Kept::none_kept))]
     pub fn open(
         alloc: Global,
         me: SpaceId,
@@ -92,6 +98,7 @@ impl Session {
             lowest: 1,
             transmitted: 0,
             waiting: VecDeque::with_capacity(alloc, INBOX_LIMIT)?,
+            early: Places::empty(alloc, REACH)?,
             accepted: 0,
             taken: 0,
             data_arrived: false,
@@ -110,8 +117,8 @@ impl Session {
         self.ending.is_none()
     }
 
-    /// How many payloads this end holds: the unacknowledged ones, and those that wait. It holds no
-    /// other.
+    /// How many payloads this end holds: the unacknowledged ones, and those that wait. What it
+    /// keeps of items that came before their turn, 64 at most, is in neither number.
     pub fn held(&self) -> (usize, usize)
         ensures { result
             ≡ (length self.now.end.unacknowledged, length self.now.end.waiting) }
@@ -145,7 +152,7 @@ impl Session {
     pub fn next(&self, kind: Kind) -> Result<ItemNo, EndRefusal>
         ensures next { result ≡ next_of kind self.now.end }
         ensures open { OnOk result (self.now.end.ending ≡ None) }
-        ensures low { IfOk result (λ number. number ≤ right.last_item) }
+        ensures low { IfOk result (λ number. number ≤ last_item) }
     {
         if self.ending.is_some() {
             return Err(EndRefusal::Closed);
@@ -162,7 +169,7 @@ impl Session {
 
     /// How many numbers are free for items. It takes no memory.
     pub fn free_numbers(&self) -> u64
-        ensures { result ≡ right.last_item - self.now.end.handed }
+        ensures { result ≡ last_item - self.now.end.handed }
     {
         LAST_ITEM - self.handed
     }
@@ -183,6 +190,7 @@ impl Session {
     /// Takes an item to be sent, of 1 to 16,384 bytes: its number. It answers what `next` does, and
     /// then memory, which isn't wanted while there is room from `reserve`; a send uses up one place
     /// of it.
+    #[tactic(auto, using(crate::proofs::Kept::places_send))]
     pub fn send(&mut self, payload: Vec<u8>, kind: Kind) -> Result<ItemNo, SessionError>
         requires { (0 < vec_len payload) × (vec_len payload ≤ 16384) }
         ensures answer { (me peer : ℕ) (limits : LimitsOf) (L : List EndEntry)
@@ -213,7 +221,7 @@ impl Session {
         if self.ending.is_some() {
             return self.owes_close;
         }
-        self.given() > 0 || self.data_arrived
+        self.in_window() > 0 || self.data_arrived
     }
 
     /// What a transmit would give. It takes no memory, and constant time.
@@ -240,10 +248,11 @@ impl Session {
         }
     }
 
-    /// Gives the frames to be sent now. An open end gives its unacknowledged items again, from the
-    /// lowest on and at most a window of them, or else an Ack if a Data frame arrived since the
-    /// last transmit; a closed end gives the Close that it owes, once. The frames share their
-    /// payloads with this end. Only memory fails it.
+    /// Gives the frames to be sent now. An open end gives its lowest unacknowledged item, again if
+    /// need be, and those of a window of them that it never gave, or else an Ack if a Data frame
+    /// arrived since the last transmit; a closed end gives the Close that it owes, once. The frames
+    /// share their payloads with this end. Only memory fails it.
+    #[tactic(auto, using(crate::proofs::Kept::places_transmit))]
     pub fn transmit(&mut self) -> Result<Vec<Frame>, SessionError>
         ensures answer { (me peer : ℕ) (limits : LimitsOf) (L : List EndEntry)
             → Stands me peer limits self.old.end L →
@@ -268,12 +277,14 @@ impl Session {
         Ok(frames)
     }
 
-    // How many items a transmit of the open end gives: at most a window of the unacknowledged ones.
-    fn given(&self) -> usize
+    // How many items are in the window of the open end: the unacknowledged ones, and at most so
+    // many.
+    fn in_window(&self) -> usize
         requires { self.now.end.ending ≡ None }
-        ensures given { take result self.now.end.unacknowledged
+        ensures window { take result self.now.end.unacknowledged
             ≡ take self.now.end.limits.window self.now.end.unacknowledged }
-        ensures count { length (take self.now.end.limits.window self.now.end.unacknowledged) ≡ result }
+        ensures count { length (take self.now.end.limits.window self.now.end.unacknowledged)
+            ≡ result }
         ensures there { result ≤ length self.now.end.unacknowledged }
         ensures few { result ≤ 64 }
         ensures last { self.now.end.lowest + result ≤ self.now.end.handed + 1 }
@@ -292,7 +303,7 @@ impl Session {
         if self.ending.is_some() {
             return self.transmitted;
         }
-        let last = self.lowest - 1 + self.given() as u64;
+        let last = self.lowest - 1 + self.in_window() as u64;
         self.transmitted.max(last)
     }
 
@@ -301,11 +312,12 @@ impl Session {
         requires { self.now.end.ending ≡ None }
         ensures { result ≡ due_of self.now.end.transmitted
             (right.open_frames self.now.end.me self.now.end.peer
-            (self.now.end.accepted + 1) self.now.end.lowest self.now.end.data_arrived
+            (self.now.end.accepted + 1) self.now.end.lowest self.now.end.transmitted
+            self.now.end.data_arrived
             (take self.now.end.limits.window self.now.end.unacknowledged)) }
     {
-        let given = self.given();
-        due_of_given(self.transmitted, self.lowest, self.data_arrived, given)
+        let count = self.in_window();
+        due_of_window(self.transmitted, self.lowest, self.data_arrived, count)
     }
 
     // What a transmit of the open end gives.
@@ -316,22 +328,43 @@ impl Session {
             → IfOk result (λ frames. AllByRecursion Fits frames.items) }
         ensures frames { IfOk result (λ frames. frames.items
             ≡ right.open_frames self.now.end.me self.now.end.peer
-            (self.now.end.accepted + 1) self.now.end.lowest self.now.end.data_arrived
+            (self.now.end.accepted + 1) self.now.end.lowest self.now.end.transmitted
+            self.now.end.data_arrived
             (take self.now.end.limits.window self.now.end.unacknowledged)) }
         ensures memory { OnErr result (right.open_frames self.now.end.me self.now.end.peer
-            (self.now.end.accepted + 1) self.now.end.lowest self.now.end.data_arrived
+            (self.now.end.accepted + 1) self.now.end.lowest self.now.end.transmitted
+            self.now.end.data_arrived
             (take self.now.end.limits.window self.now.end.unacknowledged) ≢ []) }
     {
-        let given = self.given();
+        let count = self.in_window();
         let ack = self.accepted + 1;
-        if given > 0 {
-            let (first, payloads) = (self.lowest, &self.unacknowledged);
-            return data_frames(self.alloc, self.me, self.peer, ack, first, payloads, given);
+        if count > 0 {
+            return self.item_frames(ack, count);
         }
         if !self.data_arrived {
             return Ok(Vec::new(self.alloc));
         }
         lone_frame(self.alloc, FrameKind::Ack, self.me, self.peer, ack, &[])
+    }
+
+    // What a transmit of the open end gives of a window of so many items: the lowest, and those
+    // above the highest number that was given before.
+    fn item_frames(&self, ack: u64, count: usize) -> Result<Vec<Frame>, AllocError>
+        requires some { 0 < count }
+        requires there { count ≤ length self.now.end.unacknowledged }
+        requires last { self.now.end.lowest + count ≤ self.now.end.handed + 1 }
+        ensures { (due : Bool) → IfOk result (λ frames. frames.items
+            ≡ right.open_frames self.now.end.me self.now.end.peer ack self.now.end.lowest
+            self.now.end.transmitted due (take count self.now.end.unacknowledged)) }
+    {
+        let (me, peer) = (self.me, self.peer);
+        let (lowest, payloads) = (self.lowest, &self.unacknowledged);
+        let first_new = self.transmitted.saturating_sub(lowest) as usize + 1;
+        let new = first_new..count;
+        let mut frames = Vec::with_capacity(self.alloc, count.saturating_sub(first_new) + 1)?;
+        push_data(&mut frames, me, peer, ack, lowest, payloads, 0..1)?;
+        push_data(&mut frames, me, peer, ack, lowest, payloads, new)?;
+        Ok(frames)
     }
 
     // What a transmit of the closed end gives.
@@ -361,9 +394,12 @@ impl Session {
     }
 
     /// Gives a frame to this end. An open end is closed by a Close frame (reason 2) and by an
-    /// acknowledgement of what it never transmitted (reason 4); a Data frame is accepted if its
-    /// item is the next, at most 2^40, and fewer than 256 wait. A closed end takes nothing. N4 for
-    /// a frame of another pair. Only Data takes memory.
+    /// acknowledgement of what it never transmitted (reason 4). A Data frame's item is kept if its
+    /// number is the next or one of the 63 behind it, at most 2^40, and no item with it is kept
+    /// yet; then those that are kept in a row from the next on are accepted, while fewer than 256
+    /// wait, and the answer says how many. A closed end takes nothing. N4 for a frame of another
+    /// pair. Only an item that is kept takes memory.
+    #[tactic(auto, using(crate::proofs::Arrived::none_taken, crate::proofs::Arrived::none_brought))]
     pub fn arrive(&mut self, frame: &Frame) -> Result<Arrival, SessionError>
         ensures answer { (me peer : ℕ) (limits : LimitsOf) (L : List EndEntry)
             → Stands me peer limits self.old.end L →
@@ -371,11 +407,10 @@ impl Session {
             × Stands me peer limits self.new.end (Arrive frame.now answer ∷ L)) }
         ensures err { OnErr result (self.new.end ≡ self.old.end) }
         ensures memory { is_data frame.now.kind ≡ false → result ≢ Err SessionError.OutOfMemory }
-        // Memory comes after each refusal, and only where the item would be accepted.
+        // Memory comes after each refusal, and only where the item would be kept anew.
         ensures memory_last { (me peer : ℕ) (limits : LimitsOf) (L : List EndEntry)
             → Stands me peer limits self.old.end L →
-            result ≡ Err SessionError.OutOfMemory
-            → right.right_arrive me peer frame.now L ≡ Ok (Took 1) }
+            result ≡ Err SessionError.OutOfMemory → KeepsAnew me peer frame.now L }
         ensures same { SameHanded self.old.end self.new.end }
         ensures ends { IfOk result (λ arrival.
             EndsBy self.old.end self.new.end (evidence_of arrival)) }
@@ -394,28 +429,57 @@ impl Session {
         if frame.ack > self.transmitted + 1 {
             return Ok(Arrival::Closed(self.end(Reason::BadItem)));
         }
-        if !self.accepts(frame) {
+        if !frame.kind.is_data() {
             self.hear(frame);
             return Ok(Arrival::Took(0));
         }
-        let payload = frame.payload.copy()?;
-        self.waiting.push_back_reserved(payload);
-        self.accepted += 1;
+        self.keep(frame)?;
+        let count = self.accept();
         self.hear(frame);
-        Ok(Arrival::Took(1))
+        Ok(Arrival::Took(count as u64))
     }
 
-    // Whether the open end accepts the item of a frame.
-    fn accepts(&self, frame: &Frame) -> bool
-        requires { self.now.end.ending ≡ None }
-        ensures { result ≡ (is_data frame.now.kind &&
-            (frame.now.seq == self.now.end.accepted + 1) && nat_le frame.now.seq right.last_item &&
-            nat_lt (length self.now.end.waiting) right.inbox_limit) }
+    // Keeps the payload of a Data frame, if its place is in reach and empty. Only memory fails it,
+    // and it is wanted only then.
+    fn keep(&mut self, frame: &Frame) -> Result<(), AllocError>
+        requires { self.old.end.ending ≡ None }
+        ensures kept { OnOk result (self.new.end ≡ keeping self.old.end frame.now) }
+        ensures err { OnErr result (self.new.end ≡ self.old.end) }
+        ensures reach { OnErr result (is_in_reach self.old.end.accepted frame.now.seq ≡ true) }
+        ensures empty { OnErr result (slice_get self.old.end.early
+            (frame.now.seq - (self.old.end.accepted + 1)) ≡ Some None) }
+        ensures room { self.old.room ≤ self.new.room }
     {
-        frame.kind.is_data()
-            && frame.seq == self.accepted + 1
-            && frame.seq <= LAST_ITEM
-            && self.accepted - self.taken < INBOX_LIMIT as u64
+        if !self.is_in_reach(frame.seq) {
+            return Ok(());
+        }
+        let at = (frame.seq - self.accepted - 1) as usize;
+        if !self.early.is_empty_at(at) {
+            return Ok(());
+        }
+        self.early.put(at, frame.payload.copy()?);
+        Ok(())
+    }
+
+    // Whether a number is in reach: the next one or one of the 63 behind it, and at most 2^40.
+    fn is_in_reach(&self, seq: u64) -> bool
+        ensures { result ≡ is_in_reach self.now.end.accepted seq }
+    {
+        seq > self.accepted && seq - self.accepted <= REACH as u64 && seq <= LAST_ITEM
+    }
+
+    // Accepts what is kept in a row from the next item on, while the inbox of the open end has
+    // room: how many items that was.
+    fn accept(&mut self) -> usize
+        requires { self.old.end.ending ≡ None }
+        ensures count { result ≡ acceptable self.old.end }
+        ensures accepted { self.new.end ≡ accepting result self.old.end }
+        ensures room { self.old.room ≤ self.new.room }
+    {
+        let room = INBOX_LIMIT - self.waiting.len();
+        let count = self.early.accept(&mut self.waiting, room);
+        self.accepted += count as u64;
+        count
     }
 
     // Takes note of what a Data or Ack frame acknowledges, and of Data that is to be acknowledged.
@@ -463,6 +527,7 @@ impl Session {
 
     /// Counts a tick if something is transmitted and unacknowledged; the tick that makes the count
     /// reach the retry limit closes the end (reason 3). N1 at a closed end.
+    #[tactic(auto, using(crate::proofs::Kept::places_tick))]
     pub fn tick(&mut self) -> Result<Option<Closed>, EndRefusal>
         ensures answer { (me peer : ℕ) (limits : LimitsOf) (L : List EndEntry)
             → Stands me peer limits self.old.end L →
@@ -518,6 +583,7 @@ impl Session {
     {
         self.unacknowledged.clear();
         self.waiting.clear();
+        self.early.clear();
         self.ending = Some(reason);
         self.owes_close = reason != Reason::PeerClosed;
         Closed::new(self.peer, reason)
@@ -545,34 +611,34 @@ fn give_up(payloads: &mut VecDeque<Bytes>, count: usize)
     }
 }
 
-// A Data frame for each of the first `count` of these payloads, numbered from `first`.
-fn data_frames(
-    alloc: Global,
+// Adds a Data frame for each payload in these places of a queue, the first of which has the number
+// `lowest`.
+fn push_data(
+    frames: &mut Vec<Frame>,
     me: SpaceId,
     peer: SpaceId,
     ack: u64,
-    first: u64,
+    lowest: u64,
     payloads: &VecDeque<Bytes>,
-    count: usize,
-) -> Result<Vec<Frame>, AllocError>
-    requires there { count ≤ length payloads.now.items }
-    requires numbers { first + count < 2 ^ 64 }
-    ensures len { IfOk result (λ frames. length frames.items ≡ count) }
-    ensures frames { IfOk result (λ frames. frames.items
-        ≡ right.data_frames me peer ack first (take count payloads.now.items)) }
+    places: Range<usize>,
+) -> Result<(), AllocError>
+    requires there { places.end ≤ length payloads.now.items }
+    requires numbers { lowest + places.end < 2 ^ 64 }
+    ensures { OnOk result (frames.new.items ≡ frames.old.items
+        ++ right.data_frames me peer ack (lowest + places.start)
+        (drop places.start (take places.end payloads.now.items))) }
 {
-    let mut frames = Vec::with_capacity(alloc, count)?;
-    for i in 0..count {
+    for i in places.start..places.end {
         frames.push(Frame {
             kind: FrameKind::Data,
             from: me,
             to: peer,
-            seq: first + i as u64,
+            seq: lowest + i as u64,
             ack,
             payload: payloads[i].copy()?,
         })?;
     }
-    Ok(frames)
+    Ok(())
 }
 
 // The one frame of this kind.
@@ -609,19 +675,20 @@ fn due_of_closed(owes_close: bool) -> Due
     if owes_close { Due::Close } else { Due::Nothing }
 }
 
-// What an open end has to give, of whose items so many are to be given, from the lowest on.
-fn due_of_given(transmitted: u64, lowest: u64, data_arrived: bool, given: usize) -> Due
-    requires { lowest + given < 2 ^ 63 }
-    ensures { (me peer ack : ℕ) (payloads : List (List ℕ)) → length payloads ≡ given → result
-        ≡ due_of transmitted (right.open_frames me peer ack lowest data_arrived payloads) }
+// What an open end has to give, in whose window there are so many items, from the lowest on.
+fn due_of_window(transmitted: u64, lowest: u64, data_arrived: bool, count: usize) -> Due
+    requires { lowest + count < 2 ^ 63 }
+    ensures { (me peer ack : ℕ) (payloads : List (List ℕ)) → length payloads ≡ count → result
+        ≡ due_of transmitted
+        (right.open_frames me peer ack lowest transmitted data_arrived payloads) }
 {
-    if given > 0 {
-        return due_of_items(transmitted, lowest + (given - 1) as u64);
+    if count > 0 {
+        return due_of_items(transmitted, lowest + (count - 1) as u64);
     }
     if data_arrived { Due::Ack } else { Due::Nothing }
 }
 
-// What an end has to give whose items up to the last one are to be given.
+// What an end has to give in whose window the items up to the last one are.
 fn due_of_items(transmitted: u64, last: u64) -> Due
     ensures { result ≡ due_up_to transmitted last }
 {

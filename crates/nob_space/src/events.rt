@@ -209,9 +209,9 @@ impl Space {
         Ok(())
     }
 
-    /// The frames that are to be sent to a peer now: what isn't acknowledged, a window at most,
-    /// or an Ack or a Close that is owed, or none. NoPeer where there is no such peer. Linear
-    /// in them.
+    /// The frames that are to be sent to a peer now: of a window of what isn't acknowledged the
+    /// lowest item and those that were never given; or an Ack or a Close that is owed, or none.
+    /// NoPeer where there is no such peer. Linear in the window.
     #[tactic(auto, unfolding(nob_model::specs::Right::right_after))]
     pub fn transmit(&mut self, peer: SpaceId) -> Result<Frames, SpaceError>
         ensures answer { StepAnswers self.old (events.Transmit peer)
@@ -224,9 +224,10 @@ impl Space {
         Ok(frames)
     }
 
-    /// A frame came for this space: how many items it brought, or that it closed the session
-    /// with its sender. NoPeer where it isn't for this space or from none of its peers. Linear
-    /// in what the frame acknowledges, and in a payload that isn't shared, save where it closes.
+    /// A frame came for this space: how many items are accepted now, 0 to 64, or that it closed the
+    /// session with its sender. NoPeer where it isn't for this space or from none of its peers.
+    /// Linear in what the frame acknowledges, in what is accepted, and in a payload that isn't
+    /// shared, save where it closes.
     #[tactic(auto, unfolding(nob_model::specs::Right::right_after))]
     pub fn arrive(&mut self, frame: &Frame) -> Result<Arrived, SpaceError>
         ensures answer { StepAnswers self.old (events.Arrive frame.now)

@@ -10,8 +10,7 @@ use Rattle.nob_ids.specs.declared.reason.Reason.TheVariants.{BadReference}
 use Rattle.nob_item.specs.declared.item.Item.TheVariants as items
 use Rattle.nob_dirty.specs.declared.sets.Listing.{Listing}
 use Rattle.nob_dirty.specs.Sets.{lists}
-use Rattle.nob_model_session.specs.End.{handed, is_open}
-use Rattle.nob_model_session.specs.Right.{last_item}
+use Rattle.nob_model_session.specs.End.{handed, is_open, last_item}
 use Rattle.nob_model_session.specs.declared.entry.EndEntry.{EndEntry}
 use Rattle.nob_model_session.specs.declared.entry.EndEntry.TheVariants as ends
 use Rattle.nob_model_session.specs.declared.entry.Kind.TheVariants.{Note}

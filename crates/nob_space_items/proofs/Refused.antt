@@ -13,8 +13,8 @@ use Rattle.nob_ids.specs.declared.limits.Limits.{Limits}
 use Rattle.nob_ids.specs.declared.wire_rep.WireRep.{WireRep}
 use Rattle.nob_item.specs.Kinds.{counted_in, refs_carried}
 use Rattle.nob_item.specs.declared.item.Item.{Item}
-use Rattle.nob_model_session.specs.End.{handed, is_open, unacknowledged}
-use Rattle.nob_model_session.specs.Right.{last_item, queue_limit, is_limited}
+use Rattle.nob_model_session.specs.End.{handed, is_open, unacknowledged, last_item}
+use Rattle.nob_model_session.specs.Right.{queue_limit, is_limited}
 use Rattle.nob_model_session.specs.declared.refusal.EndRefusal.TheVariants as end_refusals
 use Rattle.nob_model_session.specs.declared.entry.EndEntry.{EndEntry}
 use Rattle.nob_model_session.specs.declared.entry.EndEntry.TheVariants as ends

@@ -6,7 +6,7 @@ use Rattle.nob_session.specs.Stands.{Roomy}
 use Rattle.nob_table_rows.specs.Standings.{is_surrogate, is_granted}
 use Rattle.nob_rows.specs.Rows.{IsOnce}
 use Rattle.nob_table.specs.Table.{Table, standing, surrogate_total, place_of}
-use Rattle.nob_model_session.specs.Right.{last_item}
+use Rattle.nob_model_session.specs.End.{last_item}
 use Rattle.nob_model_types.specs.declared.refusal.Refusal.{Refusal}
 use Rattle.nob_model_types.specs.declared.refusal.Refusal.TheVariants as refusals
 use Rattle.nob_model_types.specs.declared.message.Loan.{Loan}

@@ -7,8 +7,7 @@ use Rattle.nob_ids.specs.Names.{is_counted, is_same}
 use Rattle.nob_ids.specs.declared.limits.Limits.{Limits}
 use Rattle.nob_ids.specs.declared.wire_rep.WireRep.{WireRep}
 use Rattle.nob_item.specs.declared.item.Item.TheVariants as items
-use Rattle.nob_model_session.specs.End.{handed}
-use Rattle.nob_model_session.specs.Right.{last_item}
+use Rattle.nob_model_session.specs.End.{handed, last_item}
 use Rattle.nob_model_session.specs.declared.entry.EndEntry.TheVariants as ends
 use Rattle.nob_model_session.specs.declared.entry.Kind.TheVariants.{Note}
 use Rattle.nob_session.specs.Calls.{next_of}

@@ -1,24 +1,21 @@
 -- A message that waits has the number of an item.
-use Rattle.std.proofs.Common.{◌≡◌, ℕ, ◌+◌, ◌≤◌, ◌<◌, Bool, true, false, not, nat_le, nat_lt, ◌&&◌, ◌==◌, List, [], ◌∷◌, ◌++◌, length, drop, find, Option, Some, None, Ok, Err, IsOk, IsSome, if◌then◌else◌, refl, sym, subst, arith}
+use Rattle.std.proofs.Common.{◌≡◌, ℕ, ◌+◌, ◌≤◌, ◌<◌, Bool, true, false, List, [], ◌∷◌, length, drop, find, Option, Some, None, Ok, IsOk, IsSome, if◌then◌else◌, refl, sym, subst, arith}
 use Prim.Native.Nat.{zero, suc}
 use Rattle.std.specs.List.{AllByRecursion}
-use Rattle.std.proofs.lemmas.Bool.{and_parts}
 use Rattle.std.proofs.lemmas.Bool.Decides.{nat_tests}
 use Rattle.std.proofs.lemmas.List.{length-append}
 use Rattle.nob_ids.specs.declared.limits.Limits.{Limits}
-use Rattle.nob_frame.specs.Kinds.{is_data, is_close}
 use Rattle.nob_item.specs.Judging.{is_call_number, is_item_number}
 use Rattle.nob_item.specs.Writing.{bytes_of}
 use Rattle.nob_item.specs.declared.item.Item.{Item}
 use Rattle.nob_item.specs.declared.item.Item.TheVariants as items
 use Rattle.nob_pickle.specs.Writing.{pickle_of}
-use Rattle.nob_model_session.specs.End.{is_open, accepted, takes, waiting, transmitted}
-use Rattle.nob_model_session.specs.Right.{last_item, inbox_limit, first_of, is_accepted, is_of_pair}
+use Rattle.nob_model_session.specs.End.{last_item, is_open, accepted_count, accepted, filled, places, takes}
+use Rattle.nob_model_session.specs.Right.{first_of}
+use Rattle.nob_model_session.specs.Accepting.{AllCame}
 use Rattle.nob_model_session.specs.declared.entry.Arrived.TheVariants as arrived
 use Rattle.nob_model_session.specs.declared.entry.EndEntry.{EndEntry}
 use Rattle.nob_model_session.specs.declared.entry.EndEntry.TheVariants as ends
-use Rattle.nob_model_session.specs.declared.entry.Ending.{Ending}
-use Rattle.nob_model_session.specs.declared.refusal.EndRefusal.{EndRefusal}
 use Rattle.nob_model_types.specs.declared.answer.Job.{Job}
 use Rattle.nob_model_types.specs.declared.deed.Deed.{Deed}
 use Rattle.nob_model_types.specs.declared.deed.Deed.TheVariants.{Call, TakeReply, TakeEnd, Claim, Finish, DropReply, Act, Settle, Closing}
@@ -32,6 +29,7 @@ use Rattle.nob_model_history.specs.Ends.{calls_at}
 use Rattle.nob_model.specs.Laws.{AreRightCalls}
 use Rattle.nob_model.specs.Lists.{AreRightDeeds, IsRightDeed}
 use Rattle.nob_space_settling.specs.Settling.{reply_to_lost}
+use Rattle.nob_model_session.proofs.Arriving.{right_came, accepted_length, accepted_few}
 use Rattle.nob_model.proofs.Calling.{calls_law}
 use Rattle.nob_model.proofs.Carrying.{all_push, all_filter, all_without, all_found, all_mapped}
 use Rattle.nob_model.proofs.Waiting.{act_number, are_waiting, IsOpenIn}
@@ -49,34 +47,26 @@ some_waits : (b : Bool) (n k : ℕ) (all : List (List ℕ)) → IsSome (first_of
 some_waits true n k all some = some_left n k all some
 some_waits false n k all some = absurd (cc)
 
--- an item that an arriving frame brought was accepted
-took_accepted : (strange closed close bad fits : Bool) (refusal : EndRefusal) (one other : Ending) (k : ℕ)
-    → Ok (arrived.Took (suc k)) ≡ (if strange then Err refusal else (if closed then Ok (arrived.Took 0) else (if close then Ok (arrived.Closed one) else (if bad then Ok (arrived.Closed other) else (if fits then Ok (arrived.Took 1) else Ok (arrived.Took 0)))))) → fits ≡ true
-took_accepted true closed close bad fits refusal one other k e = absurd (cc)
-took_accepted false true close bad fits refusal one other k e = absurd (cc)
-took_accepted false false true bad fits refusal one other k e = absurd (cc)
-took_accepted false false false true fits refusal one other k e = absurd (cc)
-took_accepted false false false false true refusal one other k e = refl
-took_accepted false false false false false refusal one other k e = absurd (cc)
+-- the calls of a list of right answers accepted what came
+all_came : (me peer : ℕ) (limits : Limits) (L : List EndEntry) → AreRightCalls me peer limits L → AllCame L
+all_came me peer limits [] right = tt
+all_came me peer limits (call ∷ L) right = (right_came me peer limits call L right.0, all_came me peer limits L right.1)
 
--- what was taken was accepted, and all that was has a number
+-- what was taken was accepted
+taken_accepted : (me peer : ℕ) (limits : Limits) (L : List EndEntry) → AreRightCalls me peer limits L → takes L ≤ length (accepted L)
+taken_accepted me peer limits [] right = omega arith
+taken_accepted me peer limits (ends.Take ∷ L) right = let more = some_waits (is_open L) (takes L + 1) (takes L) (accepted L) right.0 in omega (arith, more)
+taken_accepted me peer limits (ends.Arrive frame (Ok (arrived.Took k)) ∷ L) right =
+    let before = taken_accepted me peer limits L right.1 in
+    let more = length-append (accepted L) (filled (places (accepted_count L + 1) k (ends.Arrive frame (Ok (arrived.Took k)) ∷ L))) in
+    omega (arith, before, more)
+taken_accepted me peer limits (call ∷ L) right = taken_accepted me peer limits L right.1
+
+-- and all that was accepted has a number
 counts_right : (me peer : ℕ) (limits : Limits) (L : List EndEntry) → AreRightCalls me peer limits L → (takes L ≤ length (accepted L)) × (length (accepted L) ≤ last_item)
-counts_right me peer limits [] right = (omega arith, omega arith)
-counts_right me peer limits (ends.Take ∷ L) right =
-    let before = counts_right me peer limits L right.1 in
-    let more = some_waits (is_open L) (takes L + 1) (takes L) (accepted L) right.0 in
-    (omega (arith, more), before.1)
-counts_right me peer limits (ends.Arrive frame (Ok (arrived.Took (suc k))) ∷ L) right =
-    let before = counts_right me peer limits L right.1 in
-    let fits : is_accepted frame L ≡ true = took_accepted (not (is_of_pair me peer frame)) (not (is_open L)) (is_close frame.kind) (nat_lt (transmitted L + 1) frame.ack) (is_accepted frame L) _ _ _ k right.0 in
-    let three = and_parts (is_data frame.kind && (frame.seq == length (accepted L) + 1) && nat_le frame.seq last_item) (nat_lt (length (waiting L)) inbox_limit) fits in
-    let two = and_parts (is_data frame.kind && (frame.seq == length (accepted L) + 1)) (nat_le frame.seq last_item) three.0 in
-    let next = (and_parts (is_data frame.kind) (frame.seq == length (accepted L) + 1) two.0).1 in
-    let under = two.1 in
-    let bound : length (accepted L) + 1 ≤ last_item = grind (arith, nat_tests, next, under) in
-    let more : length (accepted L ++ frame.payload ∷ []) ≡ length (accepted L) + 1 = length-append (accepted L) (frame.payload ∷ []) in
-    (let low = before.0 in omega (arith, low, more), omega (arith, bound, more))
-counts_right me peer limits (call ∷ L) right = counts_right me peer limits L right.1
+counts_right me peer limits L right =
+    let came = all_came me peer limits L right in
+    (taken_accepted me peer limits L right, subst (λ (k : ℕ). k ≤ last_item) (sym (accepted_length L came)) (accepted_few L came))
 
 -- ---- counted from 1
 

@@ -3,7 +3,7 @@
 ghost use Rattle.std.specs.Prelude.{◌≡◌, ◌<◌, ◌≤◌, ℕ, ◌+◌, List, [], ◌∷◌, ◌++◌, if◌then◌else◌, true, None, Some, Ok, vec_len, option_map, IfOk, IfSome, OnOk, OnErr};
 ghost use Rattle.nob_ids.specs.declared.limits.Limits.{Limits as LimitsOf};
 ghost use Rattle.nob_item.specs.Judging.{is_call_number};
-ghost use Rattle.nob_model_session.specs.Right.{last_item};
+ghost use Rattle.nob_model_session.specs.End.{last_item};
 ghost use Rattle.nob_model_session.specs.declared.entry.EndEntry.{EndEntry};
 ghost use Rattle.nob_model_session.specs.declared.entry.EndEntry.TheVariants.{Send};
 ghost use Rattle.nob_model_types.specs.declared.answer.Answer.TheVariants as answers;

@@ -5,7 +5,7 @@ use Rattle.nob_frame.specs.declared.frame.Frame.{Frame}
 use Rattle.nob_model_session.specs.declared.entry.EndEntry.{EndEntry}
 use Rattle.nob_model_session.specs.declared.refusal.EndRefusal.{EndRefusal}
 use Rattle.nob_model_session.specs.End.{is_open, transmitted}
-use Rattle.nob_model_session.specs.Right.{right_tick, right_arrive, is_of_pair, is_accepted}
+use Rattle.nob_model_session.specs.Right.{taken_by, right_tick, right_arrive, is_of_pair}
 use Rattle.nob_model_session.specs.declared.entry.Arrived.TheVariants as arrived
 use Rattle.nob_ids.specs.declared.reason.Reason.TheVariants.{PeerClosed, BadItem}
 use Rattle.nob_frame.specs.Kinds.{is_close}
@@ -40,17 +40,16 @@ arrive_told s n frame h here peer = rw (here, peer) refl
 of_pair : (s : ℕ) (frame : Frame) → frame.to == s ≡ true → is_of_pair s frame.from frame ≡ true
 of_pair s frame here = rw (nat_eq_equiv.refl frame.from, here) refl
 
-not_refused : (still closes late accepted : Bool) (peer : ℕ) (refusal : EndRefusal) → Err refusal ≡ (if not still then Ok (arrived.Took 0) else (if closes then Ok (arrived.Closed (record { peer = peer; reason = PeerClosed })) else (if late then Ok (arrived.Closed (record { peer = peer; reason = BadItem })) else (if accepted then Ok (arrived.Took 1) else Ok (arrived.Took 0))))) → ⊥
-not_refused false closes late accepted peer refusal e = cc
-not_refused true true late accepted peer refusal e = cc
-not_refused true false true accepted peer refusal e = cc
-not_refused true false false true peer refusal e = cc
-not_refused true false false false peer refusal e = cc
+not_refused : (still closes late : Bool) (count peer : ℕ) (refusal : EndRefusal) → Err refusal ≡ (if not still then Ok (arrived.Took 0) else (if closes then Ok (arrived.Closed (record { peer = peer; reason = PeerClosed })) else (if late then Ok (arrived.Closed (record { peer = peer; reason = BadItem })) else Ok (arrived.Took count)))) → ⊥
+not_refused false closes late count peer refusal e = cc
+not_refused true true late count peer refusal e = cc
+not_refused true false true count peer refusal e = cc
+not_refused true false false count peer refusal e = cc
 
 -- so the end with its sender refuses no frame that is for this space
 pub never_strange : (s : ℕ) (frame : Frame) (L : List EndEntry) (refusal : EndRefusal) → frame.to == s ≡ true → Err refusal ≡ right_arrive s frame.from frame L → ⊥
 never_strange s frame L refusal here told =
-    not_refused (is_open L) (is_close frame.kind) (nat_lt (transmitted L + 1) frame.ack) (is_accepted frame L) frame.from refusal (told ∙ rw (of_pair s frame here) refl)
+    not_refused (is_open L) (is_close frame.kind) (nat_lt (transmitted L + 1) frame.ack) (taken_by frame L) frame.from refusal (told ∙ rw (of_pair s frame here) refl)
 
 -- a test and its denial
 pub not_not : (b : Bool) → not b ≡ false → b ≡ true

@@ -1,5 +1,5 @@
 -- What holds of every list that a state stands for, since each of its deeds was right; and when one deed more is.
-use Rattle.std.proofs.Common.{◌≡◌, ℕ, ◌+◌, ◌≤◌, true, false, ◌&&◌, nat_le, List, [], ◌∷◌, length, slice_get, Ok, ap}
+use Rattle.std.proofs.Common.{◌≡◌, ℕ, ◌+◌, ◌≤◌, true, false, ◌&&◌, nat_le, List, [], ◌∷◌, length, Ok, ap}
 use Rattle.std.specs.Prelude.{⊤}
 use Rattle.std.specs.List.{IsDistinct}
 use Rattle.nob_ids.specs.Names.{is_counted, is_same}
@@ -8,7 +8,6 @@ use Rattle.nob_ids.specs.declared.reason.Reason.{Reason}
 use Rattle.nob_ids.specs.declared.wire_rep.WireRep.{WireRep}
 use Rattle.nob_frame.specs.declared.frame.Frame.{Frame}
 use Rattle.nob_pickle.specs.declared.value.Value.{Value}
-use Rattle.nob_model_session.specs.End.{accepted}
 use Rattle.nob_model_types.specs.declared.answer.Answer.TheVariants as answers
 use Rattle.nob_model_types.specs.declared.answer.Job.{Job}
 use Rattle.nob_model_types.specs.declared.event.Event.TheVariants as events
@@ -19,9 +18,8 @@ use Rattle.nob_model_types.specs.declared.deed.Deed.{Deed}
 use Rattle.nob_model_types.specs.declared.deed.Deed.TheVariants as did
 use Rattle.nob_model_types.specs.declared.deed.Deed.TheVariants.{Act}
 use Rattle.nob_model_types.specs.Objects as objects
-use Rattle.nob_model_types.specs.Sessions.{is_peer, closed, payload_at}
+use Rattle.nob_model_types.specs.Sessions.{is_peer, closed}
 use Rattle.nob_model_history.specs.Histories.{history_of}
-use Rattle.nob_model_history.specs.Ends.{calls_at}
 use Rattle.nob_model_history.specs.Holds.{times, gains, releases}
 use Rattle.nob_model_history.specs.Premises.{SettlesSent}
 use Rattle.nob_model.specs.Right.{right_after, right_export, right_dup, right_release, right_withdraw, right_call, right_take_reply, right_claim, right_finish, right_frames, right_closing, right_ticks, right_arrival}
@@ -51,8 +49,6 @@ pub record IsOrderly (s n : ℕ) (D : List Deed) : Type 0 where
   pub withdrawn : (index : ℕ) → objects.is_withdrawn index D ≡ true → objects.is_exported s index D ≡ true
   -- no session with a space that is no peer closed
   pub strangers : (p : ℕ) → is_peer s n p ≡ false → closed p D ≡ false
-  -- the payload of an item is the one that was accepted in its turn
-  pub payloads : (p k : ℕ) → payload_at p (k + 1) D ≡ slice_get (accepted (calls_at p (history_of s n D))) k
   -- what was settled was sent
   pub settles : SettlesSent s n D
   -- what was acted on came from peers
@@ -75,7 +71,6 @@ orderly {s} {n} {limits} {st} {D} stands = record {
   released = model.released s n limits D stands.right;
   withdrawn = model.withdrawn s n limits D stands.right;
   strangers = model.strangers s n limits D stands.right;
-  payloads = model.payloads s n limits D stands.right;
   settles = settles_sent s n limits D stands.right;
   acts = acts_on_peers s n limits D stands.right;
 }

@@ -92,9 +92,10 @@ impl Parts {
         }
     }
 
-    /// Arrive: a frame came for this space: how many items it brought, or that it closed the
-    /// session with its sender. Only a Data frame whose item is accepted takes memory. Linear in
-    /// the payload and in what the frame acknowledges, save where it closes (`close_for`).
+    /// Arrive: a frame came for this space: how many items are accepted now, or that it closed the
+    /// session with its sender. Only a Data frame whose payload is kept takes memory. Linear in the
+    /// payload, in what the frame acknowledges and in what is accepted, save where it closes
+    /// (`close_for`).
     pub fn arrive(&mut self, frame: &Frame) -> Result<Arrived, SpaceError>
         requires { IsState self.old }
         ensures answer { (limits : LimitsOf) (D : List Deed)

@@ -1,5 +1,5 @@
 -- What one entry more leaves of a world.
-use Rattle.std.proofs.Common.{◌≡◌, ℕ, ◌+◌, ◌-◌, ◌≤◌, Bool, true, false, not, ◌==◌, List, [], ◌∷◌, ◌++◌, length, take, reverse, get_or, slice_get, Option, Some, None, Result, Ok, Err, if◌then◌else◌, ◌≢◌, refl, sym, ap, subst, ◌∙◌, arith}
+use Rattle.std.proofs.Common.{◌≡◌, ℕ, ◌+◌, ◌-◌, ◌≤◌, Bool, true, false, not, ◌==◌, List, [], ◌∷◌, ◌++◌, length, take, drop, max, reverse, get_or, slice_get, Option, Some, None, Result, Ok, Err, if◌then◌else◌, ◌≢◌, refl, sym, ap, subst, ◌∙◌, arith}
 use Rattle.std.specs.Prelude.{IfErr}
 use Rattle.std.specs.List.{AllByRecursion, Contains}
 use Rattle.std.proofs.lemmas.Option.{slice_get_read, slice_get_within, get_or_from_slice_get}
@@ -21,7 +21,7 @@ use Rattle.nob_model_types.specs.declared.answer.Answer.TheVariants as answers
 use Rattle.nob_model_types.specs.declared.event.Event.TheVariants as events
 use Rattle.nob_model_types.specs.declared.refusal.Refusal.TheVariants as refusals
 use Rattle.nob_model_session.specs.declared.entry.EndEntry.{EndEntry}
-use Rattle.nob_model_session.specs.End.{is_open, accepted, lowest, data_arrived, unacknowledged, owes_close, ending}
+use Rattle.nob_model_session.specs.End.{is_open, accepted_count, lowest, transmitted, data_arrived, unacknowledged, owes_close, ending}
 use Rattle.nob_model_session.specs.Right.{data_frames, open_frames, closed_frames, right_transmit}
 use Rattle.nob_model_types.specs.Deeds.{deed_by, deed_of}
 use Rattle.nob_model_types.specs.Sessions.{is_peer}
@@ -185,10 +185,10 @@ data_go : (me peer ack k n : ℕ) (payloads : List (List ℕ)) → peer ≤ n �
 data_go me peer ack k n [] low = tt
 data_go me peer ack k n (payload ∷ payloads) low = (low, data_go me peer ack (k + 1) n payloads low)
 
-open_go : (me peer ack k n : ℕ) (due : Bool) (payloads : List (List ℕ)) → peer ≤ n → AllByRecursion (λ frame. frame.to ≤ n) (open_frames me peer ack k due payloads)
-open_go me peer ack k n true [] low = (low, tt)
-open_go me peer ack k n false [] low = tt
-open_go me peer ack k n due (payload ∷ payloads) low = data_go me peer ack k n (payload ∷ payloads) low
+open_go : (me peer ack k given n : ℕ) (due : Bool) (payloads : List (List ℕ)) → peer ≤ n → AllByRecursion (λ frame. frame.to ≤ n) (open_frames me peer ack k given due payloads)
+open_go me peer ack k given n true [] low = (low, tt)
+open_go me peer ack k given n false [] low = tt
+open_go me peer ack k given n due (payload ∷ payloads) low = (low, data_go me peer ack (max k given + 1) n (drop (given - k) payloads) low)
 
 closed_go : (me peer ack n : ℕ) (owes : Bool) (reason : Option Reason) → peer ≤ n → AllByRecursion (λ frame. frame.to ≤ n) (closed_frames me peer ack owes reason)
 closed_go me peer ack n owes None low = tt
@@ -196,9 +196,9 @@ closed_go me peer ack n true (Some reason) low = (low, tt)
 closed_go me peer ack n false (Some reason) low = tt
 
 transmit_go : (me peer window n : ℕ) (L : List EndEntry) → peer ≤ n → AllByRecursion (λ frame. frame.to ≤ n) (right_transmit me peer window L)
-transmit_go me peer window n L low = elim (is_open L) as (λ b. AllByRecursion (λ (frame : Frame). frame.to ≤ n) (if b then open_frames me peer (length (accepted L) + 1) (lowest L) (data_arrived L) (take window (unacknowledged L)) else closed_frames me peer (length (accepted L) + 1) (owes_close L) (ending L))) [
-  | true ↦ open_go me peer (length (accepted L) + 1) (lowest L) n (data_arrived L) (take window (unacknowledged L)) low
-  | false ↦ closed_go me peer (length (accepted L) + 1) n (owes_close L) (ending L) low
+transmit_go me peer window n L low = elim (is_open L) as (λ b. AllByRecursion (λ (frame : Frame). frame.to ≤ n) (if b then open_frames me peer (accepted_count L + 1) (lowest L) (transmitted L) (data_arrived L) (take window (unacknowledged L)) else closed_frames me peer (accepted_count L + 1) (owes_close L) (ending L))) [
+  | true ↦ open_go me peer (accepted_count L + 1) (lowest L) (transmitted L) n (data_arrived L) (take window (unacknowledged L)) low
+  | false ↦ closed_go me peer (accepted_count L + 1) n (owes_close L) (ending L) low
 ]
 
 -- the frames that a right Transmit gives go to a space

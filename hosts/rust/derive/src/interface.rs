@@ -2,20 +2,35 @@
 
 use proc_macro2::{Ident, TokenStream};
 use quote::{format_ident, quote, quote_spanned};
+use syn::ext::IdentExt;
 use syn::{
-    Attribute, Error, FnArg, GenericArgument, ItemTrait, LitInt, Pat, PatIdent, PatType,
-    PathArguments, Receiver, Result, ReturnType, TraitItem, TraitItemMethod, Type, parse2,
-    spanned::Spanned,
+    Attribute, Error, FnArg, GenericArgument, Item, ItemTrait, LitInt, Pat, PatIdent, PatType,
+    PathArguments, Receiver, Result, ReturnType, TraitItem, TraitItemMethod, Type, parse_quote,
+    parse2, spanned::Spanned,
 };
 
-/// Methods that a `Remote` has by itself, so that an interface's would never be found.
-const TAKEN: [&str; 5] = ["owner", "is_mine", "cast", "invoke", "clone"];
+/// Methods that a `Remote` has by itself or as everything has, so that an interface's would never be found.
+const TAKEN: [&str; 12] = [
+    "owner",
+    "is_mine",
+    "cast",
+    "invoke",
+    "try_invoke",
+    "clone",
+    "clone_from",
+    "eq",
+    "ne",
+    "into",
+    "try_into",
+    "to_owned",
+];
 
 struct Method {
     number: u16,
     name: Ident,
     docs: Vec<Attribute>,
     has_context: bool,
+    is_async: bool,
     names: Vec<Ident>,
     types: Vec<Type>,
     answer: Type,
@@ -25,14 +40,25 @@ pub fn expand(arguments: TokenStream, item: TokenStream) -> Result<TokenStream> 
     if !arguments.is_empty() {
         return Err(Error::new(arguments.span(), "#[interface] takes no arguments"));
     }
-    let mut item: ItemTrait = parse2(item)?;
+    let mut item = trait_of(parse2(item)?)?;
     judge(&item)?;
     let methods = methods_of(&mut item)?;
-    item.supertraits.push(syn::parse_quote!(::core::marker::Send));
-    item.supertraits.push(syn::parse_quote!('static));
+    item.supertraits.push(parse_quote!(::core::marker::Send));
+    item.supertraits.push(parse_quote!('static));
+    let boxed = boxed(&mut item, &methods);
     let (passed, served) = (passed(&methods), served(&item, &methods));
     let stub = stub(&item, &methods);
-    Ok(quote! { #item #passed #served #stub })
+    Ok(quote! { #item #boxed #passed #served #stub })
+}
+
+fn trait_of(item: Item) -> Result<ItemTrait> {
+    match item {
+        Item::Trait(item) => Ok(item),
+        other => {
+            let text = "#[interface] stands at a trait: what implements it needs no attribute";
+            Err(Error::new(other.span(), text))
+        }
+    }
 }
 
 fn judge(item: &ItemTrait) -> Result<()> {
@@ -63,7 +89,19 @@ fn methods_of(item: &mut ItemTrait) -> Result<Vec<Method>> {
         next = number.wrapping_add(1);
         methods.push(method_of(number, method)?);
     }
+    for Method { name, .. } in &methods {
+        let tried = tried(name);
+        if let Some(other) = methods.iter().find(|other| other.name == tried) {
+            let text = format!("a Remote has {tried} beside {name}: give this method another name");
+            return Err(Error::new(other.name.span(), text));
+        }
+    }
     Ok(methods)
+}
+
+// The name of what calls a method at once or not at all.
+fn tried(name: &Ident) -> Ident {
+    format_ident!("try_{}", name.unraw())
 }
 
 // The number that `#[method(7)]` says, which is taken away.
@@ -93,11 +131,9 @@ fn method_of(number: u16, method: &TraitItemMethod) -> Result<Method> {
             "a method of an interface has no body: it runs where the object is",
         );
     }
-    if let Some(asyncness) = &signature.asyncness {
-        return refuse(
-            asyncness.span(),
-            "a method of an interface isn't async: it runs on a worker, where it may wait",
-        );
+    if signature.unsafety.is_some() || signature.abi.is_some() {
+        let text = "a method of an interface isn't unsafe, and has no ABI of its own";
+        return refuse(signature.span(), text);
     }
     if !signature.generics.params.is_empty() || signature.generics.where_clause.is_some() {
         return refuse(signature.generics.span(), "a method of an interface has no generics");
@@ -121,6 +157,9 @@ fn method_of(number: u16, method: &TraitItemMethod) -> Result<Method> {
         parameters.remove(0);
     }
     for (_, kind) in &parameters {
+        if is_context(kind) {
+            return refuse(kind.span(), "the context stands first, behind &mut self");
+        }
         owned(kind)?;
     }
     if parameters.len() > 8 {
@@ -130,14 +169,74 @@ fn method_of(number: u16, method: &TraitItemMethod) -> Result<Method> {
         );
     }
     let answer = match &signature.output {
-        ReturnType::Default => syn::parse_quote!(()),
+        ReturnType::Default => parse_quote!(()),
         ReturnType::Type(_, kind) => (**kind).clone(),
     };
     owned(&answer)?;
     let docs = method.attrs.iter().filter(|attribute| attribute.path.is_ident("doc"));
     let docs = docs.cloned().collect();
     let (names, types) = parameters.into_iter().unzip();
-    Ok(Method { number, name, docs, has_context, names, types, answer })
+    let is_async = signature.asyncness.is_some();
+    Ok(Method { number, name, docs, has_context, is_async, names, types, answer })
+}
+
+// The name of an async method's form that objects have.
+fn boxed_name(name: &Ident) -> Ident {
+    format_ident!("__boxed_{}", name.unraw())
+}
+
+// A trait with async methods has no objects. So they stay out of those, as methods of what has a size, which
+// implementations write as `async fn`; and a trait above it, which every implementation of it has, gives
+// objects the same methods with their futures in boxes.
+fn boxed(item: &mut ItemTrait, methods: &[Method]) -> TokenStream {
+    let all: Vec<&Method> = methods.iter().filter(|method| method.is_async).collect();
+    if all.is_empty() {
+        return TokenStream::new();
+    }
+    for entry in &mut item.items {
+        if let TraitItem::Method(method) = entry
+            && method.sig.asyncness.take().is_some()
+        {
+            let answer = match &method.sig.output {
+                ReturnType::Default => parse_quote!(()),
+                ReturnType::Type(_, kind) => (**kind).clone(),
+            };
+            method.sig.output = parse_quote! {
+                -> impl ::core::future::Future<Output = #answer> + ::core::marker::Send
+            };
+            method.sig.generics.where_clause =
+                Some(parse_quote!(where Self: ::core::marker::Sized));
+        }
+    }
+    let (name, visibility) = (&item.ident, &item.vis);
+    let above = format_ident!("__{}Boxed", name.unraw());
+    item.supertraits.push(parse_quote!(#above));
+    let heads: Vec<TokenStream> = all
+        .iter()
+        .map(|Method { name, has_context, names, types, answer, .. }| {
+            let boxed = boxed_name(name);
+            let context = has_context.then(|| quote!(__context: &'__a ::masttomato::Context,));
+            quote! {
+                fn #boxed<'__a>(
+                    &'__a mut self, #context #(#names: #types),*
+                ) -> ::masttomato::macros::Boxed<'__a, #answer>
+            }
+        })
+        .collect();
+    let bodies = all.iter().map(|method| {
+        let Method { name: method, has_context, names, .. } = method;
+        let context = has_context.then(|| quote!(__context,));
+        quote! { ::std::boxed::Box::pin(<__Object as #name>::#method(self, #context #(#names),*)) }
+    });
+    quote! {
+        #[doc(hidden)]
+        #visibility trait #above { #(#heads;)* }
+
+        #[doc(hidden)]
+        impl<__Object: #name> #above for __Object {
+            #(#heads { #bodies })*
+        }
+    }
 }
 
 fn parameter_of(input: &FnArg) -> Result<(Ident, Type)> {
@@ -205,18 +304,21 @@ fn passed(methods: &[Method]) -> TokenStream {
 // What carries a call out, by the method's number.
 fn served(item: &ItemTrait, methods: &[Method]) -> TokenStream {
     let name = &item.ident;
-    let arms = methods.iter().map(|Method { number, name, has_context, names, types, .. }| {
-        let context = has_context.then(|| quote!(context,));
+    let (later, now): (Vec<&Method>, Vec<&Method>) =
+        methods.iter().partition(|method| method.is_async);
+    let arms = now.iter().map(|Method { number, name, has_context, names, types, .. }| {
+        let context = has_context.then(|| quote!(__context,));
         quote! {
-            #number => match arguments.take::<(#(#types,)*)>() {
+            #number => match __arguments.take::<(#(#types,)*)>() {
                 ::core::result::Result::Ok((#(#names,)*)) => {
                     ::masttomato::macros::Served::answer(self.#name(#context #(#names),*))
                 }
-                ::core::result::Result::Err(refused) => refused,
+                ::core::result::Result::Err(__refused) => __refused,
             },
         }
     });
-    let (text, checksum) = (name.to_string(), checksum(methods));
+    let later = served_later(&later);
+    let (text, checksum) = (name.unraw().to_string(), checksum(methods));
     quote! {
         impl ::masttomato::Interface for dyn #name {
             const NAME: &'static str = #text;
@@ -225,14 +327,57 @@ fn served(item: &ItemTrait, methods: &[Method]) -> TokenStream {
             #[allow(unused_variables)]
             fn serve(
                 &mut self,
-                method: u16,
-                arguments: ::masttomato::macros::Arguments,
-                context: &::masttomato::Context,
+                __method: u16,
+                __arguments: ::masttomato::macros::Arguments,
+                __context: &::masttomato::Context,
             ) -> ::masttomato::macros::Served {
-                match method {
+                match __method {
                     #(#arms)*
                     _ => ::masttomato::macros::Served::NoMethod,
                 }
+            }
+
+            #later
+        }
+    }
+}
+
+// What carries a call of an async method out.
+fn served_later(methods: &[&Method]) -> TokenStream {
+    if methods.is_empty() {
+        return TokenStream::new();
+    }
+    let numbers = methods.iter().map(|method| method.number);
+    let arms = methods.iter().map(|Method { number, name, has_context, names, types, .. }| {
+        let (name, context) = (boxed_name(name), has_context.then(|| quote!(__context,)));
+        quote! {
+            #number => match __arguments.take::<(#(#types,)*)>() {
+                ::core::result::Result::Ok((#(#names,)*)) => ::std::boxed::Box::pin(async move {
+                    ::masttomato::macros::Served::answer(self.#name(#context #(#names),*).await)
+                }),
+                ::core::result::Result::Err(__refused) => {
+                    ::std::boxed::Box::pin(::core::future::ready(__refused))
+                }
+            },
+        }
+    });
+    quote! {
+        fn is_async(__method: u16) -> bool {
+            ::core::matches!(__method, #(#numbers)|*)
+        }
+
+        #[allow(unused_variables)]
+        fn serve_async<'__a>(
+            &'__a mut self,
+            __method: u16,
+            __arguments: ::masttomato::macros::Arguments,
+            __context: &'__a ::masttomato::Context,
+        ) -> ::masttomato::macros::Boxed<'__a, ::masttomato::macros::Served> {
+            match __method {
+                #(#arms)*
+                _ => ::std::boxed::Box::pin(::core::future::ready(
+                    ::masttomato::macros::Served::NoMethod,
+                )),
             }
         }
     }
@@ -243,17 +388,33 @@ fn stub(item: &ItemTrait, methods: &[Method]) -> TokenStream {
     let (name, visibility) = (&item.ident, &item.vis);
     let stub = format_ident!("{name}Stub");
     let heads = methods.iter().map(|Method { docs, name, names, types, answer, .. }| {
-        quote! { #(#docs)* fn #name(&self, #(#names: #types),*) -> ::masttomato::Call<#answer>; }
+        let tried = tried(name);
+        let text = format!(
+            "[`{name}`](Self::{name}) at once or not at all: `CallError::Busy` where there is no room for it."
+        );
+        quote! {
+            #(#docs)*
+            fn #name(&self, #(#names: #types),*) -> ::masttomato::Call<#answer>;
+
+            #[doc = #text]
+            fn #tried(&self, #(#names: #types),*) -> ::masttomato::Call<#answer>;
+        }
     });
     let bodies = methods.iter().map(|Method { number, name, names, types, answer, .. }| {
+        let tried = tried(name);
         quote! {
             fn #name(&self, #(#names: #types),*) -> ::masttomato::Call<#answer> {
                 self.invoke::<(#(#types,)*), #answer>(#number, (#(#names,)*))
             }
+
+            fn #tried(&self, #(#names: #types),*) -> ::masttomato::Call<#answer> {
+                self.try_invoke::<(#(#types,)*), #answer>(#number, (#(#names,)*))
+            }
         }
     });
     let docs = format!(
-        "The methods of `Remote<dyn {name}>`: each is a call, to be waited for or awaited."
+        "The methods of `Remote<dyn {name}>`: each is a call, to be waited for or awaited. Where as many calls \
+         are open as may be, one waits to be made; those that begin with `try_` don't."
     );
     quote! {
         #[doc = #docs]

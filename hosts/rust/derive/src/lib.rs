@@ -11,6 +11,9 @@ use proc_macro::TokenStream;
 /// The methods take `&mut self` and owned arguments that are `Pass`; a first parameter of type `&Context`
 /// is the call's, which callers don't give. Methods are numbered from 0 in order, or from the number that
 /// `#[method(7)]` says: numbers are the protocol, so whoever removes a method numbers those behind it.
+///
+/// A method may be an `async fn`, whose future is `Send`: it takes no thread while it waits. Whether it is one
+/// makes no difference to callers.
 #[proc_macro_attribute]
 pub fn interface(arguments: TokenStream, item: TokenStream) -> TokenStream {
     interface::expand(arguments.into(), item.into())

@@ -3,6 +3,8 @@
 use crate::node::{Context, Hold, Shared};
 use crate::pass::{Packer, Parameters, Pass, Unpacker};
 use crate::space::Value;
+use std::future::Future;
+use std::pin::Pin;
 use std::sync::Arc;
 
 /// A trait whose objects can be exported and called from other spaces: `dyn Trait` is one where the trait
@@ -20,7 +22,8 @@ use std::sync::Arc;
 /// ```
 #[diagnostic::on_unimplemented(
     message = "`{Self}` is no interface",
-    label = "an interface is `dyn Trait` of a trait with the attribute #[masttomato::interface]"
+    label = "an interface is `dyn Trait` of a trait with the attribute #[masttomato::interface]",
+    note = "name it where an object is exported: node.export::<dyn Trait>(Box::new(object))"
 )]
 pub trait Interface: Send + 'static {
     /// The trait's name.
@@ -31,7 +34,30 @@ pub trait Interface: Send + 'static {
     /// Carries out a method, by its number.
     #[doc(hidden)]
     fn serve(&mut self, method: u16, arguments: Arguments, context: &Context) -> Served;
+
+    /// Whether a method is async.
+    #[doc(hidden)]
+    fn is_async(method: u16) -> bool {
+        let _none_is = method;
+        false
+    }
+
+    /// Carries out a method that is async.
+    #[doc(hidden)]
+    fn serve_async<'a>(
+        &'a mut self,
+        method: u16,
+        arguments: Arguments,
+        context: &'a Context,
+    ) -> Boxed<'a, Served> {
+        let served = self.serve(method, arguments, context);
+        Box::pin(std::future::ready(served))
+    }
 }
+
+/// What comes of a method that is async.
+#[doc(hidden)]
+pub type Boxed<'a, T> = Pin<Box<dyn Future<Output = T> + Send + 'a>>;
 
 /// A value, with what keeps the references in it.
 #[derive(Debug)]
@@ -86,6 +112,7 @@ pub enum Served {
     BadArguments,
     NoMethod,
     Panicked,
+    Cancelled,
 }
 
 impl Served {
@@ -99,6 +126,13 @@ impl Served {
 /// An exported object, whatever its interface is.
 pub(crate) trait Exported: Send {
     fn serve(&mut self, method: u16, arguments: Arguments, context: &Context) -> Served;
+    fn is_async(&self, method: u16) -> bool;
+    fn serve_async<'a>(
+        &'a mut self,
+        method: u16,
+        arguments: Arguments,
+        context: &'a Context,
+    ) -> Boxed<'a, Served>;
     fn describe(&self) -> Description;
 }
 
@@ -124,6 +158,19 @@ impl Description {
 impl<I: Interface + ?Sized> Exported for Box<I> {
     fn serve(&mut self, method: u16, arguments: Arguments, context: &Context) -> Served {
         (**self).serve(method, arguments, context)
+    }
+
+    fn is_async(&self, method: u16) -> bool {
+        I::is_async(method)
+    }
+
+    fn serve_async<'a>(
+        &'a mut self,
+        method: u16,
+        arguments: Arguments,
+        context: &'a Context,
+    ) -> Boxed<'a, Served> {
+        (**self).serve_async(method, arguments, context)
     }
 
     fn describe(&self) -> Description {

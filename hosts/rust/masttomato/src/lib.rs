@@ -19,8 +19,8 @@ pub use engine::{Counts, Session, Why};
 pub use interface::Interface;
 #[cfg(feature = "node")]
 pub use node::{
-    BadPeers, Builder, Call, CallError, Changes, Context, Fault, LocalNode, Node, NodeError, Peers,
-    Remote, Run, Shutdown,
+    BadPeers, Builder, Call, CallError, Cancelled, Changes, Context, Fault, LocalNode, Node,
+    NodeError, Peers, Remote, Run, Shutdown, Spawn,
 };
 #[cfg(feature = "node")]
 pub use pass::{NotPassed, Packer, Pass, Unpacker};
@@ -32,7 +32,7 @@ pub use masttomato_derive::{Pass, interface};
 #[cfg(feature = "node")]
 #[doc(hidden)]
 pub mod macros {
-    pub use crate::interface::{Arguments, Served};
+    pub use crate::interface::{Arguments, Boxed, Served};
     pub use crate::pass::{Parameters, list_of};
     pub use crate::space::Value;
 }

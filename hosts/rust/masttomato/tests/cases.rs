@@ -145,6 +145,7 @@ fn fields_of(frame: &Frame) -> String {
         FrameKind::Data => "data",
         FrameKind::Ack => "ack",
         FrameKind::Close => "close",
+        other => panic!("{other:?}"),
     };
     let (from, to, seq, ack) = (frame.from(), frame.to(), frame.seq(), frame.ack());
     let payload = frame.to_string()[56..].to_string();

@@ -65,12 +65,15 @@ fn what_is_wrong_is_refused_with_a_sentence() {
     let mut programs: Vec<PathBuf> =
         entries.map(|entry| entry.expect("a program").path()).collect();
     programs.sort();
-    assert!(programs.len() >= 20);
+    assert!(programs.len() >= 35);
     let mut wrong = Vec::new();
     for program in &programs {
         let source = fs::read_to_string(program).expect("a program");
         let said = refused(&library, program).unwrap_or_else(|| panic!("{program:?} is taken"));
-        for sentence in source.lines().filter_map(|line| line.strip_prefix("//~ ")) {
+        let sentences: Vec<&str> =
+            source.lines().filter_map(|line| line.strip_prefix("//~ ")).collect();
+        assert!(!sentences.is_empty(), "{program:?} says no sentence");
+        for sentence in sentences {
             if !said.contains(sentence) {
                 wrong.push(format!("{}: no {sentence:?} in\n{said}", program.display()));
             }

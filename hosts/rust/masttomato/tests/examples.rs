@@ -15,18 +15,21 @@ fn scripts_give_what_is_stated() {
     play_scripts(scripts);
 }
 
-// More scripts and traces than the repository has, in the folders `world` and `space` of the one that
-// MASTTOMATO_VECTORS names.
+// More scripts, traces and sets of traces than the repository has, in the folders `world`, `space` and
+// `check` of the one that MASTTOMATO_VECTORS names.
 #[test]
 fn further_scripts_and_traces_give_what_is_stated() {
     let Ok(folder) = std::env::var("MASTTOMATO_VECTORS") else { return };
-    let (scripts, traces) =
-        (files(&format!("{folder}/world"), ".in"), files(&format!("{folder}/space"), ".trace"));
-    println!("{} scripts and {} traces", scripts.len(), traces.len());
+    let of = |kind: &str, ending| files(&format!("{folder}/{kind}"), ending);
+    let (scripts, traces) = (of("world", ".in"), of("space", ".trace"));
+    let sets = accepted_of(of("check", ".traces"));
+    let (all, kept) = (scripts.len(), sets.len());
+    println!("{all} scripts, {} traces and {kept} accepted sets of them", traces.len());
     play_scripts(scripts);
     for name in traces {
         assert_played_again(&name, &file(&format!("{name}.trace")));
     }
+    sets.iter().for_each(|name| assert_set_played_again(name));
 }
 
 fn play_scripts(scripts: Vec<String>) {
@@ -56,16 +59,22 @@ fn spaces_answer_as_the_traces_say() {
 #[test]
 fn spaces_answer_as_the_accepted_sets_of_traces_say() {
     let sets = files("examples/spaces/check", ".traces");
-    let accepted = |name: &String| file(&format!("{name}.out")).ends_with(HAS_VERDICT);
-    let sets: Vec<String> = sets.into_iter().filter(accepted).collect();
+    let sets = accepted_of(sets);
     assert!(sets.len() >= 8, "{sets:?}");
-    for name in sets {
-        let text = file(&format!("{name}.traces"));
-        let places: Vec<usize> = text.match_indices("trace ").map(|(place, _)| place).collect();
-        let ends = places.iter().skip(1).copied().chain([text.len()]);
-        for (start, end) in places.iter().copied().zip(ends) {
-            assert_played_again(&name, &text[start..end]);
-        }
+    sets.iter().for_each(|name| assert_set_played_again(name));
+}
+
+fn accepted_of(mut sets: Vec<String>) -> Vec<String> {
+    sets.retain(|name| file(&format!("{name}.out")).ends_with(HAS_VERDICT));
+    sets
+}
+
+fn assert_set_played_again(name: &str) {
+    let text = file(&format!("{name}.traces"));
+    let places: Vec<usize> = text.match_indices("trace ").map(|(place, _)| place).collect();
+    let ends = places.iter().skip(1).copied().chain([text.len()]);
+    for (start, end) in places.iter().copied().zip(ends) {
+        assert_played_again(name, &text[start..end]);
     }
 }
 

@@ -4,7 +4,7 @@
 use masttomato::engine::{
     Answered, Engine, LONGEST_BODY, Life, Misbehaved, Session, Settings, Ticket, Turn,
 };
-use masttomato::space::{Outcome, Reason, SpaceId, Value};
+use masttomato::space::{Outcome, Reason, SpaceId, Status, Value};
 use std::time::Duration;
 
 const HERE: u16 = 1;
@@ -73,7 +73,7 @@ impl Scene {
             self.now += Duration::from_millis(1);
             let answers = self.honest.turn(self.now).answers;
             if let [(answered, what)] = &answers[..] {
-                let wanted = Answered::Replied { status: 0, value: Value::Unit };
+                let wanted = Answered::Replied { status: Status::Answered, value: Value::Unit };
                 assert_eq!((*answered, what), (ticket, &wanted));
                 return;
             }
@@ -265,6 +265,64 @@ fn one_that_passes_fresh_references_without_end() {
     }
     assert!(scene.owner.counts().wants > 0);
     assert_eq!((scene.served, scene.session(HOSTILE)), (0, Session::Open));
+    scene.assert_serves();
+}
+
+// Answers 5 to a call.
+fn reply(number: u64) -> Vec<u8> {
+    [&[2][..], &number.to_be_bytes(), &[0, 1], &5_i64.to_be_bytes()].concat()
+}
+
+// Its items come backwards, and after each another one of its number: the first of each counts, and a reply
+// among them is given to who waits for it.
+#[test]
+fn one_that_sends_its_items_backwards_and_two_of_each_number() {
+    let mut scene = Scene::new();
+    scene.owner.call(Ticket(900), id(HOSTILE).agent(), 0, Value::Unit);
+    let _ = scene.turn();
+    let items = [call(1, &[0]), call(2, &[0]), reply(1), call(3, &[0])];
+    for (number, item) in (1..=4).rev().zip(items.iter().rev()) {
+        scene.send(&sent(number, item)).expect("an item");
+        scene.send(&sent(number, &call(9, &[0]))).expect("another item");
+    }
+    let wanted = Answered::Replied { status: Status::Answered, value: Value::Int(5) };
+    assert_eq!(scene.turn().answers, [(Ticket(900), wanted)]);
+    scene.serve_all();
+    assert_eq!((scene.served, scene.session(HOSTILE)), (3, Session::Open));
+    scene.assert_serves();
+}
+
+// More items in one record than may wait at once: those behind them are kept up to the reach, and there when
+// anything comes again; the rest is ignored, and may be others when they come again.
+#[test]
+fn one_that_sends_400_items_in_one_record() {
+    let mut scene = Scene::new();
+    for ticket in [901, 902] {
+        scene.owner.call(Ticket(ticket), id(HOSTILE).agent(), 0, Value::Unit);
+    }
+    let _ = scene.turn();
+    let items = |replies: [u64; 2]| {
+        let item = |number| match replies.iter().position(|reply| *reply == number) {
+            Some(place) => reply(place as u64 + 1),
+            None => call(number, &[0]),
+        };
+        let frames = (1..=400).flat_map(|number| frame(HOSTILE, HERE, number, &item(number)));
+        record(0, 1, &frames.collect::<Vec<u8>>())
+    };
+    let answered = |ticket| {
+        (Ticket(ticket), Answered::Replied { status: Status::Answered, value: Value::Int(5) })
+    };
+    scene.send(&items([320, 400])).expect("items");
+    scene.serve_all();
+    assert_eq!(scene.served, 256);
+    scene.send(&sent(1, &call(1, &[0]))).expect("a call");
+    assert_eq!(scene.turn().answers, [answered(901)]);
+    scene.serve_all();
+    assert_eq!(scene.served, 256 + 63);
+    scene.send(&items([320, 321])).expect("items");
+    assert_eq!(scene.turn().answers, [answered(902)]);
+    scene.serve_all();
+    assert_eq!((scene.served, scene.session(HOSTILE)), (398, Session::Open));
     scene.assert_serves();
 }
 

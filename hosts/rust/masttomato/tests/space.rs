@@ -4,8 +4,9 @@ mod common;
 
 use common::file;
 use masttomato::space::{
-    Answer, Arrived, CallResult, Due, Event, FrameFault, Limits, Outcome, PickleFault, Reason,
-    Reference, Refusal, ReplyFate, Space, SpaceError, SpaceId, StreamError, Use, Value,
+    Answer, Arrived, CallResult, Due, Event, Frame, FrameFault, Limits, Outcome, PickleFault,
+    Reason, Reference, Refusal, ReplyFate, Space, SpaceError, SpaceId, Status, StreamError, Use,
+    Value,
 };
 
 fn id(number: u16) -> SpaceId {
@@ -59,7 +60,7 @@ fn a_reference_lives_as_long_as_somebody_holds_it() {
     assert!(!one.reply_ready(call));
     exchange(&mut one, &mut two);
     assert!(one.reply_ready(call));
-    let replied = CallResult::Replied { status: 0, value: Value::Unit };
+    let replied = CallResult::Replied { status: Status::Answered, value: Value::Unit };
     assert_eq!(one.take_reply(call), Ok(replied));
     assert!(one.lists(object.index, id(2)) && !one.lists(object.index, id(3)));
     assert_eq!(one.withdraw(object.index), used(Use::Listed));
@@ -175,6 +176,123 @@ fn what_is_due_is_said() {
     assert_eq!(two.due(id(1)), Due::Close);
     let close = two.transmit(id(1)).unwrap().iter().next().unwrap();
     assert_eq!(one.arrive(&close), Ok(Arrived::Closed(Reason::PeerClosed)));
+}
+
+// ---- items that come early ------------------------------------------------------------------------
+
+// Space 1, which has called space 2 so often, and the frames of its first Transmit.
+fn calling(numbers: std::ops::Range<i64>) -> (Space, Vec<Frame>) {
+    let mut one = Space::new(id(1), id(2), Limits::new(64, 255).unwrap()).unwrap();
+    for number in numbers {
+        one.call(id(2).agent(), 0, &Value::Int(number)).unwrap();
+    }
+    let frames = one.transmit(id(2)).unwrap().iter().collect();
+    (one, frames)
+}
+
+// A frame of space 1 with an item of this number.
+fn numbered(seq: u64) -> Frame {
+    let (_, frames) = calling(0..1);
+    let mut bytes = frames[0].as_bytes().to_vec();
+    bytes[8..16].copy_from_slice(&seq.to_be_bytes());
+    Frame::from_bytes(bytes).unwrap()
+}
+
+fn took(space: &mut Space, frame: &Frame) -> u64 {
+    match space.arrive(frame) {
+        Ok(Arrived::Took(count)) => count,
+        other => panic!("{other:?}"),
+    }
+}
+
+// What space 1's calls of a space were passed, in the order in which they are there.
+fn passed_to(space: &mut Space) -> Vec<Value> {
+    while space.act(id(1)).is_ok() {}
+    let mut next = || {
+        let job = space.claim().ok()?;
+        space.finish(job.job, &Outcome::NoMethod).unwrap();
+        Some(job.value)
+    };
+    std::iter::from_fn(&mut next).collect()
+}
+
+fn ack_of(space: &mut Space) -> u64 {
+    space.transmit(id(1)).unwrap().iter().next().expect("an Ack").ack()
+}
+
+#[test]
+fn an_item_that_comes_early_is_kept_until_those_before_it_come() {
+    let ((_, frames), [_, mut two]) = (calling(1..5), spaces());
+    assert_eq!([3, 1].map(|place| took(&mut two, &frames[place])), [0, 0]);
+    // What is kept isn't acknowledged; but that something came is said.
+    assert_eq!((two.due(id(1)), two.work().act(id(1))), (Due::Ack, false));
+    assert_eq!(ack_of(&mut two), 1);
+    assert_eq!([0, 2, 3].map(|place| took(&mut two, &frames[place])), [2, 2, 0]);
+    assert_eq!(ack_of(&mut two), 5);
+    assert_eq!(passed_to(&mut two), [1, 2, 3, 4].map(Value::Int));
+}
+
+#[test]
+fn of_two_items_of_one_number_the_first_is_kept() {
+    let ((_, frames), (_, others), [_, mut two]) = (calling(1..3), calling(11..13), spaces());
+    assert_eq!([&others[1], &frames[1], &frames[0]].map(|frame| took(&mut two, frame)), [0, 0, 2]);
+    assert_eq!([&others[0], &frames[1]].map(|frame| took(&mut two, frame)), [0, 0]);
+    assert_eq!(passed_to(&mut two), [1, 12].map(Value::Int));
+}
+
+#[test]
+fn an_item_is_kept_up_to_63_ahead() {
+    let [_, mut two] = spaces();
+    assert_eq!([66, 65, 64].map(|seq| took(&mut two, &numbered(seq))), [0, 0, 0]);
+    assert!((1..63).all(|seq| took(&mut two, &numbered(seq)) == 1));
+    // 65 was 64 ahead, and so isn't there.
+    assert_eq!([63, 66, 65].map(|seq| took(&mut two, &numbered(seq))), [2, 0, 2]);
+    let [_, mut all] = spaces();
+    assert!((2..=64).rev().all(|seq| took(&mut all, &numbered(seq)) == 0));
+    assert_eq!([took(&mut all, &numbered(1)), ack_of(&mut all)], [64, 65]);
+}
+
+#[test]
+fn a_full_inbox_keeps_what_is_behind_it() {
+    let [_, mut two] = spaces();
+    assert!((1..=256).all(|seq| took(&mut two, &numbered(seq)) == 1));
+    assert_eq!([257, 258].map(|seq| took(&mut two, &numbered(seq))), [0, 0]);
+    assert_eq!(ack_of(&mut two), 257);
+    two.act(id(1)).unwrap();
+    // There is room for one; but a space accepts when a frame of data comes, and at nothing else.
+    let mut ack = numbered(1).as_bytes()[..28].to_vec();
+    ack[2] = 2;
+    [8..16, 24..28].into_iter().for_each(|field| ack[field].fill(0));
+    assert_eq!(took(&mut two, &Frame::from_bytes(ack).unwrap()), 0);
+    assert_eq!(two.due(id(1)), Due::Nothing);
+    assert_eq!(took(&mut two, &numbered(1)), 1);
+    assert_eq!(took(&mut two, &numbered(1)), 0, "it is full again");
+    while two.act(id(1)).is_ok() {}
+    assert_eq!([took(&mut two, &numbered(400)), ack_of(&mut two)], [1, 259]);
+}
+
+#[test]
+fn a_close_throws_away_what_was_kept() {
+    let ((_, frames), [_, mut two]) = (calling(1..3), spaces());
+    assert_eq!(took(&mut two, &frames[1]), 0);
+    two.close(id(1)).unwrap();
+    assert_eq!((took(&mut two, &frames[0]), two.work().act(id(1))), (0, false));
+    assert_eq!(two.act(id(1)), Err(refused(Refusal::Closed)));
+}
+
+#[test]
+fn a_transmit_repeats_the_first_item_alone() {
+    let ((mut one, frames), [_, mut two]) = (calling(1..4), spaces());
+    let seqs = |space: &mut Space| -> Vec<u64> {
+        space.transmit(id(2)).unwrap().iter().map(|frame| frame.seq()).collect()
+    };
+    assert_eq!((one.due(id(2)), seqs(&mut one)), (Due::Again, vec![1]));
+    one.call(id(2).agent(), 0, &Value::Int(4)).unwrap();
+    assert_eq!((one.due(id(2)), seqs(&mut one)), (Due::New, vec![1, 4]));
+    assert_eq!([0, 1].map(|place| took(&mut two, &frames[place])), [1, 1]);
+    let ack = two.transmit(id(1)).unwrap().iter().next().unwrap();
+    assert_eq!(one.arrive(&ack), Ok(Arrived::Took(0)));
+    assert_eq!((one.due(id(2)), seqs(&mut one)), (Due::Again, vec![3]));
 }
 
 #[test]

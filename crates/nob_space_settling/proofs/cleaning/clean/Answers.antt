@@ -1,6 +1,6 @@
 use Rattle.std.proofs.Common.{◌≡◌, ◌-◌, ◌<◌, ℕ, ◌∷◌, get_or, sym, subst, ◌∙◌, arith}
 use lib.ListN.{set}
-use Rattle.nob_model_session.specs.Right.{last_item}
+use Rattle.nob_model_session.specs.End.{last_item}
 use Rattle.nob_model_history.specs.Ends.{calls_at}
 use Rattle.nob_model_history.specs.Histories.{history_of}
 use Rattle.nob_model_types.specs.declared.deed.Deed.TheVariants as did

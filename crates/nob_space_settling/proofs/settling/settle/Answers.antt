@@ -2,7 +2,7 @@ use Rattle.std.proofs.Common.{◌≡◌, ◌-◌, ◌≤◌, ℕ, ◌∷◌, Lis
 use lib.ListN.{set}
 use Rattle.std.specs.Option.{option_map}
 use Rattle.nob_item.specs.Judging.{is_call_number}
-use Rattle.nob_model_session.specs.Right.{last_item}
+use Rattle.nob_model_session.specs.End.{last_item}
 use Rattle.nob_model_history.specs.Ends.{calls_at}
 use Rattle.nob_model_history.specs.Histories.{history_of}
 use Rattle.nob_model_types.specs.declared.deed.Deed.TheVariants as did

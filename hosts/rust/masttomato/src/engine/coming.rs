@@ -99,10 +99,13 @@ impl Engine {
                 link.owed += 1;
             }
             match arrived {
-                Arrived::Took(count) if count > 0 => link.inbox.push_back(seen.item()),
+                Arrived::Took(count) if seen.is_data() && link.is_open() => link.came(&seen, count),
                 Arrived::Took(_) => {}
                 Arrived::Closed(reason) => self.closed(peer, reason),
             }
+        }
+        if let Some(link) = self.links.get_mut(peer) {
+            link.sent.acknowledge(link.acked);
         }
         Ok(())
     }
@@ -132,8 +135,9 @@ impl Engine {
         self.is_stirred = true;
         let Some(link) = self.links.get_mut(peer) else { return };
         match link.inbox.pop_front() {
-            Some(ItemKind::Call) => {
+            Some(ItemKind::Call(call)) => {
                 link.calls_acted_on += 1;
+                link.asked.insert(call, false);
                 if link.unanswered() > MOST_UNANSWERED {
                     self.counts.misbehaved += 1;
                     self.close(peer);
@@ -162,9 +166,7 @@ impl Engine {
             link.session = Session::Closed(reason);
             self.turn.changes.push((peer, link.session));
         }
-        link.inbox.clear();
-        link.unsettled.clear();
-        link.stuck_until = None;
+        link.forget();
         let held = std::mem::take(&mut link.calls);
         for call in held {
             let down = self.down(peer);

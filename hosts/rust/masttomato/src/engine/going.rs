@@ -1,8 +1,8 @@
 //! What goes over connections, and when.
 
-use super::wire::{self, ItemKind, Kind};
+use super::wire::{self, Kind, Seen};
 use super::{ACK_ITEMS, ACK_WAITS, Engine, NO_PONG, SILENCE, STUCK};
-use crate::space::{Due, SpaceId};
+use crate::space::{Due, Frames, SpaceId};
 use std::time::Duration;
 
 impl Engine {
@@ -72,30 +72,43 @@ impl Engine {
         }
     }
 
-    // One Transmit, of which what this connection has already is left out; but where all would be, and
-    // an acknowledgement is owed, the shortest is written again, since each says it.
-    fn transmit(&mut self, peer: SpaceId) {
+    // One Transmit, of which new frames are kept until they are acknowledged: all that it gave, and the
+    // greatest number that was given before.
+    pub(super) fn give(&mut self, peer: SpaceId) -> Option<(Frames, u64)> {
         let Ok(frames) = self.space.transmit(peer) else {
             self.counts.wants += 1;
-            return;
+            return None;
         };
+        let link = self.links.get_mut(peer)?;
+        let known = link.given;
+        for frame in wire::frames_of(frames.as_bytes()).filter(|frame| frame.seq() > known) {
+            link.gave(&frame);
+        }
+        Some((frames, known))
+    }
+
+    // Writes what one Transmit gives. The item that it repeats is left out, since this connection has it
+    // already; but where nothing else says an acknowledgement that is owed, it is written again. Where
+    // anything may have been lost, all that isn't acknowledged is.
+    fn transmit(&mut self, peer: SpaceId) {
+        let Some((frames, known)) = self.give(peer) else { return };
         let stamp = self.space.stamp();
         let Some(link) = self.links.get_mut(peer) else { return };
-        let from = if std::mem::take(&mut link.again) { 0 } else { link.written };
-        let seen = || wire::frames_of(frames.as_bytes());
-        let is_new = |frame: &wire::Seen<'_>| !frame.is_data() || frame.seq() > from;
-        let mut chosen: Vec<wire::Seen<'_>> = seen().filter(is_new).collect();
-        if chosen.is_empty() && link.owed > 0 {
-            chosen.extend(seen().min_by_key(|frame| frame.bytes.len()));
-        }
-        self.counts.frames_left_out += (seen().count() - chosen.len()) as u64;
+        let is_repeated = |frame: &Seen<'_>| frame.is_data() && frame.seq() <= known;
+        let (repeated, new): (Vec<Seen<'_>>, Vec<Seen<'_>>) =
+            wire::frames_of(frames.as_bytes()).partition(is_repeated);
+        let chosen: Vec<Seen<'_>> = if std::mem::take(&mut link.again) {
+            let first = repeated.first().map_or(0, Seen::seq);
+            let is_other = |frame: &Seen<'_>| (first + 1..=known).contains(&frame.seq());
+            let others = link.sent.frames().filter(is_other);
+            repeated.into_iter().chain(others).chain(new).collect()
+        } else if new.is_empty() && link.owed > 0 {
+            repeated
+        } else {
+            self.counts.frames_left_out += repeated.len() as u64;
+            new
+        };
         self.counts.frames_out += chosen.len() as u64;
-        let given = link.given;
-        for frame in seen().filter(|frame| frame.is_data() && frame.seq() > given) {
-            link.given = frame.seq();
-            link.replies_given += u64::from(matches!(frame.item(), ItemKind::Reply(_)));
-        }
-        link.written = seen().map(|frame| frame.seq()).max().unwrap_or(0).max(link.written);
         if chosen.is_empty() {
             return;
         }

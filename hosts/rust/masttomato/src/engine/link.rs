@@ -1,10 +1,13 @@
 //! What an engine keeps of one peer.
 
-use super::wire::{ItemKind, Life, Why};
+use super::wire::{self, ItemKind, Life, Seen, Why};
 use super::{Session, Ticket};
 use crate::space::{CallNo, JobNo, Outcome, Reference, SpaceId, Value};
 use std::collections::{HashMap, VecDeque};
 use std::time::Duration;
+
+/// So many numbers from the next on are in a space's reach: it keeps items of these that come early.
+const REACH: u64 = 64;
 
 /// Bytes that are to be written, and how many of them were.
 #[derive(Debug, Default)]
@@ -43,6 +46,42 @@ impl OutBuffer {
     }
 }
 
+/// Frames that Transmits gave and that the peer hasn't acknowledged, in a row. A Transmit repeats the first
+/// item alone; so where all of them may have been lost, they are written again from here.
+#[derive(Debug, Default)]
+pub(super) struct Sent {
+    bytes: Vec<u8>,
+    start: usize,
+}
+
+impl Sent {
+    pub(super) fn keep(&mut self, frame: &Seen<'_>) {
+        self.bytes.extend(frame.bytes);
+    }
+
+    pub(super) fn frames(&self) -> impl Iterator<Item = Seen<'_>> {
+        wire::frames_of(&self.bytes[self.start..])
+    }
+
+    /// Those below this number are acknowledged.
+    pub(super) fn acknowledge(&mut self, ack: u64) {
+        let known = self.frames().take_while(|frame| frame.seq() < ack);
+        self.start += known.map(|frame| frame.bytes.len()).sum::<usize>();
+        if self.start == self.bytes.len() {
+            self.clear();
+        } else if self.start > self.bytes.len() / 2 {
+            self.bytes.drain(..self.start);
+            self.start = 0;
+        }
+    }
+
+    pub(super) fn clear(&mut self) {
+        self.bytes.clear();
+        self.bytes.shrink_to(1 << 16);
+        self.start = 0;
+    }
+}
+
 /// A call that waits to be made.
 #[derive(Debug)]
 pub(super) struct HeldCall {
@@ -72,14 +111,20 @@ pub(super) struct Link {
     pub(super) is_up: bool,
     pub(super) input: Vec<u8>,
     pub(super) out: OutBuffer,
-    /// The greatest number that was written on this connection, and ever.
-    pub(super) written: u64,
+    /// The greatest number that a Transmit gave, and what it gave that isn't acknowledged.
     pub(super) given: u64,
+    pub(super) sent: Sent,
     /// All that isn't acknowledged is to be written again.
     pub(super) again: bool,
-    /// The items that wait in the space's inbox, and the replies whose references aren't settled.
+    /// The items that wait in the space's inbox, those that it keeps from the next number on, and how many
+    /// it has accepted; and the replies whose references aren't settled.
     pub(super) inbox: VecDeque<ItemKind>,
+    early: VecDeque<Option<ItemKind>>,
+    accepted: u64,
     pub(super) unsettled: HashMap<u64, CallNo>,
+    /// The calls of the peer that were acted on and have no reply on its way: whether each was cancelled;
+    /// and how many calls were acted on, and replies given.
+    pub(super) asked: HashMap<u64, bool>,
     pub(super) calls_acted_on: u64,
     pub(super) replies_given: u64,
     /// What the peer has acknowledged, by its frames; how much of that was so at the last tick, and when
@@ -111,11 +156,14 @@ impl Link {
             is_up: false,
             input: Vec::new(),
             out: OutBuffer::default(),
-            written: 0,
             given: 0,
+            sent: Sent::default(),
             again: false,
             inbox: VecDeque::new(),
+            early: VecDeque::new(),
+            accepted: 0,
             unsettled: HashMap::new(),
+            asked: HashMap::new(),
             calls_acted_on: 0,
             replies_given: 0,
             acked: 0,
@@ -169,10 +217,46 @@ impl Link {
         self.input.clear();
         self.input.shrink_to(1 << 16);
         self.out.clear();
-        self.written = 0;
         self.heard = now;
         self.pinged = None;
         self.owes_pong = false;
+    }
+
+    /// A frame of data came, at which the space accepted so many items: this one's and others that it had
+    /// kept. Of two frames of one number it keeps the first.
+    pub(super) fn came(&mut self, frame: &Seen<'_>, accepted: u64) {
+        let ahead = frame.seq().checked_sub(self.accepted + 1).filter(|ahead| *ahead < REACH);
+        if let Some(place) = ahead.map(|ahead| ahead as usize) {
+            if self.early.len() <= place {
+                self.early.resize(place + 1, None);
+            }
+            self.early[place].get_or_insert(frame.item());
+        }
+        for _ in 0..accepted {
+            let kind = self.early.pop_front().flatten();
+            self.inbox.push_back(kind.unwrap_or(ItemKind::Other));
+        }
+        self.accepted += accepted;
+    }
+
+    /// The session has closed: what came, and what isn't acknowledged, is thrown away.
+    pub(super) fn forget(&mut self) {
+        self.sent.clear();
+        self.inbox.clear();
+        self.early.clear();
+        self.unsettled.clear();
+        self.asked.clear();
+        self.stuck_until = None;
+    }
+
+    /// A frame was given for the first time: it is kept, and a reply that it carries is on its way.
+    pub(super) fn gave(&mut self, frame: &Seen<'_>) {
+        self.given = frame.seq();
+        self.sent.keep(frame);
+        if let ItemKind::Reply(call) = frame.item() {
+            self.asked.remove(&call);
+            self.replies_given += 1;
+        }
     }
 
     /// How many calls of the peer were acted on and have no reply on its way yet.

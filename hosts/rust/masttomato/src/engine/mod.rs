@@ -4,7 +4,7 @@
 //!
 //! ```
 //! use masttomato::engine::{Answered, Engine, Life, Settings, Ticket};
-//! use masttomato::space::{Outcome, SpaceId, Value};
+//! use masttomato::space::{Outcome, SpaceId, Status, Value};
 //! use std::time::Duration;
 //!
 //! # fn main() -> Result<(), Box<dyn std::error::Error>> {
@@ -22,7 +22,7 @@
 //! owner.turn(now);
 //! caller.bytes(one, owner.output(two).left(), now)?;
 //! let answers = caller.turn(now).answers;
-//! assert_eq!(answers, [(Ticket(7), Answered::Replied { status: 0, value: Value::Int(42) })]);
+//! assert_eq!(answers, [(Ticket(7), Answered::Replied { status: Status::Answered, value: Value::Int(42) })]);
 //! # Ok(())
 //! # }
 //! ```
@@ -41,7 +41,7 @@ pub use wire::{HELLO, Hello, LONGEST_BODY, Life, Why, World};
 use crate::numbers::ByNumber;
 use crate::space::{
     CallNo, Due, Job, JobNo, Limits, Outcome, Reason, Reference, Refusal, Space, SpaceError,
-    SpaceId, Value,
+    SpaceId, Status, Value,
 };
 use link::{HeldCall, HeldFinish, Link, Links};
 use std::fmt;
@@ -115,8 +115,8 @@ pub enum Session {
 pub enum Answered {
     /// Its reply. Each reference in it is once in the hand, repeats included.
     Replied {
-        /// 0 answered, 1 the method's fault, 2 no such method, 3 a reference was lost.
-        status: u8,
+        /// What kind of answer it is.
+        status: Status,
         /// What it answered.
         value: Value,
     },
@@ -130,6 +130,8 @@ pub enum Answered {
     TooLarge,
     /// It wasn't made: a reference in it was lost, its owner has gone.
     Lost,
+    /// It wasn't made: there was no room for it at once, and it was to be made at once or not at all.
+    Busy,
 }
 
 /// What a peer did that no honest one does. Its connection is to be dropped.
@@ -394,11 +396,7 @@ impl Engine {
     pub fn call(&mut self, ticket: Ticket, target: Reference, method: u16, value: Value) {
         self.tickets.insert(ticket, None);
         let mut call = HeldCall { ticket, target, method, value, holds: Vec::new() };
-        let Some(link) = self.links.get(target.owner) else {
-            return self.answer(ticket, Answered::Down(target.owner));
-        };
-        let is_first = link.calls.is_empty() && !link.is_blocked();
-        if is_first && self.calls.len() < self.settings.open_calls && self.try_call(&call) {
+        if self.make_now(&call) {
             return;
         }
         call.holds = self.hold_all(call.value.references().into_iter().chain([target]));
@@ -408,8 +406,27 @@ impl Engine {
         }
     }
 
+    /// Calls as [`Engine::call`] does, but only where there is room for it now; else what comes of it is
+    /// [`Answered::Busy`].
+    pub fn try_call(&mut self, ticket: Ticket, target: Reference, method: u16, value: Value) {
+        self.tickets.insert(ticket, None);
+        if !self.make_now(&HeldCall { ticket, target, method, value, holds: Vec::new() }) {
+            self.answer(ticket, Answered::Busy);
+        }
+    }
+
+    // Whether no other call waits for room and so this one was made, or never will be.
+    fn make_now(&mut self, call: &HeldCall) -> bool {
+        let Some(link) = self.links.get(call.target.owner) else {
+            self.answer(call.ticket, Answered::Down(call.target.owner));
+            return true;
+        };
+        let is_first = link.calls.is_empty() && !link.is_blocked();
+        is_first && self.calls.len() < self.settings.open_calls && self.make(call)
+    }
+
     // Whether the call was made, or never will be.
-    fn try_call(&mut self, call: &HeldCall) -> bool {
+    fn make(&mut self, call: &HeldCall) -> bool {
         let HeldCall { ticket, target, method, value, .. } = call;
         let peer = target.owner;
         let not_made = match self.space.call(*target, *method, value) {
@@ -494,6 +511,19 @@ impl Engine {
         if let (_, Answered::Replied { value, .. }) = answers.remove(place) {
             self.release_all(value.references());
         }
+    }
+
+    /// A peer waits no more for a call that it made, or won't for one that waits to be claimed: whether that
+    /// is still to be answered.
+    pub fn cancel(&mut self, client: SpaceId, call: CallNo) -> bool {
+        let link = self.links.get_mut(client);
+        let cancelled = link.and_then(|link| link.asked.get_mut(&call.get()));
+        cancelled.map(|is_cancelled| *is_cancelled = true).is_some()
+    }
+
+    /// Whether a call of a peer that is still to be answered was cancelled.
+    pub fn is_cancelled(&self, client: SpaceId, call: CallNo) -> bool {
+        self.links.get(client).is_some_and(|link| link.asked.get(&call.get()) == Some(&true))
     }
 
     /// A job's outcome goes to its client as soon as there is room for it. What it refers to is held
@@ -589,7 +619,7 @@ pub(crate) const BAD_ARGUMENTS: i64 = 1;
 pub(crate) const PANICKED: i64 = 2;
 pub(crate) const TOO_LARGE: i64 = 3;
 pub(crate) const LOST: i64 = 4;
-pub(crate) const STOPPED: i64 = 5;
+pub(crate) const CANCELLED: i64 = 5;
 
 /// A fault as it goes in a reply: a list of its number, which no fault of a method's own has alone.
 pub(crate) fn fault_value(number: i64) -> Value {

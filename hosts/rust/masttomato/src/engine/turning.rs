@@ -108,7 +108,7 @@ impl Engine {
             while self.calls.len() < self.settings.open_calls
                 && let Some(call) = self.next_held(*peer, |link| link.calls.pop_front())
             {
-                if self.try_call(&call) {
+                if self.make(&call) {
                     self.release_all(call.holds);
                 } else if let Some(link) = self.links.get_mut(*peer) {
                     link.calls.push_front(call);
@@ -160,8 +160,8 @@ impl Engine {
         }
         link.again = true;
         if !link.is_up && due == Due::New {
-            // A tick counts only what was transmitted: so it is, and goes nowhere.
-            let _lost = self.space.transmit(peer);
+            // A tick counts only what was transmitted: so it is, and waits for a connection.
+            let _kept = self.give(peer);
         }
         if let Ok(Some(reason)) = self.space.tick(peer) {
             self.closed(peer, reason);

@@ -10,7 +10,7 @@ pub const HELLO: usize = 64;
 pub(crate) const HEAD: usize = 16;
 /// The header of a frame.
 const FRAME_HEADER: usize = 28;
-/// The longest body: as many frames as one Transmit gives, each as long as one can be.
+/// The longest body: as many frames as a peer may have to acknowledge, each as long as one can be.
 pub const LONGEST_BODY: usize = 64 * 16_412;
 
 const MARK: [u8; 4] = *b"NOBN";
@@ -237,10 +237,9 @@ impl Seen<'_> {
     /// What kind of item it carries.
     pub(crate) fn item(&self) -> ItemKind {
         match self.bytes.get(FRAME_HEADER) {
-            Some(1) => ItemKind::Call,
-            Some(2) if self.bytes.len() > FRAME_HEADER + 9 => {
-                ItemKind::Reply(self.u64_at(FRAME_HEADER + 1))
-            }
+            Some(1 | 2) if self.bytes.len() < FRAME_HEADER + 9 => ItemKind::Other,
+            Some(1) => ItemKind::Call(self.u64_at(FRAME_HEADER + 1)),
+            Some(2) => ItemKind::Reply(self.u64_at(FRAME_HEADER + 1)),
             _ => ItemKind::Other,
         }
     }
@@ -254,7 +253,8 @@ impl Seen<'_> {
 /// What an item is, as far as an engine must know.
 #[derive(Clone, Copy, Debug, PartialEq, Eq)]
 pub(crate) enum ItemKind {
-    Call,
+    /// The call of this number among those of its sender.
+    Call(u64),
     /// The reply to the call of this number.
     Reply(u64),
     Other,

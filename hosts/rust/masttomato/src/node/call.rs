@@ -1,5 +1,6 @@
 //! Calls that are waited for, or not.
 
+use super::cancel::Cancel;
 use super::driver::driving;
 use super::shared::{Command, Shared};
 use crate::engine::{Ticket, Why};
@@ -28,6 +29,8 @@ pub enum Fault {
     TooLarge,
     /// The answer had a reference that was lost.
     Lost,
+    /// Whoever called cancelled it before the method began.
+    Cancelled,
     /// No object has that name.
     NoName,
     /// The object has another interface, or another version of it.
@@ -43,6 +46,7 @@ impl fmt::Display for Fault {
             Fault::Panicked => f.write_str("the method panicked"),
             Fault::TooLarge => f.write_str("the answer was too large"),
             Fault::Lost => f.write_str("the answer had a reference that was lost"),
+            Fault::Cancelled => f.write_str("the call was cancelled before the method began"),
             Fault::NoName => f.write_str("no object has that name"),
             Fault::OtherInterface => f.write_str("the object has another interface"),
             Fault::Other(value) => write!(f, "the method failed with {value}"),
@@ -63,6 +67,9 @@ pub enum CallError {
     /// It wasn't made: its arguments have more than 16,000 bytes, 32 references, 256 elements in a list
     /// or 16 levels.
     TooLarge,
+    /// It wasn't made, since it was a `try_` call: as many calls are open as may be, or the owner of the
+    /// object has too much to acknowledge.
+    Busy,
     /// It was made, and the session closed before a reply came: whether it ran isn't known.
     Ended(Reason),
     /// It was made, or will be, and goes on; its answer will be thrown away.
@@ -91,6 +98,7 @@ impl fmt::Display for CallError {
                     "space {space} and this one don't connect. Of the one that was refused: {why}"
                 )
             }
+            CallError::Busy => f.write_str("there is no room for the call at once"),
             CallError::TooLarge => f.write_str("the arguments are too large"),
             CallError::Ended(reason) => {
                 write!(f, "the session closed before a reply came, for reason {reason}")
@@ -112,6 +120,7 @@ impl std::error::Error for CallError {
     fn source(&self) -> Option<&(dyn std::error::Error + 'static)> {
         match self {
             CallError::Fault(fault) => Some(fault),
+            CallError::Refused(_, why) => Some(why),
             _ => None,
         }
     }
@@ -135,6 +144,8 @@ pub(crate) struct CallState {
     ready: Condvar,
     is_done: AtomicBool,
     number: AtomicU64,
+    // Of a call of an own object: whether it was cancelled.
+    cancel: Cancel,
 }
 
 impl CallState {
@@ -154,6 +165,10 @@ impl CallState {
             self.ready.notify_one();
         }
         waker
+    }
+
+    pub(crate) fn cancel(&self) -> &Cancel {
+        &self.cancel
     }
 
     pub(crate) fn set_number(&self, number: CallNo) {
@@ -187,6 +202,7 @@ pub struct Call<T> {
     ticket: Ticket,
     state: Arc<CallState>,
     is_taken: bool,
+    is_cancelled: bool,
     answer: PhantomData<fn() -> T>,
 }
 
@@ -208,6 +224,7 @@ impl<T> Call<T> {
             ticket,
             state: state.clone(),
             is_taken: false,
+            is_cancelled: false,
             answer: PhantomData,
         };
         if !shared.post(command(ticket, state)) {
@@ -223,6 +240,37 @@ impl<T> Call<T> {
             0 => None,
             number => Some(CallNo::new(number)),
         }
+    }
+
+    /// The same call, which is cancelled where it is dropped, or waited for in vain: one that wasn't made never
+    /// is; of one that was, the node of the object is told. A method that hasn't begun never does, and one
+    /// that runs can [see it](super::Context::is_cancelled). What it answers is thrown away.
+    ///
+    /// ```
+    /// # use masttomato::{interface, CallError, Node, Peers, SpaceId};
+    /// # use std::time::Duration;
+    /// # #[interface]
+    /// # pub trait Mill { fn grind(&mut self, corn: u32) -> u32; }
+    /// # struct Stone;
+    /// # impl Mill for Stone { fn grind(&mut self, corn: u32) -> u32 { corn } }
+    /// # fn main() -> Result<(), Box<dyn std::error::Error>> {
+    /// # let node = Node::builder(SpaceId::new(1).ok_or("1 to 32")?, Peers::none()).start()?;
+    /// # let mill = node.export::<dyn Mill>(Box::new(Stone))?;
+    /// match mill.grind(7).or_cancel().wait_for(Duration::from_secs(5)) {
+    ///     Err(CallError::TimedOut) => println!("and it isn't carried out any more, as far as that goes"),
+    ///     flour => assert_eq!(flour?, 7),
+    /// }
+    /// # Ok(())
+    /// # }
+    /// ```
+    pub fn or_cancel(mut self) -> Call<T> {
+        self.is_cancelled = true;
+        self
+    }
+
+    /// Nobody wants the answer, or the call itself, any more: [`or_cancel`](Call::or_cancel), and dropped.
+    pub fn cancel(self) {
+        drop(self.or_cancel());
     }
 }
 
@@ -311,7 +359,13 @@ impl<T: Pass> Future for Call<T> {
 
 impl<T> Drop for Call<T> {
     fn drop(&mut self) {
-        if !self.is_taken {
+        if self.is_taken {
+            return;
+        }
+        if self.is_cancelled {
+            self.state.cancel.set().into_iter().for_each(Waker::wake);
+            self.shared.post(Command::Cancel(self.ticket));
+        } else {
             self.shared.post(Command::Abandon(self.ticket));
         }
     }

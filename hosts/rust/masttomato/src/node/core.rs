@@ -1,17 +1,19 @@
 //! A node's objects, names and open calls, on its own thread, over an engine.
 
 use super::call::{CallError, CallState, Completed, Fault};
+use super::cancel::Cancel;
 use super::hold::Hold;
+use super::later::{Later, Spawn, Turned, Turner};
 use super::pool::Pool;
 use super::shared::{Command, Shared};
 use super::{Changes, Context, NodeError, Run};
 use crate::engine::{
-    Answered, BAD_ARGUMENTS, Engine, LOST, PANICKED, STOPPED, Session, TOO_LARGE, Ticket,
+    Answered, BAD_ARGUMENTS, CANCELLED, Engine, LOST, PANICKED, Session, TOO_LARGE, Ticket,
     fault_value,
 };
 use crate::interface::{Arguments, Description, Exported, Packed, Served};
 use crate::numbers::ByNumber;
-use crate::space::{Job, JobNo, Outcome, Reference, SpaceId, Value};
+use crate::space::{CallNo, Job, JobNo, Outcome, Reference, SpaceId, Status, Value};
 use std::collections::{HashMap, VecDeque};
 use std::panic::{AssertUnwindSafe, catch_unwind};
 use std::sync::{Arc, mpsc};
@@ -24,6 +26,7 @@ const GET: u16 = 1;
 const REMOVE: u16 = 2;
 const LOOKUP: u16 = 16;
 const DESCRIBE: u16 = 17;
+const CANCEL: u16 = 18;
 /// Its faults.
 const ARGUMENT: i64 = 1;
 const NO_NAME: i64 = 3;
@@ -34,9 +37,10 @@ const MOST_NAMES: usize = 1_024;
 const LONGEST_NAME: usize = 255;
 
 /// A call that an object is to carry out.
-enum Work {
-    Job { job: JobNo, client: SpaceId, method: u16, packed: Packed },
-    Local { state: Arc<CallState>, target: Arc<Hold>, method: u16, packed: Packed },
+struct Work {
+    end: End,
+    method: u16,
+    packed: Packed,
 }
 
 enum Place {
@@ -53,9 +57,37 @@ struct Object {
 }
 
 /// Whom a method's outcome is for.
-enum End {
-    Job(JobNo),
-    Local(Arc<CallState>, Arc<Hold>),
+pub(crate) enum End {
+    Job { job: JobNo, caller: Caller, cancel: Arc<Cancel> },
+    Local { state: Arc<CallState>, target: Arc<Hold> },
+}
+
+/// A call of another space, by its number there.
+type Caller = (SpaceId, CallNo);
+
+impl End {
+    fn heard(&self) -> Heard {
+        match self {
+            End::Job { cancel, .. } => Heard::Job(cancel.clone()),
+            End::Local { state, .. } => Heard::Local(state.clone()),
+        }
+    }
+}
+
+/// Where it is heard that a call was cancelled.
+#[derive(Debug)]
+pub(crate) enum Heard {
+    Job(Arc<Cancel>),
+    Local(Arc<CallState>),
+}
+
+impl Heard {
+    pub(crate) fn cancel(&self) -> &Cancel {
+        match self {
+            Heard::Job(cancel) => cancel,
+            Heard::Local(state) => state.cancel(),
+        }
+    }
 }
 
 /// A method that is to run, away from the node's tables.
@@ -71,11 +103,11 @@ pub(crate) struct Task {
 
 /// A method that has run, and its object, unless it panicked.
 pub(crate) struct Done {
-    index: u64,
-    object: Option<Box<dyn Exported>>,
-    served: Served,
-    loans: Vec<Arc<Hold>>,
-    end: End,
+    pub(crate) index: u64,
+    pub(crate) object: Option<Box<dyn Exported>>,
+    pub(crate) served: Served,
+    pub(crate) loans: Vec<Arc<Hold>>,
+    pub(crate) end: End,
 }
 
 impl Task {
@@ -92,11 +124,30 @@ impl Task {
         };
         Done { index, object, served, loans, end }
     }
+
+    // The same of a method that is async.
+    fn later(self, shared: &Arc<Shared>) -> Later {
+        let Task { index, mut object, method, arguments, context, loans, end } = self;
+        let method = async move {
+            let served = object.serve_async(method, arguments, &context).await;
+            (object, served)
+        };
+        Later::new(shared, Box::pin(method), index, loans, end)
+    }
+}
+
+/// What is to be done on the node's thread once nothing of it is borrowed.
+pub(crate) enum Step {
+    Run(Task),
+    Turn(Arc<Turned>),
+    Spawn(Later, Arc<dyn Spawn>),
 }
 
 // What an open call is for.
 enum Purpose {
     Method,
+    /// A method, at once or not at all.
+    Try,
     /// The name, to be asked for in the way of other nodes where the owner doesn't know this one's.
     Lookup(SpaceId, Vec<u8>),
     /// What is given where the owner says yes.
@@ -104,6 +155,7 @@ enum Purpose {
 }
 
 struct OpenCall {
+    owner: SpaceId,
     state: Arc<CallState>,
     purpose: Purpose,
 }
@@ -115,8 +167,11 @@ pub(crate) struct Core {
     objects: ByNumber<u64, Object>,
     names: HashMap<Vec<u8>, Arc<Hold>>,
     calls: ByNumber<Ticket, OpenCall>,
-    tasks: VecDeque<Task>,
+    // Calls of others that wait in an object's line, or run.
+    cancels: HashMap<Caller, Arc<Cancel>>,
+    steps: VecDeque<Step>,
     pool: Option<Arc<Pool>>,
+    spawner: Option<Arc<dyn Spawn>>,
     watchers: Vec<mpsc::Sender<(SpaceId, Session)>>,
     running: usize,
     pub(crate) silent: Vec<SpaceId>,
@@ -126,15 +181,22 @@ pub(crate) struct Core {
 }
 
 impl Core {
-    pub(crate) fn new(engine: Engine, shared: Arc<Shared>, pool: Option<Arc<Pool>>) -> Core {
+    pub(crate) fn new(
+        engine: Engine,
+        shared: Arc<Shared>,
+        pool: Option<Arc<Pool>>,
+        spawner: Option<Arc<dyn Spawn>>,
+    ) -> Core {
         Core {
             engine,
             shared,
             objects: ByNumber::default(),
             names: HashMap::new(),
             calls: ByNumber::default(),
-            tasks: VecDeque::new(),
+            cancels: HashMap::new(),
+            steps: VecDeque::new(),
             pool,
+            spawner,
             watchers: Vec::new(),
             running: 0,
             silent: Vec::new(),
@@ -151,8 +213,9 @@ impl Core {
 
     pub(crate) fn command(&mut self, command: Command) {
         match command {
-            Command::Call { ticket, target, method, packed, state } => {
-                self.call(ticket, &target, method, packed, state, Purpose::Method);
+            Command::Call { ticket, target, method, packed, state, is_try } => {
+                let purpose = if is_try { Purpose::Try } else { Purpose::Method };
+                self.call(ticket, &target, method, packed, state, purpose);
             }
             Command::Lookup { ticket, peer, name, wanted, state } => {
                 self.lookup(ticket, peer, name, wanted, state);
@@ -162,8 +225,10 @@ impl Core {
                 self.calls.remove(&ticket);
                 self.engine.abandon(ticket);
             }
+            Command::Cancel(ticket) => self.cancel(ticket),
             Command::Release(reference) => self.engine.release(reference),
             Command::Done(done) => self.done(*done),
+            Command::Turn(method) => self.steps.push_back(Step::Turn(method)),
             Command::Ask(ask) => ask(self),
             Command::Stop(by) => {
                 self.engine.claim_no_more();
@@ -222,6 +287,9 @@ impl Core {
         if !packed.holds.iter().all(is_mine) {
             return self.complete(&state, Err(CallError::OtherNode));
         }
+        if state.cancel().is_set() {
+            return self.complete(&state, Err(CallError::Fault(Fault::Cancelled)));
+        }
         if packed.holds.iter().any(|hold| hold.is_lost()) {
             return self.complete(&state, Err(CallError::Lost));
         }
@@ -231,8 +299,12 @@ impl Core {
         if owner == self.engine.id() {
             return self.call_here(target, method, packed, state, purpose);
         }
-        self.calls.insert(ticket, OpenCall { state: state.clone(), purpose });
-        self.engine.call(ticket, target.reference(), method, packed.value);
+        let is_try = matches!(purpose, Purpose::Try);
+        self.calls.insert(ticket, OpenCall { owner, state: state.clone(), purpose });
+        match is_try {
+            true => self.engine.try_call(ticket, target.reference(), method, packed.value),
+            false => self.engine.call(ticket, target.reference(), method, packed.value),
+        }
         if let Some(number) = self.engine.number(ticket) {
             state.set_number(number);
         }
@@ -249,7 +321,7 @@ impl Core {
     ) {
         let index = target.reference().index;
         if index == 0 {
-            let outcome = self.agent(method, &packed.value);
+            let outcome = self.agent(self.engine.id(), method, &packed.value);
             let (status, value) = status_of(outcome);
             let holds = self.names.values().filter(|hold| value == Value::Ref(hold.reference()));
             let packed = Packed { holds: holds.take(1).cloned().collect(), value };
@@ -259,8 +331,28 @@ impl Core {
         let Some(object) = self.objects.get_mut(&index) else {
             return self.complete(&state, Err(CallError::NoMethod));
         };
-        object.line.push_back(Work::Local { state, target: target.clone(), method, packed });
+        let end = End::Local { state, target: target.clone() };
+        object.line.push_back(Work { end, method, packed });
         self.start(index);
+    }
+
+    // Nobody wants a call any more. Where it was made, the owner of its object is told.
+    fn cancel(&mut self, ticket: Ticket) {
+        let (open, made) = (self.calls.remove(&ticket), self.engine.number(ticket));
+        self.engine.abandon(ticket);
+        if let (Some(open), Some(number)) = (open, made) {
+            let number = Value::Int(number.get() as i64);
+            let ticket = self.shared.next_ticket();
+            self.engine.call(ticket, open.owner.agent(), CANCEL, number);
+        }
+    }
+
+    // A call of another space was cancelled, which may still be on its way, wait, or run.
+    fn cancelled(&mut self, client: SpaceId, call: CallNo) {
+        self.engine.cancel(client, call);
+        if let Some(cancel) = self.cancels.get(&(client, call)) {
+            self.wakers.extend(cancel.set());
+        }
     }
 
     fn lookup(
@@ -292,8 +384,8 @@ impl Core {
         self.call(ticket, &agent, DESCRIBE, Packed::plain(value), state, Purpose::Cast(hold));
     }
 
-    // The node's agent: names, and what objects are.
-    fn agent(&mut self, method: u16, value: &Value) -> Outcome {
+    // The node's agent, as a space calls it: names, what objects are, and that a call is cancelled.
+    fn agent(&mut self, client: SpaceId, method: u16, value: &Value) -> Outcome {
         let fault = |number| Outcome::Fault(Value::Int(number));
         match (method, value) {
             (GET, Value::Bytes(name)) => match self.names.get(name) {
@@ -326,7 +418,11 @@ impl Core {
             },
             // Nothing is bound or unbound from outside.
             (PUT | REMOVE, _) => fault(REFUSED),
-            (GET | LOOKUP | DESCRIBE, _) => fault(ARGUMENT),
+            (CANCEL, Value::Int(number @ 1..)) => {
+                self.cancelled(client, CallNo::new(*number as u64));
+                Outcome::Answer(Value::Unit)
+            }
+            (GET | LOOKUP | DESCRIBE | CANCEL, _) => fault(ARGUMENT),
             _ => Outcome::NoMethod,
         }
     }
@@ -365,13 +461,14 @@ impl Core {
             Answered::Refused(space, why) => Err(CallError::Refused(space, why)),
             Answered::TooLarge => Err(CallError::TooLarge),
             Answered::Lost => Err(CallError::Lost),
+            Answered::Busy => Err(CallError::Busy),
         };
-        let Some(OpenCall { state, purpose }) = self.calls.remove(&ticket) else { return };
+        let Some(OpenCall { state, purpose, .. }) = self.calls.remove(&ticket) else { return };
         let (status, packed) = match packed {
             Ok(replied) => replied,
             Err(error) => return self.complete(&state, Err(error)),
         };
-        if let (2, Purpose::Lookup(peer, name)) = (status, &purpose) {
+        if let (Status::NoMethod, Purpose::Lookup(peer, name)) = (status, &purpose) {
             // A node of another kind, which knows names alone.
             let agent = Hold::uncounted(&self.shared, peer.agent());
             let name = Packed::plain(Value::Bytes(name.clone()));
@@ -395,9 +492,9 @@ impl Core {
     }
 
     fn job(&mut self, job: Job) {
-        let Job { job, client, target, method, value, .. } = job;
+        let Job { job, client, call, target, method, value } = job;
         if target == 0 {
-            let outcome = self.agent(method, &value);
+            let outcome = self.agent(client, method, &value);
             return self.engine.finish(job, outcome);
         }
         let mut holds: Vec<Arc<Hold>> = Vec::new();
@@ -407,85 +504,108 @@ impl Core {
             }
         }
         let packed = Packed { value, holds };
-        match self.objects.get_mut(&target) {
-            Some(object) => {
-                object.line.push_back(Work::Job { job, client, method, packed });
-                self.start(target);
-            }
-            None => {
-                packed.holds.iter().for_each(|hold| hold.end_loan(false));
-                self.engine.finish(job, Outcome::NoMethod);
-            }
+        if !self.objects.contains_key(&target) {
+            packed.holds.iter().for_each(|hold| hold.end_loan(false));
+            return self.engine.finish(job, Outcome::NoMethod);
+        }
+        let (caller, cancel) = ((client, call), Arc::new(Cancel::default()));
+        if self.engine.is_cancelled(client, call) {
+            let _nobody = cancel.set();
+        }
+        self.cancels.insert(caller, cancel.clone());
+        if let Some(object) = self.objects.get_mut(&target) {
+            object.line.push_back(Work { end: End::Job { job, caller, cancel }, method, packed });
+            self.start(target);
         }
     }
 
-    // The next call in an object's line begins, where the object is there. Those to one that panicked end
-    // at once.
+    // The next call in an object's line begins, where the object is there. Those that were cancelled, and
+    // those to an object that panicked, end at once.
     fn start(&mut self, index: u64) {
-        while let Some(done) = self.begin(index) {
-            self.end_of(done);
-        }
-    }
-
-    fn begin(&mut self, index: u64) -> Option<Done> {
-        let object = self.objects.get_mut(&index)?;
-        if matches!(object.place, Place::Away) {
-            return None;
-        }
-        let work = object.line.pop_front()?;
-        let (caller, method, packed, end) = match work {
-            Work::Job { job, client, method, packed } => (client, method, packed, End::Job(job)),
-            Work::Local { state, target, method, packed } => {
-                (self.engine.id(), method, packed, End::Local(state, target))
+        while let Some(object) = self.objects.get_mut(&index)
+            && !matches!(object.place, Place::Away)
+            && let Some(Work { end, method, packed }) = object.line.pop_front()
+        {
+            let loans = match &end {
+                End::Job { .. } => packed.holds.clone(),
+                End::Local { .. } => Vec::new(),
+            };
+            let heard = end.heard();
+            if heard.cancel().is_set() || matches!(object.place, Place::Broken) {
+                let is_broken = matches!(object.place, Place::Broken);
+                let served = if is_broken { Served::Panicked } else { Served::Cancelled };
+                drop(packed);
+                self.end(served, loans, end);
+                continue;
             }
-        };
-        let loans = match &end {
-            End::Job(_) => packed.holds.clone(),
-            End::Local(..) => Vec::new(),
-        };
-        let Place::Here(there) = std::mem::replace(&mut object.place, Place::Away) else {
-            drop(packed);
-            self.running += 1;
-            return Some(Done { index, object: None, served: Served::Panicked, loans, end });
-        };
-        let run = object.run;
-        let arguments = Arguments { packed, shared: self.shared.clone() };
-        let context = Context::new(caller, self.shared.clone());
-        let task = Task { index, object: there, method, arguments, context, loans, end };
-        self.running += 1;
-        match &self.pool {
-            Some(pool) if run == Run::Pool => pool.run(task),
-            _ => self.tasks.push_back(task),
+            let run = object.run;
+            let Place::Here(there) = std::mem::replace(&mut object.place, Place::Away) else {
+                return;
+            };
+            let arguments = Arguments { packed, shared: self.shared.clone() };
+            let context = self.context(&end, heard);
+            self.begin(Task { index, object: there, method, arguments, context, loans, end }, run);
         }
-        None
     }
 
-    /// A method that is to run on the node's own thread.
-    pub(crate) fn next_task(&mut self) -> Option<Task> {
-        self.tasks.pop_front()
+    fn context(&self, end: &End, heard: Heard) -> Context {
+        let caller = match end {
+            End::Job { caller: (client, _), .. } => *client,
+            End::Local { .. } => self.engine.id(),
+        };
+        Context::new(caller, heard, self.shared.clone())
+    }
+
+    // A method begins, where it is to run.
+    fn begin(&mut self, task: Task, run: Run) {
+        self.running += 1;
+        let pool = self.pool.clone().filter(|_| run == Run::Pool);
+        if !task.object.is_async(task.method) {
+            return match pool {
+                Some(pool) => pool.run(task),
+                None => self.steps.push_back(Step::Run(task)),
+            };
+        }
+        let later = task.later(&self.shared);
+        match (pool, &self.spawner) {
+            (Some(_), Some(spawner)) => {
+                self.steps.push_back(Step::Spawn(later, spawner.clone()));
+            }
+            (Some(pool), None) => Turned::begin(later, Turner::Workers(pool)),
+            (None, _) => Turned::begin(later, Turner::Thread(self.shared.clone())),
+        }
+    }
+
+    /// What is to be done next on the node's own thread.
+    pub(crate) fn next_step(&mut self) -> Option<Step> {
+        self.steps.pop_front()
     }
 
     /// A method has run: its outcome goes to who called it.
     pub(crate) fn done(&mut self, done: Done) {
-        let index = done.index;
-        self.end_of(done);
-        self.start(index);
-    }
-
-    fn end_of(&mut self, done: Done) {
         let Done { index, object, served, loans, end } = done;
         self.running -= 1;
         if let Some(slot) = self.objects.get_mut(&index) {
             slot.place = object.map_or(Place::Broken, Place::Here);
         }
+        self.end(served, loans, end);
+        self.start(index);
+    }
+
+    // What came of a call goes to who made it.
+    fn end(&mut self, served: Served, loans: Vec<Arc<Hold>>, end: End) {
         match end {
-            End::Job(job) => self.finish(job, served, loans),
-            End::Local(state, target) => {
+            End::Job { job, caller, .. } => {
+                self.cancels.remove(&caller);
+                self.finish(job, served, loans);
+            }
+            End::Local { state, target } => {
                 let completed = match served {
                     Served::Answer(packed) => Ok(packed),
                     Served::NoMethod => Err(CallError::NoMethod),
                     Served::BadArguments => Err(CallError::Fault(Fault::BadArguments)),
                     Served::Panicked => Err(CallError::Fault(Fault::Panicked)),
+                    Served::Cancelled => Err(CallError::Fault(Fault::Cancelled)),
                 };
                 self.complete(&state, completed);
                 drop(target);
@@ -507,6 +627,7 @@ impl Core {
             Served::NoMethod => (Outcome::NoMethod, Vec::new()),
             Served::BadArguments => (fault(BAD_ARGUMENTS), Vec::new()),
             Served::Panicked => (fault(PANICKED), Vec::new()),
+            Served::Cancelled => (fault(CANCELLED), Vec::new()),
         };
         // A hold that is dropped here is given back by a later command, so after the Finish.
         drop(holds);
@@ -531,7 +652,7 @@ impl Core {
     }
 
     /// The node ends: nobody waits for a call any more.
-    pub(crate) fn end(&mut self, commands: &[Command]) {
+    pub(crate) fn stop(&mut self, commands: &[Command]) {
         for command in commands {
             match command {
                 Command::Call { state, .. }
@@ -548,7 +669,7 @@ impl Core {
         }
         for object in self.objects.values_mut() {
             for work in object.line.drain(..) {
-                if let Work::Local { state, .. } = work {
+                if let End::Local { state, .. } = work.end {
                     self.wakers.extend(state.complete(Err(CallError::NodeStopped)));
                 }
             }
@@ -556,25 +677,27 @@ impl Core {
     }
 }
 
-fn status_of(outcome: Outcome) -> (u8, Value) {
+fn status_of(outcome: Outcome) -> (Status, Value) {
     match outcome {
-        Outcome::Answer(value) => (0, value),
-        Outcome::Fault(value) => (1, value),
-        Outcome::NoMethod => (2, Value::Unit),
+        Outcome::Answer(value) => (Status::Answered, value),
+        Outcome::Fault(value) => (Status::Fault, value),
+        Outcome::NoMethod => (Status::NoMethod, Value::Unit),
     }
 }
 
 // What a reply's status and value come to.
-fn completed_of(status: u8, packed: Packed, purpose: &Purpose) -> Completed {
+fn completed_of(status: Status, packed: Packed, purpose: &Purpose) -> Completed {
     match (status, purpose) {
-        (0, Purpose::Cast(hold)) => {
+        (Status::Answered, Purpose::Cast(hold)) => {
             Ok(Packed { value: Value::Ref(hold.reference()), holds: vec![hold.clone()] })
         }
-        (0, _) => Ok(packed),
-        (1, Purpose::Method) => Err(CallError::Fault(method_fault(packed.value))),
-        (1, _) => Err(CallError::Fault(agent_fault(packed.value))),
-        (2, _) => Err(CallError::NoMethod),
-        _ => Err(CallError::Lost),
+        (Status::Answered, _) => Ok(packed),
+        (Status::Fault, Purpose::Method | Purpose::Try) => {
+            Err(CallError::Fault(method_fault(packed.value)))
+        }
+        (Status::Fault, _) => Err(CallError::Fault(agent_fault(packed.value))),
+        (Status::NoMethod, _) => Err(CallError::NoMethod),
+        (Status::Lost, _) => Err(CallError::Lost),
     }
 }
 
@@ -590,7 +713,8 @@ fn method_fault(value: Value) -> Fault {
         BAD_ARGUMENTS => Fault::BadArguments,
         PANICKED => Fault::Panicked,
         TOO_LARGE => Fault::TooLarge,
-        LOST | STOPPED => Fault::Lost,
+        LOST => Fault::Lost,
+        CANCELLED => Fault::Cancelled,
         _ => Fault::Other(value),
     }
 }

@@ -1,10 +1,11 @@
 //! What turns a node: on a thread of its own, or on the thread of whoever waits.
 
-use super::core::Core;
+use super::core::{Core, Step};
 use super::net::Net;
 use super::shared::{Command, RESTS, Shared};
 use std::cell::{Cell, RefCell};
 use std::hint;
+use std::panic::{AssertUnwindSafe, catch_unwind};
 use std::rc::{Rc, Weak};
 use std::sync::Arc;
 use std::time::{Duration, Instant};
@@ -83,14 +84,13 @@ impl Driver {
         self.net.borrow_mut().read(&mut self.core.borrow_mut().engine, now);
         loop {
             self.core.borrow_mut().work(now);
-            let task = self.core.borrow_mut().next_task();
-            let Some(mut task) = task else { break };
-            loop {
-                self.run(task);
-                match self.core.borrow_mut().next_task() {
-                    Some(next) => task = next,
-                    None => break,
-                }
+            let mut did = false;
+            while let Some(step) = self.next_step() {
+                self.make(step);
+                did = true;
+            }
+            if !did {
+                break;
             }
         }
         self.core.borrow_mut().engine.fill(now);
@@ -100,9 +100,23 @@ impl Driver {
         has_more || self.shared.has_commands()
     }
 
-    fn run(&self, task: super::core::Task) {
-        let done = task.run();
-        self.core.borrow_mut().done(done);
+    // By itself, so that nothing is borrowed while the step is made.
+    fn next_step(&self) -> Option<Step> {
+        self.core.borrow_mut().next_step()
+    }
+
+    fn make(&self, step: Step) {
+        match step {
+            Step::Run(task) => {
+                let done = task.run();
+                self.core.borrow_mut().done(done);
+            }
+            Step::Turn(method) => method.turn(),
+            Step::Spawn(later, spawner) => {
+                // A spawner that panics has dropped the method, of whose end the node hears so.
+                let _spawned = catch_unwind(AssertUnwindSafe(|| spawner.spawn(Box::pin(later))));
+            }
+        }
     }
 
     fn write(&self, now: Duration) {
@@ -190,7 +204,7 @@ impl Driver {
         let is_settled = || self.core.borrow().engine.is_settled().then_some(());
         let told = self.turn_until(Some(by), is_settled).is_some();
         let commands = self.shared.close();
-        self.core.borrow_mut().end(&commands);
+        self.core.borrow_mut().stop(&commands);
         self.net.borrow_mut().close();
         self.leave();
         drop(commands);

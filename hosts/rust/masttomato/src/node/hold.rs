@@ -138,6 +138,15 @@ impl<I: ?Sized> Remote<I> {
 
     #[doc(hidden)]
     pub fn invoke<A: Parameters, T: Pass>(&self, method: u16, arguments: A) -> Call<T> {
+        self.call(method, arguments, false)
+    }
+
+    #[doc(hidden)]
+    pub fn try_invoke<A: Parameters, T: Pass>(&self, method: u16, arguments: A) -> Call<T> {
+        self.call(method, arguments, true)
+    }
+
+    fn call<A: Parameters, T: Pass>(&self, method: u16, arguments: A, is_try: bool) -> Call<T> {
         let (target, packed) = (self.hold.clone(), Packed::of(arguments));
         Call::posted(&self.hold.shared, |ticket, state| Command::Call {
             ticket,
@@ -145,6 +154,7 @@ impl<I: ?Sized> Remote<I> {
             method,
             packed,
             state,
+            is_try,
         })
     }
 }

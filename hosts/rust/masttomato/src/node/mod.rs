@@ -1,9 +1,11 @@
 //! Nodes: objects, names, calls and connections of one process in a world.
 
 mod call;
+mod cancel;
 mod core;
 mod driver;
 mod hold;
+mod later;
 mod local;
 mod net;
 mod peers;
@@ -11,12 +13,14 @@ mod pool;
 mod shared;
 
 pub use self::call::{Call, CallError, Fault};
+pub use self::cancel::Cancelled;
 pub use self::hold::{Hold, Remote};
+pub use self::later::Spawn;
 pub use self::local::LocalNode;
 pub use self::peers::{BadPeers, Peers};
 pub use self::shared::Shared;
 
-use self::core::Core;
+use self::core::{Core, Heard};
 use self::driver::{Driver, driving};
 use self::net::{Net, WAKER};
 use self::pool::Pool;
@@ -38,7 +42,8 @@ use std::{io, thread};
 #[derive(Clone, Copy, Debug, Default, PartialEq, Eq)]
 #[non_exhaustive]
 pub enum Run {
-    /// On one of the node's workers: they may block, and wait for calls of others.
+    /// On one of the node's workers: they may block, and wait for calls of others. Those that are async take
+    /// a worker only while they do something; or none, where there is a [`Builder::spawner`].
     #[default]
     Pool,
     /// On the node's own thread: they never block. A reply goes sooner so.
@@ -150,12 +155,13 @@ impl Iterator for Changes {
 #[derive(Debug)]
 pub struct Context {
     caller: SpaceId,
+    heard: Heard,
     shared: Arc<Shared>,
 }
 
 impl Context {
-    pub(crate) fn new(caller: SpaceId, shared: Arc<Shared>) -> Context {
-        Context { caller, shared }
+    pub(crate) fn new(caller: SpaceId, heard: Heard, shared: Arc<Shared>) -> Context {
+        Context { caller, heard, shared }
     }
 
     /// The space that calls.
@@ -166,6 +172,31 @@ impl Context {
     /// The space of this node.
     pub fn here(&self) -> SpaceId {
         self.shared.id()
+    }
+
+    /// Whether who calls wants no answer any more: it [cancelled](Call::or_cancel) the call. A method that
+    /// runs long may look, and end early.
+    ///
+    /// ```
+    /// # use masttomato::{Context, interface};
+    /// # #[interface]
+    /// # pub trait Search { fn primes(&mut self, context: &Context, below: u32) -> Vec<u32>; }
+    /// # struct Sieve;
+    /// impl Search for Sieve {
+    ///     fn primes(&mut self, context: &Context, below: u32) -> Vec<u32> {
+    ///         let is_prime = |number: &u32| (2..*number).all(|by| number % by != 0);
+    ///         (2..below).take_while(|_| !context.is_cancelled()).filter(is_prime).collect()
+    ///     }
+    /// }
+    /// ```
+    pub fn is_cancelled(&self) -> bool {
+        self.heard.cancel().is_set()
+    }
+
+    /// What is ready once [`is_cancelled`](Context::is_cancelled) holds: for async methods, which may wait
+    /// for it beside what they wait for.
+    pub fn cancelled(&self) -> Cancelled<'_> {
+        Cancelled(self.heard.cancel())
     }
 
     /// Makes an object known, as [`Node::export`].
@@ -248,6 +279,7 @@ pub struct Builder {
     open_calls: usize,
     life: Life,
     sink: Option<Box<dyn TraceSink>>,
+    spawner: Option<Arc<dyn Spawn>>,
 }
 
 impl fmt::Debug for Builder {
@@ -276,6 +308,7 @@ impl Builder {
             open_calls: 2_048,
             life: random_life(),
             sink: None,
+            spawner: None,
         }
     }
 
@@ -307,6 +340,12 @@ impl Builder {
     /// How many threads run methods; 4 where it isn't said.
     pub fn workers(mut self, count: usize) -> Builder {
         self.workers = count;
+        self
+    }
+
+    /// Who runs methods that are async, in place of the node's workers: an executor of your own.
+    pub fn spawner(mut self, spawner: impl Spawn) -> Builder {
+        self.spawner = Some(Arc::new(spawner));
         self
     }
 
@@ -426,7 +465,7 @@ impl Builder {
             open_calls: self.open_calls,
         };
         let shared = Shared::new(space, waker, self.looks);
-        Ok(Parts { shared, net, settings, sink: self.sink, address })
+        Ok(Parts { shared, net, settings, sink: self.sink, spawner: self.spawner, address })
     }
 }
 
@@ -435,6 +474,7 @@ struct Parts {
     net: Net,
     settings: Settings,
     sink: Option<Box<dyn TraceSink>>,
+    spawner: Option<Arc<dyn Spawn>>,
     address: Option<SocketAddr>,
 }
 
@@ -445,7 +485,7 @@ impl Parts {
         if let Some(sink) = self.sink {
             engine.record(sink);
         }
-        let core = Core::new(engine, self.shared.clone(), pool);
+        let core = Core::new(engine, self.shared.clone(), pool, self.spawner);
         Ok(Driver::new(core, self.net, self.shared, started))
     }
 }

@@ -1,6 +1,7 @@
 //! Threads that run methods.
 
 use super::core::Task;
+use super::later::Turned;
 use super::shared::{Command, Shared};
 use crate::interface::Exported;
 use std::collections::VecDeque;
@@ -11,6 +12,7 @@ use std::thread;
 
 enum Errand {
     Run(Task),
+    Turn(Arc<Turned>),
     Drop(Box<dyn Exported>),
 }
 
@@ -48,6 +50,11 @@ impl Pool {
 
     fn give(&self, errand: Errand) {
         let mut line = self.line();
+        if line.is_closed {
+            drop(line);
+            // Its drop may give another errand, so nothing is locked then.
+            return drop(errand);
+        }
         line.errands.push_back(errand);
         let sleep = line.sleep;
         drop(line);
@@ -58,6 +65,10 @@ impl Pool {
 
     pub(crate) fn run(&self, task: Task) {
         self.give(Errand::Run(task));
+    }
+
+    pub(crate) fn turn(&self, method: Arc<Turned>) {
+        self.give(Errand::Turn(method));
     }
 
     pub(crate) fn drop_object(&self, object: Box<dyn Exported>) {
@@ -95,6 +106,7 @@ impl Pool {
                     let done = Box::new(task.run());
                     self.shared.post(Command::Done(done));
                 }
+                Errand::Turn(method) => method.turn(),
                 Errand::Drop(object) => {
                     // A drop that panics ends no worker.
                     let _dropped = catch_unwind(AssertUnwindSafe(|| drop(object)));

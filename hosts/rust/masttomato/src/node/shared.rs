@@ -3,6 +3,7 @@
 use super::call::CallState;
 use super::core::{Core, Done};
 use super::hold::Hold;
+use super::later::Turned;
 use crate::engine::Ticket;
 use crate::interface::{Description, Packed};
 use crate::space::{Reference, SpaceId};
@@ -24,6 +25,8 @@ pub(crate) enum Command {
         method: u16,
         packed: Packed,
         state: Arc<CallState>,
+        /// Whether it is made at once or not at all.
+        is_try: bool,
     },
     Lookup {
         ticket: Ticket,
@@ -39,8 +42,12 @@ pub(crate) enum Command {
         state: Arc<CallState>,
     },
     Abandon(Ticket),
+    /// As `Abandon`, and the object's owner is told.
+    Cancel(Ticket),
     Release(Reference),
     Done(Box<Done>),
+    /// A method that is async and was woken.
+    Turn(Arc<Turned>),
     Ask(Box<dyn FnOnce(&mut Core) + Send>),
     /// The node is to stop, by this time at the latest.
     Stop(Instant),

@@ -3,15 +3,57 @@
 use super::event::Answer;
 use super::names::{ItemNo, Reason, SpaceId};
 use super::value::Value;
+use std::fmt;
+
+/// What kind of answer a reply is. Its text is its number.
+///
+/// ```
+/// # use masttomato::space::Status;
+/// assert_eq!(Status::from_number(2), Some(Status::NoMethod));
+/// assert_eq!(Status::NoMethod.to_string(), "2");
+/// ```
+#[derive(Clone, Copy, Debug, PartialEq, Eq, Hash)]
+#[non_exhaustive]
+pub enum Status {
+    /// 0: the method answered.
+    Answered = 0,
+    /// 1: the method failed.
+    Fault = 1,
+    /// 2: there is no such method.
+    NoMethod = 2,
+    /// 3: a reference among the arguments was lost, and the method wasn't called; or one in the answer was.
+    Lost = 3,
+}
+
+impl Status {
+    const ALL: [Status; 4] = [Status::Answered, Status::Fault, Status::NoMethod, Status::Lost];
+
+    /// The status's number, 0 to 3.
+    pub const fn number(self) -> u8 {
+        self as u8
+    }
+
+    /// The status of this number: `None` where none has it.
+    pub fn from_number(number: u8) -> Option<Status> {
+        Status::ALL.into_iter().find(|status| status.number() == number)
+    }
+}
+
+impl fmt::Display for Status {
+    fn fmt(&self, f: &mut fmt::Formatter<'_>) -> fmt::Result {
+        self.number().fmt(f)
+    }
+}
 
 /// What a call brought.
 #[derive(Clone, Debug, PartialEq, Eq)]
+#[non_exhaustive]
 pub enum CallResult {
     /// Its reply.
     Replied {
-        /// 0 answered, 1 the method's fault, 2 no such method, 3 a reference was lost.
-        status: u8,
-        /// What it answered; unit with 2 and 3.
+        /// What kind of answer it is.
+        status: Status,
+        /// What it answered; unit where there is no method, or a reference was lost.
         value: Value,
     },
     /// The session closed before a reply came.
@@ -20,6 +62,7 @@ pub enum CallResult {
 
 /// What became of a reply.
 #[derive(Clone, Copy, Debug, PartialEq, Eq)]
+#[non_exhaustive]
 pub enum ReplyFate {
     /// It is handed on.
     HandedOn,
@@ -29,6 +72,7 @@ pub enum ReplyFate {
 
 /// What an Act did.
 #[derive(Clone, Copy, Debug, PartialEq, Eq)]
+#[non_exhaustive]
 pub enum ActResult {
     /// The item of this number was acted on.
     Acted(ItemNo),
@@ -38,8 +82,10 @@ pub enum ActResult {
 
 /// What a frame brought.
 #[derive(Clone, Copy, Debug, PartialEq, Eq)]
+#[non_exhaustive]
 pub enum Arrived {
-    /// So many items, 0 or 1.
+    /// So many items, 0 to 64: it may be kept until those before it come, and bring those behind it that
+    /// came early.
     Took(u64),
     /// It closed the session with its sender.
     Closed(Reason),

@@ -1,5 +1,6 @@
 //! What a space is asked, and what it answers, with the texts that scripts and traces have of them.
 
+use super::answers::Status;
 use super::frame::{Frame, Frames};
 use super::names::{CallNo, ItemNo, JobNo, Reason, Reference, SpaceId};
 use super::value::Value;
@@ -18,6 +19,7 @@ pub enum Outcome {
 
 /// What a space is asked to do. Nothing more than this ever changes it.
 #[derive(Clone, Debug, PartialEq, Eq)]
+#[non_exhaustive]
 pub enum Event {
     /// Makes a new object known under the next index and holds it once.
     Export,
@@ -77,6 +79,7 @@ pub struct Job {
 
 /// What a space answers to an event that it doesn't refuse.
 #[derive(Clone, Debug, PartialEq, Eq)]
+#[non_exhaustive]
 pub enum Answer {
     /// Of Export: the new object's reference.
     Exported(Reference),
@@ -85,7 +88,7 @@ pub enum Answer {
     /// Of Call: the number of the call.
     Called(CallNo),
     /// Of TakeReply: the reply's status and its value.
-    Replied(u8, Value),
+    Replied(Status, Value),
     /// Of TakeReply: the session closed before the reply was ready.
     Ended,
     /// Of Claim: the job.

@@ -1,6 +1,6 @@
 //! A space: the proved one of the static library, behind safe methods.
 
-use super::answers::{ActResult, Arrived, CallResult, ReplyFate, SettledItem};
+use super::answers::{ActResult, Arrived, CallResult, ReplyFate, SettledItem, Status};
 use super::event::{Answer, Event, Job, Outcome};
 use super::frame::{Frame, FrameFault, Frames};
 use super::names::{CallNo, ItemNo, JobNo, Limits, Reason, Reference, SpaceId};
@@ -34,12 +34,13 @@ pub struct Space {
 
 /// What a Transmit would give.
 #[derive(Clone, Copy, Debug, PartialEq, Eq)]
+#[non_exhaustive]
 pub enum Due {
     /// Nothing.
     Nothing,
     /// An Ack alone.
     Ack,
-    /// Items that were given before, and no other.
+    /// An item that was given before, and no other.
     Again,
     /// An item that was never given, or more.
     New,
@@ -76,6 +77,7 @@ impl Work {
 
 /// Why a piece of a stream of frames wasn't taken.
 #[derive(Clone, Copy, Debug, PartialEq, Eq)]
+#[non_exhaustive]
 pub enum StreamError {
     /// The stream isn't one of frames: said from then on, until the stream is restarted.
     Fault(FrameFault),
@@ -95,10 +97,18 @@ impl std::fmt::Display for StreamError {
     }
 }
 
-impl std::error::Error for StreamError {}
+impl std::error::Error for StreamError {
+    fn source(&self) -> Option<&(dyn std::error::Error + 'static)> {
+        match self {
+            StreamError::Fault(fault) => Some(fault),
+            _ => None,
+        }
+    }
+}
 
 /// Why bytes didn't arrive as a frame.
 #[derive(Clone, Copy, Debug, PartialEq, Eq)]
+#[non_exhaustive]
 pub enum ArriveError {
     /// They spell no frame.
     Fault(FrameFault),
@@ -115,7 +125,14 @@ impl std::fmt::Display for ArriveError {
     }
 }
 
-impl std::error::Error for ArriveError {}
+impl std::error::Error for ArriveError {
+    fn source(&self) -> Option<&(dyn std::error::Error + 'static)> {
+        match self {
+            ArriveError::Fault(fault) => Some(fault),
+            ArriveError::Space(error) => Some(error),
+        }
+    }
+}
 
 impl From<FrameFault> for StreamError {
     fn from(fault: FrameFault) -> StreamError {
@@ -226,7 +243,7 @@ impl Space {
     /// hand would be too full.
     pub fn take_reply(&mut self, call: CallNo) -> Result<CallResult, SpaceError> {
         let result = told(self.handle.take_reply(call.get())).map(|told| match told.kind {
-            4 => CallResult::Replied { status: told.number as u8, value: self.value() },
+            4 => CallResult::Replied { status: status_of(told), value: self.value() },
             5 => CallResult::Ended,
             other => unknown("kind", other),
         });
@@ -301,8 +318,9 @@ impl Space {
         self.noted(result, || Event::Withdraw(index), withdrawn)
     }
 
-    /// The frames that are to be sent to a peer now: what isn't acknowledged, a window at most, or
-    /// an Ack or a Close that is owed, or none. NoPeer where there is no such peer.
+    /// The frames that are to be sent to a peer now: the first item that isn't acknowledged and, up to a
+    /// window from it on, those that were never given; or an Ack or a Close that is owed, or none. NoPeer
+    /// where there is no such peer.
     pub fn transmit(&mut self, peer: SpaceId) -> Result<Frames, SpaceError> {
         let result = told(self.handle.transmit(peer.get())).map(|told| match told.number {
             0 => Frames::default(),
@@ -311,7 +329,7 @@ impl Space {
         self.noted(result, || Event::Transmit(peer), Answer::Frames)
     }
 
-    /// A frame came for this space: how many items it brought, or that it closed the session with
+    /// A frame came for this space: how many items are there with it, or that it closed the session with
     /// its sender. NoPeer where it isn't for this space or from none of its peers.
     pub fn arrive(&mut self, frame: &Frame) -> Result<Arrived, SpaceError> {
         let result = told(self.handle.arrive(frame.as_bytes())).map(arrived_of);
@@ -547,6 +565,12 @@ fn reason_of(told: Told) -> Reason {
         .ok()
         .and_then(Reason::from_number)
         .unwrap_or_else(|| unknown("reason", told.kind))
+}
+
+fn status_of(told: Told) -> Status {
+    let number = u8::try_from(told.number).ok();
+    let status = number.and_then(Status::from_number);
+    status.unwrap_or_else(|| unknown("status of a reply", told.kind))
 }
 
 fn arrived_of(told: Told) -> Arrived {

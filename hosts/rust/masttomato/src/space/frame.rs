@@ -13,6 +13,7 @@ const LAST_ITEM: u64 = 1 << 40;
 
 /// What a frame is for.
 #[derive(Clone, Copy, Debug, PartialEq, Eq)]
+#[non_exhaustive]
 pub enum FrameKind {
     /// It carries one item.
     Data,
@@ -24,6 +25,7 @@ pub enum FrameKind {
 
 /// Why bytes are no frame.
 #[derive(Clone, Copy, Debug, PartialEq, Eq)]
+#[non_exhaustive]
 pub enum FrameFault {
     /// F1: the header or the payload isn't all there.
     Short,

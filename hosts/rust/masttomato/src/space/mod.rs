@@ -38,11 +38,11 @@ pub mod script;
 mod trace;
 mod value;
 
-pub use answers::{ActResult, Arrived, CallResult, ReplyFate, SettledItem};
+pub use answers::{ActResult, Arrived, CallResult, ReplyFate, SettledItem, Status};
 pub use event::{Answer, Event, Job, Outcome};
 pub use events::{ArriveError, Due, Space, StreamError, Work};
 pub use frame::{Frame, FrameFault, FrameKind, Frames};
-pub use names::{CallNo, ItemNo, JobNo, Limits, Reason, Reference, SpaceId};
+pub use names::{CallNo, ItemNo, JobNo, Limits, NoSpace, Reason, Reference, SpaceId};
 pub use reading::NoText;
 pub use refusal::{Refusal, SpaceError, Use};
 pub use trace::Trace;

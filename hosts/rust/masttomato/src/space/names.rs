@@ -1,8 +1,17 @@
 //! The names that everything else is about: spaces, references, numbers, limits, and reasons.
 
 use std::fmt;
+use std::str::FromStr;
 
 /// A space, by its number from 1 to 32.
+///
+/// ```
+/// use masttomato::SpaceId;
+///
+/// assert_eq!("7".parse::<SpaceId>()?.get(), 7);
+/// assert_eq!(SpaceId::try_from(33).unwrap_err().to_string(), "a space has a number from 1 to 32");
+/// # Ok::<(), masttomato::space::NoSpace>(())
+/// ```
 #[derive(Clone, Copy, Debug, PartialEq, Eq, PartialOrd, Ord, Hash)]
 pub struct SpaceId(u16);
 
@@ -31,6 +40,34 @@ impl SpaceId {
     /// The spaces from 1 to this one.
     pub fn up_to(self) -> impl Iterator<Item = SpaceId> {
         (1..=self.0).map(SpaceId)
+    }
+}
+
+/// A number that no space has.
+#[derive(Clone, Copy, Debug, PartialEq, Eq)]
+pub struct NoSpace;
+
+impl fmt::Display for NoSpace {
+    fn fmt(&self, f: &mut fmt::Formatter<'_>) -> fmt::Result {
+        f.write_str("a space has a number from 1 to 32")
+    }
+}
+
+impl std::error::Error for NoSpace {}
+
+impl TryFrom<u16> for SpaceId {
+    type Error = NoSpace;
+
+    fn try_from(number: u16) -> Result<SpaceId, NoSpace> {
+        SpaceId::new(number).ok_or(NoSpace)
+    }
+}
+
+impl FromStr for SpaceId {
+    type Err = NoSpace;
+
+    fn from_str(text: &str) -> Result<SpaceId, NoSpace> {
+        text.parse().ok().and_then(SpaceId::new).ok_or(NoSpace)
     }
 }
 
@@ -115,7 +152,7 @@ impl Limits {
         Some(Limits { window, retry })
     }
 
-    /// How many unacknowledged items one transmit gives at most.
+    /// How many items may be given and not acknowledged.
     pub const fn window(self) -> u8 {
         self.window
     }
@@ -135,6 +172,7 @@ impl Default for Limits {
 
 /// Why a session was closed. Its text is its number.
 #[derive(Clone, Copy, Debug, PartialEq, Eq)]
+#[non_exhaustive]
 pub enum Reason {
     /// 1: this end was asked to close.
     Asked = 1,

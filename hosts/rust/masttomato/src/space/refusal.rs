@@ -5,6 +5,7 @@ use std::fmt;
 
 /// What still uses an object that is to be withdrawn: the first of these that holds.
 #[derive(Clone, Copy, Debug, PartialEq, Eq)]
+#[non_exhaustive]
 pub enum Use {
     /// S11(1): its owner holds it.
     Held,
@@ -18,6 +19,7 @@ pub enum Use {
 
 /// A refusal of a space. It changes nothing. Its text is a name, a colon, and what it says.
 #[derive(Clone, Copy, Debug, PartialEq, Eq)]
+#[non_exhaustive]
 pub enum Refusal {
     /// S1: there is no such peer.
     NoPeer,
@@ -109,6 +111,7 @@ impl Error for Refusal {}
 
 /// Why a space didn't do what it was asked. It is then as it was before.
 #[derive(Clone, Copy, Debug, PartialEq, Eq)]
+#[non_exhaustive]
 pub enum SpaceError {
     /// The space refuses it.
     Refused(Refusal),
@@ -131,4 +134,11 @@ impl fmt::Display for SpaceError {
     }
 }
 
-impl Error for SpaceError {}
+impl Error for SpaceError {
+    fn source(&self) -> Option<&(dyn Error + 'static)> {
+        match self {
+            SpaceError::Refused(refusal) => Some(refusal),
+            SpaceError::OutOfMemory => None,
+        }
+    }
+}

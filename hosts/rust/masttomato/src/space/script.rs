@@ -19,6 +19,7 @@ pub struct Opening {
 
 /// A step of a world.
 #[derive(Clone, Debug, PartialEq, Eq)]
+#[non_exhaustive]
 pub enum Step {
     /// A space is asked something.
     Do(SpaceId, Event),
@@ -37,6 +38,7 @@ impl fmt::Display for Step {
 
 /// Why a step isn't done.
 #[derive(Clone, Copy, Debug, PartialEq, Eq)]
+#[non_exhaustive]
 pub enum StepError {
     /// X1: there is no such space.
     NoSpace,
@@ -44,6 +46,15 @@ pub enum StepError {
     NoFrame,
     /// The space doesn't do it.
     Space(SpaceError),
+}
+
+impl std::error::Error for StepError {
+    fn source(&self) -> Option<&(dyn std::error::Error + 'static)> {
+        match self {
+            StepError::Space(error) => Some(error),
+            _ => None,
+        }
+    }
 }
 
 impl fmt::Display for StepError {

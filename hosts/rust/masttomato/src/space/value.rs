@@ -33,6 +33,7 @@ pub enum Value {
 
 /// Why a value has no pickle, or why bytes are none.
 #[derive(Clone, Copy, Debug, PartialEq, Eq)]
+#[non_exhaustive]
 pub enum PickleFault {
     /// P1: the bytes end inside a value.
     Short,
@@ -82,6 +83,42 @@ impl fmt::Display for PickleFault {
 }
 
 impl std::error::Error for PickleFault {}
+
+impl From<()> for Value {
+    fn from((): ()) -> Value {
+        Value::Unit
+    }
+}
+
+impl From<i64> for Value {
+    fn from(number: i64) -> Value {
+        Value::Int(number)
+    }
+}
+
+impl From<Vec<u8>> for Value {
+    fn from(bytes: Vec<u8>) -> Value {
+        Value::Bytes(bytes)
+    }
+}
+
+impl From<&[u8]> for Value {
+    fn from(bytes: &[u8]) -> Value {
+        Value::Bytes(bytes.to_vec())
+    }
+}
+
+impl From<Vec<Value>> for Value {
+    fn from(values: Vec<Value>) -> Value {
+        Value::List(values)
+    }
+}
+
+impl From<Reference> for Value {
+    fn from(reference: Reference) -> Value {
+        Value::Ref(reference)
+    }
+}
 
 impl Value {
     /// The value's pickle, or the first fault in writing order; but that it would be too long comes

@@ -2,6 +2,7 @@
 
 #[path = "../common/mod.rs"]
 mod common;
+mod later;
 mod plain;
 mod proxy;
 mod things;
@@ -9,7 +10,7 @@ mod things;
 use common::checking::fault_of;
 use common::nobj;
 use masttomato::engine::{Answered, HELLO, Why};
-use masttomato::space::{Limits, Outcome, Reference, Trace, Value};
+use masttomato::space::{Limits, Outcome, Reference, Status, Trace, Value};
 use masttomato::{CallError, Fault, Node, Peers, Reason, Remote, Run, Session};
 use plain::Plain;
 use proxy::Proxy;
@@ -531,19 +532,24 @@ fn other_programs_look_names_up_at_a_node() {
     let mut plain = Plain::connect(2, 2, one.address().expect("it listens"));
     let agent = id(1).agent();
     let name = Value::Bytes(b"counter".to_vec());
-    let Answered::Replied { status: 0, value: Value::Ref(reference) } = plain.call(agent, 1, name)
+    let Answered::Replied { status: Status::Answered, value: Value::Ref(reference) } =
+        plain.call(agent, 1, name)
     else {
         panic!("no reference");
     };
     let answered = plain.call(reference, 0, Value::Int(5));
-    assert_eq!(answered, Answered::Replied { status: 0, value: Value::Int(5) });
-    let fault = |number| Answered::Replied { status: 1, value: Value::Int(number) };
+    assert_eq!(answered, Answered::Replied { status: Status::Answered, value: Value::Int(5) });
+    let fault = |number| Answered::Replied { status: Status::Fault, value: Value::Int(number) };
     assert_eq!(plain.call(agent, 1, Value::Bytes(b"no".to_vec())), fault(3));
     assert_eq!(plain.call(agent, 1, Value::Int(5)), fault(1));
     let pair = Value::List(vec![Value::Bytes(b"counter".to_vec()), Value::Ref(reference)]);
     assert_eq!(plain.call(agent, 0, pair), fault(4), "nothing is bound from outside");
-    let none = Answered::Replied { status: 2, value: Value::Unit };
+    let none = Answered::Replied { status: Status::NoMethod, value: Value::Unit };
     assert_eq!(plain.call(agent, 3, Value::Unit), none);
+    // Which of its calls it wants no more: any number, also one of no call.
+    let unit = Answered::Replied { status: Status::Answered, value: Value::Unit };
+    assert_eq!(plain.call(agent, 18, Value::Int(i64::MAX)), unit);
+    assert_eq!(plain.call(agent, 18, Value::Int(-1)), fault(1));
     one.unbind("counter");
     drop(counter);
     plain.engine.release(reference);

@@ -4,7 +4,7 @@ use crate::common::checking::fault_of;
 use crate::deeds::{Deed, Kind, Script};
 use crate::net::Net;
 use masttomato::engine::{Answered, Engine, Life, Session, Settings, Ticket};
-use masttomato::space::{Job, Limits, Outcome, Reference, SpaceId, Trace, Value};
+use masttomato::space::{Job, Limits, Outcome, Reference, SpaceId, Status, Trace, Value};
 use std::collections::HashMap;
 use std::sync::{Arc, Mutex};
 use std::time::Duration;
@@ -117,7 +117,10 @@ impl World {
         let list = [Value::Int(ticket as i64)].into_iter().chain(passed.map(Value::Ref));
         let value = Value::List(list.take(1 + node.hands.len().min(3)).collect());
         self.calls.insert(ticket, Fate::default());
-        node.engine.call(Ticket(ticket), target, how as u16, value);
+        match how % 8 {
+            7 => node.engine.try_call(Ticket(ticket), target, how as u16, value),
+            _ => node.engine.call(Ticket(ticket), target, how as u16, value),
+        }
     }
 
     fn give_back(&mut self, one: usize, with: usize) {
@@ -187,7 +190,7 @@ impl World {
             let fate = self.calls.entry(ticket).or_default();
             fate.answers += 1;
             if let Answered::Replied { value, status } = answered {
-                fate.replies += u32::from(status != 3);
+                fate.replies += u32::from(status != Status::Lost);
                 node.hands.extend(value.references());
             }
         }

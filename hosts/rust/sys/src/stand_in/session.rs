@@ -9,6 +9,8 @@ pub(super) const LAST_ITEM: u64 = 1 << 40;
 const MOST_OUT: usize = 4_096;
 /// So many accepted items wait to be acted on.
 const MOST_WAITING: usize = 256;
+/// So many numbers from the next on are in reach: a frame of one of them is kept, whatever came before it.
+const REACH: usize = 64;
 
 /// An end of a session: what it sent, what it accepted, and whether it has closed.
 #[derive(Debug)]
@@ -23,6 +25,8 @@ pub(super) struct Session {
     transmitted: u64,
     inbox: VecDeque<Vec<u8>>,
     accepted: u64,
+    // What was kept at each number in reach, from the next one on.
+    early: VecDeque<Option<Vec<u8>>>,
     data_came: bool,
     ticks: u64,
     closed: Option<u8>,
@@ -47,6 +51,7 @@ impl Session {
             transmitted: 0,
             inbox: VecDeque::new(),
             accepted: 0,
+            early: vec![None; REACH].into(),
             data_came: false,
             ticks: 0,
             closed: None,
@@ -119,12 +124,16 @@ impl Session {
                 self.owes = false;
             }
             _ => {
-                let last = self.last_in_window();
-                for (seq, payload) in (self.lowest..=last).zip(&self.out) {
-                    Frame { kind: DATA, from, to, seq, ack, payload }.put(&mut bytes);
+                let (last, given) = (self.last_in_window(), self.transmitted);
+                let is_wanted = |seq: u64| seq == self.lowest || seq > given;
+                let window = (self.lowest..=last).zip(&self.out);
+                let wanted: Vec<_> = window.filter(|(seq, _)| is_wanted(*seq)).collect();
+                for (seq, payload) in &wanted {
+                    Frame { kind: DATA, from, to, seq: *seq, ack, payload }.put(&mut bytes);
                 }
-                self.transmitted = self.transmitted.max(last);
-                return (bytes, last + 1 - self.lowest);
+                let count = wanted.len() as u64;
+                self.transmitted = given.max(last);
+                return (bytes, count);
             }
         }
         (bytes, 1)
@@ -147,18 +156,36 @@ impl Session {
             self.lowest = frame.ack;
             self.ticks = 0;
         }
-        Arrival::Took(u64::from(frame.kind == DATA && self.accept(frame)))
+        match frame.kind {
+            DATA => {
+                self.data_came = true;
+                self.keep(frame);
+                Arrival::Took(self.accept())
+            }
+            _ => Arrival::Took(0),
+        }
     }
 
-    // Whether a frame's item is the next one, and there is room for it.
-    fn accept(&mut self, frame: &Frame<'_>) -> bool {
-        self.data_came = true;
-        let is_next = frame.seq == self.accepted + 1 && self.inbox.len() < MOST_WAITING;
-        if is_next {
-            self.accepted += 1;
-            self.inbox.push_back(frame.payload.to_vec());
+    // Keeps a frame's item where its number is in reach, unless one of that number came before.
+    fn keep(&mut self, frame: &Frame<'_>) {
+        let ahead =
+            frame.seq.checked_sub(self.accepted + 1).and_then(|ahead| ahead.try_into().ok());
+        if let Some(place) = ahead.and_then(|ahead: usize| self.early.get_mut(ahead)) {
+            place.get_or_insert_with(|| frame.payload.to_vec());
         }
-        is_next
+    }
+
+    // Accepts what is kept at the next number, and the next, as long as there is room: how many.
+    fn accept(&mut self) -> u64 {
+        let before = self.accepted;
+        while self.inbox.len() < MOST_WAITING
+            && let Some(payload) = self.early.front_mut().and_then(Option::take)
+        {
+            self.early.rotate_left(1);
+            self.inbox.push_back(payload);
+            self.accepted += 1;
+        }
+        self.accepted - before
     }
 
     /// One tick more: whether the retries are used up.
@@ -176,5 +203,6 @@ impl Session {
         self.lowest = self.handed() + 1;
         self.out = VecDeque::new();
         self.inbox = VecDeque::new();
+        self.early = VecDeque::new();
     }
 }

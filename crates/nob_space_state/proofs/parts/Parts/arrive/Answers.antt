@@ -84,7 +84,7 @@ returns-in-Err-OutOfMemory-clause-answer c limits D stands =
     let peer : is_peer c.args.self.now.here.space c.args.self.now.here.n c.args.frame.now.from ≡ true = sym c.is_peer.ensures ∙ c.if-not-is_peer.false in
     let is = at_peer c.args.self.now.sessions.items c.place.result c.args.frame.now.from c.index_mut.result.now c.place.ensures.value c.index_mut.ensures.value in
     let there = end_there c.args.self.now.here.space c.args.self.now.here.n limits c.args.self.now.sessions.items (history_of c.args.self.now.here.space c.args.self.now.here.n D) c.args.frame.now.from c.index_mut.result.now stands.ends peer is in
-    subst IsOk (sym (arrive_told _ _ _ _ here peer ∙ ap arrival_of ((c.in-Err-OutOfMemory.ensures {u = tt}).memory_last c.args.self.now.here.space c.args.frame.now.from limits (calls_at c.args.frame.now.from (history_of c.args.self.now.here.space c.args.self.now.here.n D)) there.2 (ap (λ e. Err e) c.in-Err-OutOfMemory.field-0-is)))) refl
+    subst IsOk (sym (arrive_told _ _ _ _ here peer ∙ ap arrival_of (((c.in-Err-OutOfMemory.ensures {u = tt}).memory_last c.args.self.now.here.space c.args.frame.now.from limits (calls_at c.args.frame.now.from (history_of c.args.self.now.here.space c.args.self.now.here.n D)) there.2 (ap (λ e. Err e) c.in-Err-OutOfMemory.field-0-is)).heard))) refl
 
 pub returns-in-Err-OutOfMemory-clause-err : goal.returns-in-Err-OutOfMemory-clause-err
 returns-in-Err-OutOfMemory-clause-err c limits D stands =

@@ -1,0 +1,262 @@
+//! Real processes and bad weather: worlds one after the other, for a time and from a seed. In each, processes
+//! call, pass, hold and drop each other's objects by way of proxies that cut, halve, reset and stall; some are
+//! killed, some paused, some end in order, and others take their places. In the end nobody has anything, and
+//! the traces of all, as far as each was written, are a run.
+//!
+//! It takes some seconds; MASTTOMATO_FAULTS says how many it is to take, and MASTTOMATO_SEED from which seed:
+//!
+//!     MASTTOMATO_FAULTS=1800 MASTTOMATO_SEED=5 tools/host-cargo test --test faults -- --nocapture
+
+#[path = "../common/mod.rs"]
+mod common;
+mod life;
+#[path = "../nodes/things.rs"]
+#[allow(dead_code)]
+mod things;
+mod weather;
+
+use common::checking::fault_of;
+use common::nobj;
+use life::address_file;
+use masttomato::engine::Files;
+use masttomato::{Peers, Remote, Session};
+use std::fs;
+use std::path::{Path, PathBuf};
+use std::process::{Child, Command, Stdio};
+use std::sync::atomic::{AtomicU64, Ordering::SeqCst};
+use std::thread;
+use std::time::{Duration, Instant};
+use things::*;
+use weather::Weather;
+
+/// So many spaces has a world: the first one, and as many lives as take the other numbers.
+pub const SPACES: u16 = 16;
+const AT_ONCE: usize = 3;
+const LIFE: &str = "MASTTOMATO_LIFE";
+const JUDGE: &str = "MASTTOMATO_JUDGE";
+
+/// Numbers from a seed.
+pub struct Numbers(u64);
+
+impl Numbers {
+    /// Those of this seed.
+    pub fn new(seed: u64) -> Numbers {
+        Numbers(seed.wrapping_mul(0x9e37_79b9_7f4a_7c15) | 1)
+    }
+
+    /// The next one, below a bound.
+    pub fn below(&mut self, bound: u64) -> u64 {
+        self.0 ^= self.0 << 13;
+        self.0 ^= self.0 >> 7;
+        self.0 ^= self.0 << 17;
+        (self.0 >> 11) % bound
+    }
+}
+
+fn number_of(name: &str, otherwise: u64) -> u64 {
+    std::env::var(name).map_or(otherwise, |text| text.parse().expect("a number"))
+}
+
+// This test again, as another process that does something else.
+fn again(test: &str, word: &str, told: &str) -> Command {
+    let mut command = Command::new(std::env::current_exe().expect("this test"));
+    command.args(["--exact", test, "--nocapture"]).env(word, told).stdout(Stdio::null());
+    command
+}
+
+#[test]
+fn a_life() {
+    let Ok(told) = std::env::var(LIFE) else { return };
+    let [number, seed, folder] = told.splitn(3, ' ').collect::<Vec<_>>()[..] else { return };
+    let (number, seed) = (number.parse().expect("a number"), seed.parse().expect("a number"));
+    life::live(number, seed, Path::new(folder));
+}
+
+// Whether the traces in a folder are a run: in a process of its own, whose memory goes with it.
+#[test]
+fn a_judge() {
+    let Ok(folder) = std::env::var(JUDGE) else { return };
+    let trace = |number| Files::join(Path::new(&folder), id(number), id(SPACES)).expect("a trace");
+    let traces: Vec<String> = (1..=SPACES).map(trace).collect();
+    assert_eq!(fault_of(&traces), None);
+    if let Some(said) = nobj("check", traces.concat().as_bytes()) {
+        assert!(said.ends_with("\nverdict yes\n"), "{said}");
+    }
+}
+
+/// A process that lives at a place, until a moment.
+struct Life {
+    process: Child,
+    number: u16,
+    until: Instant,
+    is_paused: bool,
+}
+
+impl Life {
+    fn begin(number: u16, seed: u64, until: Instant, folder: &Path) -> Life {
+        let told = format!("{number} {seed} {}", folder.display());
+        let process =
+            again("a_life", LIFE, &told).stdin(Stdio::piped()).spawn().expect("a process");
+        Life { process, number, until, is_paused: false }
+    }
+
+    // Stops the process where it is, or lets it go on.
+    fn pause(&mut self, is_paused: bool) {
+        let word = if is_paused { "-STOP" } else { "-CONT" };
+        let _sent = Command::new("kill").args([word, &self.process.id().to_string()]).status();
+        self.is_paused = is_paused;
+    }
+
+    fn kill(mut self) {
+        let _was_there = self.process.kill();
+        self.process.wait().expect("it has ended");
+    }
+
+    // Tells it to end, and waits for that.
+    fn end(mut self) {
+        self.pause(false);
+        drop(self.process.stdin.take());
+        assert!(self.process.wait().expect("it has ended").success(), "life {}", self.number);
+    }
+}
+
+/// What a world came to.
+#[derive(Debug, Default)]
+struct Sums {
+    lives: u16,
+    kills: u32,
+    pauses: u32,
+    faults: u64,
+    calls: u64,
+}
+
+// A world of so long at most.
+fn world(seed: u64, time: Duration, folder: &Path) -> Sums {
+    let mut numbers = Numbers::new(seed);
+    let weather = Weather::new(SPACES, seed + 1);
+    let places: String =
+        (1..=SPACES).map(|place| format!("{place} {}\n", weather.address(place))).collect();
+    fs::write(folder.join("world.peers"), places).expect("a file");
+    let node = life::node(1, Peers::none(), folder);
+    weather.settle(1, node.address());
+    let board = Board::default();
+    let alive = board.alive.clone();
+    let shelf = node.export::<dyn Shelf>(Box::new(board)).expect("room");
+    node.bind("shelf", &shelf).expect("a name");
+    let (end, mut sums, mut lives) = (Instant::now() + time, Sums::default(), Vec::new());
+    while Instant::now() < end && (sums.lives + 1 < SPACES || !lives.is_empty()) {
+        if lives.len() < AT_ONCE && sums.lives + 1 < SPACES {
+            sums.lives += 1;
+            let until = Instant::now() + Duration::from_millis(200 + numbers.below(6_000));
+            lives.push(Life::begin(sums.lives + 1, numbers.below(1 << 40), until, folder));
+        }
+        thread::sleep(Duration::from_millis(20));
+        follow(&weather, &mut lives, &mut numbers, &mut sums, folder);
+    }
+    lives.into_iter().for_each(Life::end);
+    sums.faults = weather.faults.load(SeqCst);
+    // What the lives held is given up, and what they left on the shelf is the first one's own again.
+    node.unbind("shelf");
+    empty(&shelf);
+    let came =
+        |number| !matches!(node.session(id(number)), Session::Down { since } if since.is_zero());
+    for number in (2..sums.lives + 2).filter(|number| came(*number)) {
+        eventually("its session closes", || matches!(node.session(id(number)), Session::Closed(_)));
+    }
+    drop(shelf);
+    eventually("what the lives held is given up", || alive.load(SeqCst) == 0);
+    eventually("no call is open", || node.counts().calls_open == 0);
+    sums.calls = node.counts().jobs_finished;
+    node.shutdown(SOON);
+    sums
+}
+
+// Lives come to their ends: by themselves, killed, or told to.
+fn follow(
+    weather: &Weather,
+    lives: &mut Vec<Life>,
+    numbers: &mut Numbers,
+    sums: &mut Sums,
+    folder: &Path,
+) {
+    for mut life in std::mem::take(lives) {
+        if let Some(ended) = life.process.try_wait().expect("a process") {
+            assert!(ended.success(), "life {}: {ended}", life.number);
+            continue;
+        }
+        if let Ok(address) = fs::read_to_string(address_file(folder, life.number)) {
+            weather.settle(life.number, address.parse().ok());
+        }
+        if Instant::now() < life.until {
+            if life.is_paused || numbers.below(150) == 0 {
+                sums.pauses += u32::from(!life.is_paused);
+                let is_paused = !life.is_paused || numbers.below(25) != 0;
+                life.pause(is_paused);
+            }
+            lives.push(life);
+        } else if numbers.below(4) == 0 {
+            life.end();
+        } else {
+            sums.kills += 1;
+            life.kill();
+        }
+    }
+}
+
+fn empty(shelf: &Remote<dyn Shelf>) {
+    while shelf.take().wait_for(SOON).expect("its own shelf").is_some() {}
+}
+
+// How much memory this process has, in kilobytes.
+fn memory() -> u64 {
+    let status = fs::read_to_string("/proc/self/status").unwrap_or_default();
+    let line = status.lines().find_map(|line| line.strip_prefix("VmRSS:"));
+    line.and_then(|line| line.trim().strip_suffix(" kB")?.parse().ok()).unwrap_or(0)
+}
+
+/// A folder that goes with the world.
+struct Folder(PathBuf);
+
+impl Folder {
+    fn new(seed: u64) -> Folder {
+        static NEXT: AtomicU64 = AtomicU64::new(0);
+        let number = NEXT.fetch_add(1, SeqCst);
+        let name = format!("masttomato-faults-{}-{seed}-{number}", std::process::id());
+        let folder = std::env::temp_dir().join(name);
+        fs::create_dir_all(&folder).expect("a folder");
+        Folder(folder)
+    }
+}
+
+impl Drop for Folder {
+    fn drop(&mut self) {
+        // Where something is wrong, the traces stay.
+        if !thread::panicking() {
+            let _removed = fs::remove_dir_all(&self.0);
+        }
+    }
+}
+
+#[test]
+fn processes_and_connections_fail_and_nodes_stand() {
+    let time = Duration::from_secs(number_of("MASTTOMATO_FAULTS", 6));
+    let first = number_of("MASTTOMATO_SEED", 1);
+    let (since, mut memories) = (Instant::now(), Vec::new());
+    for seed in first.. {
+        let left = time.saturating_sub(since.elapsed());
+        if left.is_zero() {
+            break;
+        }
+        let folder = Folder::new(seed);
+        let sums = world(seed, left.min(Duration::from_secs(20)), &folder.0);
+        let judged = again("a_judge", JUDGE, &folder.0.display().to_string()).status();
+        assert!(judged.expect("a process").success(), "seed {seed}: {}", folder.0.display());
+        memories.push(memory());
+        println!("{:>5} s, seed {seed}: {sums:?}, {} kB", since.elapsed().as_secs(), memory());
+    }
+    // What the first worlds wanted is enough for all that follow.
+    if let [_, _, _, fourth, .., last] = memories[..] {
+        assert!(last <= fourth + 32 * 1_024, "memory grows: {memories:?} kB");
+    }
+    assert!(!memories.is_empty());
+}
