@@ -59,10 +59,9 @@ fn put_all<R: Wait>(rt: &R, shared: &Shared, rounds: u64) {
 fn look_often<R: Wait>(rt: &R, shared: &Shared, rounds: u64) {
     for round in 1..=rounds {
         meet(rt, &shared.met, round.saturating_mul(2));
-        shared.bell.come();
-        let read = shared.bell.rings();
+        let looks = shared.bell.come().read();
         take_all(shared);
-        shared.bell.leave(Some(read));
+        looks.found_none().leave();
         wait(rt, &shared.taken, round);
     }
     end(shared);
@@ -82,13 +81,14 @@ fn take_all(shared: &Shared) {
 
 // Takes what lies there, and sleeps while there is nothing, until both other threads are done.
 fn sleep_and_take<R: Wait>(rt: &R, shared: &Shared) {
+    let mut sleeper = shared.bell.sleeper();
     for _ in rt.forever() {
-        let read = shared.bell.rings();
+        let looks = sleeper.read();
         let done = shared.done.load(Ordering::SeqCst);
         take_all(shared);
         if done == 2 {
             return;
         }
-        shared.bell.sleep(rt, read);
+        sleeper = looks.sleep(rt);
     }
 }

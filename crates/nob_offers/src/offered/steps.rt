@@ -1,6 +1,8 @@
 //! Where a thread stands that offers a turn: each is a type that must be spent, and each step takes
 //! one and gives the next.
 
+ghost use Rattle.std.specs.Prelude.{◌≡◌};
+
 use crate::offered::Offered;
 use std::sync::MutexGuard;
 use std::sync::atomic::Ordering;
@@ -63,7 +65,9 @@ impl<'a, T> Turn<'a, T> {
     }
 
     /// Gives the turn back, and lets go of the lock.
-    pub fn give_back(self) -> Gave<'a, T> {
+    pub fn give_back(self) -> Gave<'a, T>
+        ensures { result.began ≡ self.entry.began }
+    {
         let Turn {
             offered,
             value,
