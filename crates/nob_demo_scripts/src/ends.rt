@@ -26,6 +26,7 @@ use nob_session::{Arrival, EndRefusal, Kind, Session, SessionError, wire};
 use std::alloc::{AllocError, Global};
 
 // Hands an item, and keeps it for the frames that will carry it.
+#[tactic(auto, using(nob_session::proofs::Kept::places_send))]
 pub fn put(
     alloc: Global,
     session: &mut Session,
