@@ -57,7 +57,7 @@ module _ (E : RattleType) (g : PutParcel.Ghosts E.Denot) (crossing : IsSend E) w
   way_send =
       let T = WayInside.the_type E g in
       view_send (WayInside.the_row E g) _ _ _ _ (recorded_send (Struct (shape T)) T.D T.to T.to_one (struct_send (shape T)
-      (search sendable, (shim.the_send, (search (crossing, sendable), (Vec-send Parcel.the_row parcel_send, (search sendable, tt)))))))
+      (search sendable, (shim.the_send, (search (crossing, sendable), (Vec-send Parcel.the_row parcel_send, tt))))))
 
   pub sender_send : IsSend (Sender.the_row E g)
   sender_send =

@@ -1,6 +1,6 @@
 -- What an agent that takes has done: the parcels that it took, and what it asked of its space.
 use Rattle.std.specs.Prelude.{◌≡◌, ◌<◌, ℕ, List, [], ◌∷◌, reverse, Option, Some, None}
-use Rattle.std.specs.List.{AllZip}
+use Rattle.std.specs.List.{AllZip, AllByRecursion}
 use Rattle.nob_frame.specs.declared.frame.Frame.{Frame}
 use Rattle.nob_model_types.specs.declared.event.Event.{Event}
 use Rattle.nob_model_types.specs.declared.event.Event.TheVariants as events
@@ -9,8 +9,9 @@ use Rattle.nob_link.specs.declared.parcel.Parcel.TheVariants as parcels
 use Rattle.nob_keeper.specs.declared.receipt.Receipt.{Receipt}
 use Rattle.nob_agents.specs.declared.asking.Asking.{Asking}
 
--- an agent that takes, as contracts see it: the parcels that it took, the first first; its receipts, the newest FIRST; and what it is to ask
+-- an agent that takes, as contracts see it: whom it takes from; the parcels that it took, the first first; its receipts, the newest FIRST; and what it is to ask
 pub record Taking : Type 0 where
+  pub peer : ℕ
   pub taken : List Parcel
   pub receipts : List Receipt
   pub due : Option Asking
@@ -59,6 +60,22 @@ Follow taken arrived None = AllZip ArrivedAbove taken arrived
 Follow [] arrived (Some kept) = ⊥
 Follow (newest ∷ taken) arrived (Some kept) = (newest ≡ kept) × AllZip ArrivedAbove taken arrived
 
+-- what an agent that takes from this peer asks: that a frame arrives, to act on an item of the peer, or to close the session with it
+abbrev pub IsAbout : ℕ → Event → Type 0
+IsAbout peer (events.Arrive frame) = Unit {0}
+IsAbout peer (events.Act other) = other ≡ peer
+IsAbout peer (events.Close other) = other ≡ peer
+IsAbout peer _ = ⊥
+
+-- the same of what it is to ask, if it is to ask something
+abbrev pub IsDueAbout : ℕ → Option Asking → Type 0
+IsDueAbout peer None = Unit {0}
+IsDueAbout peer (Some due) = IsAbout peer due.event
+
 -- the frames that an agent took are, in order, those that arrived by its receipts, each stamped above its parcel, and at most one that it keeps
+abbrev pub HasArrived : Taking → Type 0
+HasArrived t = Follow (frames_in (reverse t.taken)) (arrivals t.receipts) (kept_of t.due)
+
+-- so it is, and what the agent asked and is to ask is about its peer
 abbrev pub IsTied : Taking → Type 0
-IsTied t = Follow (frames_in (reverse t.taken)) (arrivals t.receipts) (kept_of t.due)
+IsTied t = HasArrived t × AllByRecursion (λ receipt. IsAbout t.peer receipt.event) t.receipts × IsDueAbout t.peer t.due

@@ -18,8 +18,8 @@ use std::sync::Wait;
 const MOST_ACTS: u32 = 64;
 
 /// The agent that takes what comes over the link from one peer: it has each frame arrive, and acts
-/// on what was accepted. Contracts see the parcels that its end took, its receipts and what it is
-/// to ask; these are tied.
+/// on what was accepted. Contracts see the peer, the parcels that its end took, its receipts and
+/// what it is to ask; these are tied.
 #[derive(Drop)]
 pub struct Taker<T: TakeParcel + Drop> {
     seat: Seat,
@@ -44,12 +44,14 @@ impl<T: TakeParcel + Drop> Model for Taker<T> {
     ghost use Rattle.nob_agents.specs.Taking.{IsTied};
 
     ghost view = { λ taker. record {
+      peer = taker.peer;
       taken = T.taken taker.end;
       receipts = taker.seat;
       due = taker.due;
     } };
 
     ghost invariant = { λ taker. IsTied (record {
+      peer = taker.peer;
       taken = T.taken taker.end;
       receipts = taker.seat;
       due = taker.due;
@@ -61,7 +63,7 @@ impl<T: TakeParcel + Drop> Taker<T> {
     pub fn new(seat: Seat, peer: SpaceId, end: T) -> Taker<T>
         requires seat { seat ≡ [] }
         requires end { T.taken end ≡ [] }
-        ensures { result ≡ record { taken = []; receipts = []; due = None } }
+        ensures { result ≡ record { peer = peer; taken = []; receipts = []; due = None } }
     {
         Taker {
             seat,
@@ -176,9 +178,10 @@ impl<T: TakeParcel + Drop> Taker<T> {
     }
 
     /// Its parts, which are tied: what its end took is what arrived by its receipts, but for at most
-    /// one frame.
+    /// one frame, and what it asked besides is about its peer.
     pub fn end(self) -> (Seat, T, Option<Asking>)
         ensures parts { self ≡ record {
+          peer = self.peer;
           taken = T.taken result.1;
           receipts = result.0;
           due = result.2;

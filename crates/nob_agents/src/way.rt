@@ -3,7 +3,7 @@
 ghost use Rattle.std.specs.Prelude.{◌≡◌, ◌<◌, [], ◌∷◌, List, true, false, vec_len, vec_capacity, MatchResult, OnErr};
 ghost use Rattle.nob_link.specs.declared.parcel.Parcel.{Parcel as ParcelOf};
 ghost use Rattle.nob_fault.specs.Shims.{opening};
-ghost use Rattle.nob_agents.specs.Ways.{IsTied, IsSameWay};
+ghost use Rattle.nob_agents.specs.Ways.{IsTied, IsSameWay, IsStep};
 
 use crate::parcels::PutParcel;
 use nob_fault::Shim;
@@ -26,15 +26,14 @@ pub enum Step {
 }
 
 /// The way to one peer: a shim that parcels pass, and the end that puts what comes out. Contracts
-/// see the peer, the shim, what was put, what is kept behind the shim, and whether the other end of
-/// the link is gone.
+/// see the peer, the shim, what was put, what is kept behind the shim, and whether its end was
+/// answered that the other end of the link is gone.
 #[derive(Drop)]
 pub struct Way<P: PutParcel + Drop> {
     peer: SpaceId,
     shim: Shim,
     end: P,
     after: Vec<Parcel>,
-    has_gone: bool,
 }
 
 impl<P: PutParcel + Drop> Model for Way<P> {
@@ -47,7 +46,7 @@ impl<P: PutParcel + Drop> Model for Way<P> {
       shim = way.shim;
       put = P.put way.end;
       after = way.after.items;
-      gone = way.has_gone;
+      gone = P.is_gone way.end;
     } };
 }
 
@@ -59,13 +58,19 @@ impl<P: PutParcel + Drop> Way<P> {
         requires after { after.items ≡ [] }
         ensures tied { IsTied [] result }
         ensures peer { result.peer ≡ peer }
+        ensures made { result ≡ record {
+          peer = peer;
+          shim = shim;
+          put = [];
+          after = [];
+          gone = P.is_gone end;
+        } }
     {
         Way {
             peer,
             shim,
             end,
             after,
-            has_gone: false,
         }
     }
 
@@ -80,23 +85,24 @@ impl<P: PutParcel + Drop> Way<P> {
     pub fn has_gone(&self) -> bool
         ensures { result ≡ self.now.gone }
     {
-        self.has_gone
+        self.end.has_heard_gone()
     }
 
     /// Whether nothing is kept behind the shim, or the other end of the link is gone.
     pub fn is_clear(&self) -> bool
         ensures { result ≡ true → self.now.gone ≡ false → self.now.after ≡ [] }
     {
-        self.has_gone || self.after.is_empty()
+        self.has_gone() || self.after.is_empty()
     }
 
-    /// Puts the next parcel behind the shim, if there is one and the link has room. It takes no
-    /// memory.
+    /// Puts the next parcel behind the shim, if there is one and the link has room; nothing more
+    /// where the other end of the link is gone. It takes no memory.
     pub fn put_next<R: Wait>(&mut self, rt: &R) -> Step
         ensures tied { (fed : List ParcelOf) → IsTied fed self.old → IsTied fed self.new }
         ensures same { IsSameWay self.old self.new }
+        ensures step { IsStep result self.old self.new }
     {
-        if self.after.is_empty() {
+        if self.has_gone() || self.after.is_empty() {
             return Step::Nothing;
         }
         let parcel = self.after.remove(0);
@@ -106,10 +112,7 @@ impl<P: PutParcel + Drop> Way<P> {
                 put_back(&mut self.after, parcel);
                 Step::Full
             }
-            Err(TryPutError::Gone(_)) => {
-                self.has_gone = true;
-                Step::Gone
-            }
+            Err(TryPutError::Gone(_)) => Step::Gone,
         }
     }
 
@@ -122,7 +125,7 @@ impl<P: PutParcel + Drop> Way<P> {
         ensures same { IsSameWay self.old self.new }
         ensures err { OnErr result (self.new ≡ self.old) }
     {
-        if self.has_gone {
+        if self.has_gone() {
             return Ok(());
         }
         self.after = self.shim.pass(parcel)?;
