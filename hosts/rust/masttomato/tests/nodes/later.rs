@@ -2,7 +2,7 @@
 
 use crate::things::*;
 use crate::{block_on, same};
-use masttomato::{CallError, Context, Fault, Node, Peers, Remote, Run, interface};
+use masttomato::{CallError, Context, Fault, Node, Peers, Remote, Run, Session, interface};
 use std::future::poll_fn;
 use std::pin::Pin;
 use std::sync::atomic::{AtomicU32, Ordering::SeqCst};
@@ -272,6 +272,7 @@ fn a_try_call_is_made_at_once_or_not_at_all() {
     let (mine, _alive) = tally(&two);
     assert_eq!(mine.try_add(1).wait_for(SOON), Ok(1));
     one.shutdown(SOON);
+    eventually("the bye comes", || matches!(two.session(id(1)), Session::Closed(_)));
     assert_eq!(counter.try_add(1).wait_for(SOON), Err(CallError::Down(id(1))));
 }
 
