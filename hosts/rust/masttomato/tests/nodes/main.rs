@@ -290,9 +290,9 @@ fn two_objects_that_call_each_other_wait_for_each_other() {
         let second: Remote<dyn Friend> = two.lookup(other.id(), "second").wait().expect("a friend");
         let asks =
             |times, wait| first.ask(second.clone(), first.clone(), times, wait).wait_for(SOON);
-        assert_eq!((asks(0, 20_000), asks(1, 20_000)), (Ok(Ok(0)), Ok(Ok(1))));
+        assert_eq!((asks(0, 60_000), asks(1, 60_000)), (Ok(Ok(0)), Ok(Ok(1))));
         assert_eq!(asks(2, 40), Ok(Err(CallError::TimedOut.to_string())));
-        assert_eq!(asks(1, 20_000), Ok(Ok(1)), "both go on");
+        assert_eq!(asks(1, 60_000), Ok(Ok(1)), "both go on");
     }
 }
 

@@ -196,8 +196,8 @@ pub fn id(number: u16) -> SpaceId {
     SpaceId::new(number).expect("1 to 32")
 }
 
-/// So long a test waits for what is to come soon.
-pub const SOON: Duration = Duration::from_secs(20);
+/// So long a test waits for what is to come soon, also on a machine that is busy with other work.
+pub const SOON: Duration = Duration::from_secs(60);
 
 /// Waits until something holds.
 pub fn eventually(what: &str, mut holds: impl FnMut() -> bool) {
