@@ -8,7 +8,7 @@ use std::sync::Arc;
 /// More bytes stand in no one value; longer ones go in pieces.
 const PIECE: usize = 8_192;
 
-/// A value that isn't one of the type that is wanted.
+/// A value that isn't one of the type that is wanted: see [`Pass`].
 #[derive(Clone, Copy, Debug, PartialEq, Eq)]
 pub struct NotPassed;
 
@@ -20,13 +20,13 @@ impl fmt::Display for NotPassed {
 
 impl std::error::Error for NotPassed {}
 
-/// Keeps the references that are in what is passed until it has gone.
+/// Keeps the references that are in what is passed until it has gone: see [`Pass`].
 #[derive(Debug, Default)]
 pub struct Packer {
     pub(crate) holds: Vec<Arc<Hold>>,
 }
 
-/// Knows the references that are in what came.
+/// Knows the references that are in what came: see [`Pass`].
 #[derive(Debug)]
 pub struct Unpacker {
     pub(crate) shared: Arc<Shared>,
@@ -59,6 +59,26 @@ impl Unpacker {
 /// enum Answer {
 ///     Sold { at: i64 },
 ///     SoldOut,
+/// }
+/// ```
+///
+/// A type of another crate is passed as one that is `Pass`, by a type of your own around it:
+///
+/// ```
+/// use masttomato::{NotPassed, Packer, Pass, Unpacker, Value};
+/// use std::time::Duration;
+///
+/// struct Time(Duration);
+///
+/// impl Pass for Time {
+///     fn pack(self, packer: &mut Packer) -> Value {
+///         (self.0.as_secs(), self.0.subsec_nanos()).pack(packer)
+///     }
+///
+///     fn unpack(value: Value, unpacker: &Unpacker) -> Result<Time, NotPassed> {
+///         let (seconds, nanos) = Pass::unpack(value, unpacker)?;
+///         if nanos < 1_000_000_000 { Ok(Time(Duration::new(seconds, nanos))) } else { Err(NotPassed) }
+///     }
 /// }
 /// ```
 #[diagnostic::on_unimplemented(

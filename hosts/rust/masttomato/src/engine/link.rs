@@ -10,6 +10,34 @@ use std::time::Duration;
 const REACH: u64 = 64;
 
 /// Bytes that are to be written, and how many of them were.
+///
+/// ```
+/// use masttomato::engine::Engine;
+/// use masttomato::SpaceId;
+/// use std::io::{self, Write};
+///
+/// // Writes what an engine has for a peer.
+/// fn write(engine: &mut Engine, peer: SpaceId, stream: &mut impl Write) -> io::Result<()> {
+///     let out = engine.output(peer);
+///     while !out.is_empty() {
+///         let count = stream.write(out.left())?;
+///         out.advance(count);
+///     }
+///     Ok(())
+/// }
+/// # use masttomato::engine::{Life, Settings, Ticket};
+/// # use masttomato::Value;
+/// # use std::time::Duration;
+/// # let [one, two] = [1, 2].map(|number| SpaceId::new(number).expect("a space"));
+/// # let mut engine = Engine::new(Settings::new(one, two), Duration::ZERO)?;
+/// # engine.connected(two, Life(1), Duration::ZERO)?;
+/// # engine.call(Ticket(1), two.agent(), 0, Value::Unit);
+/// # let _turn = engine.turn(Duration::ZERO);
+/// # let mut written = Vec::new();
+/// # write(&mut engine, two, &mut written)?;
+/// # assert_eq!(written.len(), 16 + 28 + 20);
+/// # Ok::<(), Box<dyn std::error::Error>>(())
+/// ```
 #[derive(Debug, Default)]
 pub struct OutBuffer {
     bytes: Vec<u8>,

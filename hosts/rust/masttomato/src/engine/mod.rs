@@ -66,11 +66,22 @@ const LOOK: Duration = Duration::from_millis(500);
 /// So many ticks without progress close a session.
 const TICKS: u8 = 255;
 
-/// The program's own number of a call, by which it knows the answer again.
+/// The program's own number of a call, by which it knows the answer again: see [`Engine::call`].
 #[derive(Clone, Copy, Debug, PartialEq, Eq, Hash, PartialOrd, Ord)]
 pub struct Ticket(pub u64);
 
 /// What an engine is made with.
+///
+/// ```
+/// use masttomato::engine::Settings;
+/// use masttomato::SpaceId;
+/// use std::time::Duration;
+///
+/// let [one, two] = [SpaceId::try_from(1)?, SpaceId::try_from(2)?];
+/// let settings = Settings { give_up_after: Duration::from_secs(60), ..Settings::new(one, two) };
+/// assert_eq!(settings.open_calls, 2_048);
+/// # Ok::<(), masttomato::space::NoSpace>(())
+/// ```
 #[derive(Clone, Debug)]
 pub struct Settings {
     /// The number of its space.
@@ -92,7 +103,8 @@ impl Settings {
     }
 }
 
-/// How the session with a peer stands.
+/// How the session with a peer stands: see [`Node::session`](crate::Node::session) and
+/// [`Engine::session`].
 #[derive(Clone, Copy, Debug, PartialEq, Eq)]
 #[non_exhaustive]
 pub enum Session {
@@ -109,7 +121,7 @@ pub enum Session {
     Refused(Why),
 }
 
-/// What came of a call.
+/// What came of a call: see [`Engine::call`].
 #[derive(Clone, Debug, PartialEq, Eq)]
 #[non_exhaustive]
 pub enum Answered {
@@ -134,7 +146,7 @@ pub enum Answered {
     Busy,
 }
 
-/// What a peer did that no honest one does. Its connection is to be dropped.
+/// What a peer did that no honest one does. Its connection is to be dropped. See [`Engine::bytes`].
 #[derive(Clone, Copy, Debug, PartialEq, Eq, Hash)]
 #[non_exhaustive]
 pub enum Misbehaved {
@@ -167,7 +179,7 @@ impl fmt::Display for Misbehaved {
 
 impl std::error::Error for Misbehaved {}
 
-/// What a turn of an engine gave.
+/// What a turn of an engine gave: see [`Engine::turn`].
 #[derive(Debug, Default)]
 #[must_use]
 pub struct Turn {
@@ -186,10 +198,20 @@ pub struct Turn {
 }
 
 /// What an engine counted.
+///
+/// ```
+/// # use masttomato::{Node, Peers, SpaceId};
+/// # fn main() -> Result<(), Box<dyn std::error::Error>> {
+/// let node = Node::builder(SpaceId::try_from(1)?, Peers::none()).start()?;
+/// let counts = node.counts();
+/// println!("{} calls, {} of them open", counts.calls_made, counts.calls_open);
+/// # Ok(())
+/// # }
+/// ```
 #[derive(Clone, Copy, Debug, Default, PartialEq, Eq)]
 #[non_exhaustive]
 pub struct Counts {
-    /// Calls that were made.
+    /// Calls that were made, those of agents too.
     pub calls_made: u64,
     /// Calls whose replies came.
     pub calls_answered: u64,
@@ -199,7 +221,7 @@ pub struct Counts {
     pub calls_abandoned: u64,
     /// Calls that are open.
     pub calls_open: u64,
-    /// Jobs that were claimed, and that were finished.
+    /// Jobs that were claimed.
     pub jobs_claimed: u64,
     /// Jobs that were finished.
     pub jobs_finished: u64,
@@ -209,7 +231,7 @@ pub struct Counts {
     pub frames_out: u64,
     /// Frames that were left out, since this connection has them already.
     pub frames_left_out: u64,
-    /// Bytes that came, and that were given.
+    /// Bytes that came.
     pub bytes_in: u64,
     /// Bytes that were given to be written.
     pub bytes_out: u64,
@@ -227,7 +249,44 @@ pub struct Counts {
     pub trace_faults: u64,
 }
 
-/// A space, its connections' bytes, and all that is kept of its peers.
+/// A space, its connections' bytes, and all that is kept of its peers. The module has an example of two.
+///
+/// What it is asked of references is as of a space, and never refused: what a call, or a job's outcome, refers
+/// to is kept until that has been handed on.
+///
+/// ```
+/// use masttomato::engine::{Answered, Engine, Session, Settings, Ticket};
+/// use masttomato::{Reason, SpaceId, Value};
+/// use std::time::Duration;
+///
+/// # fn main() -> Result<(), Box<dyn std::error::Error>> {
+/// # let [one, two] = [1, 2].map(|number| SpaceId::new(number).expect("a space"));
+/// let now = Duration::ZERO;
+/// let mut engine = Engine::new(Settings { open_calls: 1, ..Settings::new(one, two) }, now)?;
+/// engine.record(Box::new(|entries: &str| {
+///     print!("{entries}");
+///     Ok(())
+/// }));
+/// let object = engine.export()?;
+/// engine.hold(object)?;                       // it is in the hand twice
+/// engine.call(Ticket(1), two.agent(), 0, Value::Ref(object));
+/// engine.release(object);
+/// engine.release(object);                     // the call has it still
+/// engine.call(Ticket(2), two.agent(), 0, Value::Unit);
+/// engine.try_call(Ticket(3), two.agent(), 0, Value::Unit);
+/// engine.abandon(Ticket(2));                  // it waited for the first one, and is never made
+/// let turn = engine.turn(now);
+/// assert_eq!(turn.answers, [(Ticket(3), Answered::Busy)]);
+/// assert!(turn.withdrawn.is_empty() && engine.number(Ticket(1)).is_some());
+///
+/// engine.close(two);
+/// let turn = engine.turn(now);
+/// assert_eq!(turn.answers, [(Ticket(1), Answered::Ended(Reason::Asked))]);
+/// assert_eq!((turn.withdrawn, engine.session(two)), (vec![object.index], Session::Closed(Reason::Asked)));
+/// assert_eq!((engine.counts().calls_made, engine.counts().calls_abandoned), (1, 1));
+/// # Ok(())
+/// # }
+/// ```
 pub struct Engine {
     space: Space,
     settings: Settings,
@@ -289,7 +348,7 @@ impl Engine {
     }
 
     /// From now on the entries of the space's trace go to a sink, each before the bytes leave that it
-    /// tells of. It is to be asked for before anything else.
+    /// tells of. It is to be asked for before anything else. See [`Files`].
     pub fn record(&mut self, sink: Box<dyn TraceSink>) {
         self.space.keep_trace();
         self.sink = Some(sink);

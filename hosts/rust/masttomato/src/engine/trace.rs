@@ -5,7 +5,26 @@ use std::fs::{self, File};
 use std::io::{self, Write};
 use std::path::{Path, PathBuf};
 
-/// Takes the entries of a trace, some lines at a time, before the bytes leave that they tell of.
+/// Takes the entries of a trace, some lines at a time, before the bytes leave that they tell of. A function
+/// that takes them is one; [`Files`] is another.
+///
+/// ```
+/// use masttomato::{Node, Peers, SpaceId};
+/// use std::sync::{Arc, Mutex};
+///
+/// # fn main() -> Result<(), Box<dyn std::error::Error>> {
+/// let entries = Arc::new(Mutex::new(String::new()));
+/// let sink = entries.clone();
+/// let node = Node::builder(SpaceId::try_from(1)?, Peers::none())
+///     .record(move |lines: &str| {
+///         sink.lock().unwrap().push_str(lines);
+///         Ok(())
+///     })
+///     .start()?;
+/// # drop(node);
+/// # Ok(())
+/// # }
+/// ```
 pub trait TraceSink: Send {
     /// The next lines.
     ///
@@ -22,6 +41,24 @@ impl<F: FnMut(&str) -> io::Result<()> + Send> TraceSink for F {
 
 /// Entries in files of a folder, `space-3.000001.entries` and so on, each up to a size. A process that
 /// is killed may leave half a line at the end.
+///
+/// ```
+/// use masttomato::engine::{Files, TraceSink};
+/// use masttomato::SpaceId;
+///
+/// # fn main() -> Result<(), Box<dyn std::error::Error>> {
+/// # let folder = std::env::temp_dir().join(format!("masttomato-files-{}", std::process::id()));
+/// # std::fs::create_dir_all(&folder)?;
+/// let [here, last] = [SpaceId::try_from(1)?, SpaceId::try_from(2)?];
+/// let mut files = Files::new(&folder, here, 1 << 20);     // for Builder::record, say
+/// files.entries("1 export = exported 1.1\n")?;
+/// files.entries("2 dup 1.1 = o")?;
+/// let trace = Files::join(&folder, here, last)?;           // for `nobj check`
+/// assert_eq!(trace, "trace 1 of 2 window 64 retry 255 entries 1\n1 export = exported 1.1\n");
+/// # std::fs::remove_dir_all(&folder)?;
+/// # Ok(())
+/// # }
+/// ```
 #[derive(Debug)]
 pub struct Files {
     folder: PathBuf,

@@ -16,7 +16,7 @@ pub const LONGEST_BODY: usize = 64 * 16_412;
 const MARK: [u8; 4] = *b"NOBN";
 const VERSION: u16 = 1;
 
-/// A random number of one life of a process: a process that starts again has another one.
+/// A random number of one life of a process: a process that starts again has another one. See [`Hello`].
 #[derive(Clone, Copy, Debug, PartialEq, Eq, Hash)]
 pub struct Life(pub u64);
 
@@ -40,7 +40,7 @@ impl World {
     }
 }
 
-/// Why a hello was refused.
+/// Why a hello was refused: see [`Hello`].
 #[derive(Clone, Copy, Debug, PartialEq, Eq, Hash)]
 #[non_exhaustive]
 pub enum Why {
@@ -82,6 +82,22 @@ impl fmt::Display for Why {
 impl std::error::Error for Why {}
 
 /// The first thing that either side of a connection says.
+///
+/// ```
+/// use masttomato::engine::{Hello, Life, Why, World};
+/// use masttomato::SpaceId;
+///
+/// # fn main() -> Result<(), Box<dyn std::error::Error>> {
+/// let [one, two] = [SpaceId::try_from(1)?, SpaceId::try_from(2)?];
+/// let world = World::named("shop");
+/// let own = Hello { space: one, spaces: two, world, life: Life(7), refused: None };
+/// let came = Hello { space: two, life: Life(8), ..own }.to_bytes();
+/// let peer = Hello::from_bytes(&came)?;
+/// own.judge(&peer)?;
+/// assert_eq!(own.judge(&Hello { world: World::named("bank"), ..peer }), Err(Why::OtherWorld));
+/// # Ok(())
+/// # }
+/// ```
 #[derive(Clone, Copy, Debug, PartialEq, Eq)]
 pub struct Hello {
     /// Who says it.

@@ -17,13 +17,15 @@ use std::sync::{Arc, Condvar, Mutex, MutexGuard};
 use std::task::{Context, Poll, Waker};
 use std::time::{Duration, Instant};
 
-/// A fault that a node answered in a method's place, or that a method of another kind of program did.
+/// A fault that a node answered in a method's place, or that a method of another kind of program did. What a
+/// method itself has to say of its failing is in its answer, a `Result`.
 #[derive(Clone, Debug, PartialEq, Eq)]
 #[non_exhaustive]
 pub enum Fault {
     /// The method takes other arguments.
     BadArguments,
-    /// The method panicked, now or in an earlier call: its object answers nothing any more.
+    /// The method panicked, now or in an earlier call, or it was async and whoever ran it dropped it: its
+    /// object answers nothing any more.
     Panicked,
     /// The answer was too large.
     TooLarge,
@@ -57,6 +59,20 @@ impl fmt::Display for Fault {
 impl std::error::Error for Fault {}
 
 /// Why a call has no answer.
+///
+/// ```
+/// use masttomato::{CallError, Fault};
+///
+/// // Whether it is worth to call again. Of `Ended` and `TimedOut` it isn't known whether the method ran.
+/// fn is_to_be_tried_again(error: &CallError) -> bool {
+///     match error {
+///         CallError::Busy => true,
+///         CallError::Fault(Fault::NoName) => true,      // nothing is bound to that name yet
+///         _ => false,
+///     }
+/// }
+/// assert!(is_to_be_tried_again(&CallError::Busy));
+/// ```
 #[derive(Clone, Debug, PartialEq, Eq)]
 #[non_exhaustive]
 pub enum CallError {
@@ -235,6 +251,21 @@ impl<T> Call<T> {
 
     /// The number of the call among those of this space, as the trace has it, once it was made. A call
     /// of an own object has none.
+    ///
+    /// ```
+    /// # use masttomato::{interface, Node, Peers, SpaceId};
+    /// # #[interface]
+    /// # pub trait Bell { fn ring(&mut self); }
+    /// # struct Brass;
+    /// # impl Bell for Brass { fn ring(&mut self) {} }
+    /// # fn main() -> Result<(), Box<dyn std::error::Error>> {
+    /// # let node = Node::builder(SpaceId::try_from(1)?, Peers::none()).start()?;
+    /// # let bell = node.export::<dyn Bell>(Box::new(Brass))?;
+    /// let call = bell.ring();
+    /// assert_eq!(call.number(), None);
+    /// # Ok(call.wait()?)
+    /// # }
+    /// ```
     pub fn number(&self) -> Option<CallNo> {
         match self.state.number.load(Ordering::Relaxed) {
             0 => None,
@@ -284,6 +315,26 @@ impl<T: Pass> Call<T> {
     }
 
     /// Waits for the answer for so long.
+    ///
+    /// ```
+    /// # use masttomato::{interface, CallError, Node, Peers, SpaceId};
+    /// # use std::{thread, time::Duration};
+    /// # #[interface]
+    /// # pub trait Bell { fn ring(&mut self); }
+    /// # struct Slow;
+    /// impl Bell for Slow {
+    ///     fn ring(&mut self) {
+    ///         thread::sleep(Duration::from_millis(20));
+    ///     }
+    /// }
+    /// # fn main() -> Result<(), Box<dyn std::error::Error>> {
+    /// # let node = Node::builder(SpaceId::try_from(1)?, Peers::none()).start()?;
+    /// # let bell = node.export::<dyn Bell>(Box::new(Slow))?;
+    /// assert_eq!(bell.ring().wait_for(Duration::ZERO), Err(CallError::TimedOut));
+    /// bell.ring().wait()?;
+    /// # Ok(())
+    /// # }
+    /// ```
     ///
     /// # Errors
     /// Why there is none; `TimedOut` where it may still come.

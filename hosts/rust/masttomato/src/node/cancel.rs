@@ -29,7 +29,7 @@ impl Cancel {
     }
 }
 
-/// What is ready once its call is cancelled: see [`Context::cancelled`](super::Context::cancelled).
+/// What is ready once its call is cancelled: see [`Context::cancelled`](crate::Context::cancelled).
 #[derive(Debug)]
 #[must_use = "a future does nothing until it is awaited"]
 pub struct Cancelled<'a>(pub(super) &'a Cancel);

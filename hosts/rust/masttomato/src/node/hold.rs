@@ -17,6 +17,7 @@ const HELD: u8 = 1;
 const VOID: u8 = 2;
 
 /// A hold of a reference, which its drop gives back.
+#[doc(hidden)]
 pub struct Hold {
     shared: Arc<Shared>,
     reference: Reference,
@@ -125,6 +126,23 @@ impl<I: ?Sized> Remote<I> {
     }
 
     /// The same reference for another interface, where its object has that: its owner is asked.
+    ///
+    /// ```
+    /// # use masttomato::{CallError, Fault, Node, Peers, SpaceId, interface};
+    /// # #[interface]
+    /// # pub trait Bell { fn ring(&mut self) -> String; }
+    /// # #[interface]
+    /// # pub trait Door { fn knock(&mut self); }
+    /// # struct Brass;
+    /// # impl Bell for Brass { fn ring(&mut self) -> String { "ding".into() } }
+    /// # fn main() -> Result<(), Box<dyn std::error::Error>> {
+    /// # let node = Node::builder(SpaceId::try_from(1)?, Peers::none()).start()?;
+    /// # let bell = node.export::<dyn Bell>(Box::new(Brass))?;
+    /// let door = bell.cast::<dyn Door>().wait();
+    /// assert_eq!(door.unwrap_err(), CallError::Fault(Fault::OtherInterface));
+    /// # Ok(())
+    /// # }
+    /// ```
     pub fn cast<J: Interface + ?Sized>(self) -> Call<Remote<J>> {
         let wanted = Description::of::<J>();
         let shared = self.hold.shared.clone();

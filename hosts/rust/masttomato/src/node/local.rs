@@ -120,6 +120,19 @@ impl LocalNode {
     }
 
     /// Turns the node until something holds, or for so long: whether it holds.
+    ///
+    /// ```
+    /// # use masttomato::{Node, Peers, Session, SpaceId};
+    /// # use std::time::Duration;
+    /// # fn main() -> Result<(), Box<dyn std::error::Error>> {
+    /// # let [one, two] = [1, 2].map(|number| SpaceId::new(number).expect("1 to 32"));
+    /// let owner = Node::builder(one, Peers::none()).listen("127.0.0.1:0").spaces(two).start()?;
+    /// let peers = Peers::none().with(one, owner.address().ok_or("it listens")?);
+    /// let node = Node::builder(two, peers).start_local()?;
+    /// assert!(node.run_until(Duration::from_secs(60), || node.session(one) == Session::Open));
+    /// # Ok(())
+    /// # }
+    /// ```
     pub fn run_until(&self, limit: Duration, mut holds: impl FnMut() -> bool) -> bool {
         let end = Instant::now().checked_add(limit);
         self.driver.turn_until(end, || holds().then_some(())).is_some()

@@ -38,7 +38,7 @@ use std::thread::JoinHandle;
 use std::time::{Duration, Instant};
 use std::{io, thread};
 
-/// Where an object's methods run.
+/// Where an object's methods run: see [`Node::export_with`].
 #[derive(Clone, Copy, Debug, Default, PartialEq, Eq)]
 #[non_exhaustive]
 pub enum Run {
@@ -51,6 +51,14 @@ pub enum Run {
 }
 
 /// Why a node isn't started, or doesn't do something.
+///
+/// ```
+/// use masttomato::{Node, NodeError, Peers, SpaceId};
+///
+/// let one = SpaceId::new(1).expect("1 to 32");
+/// let everywhere = Node::builder(one, Peers::none()).listen("0.0.0.0:0").start();
+/// assert!(matches!(everywhere, Err(NodeError::Insecure)));
+/// ```
 #[derive(Debug)]
 #[non_exhaustive]
 pub enum NodeError {
@@ -105,7 +113,25 @@ impl From<io::Error> for NodeError {
     }
 }
 
-/// How sessions of a node change, from when it was asked for.
+/// How sessions of a node change, from when it was asked for: an iterator that waits.
+///
+/// ```
+/// use masttomato::{Node, Peers, Session, SpaceId};
+/// use std::time::Duration;
+///
+/// # fn main() -> Result<(), Box<dyn std::error::Error>> {
+/// # let [one, two] = [1, 2].map(|number| SpaceId::new(number).expect("1 to 32"));
+/// let first = Node::builder(one, Peers::none()).listen("127.0.0.1:0").spaces(two).start()?;
+/// let mut changes = first.changes()?;
+/// let peers = Peers::none().with(one, first.address().ok_or("it listens")?);
+/// let second = Node::builder(two, peers).start()?;
+/// assert_eq!(changes.next(), Some((two, Session::Open)));
+/// assert_eq!(changes.try_next(), None);
+/// drop(second);
+/// assert!(changes.next_within(Duration::from_secs(60)).is_some());
+/// # Ok(())
+/// # }
+/// ```
 #[derive(Debug)]
 pub struct Changes(mpsc::Receiver<(SpaceId, Session)>);
 
@@ -195,11 +221,62 @@ impl Context {
 
     /// What is ready once [`is_cancelled`](Context::is_cancelled) holds: for async methods, which may wait
     /// for it beside what they wait for.
+    ///
+    /// ```
+    /// # use masttomato::{Context, interface};
+    /// # #[interface]
+    /// # pub trait Queue { async fn next(&mut self, context: &Context) -> Option<String>; }
+    /// # struct Line;
+    /// # impl Line { async fn comes(&mut self) -> String { std::future::pending().await } }
+    /// use std::future::{Future, poll_fn};
+    /// use std::pin::pin;
+    /// use std::task::Poll;
+    ///
+    /// impl Queue for Line {
+    ///     async fn next(&mut self, context: &Context) -> Option<String> {
+    ///         let (mut comes, mut cancelled) = (pin!(self.comes()), pin!(context.cancelled()));
+    ///         poll_fn(|waker| match comes.as_mut().poll(waker) {
+    ///             Poll::Ready(next) => Poll::Ready(Some(next)),
+    ///             Poll::Pending => cancelled.as_mut().poll(waker).map(|()| None),
+    ///         })
+    ///         .await
+    ///     }
+    /// }
+    /// ```
     pub fn cancelled(&self) -> Cancelled<'_> {
         Cancelled(self.heard.cancel())
     }
 
     /// Makes an object known, as [`Node::export`].
+    ///
+    /// ```
+    /// use masttomato::{Context, Remote, interface};
+    ///
+    /// #[interface]
+    /// pub trait Counter {
+    ///     fn add(&mut self, by: i64) -> i64;
+    /// }
+    ///
+    /// #[interface]
+    /// pub trait Maker {
+    ///     fn make(&mut self, context: &Context, start: i64) -> Remote<dyn Counter>;
+    /// }
+    ///
+    /// struct Tally(i64);
+    /// # impl Counter for Tally { fn add(&mut self, by: i64) -> i64 { self.0 += by; self.0 } }
+    /// struct Shop;
+    ///
+    /// impl Maker for Shop {
+    ///     fn make(&mut self, context: &Context, start: i64) -> Remote<dyn Counter> {
+    ///         context.export::<dyn Counter>(Box::new(Tally(start))).expect("fewer than 65,536 objects")
+    ///     }
+    /// }
+    /// # use masttomato::{Node, Peers, SpaceId};
+    /// # let node = Node::builder(SpaceId::new(1).expect("1 to 32"), Peers::none()).start()?;
+    /// # let shop = node.export::<dyn Maker>(Box::new(Shop))?;
+    /// # assert_eq!(shop.make(40).wait()?.add(2).wait()?, 42);
+    /// # Ok::<(), Box<dyn std::error::Error>>(())
+    /// ```
     ///
     /// # Errors
     /// Where there are as many objects as there may be, or the node has stopped.
@@ -259,7 +336,11 @@ fn lookup<I: Interface + ?Sized>(
 /// let node = Node::builder(SpaceId::new(1).ok_or("1 to 32")?, Peers::none())
 ///     .listen("127.0.0.1:0")
 ///     .spaces(SpaceId::new(2).ok_or("1 to 32")?)
+///     .world("shop")
 ///     .give_up_after(Duration::from_secs(60))
+///     .open_calls(256)
+///     .workers(2)
+///     .looks(Duration::ZERO)
 ///     .start()?;
 /// assert!(node.address().is_some_and(|address| address.port() != 0));
 /// # Ok(())
@@ -383,7 +464,7 @@ impl Builder {
         self
     }
 
-    /// Starts the node, with a thread of its own and its workers.
+    /// Starts the node, with a thread of its own and its workers. See [`Node`].
     ///
     /// # Errors
     /// Where an address isn't this machine's own and `insecure` wasn't said; where the node's number is
@@ -419,7 +500,7 @@ impl Builder {
         Ok(Node { inner: Arc::new(inner) })
     }
 
-    /// Starts the node on this thread, which turns it where it waits.
+    /// Starts the node on this thread, which turns it where it waits. See [`LocalNode`].
     ///
     /// # Errors
     /// As [`Builder::start`].
@@ -490,7 +571,7 @@ impl Parts {
     }
 }
 
-/// What was left when a node had been shut down.
+/// What was left when a node had been shut down: see [`Node::shutdown`].
 #[derive(Clone, Copy, Debug, PartialEq, Eq)]
 #[non_exhaustive]
 pub struct Shutdown {
@@ -601,6 +682,21 @@ impl Node {
 
     /// Makes an object known, and says where its methods run.
     ///
+    /// ```
+    /// # use masttomato::{Node, Peers, Run, SpaceId, interface};
+    /// # #[interface]
+    /// # pub trait Bell { fn ring(&mut self) -> String; }
+    /// # struct Brass;
+    /// # impl Bell for Brass { fn ring(&mut self) -> String { "ding".into() } }
+    /// # fn main() -> Result<(), Box<dyn std::error::Error>> {
+    /// # let here = SpaceId::try_from(1)?;
+    /// # let node = Node::builder(here, Peers::none()).start()?;
+    /// let bell = node.export_with::<dyn Bell>(Box::new(Brass), Run::Inline)?;
+    /// assert_eq!(bell.ring().wait()?, "ding");
+    /// # Ok(())
+    /// # }
+    /// ```
+    ///
     /// # Errors
     /// As [`Node::export`].
     pub fn export_with<I: Interface + ?Sized>(
@@ -613,6 +709,25 @@ impl Node {
 
     /// Makes an object known by a name to all that look it up here, until `unbind`, or another object is
     /// bound to that name.
+    ///
+    /// ```
+    /// # use masttomato::{CallError, Fault, Node, Peers, Remote, SpaceId, interface};
+    /// # #[interface]
+    /// # pub trait Bell { fn ring(&mut self) -> String; }
+    /// # struct Brass;
+    /// # impl Bell for Brass { fn ring(&mut self) -> String { "ding".into() } }
+    /// # fn main() -> Result<(), Box<dyn std::error::Error>> {
+    /// # let here = SpaceId::try_from(1)?;
+    /// # let node = Node::builder(here, Peers::none()).start()?;
+    /// let bell = node.export::<dyn Bell>(Box::new(Brass))?;
+    /// node.bind("bell", &bell)?;
+    /// let found: Remote<dyn Bell> = node.lookup(here, "bell").wait()?;
+    /// assert!(found == bell && node.unbind("bell"));
+    /// let missing = node.lookup::<dyn Bell>(here, "bell").wait();
+    /// assert_eq!(missing.unwrap_err(), CallError::Fault(Fault::NoName));
+    /// # Ok(())
+    /// # }
+    /// ```
     ///
     /// # Errors
     /// Where it is no name, or there are too many; where the reference is another node's.
@@ -647,6 +762,18 @@ impl Node {
     }
 
     /// Closes the session with a peer, for good: what either has of the other is lost.
+    ///
+    /// ```
+    /// # use masttomato::{Node, Peers, Reason, Session, SpaceId};
+    /// # fn main() -> Result<(), Box<dyn std::error::Error>> {
+    /// # let [one, two] = [1, 2].map(|number| SpaceId::new(number).expect("1 to 32"));
+    /// let node = Node::builder(one, Peers::none()).spaces(two).start()?;
+    /// assert!(matches!(node.session(two), Session::Down { .. }));
+    /// node.close(two);
+    /// assert_eq!(node.session(two), Session::Closed(Reason::Asked));
+    /// # Ok(())
+    /// # }
+    /// ```
     pub fn close(&self, peer: SpaceId) {
         let _asked = ask(&self.inner.shared, move |core| core.engine.close(peer));
     }
@@ -661,13 +788,35 @@ impl Node {
         self.inner.shared.post(Command::Stop(Instant::now() + Duration::from_secs(5)));
     }
 
-    /// Waits until the node has stopped.
+    /// Waits until the node has stopped, as by [`stop`](Node::stop) of another thread.
+    ///
+    /// ```
+    /// # use masttomato::{Node, Peers, SpaceId};
+    /// # fn main() -> Result<(), Box<dyn std::error::Error>> {
+    /// let node = Node::builder(SpaceId::try_from(1)?, Peers::none()).start()?;
+    /// let other = node.clone();
+    /// std::thread::spawn(move || other.stop());
+    /// node.run_until_stopped();
+    /// # Ok(())
+    /// # }
+    /// ```
     pub fn run_until_stopped(&self) {
         self.inner.shared.wait_until_stopped();
     }
 
     /// Shuts the node down, also where there are other clones: no new call is carried out; methods that
     /// run go on to their ends, for so long at most; peers are told; the node's thread ends.
+    ///
+    /// ```
+    /// # use masttomato::{Node, Peers, SpaceId};
+    /// # use std::time::Duration;
+    /// # fn main() -> Result<(), Box<dyn std::error::Error>> {
+    /// let node = Node::builder(SpaceId::try_from(1)?, Peers::none()).start()?;
+    /// let left = node.shutdown(Duration::from_secs(5));
+    /// assert!(left.told && left.still_running == 0);
+    /// # Ok(())
+    /// # }
+    /// ```
     pub fn shutdown(self, limit: Duration) -> Shutdown {
         self.inner.shut_down(limit)
     }

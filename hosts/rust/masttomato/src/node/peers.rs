@@ -39,6 +39,12 @@ impl Line {
 }
 
 /// A line of a list of peers that says none, by its number.
+///
+/// ```
+/// # use masttomato::Peers;
+/// let bad = "1 127.0.0.1:7001\n33 127.0.0.1:7002".parse::<Peers>().unwrap_err();
+/// assert!(bad.to_string().starts_with("line 2: a number from 1 to 32"));
+/// ```
 #[derive(Clone, Copy, Debug, PartialEq, Eq)]
 pub struct BadPeers {
     line: usize,
@@ -99,6 +105,13 @@ impl Peers {
     }
 
     /// These, and a space at an address.
+    ///
+    /// ```
+    /// # use masttomato::{Peers, SpaceId};
+    /// let peers = Peers::none().with(SpaceId::try_from(4)?, "127.0.0.1:7004");
+    /// assert_eq!(peers.last().map(SpaceId::get), Some(4));
+    /// # Ok::<(), masttomato::space::NoSpace>(())
+    /// ```
     pub fn with(mut self, space: SpaceId, address: impl fmt::Display) -> Peers {
         self.lines.push(Line { first: space, last: space, address: address.to_string() });
         self

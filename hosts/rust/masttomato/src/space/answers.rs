@@ -45,7 +45,7 @@ impl fmt::Display for Status {
     }
 }
 
-/// What a call brought.
+/// What a call brought: see [`Space::take_reply`](super::Space::take_reply).
 #[derive(Clone, Debug, PartialEq, Eq)]
 #[non_exhaustive]
 pub enum CallResult {
@@ -60,7 +60,7 @@ pub enum CallResult {
     Ended,
 }
 
-/// What became of a reply.
+/// What became of a reply: see [`Space::finish`](super::Space::finish).
 #[derive(Clone, Copy, Debug, PartialEq, Eq)]
 #[non_exhaustive]
 pub enum ReplyFate {
@@ -70,7 +70,7 @@ pub enum ReplyFate {
     Dropped,
 }
 
-/// What an Act did.
+/// What an Act did: see [`Space::act`](super::Space::act).
 #[derive(Clone, Copy, Debug, PartialEq, Eq)]
 #[non_exhaustive]
 pub enum ActResult {
@@ -80,7 +80,7 @@ pub enum ActResult {
     Closed(Reason),
 }
 
-/// What a frame brought.
+/// What a frame brought: see [`Space::arrive`](super::Space::arrive).
 #[derive(Clone, Copy, Debug, PartialEq, Eq)]
 #[non_exhaustive]
 pub enum Arrived {
@@ -91,7 +91,7 @@ pub enum Arrived {
     Closed(Reason),
 }
 
-/// A message that was settled: whose item it was.
+/// A message that was settled: whose item it was. See [`Space::settle`](super::Space::settle).
 #[derive(Clone, Copy, Debug, PartialEq, Eq)]
 pub struct SettledItem {
     /// The peer that sent it.

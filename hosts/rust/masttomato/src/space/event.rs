@@ -7,6 +7,11 @@ use super::value::Value;
 use std::fmt;
 
 /// What a job's method made of its call.
+///
+/// ```
+/// # use masttomato::space::{Outcome, Value};
+/// assert_eq!(Outcome::Answer(Value::Int(7)).to_string(), "answer i7");
+/// ```
 #[derive(Clone, Debug, PartialEq, Eq)]
 pub enum Outcome {
     /// It answered this value.
@@ -17,7 +22,15 @@ pub enum Outcome {
     NoMethod,
 }
 
-/// What a space is asked to do. Nothing more than this ever changes it.
+/// What a space is asked to do. Nothing more than this ever changes it. Its text is that of traces.
+///
+/// ```
+/// # use masttomato::space::{Event, Value};
+/// let event: Event = "call 2.1 4 [i5,u]".parse()?;
+/// let Event::Call { target, method: 4, value: Value::List(values) } = event else { panic!("no call") };
+/// assert_eq!((target.to_string(), values.len()), ("2.1".to_string(), 2));
+/// # Ok::<(), masttomato::space::NoText>(())
+/// ```
 #[derive(Clone, Debug, PartialEq, Eq)]
 #[non_exhaustive]
 pub enum Event {
@@ -60,7 +73,7 @@ pub enum Event {
     Close(SpaceId),
 }
 
-/// A call that its owner is to carry out.
+/// A call that its owner is to carry out: see [`Space::claim`](super::Space::claim).
 #[derive(Clone, Debug, PartialEq, Eq)]
 pub struct Job {
     /// The number of the job at this space.
@@ -77,7 +90,8 @@ pub struct Job {
     pub value: Value,
 }
 
-/// What a space answers to an event that it doesn't refuse.
+/// What a space answers to an event that it doesn't refuse: see [`Space::step`](super::Space::step). Its text
+/// is that of traces.
 #[derive(Clone, Debug, PartialEq, Eq)]
 #[non_exhaustive]
 pub enum Answer {

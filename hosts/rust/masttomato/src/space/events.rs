@@ -14,6 +14,55 @@ use masttomato_sys::{Handle, Told};
 /// arrive, how often and when is up to the program. A refused event, or one that memory is wanted
 /// for, leaves it as it was. Dropping it closes its sessions, tells no peer, and frees its memory.
 ///
+/// Whoever has one asks it for events and carries its frames. Two spaces, and a call from one to the other:
+///
+/// ```
+/// use masttomato::space::{CallResult, Limits, Outcome, Space, SpaceError, SpaceId, Status, Value};
+///
+/// // Carries what a space has for the other, which acts on it.
+/// fn carry(from: &mut Space, to: &mut Space) -> Result<(), SpaceError> {
+///     for frame in from.transmit(to.id())?.iter() {
+///         to.arrive(&frame)?;
+///     }
+///     while to.work().act(from.id()) {
+///         to.act(from.id())?;
+///     }
+///     while to.work().settle {
+///         to.settle()?;
+///     }
+///     Ok(())
+/// }
+///
+/// # fn main() -> Result<(), SpaceError> {
+/// # let [first, second] = [1, 2].map(|number| SpaceId::new(number).expect("a space"));
+/// let mut owner = Space::new(first, second, Limits::default())?;
+/// let mut caller = Space::new(second, second, Limits::default())?;
+///
+/// let call = caller.call(first.agent(), 3, &Value::from(20))?;
+/// carry(&mut caller, &mut owner)?;
+/// let job = owner.claim()?;
+/// assert_eq!((job.client, job.method, job.value), (second, 3, Value::Int(20)));
+///
+/// let object = owner.export()?;
+/// owner.finish(job.job, &Outcome::Answer(Value::from(object)))?;
+/// owner.release(object)?;
+/// carry(&mut owner, &mut caller)?;      // the caller asks for what the answer refers to,
+/// carry(&mut caller, &mut owner)?;
+/// carry(&mut owner, &mut caller)?;      // and has it
+/// let replied = CallResult::Replied { status: Status::Answered, value: Value::from(object) };
+/// assert_eq!(caller.take_reply(call)?, replied);
+/// carry(&mut caller, &mut owner)?;
+/// assert!(owner.lists(object.index, second) && owner.work().withdraw.is_none());
+///
+/// caller.release(object)?;
+/// assert_eq!(caller.clean()?, object);
+/// carry(&mut caller, &mut owner)?;
+/// assert_eq!(owner.work().withdraw, Some(object.index));
+/// owner.withdraw(object.index)?;
+/// # Ok(())
+/// # }
+/// ```
+///
 /// A space stays on the thread that made it: it is neither `Send` nor `Sync`.
 ///
 /// ```compile_fail
@@ -32,7 +81,7 @@ pub struct Space {
     room: Vec<u8>,
 }
 
-/// What a Transmit would give.
+/// What a Transmit would give: see [`Space::due`].
 #[derive(Clone, Copy, Debug, PartialEq, Eq)]
 #[non_exhaustive]
 pub enum Due {
@@ -48,7 +97,7 @@ pub enum Due {
     Close,
 }
 
-/// What a space could do next, limits, free numbers and want of memory aside.
+/// What a space could do next, limits, free numbers and want of memory aside: see [`Space::work`].
 #[derive(Clone, Copy, Debug, PartialEq, Eq)]
 pub struct Work {
     act: u32,
@@ -142,7 +191,13 @@ impl From<FrameFault> for StreamError {
 
 impl Space {
     /// A space that has done nothing: its sessions with all others, those from 1 to `spaces`, are
-    /// open. Only memory fails it.
+    /// open.
+    ///
+    /// # Errors
+    /// Where memory runs out.
+    ///
+    /// # Panics
+    /// Where its number is above the last one.
     pub fn new(id: SpaceId, spaces: SpaceId, limits: Limits) -> Result<Space, SpaceError> {
         let (window, retry) = (limits.window().into(), limits.retry().into());
         let handle = Handle::new(id.get(), spaces.get(), window, retry).map_err(error_of)?;
@@ -172,6 +227,21 @@ impl Space {
 
     /// From now on the space keeps a trace of what it is asked and answers. It is to be asked for
     /// before the first event, since `nobj check` judges a trace from the beginning.
+    ///
+    /// ```
+    /// # use masttomato::space::{Limits, Space, SpaceError, SpaceId};
+    /// # fn main() -> Result<(), SpaceError> {
+    /// # let [first, second] = [1, 2].map(|number| SpaceId::new(number).expect("a space"));
+    /// let mut space = Space::new(first, second, Limits::default())?;
+    /// space.keep_trace();
+    /// let object = space.export()?;
+    /// space.rise_to(7);                           // what comes next came after another's entry 7
+    /// let _refused = space.withdraw(object.index);
+    /// assert_eq!(space.stamp(), 8);
+    /// assert_eq!(space.take_lines(), "1 export = exported 1.1\n8 withdraw 1 = S11(1)\n");
+    /// # Ok(())
+    /// # }
+    /// ```
     pub fn keep_trace(&mut self) {
         self.trace = Some(Trace::new(self.id, self.spaces, self.limits));
     }
@@ -199,32 +269,40 @@ impl Space {
         }
     }
 
-    /// A new object: its reference, once in the hand. Limit where the space has all the live
-    /// objects or indexes that it may have.
+    /// A new object: its reference, once in the hand.
+    ///
+    /// # Errors
+    /// Limit where the space has all the live objects or indexes that it may have.
     pub fn export(&mut self) -> Result<Reference, SpaceError> {
         let result = told(self.handle.export()).map(reference_of);
         self.noted(result, || Event::Export, Answer::Exported)
     }
 
-    /// One more hold in the hand. NoObject where an own object isn't live, NotHeld where nothing
-    /// holds the reference or it is an agent's, Closed where the session with its owner has closed
-    /// here, Limit where the hand is full.
+    /// One more hold in the hand.
+    ///
+    /// # Errors
+    /// NoObject where an own object isn't live, NotHeld where nothing holds the reference or it is an
+    /// agent's, Closed where the session with its owner has closed here, Limit where the hand is full.
     pub fn dup(&mut self, reference: Reference) -> Result<(), SpaceError> {
         let result = told(self.handle.dup(reference.owner.get(), reference.index)).map(drop);
         self.noted(result, || Event::Dup(reference), done)
     }
 
-    /// A hold in the hand is given back. NoObject where an own object isn't live, NotHeld where none
-    /// is in the hand.
+    /// A hold in the hand is given back.
+    ///
+    /// # Errors
+    /// NoObject where an own object isn't live, NotHeld where none is in the hand.
     pub fn release(&mut self, reference: Reference) -> Result<(), SpaceError> {
         let result = told(self.handle.release(reference.owner.get(), reference.index)).map(drop);
         self.noted(result, || Event::Release(reference), done)
     }
 
     /// Calls a method of an object with a value, whose references are pinned until the object's
-    /// owner has settled them: the number of the call. NoPeer, Closed, NotHeld of the target; TooBig
-    /// where the value has no pickle; NoObject, NotHeld or Closed of a reference in it; then Limit,
-    /// QueueFull or SeqEnd. Linear in the value.
+    /// owner has settled them: the number of the call. Linear in the value.
+    ///
+    /// # Errors
+    /// NoPeer, Closed, NotHeld of the target; TooBig where the value has no pickle; NoObject, NotHeld or
+    /// Closed of a reference in it; then Limit, QueueFull or SeqEnd.
     pub fn call(
         &mut self,
         target: Reference,
@@ -239,8 +317,14 @@ impl Space {
     }
 
     /// What a call brought: its reply, whose references come into the hand, or that there will be
-    /// none. NoCall where there is no such call, NotReady while there is no reply, Limit where a
-    /// hand would be too full.
+    /// none.
+    ///
+    /// # Errors
+    /// NoCall where there is no such call, NotReady while there is no reply, Limit where a hand would be
+    /// too full.
+    ///
+    /// # Panics
+    /// Where there is no memory for the pickle of the reply's value, which can't be asked for again.
     pub fn take_reply(&mut self, call: CallNo) -> Result<CallResult, SpaceError> {
         let result = told(self.handle.take_reply(call.get())).map(|told| match told.kind {
             4 => CallResult::Replied { status: status_of(told), value: self.value() },
@@ -250,8 +334,13 @@ impl Space {
         self.noted(result, || Event::TakeReply(call), Answer::from)
     }
 
-    /// The first ready job, in order of becoming ready, whose target isn't running. Nothing where
-    /// there is none, Limit where the numbers are used up.
+    /// The first ready job, in order of becoming ready, whose target isn't running.
+    ///
+    /// # Errors
+    /// Nothing where there is none, Limit where the numbers are used up.
+    ///
+    /// # Panics
+    /// Where there is no memory for the pickle of the job's value, which can't be asked for again.
     pub fn claim(&mut self) -> Result<Job, SpaceError> {
         let result = told(self.handle.claim()).map(|told| Job {
             job: JobNo::new(told.number),
@@ -265,8 +354,10 @@ impl Space {
     }
 
     /// A job's outcome goes to its client, or is dropped where the session with the client has
-    /// closed; what the job had on loan is given back. NoJob where no such job runs; then refused as
-    /// the value of a call is, or by QueueFull or SeqEnd.
+    /// closed; what the job had on loan is given back.
+    ///
+    /// # Errors
+    /// NoJob where no such job runs; then as of the value of a call, or QueueFull or SeqEnd.
     pub fn finish(&mut self, job: JobNo, outcome: &Outcome) -> Result<ReplyFate, SpaceError> {
         let (number, (pickle, has_pickle)) = match outcome {
             Outcome::Answer(value) => (0, self.pickle_of(value)),
@@ -283,8 +374,11 @@ impl Space {
     }
 
     /// The item at the front of the inbox from a peer is acted on; one with a fault closes the
-    /// session instead. NoPeer, Closed, Nothing where none waits; and the item stays where a limit
-    /// would be passed or a session has no number for what it asks for.
+    /// session instead.
+    ///
+    /// # Errors
+    /// NoPeer, Closed, Nothing where none waits; and the item stays, by Limit or SeqEnd, where a limit would
+    /// be passed or a session has no number for what it asks for.
     pub fn act(&mut self, peer: SpaceId) -> Result<ActResult, SpaceError> {
         let result = told(self.handle.act(peer.get())).map(|told| match told.kind {
             9 => ActResult::Acted(ItemNo::new(told.number)),
@@ -295,8 +389,10 @@ impl Space {
     }
 
     /// The first message, in order of acting, whose references are all resolved is settled, and
-    /// its sender told: whose item that was. Nothing where there is none, SeqEnd where a session has
-    /// no number left.
+    /// its sender told: whose item that was.
+    ///
+    /// # Errors
+    /// Nothing where there is none, SeqEnd where a session has no number left.
     pub fn settle(&mut self) -> Result<SettledItem, SpaceError> {
         let result = told(self.handle.settle())
             .map(|told| SettledItem { peer: space_of(told.space), item: ItemNo::new(told.number) });
@@ -304,23 +400,30 @@ impl Space {
     }
 
     /// The first surrogate, in the order of their last Dirties, that is granted on an open session,
-    /// without holds and without pins, is given up, and its owner told: its reference. Nothing where
-    /// there is none, SeqEnd where the session has no number left.
+    /// without holds and without pins, is given up, and its owner told: its reference.
+    ///
+    /// # Errors
+    /// Nothing where there is none, SeqEnd where the session has no number left.
     pub fn clean(&mut self) -> Result<Reference, SpaceError> {
         let result = told(self.handle.clean()).map(reference_of);
         self.noted(result, || Event::Clean, Answer::Cleaned)
     }
 
-    /// The object of an index is live no more. NoObject where none is live, StillUsed where it is
-    /// held, pinned here, listed for a client, or the agent.
+    /// The object of an index is live no more.
+    ///
+    /// # Errors
+    /// NoObject where none is live, StillUsed where it is held, pinned here, listed for a client, or the
+    /// agent.
     pub fn withdraw(&mut self, index: u64) -> Result<(), SpaceError> {
         let result = told(self.handle.withdraw(index)).map(drop);
         self.noted(result, || Event::Withdraw(index), withdrawn)
     }
 
     /// The frames that are to be sent to a peer now: the first item that isn't acknowledged and, up to a
-    /// window from it on, those that were never given; or an Ack or a Close that is owed, or none. NoPeer
-    /// where there is no such peer.
+    /// window from it on, those that were never given; or an Ack or a Close that is owed, or none.
+    ///
+    /// # Errors
+    /// NoPeer where there is no such peer.
     pub fn transmit(&mut self, peer: SpaceId) -> Result<Frames, SpaceError> {
         let result = told(self.handle.transmit(peer.get())).map(|told| match told.number {
             0 => Frames::default(),
@@ -330,13 +433,16 @@ impl Space {
     }
 
     /// A frame came for this space: how many items are there with it, or that it closed the session with
-    /// its sender. NoPeer where it isn't for this space or from none of its peers.
+    /// its sender.
+    ///
+    /// # Errors
+    /// NoPeer where it isn't for this space or from none of its peers.
     pub fn arrive(&mut self, frame: &Frame) -> Result<Arrived, SpaceError> {
         let result = told(self.handle.arrive(frame.as_bytes())).map(arrived_of);
         self.noted(result, || Event::Arrive(frame.clone()), Answer::from)
     }
 
-    /// The frame that these bytes spell came for this space: as `arrive`.
+    /// The frame that these bytes spell came for this space: as [`arrive`](Space::arrive).
     ///
     /// # Errors
     /// [`ArriveError::Fault`] where they spell no frame, and else what `arrive` answers.
@@ -352,6 +458,27 @@ impl Space {
 
     /// The next piece of a stream of frames from a peer, cut anywhere: how many frames are whole
     /// now and wait. They arrive by `arrive_next`, all of them before the next piece.
+    ///
+    /// ```
+    /// # use masttomato::space::{Arrived, Limits, Space, SpaceId, Value};
+    /// # fn main() -> Result<(), Box<dyn std::error::Error>> {
+    /// # let [first, second] = [1, 2].map(|number| SpaceId::new(number).expect("a space"));
+    /// let mut caller = Space::new(first, second, Limits::default())?;
+    /// let mut owner = Space::new(second, second, Limits::default())?;
+    /// caller.call(second.agent(), 0, &Value::Unit)?;
+    /// let frames = caller.transmit(second)?;
+    /// let (front, rest) = frames.as_bytes().split_at(9);
+    /// assert_eq!(owner.push(first, front)?, 0);
+    /// assert_eq!(owner.push(first, rest)?, 1);
+    /// assert_eq!(owner.arrive_next(), Some(Ok(Arrived::Took(1))));
+    /// assert_eq!(owner.arrive_next(), None);
+    /// # Ok(())
+    /// # }
+    /// ```
+    ///
+    /// # Errors
+    /// Waiting where frames of the piece before still wait, Fault where the stream isn't one of frames, and
+    /// OutOfMemory, after which the same piece may be pushed again.
     pub fn push(&mut self, peer: SpaceId, piece: &[u8]) -> Result<u64, StreamError> {
         match self.handle.push(peer.get(), piece) {
             (0, told) => Ok(told.number),
@@ -362,7 +489,7 @@ impl Space {
         }
     }
 
-    /// The first frame that waits arrives: as `arrive`, or `None` where none waits.
+    /// The first frame that waits arrives: as [`arrive`](Space::arrive), or `None` where none waits.
     pub fn arrive_next(&mut self) -> Option<Result<Arrived, SpaceError>> {
         let asked = self.handle.bring_next();
         if asked.0 == 62 {
@@ -376,15 +503,32 @@ impl Space {
         Some(self.noted(result, || Event::Arrive(frame), Answer::from))
     }
 
-    /// Forgets what is kept of a peer's stream, and its fault, for a new stream. Frames that wait
-    /// stay.
+    /// Forgets what is kept of a peer's stream, and its fault, for a new stream, as where a connection was
+    /// opened again. Frames that wait stay.
     pub fn restart(&mut self, peer: SpaceId) {
         let status = self.handle.restart(peer.get());
         assert_eq!(status, 0, "nob_restart takes any space's number");
     }
 
     /// The session with a peer counts one tick more: for which reason it closes, where its retries
-    /// are used up. NoPeer, Closed.
+    /// are used up.
+    ///
+    /// ```
+    /// # use masttomato::space::{Limits, Reason, Space, SpaceError, SpaceId, Value};
+    /// # fn main() -> Result<(), SpaceError> {
+    /// # let [first, second] = [1, 2].map(|number| SpaceId::new(number).expect("a space"));
+    /// let limits = Limits::new(8, 2).expect("limits");
+    /// let mut space = Space::new(first, second, limits)?;
+    /// assert_eq!(space.tick(second)?, None);       // nothing is out, so nothing is counted
+    /// space.call(second.agent(), 0, &Value::Unit)?;
+    /// space.transmit(second)?;
+    /// assert_eq!((space.tick(second)?, space.tick(second)?), (None, Some(Reason::RetriesUsedUp)));
+    /// # Ok(())
+    /// # }
+    /// ```
+    ///
+    /// # Errors
+    /// NoPeer where there is no such peer, Closed where the session has closed already.
     pub fn tick(&mut self, peer: SpaceId) -> Result<Option<Reason>, SpaceError> {
         let result = told(self.handle.tick(peer.get())).map(|told| match told.kind {
             2 => None,
@@ -394,13 +538,33 @@ impl Space {
         self.noted(result, || Event::Tick(peer), ticked)
     }
 
-    /// Closes the session with a peer, for the reason that it was asked to. NoPeer, Closed.
+    /// Closes the session with a peer, for the reason that it was asked to.
+    ///
+    /// # Errors
+    /// NoPeer where there is no such peer, Closed where the session has closed already.
     pub fn close(&mut self, peer: SpaceId) -> Result<Reason, SpaceError> {
         let result = told(self.handle.close(peer.get())).map(reason_of);
         self.noted(result, || Event::Close(peer), Answer::Closed)
     }
 
     /// One event, by its own method.
+    ///
+    /// ```
+    /// # use masttomato::space::{Answer, Event, Limits, Space, SpaceError, SpaceId};
+    /// # fn main() -> Result<(), Box<dyn std::error::Error>> {
+    /// # let first = SpaceId::try_from(1)?;
+    /// let mut space = Space::new(first, first, Limits::default())?;
+    /// let event: Event = "export".parse()?;
+    /// assert_eq!(space.step(&event)?.to_string(), "exported 1.1");
+    /// # Ok(())
+    /// # }
+    /// ```
+    ///
+    /// # Errors
+    /// As the event's own method.
+    ///
+    /// # Panics
+    /// As the event's own method.
     pub fn step(&mut self, event: &Event) -> Result<Answer, SpaceError> {
         match event {
             Event::Export => self.export().map(Answer::Exported),
@@ -436,6 +600,21 @@ impl Space {
 
     /// What the space could do next: to ask it that would be no refusal, limits, free numbers and
     /// want of memory aside.
+    ///
+    /// ```
+    /// # use masttomato::space::{Due, Limits, Space, SpaceError, SpaceId, Value};
+    /// # fn main() -> Result<(), SpaceError> {
+    /// # let [first, second] = [1, 2].map(|number| SpaceId::new(number).expect("a space"));
+    /// let mut space = Space::new(first, second, Limits::default())?;
+    /// assert!(!space.work().send(second));
+    /// let object = space.export()?;
+    /// space.call(second.agent(), 1, &Value::Unit)?;
+    /// space.release(object)?;
+    /// assert_eq!((space.work().send(second), space.due(second)), (true, Due::New));
+    /// assert_eq!(space.work().withdraw, Some(object.index));
+    /// # Ok(())
+    /// # }
+    /// ```
     pub fn work(&self) -> Work {
         let work = self.handle.work();
         Work {

@@ -11,7 +11,7 @@ const LONGEST_PAYLOAD: usize = 16_384;
 /// The greatest number of an item.
 const LAST_ITEM: u64 = 1 << 40;
 
-/// What a frame is for.
+/// What a frame is for: see [`Frame`].
 #[derive(Clone, Copy, Debug, PartialEq, Eq)]
 #[non_exhaustive]
 pub enum FrameKind {
@@ -23,7 +23,7 @@ pub enum FrameKind {
     Close,
 }
 
-/// Why bytes are no frame.
+/// Why bytes are no frame: see [`Frame::from_bytes`].
 #[derive(Clone, Copy, Debug, PartialEq, Eq)]
 #[non_exhaustive]
 pub enum FrameFault {
@@ -89,13 +89,39 @@ impl fmt::Display for FrameFault {
 impl std::error::Error for FrameFault {}
 
 /// A frame: bytes that spell one. Its text is these bytes in lower case hexadecimal.
+///
+/// ```
+/// use masttomato::space::{FrameKind, Limits, Space, SpaceError, SpaceId, Value};
+///
+/// # fn main() -> Result<(), SpaceError> {
+/// # let [first, second] = [1, 2].map(|number| SpaceId::new(number).expect("a space"));
+/// let mut space = Space::new(first, second, Limits::default())?;
+/// space.call(second.agent(), 0, &Value::Unit)?;
+/// let frames = space.transmit(second)?;
+/// let frame = frames.iter().next().expect("one item");
+/// assert_eq!((frame.kind(), frame.from(), frame.to()), (FrameKind::Data, first, second));
+/// assert_eq!((frame.seq(), frame.ack()), (1, 1));
+/// # Ok(())
+/// # }
+/// ```
 #[derive(Clone, Debug, PartialEq, Eq, Hash)]
 pub struct Frame {
     bytes: Vec<u8>,
 }
 
 impl Frame {
-    /// The frame that all of these bytes spell, or the first of F1 to F11 that they are refused for.
+    /// The frame that all of these bytes spell.
+    ///
+    /// ```
+    /// # use masttomato::space::{Frame, FrameFault};
+    /// let bytes = [&[0x4e, 1, 2, 0, 0, 1, 0, 2][..], &[0; 15], &[1], &[0; 4]].concat();
+    /// assert_eq!(Frame::from_bytes(bytes.clone())?.ack(), 1);
+    /// assert_eq!(Frame::from_bytes(bytes[..27].to_vec()), Err(FrameFault::Short));
+    /// # Ok::<(), FrameFault>(())
+    /// ```
+    ///
+    /// # Errors
+    /// The first of F1 to F11 that they are refused for.
     pub fn from_bytes(bytes: Vec<u8>) -> Result<Frame, FrameFault> {
         let header = bytes.first_chunk().ok_or(FrameFault::Short)?;
         let end = HEADER + judge_header(header)?;
@@ -108,7 +134,21 @@ impl Frame {
     }
 
     /// The next frame of a stream on which frames stand one after the other: `None` where the
-    /// stream ends before one begins. Bytes that are no frame are an error of kind `InvalidData`.
+    /// stream ends before one begins.
+    ///
+    /// ```
+    /// # use masttomato::space::Frame;
+    /// # fn main() -> std::io::Result<()> {
+    /// let bytes = [&[0x4e, 1, 2, 0, 0, 1, 0, 2][..], &[0; 15], &[1], &[0; 4]].concat();
+    /// let mut stream = &bytes[..];
+    /// assert!(Frame::read_from(&mut stream)?.is_some());
+    /// assert!(Frame::read_from(&mut stream)?.is_none());
+    /// # Ok(())
+    /// # }
+    /// ```
+    ///
+    /// # Errors
+    /// Those of the stream; one of kind `InvalidData`, with the [`FrameFault`], where it has other bytes.
     pub fn read_from(stream: &mut impl Read) -> io::Result<Option<Frame>> {
         let mut header = [0; HEADER];
         if !fill_or_end(stream, &mut header)? {
@@ -172,7 +212,7 @@ impl fmt::Display for Frame {
     }
 }
 
-/// The frames that one Transmit gave, in order. They may be none.
+/// The frames that one Transmit gave, in order. They may be none. See [`Space::push`](super::Space::push).
 #[derive(Clone, Debug, Default, PartialEq, Eq)]
 pub struct Frames {
     // They stand one after the other.
@@ -195,7 +235,7 @@ impl Frames {
         &self.bytes
     }
 
-    /// The frames.
+    /// The frames, in order.
     pub fn iter(&self) -> impl Iterator<Item = Frame> + '_ {
         let mut left = &self.bytes[..];
         std::iter::from_fn(move || Frame::read_from(&mut left).expect("whole frames"))

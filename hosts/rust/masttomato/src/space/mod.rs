@@ -6,6 +6,9 @@
 //! no space refers to it, and not before. A program carries the frames that a space gives for
 //! another to that one, in whatever way: they may be lost, repeated and reordered.
 //!
+//! Of two programs that carry frames over a socket the example `tcp_calls` is one; [`script`] plays several
+//! spaces in one process.
+//!
 //! ```
 //! # use masttomato::space::{Limits, Refusal, Space, SpaceId, SpaceError, Use, Value};
 //! # fn main() -> Result<(), SpaceError> {

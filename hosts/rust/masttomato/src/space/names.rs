@@ -43,7 +43,7 @@ impl SpaceId {
     }
 }
 
-/// A number that no space has.
+/// A number that no space has: see [`SpaceId`].
 #[derive(Clone, Copy, Debug, PartialEq, Eq)]
 pub struct NoSpace;
 
@@ -79,6 +79,15 @@ impl fmt::Display for SpaceId {
 
 /// A reference: the space that owns an object, and the object's index there. Index 0 is the owner's
 /// agent. Its text is `OWNER.INDEX`.
+///
+/// ```
+/// use masttomato::{Reference, SpaceId};
+///
+/// let reference = Reference { owner: SpaceId::try_from(3)?, index: 14 };
+/// assert_eq!((reference.to_string(), reference.is_counted()), ("3.14".to_string(), true));
+/// assert!(!reference.owner.agent().is_counted());
+/// # Ok::<(), masttomato::space::NoSpace>(())
+/// ```
 #[derive(Clone, Copy, Debug, PartialEq, Eq, PartialOrd, Ord, Hash)]
 pub struct Reference {
     /// The space that has the object.
@@ -137,6 +146,14 @@ numbers! {
 }
 
 /// The limits of a space's sessions.
+///
+/// ```
+/// use masttomato::Limits;
+///
+/// let limits = Limits::new(64, 255).expect("limits");
+/// assert_eq!((limits.window(), limits.retry()), (64, 255));
+/// assert_eq!((Limits::default().window(), Limits::new(65, 1)), (8, None));
+/// ```
 #[derive(Clone, Copy, Debug, PartialEq, Eq)]
 pub struct Limits {
     window: u8,
@@ -171,6 +188,13 @@ impl Default for Limits {
 }
 
 /// Why a session was closed. Its text is its number.
+///
+/// ```
+/// use masttomato::Reason;
+///
+/// assert_eq!(Reason::from_number(3), Some(Reason::RetriesUsedUp));
+/// assert_eq!(Reason::RetriesUsedUp.to_string(), "3");
+/// ```
 #[derive(Clone, Copy, Debug, PartialEq, Eq)]
 #[non_exhaustive]
 pub enum Reason {

@@ -11,6 +11,11 @@ use std::fmt;
 use std::str::FromStr;
 
 /// A text that spells nothing of the kind.
+///
+/// ```
+/// # use masttomato::space::{NoText, Value};
+/// assert_eq!("i05".parse::<Value>(), Err(NoText));      // a number has one text
+/// ```
 #[derive(Clone, Copy, Debug, PartialEq, Eq)]
 pub struct NoText;
 

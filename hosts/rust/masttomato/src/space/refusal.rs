@@ -3,7 +3,7 @@
 use std::error::Error;
 use std::fmt;
 
-/// What still uses an object that is to be withdrawn: the first of these that holds.
+/// What still uses an object that is to be withdrawn: the first of these that holds. See [`Refusal`].
 #[derive(Clone, Copy, Debug, PartialEq, Eq)]
 #[non_exhaustive]
 pub enum Use {
@@ -18,6 +18,13 @@ pub enum Use {
 }
 
 /// A refusal of a space. It changes nothing. Its text is a name, a colon, and what it says.
+///
+/// ```
+/// use masttomato::space::{Refusal, Use};
+///
+/// assert_eq!(Refusal::NotHeld.to_string(), "S4: the reference isn't held");
+/// assert_eq!(Refusal::StillUsed(Use::Listed).name(), "S11(3)");
+/// ```
 #[derive(Clone, Copy, Debug, PartialEq, Eq)]
 #[non_exhaustive]
 pub enum Refusal {
@@ -110,6 +117,17 @@ impl fmt::Display for Refusal {
 impl Error for Refusal {}
 
 /// Why a space didn't do what it was asked. It is then as it was before.
+///
+/// ```
+/// use masttomato::space::{Limits, Refusal, Space, SpaceError, SpaceId};
+///
+/// # fn main() -> Result<(), Box<dyn std::error::Error>> {
+/// let one = SpaceId::try_from(1)?;
+/// let mut space = Space::new(one, one, Limits::default())?;
+/// assert_eq!(space.claim().map(|job| job.job), Err(SpaceError::Refused(Refusal::Nothing)));
+/// # Ok(())
+/// # }
+/// ```
 #[derive(Clone, Copy, Debug, PartialEq, Eq)]
 #[non_exhaustive]
 pub enum SpaceError {

@@ -8,7 +8,7 @@ use super::reading::{opening_of, step_of};
 use super::refusal::SpaceError;
 use std::fmt::{self, Write};
 
-/// What the first line of a script says.
+/// What the first line of a script says: see [`World`].
 #[derive(Clone, Copy, Debug)]
 pub struct Opening {
     /// The last space: there are those from 1 to it.
@@ -17,7 +17,7 @@ pub struct Opening {
     pub limits: Limits,
 }
 
-/// A step of a world.
+/// A step of a world: see [`World`].
 #[derive(Clone, Debug, PartialEq, Eq)]
 #[non_exhaustive]
 pub enum Step {
@@ -36,7 +36,7 @@ impl fmt::Display for Step {
     }
 }
 
-/// Why a step isn't done.
+/// Why a step isn't done. Its text is its name in scripts: `X1`, `X2`, or that of a space's refusal.
 #[derive(Clone, Copy, Debug, PartialEq, Eq)]
 #[non_exhaustive]
 pub enum StepError {
@@ -70,6 +70,23 @@ impl fmt::Display for StepError {
 
 /// Spaces of one process and the frames that they gave. Each space keeps its trace, and the stamps
 /// of all traces come from one clock, so that together they say in which order everything was.
+///
+/// ```
+/// use masttomato::space::script::{Opening, Step, World};
+/// use masttomato::space::{Answer, Event, Limits, SpaceId};
+///
+/// # fn main() -> Result<(), Box<dyn std::error::Error>> {
+/// let [one, two] = [SpaceId::try_from(1)?, SpaceId::try_from(2)?];
+/// let mut world = World::new(Opening { spaces: two, limits: Limits::default() })?;
+/// world.step(&Step::Do(one, "call 2.0 1 u".parse()?))?;
+/// world.step(&Step::Do(one, Event::Transmit(two)))?;
+/// assert_eq!(world.step(&Step::Deliver(1))?, Answer::Took(1));
+/// assert_eq!(world.step(&Step::Deliver(2)).unwrap_err().to_string(), "X2");
+/// assert_eq!((world.frame_count(), world.spaces().len()), (1, 2));
+/// assert_eq!(world.traces().lines().count(), 5);
+/// # Ok(())
+/// # }
+/// ```
 #[derive(Debug)]
 pub struct World {
     spaces: Vec<Space>,
@@ -78,7 +95,10 @@ pub struct World {
 }
 
 impl World {
-    /// Spaces that did nothing. Only memory fails it.
+    /// Spaces that did nothing.
+    ///
+    /// # Errors
+    /// Where memory runs out.
     pub fn new(opening: Opening) -> Result<World, SpaceError> {
         let Opening { spaces, limits } = opening;
         let all = spaces.up_to().map(|id| {
@@ -90,6 +110,9 @@ impl World {
     }
 
     /// One step: what its space answers. It is written as a script has it.
+    ///
+    /// # Errors
+    /// Where there is no such space or frame, or the space doesn't do it.
     pub fn step(&mut self, step: &Step) -> Result<Answer, StepError> {
         let answer = match step {
             Step::Do(space, event) => self.ask(*space, event)?,
@@ -138,6 +161,17 @@ impl World {
 /// results, up to the first line that is no step, which it names. With it comes the world, where
 /// all lines were read. The verdict, which `nobj script` writes as the last line, isn't judged here:
 /// `nobj check` reads it off the world's traces.
+///
+/// ```
+/// # use masttomato::space::script::play;
+/// let (text, world) = play(b"spaces 2\n1 export\n1 withdraw 1\n")?;
+/// assert_eq!(text, "spaces 2\n1 export = exported 1.1\n1 withdraw 1 = S11(1)\n");
+/// assert!(world.is_some());
+/// # Ok::<(), masttomato::space::SpaceError>(())
+/// ```
+///
+/// # Errors
+/// Where memory runs out.
 pub fn play(script: &[u8]) -> Result<(String, Option<World>), SpaceError> {
     let script = script.strip_suffix(b"\n").unwrap_or(script);
     let mut lines = script.split(|byte| *byte == b'\n').map(|line| str::from_utf8(line).ok());

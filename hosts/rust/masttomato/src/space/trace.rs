@@ -12,6 +12,21 @@ use std::fmt::{self, Write};
 /// merged by their stamps, and a frame must be transmitted before it arrives in what they make
 /// together. So where frames come from elsewhere, carry beside each the stamp of the entry that
 /// transmitted it, and rise to it before the frame arrives.
+///
+/// ```
+/// use masttomato::space::{Answer, Event, Limits, SpaceId, Trace};
+///
+/// # fn main() -> Result<(), Box<dyn std::error::Error>> {
+/// let one = SpaceId::try_from(1)?;
+/// let mut trace = Trace::new(one, SpaceId::try_from(2)?, Limits::default());
+/// trace.rise_to(4);
+/// trace.push(&Event::Claim, &Err(masttomato::space::Refusal::Nothing));
+/// trace.push(&"dup 2.1".parse()?, &Ok(Answer::Done));
+/// let text = "trace 1 of 2 window 8 retry 16 entries 2\n5 claim = S10\n6 dup 2.1 = ok\n";
+/// assert_eq!(trace.to_string(), text);
+/// # Ok(())
+/// # }
+/// ```
 #[derive(Clone, Debug)]
 pub struct Trace {
     space: SpaceId,
@@ -42,6 +57,9 @@ impl Trace {
     }
 
     /// Puts an entry behind the others, with a stamp above the last one.
+    ///
+    /// # Panics
+    /// Never, but that a `String` may want memory.
     pub fn push(&mut self, event: &Event, result: &Result<Answer, Refusal>) {
         self.count += 1;
         self.stamp += 1;

@@ -17,6 +17,18 @@ const MOST_LEVELS: usize = 16;
 
 /// What a call carries, and what a reply brings. Its text is `u`, `i-5`, `b00ff`, `r1.2`, or a list
 /// of such in brackets, parted by commas.
+///
+/// ```
+/// use masttomato::space::{SpaceId, Value};
+///
+/// # fn main() -> Result<(), Box<dyn std::error::Error>> {
+/// let agent = SpaceId::try_from(2)?.agent();
+/// let value = Value::from(vec![Value::from(-5), Value::from(&[0, 255][..]), Value::from(agent)]);
+/// assert_eq!(value.to_string(), "[i-5,b00ff,r2.0]");
+/// assert_eq!("[i-5,b00ff,r2.0]".parse::<Value>()?, value);
+/// # Ok(())
+/// # }
+/// ```
 #[derive(Clone, Debug, PartialEq, Eq, Hash)]
 pub enum Value {
     /// Nothing.
@@ -32,6 +44,12 @@ pub enum Value {
 }
 
 /// Why a value has no pickle, or why bytes are none.
+///
+/// ```
+/// # use masttomato::space::{PickleFault, Value};
+/// assert_eq!(Value::Bytes(vec![0; 8_193]).encode(), Err(PickleFault::Bytes));
+/// assert_eq!(PickleFault::Bytes.to_string(), "P3: more than 8192 bytes in one value");
+/// ```
 #[derive(Clone, Copy, Debug, PartialEq, Eq)]
 #[non_exhaustive]
 pub enum PickleFault {
@@ -121,8 +139,18 @@ impl From<Reference> for Value {
 }
 
 impl Value {
-    /// The value's pickle, or the first fault in writing order; but that it would be too long comes
-    /// before all others.
+    /// The value's pickle.
+    ///
+    /// ```
+    /// # use masttomato::space::Value;
+    /// let pickle = Value::Int(5).encode()?;
+    /// assert_eq!(pickle, [1, 0, 0, 0, 0, 0, 0, 0, 5]);
+    /// assert_eq!(Value::decode(&pickle)?, Value::Int(5));
+    /// # Ok::<(), masttomato::space::PickleFault>(())
+    /// ```
+    ///
+    /// # Errors
+    /// The first fault in writing order; but that it would be too long comes before all others.
     pub fn encode(&self) -> Result<Vec<u8>, PickleFault> {
         let length = self.add_length(0).ok_or(PickleFault::TooBig)?;
         let mut pickle = Writer { bytes: Vec::with_capacity(length), references: 0 };
@@ -130,7 +158,10 @@ impl Value {
         Ok(pickle.bytes)
     }
 
-    /// The value that all of these bytes spell, or the first fault from the front.
+    /// The value that all of these bytes spell.
+    ///
+    /// # Errors
+    /// The first fault from the front.
     pub fn decode(pickle: &[u8]) -> Result<Value, PickleFault> {
         if pickle.len() > MOST_IN_ALL {
             return Err(PickleFault::TooBig);
@@ -144,6 +175,13 @@ impl Value {
     }
 
     /// The counted references in the value, in reading order, repeats included.
+    ///
+    /// ```
+    /// # use masttomato::space::Value;
+    /// let value: Value = "[r1.2,[r1.2,r1.0],u]".parse()?;
+    /// assert_eq!(value.references().len(), 2);     // 1.0 is an agent's, which isn't counted
+    /// # Ok::<(), masttomato::space::NoText>(())
+    /// ```
     pub fn references(&self) -> Vec<Reference> {
         let mut found = Vec::new();
         self.add_references(&mut found);

@@ -2,7 +2,7 @@
 
 use crate::things::*;
 use crate::{block_on, same};
-use masttomato::{CallError, Context, Fault, Node, Peers, Remote, Run, interface};
+use masttomato::{CallError, Context, Fault, Node, Peers, Remote, Run, Session, interface};
 use std::future::poll_fn;
 use std::pin::Pin;
 use std::sync::atomic::{AtomicU32, Ordering::SeqCst};
@@ -56,11 +56,12 @@ impl Door {
     }
 }
 
-/// Counts what ended in it, in all and by itself.
+/// Counts what ended in it, and what began to wait for its being cancelled.
 #[derive(Clone, Default)]
 struct Waiter {
     door: Door,
     count: Arc<AtomicU32>,
+    begun: Arc<AtomicU32>,
 }
 
 impl Slow for Waiter {
@@ -83,12 +84,14 @@ impl Slow for Waiter {
     }
 
     async fn is_cancelled(&mut self, context: &Context) -> u16 {
+        self.begun.fetch_add(1, SeqCst);
         context.cancelled().await;
         self.count.fetch_add(1, SeqCst);
         context.caller().get()
     }
 
     fn looks(&mut self, context: &Context) {
+        self.begun.fetch_add(1, SeqCst);
         let end = Instant::now() + SOON;
         while !context.is_cancelled() && Instant::now() < end {
             thread::sleep(Duration::from_millis(1));
@@ -129,7 +132,8 @@ fn async_methods_wait_without_a_thread() {
         let count = Arc::new(AtomicU32::new(0));
         let mut all: Vec<Remote<dyn Slow>> = Vec::new();
         for number in 0..100 {
-            let waiter = Waiter { door: door.clone(), count: count.clone() };
+            let (door, count) = (door.clone(), count.clone());
+            let waiter = Waiter { door, count, begun: Arc::default() };
             let slow = one.export_with::<dyn Slow>(Box::new(waiter), run).expect("room");
             one.bind(&number.to_string(), &slow).expect("a name");
             all.push(two.lookup(id(1), &number.to_string()).wait().expect("a waiter"));
@@ -246,7 +250,7 @@ fn a_node_shuts_down_while_async_methods_wait() {
     assert_eq!((shutdown.told, shutdown.still_running), (true, 1));
     assert!(matches!(passes.wait_for(SOON), Err(CallError::Ended(_))));
     waiter.door.open();
-    let Waiter { count, door } = waiter;
+    let Waiter { count, door, .. } = waiter;
     drop(door);
     eventually("its object is dropped", || Arc::strong_count(&count) == 1);
 }
@@ -272,6 +276,7 @@ fn a_try_call_is_made_at_once_or_not_at_all() {
     let (mine, _alive) = tally(&two);
     assert_eq!(mine.try_add(1).wait_for(SOON), Ok(1));
     one.shutdown(SOON);
+    eventually("the bye comes", || matches!(two.session(id(1)), Session::Closed(_)));
     assert_eq!(counter.try_add(1).wait_for(SOON), Err(CallError::Down(id(1))));
 }
 
@@ -321,13 +326,16 @@ fn a_method_sees_that_its_call_is_cancelled() {
     let (one, two, slow, waiter) = pair(same);
     let own: Remote<dyn Slow> = one.lookup(id(1), "waiter").wait().expect("its own");
     for (round, remote) in (0..).zip([&slow, &own, &slow, &own]) {
-        let short = Duration::from_millis(20);
-        assert_eq!(remote.looks().or_cancel().wait_for(short), Err(CallError::TimedOut));
-        eventually("it has ended", || waiter.count.load(SeqCst) == 2 * round + 1);
+        let begun = |count| eventually("it runs", || waiter.begun.load(SeqCst) == count);
+        let ended = |count| eventually("it has ended", || waiter.count.load(SeqCst) == count);
+        let call = remote.looks().or_cancel();
+        begun(2 * round + 1);
+        assert_eq!(call.wait_for(Duration::ZERO), Err(CallError::TimedOut));
+        ended(2 * round + 1);
         let call = remote.is_cancelled().or_cancel();
-        thread::sleep(Duration::from_millis(5));
+        begun(2 * round + 2);
         drop(call);
-        eventually("it has ended", || waiter.count.load(SeqCst) == 2 * round + 2);
+        ended(2 * round + 2);
     }
     assert_eq!(slow.count().wait_for(SOON), Ok(8));
     eventually("all answers were taken", || two.counts().calls_open == 0);

@@ -275,6 +275,27 @@ fn calls_are_made_from_methods() {
     eventually("nobody kept it", || alive.load(SeqCst) == 0);
 }
 
+// An object runs one call at a time: so one that is called by whom it waits for isn't there for that call, in
+// the same process and in another one. Once either has waited enough both go on.
+#[test]
+fn two_objects_that_call_each_other_wait_for_each_other() {
+    let [one, two] = nodes(2, same).try_into().expect("two");
+    for other in [&one, &two] {
+        let first = one.export::<dyn Friend>(Box::new(Caller)).expect("room");
+        let second = other.export::<dyn Friend>(Box::new(Caller)).expect("room");
+        for (node, name, friend) in [(&one, "first", &first), (other, "second", &second)] {
+            node.bind(name, friend).expect("a name");
+        }
+        let first: Remote<dyn Friend> = two.lookup(id(1), "first").wait().expect("a friend");
+        let second: Remote<dyn Friend> = two.lookup(other.id(), "second").wait().expect("a friend");
+        let asks =
+            |times, wait| first.ask(second.clone(), first.clone(), times, wait).wait_for(SOON);
+        assert_eq!((asks(0, 60_000), asks(1, 60_000)), (Ok(Ok(0)), Ok(Ok(1))));
+        assert_eq!(asks(2, 40), Ok(Err(CallError::TimedOut.to_string())));
+        assert_eq!(asks(1, 60_000), Ok(Ok(1)), "both go on");
+    }
+}
+
 #[test]
 fn a_local_node_turns_where_it_waits() {
     let one = nodes(1, |builder| builder.spaces(id(2))).remove(0);

@@ -30,6 +30,19 @@ pub trait Trouble {
     fn echoes(&mut self, all: Everything) -> Everything;
 }
 
+#[interface]
+pub trait Friend {
+    /// Asks another one, which asks this one, and so on, so many times in all, the last of whom waits for so
+    /// many milliseconds: how often that was answered.
+    fn ask(
+        &mut self,
+        other: Remote<dyn Friend>,
+        this: Remote<dyn Friend>,
+        times: u32,
+        wait: u32,
+    ) -> Result<u32, String>;
+}
+
 #[derive(Pass, Clone, Debug, PartialEq)]
 pub struct Everything {
     pub numbers: (i8, u16, i64, u64, f64, u8),
@@ -51,6 +64,25 @@ pub enum Kind {
 
 #[derive(Pass, Clone, Debug, PartialEq)]
 pub struct Nothing;
+
+pub struct Caller;
+
+impl Friend for Caller {
+    fn ask(
+        &mut self,
+        other: Remote<dyn Friend>,
+        this: Remote<dyn Friend>,
+        times: u32,
+        wait: u32,
+    ) -> Result<u32, String> {
+        if times == 0 {
+            return Ok(0);
+        }
+        let limit = if times == 1 { Duration::from_millis(wait.into()) } else { SOON };
+        let asked = other.clone().ask(this, other, times - 1, wait).wait_for(limit);
+        asked.map_err(|error| error.to_string())?.map(|answered| answered + 1)
+    }
+}
 
 /// A counter that says how many there are.
 pub struct Tally {
@@ -164,8 +196,8 @@ pub fn id(number: u16) -> SpaceId {
     SpaceId::new(number).expect("1 to 32")
 }
 
-/// So long a test waits for what is to come soon.
-pub const SOON: Duration = Duration::from_secs(20);
+/// So long a test waits for what is to come soon, also on a machine that is busy with other work.
+pub const SOON: Duration = Duration::from_secs(60);
 
 /// Waits until something holds.
 pub fn eventually(what: &str, mut holds: impl FnMut() -> bool) {
