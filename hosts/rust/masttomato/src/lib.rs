@@ -93,8 +93,8 @@ pub use masttomato_derive::Pass;
 /// pub trait Shelf {
 ///     /// Puts a thing there, and says how many there are.
 ///     fn put(&mut self, name: String, thing: Remote<dyn Thing>) -> u32;
-///     /// Waits until there is one of this name.
-///     async fn take(&mut self, context: &Context, name: String) -> Option<Remote<dyn Thing>>;
+///     /// Puts all things on another shelf, and waits for that without a thread.
+///     async fn move_to(&mut self, context: &Context, other: Remote<dyn Shelf>) -> u32;
 ///     /// Its number stays the same whatever is written above it.
 ///     #[method(7)]
 ///     fn count(&mut self) -> u32;
