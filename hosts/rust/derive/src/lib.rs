@@ -12,8 +12,8 @@ use proc_macro::TokenStream;
 /// is the call's, which callers don't give. Methods are numbered from 0 in order, or from the number that
 /// `#[method(7)]` says: numbers are the protocol, so whoever removes a method numbers those behind it.
 ///
-/// A method may be an `async fn`, whose future is `Send`: it takes no thread while it waits. Whether it is one
-/// makes no difference to callers.
+/// A method may be an `async fn`, whose future is `Send`: it takes no thread while it waits, but its object,
+/// which runs one call at a time. Whether it is one makes no difference to callers.
 #[proc_macro_attribute]
 pub fn interface(arguments: TokenStream, item: TokenStream) -> TokenStream {
     interface::expand(arguments.into(), item.into())

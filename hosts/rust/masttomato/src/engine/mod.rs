@@ -322,6 +322,9 @@ impl Engine {
     ///
     /// # Errors
     /// Where there is no memory for the space.
+    ///
+    /// # Panics
+    /// Where its number is above the last one.
     pub fn new(settings: Settings, now: Duration) -> Result<Engine, SpaceError> {
         let limits = Limits::new(64, TICKS).expect("these are limits");
         let space = Space::new(settings.space, settings.spaces, limits)?;

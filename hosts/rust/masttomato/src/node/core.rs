@@ -45,7 +45,8 @@ struct Work {
 
 enum Place {
     Here(Box<dyn Exported>),
-    Away,
+    /// A method runs; of this node's own call, it is known whose.
+    Away(Option<Arc<CallState>>),
     Broken,
 }
 
@@ -59,7 +60,31 @@ struct Object {
 /// Whom a method's outcome is for.
 pub(crate) enum End {
     Job { job: JobNo, caller: Caller, cancel: Arc<Cancel> },
-    Local { state: Arc<CallState>, target: Arc<Hold> },
+    Local(Own),
+}
+
+/// A call of an own object, which is held meanwhile. Where it is dropped unanswered, its node has stopped.
+pub(crate) struct Own {
+    state: Arc<CallState>,
+    _target: Arc<Hold>,
+    is_answered: bool,
+}
+
+impl Own {
+    fn answer(mut self, completed: Completed) -> Option<Waker> {
+        self.is_answered = true;
+        self.state.complete(completed)
+    }
+}
+
+impl Drop for Own {
+    fn drop(&mut self) {
+        if !self.is_answered
+            && let Some(waker) = self.state.complete(Err(CallError::NodeStopped))
+        {
+            waker.wake();
+        }
+    }
 }
 
 /// A call of another space, by its number there.
@@ -69,7 +94,7 @@ impl End {
     fn heard(&self) -> Heard {
         match self {
             End::Job { cancel, .. } => Heard::Job(cancel.clone()),
-            End::Local { state, .. } => Heard::Local(state.clone()),
+            End::Local(own) => Heard::Local(own.state.clone()),
         }
     }
 }
@@ -331,7 +356,7 @@ impl Core {
         let Some(object) = self.objects.get_mut(&index) else {
             return self.complete(&state, Err(CallError::NoMethod));
         };
-        let end = End::Local { state, target: target.clone() };
+        let end = End::Local(Own { state, _target: target.clone(), is_answered: false });
         object.line.push_back(Work { end, method, packed });
         self.start(index);
     }
@@ -523,12 +548,12 @@ impl Core {
     // those to an object that panicked, end at once.
     fn start(&mut self, index: u64) {
         while let Some(object) = self.objects.get_mut(&index)
-            && !matches!(object.place, Place::Away)
+            && !matches!(object.place, Place::Away(_))
             && let Some(Work { end, method, packed }) = object.line.pop_front()
         {
-            let loans = match &end {
-                End::Job { .. } => packed.holds.clone(),
-                End::Local { .. } => Vec::new(),
+            let (loans, own) = match &end {
+                End::Job { .. } => (packed.holds.clone(), None),
+                End::Local(own) => (Vec::new(), Some(own.state.clone())),
             };
             let heard = end.heard();
             if heard.cancel().is_set() || matches!(object.place, Place::Broken) {
@@ -539,7 +564,7 @@ impl Core {
                 continue;
             }
             let run = object.run;
-            let Place::Here(there) = std::mem::replace(&mut object.place, Place::Away) else {
+            let Place::Here(there) = std::mem::replace(&mut object.place, Place::Away(own)) else {
                 return;
             };
             let arguments = Arguments { packed, shared: self.shared.clone() };
@@ -551,7 +576,7 @@ impl Core {
     fn context(&self, end: &End, heard: Heard) -> Context {
         let caller = match end {
             End::Job { caller: (client, _), .. } => *client,
-            End::Local { .. } => self.engine.id(),
+            End::Local(_) => self.engine.id(),
         };
         Context::new(caller, heard, self.shared.clone())
     }
@@ -599,7 +624,7 @@ impl Core {
                 self.cancels.remove(&caller);
                 self.finish(job, served, loans);
             }
-            End::Local { state, target } => {
+            End::Local(own) => {
                 let completed = match served {
                     Served::Answer(packed) => Ok(packed),
                     Served::NoMethod => Err(CallError::NoMethod),
@@ -607,8 +632,7 @@ impl Core {
                     Served::Panicked => Err(CallError::Fault(Fault::Panicked)),
                     Served::Cancelled => Err(CallError::Fault(Fault::Cancelled)),
                 };
-                self.complete(&state, completed);
-                drop(target);
+                self.wakers.extend(own.answer(completed));
             }
         }
     }
@@ -669,9 +693,13 @@ impl Core {
         }
         for object in self.objects.values_mut() {
             for work in object.line.drain(..) {
-                if let End::Local { state, .. } = work.end {
-                    self.wakers.extend(state.complete(Err(CallError::NodeStopped)));
+                if let End::Local(own) = work.end {
+                    self.wakers.extend(own.answer(Err(CallError::NodeStopped)));
                 }
+            }
+            // One that still runs isn't waited for.
+            if let Place::Away(Some(state)) = &object.place {
+                self.wakers.extend(state.complete(Err(CallError::NodeStopped)));
             }
         }
     }

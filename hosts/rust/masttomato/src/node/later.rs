@@ -34,8 +34,8 @@ use std::task::{Context, Poll, Wake, Waker};
     label = "a function that takes one does: move |future| drop(handle.spawn(future))"
 )]
 pub trait Spawn: Send + Sync + 'static {
-    /// Runs a future to its end, on any thread. Of one that is dropped before, the object is gone: it is as
-    /// if its method had panicked.
+    /// Runs a future to its end, on any thread; it is called on the node's own, which it mustn't hold up. Of
+    /// one that is dropped before its end the object is gone: it is as if its method had panicked.
     fn spawn(&self, future: Pin<Box<dyn Future<Output = ()> + Send>>);
 }
 

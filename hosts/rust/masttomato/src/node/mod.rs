@@ -424,7 +424,8 @@ impl Builder {
         self
     }
 
-    /// Who runs methods that are async, in place of the node's workers: an executor of your own.
+    /// Who runs methods that are async, in place of the node's workers: an executor of your own. A
+    /// [`LocalNode`] runs them itself.
     pub fn spawner(mut self, spawner: impl Spawn) -> Builder {
         self.spawner = Some(Arc::new(spawner));
         self

@@ -255,6 +255,23 @@ fn a_node_shuts_down_while_async_methods_wait() {
     eventually("its object is dropped", || Arc::strong_count(&count) == 1);
 }
 
+// Nor does anybody wait for ever for a call of an own object that still runs, or waits for one that does.
+#[test]
+fn a_node_that_stops_answers_its_own_calls() {
+    let node = nodes(1, same).remove(0);
+    let gate = Gate::default();
+    let maker = node.export::<dyn Trouble>(Box::new(Maker(gate.clone()))).expect("room");
+    let waiter = Waiter::default();
+    let slow = node.export::<dyn Slow>(Box::new(waiter.clone())).expect("room");
+    let calls = [maker.waits(), maker.waits(), slow.pass(), slow.pass()];
+    eventually("it waits", || waiter.door.has_waiters(1));
+    assert_eq!(node.shutdown(Duration::from_millis(50)).still_running, 2);
+    let answers = calls.map(|call| call.wait_for(SOON));
+    assert_eq!(answers, [(); 4].map(|()| Err(CallError::NodeStopped)));
+    gate.open();
+    waiter.door.open();
+}
+
 // ---- at once or not at all ----------------------------------------------------------------------------
 
 #[test]
