@@ -236,12 +236,13 @@ pub(crate) fn header_bytes(
     requires { header.length ≤ 16384 }
     ensures { IfOk result (λ bytes. bytes.items ≡ heading version header) }
 {
+    let session = number_bytes(header.session);
     let mut bytes = Vec::with_capacity(alloc, version.header_len() + header.length)?;
     bytes.extend_from_slice(&common_bytes(version, header))?;
     match version {
         Version::One => Ok(bytes),
         Version::Two => {
-            bytes.extend_from_slice(&number_bytes(header.session))?;
+            bytes.extend_from_slice(&session)?;
             Ok(bytes)
         }
     }
