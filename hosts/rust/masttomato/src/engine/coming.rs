@@ -91,7 +91,10 @@ impl Engine {
                 }
             };
             let Some(link) = self.links.get_mut(peer) else { continue };
-            link.acked = link.acked.max(seen.ack());
+            let is_heard = seen.is_of_this_session();
+            if is_heard {
+                link.acked = link.acked.max(seen.ack());
+            }
             if seen.is_data() {
                 if link.owed == 0 {
                     link.owed_since = now;
@@ -99,7 +102,9 @@ impl Engine {
                 link.owed += 1;
             }
             match arrived {
-                Arrived::Took(count) if seen.is_data() && link.is_open() => link.came(&seen, count),
+                Arrived::Took(count) if is_heard && seen.is_data() && link.is_open() => {
+                    link.came(&seen, count);
+                }
                 Arrived::Took(_) => {}
                 Arrived::Closed(reason) => self.closed(peer, reason),
             }

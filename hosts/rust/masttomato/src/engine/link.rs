@@ -35,7 +35,7 @@ const REACH: u64 = 64;
 /// # let _turn = engine.turn(Duration::ZERO);
 /// # let mut written = Vec::new();
 /// # write(&mut engine, two, &mut written)?;
-/// # assert_eq!(written.len(), 16 + 28 + 20);
+/// # assert_eq!(written.len(), 16 + 32 + 20);
 /// # Ok::<(), Box<dyn std::error::Error>>(())
 /// ```
 #[derive(Debug, Default)]

@@ -54,7 +54,7 @@ impl<F: FnMut(&str) -> io::Result<()> + Send> TraceSink for F {
 /// files.entries("1 export = exported 1.1\n")?;
 /// files.entries("2 dup 1.1 = o")?;
 /// let trace = Files::join(&folder, here, last)?;           // for `nobj check`
-/// assert_eq!(trace, "trace 1 of 2 window 64 retry 255 entries 1\n1 export = exported 1.1\n");
+/// assert_eq!(trace, "trace2 1 of 2 window 64 retry 255 entries 1\n1 export = exported 1.1\n");
 /// # std::fs::remove_dir_all(&folder)?;
 /// # Ok(())
 /// # }

@@ -9,12 +9,15 @@ pub const HELLO: usize = 64;
 /// The head of a record.
 pub(crate) const HEAD: usize = 16;
 /// The header of a frame.
-const FRAME_HEADER: usize = 28;
+const FRAME_HEADER: usize = 32;
+/// The number of the session in which all ends are: none opens a session that closed again yet.
+pub(crate) const SESSION: u32 = 1;
 /// The longest body: as many frames as a peer may have to acknowledge, each as long as one can be.
-pub const LONGEST_BODY: usize = 64 * 16_412;
+pub const LONGEST_BODY: usize = 64 * 16_416;
 
 const MARK: [u8; 4] = *b"NOBN";
-const VERSION: u16 = 1;
+// The second, since frames have version 2: an end of the first would understand none of them.
+const VERSION: u16 = 2;
 
 /// A random number of one life of a process: a process that starts again has another one. See [`Hello`].
 #[derive(Clone, Copy, Debug, PartialEq, Eq, Hash)]
@@ -242,6 +245,11 @@ impl Seen<'_> {
         self.bytes[2] == 1
     }
 
+    /// Whether its sender's end was in the session in which all ends are.
+    pub(crate) fn is_of_this_session(&self) -> bool {
+        self.bytes[28..FRAME_HEADER] == SESSION.to_be_bytes()
+    }
+
     pub(crate) fn seq(&self) -> u64 {
         self.u64_at(8)
     }
@@ -286,8 +294,8 @@ mod tests {
 
     // A Clean of 5 from one space to another.
     fn frame(from: u8, to: u8) -> Vec<u8> {
-        let mut bytes = vec![0x4e, 1, 1, 0, 0, from, 0, to];
-        bytes.extend([0, 0, 0, 0, 0, 0, 0, 1, 0, 0, 0, 0, 0, 0, 0, 1, 0, 0, 0, 9]);
+        let mut bytes = vec![0x4e, 2, 1, 0, 0, from, 0, to];
+        bytes.extend([0, 0, 0, 0, 0, 0, 0, 1, 0, 0, 0, 0, 0, 0, 0, 1, 0, 0, 0, 9, 0, 0, 0, 1]);
         bytes.extend([7, 0, 0, 0, 0, 0, 0, 0, 5]);
         bytes
     }
@@ -297,7 +305,7 @@ mod tests {
         let two = [frame(2, 1), frame(2, 1)].concat();
         assert_eq!(check_frames(&two, id(2), id(1)), Ok(()));
         assert_eq!(check_frames(&[], id(2), id(1)), Ok(()));
-        assert_eq!(frames_of(&two).map(|seen| seen.bytes.len()).collect::<Vec<_>>(), [37, 37]);
+        assert_eq!(frames_of(&two).map(|seen| seen.bytes.len()).collect::<Vec<_>>(), [41, 41]);
     }
 
     #[test]
@@ -311,7 +319,7 @@ mod tests {
     #[test]
     fn a_record_that_cuts_a_frame_is_refused_wherever_it_is_cut() {
         let two = [frame(2, 1), frame(2, 1)].concat();
-        for end in (1..two.len()).filter(|end| *end != 37) {
+        for end in (1..two.len()).filter(|end| *end != 41) {
             assert_eq!(check_frames(&two[..end], id(2), id(1)), Err(Misbehaved::CutFrame), "{end}");
         }
     }
@@ -337,8 +345,8 @@ mod tests {
     #[test]
     fn only_heads_of_records_are_taken() {
         let mut bytes = Vec::new();
-        put_head(&mut bytes, Kind::Frames, 7, 37);
-        assert_eq!(head_of(&bytes), Ok(Some((Kind::Frames, 7, 37))));
+        put_head(&mut bytes, Kind::Frames, 7, 41);
+        assert_eq!(head_of(&bytes), Ok(Some((Kind::Frames, 7, 41))));
         assert_eq!(head_of(&bytes[..15]), Ok(None));
         for (place, byte) in [(4, 4), (5, 1), (7, 1)] {
             let mut other = bytes.clone();

@@ -448,7 +448,7 @@ impl Space {
     /// [`ArriveError::Fault`] where they spell no frame, and else what `arrive` answers.
     pub fn arrive_bytes(&mut self, bytes: &[u8]) -> Result<Arrived, ArriveError> {
         let asked = self.handle.arrive(bytes);
-        if let status @ 41..=51 = asked.0 {
+        if let status @ 41..=52 = asked.0 {
             return Err(ArriveError::Fault(FrameFault::ALL[status as usize - 41]));
         }
         let result = told(asked).map(arrived_of);
@@ -484,7 +484,7 @@ impl Space {
             (0, told) => Ok(told.number),
             (14, _) => Err(StreamError::OutOfMemory),
             (61, _) => Err(StreamError::Waiting),
-            (status @ 41..=51, _) => Err(FrameFault::ALL[status as usize - 41].into()),
+            (status @ 41..=52, _) => Err(FrameFault::ALL[status as usize - 41].into()),
             (other, _) => unknown("status of nob_push", other),
         }
     }

@@ -6,7 +6,7 @@ use std::fmt;
 use std::io::{self, Read};
 
 /// A header is so long, and a payload at most so long.
-const HEADER: usize = 28;
+const HEADER: usize = 32;
 const LONGEST_PAYLOAD: usize = 16_384;
 /// The greatest number of an item.
 const LAST_ITEM: u64 = 1 << 40;
@@ -31,7 +31,7 @@ pub enum FrameFault {
     Short,
     /// F2: the first byte isn't a frame's.
     Magic,
-    /// F3: the version isn't 1.
+    /// F3: the version isn't 2.
     Version,
     /// F4: the kind is none of the three.
     Kind,
@@ -49,11 +49,13 @@ pub enum FrameFault {
     Reason,
     /// F11: bytes stand after the frame.
     Trailing,
+    /// F12: the number of the session is 0. It is judged behind F9.
+    Session,
 }
 
 impl FrameFault {
-    /// All faults, F1 to F11.
-    pub const ALL: [FrameFault; 11] = [
+    /// All faults, F1 to F12.
+    pub const ALL: [FrameFault; 12] = [
         FrameFault::Short,
         FrameFault::Magic,
         FrameFault::Version,
@@ -65,6 +67,7 @@ impl FrameFault {
         FrameFault::Length,
         FrameFault::Reason,
         FrameFault::Trailing,
+        FrameFault::Session,
     ];
 }
 
@@ -82,6 +85,7 @@ impl fmt::Display for FrameFault {
             FrameFault::Length => "F9: the payload's length is out of range",
             FrameFault::Reason => "F10: an unknown reason",
             FrameFault::Trailing => "F11: bytes after the frame",
+            FrameFault::Session => "F12: the session's number is out of range",
         })
     }
 }
@@ -100,7 +104,7 @@ impl std::error::Error for FrameFault {}
 /// let frames = space.transmit(second)?;
 /// let frame = frames.iter().next().expect("one item");
 /// assert_eq!((frame.kind(), frame.from(), frame.to()), (FrameKind::Data, first, second));
-/// assert_eq!((frame.seq(), frame.ack()), (1, 1));
+/// assert_eq!((frame.session(), frame.seq(), frame.ack()), (1, 1, 1));
 /// # Ok(())
 /// # }
 /// ```
@@ -114,14 +118,14 @@ impl Frame {
     ///
     /// ```
     /// # use masttomato::space::{Frame, FrameFault};
-    /// let bytes = [&[0x4e, 1, 2, 0, 0, 1, 0, 2][..], &[0; 15], &[1], &[0; 4]].concat();
-    /// assert_eq!(Frame::from_bytes(bytes.clone())?.ack(), 1);
-    /// assert_eq!(Frame::from_bytes(bytes[..27].to_vec()), Err(FrameFault::Short));
+    /// let bytes = [&[0x4e, 2, 2, 0, 0, 1, 0, 2][..], &[0; 15], &[1], &[0; 4], &[0, 0, 0, 9]].concat();
+    /// assert_eq!(Frame::from_bytes(bytes.clone())?.session(), 9);
+    /// assert_eq!(Frame::from_bytes(bytes[..31].to_vec()), Err(FrameFault::Short));
     /// # Ok::<(), FrameFault>(())
     /// ```
     ///
     /// # Errors
-    /// The first of F1 to F11 that they are refused for.
+    /// The first that they are refused for, of F1 to F9, F12, F1 of the payload, F10 and F11.
     pub fn from_bytes(bytes: Vec<u8>) -> Result<Frame, FrameFault> {
         let header = bytes.first_chunk().ok_or(FrameFault::Short)?;
         let end = HEADER + judge_header(header)?;
@@ -139,7 +143,7 @@ impl Frame {
     /// ```
     /// # use masttomato::space::Frame;
     /// # fn main() -> std::io::Result<()> {
-    /// let bytes = [&[0x4e, 1, 2, 0, 0, 1, 0, 2][..], &[0; 15], &[1], &[0; 4]].concat();
+    /// let bytes = [&[0x4e, 2, 2, 0, 0, 1, 0, 2][..], &[0; 15], &[1], &[0; 4], &[0, 0, 0, 1]].concat();
     /// let mut stream = &bytes[..];
     /// assert!(Frame::read_from(&mut stream)?.is_some());
     /// assert!(Frame::read_from(&mut stream)?.is_none());
@@ -189,6 +193,12 @@ impl Frame {
     /// The space that it goes to.
     pub fn to(&self) -> SpaceId {
         self.space_at(6)
+    }
+
+    /// The number of the session that its sender's end was in. As spaces don't open a closed session again
+    /// yet, it is 1 in each frame that a space gives.
+    pub fn session(&self) -> u32 {
+        u32_at(&self.bytes, 28)
     }
 
     /// The number of the item that a Data frame carries; 0 in the others.
@@ -242,12 +252,12 @@ impl Frames {
     }
 }
 
-// How long the payload is behind a header, or the first of F2 to F9.
+// How long the payload is behind a header, or the first of F2 to F9 and F12.
 fn judge_header(header: &[u8; HEADER]) -> Result<usize, FrameFault> {
     if header[0] != 0x4e {
         return Err(FrameFault::Magic);
     }
-    if header[1] != 1 {
+    if header[1] != 2 {
         return Err(FrameFault::Version);
     }
     let kind = header[2];
@@ -269,13 +279,17 @@ fn judge_header(header: &[u8; HEADER]) -> Result<usize, FrameFault> {
     if !(1..=LAST_ITEM + 1).contains(&u64_at(header, 16)) {
         return Err(FrameFault::Ack);
     }
-    let length = u32::from_be_bytes([header[24], header[25], header[26], header[27]]) as usize;
+    let length = u32_at(header, 24) as usize;
     let fits = match kind {
         1 => (1..=LONGEST_PAYLOAD).contains(&length),
         2 => length == 0,
         _ => length == 1,
     };
-    if fits { Ok(length) } else { Err(FrameFault::Length) }
+    match () {
+        () if !fits => Err(FrameFault::Length),
+        () if u32_at(header, 28) == 0 => Err(FrameFault::Session),
+        () => Ok(length),
+    }
 }
 
 // F10, of a Close.
@@ -307,6 +321,12 @@ fn invalid(fault: FrameFault) -> io::Error {
 
 fn u16_at(bytes: &[u8], place: usize) -> u16 {
     u16::from_be_bytes([bytes[place], bytes[place + 1]])
+}
+
+fn u32_at(bytes: &[u8], place: usize) -> u32 {
+    let mut number = [0; 4];
+    number.copy_from_slice(&bytes[place..place + 4]);
+    u32::from_be_bytes(number)
 }
 
 fn u64_at(bytes: &[u8], place: usize) -> u64 {

@@ -6,7 +6,8 @@ use super::refusal::Refusal;
 use std::fmt::{self, Write};
 
 /// What one space was asked and answered, in order, each entry with its stamp. Its text is a trace:
-/// the traces of all spaces, written one after the other, are what `nobj check` reads.
+/// the traces of all spaces, written one after the other, are what `nobj check` reads. It is a trace of
+/// version 2, whose first line begins with `trace2` and whose frames name their sessions.
 ///
 /// Stamps rise by one from entry to entry, and more where `rise_to` says so. Several traces are
 /// merged by their stamps, and a frame must be transmitted before it arrives in what they make
@@ -22,7 +23,7 @@ use std::fmt::{self, Write};
 /// trace.rise_to(4);
 /// trace.push(&Event::Claim, &Err(masttomato::space::Refusal::Nothing));
 /// trace.push(&"dup 2.1".parse()?, &Ok(Answer::Done));
-/// let text = "trace 1 of 2 window 8 retry 16 entries 2\n5 claim = S10\n6 dup 2.1 = ok\n";
+/// let text = "trace2 1 of 2 window 8 retry 16 entries 2\n5 claim = S10\n6 dup 2.1 = ok\n";
 /// assert_eq!(trace.to_string(), text);
 /// # Ok(())
 /// # }
@@ -89,7 +90,7 @@ impl Trace {
     /// The first line of a trace with so many entries.
     pub fn first_line(space: SpaceId, spaces: SpaceId, limits: Limits, count: u64) -> String {
         let (window, retry) = (limits.window(), limits.retry());
-        format!("trace {space} of {spaces} window {window} retry {retry} entries {count}\n")
+        format!("trace2 {space} of {spaces} window {window} retry {retry} entries {count}\n")
     }
 }
 
