@@ -102,7 +102,7 @@ mod compared {
                 _ if number == 1 => both!(pair, tick, peer),
                 _ if number == 2 && outcome == 0 => both!(pair, close, peer),
                 _ if number == 3 => {
-                    both!(pair, arrive, &frame[..frame.len().min(index as usize * 17)])
+                    both!(pair, arrive, &frame[..frame.len().min((index % 6) as usize * 17)])
                 }
                 _ => both!(pair, arrive, &pickle),
             };
