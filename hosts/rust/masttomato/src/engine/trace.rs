@@ -28,6 +28,20 @@ use std::path::{Path, PathBuf};
 pub trait TraceSink: Send {
     /// The next lines.
     ///
+    /// ```
+    /// use masttomato::engine::TraceSink;
+    /// use std::io::{self, Write};
+    ///
+    /// /// Writes the entries to standard output.
+    /// struct Shown;
+    ///
+    /// impl TraceSink for Shown {
+    ///     fn entries(&mut self, lines: &str) -> io::Result<()> {
+    ///         io::stdout().write_all(lines.as_bytes())
+    ///     }
+    /// }
+    /// ```
+    ///
     /// # Errors
     /// Where they can't be kept: then no more are given, and it is counted.
     fn entries(&mut self, lines: &str) -> io::Result<()>;
@@ -70,12 +84,40 @@ pub struct Files {
 
 impl Files {
     /// Files of a space in a folder, each of which is left for the next one once it has this size.
+    ///
+    /// ```
+    /// # use masttomato::engine::*;
+    /// # use masttomato::{SpaceId, Value};
+    /// # use std::time::Duration;
+    /// # let [one, two] = [1, 2].map(|number| SpaceId::new(number).expect("1 to 32"));
+    /// # let now = Duration::ZERO;
+    /// # let mut engine = Engine::new(Settings::new(one, two), now)?;
+    /// engine.record(Box::new(Files::new("traces", one, 1 << 20)));      // traces/space-1.000001.entries, and so on
+    /// # Ok::<(), Box<dyn std::error::Error>>(())
+    /// ```
     pub fn new(folder: impl Into<PathBuf>, space: SpaceId, size: u64) -> Files {
         Files { folder: folder.into(), space, size, number: 0, open: None }
     }
 
     /// The trace that a space's files in a folder have together, for `nobj check`. A last line that
     /// isn't whole is left out.
+    ///
+    /// ```
+    /// use masttomato::SpaceId;
+    /// use masttomato::engine::Files;
+    /// use std::path::Path;
+    ///
+    /// // All traces of a folder, for `nobj check`.
+    /// fn traces(folder: &Path, last: SpaceId) -> std::io::Result<String> {
+    ///     last.up_to().map(|space| Files::join(folder, space, last)).collect()
+    /// }
+    /// # let last = SpaceId::new(2).expect("1 to 32");
+    /// # let empty = std::env::temp_dir().join(format!("masttomato-join-{}", std::process::id()));
+    /// # std::fs::create_dir_all(&empty)?;
+    /// assert_eq!(traces(&empty, last)?.lines().count(), 2);       // nothing was recorded there
+    /// # std::fs::remove_dir_all(&empty)?;
+    /// # Ok::<(), std::io::Error>(())
+    /// ```
     ///
     /// # Errors
     /// Where they can't be read.

@@ -5,6 +5,16 @@ use crate::space::SpaceId;
 use std::fmt;
 
 /// How long a hello is.
+///
+/// ```
+/// # use masttomato::engine::*;
+/// # use masttomato::SpaceId;
+/// # let [one, two] = [1, 2].map(|number| SpaceId::new(number).expect("1 to 32"));
+/// # let world = World::named("shop");
+/// # let hello = Hello { space: one, spaces: two, world, life: Life(7), refused: None };
+/// assert_eq!(hello.to_bytes().len(), HELLO);
+/// # Ok::<(), Why>(())
+/// ```
 pub const HELLO: usize = 64;
 /// The head of a record.
 pub(crate) const HEAD: usize = 16;
@@ -13,6 +23,12 @@ const FRAME_HEADER: usize = 32;
 /// The number of the session in which all ends are: none opens a session that closed again yet.
 pub(crate) const SESSION: u32 = 1;
 /// The longest body: as many frames as a peer may have to acknowledge, each as long as one can be.
+///
+/// ```
+/// # use masttomato::engine::*;
+/// # use masttomato::SpaceId;
+/// assert_eq!(LONGEST_BODY, 64 * (32 + 16_384));
+/// ```
 pub const LONGEST_BODY: usize = 64 * 16_416;
 
 const MARK: [u8; 4] = *b"NOBN";
@@ -20,10 +36,30 @@ const MARK: [u8; 4] = *b"NOBN";
 const VERSION: u16 = 2;
 
 /// A random number of one life of a process: a process that starts again has another one. See [`Hello`].
+///
+/// ```
+/// # use masttomato::engine::*;
+/// # use masttomato::{SpaceId, Value};
+/// # use std::time::Duration;
+/// # let [one, two] = [1, 2].map(|number| SpaceId::new(number).expect("1 to 32"));
+/// # let now = Duration::ZERO;
+/// # let mut engine = Engine::new(Settings::new(one, two), now)?;
+/// engine.connected(two, Life(12), now)?;
+/// engine.disconnected(two, now);
+/// engine.connected(two, Life(12), now)?;                       // the same process, over another connection
+/// assert_eq!(engine.connected(two, Life(13), now), Err(Why::NumberUsed));
+/// # Ok::<(), Box<dyn std::error::Error>>(())
+/// ```
 #[derive(Clone, Copy, Debug, PartialEq, Eq, Hash)]
 pub struct Life(pub u64);
 
 /// The name of a world, 16 bytes. Two worlds never mix.
+///
+/// ```
+/// # use masttomato::engine::*;
+/// # use masttomato::SpaceId;
+/// assert_eq!(World::default(), World::named(""));
+/// ```
 #[derive(Clone, Copy, Debug, Default, PartialEq, Eq, Hash)]
 pub struct World(pub [u8; 16]);
 
@@ -44,6 +80,18 @@ impl World {
 }
 
 /// Why a hello was refused: see [`Hello`].
+///
+/// ```
+/// # use masttomato::engine::*;
+/// # use masttomato::SpaceId;
+/// # let [one, two] = [1, 2].map(|number| SpaceId::new(number).expect("1 to 32"));
+/// # let world = World::named("shop");
+/// # let hello = Hello { space: one, spaces: two, world, life: Life(7), refused: None };
+/// let other = Hello { space: two, world: World::named("bank"), ..hello };
+/// let why = hello.judge(&other).unwrap_err();
+/// assert_eq!((why, why.to_string()), (Why::OtherWorld, "it is of another world".into()));
+/// # Ok::<(), Why>(())
+/// ```
 #[derive(Clone, Copy, Debug, PartialEq, Eq, Hash)]
 #[non_exhaustive]
 pub enum Why {
@@ -117,6 +165,16 @@ pub struct Hello {
 
 impl Hello {
     /// The bytes that spell it.
+    ///
+    /// ```
+    /// # use masttomato::engine::*;
+    /// # use masttomato::SpaceId;
+    /// # let [one, two] = [1, 2].map(|number| SpaceId::new(number).expect("1 to 32"));
+    /// # let world = World::named("shop");
+    /// # let hello = Hello { space: one, spaces: two, world, life: Life(7), refused: None };
+    /// assert!(hello.to_bytes().starts_with(b"NOBN"));
+    /// # Ok::<(), Why>(())
+    /// ```
     pub fn to_bytes(&self) -> [u8; HELLO] {
         let mut bytes = [0; HELLO];
         let mut put =
@@ -132,6 +190,17 @@ impl Hello {
     }
 
     /// The hello that these bytes spell.
+    ///
+    /// ```
+    /// # use masttomato::engine::*;
+    /// # use masttomato::SpaceId;
+    /// # let [one, two] = [1, 2].map(|number| SpaceId::new(number).expect("1 to 32"));
+    /// # let world = World::named("shop");
+    /// # let hello = Hello { space: one, spaces: two, world, life: Life(7), refused: None };
+    /// assert_eq!(Hello::from_bytes(&hello.to_bytes())?, hello);
+    /// assert_eq!(Hello::from_bytes(&[0; HELLO]), Err(Why::NoHello));
+    /// # Ok::<(), Why>(())
+    /// ```
     ///
     /// # Errors
     /// `NoHello` where they spell none.
@@ -152,6 +221,17 @@ impl Hello {
     }
 
     /// Whether a peer's hello goes with this one.
+    ///
+    /// ```
+    /// # use masttomato::engine::*;
+    /// # use masttomato::SpaceId;
+    /// # let [one, two] = [1, 2].map(|number| SpaceId::new(number).expect("1 to 32"));
+    /// # let world = World::named("shop");
+    /// # let hello = Hello { space: one, spaces: two, world, life: Life(7), refused: None };
+    /// hello.judge(&Hello { space: two, life: Life(8), ..hello })?;
+    /// assert_eq!(hello.judge(&hello), Err(Why::OtherNumber));
+    /// # Ok::<(), Why>(())
+    /// ```
     ///
     /// # Errors
     /// Why it doesn't.

@@ -12,6 +12,29 @@ const LONGEST_PAYLOAD: usize = 16_384;
 const LAST_ITEM: u64 = 1 << 40;
 
 /// What a frame is for: see [`Frame`].
+///
+/// ```
+/// # use masttomato::space::*;
+/// # fn carry(from: &mut Space, to: &mut Space) -> Result<(), SpaceError> {
+/// #     for frame in from.transmit(to.id())?.iter() {
+/// #         to.arrive(&frame)?;
+/// #     }
+/// #     while to.act(from.id()).is_ok() || to.settle().is_ok() || to.clean().is_ok() {}
+/// #     Ok(())
+/// # }
+/// # let [one, two] = [1, 2].map(|number| SpaceId::new(number).expect("1 to 32"));
+/// # let mut caller = Space::new(one, two, Limits::default())?;
+/// # let mut owner = Space::new(two, two, Limits::default())?;
+/// assert!(caller.transmit(two)?.is_empty());
+/// caller.call(two.agent(), 0, &Value::Unit)?;
+/// let kind = |frames: Frames| frames.iter().next().map(|frame| frame.kind());
+/// assert_eq!(kind(caller.transmit(two)?), Some(FrameKind::Data));
+/// carry(&mut caller, &mut owner)?;
+/// assert_eq!(kind(owner.transmit(one)?), Some(FrameKind::Ack));
+/// caller.close(two)?;
+/// assert_eq!(kind(caller.transmit(two)?), Some(FrameKind::Close));
+/// # Ok::<(), SpaceError>(())
+/// ```
 #[derive(Clone, Copy, Debug, PartialEq, Eq)]
 #[non_exhaustive]
 pub enum FrameKind {
@@ -24,6 +47,13 @@ pub enum FrameKind {
 }
 
 /// Why bytes are no frame: see [`Frame::from_bytes`].
+///
+/// ```
+/// # use masttomato::space::*;
+/// assert_eq!(Frame::from_bytes(vec![0x4e, 2]), Err(FrameFault::Short));
+/// assert_eq!(Frame::from_bytes(vec![0; 32]), Err(FrameFault::Magic));
+/// assert_eq!(FrameFault::Magic.to_string(), "F2: the first byte isn't 4e");
+/// ```
 #[derive(Clone, Copy, Debug, PartialEq, Eq)]
 #[non_exhaustive]
 pub enum FrameFault {
@@ -55,6 +85,11 @@ pub enum FrameFault {
 
 impl FrameFault {
     /// All faults, F1 to F12.
+    ///
+    /// ```
+    /// # use masttomato::space::*;
+    /// assert!(FrameFault::ALL.iter().zip(1..).all(|(fault, n)| fault.to_string().starts_with(&format!("F{n}:"))));
+    /// ```
     pub const ALL: [FrameFault; 12] = [
         FrameFault::Short,
         FrameFault::Magic,
@@ -167,16 +202,50 @@ impl Frame {
     }
 
     /// The bytes that spell the frame.
+    ///
+    /// ```
+    /// # use masttomato::space::*;
+    /// # let [one, two] = [1, 2].map(|number| SpaceId::new(number).expect("1 to 32"));
+    /// # let mut space = Space::new(one, two, Limits::default())?;
+    /// # space.call(two.agent(), 0, &Value::Unit)?;
+    /// # let frames = space.transmit(two)?;
+    /// # let frame = frames.iter().next().expect("one");
+    /// assert_eq!(frame.as_bytes()[..3], [0x4e, 2, 1]);
+    /// # Ok::<(), SpaceError>(())
+    /// ```
     pub fn as_bytes(&self) -> &[u8] {
         &self.bytes
     }
 
     /// The bytes that spell the frame.
+    ///
+    /// ```
+    /// # use masttomato::space::*;
+    /// # let [one, two] = [1, 2].map(|number| SpaceId::new(number).expect("1 to 32"));
+    /// # let mut space = Space::new(one, two, Limits::default())?;
+    /// # space.call(two.agent(), 0, &Value::Unit)?;
+    /// # let frames = space.transmit(two)?;
+    /// # let frame = frames.iter().next().expect("one");
+    /// let bytes = frame.clone().into_bytes();
+    /// assert_eq!(Frame::from_bytes(bytes), Ok(frame));
+    /// # Ok::<(), SpaceError>(())
+    /// ```
     pub fn into_bytes(self) -> Vec<u8> {
         self.bytes
     }
 
     /// What the frame is for.
+    ///
+    /// ```
+    /// # use masttomato::space::*;
+    /// # let [one, two] = [1, 2].map(|number| SpaceId::new(number).expect("1 to 32"));
+    /// # let mut space = Space::new(one, two, Limits::default())?;
+    /// # space.call(two.agent(), 0, &Value::Unit)?;
+    /// # let frames = space.transmit(two)?;
+    /// # let frame = frames.iter().next().expect("one");
+    /// assert_eq!(frame.kind(), FrameKind::Data);
+    /// # Ok::<(), SpaceError>(())
+    /// ```
     pub fn kind(&self) -> FrameKind {
         match self.bytes[2] {
             1 => FrameKind::Data,
@@ -186,27 +255,82 @@ impl Frame {
     }
 
     /// The space that transmitted it.
+    ///
+    /// ```
+    /// # use masttomato::space::*;
+    /// # let [one, two] = [1, 2].map(|number| SpaceId::new(number).expect("1 to 32"));
+    /// # let mut space = Space::new(one, two, Limits::default())?;
+    /// # space.call(two.agent(), 0, &Value::Unit)?;
+    /// # let frames = space.transmit(two)?;
+    /// # let frame = frames.iter().next().expect("one");
+    /// assert_eq!(frame.from(), space.id());
+    /// # Ok::<(), SpaceError>(())
+    /// ```
     pub fn from(&self) -> SpaceId {
         self.space_at(4)
     }
 
     /// The space that it goes to.
+    ///
+    /// ```
+    /// # use masttomato::space::*;
+    /// # let [one, two] = [1, 2].map(|number| SpaceId::new(number).expect("1 to 32"));
+    /// # let mut space = Space::new(one, two, Limits::default())?;
+    /// # space.call(two.agent(), 0, &Value::Unit)?;
+    /// # let frames = space.transmit(two)?;
+    /// # let frame = frames.iter().next().expect("one");
+    /// assert_eq!(frame.to(), two);
+    /// # Ok::<(), SpaceError>(())
+    /// ```
     pub fn to(&self) -> SpaceId {
         self.space_at(6)
     }
 
     /// The number of the session that its sender's end was in. As spaces don't open a closed session again
     /// yet, it is 1 in each frame that a space gives.
+    ///
+    /// ```
+    /// # use masttomato::space::*;
+    /// # let [one, two] = [1, 2].map(|number| SpaceId::new(number).expect("1 to 32"));
+    /// # let mut space = Space::new(one, two, Limits::default())?;
+    /// # space.call(two.agent(), 0, &Value::Unit)?;
+    /// # let frames = space.transmit(two)?;
+    /// # let frame = frames.iter().next().expect("one");
+    /// assert_eq!(frame.session(), 1);
+    /// # Ok::<(), SpaceError>(())
+    /// ```
     pub fn session(&self) -> u32 {
         u32_at(&self.bytes, 28)
     }
 
     /// The number of the item that a Data frame carries; 0 in the others.
+    ///
+    /// ```
+    /// # use masttomato::space::*;
+    /// # let [one, two] = [1, 2].map(|number| SpaceId::new(number).expect("1 to 32"));
+    /// # let mut space = Space::new(one, two, Limits::default())?;
+    /// # space.call(two.agent(), 0, &Value::Unit)?;
+    /// # let frames = space.transmit(two)?;
+    /// # let frame = frames.iter().next().expect("one");
+    /// assert_eq!(frame.seq(), 1);                      // it is the first item of all
+    /// # Ok::<(), SpaceError>(())
+    /// ```
     pub fn seq(&self) -> u64 {
         u64_at(&self.bytes, 8)
     }
 
     /// The number of the next item that its sender hasn't accepted yet.
+    ///
+    /// ```
+    /// # use masttomato::space::*;
+    /// # let [one, two] = [1, 2].map(|number| SpaceId::new(number).expect("1 to 32"));
+    /// # let mut space = Space::new(one, two, Limits::default())?;
+    /// # space.call(two.agent(), 0, &Value::Unit)?;
+    /// # let frames = space.transmit(two)?;
+    /// # let frame = frames.iter().next().expect("one");
+    /// assert_eq!(frame.ack(), 1);                      // nothing was accepted yet
+    /// # Ok::<(), SpaceError>(())
+    /// ```
     pub fn ack(&self) -> u64 {
         u64_at(&self.bytes, 16)
     }
@@ -223,6 +347,16 @@ impl fmt::Display for Frame {
 }
 
 /// The frames that one Transmit gave, in order. They may be none. See [`Space::push`](super::Space::push).
+///
+/// ```
+/// # use masttomato::space::*;
+/// # let [one, two] = [1, 2].map(|number| SpaceId::new(number).expect("1 to 32"));
+/// # let mut space = Space::new(one, two, Limits::default())?;
+/// (0..3).try_for_each(|number| space.call(two.agent(), 0, &Value::Int(number)).map(drop))?;
+/// let frames = space.transmit(two)?;
+/// assert_eq!(frames.iter().map(|frame| frame.seq()).collect::<Vec<_>>(), [1, 2, 3]);
+/// # Ok::<(), SpaceError>(())
+/// ```
 #[derive(Clone, Debug, Default, PartialEq, Eq)]
 pub struct Frames {
     // They stand one after the other.
@@ -236,16 +370,46 @@ impl Frames {
     }
 
     /// Whether there is none.
+    ///
+    /// ```
+    /// # use masttomato::space::*;
+    /// # let [one, two] = [1, 2].map(|number| SpaceId::new(number).expect("1 to 32"));
+    /// # let mut space = Space::new(one, two, Limits::default())?;
+    /// assert!(space.transmit(two)?.is_empty());
+    /// # Ok::<(), SpaceError>(())
+    /// ```
     pub fn is_empty(&self) -> bool {
         self.bytes.is_empty()
     }
 
     /// The bytes of the frames, one after the other: what a stream of frames is made of.
+    ///
+    /// ```
+    /// # use masttomato::space::*;
+    /// # let [one, two] = [1, 2].map(|number| SpaceId::new(number).expect("1 to 32"));
+    /// # let mut space = Space::new(one, two, Limits::default())?;
+    /// # space.call(two.agent(), 0, &Value::Unit)?;
+    /// # let frames = space.transmit(two)?;
+    /// # let frame = frames.iter().next().expect("one");
+    /// assert_eq!(frames.as_bytes(), frame.as_bytes());          // there is but one
+    /// # Ok::<(), SpaceError>(())
+    /// ```
     pub fn as_bytes(&self) -> &[u8] {
         &self.bytes
     }
 
     /// The frames, in order.
+    ///
+    /// ```
+    /// # use masttomato::space::*;
+    /// # let [one, two] = [1, 2].map(|number| SpaceId::new(number).expect("1 to 32"));
+    /// # let mut space = Space::new(one, two, Limits::default())?;
+    /// # space.call(two.agent(), 0, &Value::Unit)?;
+    /// # let frames = space.transmit(two)?;
+    /// # let frame = frames.iter().next().expect("one");
+    /// assert_eq!(frames.iter().count(), 1);
+    /// # Ok::<(), SpaceError>(())
+    /// ```
     pub fn iter(&self) -> impl Iterator<Item = Frame> + '_ {
         let mut left = &self.bytes[..];
         std::iter::from_fn(move || Frame::read_from(&mut left).expect("whole frames"))
