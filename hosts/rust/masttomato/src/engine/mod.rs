@@ -65,6 +65,8 @@ const MOST_UNANSWERED: u64 = 4_096;
 const LOOK: Duration = Duration::from_millis(500);
 /// So many ticks without progress close a session.
 const TICKS: u8 = 255;
+/// The limits of an engine's sessions.
+const LIMITS: Limits = Limits::new(64, TICKS).expect("these are limits");
 
 /// The program's own number of a call, by which it knows the answer again: see [`Engine::call`].
 ///
@@ -417,8 +419,7 @@ impl Engine {
     /// # Panics
     /// Where its number is above the last one.
     pub fn new(settings: Settings, now: Duration) -> Result<Engine, SpaceError> {
-        let limits = Limits::new(64, TICKS).expect("these are limits");
-        let space = Space::new(settings.space, settings.spaces, limits)?;
+        let space = Space::new(settings.space, settings.spaces, LIMITS)?;
         let links = Links::new(space.peers(), now);
         Ok(Engine {
             settings,

@@ -1,6 +1,6 @@
 //! Where the entries of a trace go.
 
-use crate::space::{Limits, SpaceId, Trace};
+use crate::space::{SpaceId, Trace};
 use std::fs::{self, File};
 use std::io::{self, Write};
 use std::path::{Path, PathBuf};
@@ -135,9 +135,8 @@ impl Files {
         paths.sort();
         let text = paths.iter().map(fs::read_to_string).collect::<io::Result<String>>()?;
         let whole = &text[..text.rfind('\n').map_or(0, |end| end + 1)];
-        let limits = Limits::new(64, 255).expect("these are limits");
         let count = whole.lines().count() as u64;
-        Ok(Trace::first_line(space, spaces, limits, count) + whole)
+        Ok(Trace::first_line(space, spaces, super::LIMITS, count) + whole)
     }
 
     fn file(&mut self) -> io::Result<&mut (File, u64)> {

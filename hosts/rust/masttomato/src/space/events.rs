@@ -63,6 +63,9 @@ use masttomato_sys::{Handle, Told};
 /// # }
 /// ```
 ///
+/// What the library tells is believed: where it is of another version than this crate and tells a number that
+/// this crate doesn't know, the method that asked panics.
+///
 /// A space stays on the thread that made it: it is neither `Send` nor `Sync`.
 ///
 /// ```compile_fail
@@ -829,6 +832,9 @@ impl Space {
     ///
     /// # Errors
     /// [`ArriveError::Fault`] where they spell no frame, and else what `arrive` answers.
+    ///
+    /// # Panics
+    /// Where the library takes bytes for a frame that are none, and a trace is kept.
     pub fn arrive_bytes(&mut self, bytes: &[u8]) -> Result<Arrived, ArriveError> {
         let asked = self.handle.arrive(bytes);
         if let status @ 41..=52 = asked.0 {
@@ -892,6 +898,9 @@ impl Space {
     /// assert_eq!(owner.arrive_next(), None);
     /// # Ok::<(), SpaceError>(())
     /// ```
+    ///
+    /// # Panics
+    /// Where the library gave bytes that are no frame, and a trace is kept.
     pub fn arrive_next(&mut self) -> Option<Result<Arrived, SpaceError>> {
         let asked = self.handle.bring_next();
         if asked.0 == 62 {
@@ -927,6 +936,9 @@ impl Space {
     /// assert_eq!(owner.push(one, frames.as_bytes()), Ok(1));
     /// # Ok::<(), SpaceError>(())
     /// ```
+    ///
+    /// # Panics
+    /// Where the library says that the peer is no space.
     pub fn restart(&mut self, peer: SpaceId) {
         let status = self.handle.restart(peer.get());
         assert_eq!(status, 0, "nob_restart takes any space's number");

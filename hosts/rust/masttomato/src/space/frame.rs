@@ -410,6 +410,9 @@ impl Frames {
     /// assert_eq!(frames.iter().count(), 1);
     /// # Ok::<(), SpaceError>(())
     /// ```
+    ///
+    /// # Panics
+    /// Where the library gave other bytes than frames.
     pub fn iter(&self) -> impl Iterator<Item = Frame> + '_ {
         let mut left = &self.bytes[..];
         std::iter::from_fn(move || Frame::read_from(&mut left).expect("whole frames"))
