@@ -1,9 +1,10 @@
 -- The payload of an item from a peer is the one that came at the end with the peer, and what the end accepted under its number.
-use Rattle.std.proofs.Common.{◌≡◌, ℕ, zero, suc, ◌+◌, ◌<◌, ◌&&◌, Bool, true, false, cond, List, [], ◌∷◌, length, drop, Option, Some, None, Ok, refl, sym, ap, subst, ◌∙◌}
+use Rattle.std.proofs.Common.{◌≡◌, ℕ, zero, suc, ◌+◌, ◌≤◌, ◌<◌, ◌&&◌, Bool, true, false, cond, List, [], ◌∷◌, ◌++◌, length, drop, Option, Some, None, Ok, refl, sym, ap, subst, ◌∙◌, arith}
 use Rattle.std.specs.Prelude.{◌==◌}
 use Rattle.std.specs.List.{slice_get}
 use Rattle.std.specs.Option.{option_or}
 use Rattle.std.proofs.lemmas.Bool.{eqb-true}
+use Rattle.std.proofs.lemmas.List.{length-append}
 use Rattle.std.proofs.lemmas.Option.{slice_get_within}
 use Rattle.nob_ids.specs.declared.reason.Reason.{Reason}
 use Rattle.nob_item.specs.declared.item.Item.{Item}
@@ -69,6 +70,11 @@ sent_number s n p deed D = sends_number (items_to p (gifts s n deed D (work s n 
 pub count_is : (s n p : ℕ) (D : List Deed) → accepted_count (calls_at p (history_of s n D)) ≡ accepted_from p D
 count_is s n p [] = refl
 count_is s n p (deed ∷ D) = own_count p deed D (calls_sent s n p deed D) (sent_number s n p deed D) (sends_count (items_to p (gifts s n deed D (work s n D))) (calls_at p (history_of s n D)) ∙ count_is s n p D)
+
+-- an arrival leaves what was accepted in front of what it accepts
+pub accepts_more : (b : Bool) (before more : List (List ℕ)) → length before ≤ length (cond b (before ++ more) before)
+accepts_more true before more = let longer = length-append before more in omega (arith, longer)
+accepts_more false before more = omega arith
 
 -- ---- payloads
 

@@ -1,7 +1,7 @@
 -- Every frame that was given is as its sender's end gave it: what it acknowledges, its number and its payload.
 use Rattle.std.proofs.Common.{◌≡◌, ℕ, zero, suc, ◌+◌, ◌-◌, ◌≤◌, ◌&&◌, not, Bool, true, false, cond, max, List, [], ◌∷◌, ◌++◌, length, take, drop, Option, Some, None, Ok, refl, sym, ap, subst, ◌∙◌, append_assoc, arith}
 use Rattle.std.specs.List.{AllByRecursion, Contains, slice_get}
-use Rattle.std.proofs.lemmas.List.{append-nil, length-take, length-drop, length_push, length-append, take-append-drop}
+use Rattle.std.proofs.lemmas.List.{append-nil, length-take, length-drop, length_push, take-append-drop}
 use Rattle.std.proofs.lemmas.List.Elements.{All-from_recursion, All-contains}
 use Rattle.nob_ids.specs.declared.limits.Limits.{Limits}
 use Rattle.nob_ids.specs.declared.reason.Reason.{Reason}
@@ -18,6 +18,7 @@ use Rattle.nob_model_session.proofs.Arriving.{right_came, accepted_length}
 use Rattle.nob_model_types.specs.declared.entry.Entry.{Entry}
 use Rattle.nob_model_history.specs.Ends.{calls_at}
 use Rattle.nob_model_history.proofs.Sessions.{NeverOpens, never_opens}
+use Rattle.nob_model_history.proofs.Arriving.{accepts_more}
 use Rattle.nob_model.specs.Laws.{AreRightCalls}
 use Rattle.nob_model.proofs.Waiting.{all_weaker}
 use Rattle.nob_model.proofs.Calling.{calls_law}
@@ -140,11 +141,6 @@ carried_later before after longer frame carried = record {
   is_numbered = carried.is_numbered;
   carries = λ d. place_in_whole (handed before) longer.more (handed after) (frame.seq - 1) frame.payload longer.handed_more (carried.carries d);
 }
-
--- more payloads that are accepted, or none
-accepts_more : (b : Bool) (before more : List (List ℕ)) → length before ≤ length (cond b (before ++ more) before)
-accepts_more true before more = let longer = length-append before more in omega (arith, longer)
-accepts_more false before more = omega arith
 
 call_longer : (call : EndEntry) (calls : List EndEntry) → NeverOpens (call ∷ calls) → IsLonger calls (call ∷ calls)
 call_longer (ends.Reopen k (Ok done)) calls never = let opened : true ≡ false = never.0 in absurd (cc)
