@@ -1,5 +1,5 @@
 -- The sessions of a list of calls: their numbers rise, and the calls up to the end of each.
-use Rattle.std.proofs.Common.{◌≡◌, ◌≢◌, ℕ, ◌+◌, ◌<◌, ◌≤◌, ◌&&◌, ◌==◌, Bool, true, false, not, cond, List, [], ◌∷◌, Option, Some, None, Ok, Err, if◌then◌else◌, refl, sym, ap, subst, ◌∙◌, arith}
+use Rattle.std.proofs.Common.{◌≡◌, ◌≢◌, ℕ, ◌<◌, ◌≤◌, ◌&&◌, ◌==◌, Bool, true, false, not, cond, List, [], ◌∷◌, Option, Some, None, Ok, Err, if◌then◌else◌, refl, sym, ap, subst, ◌∙◌, arith}
 use Rattle.std.specs.Option.{option_or}
 use Rattle.std.proofs.lemmas.Bool.{eqb-true}
 use Rattle.std.proofs.lemmas.Bool.Decides.{nat_tests}
@@ -9,7 +9,7 @@ use Rattle.nob_model_session.specs.declared.refusal.EndRefusal.TheVariants as re
 use Rattle.nob_model_session.specs.declared.entry.Arrived.TheVariants as arrived
 use Rattle.nob_model_session.specs.declared.entry.EndEntry.{EndEntry}
 use Rattle.nob_model_session.specs.declared.entry.EndEntry.TheVariants.{Arrive, Reopen}
-use Rattle.nob_model_session.specs.End.{number, seen, up_to, is_present, is_open, accepted_count, brings_at, payload}
+use Rattle.nob_model_session.specs.End.{number, up_to, is_present, is_open, accepted_count, brings_at, payload}
 use Rattle.nob_model_session.specs.Right.{is_free_number, right_reopen, IsRight}
 use Rattle.nob_model_session.specs.Pair.{transmitted_frames}
 use Rattle.nob_model_session.specs.Accepting.{AllCame}

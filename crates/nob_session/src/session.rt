@@ -665,7 +665,7 @@ impl Session {
         ensures err { OnErr result (self.new.end ≡ self.old.end) }
         ensures room { self.old.room ≤ self.new.room }
     {
-        if self.ending.is_none() {
+        if self.is_open() {
             return Err(EndRefusal::StillOpen);
         }
         if number <= self.number || number < self.seen {
