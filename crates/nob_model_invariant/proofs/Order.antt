@@ -82,6 +82,7 @@ send_low number count false false false e = refl
 -- right calls hand on no more items than there are numbers
 handed_few : (s p : ℕ) (limits : Limits) (calls : List EndEntry) → AreRightCalls s p limits calls → length (handed calls) ≤ last_item
 handed_few s p limits [] right = omega arith
+handed_few s p limits (ends.Reopen k (Ok done) ∷ calls) right = omega arith
 handed_few s p limits (ends.Send payload kind (Ok number) ∷ calls) right =
     let low = leb-false last_item (length (handed calls)) (send_low number (length (handed calls)) (not (is_open calls)) (is_limited kind && nat_le queue_limit (length (unacknowledged calls))) (nat_le last_item (length (handed calls))) right.0) in
     let more = length_push (handed calls) payload in
