@@ -1,3 +1,2 @@
 pub mod TextLists
 pub mod Arriving
-pub mod Fronts

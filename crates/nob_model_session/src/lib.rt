@@ -6,7 +6,6 @@
 
 pub mod end;
 mod entry;
-pub mod laws;
 mod refusal;
 pub mod right;
 
