@@ -112,7 +112,11 @@ fn script_event(alloc: Global, version: Version, text: &[u8]) -> Result<Event, U
 }
 
 // The result in a trace of a version that a text spells.
-fn traced_result(alloc: Global, version: Version, text: &[u8]) -> Result<Result<Answer, Refusal>, Unread>
+fn traced_result(
+    alloc: Global,
+    version: Version,
+    text: &[u8],
+) -> Result<Result<Answer, Refusal>, Unread>
     ensures found { IfOk result (λ response. IsTracedResult version response
         × (text.now ≡ result_text version response)) }
     ensures only { (response : ResultOf AnswerOf RefusalOf) → IsTracedResult version response
@@ -163,7 +167,11 @@ fn refusal_result(version: Version, text: &[u8]) -> Result<Result<Answer, Refusa
 }
 
 // The frames that a text spells, as a result.
-fn frames_result(alloc: Global, version: Version, text: &[u8]) -> Result<Result<Answer, Refusal>, Unread>
+fn frames_result(
+    alloc: Global,
+    version: Version,
+    text: &[u8],
+) -> Result<Result<Answer, Refusal>, Unread>
     ensures found { IfOk result (λ response. IsTracedResult version response
         × (text.now ≡ result_text version response)) }
     ensures only { (frames : List FrameOf) → IsTracedResult version (Ok (Answer.Frames frames))
@@ -174,7 +182,11 @@ fn frames_result(alloc: Global, version: Version, text: &[u8]) -> Result<Result<
 }
 
 // The answer without frames that a text spells, as a result.
-fn answer_result(alloc: Global, version: Version, text: &[u8]) -> Result<Result<Answer, Refusal>, Unread>
+fn answer_result(
+    alloc: Global,
+    version: Version,
+    text: &[u8],
+) -> Result<Result<Answer, Refusal>, Unread>
     ensures found { IfOk result (λ response. IsTracedResult version response
         × (text.now ≡ result_text version response)) }
     ensures only { (answer : AnswerOf) → IsTold answer → text.now ≡ answer_text [] answer

@@ -112,11 +112,7 @@ fn entry_text(alloc: Global, version: Version, entry: &Stamped) -> Result<String
 }
 
 // The text of an event in a trace.
-fn traced_event_text(
-    alloc: Global,
-    version: Version,
-    event: &Event,
-) -> Result<String, TraceError>
+fn traced_event_text(alloc: Global, version: Version, event: &Event) -> Result<String, TraceError>
     ensures { Writes (λ text. string_bytes text
         ≡ events.event_text (entries.arrival_text version event.now) event.now)
         (entries.ArrivalFits version event.now) result }
