@@ -1,5 +1,5 @@
 -- A text spells one trace.
-use Rattle.std.proofs.Common.{◌≡◌, ℕ, ◌≤◌, subst, List, [], ◌∷◌, ◌++◌, length, codes, refl, sym, ap, ◌∙◌, append_assoc, arith, Result}
+use Rattle.std.proofs.Common.{◌≡◌, ℕ, ◌≤◌, subst, List, [], ◌∷◌, ◌++◌, length, codes, refl, sym, ap, ◌∙◌, append_assoc, length-append, arith, Result}
 use Rattle.std.proofs.Math.Bridge.{le_prop}
 use Rattle.std.specs.List.{AllByRecursion, flat_map}
 use Rattle.nob_ids.specs.declared.limits.Limits.{Limits}
@@ -140,7 +140,9 @@ pub one_trace : OneTrace
 one_trace text t u is was spelt again = (one_front t u [] [] is was (ap (λ (bs : List ℕ). bs ++ []) (sym spelt ∙ again))).0
 
 pub some_text : (t : Trace) (rest : List ℕ) → [] ≡ trace_text t ++ rest → ⊥
-some_text t rest is = absurd cc
+some_text t rest is =
+    let l : 0 ≡ length (trace_text t ++ rest) = ap length is in
+    omega (arith, l, length-append (trace_text t) rest, length-append (head_text (head_of t)) (10 ∷ entries_text t.version t.entries))
 
 lists_are : (ts us : List Trace) → AllByRecursion IsTrace ts → AllByRecursion IsTrace us → flat_map trace_text ts ≡ flat_map trace_text us → ts ≡ us
 lists_are [] [] are were same = refl

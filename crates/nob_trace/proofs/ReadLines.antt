@@ -129,7 +129,7 @@ breaks version text count done left less so_far = record { few = less; rise = so
 
 -- a line's fault is that of the lines
 entry_fault : (version : Version) (text : List ℕ) (count : ℕ) (done : List Stamped) (left line rest : List ℕ) (fault : TraceFault) → Breaks version text count done left → BeginsWithLine left line rest → (fault ≡ faults.Entry) × IsNoEntry version line → EntriesFault version text count fault
-entry_fault version text count done left line rest fault breaks begins wrong = subst (EntriesFault version text count) (sym wrong.0) (done, left, line, rest, breaks version, begins, wrong.1)
+entry_fault version text count done left line rest fault breaks begins wrong = subst (EntriesFault version text count) (sym wrong.0) (done, left, line, rest, breaks, begins, wrong.1)
 
 pub line_fault : (version : Version) {X : Type 0} (P : X → Type 0) (text : List ℕ) (count : ℕ) (done : List Stamped) (left line rest : List ℕ) (r : Result X TraceError) (e : TraceError) → Breaks version text count done left → BeginsWithLine left line rest
     → IsErrAnd r (λ f. f ≡ e) → Explains (λ fault. (fault ≡ faults.Entry) × IsNoEntry version line) e → Answers P (EntriesFault version text count) r

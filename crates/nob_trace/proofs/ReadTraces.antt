@@ -116,7 +116,9 @@ only_next text left after done t some read so_far all are spelt =
 
 -- a trace's text is some
 some_text : (t : Trace) (rest : List ℕ) → [] ≡ trace_text t ++ rest → ⊥
-some_text t rest is = absurd cc
+some_text t rest is =
+    let l : 0 ≡ length (trace_text t ++ rest) = ap length is in
+    omega (arith, l, length-append (trace_text t) rest, length-append (head_text (head_of t)) (10 ∷ entries_text t.version t.entries))
 
 no_more : (others : List Trace) → [] ≡ flat_map trace_text others → others ≡ []
 no_more [] is = refl

@@ -24,9 +24,9 @@ use nob_model_text::{Unread, number_at, refusal_of};
 use nob_model_types::{Answer, Event, Refusal};
 use std::alloc::Global;
 
-/// The entry that a line of a trace of a version spells, without its newline. Only memory and a line that spells
-/// none fail it. It costs time and memory in proportion to the line, and recurses once for each
-/// level of a value.
+/// The entry that a line of a trace of a version spells, without its newline. Only memory and a
+/// line that spells none fail it. It costs time and memory in proportion to the line, and recurses
+/// once for each level of a value.
 pub fn entry_of(alloc: Global, version: Version, line: &[u8]) -> Result<Stamped, Unread>
     ensures found { IfOk result (λ entry. IsTraced version entry
         × (line.now ≡ entry_text version entry)) }

@@ -81,7 +81,8 @@ fn frame_at(alloc: Global, version: Version, text: &[u8]) -> Result<(Frame, &[u8
 // The frame that bytes spell in a version.
 fn frame_of_bytes(alloc: Global, version: Version, bytes: &[u8]) -> Result<Frame, Unread>
     ensures found { IfOk result (λ frame. Spelt version bytes.now frame × IsBytes frame.payload) }
-    ensures only { (frame : FrameOf) → Spelt version bytes.now frame → Reads (λ f. f ≡ frame) result }
+    ensures only { (frame : FrameOf) → Spelt version bytes.now frame
+        → Reads (λ f. f ≡ frame) result }
 {
     match decoded(alloc, version, bytes) {
         Ok(frame) => Ok(frame),

@@ -69,7 +69,8 @@ fn head_from(
         × (head.limits.window ≡ window) × (head.limits.retry ≡ retry)
         × (head.count ≡ count)) }
     ensures only { (head : HeadOf) → spec.IsHead head → head.version ≡ version
-        → head.space ≡ space → head.n ≡ n → head.limits.window ≡ window → head.limits.retry ≡ retry → head.count ≡ count
+        → head.space ≡ space → head.n ≡ n → head.limits.window ≡ window → head.limits.retry ≡ retry
+        → head.count ≡ count
         → result ≡ Some head }
 {
     let Some(space) = space_of(space) else {

@@ -118,7 +118,8 @@ fn entries_at(
         × (text.now ≡ traces.entries_text version parts.0 ++ parts.1.now))
         (λ fault. spec.EntriesFault version text.now count fault) result }
     ensures only { (all : List StampedOf) (rest : List ℕ) → length all ≡ count → Rise 0 all
-        → AllByRecursion (entries.IsTraced version) all → text.now ≡ traces.entries_text version all ++ rest
+        → AllByRecursion (entries.IsTraced version) all
+        → text.now ≡ traces.entries_text version all ++ rest
         → spec.Finds (λ parts. (parts.0 ≡ all) × (parts.1.now ≡ rest)) result }
     ensures memory { spec.RunsOut (spec.AtLine version text.now count) result }
 {

@@ -26,8 +26,8 @@ pub fn wrong_line(alloc: Global, count: usize) -> Result<String, AllocError>
     format!(in alloc; "wrong {place}\n")
 }
 
-/// Whether two results have a text in traces of a version, and it is the same. Only memory fails it.
-/// Linear in the texts.
+/// Whether two results have a text in traces of a version, and it is the same. Only memory fails
+/// it. Linear in the texts.
 pub fn have_one_text(
     alloc: Global,
     version: Version,
@@ -52,7 +52,8 @@ fn spelling_of(
     response: &Result<Answer, Refusal>,
 ) -> Result<Option<String>, AllocError>
     ensures { IfOk result (λ text. MatchOption text (TransmitFits version response.now → ⊥)
-        (λ text. TransmitFits version response.now × (string_bytes text ≡ spelling version response.now))) }
+        (λ text. TransmitFits version response.now
+        × (string_bytes text ≡ spelling version response.now))) }
 {
     match result_text(alloc, version, response) {
         Ok(text) => Ok(Some(text)),

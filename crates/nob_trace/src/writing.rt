@@ -26,11 +26,11 @@ use nob_model_types::{Answer, Event, Refusal};
 use std::alloc::{AllocError, Global};
 
 /// The text of a trace; or R5 where its version can't speak of all that stands in it, which is
-/// judged first and takes no memory; or R2 where a frame in it has no spelling. Want of memory comes
-/// where there is room for no more, whatever stands behind. It costs time and memory in proportion
-/// to the text, and recurses once for each level of a value.
+/// judged first and takes no memory; or R2 where a frame in it has no spelling. Want of memory
+/// comes where there is room for no more, whatever stands behind. It costs time and memory in
+/// proportion to the text, and recurses once for each level of a value.
 pub fn encode(alloc: Global, trace: &Trace) -> Result<String, TraceError>
-    ensures { Answers (λ text. spec.IsWritable trace.now
+    ensures text { Answers (λ text. spec.IsWritable trace.now
         × (string_bytes text ≡ spec.trace_text trace.now)) (WritingFault trace.now) result }
     ensures memory { RunsOut (is_known_trace trace.now ≡ true) result }
 {
