@@ -171,6 +171,7 @@ fn end_case(alloc: Global, words: &[&str]) -> Result<EndCase, Unanswered> {
         ["reserve", count] => Ok(EndCase::Reserve(tokens::times(alloc, count)? as usize)),
         ["arrive", bytes] => Ok(EndCase::Arrive(tokens::bytes(alloc, bytes)?)),
         ["close", reason] => Ok(EndCase::Close(tokens::reason(alloc, reason)?)),
+        ["reopen", number] => Ok(EndCase::Reopen(tokens::session(alloc, number)?)),
         ["has", "frames"] => Ok(EndCase::HasFrames),
         ["is", "open"] => Ok(EndCase::IsOpen),
         _ => Err(Unanswered::NoCase),
@@ -180,6 +181,8 @@ fn end_case(alloc: Global, words: &[&str]) -> Result<EndCase, Unanswered> {
 fn bare_end_case(call: &str) -> Result<EndCase, Unanswered> {
     match call {
         "numbers" => Ok(EndCase::FreeNumbers),
+        "number" => Ok(EndCase::Number),
+        "seen" => Ok(EndCase::Seen),
         "frames" => Ok(EndCase::Frames),
         "transmit" => Ok(EndCase::Transmit),
         "front" => Ok(EndCase::Front),

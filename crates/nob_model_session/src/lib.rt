@@ -6,6 +6,7 @@
 
 pub mod end;
 mod entry;
+pub mod laws;
 mod refusal;
 pub mod right;
 

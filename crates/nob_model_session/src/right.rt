@@ -207,7 +207,15 @@ fn lone_frame(
     payload: &[u8],
 ) -> Result<Vec<Frame>, AllocError>
     ensures { IfOk result (λ frames. frames.items
-        ≡ record { kind = kind; from = me; to = peer; session = session; seq = 0; ack = ack; payload = payload.now } ∷
+        ≡ record {
+          kind = kind;
+          from = me;
+          to = peer;
+          session = session;
+          seq = 0;
+          ack = ack;
+          payload = payload.now;
+        } ∷
         []) }
 {
     let mut frames = Vec::new(alloc);

@@ -135,7 +135,7 @@ pub fn reason_bytes(alloc: Global, words: &mut Words) -> Result<Bytes, AllocErro
 
 /// The number of a session: the first mostly, else one of the next, or 0, which no frame has.
 pub fn random_session(words: &mut Words) -> u32 {
-    if words.below(32) == 0 {
+    if words.below(128) == 0 {
         (words.below(FEW) % 5) as u32
     } else {
         1
