@@ -127,6 +127,7 @@ fn frame(alloc: Global) -> Option<Frame> {
         kind: FrameKind::Data,
         from: SpaceId::new(1)?,
         to: SpaceId::new(2)?,
+        session: 1,
         seq: 1,
         ack: 1,
         payload: Bytes::from_slice(alloc, &[7, 0, 0, 0, 0, 0, 0, 0, 5]).ok()?,

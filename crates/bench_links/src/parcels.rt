@@ -33,6 +33,7 @@ impl Spaces {
           kind = kinds.Ack;
           from = self.now.from;
           to = self.now.to;
+          session = 1;
           seq = 0;
           ack = number;
           payload = [];
@@ -44,6 +45,7 @@ impl Spaces {
                 kind: FrameKind::Ack,
                 from: self.from,
                 to: self.to,
+                session: 1,
                 seq: 0,
                 ack: number,
                 payload: Bytes::from_vec(Vec::new(alloc)),

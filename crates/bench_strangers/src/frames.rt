@@ -10,7 +10,7 @@ use nob_rounds::Words;
 use std::alloc::{AllocError, Global};
 
 // So many bytes a frame has beside its payload.
-const HEADER: usize = 28;
+const HEADER: usize = 32;
 
 // So many bytes a Call's item has whose value is a list of bytes twice, beside these; and so many a
 // reference takes.
@@ -74,6 +74,7 @@ fn frame_of(alloc: Global, making: &Making) -> Result<Frame, AllocError> {
         },
         from: making.from,
         to: other_space(making),
+        session: 1,
         seq: if is_ack { 0 } else { number_of(making) },
         ack: if making.sort == Sort::BadAcks { FAR } else { 1 },
         payload: if is_ack {

@@ -52,13 +52,27 @@ fn note(name: &str, number: u64) -> Result<Item, Unanswered>
 
 /// The frame that words say, as `text_of` writes it.
 pub fn frame(alloc: Global, words: &[&str]) -> Result<Frame, Unanswered> {
-    let [kind, from, "to", to, "seq", seq, "ack", ack, payload] = words else {
+    let [
+        kind,
+        from,
+        "to",
+        to,
+        "session",
+        session,
+        "seq",
+        seq,
+        "ack",
+        ack,
+        payload,
+    ] = words
+    else {
         return Err(Unanswered::NoCase);
     };
     Ok(Frame {
         kind: kind_of(kind)?,
         from: tokens::space(alloc, from)?,
         to: tokens::space(alloc, to)?,
+        session: tokens::session(alloc, session)?,
         seq: tokens::number(alloc, seq)?,
         ack: tokens::number(alloc, ack)?,
         payload: Bytes::from_vec(tokens::bytes(alloc, payload)?),

@@ -194,10 +194,13 @@ fn push_frame(alloc: Global, text: &mut String, frame: &Frame) -> Result<(), All
     let kind = kind_word(frame.kind);
     let from = frame.from.get();
     let to = frame.to.get();
+    let session = frame.session;
     let seq = frame.seq;
     let ack = frame.ack;
-    let head = format!(in alloc; "{kind} {from} to {to} seq {seq} ack {ack} ")?;
-    text.push_str(head.as_str())?;
+    let spaces = format!(in alloc; "{kind} {from} to {to} session {session} ")?;
+    text.push_str(spaces.as_str())?;
+    let numbers = format!(in alloc; "seq {seq} ack {ack} ")?;
+    text.push_str(numbers.as_str())?;
     push_bytes(alloc, text, frame.payload.as_slice())
 }
 

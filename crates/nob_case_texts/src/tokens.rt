@@ -52,6 +52,17 @@ pub fn short_number(alloc: Global, word: &str) -> Result<u16, Unanswered>
     }
 }
 
+/// The number of a session: one of 32 bits.
+pub fn session(alloc: Global, word: &str) -> Result<u32, Unanswered>
+    ensures found { IfOk result (λ n. word.now ≡ decimal n) }
+    ensures only { (n : ℕ) → n < 2 ^ 32 → word.now ≡ decimal n → Reads (λ m. m ≡ n) result }
+{
+    match u32::try_from(number(alloc, word)?) {
+        Ok(number) => Ok(number),
+        Err(_) => Err(Unanswered::NoCase),
+    }
+}
+
 /// A number of 8 bits.
 pub fn byte(alloc: Global, word: &str) -> Result<u8, Unanswered>
     ensures found { IfOk result (λ n. word.now ≡ decimal n) }

@@ -85,6 +85,9 @@ fn codec_case(alloc: Global, words: &[&str]) -> Result<CodecCase, Unanswered> {
         ["note", words @ ..] => Ok(CodecCase::IsNote(items::item(alloc, words)?)),
         ["references", words @ ..] => Ok(CodecCase::References(value_in(alloc, words)?)),
         ["fits", words @ ..] => Ok(CodecCase::Fits(value_in(alloc, words)?)),
+        ["version", "1", "frame", bytes] => Ok(CodecCase::ReadFrameV1(tokens::bytes(
+            alloc, bytes,
+        )?)),
         [format, bytes] => reading_case(format, tokens::bytes(alloc, bytes)?),
         _ => Err(Unanswered::NoCase),
     }
@@ -125,6 +128,9 @@ fn writing_case(alloc: Global, words: &[&str]) -> Result<CodecCase, Unanswered> 
         ["parts", words @ ..] => Ok(CodecCase::WriteParts(items::item(alloc, words)?)),
         ["item", words @ ..] => Ok(CodecCase::WriteItem(items::item(alloc, words)?)),
         ["frame", words @ ..] => Ok(CodecCase::WriteFrame(items::frame(alloc, words)?)),
+        ["version", "1", "frame", words @ ..] => {
+            Ok(CodecCase::WriteFrameV1(items::frame(alloc, words)?))
+        }
         _ => Err(Unanswered::NoCase),
     }
 }
@@ -165,6 +171,7 @@ fn end_case(alloc: Global, words: &[&str]) -> Result<EndCase, Unanswered> {
         ["reserve", count] => Ok(EndCase::Reserve(tokens::times(alloc, count)? as usize)),
         ["arrive", bytes] => Ok(EndCase::Arrive(tokens::bytes(alloc, bytes)?)),
         ["close", reason] => Ok(EndCase::Close(tokens::reason(alloc, reason)?)),
+        ["reopen", number] => Ok(EndCase::Reopen(tokens::session(alloc, number)?)),
         ["has", "frames"] => Ok(EndCase::HasFrames),
         ["is", "open"] => Ok(EndCase::IsOpen),
         _ => Err(Unanswered::NoCase),
@@ -174,6 +181,8 @@ fn end_case(alloc: Global, words: &[&str]) -> Result<EndCase, Unanswered> {
 fn bare_end_case(call: &str) -> Result<EndCase, Unanswered> {
     match call {
         "numbers" => Ok(EndCase::FreeNumbers),
+        "number" => Ok(EndCase::Number),
+        "seen" => Ok(EndCase::Seen),
         "frames" => Ok(EndCase::Frames),
         "transmit" => Ok(EndCase::Transmit),
         "front" => Ok(EndCase::Front),

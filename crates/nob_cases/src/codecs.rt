@@ -33,6 +33,10 @@ pub enum CodecCase {
     ReadFrame(Vec<u8>),
     /// The bytes that spell a frame.
     WriteFrame(Frame),
+    /// The frame of version 1 that bytes spell.
+    ReadFrameV1(Vec<u8>),
+    /// The bytes that spell a frame in version 1.
+    WriteFrameV1(Frame),
     /// What a new Feed answers to these pieces.
     Feed(Vec<Vec<u8>>),
     /// How many frames a new Feed gives for the bytes, so often, each byte a piece.
@@ -54,8 +58,10 @@ pub fn answer(alloc: Global, case: &CodecCase) -> Result<Answer, AllocError> {
         CodecCase::CountedOne(place, item) => Ok(counted_one(item, *place)),
         CodecCase::Counted(item) => Ok(Answer::References(nob_item::counted_refs(alloc, item)?)),
         CodecCase::IsNote(item) => Ok(Answer::of_test(item.is_note())),
-        CodecCase::ReadFrame(bytes) => read_frame(alloc, bytes),
-        CodecCase::WriteFrame(frame) => write_frame(alloc, frame),
+        CodecCase::ReadFrame(bytes) => frame_answer(alloc, nob_frame::decode(alloc, bytes)),
+        CodecCase::WriteFrame(frame) => bytes_answer(nob_frame::encode(alloc, frame)),
+        CodecCase::ReadFrameV1(bytes) => frame_answer(alloc, nob_frame::decode_v1(alloc, bytes)),
+        CodecCase::WriteFrameV1(frame) => bytes_answer(nob_frame::encode_v1(alloc, frame)),
         CodecCase::Feed(pieces) => feed(alloc, pieces),
         CodecCase::FeedEach(count, bytes) => feed_each(alloc, *count, bytes),
     }
@@ -125,8 +131,9 @@ fn counted_one(item: &Item, place: usize) -> Answer {
     }
 }
 
-fn read_frame(alloc: Global, bytes: &[u8]) -> Result<Answer, AllocError> {
-    match nob_frame::decode(alloc, bytes) {
+// What was read as a frame, as an answer, which is a copy of it.
+fn frame_answer(alloc: Global, read: Result<Frame, FrameError>) -> Result<Answer, AllocError> {
+    match read {
         Ok(frame) => {
             let mut frames = Vec::new(alloc);
             frames.push(frame.copy()?)?;
@@ -136,8 +143,9 @@ fn read_frame(alloc: Global, bytes: &[u8]) -> Result<Answer, AllocError> {
     }
 }
 
-fn write_frame(alloc: Global, frame: &Frame) -> Result<Answer, AllocError> {
-    match nob_frame::encode(alloc, frame) {
+// What was written of a frame, as an answer.
+fn bytes_answer(written: Result<Vec<u8>, FrameError>) -> Result<Answer, AllocError> {
+    match written {
         Ok(bytes) => Ok(Answer::Bytes(bytes)),
         Err(error) => refused_frame(error),
     }

@@ -34,6 +34,12 @@ pub enum EndCase {
     Tick,
     /// Closes the end.
     Close(Reason),
+    /// Opens the closed end again, under a number.
+    Reopen(u32),
+    /// The number of the session that the end is in.
+    Number,
+    /// The highest number that a frame of the pair had.
+    Seen,
     /// Whether the end is open.
     IsOpen,
 }
@@ -79,6 +85,9 @@ fn call(alloc: Global, session: &mut Session, case: &EndCase) -> Result<Answer, 
         EndCase::Take => Ok(take(session)),
         EndCase::Tick => Ok(tick(session)),
         EndCase::Close(reason) => Ok(close(session, *reason)),
+        EndCase::Reopen(number) => Ok(reopen(session, *number)),
+        EndCase::Number => Ok(Answer::Number(u64::from(session.number()))),
+        EndCase::Seen => Ok(Answer::Number(u64::from(session.seen()))),
         EndCase::IsOpen => Ok(Answer::of_test(session.is_open())),
     }
 }
@@ -139,6 +148,13 @@ fn tick(session: &mut Session) -> Answer {
 fn close(session: &mut Session, reason: Reason) -> Answer {
     match session.close(reason) {
         Ok(closed) => Answer::Closed(closed.reason()),
+        Err(refusal) => Answer::Refused(Refusal::End(SessionError::Refused(refusal))),
+    }
+}
+
+fn reopen(session: &mut Session, number: u32) -> Answer {
+    match session.reopen(number) {
+        Ok(()) => Answer::Word("ok"),
         Err(refusal) => Answer::Refused(Refusal::End(SessionError::Refused(refusal))),
     }
 }

@@ -55,6 +55,9 @@ impl Plain {
             EndCase::Take => self.take(),
             EndCase::Tick => self.tick(),
             EndCase::Close(reason) => self.close(*reason),
+            EndCase::Reopen(number) => self.reopen(*number),
+            EndCase::Number => Ok(Answer::Number(u64::from(end::number(&self.calls)))),
+            EndCase::Seen => Ok(Answer::Number(u64::from(end::seen(&self.calls)))),
             EndCase::IsOpen => Ok(Answer::of_test(end::is_open(&self.calls))),
             _ => Ok(Answer::Word("no call")),
         }
@@ -145,6 +148,15 @@ impl Plain {
         self.note(EndEntry::Close(reason, outcome))?;
         Ok(match outcome {
             Ok(ending) => Answer::Closed(ending.reason),
+            Err(refusal) => refused(refusal),
+        })
+    }
+
+    fn reopen(&mut self, number: u32) -> Result<Answer, AllocError> {
+        let outcome = right::reopen(number, &self.calls);
+        self.note(EndEntry::Reopen(number, outcome))?;
+        Ok(match outcome {
+            Ok(()) => Answer::Word("ok"),
             Err(refusal) => refused(refusal),
         })
     }

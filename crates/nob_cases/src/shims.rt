@@ -95,6 +95,7 @@ fn frame(alloc: Global, from: SpaceId, to: SpaceId, seq: u64) -> Result<Frame, A
         kind: FrameKind::Data,
         from,
         to,
+        session: 1,
         seq,
         ack: 1,
         payload: Bytes::from_slice(alloc, b"item")?,

@@ -12,9 +12,10 @@ use Rattle.nob_item.specs.declared.item.Item.{Item}
 use Rattle.nob_model_session.specs.End.{brings_at}
 use Rattle.nob_model_types.specs.declared.deed.Deed.{Deed}
 use Rattle.nob_model_types.specs.declared.deed.Deed.TheVariants.{Arrive, Closing}
-use Rattle.nob_model_types.specs.Sessions.{closed, accepted_from, payload_at, item_spelt, item_at}
+use Rattle.nob_model_types.specs.Sessions.{closed, is_from, accepted_from, payload_at, item_spelt, item_at}
 use Rattle.nob_check_tables.specs.Closed.{is_among, with_peer}
-use Rattle.nob_check_tables.specs.Taken.{found_count, taken_from, with_taken}
+use Rattle.nob_model_history.proofs.Sessions.{number_first}
+use Rattle.nob_check_tables.specs.Taken.{is_present, found_count, taken_from, with_taken}
 use Rattle.nob_check_tables.specs.Came.{is_same_arrival, found_item, came_at, item_in, with_item, with_frame}
 use Rattle.nob_check_tables.specs.Tables.{tables_of}
 use Rattle.nob_check_tables.specs.declared.came.Arrival.{Arrival}
@@ -53,26 +54,37 @@ taken_with p q count taken =
     by true = refl
     by false = refl
 
+-- the test of the tables is that of the words
+present_is : (p : ℕ) (frame : Frame) (D : List Deed) → is_from p frame D ≡ (frame.from == p && is_present frame)
+present_is p frame D = ap (λ (k : ℕ). frame.from == p && frame.session == k) (number_first p D)
+
 -- how many items of p were accepted
 pub taken_is : (s n p : ℕ) (D : List Deed) → taken_from p (tables_of s n D).taken ≡ accepted_from p D
 taken_is s n p [] = refl
-taken_is s n p (Arrive frame count ∷ D) = taken_with p frame.from (count + taken_from frame.from taken) taken ∙ by (taken_is s n p D) (p == frame.from) (frame.from == p) refl refl
+taken_is s n p (Arrive frame count ∷ D) =
+    by (is_present frame) (frame.from == p) (p == frame.from) refl refl (taken_is s n p D)
+    ∙ sym (ap (λ (b : Bool). cond b (count + accepted_from p D) (accepted_from p D)) (present_is p frame D))
   where
     taken : List (ℕ × ℕ)
     taken = (tables_of s n D).taken
 
-    by : taken_from p taken ≡ accepted_from p D → (a b : Bool) → p == frame.from ≡ a → frame.from == p ≡ b → cond (p == frame.from) (count + taken_from frame.from taken) (taken_from p taken) ≡ cond (frame.from == p) (count + accepted_from p D) (accepted_from p D)
-    by same true true one two =
-        ap (λ (t : Bool). cond t (count + taken_from frame.from taken) (taken_from p taken)) one
-        ∙ ap (λ (q : ℕ). count + taken_from q taken) (eqb-true frame.from p two)
+    by : (present a b : Bool) → frame.from == p ≡ a → p == frame.from ≡ b → taken_from p taken ≡ accepted_from p D
+        → taken_from p (cond present (with_taken frame count taken) taken) ≡ cond (frame.from == p && present) (count + accepted_from p D) (accepted_from p D)
+    by false true b one two same = same ∙ sym (ap (λ (t : Bool). cond (t && false) (count + accepted_from p D) (accepted_from p D)) one)
+    by false false b one two same = same ∙ sym (ap (λ (t : Bool). cond (t && false) (count + accepted_from p D) (accepted_from p D)) one)
+    by true true true one two same =
+        taken_with p frame.from (count + taken_from frame.from taken) taken
+        ∙ ap (λ (t : Bool). cond t (count + taken_from frame.from taken) (taken_from p taken)) two
+        ∙ ap (λ (q : ℕ). count + taken_from q taken) (eqb-true frame.from p one)
         ∙ ap (λ (k : ℕ). count + k) same
-        ∙ sym (ap (λ (t : Bool). cond t (count + accepted_from p D) (accepted_from p D)) two)
-    by same false false one two =
-        ap (λ (t : Bool). cond t (count + taken_from frame.from taken) (taken_from p taken)) one
+        ∙ sym (ap (λ (t : Bool). cond (t && true) (count + accepted_from p D) (accepted_from p D)) one)
+    by true false false one two same =
+        taken_with p frame.from (count + taken_from frame.from taken) taken
+        ∙ ap (λ (t : Bool). cond t (count + taken_from frame.from taken) (taken_from p taken)) two
         ∙ same
-        ∙ sym (ap (λ (t : Bool). cond t (count + accepted_from p D) (accepted_from p D)) two)
-    by same true false one two = absurd (true≢false (sym (eq-eqb frame.from p (sym (eqb-true p frame.from one))) ∙ two))
-    by same false true one two = absurd (true≢false (sym (eq-eqb p frame.from (sym (eqb-true frame.from p two))) ∙ one))
+        ∙ sym (ap (λ (t : Bool). cond (t && true) (count + accepted_from p D) (accepted_from p D)) one)
+    by true false true one two same = absurd (true≢false (sym (eq-eqb frame.from p (sym (eqb-true p frame.from two))) ∙ one))
+    by true true false one two same = absurd (true≢false (sym (eq-eqb p frame.from (sym (eqb-true frame.from p one))) ∙ two))
 taken_is s n p (_ ∷ D) = taken_is s n p D
 
 -- ---- items
@@ -213,15 +225,33 @@ spelt_or None true bytes = refl
 spelt_or None false bytes = refl
 spelt_or (Some y) b bytes = refl
 
+-- the same where it is of the session with its sender, and nothing where it is of another
+came_if : (present : Bool) (s n p k : ℕ) (frame : Frame) (D : List Deed) → came_at p k (cond present (with_frame frame (taken_from frame.from (tables_of s n D).taken) (tables_of s n D).came) (tables_of s n D).came) ≡ option_or (came_at p k (tables_of s n D).came) (cond (present && brings p k frame D) (Some (item_spelt frame.payload)) None)
+came_if true s n p k frame D =
+    ap (λ (a : ℕ). came_at p k (with_frame frame a (tables_of s n D).came)) (taken_is s n frame.from D)
+    ∙ came_with p k (accepted_from frame.from D) frame (tables_of s n D).came
+    ∙ ap (λ (b : Bool). option_or (came_at p k (tables_of s n D).came) (cond b (Some (item_spelt frame.payload)) None)) (brings_by p k frame D)
+came_if false s n p k frame D = sym (or_none (came_at p k (tables_of s n D).came))
+
+-- a frame of the session with p brings item k from p, as the words say
+brought_is : (p k : ℕ) (frame : Frame) (D : List Deed) → (is_present frame && brings p k frame D) ≡ (is_from p frame D && brings_at k frame (accepted_from p D))
+brought_is p k frame D = turned (frame.from == p) (is_present frame) (brings_at k frame (accepted_from p D)) ∙ sym (ap (λ (b : Bool). b && brings_at k frame (accepted_from p D)) (present_is p frame D))
+  where
+    turned : (a b c : Bool) → (b && (a && c)) ≡ ((a && b) && c)
+    turned true true c = refl
+    turned true false c = refl
+    turned false true c = refl
+    turned false false c = refl
+
 -- what came as item k from p
 came_is : (s n p k : ℕ) (D : List Deed) → came_at p k (tables_of s n D).came ≡ option_map item_spelt (payload_at p k D)
 came_is s n p k [] = refl
 came_is s n p k (Arrive frame count ∷ D) =
-    ap (λ (a : ℕ). came_at p k (with_frame frame a (tables_of s n D).came)) (taken_is s n frame.from D)
-    ∙ came_with p k (accepted_from frame.from D) frame (tables_of s n D).came
-    ∙ ap (λ (b : Bool). option_or (came_at p k (tables_of s n D).came) (cond b (Some (item_spelt frame.payload)) None)) (brings_by p k frame D)
-    ∙ ap (λ (x : Option (Option Item)). option_or x (cond (brings p k frame D) (Some (item_spelt frame.payload)) None)) (came_is s n p k D)
-    ∙ spelt_or (payload_at p k D) (brings p k frame D) frame.payload
+    let test : Bool = is_from p frame D && brings_at k frame (accepted_from p D) in
+    came_if (is_present frame) s n p k frame D
+    ∙ ap (λ (b : Bool). option_or (came_at p k (tables_of s n D).came) (cond b (Some (item_spelt frame.payload)) None)) (brought_is p k frame D)
+    ∙ ap (λ (x : Option (Option Item)). option_or x (cond test (Some (item_spelt frame.payload)) None)) (came_is s n p k D)
+    ∙ spelt_or (payload_at p k D) test frame.payload
 came_is s n p k (_ ∷ D) = came_is s n p k D
 
 found_spelt : (x : Option (List ℕ)) → found_item (option_map item_spelt x) ≡ option_and_then item_spelt x

@@ -8,7 +8,7 @@ use Rattle.nob_model_session.specs.End.{brings_at}
 use Rattle.nob_model_types.specs.Sessions.{item_spelt}
 use Rattle.nob_model_types.specs.declared.deed.Deed.{Deed}
 use Rattle.nob_model_types.specs.declared.deed.Deed.TheVariants.{Arrive}
-use Rattle.nob_check_tables.specs.Taken.{taken_from}
+use Rattle.nob_check_tables.specs.Taken.{taken_from, is_present}
 use Rattle.nob_check_tables.specs.declared.came.Arrival.{Arrival}
 
 -- whether two arrivals are of one item
@@ -36,7 +36,7 @@ with_item arrival item came = insert_entry is_same_arrival came arrival item
 abbrev pub with_frame : Frame → (accepted : ℕ) → List (Arrival × Option Item) → List (Arrival × Option Item)
 with_frame frame accepted came = if not (brings_at frame.seq frame accepted) then came else if is_some (came_at frame.from frame.seq came) then came else with_item (record { from = frame.from; number = frame.seq }) (item_spelt frame.payload) came
 
--- what came, after a deed, where so many items of each peer were accepted before
+-- what came, after a deed, where so many items of each peer were accepted before: a frame of another session brings nothing
 abbrev pub came_after : Deed → (taken : List (ℕ × ℕ)) → List (Arrival × Option Item) → List (Arrival × Option Item)
-came_after (Arrive frame count) taken came = with_frame frame (taken_from frame.from taken) came
+came_after (Arrive frame count) taken came = if is_present frame then with_frame frame (taken_from frame.from taken) came else came
 came_after (_) taken came = came

@@ -1,5 +1,5 @@
--- How many items of each peer were accepted.
-use Rattle.std.specs.Prelude.{ℕ, ◌+◌, ◌==◌, List, Option, Some, None}
+-- How many items of each peer were accepted in the session with it.
+use Rattle.std.specs.Prelude.{ℕ, ◌+◌, ◌==◌, Bool, List, Option, Some, None, if◌then◌else◌}
 use Rattle.std.specs.Map.{lookup}
 use Rattle.indexmap.specs.IndexMap.{insert_entry}
 use Rattle.nob_frame.specs.declared.frame.Frame.{Frame}
@@ -15,11 +15,15 @@ found_count (Some count) = count
 abbrev pub taken_from : ℕ → List (ℕ × ℕ) → ℕ
 taken_from p taken = found_count (lookup (λ other. p == other) taken)
 
+-- whether a frame is of the session with its sender: no deed opens one anew, so it is the first
+abbrev pub is_present : Frame → Bool
+is_present frame = frame.session == 1
+
 -- the counts once a frame took so many items
 abbrev pub with_taken : Frame → ℕ → List (ℕ × ℕ) → List (ℕ × ℕ)
 with_taken frame count taken = insert_entry (λ q other. q == other) taken frame.from (count + taken_from frame.from taken)
 
--- the counts, after a deed
+-- the counts, after a deed: a frame of another session counts for nothing
 abbrev pub taken_after : Deed → List (ℕ × ℕ) → List (ℕ × ℕ)
-taken_after (Arrive frame count) taken = with_taken frame count taken
+taken_after (Arrive frame count) taken = if is_present frame then with_taken frame count taken else taken
 taken_after (_) taken = taken

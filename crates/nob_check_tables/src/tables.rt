@@ -8,7 +8,7 @@ ghost use Rattle.nob_check_tables.specs.Tables as words;
 use crate::came::Came;
 use crate::closed::Closed;
 use crate::rows::{TurnRows, rows_with_clean, with_item};
-use crate::taken::Taken;
+use crate::taken::{Taken, is_present};
 use nob_ids::{ItemNo, SpaceId};
 use nob_model_types::{Deed, Here};
 use std::alloc::{AllocError, Global};
@@ -95,6 +95,15 @@ pub fn with_deed(alloc: Global, deed: &Deed, tables: Tables) -> Result<Tables, A
             })
         }
         Deed::Arrive(frame, count) => {
+            if !is_present(frame) {
+                return Ok(Tables {
+                    here,
+                    closed,
+                    taken,
+                    came,
+                    rows,
+                });
+            }
             let came = came.with_frame(alloc, frame, taken.count(frame.from))?;
             let taken = taken.with_taken(frame, *count)?;
             Ok(Tables {

@@ -9,6 +9,13 @@ use nob_ids::SpaceId;
 use std::alloc::{AllocError, Global};
 use std::marker::Model;
 
+/// Whether a frame is of the session with its sender: no deed opens one anew, so it is the first.
+pub(crate) fn is_present(frame: &Frame) -> bool
+    ensures { result ≡ words.is_present frame.now }
+{
+    frame.session == 1
+}
+
 /// How many items of each peer were accepted. Contracts see the pairs, in the order in which the
 /// peers came.
 pub struct Taken {

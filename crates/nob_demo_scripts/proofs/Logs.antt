@@ -38,14 +38,14 @@ second_there false n f s y there = omega (arith, there, length-append s (y ∷ [
 first_batch : (f s : List (List ℕ)) (y : List ℕ) (b : Batch) → IsThere f s b → IsThere (f ++ y ∷ []) s b × (frames_in (f ++ y ∷ []) s b ≡ frames_in f s b)
 first_batch f s y (Run run) there = (
   (there.0, first_there (run.from == 1) (run.first - 1 + run.count) f s y there.1),
-  ap (data_frames run.from run.to run.ack run.first) (first_taken (run.from == 1) (run.first - 1) run.count f s y there.1),
+  ap (data_frames run.from run.to run.session run.ack run.first) (first_taken (run.from == 1) (run.first - 1) run.count f s y there.1),
 )
 first_batch f s y (Whole frames) there = (tt, refl)
 
 second_batch : (f s : List (List ℕ)) (y : List ℕ) (b : Batch) → IsThere f s b → IsThere f (s ++ y ∷ []) b × (frames_in f (s ++ y ∷ []) b ≡ frames_in f s b)
 second_batch f s y (Run run) there = (
   (there.0, second_there (run.from == 1) (run.first - 1 + run.count) f s y there.1),
-  ap (data_frames run.from run.to run.ack run.first) (second_taken (run.from == 1) (run.first - 1) run.count f s y there.1),
+  ap (data_frames run.from run.to run.session run.ack run.first) (second_taken (run.from == 1) (run.first - 1) run.count f s y there.1),
 )
 second_batch f s y (Whole frames) there = (tt, refl)
 
@@ -118,20 +118,20 @@ get-back [] ys i j e = let same : j ≡ i = omega (arith, e) in ap (λ (m : ℕ)
 get-back (x ∷ xs) ys i zero e = absurd (omega (arith, e))
 get-back (x ∷ xs) ys i (suc j) e = get-back xs ys i j (omega (arith, e))
 
-pub length_data : (me peer ack n : ℕ) (xs : List (List ℕ)) → length (data_frames me peer ack n xs) ≡ length xs
-length_data me peer ack n [] = refl
-length_data me peer ack n (x ∷ xs) = ap suc (length_data me peer ack (n + 1) xs)
+pub length_data : (me peer session ack n : ℕ) (xs : List (List ℕ)) → length (data_frames me peer session ack n xs) ≡ length xs
+length_data me peer session ack n [] = refl
+length_data me peer session ack n (x ∷ xs) = ap suc (length_data me peer session ack (n + 1) xs)
 
 -- the frame at a place of Data frames
-pub data_at : (me peer ack n : ℕ) (xs : List (List ℕ)) (k : ℕ) (x : List ℕ) → slice_get xs k ≡ Some x → slice_get (data_frames me peer ack n xs) k ≡ Some (record { kind = kinds.Data; from = me; to = peer; seq = n + k; ack = ack; payload = x })
-data_at me peer ack n [] k x e = absurd cc
-data_at me peer ack n (y ∷ xs) zero x e =
+pub data_at : (me peer session ack n : ℕ) (xs : List (List ℕ)) (k : ℕ) (x : List ℕ) → slice_get xs k ≡ Some x → slice_get (data_frames me peer session ack n xs) k ≡ Some (record { kind = kinds.Data; from = me; to = peer; session = session; seq = n + k; ack = ack; payload = x })
+data_at me peer session ack n [] k x e = absurd cc
+data_at me peer session ack n (y ∷ xs) zero x e =
     let same : y ≡ x = cc in
     let seq : n ≡ n + 0 = omega arith in
-    ap (λ (p : List ℕ). Some (record { kind = kinds.Data; from = me; to = peer; seq = n; ack = ack; payload = p })) same ∙ ap (λ (m : ℕ). Some (record { kind = kinds.Data; from = me; to = peer; seq = m; ack = ack; payload = x })) seq
-data_at me peer ack n (y ∷ xs) (suc k) x e =
+    ap (λ (p : List ℕ). Some (record { kind = kinds.Data; from = me; to = peer; session = session; seq = n; ack = ack; payload = p })) same ∙ ap (λ (m : ℕ). Some (record { kind = kinds.Data; from = me; to = peer; session = session; seq = m; ack = ack; payload = x })) seq
+data_at me peer session ack n (y ∷ xs) (suc k) x e =
     let seq : n + 1 + k ≡ n + suc k = omega arith in
-    data_at me peer ack (n + 1) xs k x e ∙ ap (λ (m : ℕ). Some (record { kind = kinds.Data; from = me; to = peer; seq = m; ack = ack; payload = x })) seq
+    data_at me peer session ack (n + 1) xs k x e ∙ ap (λ (m : ℕ). Some (record { kind = kinds.Data; from = me; to = peer; session = session; seq = m; ack = ack; payload = x })) seq
 
 pub get-past : {X : Type 0} (xs : List X) (i : ℕ) → length xs ≤ i → slice_get xs i ≡ None
 get-past [] i le = refl
@@ -150,16 +150,16 @@ get-take (suc c) (x ∷ xs) zero less = refl
 get-take (suc c) (x ∷ xs) (suc i) less = get-take c xs i (omega (arith, less))
 
 -- the frame at a place of a run of these items
-pub run_at : (me peer ack n c : ℕ) (items : List (List ℕ)) (k i : ℕ) (x : List ℕ) → 1 ≤ n → k < c → i ≡ n - 1 + k → slice_get items i ≡ Some x
-    → slice_get (data_frames me peer ack n (take c (drop (n - 1) items))) k ≡ Some (record { kind = kinds.Data; from = me; to = peer; seq = i + 1; ack = ack; payload = x })
-run_at me peer ack n c items k i x low less is at =
+pub run_at : (me peer session ack n c : ℕ) (items : List (List ℕ)) (k i : ℕ) (x : List ℕ) → 1 ≤ n → k < c → i ≡ n - 1 + k → slice_get items i ≡ Some x
+    → slice_get (data_frames me peer session ack n (take c (drop (n - 1) items))) k ≡ Some (record { kind = kinds.Data; from = me; to = peer; session = session; seq = i + 1; ack = ack; payload = x })
+run_at me peer session ack n c items k i x low less is at =
     let item : slice_get (take c (drop (n - 1) items)) k ≡ Some x = get-take c (drop (n - 1) items) k less ∙ get-drop (n - 1) items k ∙ ap (slice_get items) (sym is) ∙ at in
     let seq : n + k ≡ i + 1 = omega (arith, is, low) in
-    data_at me peer ack n (take c (drop (n - 1) items)) k x item ∙ ap (λ (m : ℕ). Some (record { kind = kinds.Data; from = me; to = peer; seq = m; ack = ack; payload = x })) seq
+    data_at me peer session ack n (take c (drop (n - 1) items)) k x item ∙ ap (λ (m : ℕ). Some (record { kind = kinds.Data; from = me; to = peer; session = session; seq = m; ack = ack; payload = x })) seq
 
 -- no frame stands behind a run
-pub run_past : (me peer ack n c : ℕ) (xs : List (List ℕ)) (k : ℕ) → c ≤ k → slice_get (data_frames me peer ack n (take c xs)) k ≡ None
-run_past me peer ack n c xs k le = get-past (data_frames me peer ack n (take c xs)) k (omega (arith, le, length_data me peer ack n (take c xs), length-take c xs))
+pub run_past : (me peer session ack n c : ℕ) (xs : List (List ℕ)) (k : ℕ) → c ≤ k → slice_get (data_frames me peer session ack n (take c xs)) k ≡ None
+run_past me peer session ack n c xs k le = get-past (data_frames me peer session ack n (take c xs)) k (omega (arith, le, length_data me peer session ack n (take c xs), length-take c xs))
 
 -- ---- the row of a frame
 

@@ -6,10 +6,10 @@ use Rattle.nob_ids.specs.declared.limits.Limits.{Limits}
 use Rattle.nob_ids.specs.declared.reason.Reason.{Reason}
 use Rattle.nob_frame.specs.declared.frame.Frame.{Frame}
 use Rattle.nob_model_session.specs.declared.entry.EndEntry.{EndEntry}
-use Rattle.nob_model_session.specs.declared.entry.EndEntry.TheVariants.{Send, Transmit, Arrive, Front, Take, IsOpen, Tick, Close}
+use Rattle.nob_model_session.specs.declared.entry.EndEntry.TheVariants.{Send, Transmit, Arrive, Front, Take, IsOpen, Tick, Close, Reopen}
 use Rattle.nob_model_session.specs.declared.entry.PairEntry.{PairEntry}
 use Rattle.nob_model_session.specs.declared.entry.PairEntry.TheVariants.{First, Second}
-use Rattle.nob_model_session.specs.End.{is_open, lowest, transmitted, accepted_count, unacknowledged, data_arrived, owes_close, ending}
+use Rattle.nob_model_session.specs.End.{number, is_open, lowest, transmitted, accepted_count, unacknowledged, data_arrived, owes_close, ending}
 use Rattle.nob_model_session.specs.Right.{right_transmit, data_frames, open_frames, closed_frames}
 use Rattle.nob_model_session.specs.Pair.{first_calls, second_calls, transmitted_frames, PairRun}
 use Rattle.std.proofs.lemmas.Option.{slice_get_within, get_or_from_slice_get}
@@ -29,23 +29,23 @@ numbered_among (suc k) frames f is = (k, slice_get_within frames k f is, get_or_
 
 -- ---- frames go to the peer of their end
 
-to_peer_data : (me peer ack n : ℕ) (xs : List (List ℕ)) → AllByRecursion (λ (f : Frame). f.to ≡ peer) (data_frames me peer ack n xs)
-to_peer_data me peer ack n [] = tt
-to_peer_data me peer ack n (x ∷ xs) = (refl, to_peer_data me peer ack (n + 1) xs)
+to_peer_data : (me peer session ack n : ℕ) (xs : List (List ℕ)) → AllByRecursion (λ (f : Frame). f.to ≡ peer) (data_frames me peer session ack n xs)
+to_peer_data me peer session ack n [] = tt
+to_peer_data me peer session ack n (x ∷ xs) = (refl, to_peer_data me peer session ack (n + 1) xs)
 
-to_peer_open : (me peer ack n given : ℕ) (due : Bool) (xs : List (List ℕ)) → AllByRecursion (λ (f : Frame). f.to ≡ peer) (open_frames me peer ack n given due xs)
-to_peer_open me peer ack n given true [] = (refl, tt)
-to_peer_open me peer ack n given false [] = tt
-to_peer_open me peer ack n given due (x ∷ xs) = (refl, to_peer_data me peer ack (max n given + 1) (drop (given - n) xs))
+to_peer_open : (me peer session ack n given : ℕ) (due : Bool) (xs : List (List ℕ)) → AllByRecursion (λ (f : Frame). f.to ≡ peer) (open_frames me peer session ack n given due xs)
+to_peer_open me peer session ack n given true [] = (refl, tt)
+to_peer_open me peer session ack n given false [] = tt
+to_peer_open me peer session ack n given due (x ∷ xs) = (refl, to_peer_data me peer session ack (max n given + 1) (drop (given - n) xs))
 
-to_peer_closed : (me peer ack : ℕ) (owes : Bool) (reason : Option Reason) → AllByRecursion (λ (f : Frame). f.to ≡ peer) (closed_frames me peer ack owes reason)
-to_peer_closed me peer ack owes None = tt
-to_peer_closed me peer ack true (Some reason) = (refl, tt)
-to_peer_closed me peer ack false (Some reason) = tt
+to_peer_closed : (me peer session ack : ℕ) (owes : Bool) (reason : Option Reason) → AllByRecursion (λ (f : Frame). f.to ≡ peer) (closed_frames me peer session ack owes reason)
+to_peer_closed me peer session ack owes None = tt
+to_peer_closed me peer session ack true (Some reason) = (refl, tt)
+to_peer_closed me peer session ack false (Some reason) = tt
 
-to_peer_either : (me peer window : ℕ) (L : List EndEntry) (b : Bool) → AllByRecursion (λ (f : Frame). f.to ≡ peer) (cond b (open_frames me peer (accepted_count L + 1) (lowest L) (transmitted L) (data_arrived L) (take window (unacknowledged L))) (closed_frames me peer (accepted_count L + 1) (owes_close L) (ending L)))
-to_peer_either me peer window L true = to_peer_open me peer (accepted_count L + 1) (lowest L) (transmitted L) (data_arrived L) (take window (unacknowledged L))
-to_peer_either me peer window L false = to_peer_closed me peer (accepted_count L + 1) (owes_close L) (ending L)
+to_peer_either : (me peer window : ℕ) (L : List EndEntry) (b : Bool) → AllByRecursion (λ (f : Frame). f.to ≡ peer) (cond b (open_frames me peer (number L) (accepted_count L + 1) (lowest L) (transmitted L) (data_arrived L) (take window (unacknowledged L))) (closed_frames me peer (number L) (accepted_count L + 1) (owes_close L) (ending L)))
+to_peer_either me peer window L true = to_peer_open me peer (number L) (accepted_count L + 1) (lowest L) (transmitted L) (data_arrived L) (take window (unacknowledged L))
+to_peer_either me peer window L false = to_peer_closed me peer (number L) (accepted_count L + 1) (owes_close L) (ending L)
 
 to_peer : (me peer window : ℕ) (L : List EndEntry) → AllByRecursion (λ (f : Frame). f.to ≡ peer) (right_transmit me peer window L)
 to_peer me peer window L = to_peer_either me peer window L (is_open L)
@@ -81,6 +81,7 @@ from_other limits (First Take ∷ J) run f among = from_other limits J run.0 f a
 from_other limits (First (IsOpen a) ∷ J) run f among = from_other limits J run.0 f among
 from_other limits (First (Tick a) ∷ J) run f among = from_other limits J run.0 f among
 from_other limits (First (Close r a) ∷ J) run f among = from_other limits J run.0 f among
+from_other limits (First (Reopen k a) ∷ J) run f among = from_other limits J run.0 f among
 from_other limits (Second (Send p k a) ∷ J) run f among = from_other limits J run.0 f among
 from_other limits (Second (Arrive g a) ∷ J) run f among = from_other limits J run.0 f among
 from_other limits (Second (Front a) ∷ J) run f among = from_other limits J run.0 f among
@@ -88,3 +89,4 @@ from_other limits (Second Take ∷ J) run f among = from_other limits J run.0 f 
 from_other limits (Second (IsOpen a) ∷ J) run f among = from_other limits J run.0 f among
 from_other limits (Second (Tick a) ∷ J) run f among = from_other limits J run.0 f among
 from_other limits (Second (Close r a) ∷ J) run f among = from_other limits J run.0 f among
+from_other limits (Second (Reopen k a) ∷ J) run f among = from_other limits J run.0 f among

@@ -11,7 +11,7 @@ use Rattle.nob_session.specs.Stands.{End, Stands}
 use Rattle.nob_demo_scripts.specs.declared.step.Side.{Side}
 use Rattle.nob_demo_scripts.specs.declared.step.Side.TheVariants.{First, Second}
 use Rattle.nob_demo_scripts.specs.declared.step.Call.{Call}
-use Rattle.nob_demo_scripts.specs.declared.step.Call.TheVariants.{Put, Send, Get, Tick, Close}
+use Rattle.nob_demo_scripts.specs.declared.step.Call.TheVariants.{Put, Send, Get, Tick, Close, Open}
 use Rattle.nob_demo_scripts.specs.declared.step.Step.TheVariants.{At}
 use Rattle.std.specs.Prelude.{◌==◌, ◌≢◌}
 use Rattle.std.proofs.lemmas.Bool.Decides.{nat_tests}
@@ -41,6 +41,7 @@ first_called limits ends J Send new frames h st fr = record { first = st; second
 first_called limits ends J Get new frames h st fr = first_look limits ends J new frames (is_open (first_calls J)) h st fr
 first_called limits ends J Tick new frames h st fr = record { first = st; second = h.second; frames = fr ∙ h.frames; run = (h.run, refl, tt) }
 first_called limits ends J Close new frames h st fr = record { first = st; second = h.second; frames = fr ∙ h.frames; run = (h.run, refl, tt) }
+first_called limits ends J Open new frames h st fr = record { first = st; second = h.second; frames = fr ∙ h.frames; run = (h.run, refl, tt) }
 
 second_got : (limits : Limits) (ends : Ends) (J : List PairEntry) (new : End) (frames : List Frame) (r : Option (ℕ × List ℕ)) → right_front (second_calls J) ≡ r
     → PairStands limits ends J → Stands 2 1 limits new (got r ++ second_calls J) → frames ≡ ends.frames
@@ -62,6 +63,7 @@ second_called limits ends J Send new frames h st fr = record { first = h.first; 
 second_called limits ends J Get new frames h st fr = second_look limits ends J new frames (is_open (second_calls J)) h st fr
 second_called limits ends J Tick new frames h st fr = record { first = h.first; second = st; frames = fr ∙ h.frames; run = (h.run, refl, tt) }
 second_called limits ends J Close new frames h st fr = record { first = h.first; second = st; frames = fr ∙ h.frames; run = (h.run, refl, tt) }
+second_called limits ends J Open new frames h st fr = record { first = h.first; second = st; frames = fr ∙ h.frames; run = (h.run, refl, tt) }
 
 pub first_made : {E : Type 0} (limits : Limits) (ends : Ends) (J : List PairEntry) (call : Call) (new : End) (frames : List Frame) (r : Result Answer E)
     → PairStands limits ends J

@@ -6,7 +6,7 @@ use Rattle.nob_session.specs.Items.{IsItem}
 use Rattle.nob_demo_scripts.specs.declared.step.Side.{Side}
 use Rattle.nob_demo_scripts.specs.declared.step.Side.TheVariants.{First, Second}
 use Rattle.nob_demo_scripts.specs.declared.step.Call.{Call}
-use Rattle.nob_demo_scripts.specs.declared.step.Call.TheVariants.{Put, Send, Get, Tick, Close}
+use Rattle.nob_demo_scripts.specs.declared.step.Call.TheVariants.{Put, Send, Get, Tick, Close, Open}
 use Rattle.nob_demo_scripts.specs.declared.step.Step.{Step}
 use Rattle.nob_demo_scripts.specs.declared.step.Step.TheVariants.{At, Deliver}
 
@@ -39,6 +39,7 @@ call_text Send = codes "send"
 call_text Get = codes "get"
 call_text Tick = codes "tick"
 call_text Close = codes "close"
+call_text Open = codes "open"
 
 -- a step's line
 abbrev pub step_text : Step → List ℕ
@@ -52,6 +53,7 @@ IsCall Send = Unit {0}
 IsCall Get = Unit {0}
 IsCall Tick = Unit {0}
 IsCall Close = Unit {0}
+IsCall Open = Unit {0}
 
 -- a step that can be spelled: a frame's number is below 2^64
 abbrev pub IsStep : Step → Type 0

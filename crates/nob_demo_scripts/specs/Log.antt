@@ -17,7 +17,7 @@ items_of first second space = if space == 1 then first else second
 
 -- the frames of a batch: of a run, those that carry its items
 abbrev pub frames_in : (first second : List (List ℕ)) → Batch → List Frame
-frames_in first second (Run run) = data_frames run.from run.to run.ack run.first (take run.count (drop (run.first - 1) (items_of first second run.from)))
+frames_in first second (Run run) = data_frames run.from run.to run.session run.ack run.first (take run.count (drop (run.first - 1) (items_of first second run.from)))
 frames_in first second (Whole frames) = frames
 
 -- the frames of batches, one after the other

@@ -3,6 +3,7 @@ use Rattle.std.specs.Prelude.{◌≡◌, ℕ, List, ◌++◌}
 use Rattle.std.specs.List.{AllByRecursion}
 use Rattle.nob_ids.specs.declared.limits.Limits.{Limits}
 use Rattle.nob_frame.specs.declared.frame.Frame.{Frame}
+use Rattle.nob_frame.specs.declared.version.Version.TheVariants.{Two}
 use Rattle.nob_frame.specs.Spelling.{Fits}
 use Rattle.nob_model_session.specs.declared.entry.EndEntry.{EndEntry}
 use Rattle.nob_model_session.specs.declared.entry.PairEntry.{PairEntry}
@@ -10,7 +11,7 @@ use Rattle.nob_model_session.specs.Right.{right_transmit}
 use Rattle.nob_model_session.specs.Pair.{first_calls, second_calls, PairRun}
 use Rattle.nob_session.specs.Stands.{End, Stands}
 use Rattle.nob_demo_scripts.specs.declared.step.Call.{Call}
-use Rattle.nob_demo_scripts.specs.declared.step.Call.TheVariants.{Put, Send, Get, Tick, Close}
+use Rattle.nob_demo_scripts.specs.declared.step.Call.TheVariants.{Put, Send, Get, Tick, Close, Open}
 use Rattle.nob_demo_scripts.specs.Run.{all_given}
 
 -- the two ends, and all frames that they ever transmitted, the first first
@@ -37,8 +38,9 @@ frames_after limits me peer Send L frames = frames ++ right_transmit me peer lim
 frames_after limits me peer Get L frames = frames
 frames_after limits me peer Tick L frames = frames
 frames_after limits me peer Close L frames = frames
+frames_after limits me peer Open L frames = frames
 
--- an end of the session between these spaces stands for some calls
+-- an end of the sessions between these spaces stands for some calls
 abbrev pub IsEndOf : (me peer : ℕ) → End → Type 0
 IsEndOf me peer e = (limits : Limits) × (L : List EndEntry) × Stands me peer limits e L
 
@@ -46,4 +48,4 @@ IsEndOf me peer e = (limits : Limits) × (L : List EndEntry) × Stands me peer l
 pub record IsPairOfEnds (ends : Ends) : Type 0 where
   pub first : IsEndOf 1 2 ends.first
   pub second : IsEndOf 2 1 ends.second
-  pub frames : AllByRecursion Fits ends.frames
+  pub frames : AllByRecursion (Fits Two) ends.frames

@@ -1,5 +1,5 @@
 -- What the steps of a pair script add to a run of the pair, and what they answer.
-use Rattle.std.specs.Prelude.{ℕ, zero, suc, ◌+◌, List, [], ◌∷◌, ◌++◌, length, map, Option, Some, None, Result, Ok, Err, codes, slice_get, is_some, is_ok, Bool, true, false, ◌==◌, ◌&&◌, if◌then◌else◌}
+use Rattle.std.specs.Prelude.{ℕ, zero, suc, ◌+◌, min, max, List, [], ◌∷◌, ◌++◌, length, map, Option, Some, None, Result, Ok, Err, codes, slice_get, is_some, is_ok, Bool, true, false, ◌==◌, ◌&&◌, if◌then◌else◌}
 use Rattle.std.specs.Fmt.{decimal}
 use Rattle.hex.specs.Hex.{encode_lower}
 use Rattle.nob_ids.specs.Reasons.{reason_number}
@@ -17,15 +17,15 @@ use Rattle.nob_model_session.specs.declared.entry.EndEntry.{EndEntry}
 use Rattle.nob_model_session.specs.declared.entry.EndEntry.TheVariants as entry
 use Rattle.nob_model_session.specs.declared.entry.PairEntry.{PairEntry}
 use Rattle.nob_model_session.specs.declared.entry.PairEntry.TheVariants as pair
-use Rattle.nob_model_session.specs.End.{is_open}
-use Rattle.nob_model_session.specs.Right.{right_send, right_transmit, right_arrive, right_front, right_tick, right_close}
+use Rattle.nob_model_session.specs.End.{number, seen, last_session, is_open}
+use Rattle.nob_model_session.specs.Right.{right_send, right_transmit, right_arrive, right_front, right_tick, right_close, right_reopen}
 use Rattle.nob_model_session.specs.Pair.{first_calls, second_calls}
 use Rattle.nob_demo_scripts.specs.declared.answer.Answer.{Answer}
 use Rattle.nob_demo_scripts.specs.declared.answer.Answer.TheVariants as answer
 use Rattle.nob_demo_scripts.specs.declared.step.Side.{Side}
 use Rattle.nob_demo_scripts.specs.declared.step.Side.TheVariants.{First, Second}
 use Rattle.nob_demo_scripts.specs.declared.step.Call.{Call}
-use Rattle.nob_demo_scripts.specs.declared.step.Call.TheVariants.{Put, Send, Get, Tick, Close}
+use Rattle.nob_demo_scripts.specs.declared.step.Call.TheVariants.{Put, Send, Get, Tick, Close, Open}
 use Rattle.nob_demo_scripts.specs.declared.step.Step.{Step}
 use Rattle.nob_demo_scripts.specs.declared.step.Step.TheVariants.{At, Deliver}
 
@@ -70,6 +70,10 @@ abbrev pub got : Option (ℕ × List ℕ) → List EndEntry
 got None = entry.Front None ∷ []
 got (Some item) = entry.Take ∷ entry.Front (Some item) ∷ []
 
+-- the number of an end's next session: the greater of its session's and one, if there is such a number, and the highest that arrived
+abbrev pub next_number : List EndEntry → ℕ
+next_number L = max (min (number L + 1) last_session) (seen L)
+
 -- what a call adds to the calls of its end, the newest first: a get at a closed end adds nothing
 abbrev pub calls_of : Limits → (me peer : ℕ) → Call → List EndEntry → List EndEntry
 calls_of limits me peer (Put item) L = entry.Send item Limited (right_send Limited L) ∷ []
@@ -77,6 +81,7 @@ calls_of limits me peer Send L = entry.Transmit (right_transmit me peer limits.w
 calls_of limits me peer Get L = if is_open L then got (right_front L) else []
 calls_of limits me peer Tick L = entry.Tick (right_tick peer limits.retry L) ∷ []
 calls_of limits me peer Close L = entry.Close Asked (right_close peer Asked L) ∷ []
+calls_of limits me peer Open L = entry.Reopen (next_number L) (right_reopen (next_number L) L) ∷ []
 
 -- what the arrival of a frame adds, if there is one
 abbrev pub arrival_of : Option Frame → List PairEntry → List PairEntry
@@ -95,6 +100,8 @@ refusal_text refusal.Closed = codes "N1"
 refusal_text refusal.QueueFull = codes "N2"
 refusal_text refusal.SeqEnd = codes "N3"
 refusal_text refusal.Strange = codes "N4"
+refusal_text refusal.StillOpen = codes "N5"
+refusal_text refusal.Number = codes "N6"
 
 -- that an end closed, with the number of the reason
 abbrev pub closed_text : Reason → List ℕ
@@ -131,6 +138,11 @@ abbrev pub close_text : Result Ending EndRefusal → List ℕ
 close_text (Ok e) = closed_text e.reason
 close_text (Err r) = refusal_text r
 
+-- the number of the session in which an end opened
+abbrev pub open_text : ℕ → Result (Unit {0}) EndRefusal → List ℕ
+open_text number (Ok done) = codes "opened " ++ decimal number
+open_text number (Err r) = refusal_text r
+
 -- what an arriving frame did
 abbrev pub arrive_text : Result Arrived EndRefusal → List ℕ
 arrive_text (Ok (arrived.Took n)) = codes "took " ++ decimal n
@@ -144,6 +156,7 @@ call_answer limits me peer Send before L = sent_text before (length (right_trans
 call_answer limits me peer Get before L = if is_open L then got_text (right_front L) else codes "N1"
 call_answer limits me peer Tick before L = tick_text (right_tick peer limits.retry L)
 call_answer limits me peer Close before L = close_text (right_close peer Asked L)
+call_answer limits me peer Open before L = open_text (next_number L) (right_reopen (next_number L) L)
 
 -- the answer to a delivery: `X2` where the frame was never transmitted
 abbrev pub delivery_answer : Option Frame → List PairEntry → List ℕ
@@ -164,6 +177,7 @@ call_takes_memory Send L = true
 call_takes_memory Get L = is_open L && is_some (right_front L)
 call_takes_memory Tick L = false
 call_takes_memory Close L = false
+call_takes_memory Open L = false
 
 -- whether a step takes memory, after the run of the steps before it: a delivery does where the frame was transmitted
 abbrev pub takes_memory : Step → List PairEntry → Bool
@@ -182,5 +196,6 @@ answer_text answer.Nothing = codes "none"
 answer_text answer.Done = codes "ok"
 answer_text (answer.Took n) = codes "took " ++ decimal n
 answer_text (answer.Closed reason) = closed_text reason
+answer_text (answer.Opened number) = codes "opened " ++ decimal number
 answer_text (answer.Refused r) = refusal_text r
 answer_text answer.NoFrame = codes "X2"

@@ -36,6 +36,8 @@ pub enum Answer {
     Took(u64),
     /// The end closed for this reason.
     Closed(Reason),
+    /// The end opened in the session of this number.
+    Opened(u32),
     /// The session refuses the call.
     Refused(EndRefusal),
     /// X2: no such frame was transmitted.

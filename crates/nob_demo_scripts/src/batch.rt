@@ -11,6 +11,8 @@ pub struct ItemRun {
     pub from: SpaceId,
     /// The space to which they go.
     pub to: SpaceId,
+    /// The number of their session.
+    pub session: u32,
     /// What each acknowledges.
     pub ack: u64,
     /// The number of the first item.

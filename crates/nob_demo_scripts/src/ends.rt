@@ -1,10 +1,11 @@
 //! The steps on one end.
 
-ghost use Rattle.std.specs.Prelude.{◌≡◌, ◌++◌, ◌∷◌, List, ℕ, length, IfOk, IsTrue, IsOk, OnOk, OnErr, ◌≢◌, []};
+ghost use Rattle.std.specs.Prelude.{◌≡◌, ◌++◌, ◌∷◌, List, ℕ, length, IfOk, IsTrue, IsOk, OnOk, OnErr, ◌≢◌, ◌+◌, min, max, []};
 ghost use Rattle.nob_ids.specs.declared.limits.Limits.{Limits as LimitsOf};
 ghost use Rattle.nob_model_session.specs.declared.entry.EndEntry.{EndEntry};
 ghost use Rattle.std.specs.List.{AllByRecursion};
 ghost use Rattle.nob_frame.specs.declared.frame.Frame.{Frame as FrameOf};
+ghost use Rattle.nob_frame.specs.declared.version.Version.TheVariants.{Two};
 ghost use Rattle.nob_frame.specs.Spelling.{Fits, Spelt};
 ghost use Rattle.nob_session.specs.Items.{IsItem, IsPair};
 ghost use Rattle.nob_session.specs.Stands.{Stands};
@@ -13,6 +14,7 @@ ghost use Rattle.nob_session.specs.Calls.{next_of};
 ghost use Rattle.nob_model_session.specs.declared.entry.Kind.TheVariants.{Limited};
 ghost use Rattle.nob_demo_scripts.specs.Fronts.{IsFront};
 ghost use Rattle.nob_demo_scripts.specs.Run.{answer_text, arrive_text, call_answer, call_takes_memory, calls_of};
+ghost use Rattle.nob_model_session.specs.End.{last_session};
 ghost use Rattle.nob_model_session.specs.Right.{right_arrive, right_transmit};
 ghost use Rattle.nob_model_session.specs.declared.entry.EndEntry.TheVariants.{Arrive};
 
@@ -128,6 +130,28 @@ pub fn close(session: &mut Session) -> Answer
     }
 }
 
+// Opens the end again, under the number of its next session.
+pub fn open(session: &mut Session) -> Answer
+    ensures answer { (me peer before : ℕ) (limits : LimitsOf) (L : List EndEntry)
+        → Stands me peer limits session.old.end L →
+        (answer_text result ≡ call_answer limits me peer Call.Open before L)
+        × Stands me peer limits session.new.end (calls_of limits me peer Call.Open L ++ L) }
+{
+    let number = next_number(session);
+    match session.reopen(number) {
+        Ok(()) => Answer::Opened(number),
+        Err(refusal) => Answer::Refused(refusal),
+    }
+}
+
+// The number of an end's next session: the greater of its session's and one, if there is such a
+// number, and the highest that arrived.
+fn next_number(session: &Session) -> u32
+    ensures { result ≡ max (min (session.now.end.number + 1) last_session) session.now.end.seen }
+{
+    session.number().saturating_add(1).max(session.seen())
+}
+
 // The first item that waits, if there is one, as the answer that it is.
 fn front_of(alloc: Global, session: &Session) -> Result<Option<Answer>, AllocError>
     ensures front { IfOk result (λ front. IsFront front session.now.end) }
@@ -146,7 +170,7 @@ fn front_of(alloc: Global, session: &Session) -> Result<Option<Answer>, AllocErr
 pub fn arrive(alloc: Global, session: &mut Session, bytes: &[u8]) -> Result<Answer, AllocError>
     requires { IsSpelling bytes.now }
     ensures answer { (frame : FrameOf) (me peer : ℕ) (limits : LimitsOf) (L : List EndEntry)
-        → Spelt bytes.now frame → Stands me peer limits session.old.end L →
+        → Spelt Two bytes.now frame → Stands me peer limits session.old.end L →
         IfOk result (λ a. (answer_text a ≡ arrive_text (right_arrive me peer frame L))
         × Stands me peer limits session.new.end (Arrive frame (right_arrive me peer frame L) ∷ L)) }
     ensures err { OnErr result (session.new.end ≡ session.old.end) }
@@ -187,7 +211,7 @@ pub fn send(session: &mut Session, frames: &mut FrameLog) -> Result<Answer, Allo
     ensures session { OnErr result (session.new.end ≡ session.old.end) }
     ensures frames { OnErr result (frames.new.frames ≡ frames.old.frames) }
     ensures spelt { IsPair session.old.end.me session.old.end.peer
-        → AllByRecursion Fits frames.old.frames → AllByRecursion Fits frames.new.frames }
+        → AllByRecursion (Fits Two) frames.old.frames → AllByRecursion (Fits Two) frames.new.frames }
 {
     frames.reserve(64)?;
     let given = match session.transmit() {

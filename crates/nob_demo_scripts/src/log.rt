@@ -173,10 +173,10 @@ fn frame_of_run(items: &[Bytes], run: ItemRun, place: u64) -> Result<Option<Fram
     requires first { 1 ≤ run.first }
     requires there { run.first - 1 + run.count ≤ length items.now }
     ensures frame { IfOk result (λ frame. frame
-        ≡ slice_get (data_frames run.from run.to run.ack run.first
+        ≡ slice_get (data_frames run.from run.to run.session run.ack run.first
         (take run.count (drop (run.first - 1) items.now))) place) }
     ensures memory { OnErr result (IsSome
-        (slice_get (data_frames run.from run.to run.ack run.first
+        (slice_get (data_frames run.from run.to run.session run.ack run.first
         (take run.count (drop (run.first - 1) items.now))) place)) }
 {
     if place >= run.count {
@@ -187,6 +187,7 @@ fn frame_of_run(items: &[Bytes], run: ItemRun, place: u64) -> Result<Option<Fram
         kind: FrameKind::Data,
         from: run.from,
         to: run.to,
+        session: run.session,
         seq: item + 1,
         ack: run.ack,
         payload: items[item as usize].copy()?,
@@ -258,6 +259,7 @@ fn run_of(first: &[Bytes], second: &[Bytes], frames: &[Frame]) -> Option<ItemRun
     Some(ItemRun {
         from: head.from,
         to: head.to,
+        session: head.session,
         ack: head.ack,
         first: head.seq,
         count: frames.len() as u64,
@@ -268,7 +270,7 @@ fn run_of(first: &[Bytes], second: &[Bytes], frames: &[Frame]) -> Option<ItemRun
 // frame beside that.
 fn carry(head: &Frame, number: u64, frames: &[Frame], items: &[Bytes]) -> bool
     ensures { result ≡ true → (length frames.now ≤ length items.now)
-        × (frames.now ≡ data_frames head.now.from head.now.to head.now.ack number
+        × (frames.now ≡ data_frames head.now.from head.now.to head.now.session head.now.ack number
         (take (length frames.now) items.now)) }
 {
     match frames {
@@ -290,6 +292,7 @@ fn carries(head: &Frame, number: u64, frame: &Frame, item: &Bytes) -> bool
       kind = kinds.Data;
       from = head.now.from;
       to = head.now.to;
+      session = head.now.session;
       seq = number;
       ack = head.now.ack;
       payload = item.now;
@@ -298,6 +301,7 @@ fn carries(head: &Frame, number: u64, frame: &Frame, item: &Bytes) -> bool
     frame.kind.is_data()
         && frame.from == head.from
         && frame.to == head.to
+        && frame.session == head.session
         && frame.seq == number
         && frame.ack == head.ack
         && frame.payload.as_slice() == item.as_slice()

@@ -1,8 +1,9 @@
-//! Two ends of one session, and the frames between them.
+//! The two ends of the sessions between two spaces, and the frames between them.
 
 ghost use Rattle.std.specs.Prelude.{◌≡◌, ◌++◌, ◌∷◌, [], List, ℕ, None, length, IfOk, IsSome, IsTrue, OnOk, OnErr, MatchOption};
 ghost use Rattle.std.specs.List.{AllByRecursion};
 ghost use Rattle.nob_ids.specs.declared.limits.Limits.{Limits as LimitsOf};
+ghost use Rattle.nob_frame.specs.declared.version.Version.TheVariants.{Two};
 ghost use Rattle.nob_frame.specs.Spelling.{Fits};
 ghost use Rattle.nob_model_session.specs.declared.entry.EndEntry.{EndEntry};
 ghost use Rattle.nob_model_session.specs.declared.entry.PairEntry.{PairEntry};
@@ -124,7 +125,7 @@ fn deliver(
     frames: &FrameLog,
     number: u64,
 ) -> Result<Answer, AllocError>
-    requires frames { AllByRecursion Fits frames.now.frames }
+    requires frames { AllByRecursion (Fits Two) frames.now.frames }
     ensures answer { (limits : LimitsOf) (J : List PairEntry)
         → PairStands limits (ends_of first.old.end second.old.end frames.now.frames) J →
         IfOk result (λ a. (answer_text a ≡ delivery_answer (frame_numbered number (all_given J)) J)
@@ -173,7 +174,7 @@ fn call_at(
     ensures end { (me peer : ℕ) → IsEndOf me peer session.old.end
         → IsEndOf me peer session.new.end }
     ensures spelt { IsPair session.old.end.me session.old.end.peer
-        → AllByRecursion Fits frames.old.frames → AllByRecursion Fits frames.new.frames }
+        → AllByRecursion (Fits Two) frames.old.frames → AllByRecursion (Fits Two) frames.new.frames }
 {
     match call {
         Call::Put(item) => ends::put(alloc, session, frames, side, item),
@@ -181,5 +182,6 @@ fn call_at(
         Call::Get => ends::get(alloc, session),
         Call::Tick => Ok(ends::tick(session)),
         Call::Close => Ok(ends::close(session)),
+        Call::Open => Ok(ends::open(session)),
     }
 }

@@ -67,6 +67,7 @@ fn call_of(alloc: Global, text: &[u8]) -> Result<Option<Call>, AllocError>
         b"get" => Ok(Some(Call::Get)),
         b"tick" => Ok(Some(Call::Tick)),
         b"close" => Ok(Some(Call::Close)),
+        b"open" => Ok(Some(Call::Open)),
         [b'p', b'u', b't', b' ', item @ ..] => put_of(alloc, item),
         _ => Ok(None),
     }

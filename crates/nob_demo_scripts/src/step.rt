@@ -24,6 +24,8 @@ pub enum Call {
     Tick,
     /// `close`
     Close,
+    /// `open`: opens the end again, in a new session.
+    Open,
 }
 
 /// A step of a pair script.

@@ -24,6 +24,7 @@ pub fn text_of(alloc: Global, answer: &Answer) -> Result<String, AllocError>
         Answer::Done => String::from_str(alloc, "ok"),
         Answer::Took(count) => took_text(alloc, *count),
         Answer::Closed(reason) => closed_text(alloc, *reason),
+        Answer::Opened(number) => opened_text(alloc, *number),
         Answer::Refused(refusal) => refused_text(alloc, *refusal),
         Answer::NoFrame => String::from_str(alloc, "X2"),
     }
@@ -57,6 +58,12 @@ fn closed_text(alloc: Global, reason: Reason) -> Result<String, AllocError>
     format!(in alloc; "closed {number}")
 }
 
+fn opened_text(alloc: Global, number: u32) -> Result<String, AllocError>
+    ensures { IfOk result (λ text. string_bytes text ≡ answer_text (Answer.Opened number)) }
+{
+    format!(in alloc; "opened {number}")
+}
+
 fn refused_text(alloc: Global, refusal: EndRefusal) -> Result<String, AllocError>
     ensures { IfOk result (λ text. string_bytes text ≡ refusal_text refusal) }
 {
@@ -65,6 +72,8 @@ fn refused_text(alloc: Global, refusal: EndRefusal) -> Result<String, AllocError
         EndRefusal::QueueFull => String::from_str(alloc, "N2"),
         EndRefusal::SeqEnd => String::from_str(alloc, "N3"),
         EndRefusal::Strange => String::from_str(alloc, "N4"),
+        EndRefusal::StillOpen => String::from_str(alloc, "N5"),
+        EndRefusal::Number => String::from_str(alloc, "N6"),
     }
 }
 

@@ -4,6 +4,7 @@ use Rattle.std.proofs.lemmas.List.{append-nil}
 use Rattle.nob_frame.specs.declared.fault.FrameFault.{FrameFault}
 use Rattle.nob_frame.specs.declared.fault.FrameFault.TheVariants as faults
 use Rattle.nob_frame.specs.declared.frame.Frame.{Frame}
+use Rattle.nob_frame.specs.declared.version.Version.TheVariants.{Two}
 use Rattle.nob_frame.specs.Reading.{front_at, frame_at}
 use Rattle.nob_frame.specs.Laws.{AllGiven, FaultStands, AnyCut}
 use Rattle.nob_frame.specs.Streams.{Splits, Kept, IsCut, IsBroken, Pushes, stream_of, given_by, wanted_by, Fed}
@@ -23,11 +24,11 @@ kept_is kept rest e = cc
 
 nothing : Splits [] [] [] × IsCut []
 nothing =
-    let short : front_at [] ≡ Err faults.Short = front_short [] (omega arith) in
+    let short : front_at Two [] ≡ Err faults.Short = front_short [] (omega arith) in
     (record { whole = refl; each = tt; none = begins_none [] faults.Short short }, first_fault [] faults.Short short)
 
 -- nothing at all is cut off, and wants a header
-pub begins_cut : IsCut [] × (28 ≡ wanted_by [])
+pub begins_cut : IsCut [] × (32 ≡ wanted_by [])
 begins_cut = (nothing.1, refl)
 
 step_ok : (stream piece : List ℕ) (earlier : List Frame) (old : Kept) (answer : Result (List Frame) FrameFault) (rest : List ℕ)
@@ -92,8 +93,8 @@ abbrev refuses : FrameFault → Result Frame FrameFault
 refuses fault = Err fault
 
 -- one rest has one first fault
-one_fault : (rest left : List ℕ) (f g : FrameFault) → rest ≡ left → frame_at rest ≡ Err f → frame_at left ≡ Err g → f ≡ g
-one_fault rest left f g same a b = let e : refuses f ≡ refuses g = sym a ∙ ap frame_at same ∙ b in cc
+one_fault : (rest left : List ℕ) (f g : FrameFault) → rest ≡ left → frame_at Two rest ≡ Err f → frame_at Two left ≡ Err g → f ≡ g
+one_fault rest left f g same a b = let e : refuses f ≡ refuses g = sym a ∙ ap (frame_at Two) same ∙ b in cc
 
 pub any_cut : AnyCut
 any_cut pieces others given got (Ok kept) (Ok left) e a b =

@@ -2,12 +2,13 @@
 use Rattle.std.specs.Prelude.{◌≡◌, List, ℕ, ◌++◌, Ok, Err, IsOk}
 use Rattle.nob_frame.specs.declared.fault.FrameFault.{FrameFault}
 use Rattle.nob_frame.specs.declared.frame.Frame.{Frame}
+use Rattle.nob_frame.specs.declared.version.Version.{Version}
 use Rattle.nob_frame.specs.Spelling.{Spelt}
 use Rattle.nob_frame.specs.Streams.{Splits, Kept, IsBroken, stream_of, Fed}
 
--- no spelling of a frame begins another, so what begins with a frame begins with that one alone
+-- no spelling of a frame begins another of its version, so what begins with a frame begins with that one alone
 abbrev pub NoFront : Type 0
-NoFront = (one other after_one after_other : List ℕ) (frame twin : Frame) → Spelt one frame → Spelt other twin → one ++ after_one ≡ other ++ after_other
+NoFront = (version : Version) (one other after_one after_other : List ℕ) (frame twin : Frame) → Spelt version one frame → Spelt version other twin → one ++ after_one ≡ other ++ after_other
     → (one ≡ other) × (frame ≡ twin)
 
 -- bytes are frames and a rest in one way

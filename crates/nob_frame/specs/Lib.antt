@@ -1,4 +1,5 @@
 pub mod Kinds
+pub mod Versions
 pub mod Spelling
 pub mod Reading
 pub mod Streams

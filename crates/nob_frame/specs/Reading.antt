@@ -1,4 +1,4 @@
--- Which of F1 to F11 bytes or a frame are refused for: the first in the order of judging.
+-- Which of F1 to F12 bytes or a frame are refused for: the first in the order of judging.
 use Rattle.std.specs.Prelude.{◌≡◌, ℕ, ◌+◌, ◌^◌, ◌==◌, ◌&&◌, Bool, true, not, nat_lt, nat_le, if◌then◌else◌, List, length, take, drop, slice_index, Option, Some, None, Result, Ok, Err, IsOk}
 use Rattle.nob_bytes.specs.Numbers.{field}
 use Rattle.nob_ids.specs.Names.{is_space}
@@ -10,7 +10,9 @@ use Rattle.nob_frame.specs.declared.frame.Frame.{Frame}
 use Rattle.nob_frame.specs.declared.frame.FrameKind.{FrameKind}
 use Rattle.nob_frame.specs.declared.frame.FrameKind.TheVariants.{Data, Ack, Close}
 use Rattle.nob_frame.specs.declared.header.Header.{Header}
+use Rattle.nob_frame.specs.declared.version.Version.{Version}
 use Rattle.nob_frame.specs.Kinds.{kind_of}
+use Rattle.nob_frame.specs.Versions.{version_number, header_length, session_at, is_session}
 use Rattle.nob_frame.specs.Spelling.{header_of, spelling}
 
 -- the next step, unless there is a fault already
@@ -60,13 +62,14 @@ is_payload Close payload = nat_le 1 (slice_index payload 0) && nat_le (slice_ind
 
 -- ---- judging, in order
 
--- F6 to F9 of a header
-unfoldable pub sound : Header → Result Header FrameFault
-sound header =
+-- F6 to F9 of a header, then F12
+unfoldable pub sound : Version → Header → Result Header FrameFault
+sound version header =
     if not (are_spaces header.from header.to) then Err faults.Spaces
     else if not (is_seq header.kind header.seq) then Err faults.Seq
     else if not (is_next header.ack) then Err faults.Ack
     else if not (is_length header.kind header.length) then Err faults.Length
+    else if not (is_session version header.session) then Err faults.Session
     else Ok header
 
 -- F4 of the byte of the kind, or the kind
@@ -75,20 +78,20 @@ known None = Err faults.Kind
 known (Some kind) = Ok kind
 
 -- F2 to F5 of the first four bytes, or the kind
-unfoldable pub kind_at : List ℕ → Result FrameKind FrameFault
-kind_at bytes =
+unfoldable pub kind_at : Version → List ℕ → Result FrameKind FrameFault
+kind_at version bytes =
     if not (slice_index bytes 0 == 78) then Err faults.Magic
-    else if not (slice_index bytes 1 == 1) then Err faults.Version
+    else if not (slice_index bytes 1 == version_number version) then Err faults.Version
     else known (kind_of (slice_index bytes 2)) >>= λ kind. if not (slice_index bytes 3 == 0) then Err faults.Flags
     else Ok kind
 
 -- the numbers of a header, as they stand in the bytes
-abbrev pub numbers_at : FrameKind → List ℕ → Header
-numbers_at kind bytes = record { kind = kind; from = field 4 2 bytes; to = field 6 2 bytes; seq = field 8 8 bytes; ack = field 16 8 bytes; length = field 24 4 bytes }
+abbrev pub numbers_at : Version → FrameKind → List ℕ → Header
+numbers_at version kind bytes = record { kind = kind; from = field 4 2 bytes; to = field 6 2 bytes; session = session_at version bytes; seq = field 8 8 bytes; ack = field 16 8 bytes; length = field 24 4 bytes }
 
--- F1 to F9 of the bytes, or the header
-unfoldable pub header_at : List ℕ → Result Header FrameFault
-header_at bytes = if nat_lt (length bytes) 28 then Err faults.Short else (kind_at bytes >>= λ kind. sound (numbers_at kind bytes))
+-- F1 to F9 and F12 of the bytes, or the header
+unfoldable pub header_at : Version → List ℕ → Result Header FrameFault
+header_at version bytes = if nat_lt (length bytes) (header_length version) then Err faults.Short else (kind_at version bytes >>= λ kind. sound version (numbers_at version kind bytes))
 
 -- F1 or F10 of the bytes after a header, or the payload of so many bytes with the bytes after it
 unfoldable pub payload_at : FrameKind → ℕ → List ℕ → Result (List ℕ × List ℕ) FrameFault
@@ -99,27 +102,27 @@ payload_at kind len rest =
 
 -- a frame with a header and a payload
 abbrev pub frame_of : Header → List ℕ → Frame
-frame_of header payload = record { kind = header.kind; from = header.from; to = header.to; seq = header.seq; ack = header.ack; payload = payload }
+frame_of header payload = record { kind = header.kind; from = header.from; to = header.to; session = header.session; seq = header.seq; ack = header.ack; payload = payload }
 
 -- the frame that a header begins, and the bytes after it
-abbrev pub front_of : Header → List ℕ → Frame × List ℕ
-front_of header bytes = (frame_of header (take header.length (drop 28 bytes)), drop header.length (drop 28 bytes))
+abbrev pub front_of : Version → Header → List ℕ → Frame × List ℕ
+front_of version header bytes = (frame_of header (take header.length (drop (header_length version) bytes)), drop header.length (drop (header_length version) bytes))
 
--- F1 to F10 of the bytes, or the frame at their front with the bytes after it
-unfoldable pub front_at : List ℕ → Result (Frame × List ℕ) FrameFault
-front_at bytes = do
-  header ← header_at bytes
-  parts ← payload_at header.kind header.length (drop 28 bytes)
+-- F1 to F10 and F12 of the bytes, or the frame at their front with the bytes after it
+unfoldable pub front_at : Version → List ℕ → Result (Frame × List ℕ) FrameFault
+front_at version bytes = do
+  header ← header_at version bytes
+  parts ← payload_at header.kind header.length (drop (header_length version) bytes)
   Ok (frame_of header parts.0, parts.1)
 
--- F1 to F11 of the bytes, or the frame that all of them are
-unfoldable pub frame_at : List ℕ → Result Frame FrameFault
-frame_at bytes = do
-  front ← front_at bytes
+-- F1 to F12 of the bytes, or the frame that all of them are
+unfoldable pub frame_at : Version → List ℕ → Result Frame FrameFault
+frame_at version bytes = do
+  front ← front_at version bytes
   if length front.1 == 0 then Ok front.0 else Err faults.Trailing
 
--- F6 to F10 of a frame, or its spelling
-unfoldable pub bytes_of : Frame → Result (List ℕ) FrameFault
-bytes_of frame = do
-  header ← sound (header_of frame)
-  if not (is_payload frame.kind frame.payload) then Err faults.Reason else Ok (spelling frame)
+-- F6 to F9, F12 and F10 of a frame, or its spelling
+unfoldable pub bytes_of : Version → Frame → Result (List ℕ) FrameFault
+bytes_of version frame = do
+  header ← sound version (header_of frame)
+  if not (is_payload frame.kind frame.payload) then Err faults.Reason else Ok (spelling version frame)

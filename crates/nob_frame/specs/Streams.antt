@@ -1,4 +1,4 @@
--- A stream of frames that comes in pieces.
+-- A stream of frames of version 2 that comes in pieces.
 use Rattle.std.specs.Prelude.{◌≡◌, ◌≢◌, ℕ, ◌+◌, nat_lt, if◌then◌else◌, List, [], ◌∷◌, ◌++◌, length, Option, Some, None, Result, Ok, Err, IsOk}
 use Rattle.std.specs.List.{flat_map, AllByRecursion}
 use Rattle.nob_bytes.specs.Numbers.{field}
@@ -7,17 +7,18 @@ use Rattle.nob_frame.specs.declared.fault.FrameFault.TheVariants as faults
 use Rattle.nob_frame.specs.declared.fault.FrameError.{FrameError}
 use Rattle.nob_frame.specs.declared.fault.FrameError.TheVariants.{Fault, OutOfMemory}
 use Rattle.nob_frame.specs.declared.frame.Frame.{Frame}
+use Rattle.nob_frame.specs.declared.version.Version.TheVariants.{Two}
 use Rattle.nob_frame.specs.Spelling.{Fits, spelling}
 use Rattle.nob_frame.specs.Reading.{frame_at}
 
 -- no spelling of a frame begins the bytes
 abbrev pub BeginsNone : List ℕ → Type 0
-BeginsNone bytes = (frame : Frame) (after : List ℕ) → Fits frame → bytes ≢ spelling frame ++ after
+BeginsNone bytes = (frame : Frame) (after : List ℕ) → Fits Two frame → bytes ≢ spelling Two frame ++ after
 
 -- the bytes are the spellings of these frames, one after the other, and then a rest that begins with no whole frame
 pub record Splits (bytes : List ℕ) (frames : List Frame) (rest : List ℕ) : Type 0 where
-  pub whole : bytes ≡ flat_map spelling frames ++ rest
-  pub each : AllByRecursion Fits frames
+  pub whole : bytes ≡ flat_map (spelling Two) frames ++ rest
+  pub each : AllByRecursion (Fits Two) frames
   pub none : BeginsNone rest
 
 -- what a Feed is: the bytes that it keeps, or the fault that it answers from now on
@@ -26,11 +27,11 @@ Kept = Result (List ℕ) FrameFault
 
 -- a rest's first fault is F1, so that more bytes may complete it
 abbrev pub IsCut : List ℕ → Type 0
-IsCut rest = frame_at rest ≡ Err faults.Short
+IsCut rest = frame_at Two rest ≡ Err faults.Short
 
 -- a rest's first fault is this one, and no more bytes mend it
 abbrev pub IsBroken : List ℕ → FrameFault → Type 0
-IsBroken rest fault = (frame_at rest ≡ Err fault) × (fault ≢ faults.Short) × (fault ≢ faults.Trailing)
+IsBroken rest fault = (frame_at Two rest ≡ Err fault) × (fault ≢ faults.Short) × (fault ≢ faults.Trailing)
 
 -- what a push gives and leaves: the frames before a cut-off rest, which is kept; or the fault of a broken rest; and after a fault the same
 abbrev pub Pushes : Kept → List ℕ → Result (List Frame) FrameFault → Kept → Type 0
@@ -56,7 +57,7 @@ Scanned view (Err OutOfMemory) bytes = Unit {0}
 
 -- how many bytes there are before it can be said whether a frame is whole: a header, and from then on what it says
 abbrev pub wanted_by : List ℕ → ℕ
-wanted_by rest = if nat_lt (length rest) 28 then 28 else 28 + field 24 4 rest
+wanted_by rest = if nat_lt (length rest) 32 then 32 else 32 + field 24 4 rest
 
 -- what a Feed is, by its fault and its buffer
 abbrev pub kept_of : Option FrameFault → List ℕ → Kept

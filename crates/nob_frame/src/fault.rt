@@ -15,7 +15,7 @@ pub enum FrameFault {
     /// F2: the first byte isn't a frame's.
     #[error("F2: the first byte isn't 4e")]
     Magic,
-    /// F3: the version isn't 1.
+    /// F3: the version isn't the one that is read.
     #[error("F3: an unknown version")]
     Version,
     /// F4: the kind is none of the three.
@@ -42,6 +42,10 @@ pub enum FrameFault {
     /// F11: bytes stand after the frame.
     #[error("F11: bytes after the frame")]
     Trailing,
+    /// F12: the number of the session is one that the version has no spelling for: 0, and in
+    /// version 1 every number but 1.
+    #[error("F12: the session's number is out of range")]
+    Session,
 }
 
 /// Why a frame wasn't spelled or read.

@@ -1,4 +1,4 @@
-//! A stream of frames that comes in pieces.
+//! A stream of frames of version 2 that comes in pieces.
 
 ghost use Rattle.std.specs.Prelude.{◌≡◌, ◌≢◌, ◌≤◌, ◌<◌, ◌++◌, [], ℕ, List, length, drop, IfOk, IfErr, OnOk, Ok, Err};
 ghost use Rattle.nob_frame.specs.declared.fault.FrameError.TheVariants.{Fault, OutOfMemory};
@@ -8,13 +8,14 @@ ghost use Rattle.nob_frame.specs.Streams.{Splits, Answers, Scanned};
 
 use crate::fault::{FrameError, FrameFault};
 use crate::frame::Frame;
-use crate::header::{HEADER_LEN, wanted_from};
+use crate::header::wanted_from;
 use crate::reading::{frame_of, front_from};
+use crate::version::Version;
 use bytes::BytesMut;
 use std::alloc::Global;
 use std::marker::Model;
 
-/// Reads a stream of frames that comes in pieces, however it was cut. Contracts see what it keeps:
+/// Reads a stream of frames of version 2 that comes in pieces, however it was cut. Contracts see what it keeps:
 /// the bytes of a frame that isn't whole yet, or the fault that it has met.
 #[derive(Drop)]
 pub struct Feed {
@@ -43,18 +44,18 @@ impl Feed {
     {
         Feed {
             kept: BytesMut::new(alloc),
-            wanted: HEADER_LEN,
+            wanted: Version::Two.header_len(),
             fault: None,
         }
     }
 
     /// Takes the next piece of the stream, and gives the frames that are whole now. A fault, one of
-    /// F2 to F10, is answered from then on, to any piece, and no frame is given with it. Want of
+    /// F2 to F10 and F12, is answered from then on, to any piece, and no frame is given with it. Want of
     /// memory changes nothing, and an empty piece wants none.
     ///
     /// All pushes together cost time in proportion to the bytes of the stream, however it is cut: a
     /// byte is copied at most twice by pushes, and some more times where the buffer grows, and a
-    /// header is judged at most twice. A Feed keeps fewer than 16,412 bytes between two pushes,
+    /// header is judged at most twice. A Feed keeps fewer than 16,416 bytes between two pushes,
     /// none once it has met a fault, and the piece as well during one.
     pub fn push(&mut self, piece: &[u8]) -> Result<Vec<Frame>, FrameError>
         // It gives the frames that are whole now and keeps the rest, or meets the rest's fault, or
@@ -66,7 +67,7 @@ impl Feed {
         ensures never { IfErr result (λ e. (e ≢ Fault Short) × (e ≢ Fault Trailing)) }
         // An empty piece takes no memory.
         ensures memory { IfErr result (λ e. e ≡ OutOfMemory → piece.now ≢ []) }
-        ensures few { IfOk self.new (λ kept. length kept < 16412) }
+        ensures few { IfOk self.new (λ kept. length kept < 16416) }
     {
         if let Some(fault) = self.fault {
             return Err(FrameError::Fault(fault));
@@ -108,9 +109,10 @@ fn scan(alloc: Global, bytes: &[u8]) -> Result<(Vec<Frame>, usize), FrameError>
     let mut frames = Vec::new(alloc);
     let mut rest = bytes;
     loop {
-        match front_from(rest) {
+        match front_from(Version::Two, rest) {
             Ok(header) => {
-                let (payload, after) = rest.split_at(HEADER_LEN).1.split_at(header.length);
+                let behind = rest.split_at(Version::Two.header_len()).1;
+                let (payload, after) = behind.split_at(header.length);
                 frames.push(frame_of(alloc, header, payload)?)?;
                 rest = after;
             }

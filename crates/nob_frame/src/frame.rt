@@ -74,6 +74,8 @@ pub struct Frame {
     pub from: SpaceId,
     /// The space at which it arrives.
     pub to: SpaceId,
+    /// The number of the session that its sender's end was in.
+    pub session: u32,
     /// The number of the item that a Data frame carries; 0 in the others.
     pub seq: u64,
     /// The number of the next item that its sender hasn't accepted yet.
@@ -88,6 +90,7 @@ impl Drop for Frame {
             kind: _,
             from: _,
             to: _,
+            session: _,
             seq: _,
             ack: _,
             payload,
@@ -106,6 +109,7 @@ impl Frame {
             kind: self.kind,
             from: self.from,
             to: self.to,
+            session: self.session,
             seq: self.seq,
             ack: self.ack,
             payload: self.payload.copy()?,

@@ -3,12 +3,15 @@
 ghost use Rattle.std.specs.Prelude.{◌≡◌, ◌≤◌, ◌+◌, ◌<◌, length, take, drop, IfOk, IfErr, OnOk, OnErr, Ok};
 ghost use Rattle.nob_frame.specs.declared.fault.FrameError.TheVariants.{OutOfMemory};
 ghost use Rattle.nob_frame.specs.declared.frame.Frame.{Frame};
+ghost use Rattle.nob_frame.specs.declared.version.Version.TheVariants.{One, Two};
 ghost use Rattle.nob_frame.specs.Spelling.{Spelt};
+ghost use Rattle.nob_frame.specs.Versions.{header_length};
 ghost use Rattle.nob_frame.specs.Reading.{Gives, Sees, is_payload, payload_at, frame_of, front_of, front_at, frame_at};
 
 use crate::fault::{FrameError, FrameFault};
 use crate::frame::{Frame, FrameKind};
-use crate::header::{HEADER_LEN, Header, header_from};
+use crate::header::{Header, header_from};
+use crate::version::Version;
 use nob_bytes::Bytes;
 use nob_ids::Reason;
 use std::alloc::{AllocError, Global};
@@ -43,14 +46,17 @@ fn judge_payload(kind: FrameKind, len: usize, rest: &[u8]) -> Result<(), FrameFa
     Ok(())
 }
 
-/// The header of the frame at the front of the bytes, or the first of F1 to F10.
+/// The header of the frame at the front of the bytes, or the first of F1 to F9, F12 and F10.
 #[tactic(auto, unfolding(crate::specs::Reading::front_at))]
-pub(crate) fn front_from(bytes: &[u8]) -> Result<Header, FrameFault>
-    ensures exact { Sees (λ header. front_of header bytes.now) result (front_at bytes.now) }
-    ensures whole { IfOk result (λ header. 28 + header.length ≤ length bytes.now) }
+pub(crate) fn front_from(version: Version, bytes: &[u8]) -> Result<Header, FrameFault>
+    ensures exact { Sees (λ header. front_of version header bytes.now) result
+        (front_at version bytes.now) }
+    ensures whole { IfOk result (λ header. header_length version + header.length
+        ≤ length bytes.now) }
 {
-    let header = header_from(bytes)?;
-    judge_payload(header.kind, header.length, bytes.split_at(HEADER_LEN).1)?;
+    let header = header_from(version, bytes)?;
+    let rest = bytes.split_at(version.header_len()).1;
+    judge_payload(header.kind, header.length, rest)?;
     Ok(header)
 }
 
@@ -65,38 +71,59 @@ pub(crate) fn frame_of(alloc: Global, header: Header, payload: &[u8]) -> Result<
         kind: header.kind,
         from: header.from,
         to: header.to,
+        session: header.session,
         seq: header.seq,
         ack: header.ack,
         payload,
     })
 }
 
-/// The frame that all of the bytes are, or the first of F1 to F11.
+/// The frame of this version that all of the bytes are, or the first of F1 to F9, F12, F10 and F11.
 #[tactic(auto, unfolding(crate::specs::Reading::frame_at))]
-fn frame_from(alloc: Global, bytes: &[u8]) -> Result<Frame, FrameError>
-    ensures exact { Gives (λ read. read) result (frame_at bytes.now) }
-    ensures memory { IfErr result (λ e. e ≡ OutOfMemory → 28 < length bytes.now) }
+fn frame_from(alloc: Global, version: Version, bytes: &[u8]) -> Result<Frame, FrameError>
+    ensures exact { Gives (λ read. read) result (frame_at version bytes.now) }
+    ensures memory { IfErr result (λ e. e ≡ OutOfMemory → header_length version
+        < length bytes.now) }
 {
-    let header = front_from(bytes)?;
-    let (payload, after) = bytes.split_at(HEADER_LEN).1.split_at(header.length);
+    let header = front_from(version, bytes)?;
+    let rest = bytes.split_at(version.header_len()).1;
+    let (payload, after) = rest.split_at(header.length);
     if !after.is_empty() {
         return Err(FrameError::Fault(FrameFault::Trailing));
     }
     Ok(frame_of(alloc, header, payload)?)
 }
 
-/// The frame that all of the bytes are, or the first of F1 to F11 that they are refused for. It
-/// costs time and memory in proportion to the bytes. Want of memory comes last.
+/// The frame of version 2 that all of the bytes are, or the first of F1 to F9, F12, F10 and F11
+/// that they are refused for: of version 1, F3. It costs time and memory in proportion to the
+/// bytes. Want of memory comes last.
 pub fn decode(alloc: Global, bytes: &[u8]) -> Result<Frame, FrameError>
     // What is read is spelled so.
-    ensures found { IfOk result (λ frame. Spelt bytes.now frame) }
+    ensures found { IfOk result (λ frame. Spelt Two bytes.now frame) }
     // What is spelled so is read, unless memory runs out.
-    ensures only { (frame : Frame) → Spelt bytes.now frame
+    ensures only { (frame : Frame) → Spelt Two bytes.now frame
         → Gives (λ read. read) result (Ok frame) }
     // Which fault it is.
-    ensures exact { Gives (λ read. read) result (frame_at bytes.now) }
+    ensures exact { Gives (λ read. read) result (frame_at Two bytes.now) }
+    // A frame that carries nothing takes no memory.
+    ensures memory { IfErr result (λ e. e ≡ OutOfMemory → 32 < length bytes.now) }
+{
+    frame_from(alloc, Version::Two, bytes)
+}
+
+/// The frame of version 1 that all of the bytes are, which is of session 1, or the first of F1 to
+/// F11 that they are refused for: of version 2, F3. It costs time and memory in proportion to the
+/// bytes. Want of memory comes last.
+pub fn decode_v1(alloc: Global, bytes: &[u8]) -> Result<Frame, FrameError>
+    // What is read is spelled so.
+    ensures found { IfOk result (λ frame. Spelt One bytes.now frame) }
+    // What is spelled so is read, unless memory runs out.
+    ensures only { (frame : Frame) → Spelt One bytes.now frame
+        → Gives (λ read. read) result (Ok frame) }
+    // Which fault it is.
+    ensures exact { Gives (λ read. read) result (frame_at One bytes.now) }
     // A frame that carries nothing takes no memory.
     ensures memory { IfErr result (λ e. e ≡ OutOfMemory → 28 < length bytes.now) }
 {
-    frame_from(alloc, bytes)
+    frame_from(alloc, Version::One, bytes)
 }

@@ -4,6 +4,7 @@
 ghost use Rattle.std.specs.Prelude.{◌≡◌, ◌≤◌, List, IsSome};
 ghost use Rattle.nob_ids.specs.Names.{IsSpace};
 ghost use Rattle.nob_pickle.specs.Reading.{value_read};
+ghost use Rattle.nob_frame.specs.declared.version.Version.TheVariants.{Two};
 ghost use Rattle.nob_frame.specs.Reading.{frame_at};
 ghost use Rattle.nob_model_types.specs.declared.entry.Entry.{Entry};
 ghost use Rattle.nob_model_types.specs.declared.event.Event.TheVariants as events;
@@ -257,8 +258,8 @@ pub extern "C" fn nob_arrive(
     told: &mut Told,
 ) -> u32
     requires { IsSome handle.old.held }
-    ensures came { Through handle.old.held handle.new.held (λ old new. CameBy (frame_at frame.now)
-        old new told.new result) }
+    ensures came { Through handle.old.held handle.new.held (λ old new. CameBy
+        (frame_at Two frame.now) old new told.new result) }
 {
     let mut host = handle.take(alloc);
     let status = host.arrive(alloc, frame, told);

@@ -7,6 +7,7 @@ use Rattle.nob_pickle.specs.declared.value.Value.{Value}
 use Rattle.nob_ids.specs.declared.wire_rep.WireRep.{WireRep}
 use Rattle.nob_frame.specs.declared.frame.Frame.{Frame}
 use Rattle.nob_frame.specs.declared.fault.FrameFault.{FrameFault}
+use Rattle.nob_frame.specs.declared.version.Version.TheVariants.{Two}
 use Rattle.nob_frame.specs.Spelling.{spelling}
 use Rattle.nob_host_space.specs.Feeds.{fresh_feeds}
 use Rattle.nob_model_types.specs.declared.answer.Answer.{Answer}
@@ -102,7 +103,7 @@ reference owner index = record { owner = owner; index = index }
 
 -- the bytes of the frames that a Transmit gives, or what was there
 abbrev pub bytes_given : Result Answer Refusal → List ℕ → List ℕ
-bytes_given (Ok (answers.Frames frames)) before = flat_map spelling frames
+bytes_given (Ok (answers.Frames frames)) before = flat_map (spelling Two) frames
 bytes_given _ before = before
 
 -- the answer after a Transmit with this result

@@ -86,6 +86,7 @@ frame_fault_number frames.Ack = 48
 frame_fault_number frames.Length = 49
 frame_fault_number frames.Reason = 50
 frame_fault_number frames.Trailing = 51
+frame_fault_number frames.Session = 52
 
 -- the number where there is no frame
 abbrev pub frame_number : FrameError → ℕ

@@ -2,6 +2,7 @@
 use Rattle.std.specs.Prelude.{◌≡◌, ◌⊎◌, ℕ, Bool, true, false, List, [], ◌∷◌, length, Ok, Err, IsOk}
 use Rattle.nob_frame.specs.declared.frame.Frame.{Frame}
 use Rattle.nob_frame.specs.declared.fault.FrameFault.{FrameFault}
+use Rattle.nob_frame.specs.declared.version.Version.TheVariants.{Two}
 use Rattle.nob_frame.specs.Spelling.{spelling}
 use Rattle.nob_frame.specs.Streams.{Kept, Pushes}
 use Rattle.nob_model_types.specs.declared.event.Event.TheVariants as events
@@ -26,7 +27,7 @@ waiting_after true frame rest = frame ∷ rest
 
 -- the answer then: the frame's bytes
 abbrev pub bytes_after : (wanted : Bool) → Frame → List ℕ → List ℕ
-bytes_after false frame before = spelling frame
+bytes_after false frame before = spelling Two frame
 bytes_after true frame before = before
 
 -- a host whose first frame was brought to its space: it waits no more, and its bytes are the answer

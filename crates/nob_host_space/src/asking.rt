@@ -5,6 +5,7 @@ ghost use Rattle.nob_ids.specs.Names.{IsSpace};
 ghost use Rattle.nob_pickle.specs.declared.value.Value.{Value as ValueOf};
 ghost use Rattle.nob_pickle.specs.Reading.{value_read};
 ghost use Rattle.nob_pickle.specs.Writing.{pickle_of};
+ghost use Rattle.nob_frame.specs.declared.version.Version.TheVariants.{Two};
 ghost use Rattle.nob_frame.specs.Reading.{frame_at};
 ghost use Rattle.nob_model_types.specs.declared.entry.Entry.{Entry};
 ghost use Rattle.nob_model_types.specs.declared.event.Event.TheVariants as events;
@@ -273,7 +274,7 @@ impl Host {
 
     /// Arrive of the frame that bytes spell. Else the number of their first fault.
     pub fn arrive(&mut self, alloc: Global, bytes: &[u8], told: &mut Told) -> u32
-        ensures { CameBy (frame_at bytes.now) self.old self.new told.new result }
+        ensures { CameBy (frame_at Two bytes.now) self.old self.new told.new result }
     {
         match nob_frame::decode(alloc, bytes) {
             Ok(frame) => bring(&mut self.space, &frame, told),

@@ -2,6 +2,7 @@
 
 ghost use Rattle.std.specs.Prelude.{◌≡◌, ◌++◌, IfOk, OnOk, length, take, drop};
 ghost use Rattle.std.specs.List.{AllByRecursion, flat_map};
+ghost use Rattle.nob_frame.specs.declared.version.Version.TheVariants.{Two};
 ghost use Rattle.nob_frame.specs.Spelling.{Fits, spelling};
 
 use nob_frame::{Frame, FrameError, encode};
@@ -9,8 +10,8 @@ use std::alloc::{AllocError, Global};
 
 /// The bytes of a frame that has a spelling. Only memory fails it.
 pub fn spelled(alloc: Global, frame: &Frame) -> Result<Vec<u8>, AllocError>
-    requires { Fits frame.now }
-    ensures { IfOk result (λ bytes. bytes.items ≡ spelling frame.now) }
+    requires { Fits Two frame.now }
+    ensures { IfOk result (λ bytes. bytes.items ≡ spelling Two frame.now) }
 {
     match encode(alloc, frame) {
         Ok(bytes) => Ok(bytes),
@@ -21,8 +22,9 @@ pub fn spelled(alloc: Global, frame: &Frame) -> Result<Vec<u8>, AllocError>
 
 // Frames that have a spelling, put behind bytes. Only memory fails it. It recurses once for each.
 fn put_all(alloc: Global, bytes: &mut Vec<u8>, frames: &[Frame]) -> Result<(), AllocError>
-    requires { AllByRecursion Fits frames.now }
-    ensures { OnOk result (bytes.new.items ≡ bytes.old.items ++ flat_map spelling frames.now) }
+    requires { AllByRecursion (Fits Two) frames.now }
+    ensures { OnOk result (bytes.new.items ≡ bytes.old.items
+        ++ flat_map (spelling Two) frames.now) }
 {
     match frames {
         [] => Ok(()),
@@ -37,8 +39,8 @@ fn put_all(alloc: Global, bytes: &mut Vec<u8>, frames: &[Frame]) -> Result<(), A
 /// The bytes of frames that have a spelling, one after the other. Only memory fails it. It recurses
 /// once for each.
 pub fn spelled_all(alloc: Global, frames: &[Frame]) -> Result<Vec<u8>, AllocError>
-    requires { AllByRecursion Fits frames.now }
-    ensures { IfOk result (λ bytes. bytes.items ≡ flat_map spelling frames.now) }
+    requires { AllByRecursion (Fits Two) frames.now }
+    ensures { IfOk result (λ bytes. bytes.items ≡ flat_map (spelling Two) frames.now) }
 {
     let mut bytes = Vec::new(alloc);
     put_all(alloc, &mut bytes, frames)?;

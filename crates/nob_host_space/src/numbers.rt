@@ -111,6 +111,7 @@ fn frame_fault_number(fault: FrameFault) -> u32
         FrameFault::Length => 49,
         FrameFault::Reason => 50,
         FrameFault::Trailing => 51,
+        FrameFault::Session => 52,
     }
 }
 

@@ -4,6 +4,7 @@ ghost use Rattle.std.specs.Prelude.{◌≡◌, ◌≢◌, List, [], ◌∷◌, �
 ghost use Rattle.std.specs.List.{AllByRecursion};
 ghost use Rattle.std.specs.Option.{MatchOption};
 ghost use Rattle.nob_frame.specs.declared.frame.Frame.{Frame as FrameOf};
+ghost use Rattle.nob_frame.specs.declared.version.Version.TheVariants.{Two};
 ghost use Rattle.nob_frame.specs.Spelling.{Fits};
 
 use nob_frame::Frame;
@@ -20,19 +21,20 @@ impl Model for Waiting {
     ghost use Rattle.std.specs.Prelude.{List};
     ghost use Rattle.std.specs.List.{AllByRecursion};
     ghost use Rattle.nob_frame.specs.declared.frame.Frame.{Frame};
+    ghost use Rattle.nob_frame.specs.declared.version.Version.TheVariants.{Two};
     ghost use Rattle.nob_frame.specs.Spelling.{Fits};
 
     ghost Value = { List Frame };
 
     ghost view = { λ waiting. waiting.frames.items };
 
-    ghost invariant = { λ waiting. AllByRecursion Fits waiting.frames.items };
+    ghost invariant = { λ waiting. AllByRecursion (Fits Two) waiting.frames.items };
 }
 
 impl Waiting {
     /// These frames wait. The caller's condition: each has a spelling.
     pub fn of(frames: Vec<Frame>) -> Waiting
-        requires { AllByRecursion Fits frames.items }
+        requires { AllByRecursion (Fits Two) frames.items }
         ensures { result ≡ frames.items }
     {
         Waiting { frames }
@@ -47,7 +49,7 @@ impl Waiting {
 
     /// The first that waits.
     pub fn first(&self) -> Option<&Frame>
-        ensures fits { IfSome result (λ frame. Fits frame.now) }
+        ensures fits { IfSome result (λ frame. Fits Two frame.now) }
         ensures first { MatchOption result (self.now ≡ []) (λ frame.
             (rest : List FrameOf) × (self.now ≡ frame.now ∷ rest)) }
     {

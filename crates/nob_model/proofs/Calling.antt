@@ -1,6 +1,6 @@
 -- The calls that right deeds make on the end with each peer are right calls on that end.
 use Rattle.std.proofs.Common.{◌≡◌, ℕ, suc, ◌+◌, ◌≤◌, ◌<◌, ◌&&◌, not, Bool, true, false, cond, List, [], ◌∷◌, length, map, filter, Option, Some, None, Result, Ok, Err, refl, sym, ap, subst, ◌∙◌, arith, ◌⊎◌, inl, inr}
-use Rattle.std.specs.Prelude.{◌==◌, nat_le, nat_lt, is_some}
+use Rattle.std.specs.Prelude.{◌==◌, ◌||◌, nat_le, nat_lt, is_some}
 use Rattle.std.specs.List.{AllByRecursion, list_all}
 use Rattle.std.proofs.lemmas.List.{length_push}
 use Rattle.std.proofs.lemmas.Bool.{eqb-true, eq-eqb, and_parts, not-true, not-false, leb-true, lt-leb}
@@ -12,7 +12,7 @@ use Rattle.nob_frame.specs.Kinds.{is_close}
 use Rattle.nob_item.specs.Kinds.{counted_in}
 use Rattle.nob_item.specs.declared.item.Item.{Item}
 use Rattle.nob_item.specs.declared.item.Item.TheVariants as items
-use Rattle.nob_model_session.specs.End.{last_item, handed, is_open, unacknowledged, transmitted, is_out, ticks}
+use Rattle.nob_model_session.specs.End.{number, last_item, handed, is_open, unacknowledged, transmitted, is_out, ticks}
 use Rattle.nob_model_session.specs.Right as end
 use Rattle.nob_model_session.specs.Right.{queue_limit, is_limited, right_send, right_transmit, is_of_pair, taken_by, right_arrive, right_front, right_tick, right_close}
 use Rattle.nob_model_session.specs.Accepting.{AllCame}
@@ -355,12 +355,13 @@ took_ended count ending e = cc
 arrival_same : (one ending : Ending) → arrives (arrived.Closed one) ≡ arrives (arrived.Closed ending) → one ≡ ending
 arrival_same one ending e = cc
 
-arrive_step : (strange shut ends_it behind : Bool) (count p : ℕ) (ending : Ending) → cond strange (Err end_refusals.Strange) (cond shut (Ok (arrived.Took 0)) (cond ends_it (Ok (arrived.Closed (record { peer = p; reason = PeerClosed }))) (cond behind (Ok (arrived.Closed (record { peer = p; reason = BadItem }))) (Ok (arrived.Took count))))) ≡ arrives (arrived.Closed ending) → p ≡ ending.peer
-arrive_step true shut ends_it behind count p ending e = absurd (arrival_refused end_refusals.Strange (arrived.Closed ending) e)
-arrive_step false true ends_it behind count p ending e = absurd (took_ended 0 ending e)
-arrive_step false false true behind count p ending e = ap (λ (one : Ending). one.peer) (arrival_same (record { peer = p; reason = PeerClosed }) ending e)
-arrive_step false false false true count p ending e = ap (λ (one : Ending). one.peer) (arrival_same (record { peer = p; reason = BadItem }) ending e)
-arrive_step false false false false count p ending e = absurd (took_ended count ending e)
+arrive_step : (strange older shut ends_it behind : Bool) (count p : ℕ) (ending : Ending) → cond strange (Err end_refusals.Strange) (Ok (cond older (arrived.Took 0) (cond shut (arrived.Took 0) (cond ends_it (arrived.Closed (record { peer = p; reason = PeerClosed })) (cond behind (arrived.Closed (record { peer = p; reason = BadItem })) (arrived.Took count)))))) ≡ arrives (arrived.Closed ending) → p ≡ ending.peer
+arrive_step true older shut ends_it behind count p ending e = absurd (arrival_refused end_refusals.Strange (arrived.Closed ending) e)
+arrive_step false true shut ends_it behind count p ending e = absurd (took_ended 0 ending e)
+arrive_step false false true ends_it behind count p ending e = absurd (took_ended 0 ending e)
+arrive_step false false false true behind count p ending e = ap (λ (one : Ending). one.peer) (arrival_same (record { peer = p; reason = PeerClosed }) ending e)
+arrive_step false false false false true count p ending e = ap (λ (one : Ending). one.peer) (arrival_same (record { peer = p; reason = BadItem }) ending e)
+arrive_step false false false false false count p ending e = absurd (took_ended count ending e)
 
 -- an ending is its peer and its reason
 ending_of : (p : ℕ) (reason : Reason) (ending : Ending) → p ≡ ending.peer → ending.reason ≡ reason → record { peer = p; reason = reason } ≡ ending
@@ -378,7 +379,7 @@ closing_right s n limits p reason (causes.Frame frame) D right =
     let own = was_answered s n limits (did.Closing p reason (causes.Frame frame)) D right in
     let told = (arrive_end_tells s n reason frame (history_of s n D) own.1).2 in
     let calls : List EndEntry = calls_at frame.from (history_of s n D) in
-    let peer : frame.from ≡ told.0.peer = arrive_step (not (is_of_pair s frame.from frame)) (not (is_open calls)) (is_close frame.kind) (nat_lt (transmitted calls + 1) frame.ack) (taken_by frame calls) frame.from told.0 told.1 in
+    let peer : frame.from ≡ told.0.peer = arrive_step (not (is_of_pair s frame.from frame)) (nat_lt frame.session (number calls)) (not (is_open calls)) (nat_lt (number calls) frame.session || is_close frame.kind) (nat_lt (transmitted calls + 1) frame.ack) (taken_by frame calls) frame.from told.0 told.1 in
     subst (λ (q : ℕ). Ok (arrived.Closed (record { peer = q; reason = reason })) ≡ right_arrive s q frame (calls_at q (history_of s n D))) own.0 (ap (λ (ending : Ending). Ok (arrived.Closed ending)) (ending_of frame.from reason told.0 peer told.2) ∙ sym told.1)
 closing_right s n limits p reason causes.Ticks D right =
     let told = (tick_end_tells s n p limits.retry reason (history_of s n D) (was_answered s n limits (did.Closing p reason causes.Ticks) D right)).1 in

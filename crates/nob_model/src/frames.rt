@@ -13,6 +13,7 @@ pub fn same_frame(frame: &Frame, other: &Frame) -> bool
     frame.kind == other.kind
         && frame.from == other.from
         && frame.to == other.to
+        && frame.session == other.session
         && frame.seq == other.seq
         && frame.ack == other.ack
         && frame.payload.as_slice() == other.payload.as_slice()

@@ -58,6 +58,8 @@ of_end end_refusals.Closed = refusals.Closed
 of_end end_refusals.QueueFull = refusals.QueueFull
 of_end end_refusals.SeqEnd = refusals.SeqEnd
 of_end end_refusals.Strange = refusals.NoPeer
+of_end end_refusals.StillOpen = refusals.NoPeer
+of_end end_refusals.Number = refusals.Limit
 
 -- the refusal in a result
 abbrev pub refusal_in : {A : Type 0} → Result A EndRefusal → Option Refusal

@@ -1,14 +1,16 @@
 -- The payload of an item from a peer is the one that came at the end with the peer, and what the end accepted under its number.
-use Rattle.std.proofs.Common.{◌≡◌, ℕ, zero, suc, ◌+◌, ◌<◌, ◌&&◌, Bool, true, false, cond, List, [], ◌∷◌, length, drop, Option, Some, None, Ok, refl, sym, ap, subst, ◌∙◌}
+use Rattle.std.proofs.Common.{◌≡◌, ℕ, zero, suc, ◌+◌, ◌≤◌, ◌<◌, ◌&&◌, Bool, true, false, cond, List, [], ◌∷◌, ◌++◌, length, drop, Option, Some, None, Ok, refl, sym, ap, subst, ◌∙◌, arith}
 use Rattle.std.specs.Prelude.{◌==◌}
 use Rattle.std.specs.List.{slice_get}
 use Rattle.std.specs.Option.{option_or}
 use Rattle.std.proofs.lemmas.Bool.{eqb-true}
+use Rattle.std.proofs.lemmas.List.{length-append}
 use Rattle.std.proofs.lemmas.Option.{slice_get_within}
 use Rattle.nob_ids.specs.declared.reason.Reason.{Reason}
 use Rattle.nob_item.specs.declared.item.Item.{Item}
 use Rattle.nob_frame.specs.declared.frame.Frame.{Frame}
-use Rattle.nob_model_session.specs.End.{accepted_count, brings_at, payload, accepted, handed, takes, is_open}
+use Rattle.nob_model_session.specs.End.{is_present, accepted_count, brings_at, payload, accepted, handed, takes, is_open}
+use Rattle.nob_model_session.specs.End as end
 use Rattle.nob_model_session.specs.Right.{right_front, first_of}
 use Rattle.nob_model_session.specs.Accepting.{AcceptsWhatCame, AllCame}
 use Rattle.nob_model_session.specs.declared.entry.EndEntry.{EndEntry}
@@ -19,12 +21,13 @@ use Rattle.nob_model_types.specs.declared.deed.Deed.{Deed}
 use Rattle.nob_model_types.specs.declared.deed.Deed.TheVariants as did
 use Rattle.nob_model_types.specs.declared.deed.Cause.{Cause}
 use Rattle.nob_model_types.specs.declared.deed.Cause.TheVariants as causes
-use Rattle.nob_model_types.specs.Sessions.{accepted_from, payload_at}
+use Rattle.nob_model_types.specs.Sessions.{number, is_from, accepted_from, payload_at}
 use Rattle.nob_model_work.specs.Work.{work}
 use Rattle.nob_model_work.specs.Gifts.{gifts}
 use Rattle.nob_model_history.specs.Histories.{history_of}
 use Rattle.nob_model_history.specs.Premises.{AcceptsNext, InTurn}
 use Rattle.nob_model_history.specs.Ends.{items_to, payload_of, kind_of, with_sends, own_calls, call_of_closing, calls_at}
+use Rattle.nob_model_history.proofs.Sessions.{sends_number, number_is}
 use Rattle.nob_model_history.proofs.Inbox.{calls_sent}
 
 -- ---- how many were accepted
@@ -44,22 +47,34 @@ closing_count p reason (causes.Frame frame) calls = refl
 closing_count p reason causes.Ticks calls = refl
 closing_count p reason causes.Asked calls = refl
 
-arrival_count : (b : Bool) (frame : Frame) (count : ℕ) (calls : List EndEntry) → accepted_count (cond b (ends.Arrive frame (Ok (arrived.Took count)) ∷ calls) calls) ≡ cond b (count + accepted_count calls) (accepted_count calls)
+arrival_count : (b : Bool) (frame : Frame) (count : ℕ) (calls : List EndEntry) → accepted_count (cond b (ends.Arrive frame (Ok (arrived.Took count)) ∷ calls) calls) ≡ cond (b && is_present frame calls) (count + accepted_count calls) (accepted_count calls)
 arrival_count true frame count calls = refl
 arrival_count false frame count calls = refl
 
-own_count : (p : ℕ) (deed : Deed) (D : List Deed) (calls : List EndEntry) → accepted_count calls ≡ accepted_from p D → accepted_count (own_calls p deed calls) ≡ accepted_from p (deed ∷ D)
-own_count p (did.Act q j) D calls is = if_count (q == p) _ calls refl ∙ is
-own_count p (did.Transmit q frames) D calls is = if_count (q == p) _ calls refl ∙ is
-own_count p (did.Arrive frame count) D calls is = arrival_count (frame.from == p) frame count calls ∙ ap (λ (m : ℕ). cond (frame.from == p) (count + m) m) is
-own_count p (did.Tick q) D calls is = if_count (q == p) _ calls refl ∙ is
-own_count p (did.Closing q reason cause) D calls is = if_count (q == p) _ calls (closing_count p reason cause calls) ∙ is
-own_count p deed D calls is = is
+own_count : (p : ℕ) (deed : Deed) (D : List Deed) (calls : List EndEntry) → end.number calls ≡ number p D → accepted_count calls ≡ accepted_from p D → accepted_count (own_calls p deed calls) ≡ accepted_from p (deed ∷ D)
+own_count p (did.Act q j) D calls session is = if_count (q == p) _ calls refl ∙ is
+own_count p (did.Transmit q frames) D calls session is = if_count (q == p) _ calls refl ∙ is
+own_count p (did.Arrive frame count) D calls session is =
+    arrival_count (frame.from == p) frame count calls
+    ∙ ap (λ (k : ℕ). cond (frame.from == p && frame.session == k) (count + accepted_count calls) (accepted_count calls)) session
+    ∙ ap (λ (m : ℕ). cond (is_from p frame D) (count + m) m) is
+own_count p (did.Tick q) D calls session is = if_count (q == p) _ calls refl ∙ is
+own_count p (did.Closing q reason cause) D calls session is = if_count (q == p) _ calls (closing_count p reason cause calls) ∙ is
+own_count p deed D calls session is = is
+
+-- what a deed gives is sent in the session with p
+sent_number : (s n p : ℕ) (deed : Deed) (D : List Deed) → end.number (calls_sent s n p deed D) ≡ number p D
+sent_number s n p deed D = sends_number (items_to p (gifts s n deed D (work s n D))) (calls_at p (history_of s n D)) ∙ number_is s n p D
 
 -- as many items from p were accepted as were at the end with p
 pub count_is : (s n p : ℕ) (D : List Deed) → accepted_count (calls_at p (history_of s n D)) ≡ accepted_from p D
 count_is s n p [] = refl
-count_is s n p (deed ∷ D) = own_count p deed D (calls_sent s n p deed D) (sends_count (items_to p (gifts s n deed D (work s n D))) (calls_at p (history_of s n D)) ∙ count_is s n p D)
+count_is s n p (deed ∷ D) = own_count p deed D (calls_sent s n p deed D) (sent_number s n p deed D) (sends_count (items_to p (gifts s n deed D (work s n D))) (calls_at p (history_of s n D)) ∙ count_is s n p D)
+
+-- an arrival leaves what was accepted in front of what it accepts
+pub accepts_more : (b : Bool) (before more : List (List ℕ)) → length before ≤ length (cond b (before ++ more) before)
+accepts_more true before more = let longer = length-append before more in omega (arith, longer)
+accepts_more false before more = omega arith
 
 -- ---- payloads
 
@@ -83,20 +98,21 @@ or_none : (found : Option (List ℕ)) → option_or found None ≡ found
 or_none (Some bytes) = refl
 or_none None = refl
 
-arrival_payload : (k : ℕ) (b : Bool) (frame : Frame) (count : ℕ) (calls : List EndEntry) → payload k (cond b (ends.Arrive frame (Ok (arrived.Took count)) ∷ calls) calls) ≡ option_or (payload k calls) (cond (b && brings_at k frame (accepted_count calls)) (Some frame.payload) None)
+arrival_payload : (k : ℕ) (b : Bool) (frame : Frame) (count : ℕ) (calls : List EndEntry) → payload k (cond b (ends.Arrive frame (Ok (arrived.Took count)) ∷ calls) calls) ≡ option_or (payload k calls) (cond ((b && is_present frame calls) && brings_at k frame (accepted_count calls)) (Some frame.payload) None)
 arrival_payload k true frame count calls = refl
 arrival_payload k false frame count calls = sym (or_none (payload k calls))
 
-own_payload : (p k : ℕ) (deed : Deed) (D : List Deed) (calls : List EndEntry) → accepted_count calls ≡ accepted_from p D → payload k calls ≡ payload_at p k D → payload k (own_calls p deed calls) ≡ payload_at p k (deed ∷ D)
-own_payload p k (did.Act q j) D calls count is = if_payload k (q == p) _ calls refl ∙ is
-own_payload p k (did.Transmit q frames) D calls count is = if_payload k (q == p) _ calls refl ∙ is
-own_payload p k (did.Arrive frame took) D calls count is =
+own_payload : (p k : ℕ) (deed : Deed) (D : List Deed) (calls : List EndEntry) → end.number calls ≡ number p D → accepted_count calls ≡ accepted_from p D → payload k calls ≡ payload_at p k D → payload k (own_calls p deed calls) ≡ payload_at p k (deed ∷ D)
+own_payload p k (did.Act q j) D calls session count is = if_payload k (q == p) _ calls refl ∙ is
+own_payload p k (did.Transmit q frames) D calls session count is = if_payload k (q == p) _ calls refl ∙ is
+own_payload p k (did.Arrive frame took) D calls session count is =
     arrival_payload k (frame.from == p) frame took calls
-    ∙ ap (λ (found : Option (List ℕ)). option_or found (cond (frame.from == p && brings_at k frame (accepted_count calls)) (Some frame.payload) None)) is
-    ∙ ap (λ (m : ℕ). option_or (payload_at p k D) (cond (frame.from == p && brings_at k frame m) (Some frame.payload) None)) count
-own_payload p k (did.Tick q) D calls count is = if_payload k (q == p) _ calls refl ∙ is
-own_payload p k (did.Closing q reason cause) D calls count is = if_payload k (q == p) _ calls (closing_payload k p reason cause calls) ∙ is
-own_payload p k deed D calls count is = is
+    ∙ ap (λ (m : ℕ). option_or (payload k calls) (cond ((frame.from == p && frame.session == m) && brings_at k frame (accepted_count calls)) (Some frame.payload) None)) session
+    ∙ ap (λ (found : Option (List ℕ)). option_or found (cond (is_from p frame D && brings_at k frame (accepted_count calls)) (Some frame.payload) None)) is
+    ∙ ap (λ (m : ℕ). option_or (payload_at p k D) (cond (is_from p frame D && brings_at k frame m) (Some frame.payload) None)) count
+own_payload p k (did.Tick q) D calls session count is = if_payload k (q == p) _ calls refl ∙ is
+own_payload p k (did.Closing q reason cause) D calls session count is = if_payload k (q == p) _ calls (closing_payload k p reason cause calls) ∙ is
+own_payload p k deed D calls session count is = is
 
 -- the payload of item k from p is the one that came at the end with p, in every list
 pub payload_is : (s n p k : ℕ) (D : List Deed) → payload_at p k D ≡ payload k (calls_at p (history_of s n D))
@@ -104,7 +120,7 @@ payload_is s n p k [] = refl
 payload_is s n p k (deed ∷ D) =
     let given : List Item = items_to p (gifts s n deed D (work s n D)) in
     let before : List EndEntry = calls_at p (history_of s n D) in
-    sym (own_payload p k deed D (calls_sent s n p deed D) (sends_count given before ∙ count_is s n p D) (sends_payload k given before ∙ sym (payload_is s n p k D)))
+    sym (own_payload p k deed D (calls_sent s n p deed D) (sent_number s n p deed D) (sends_count given before ∙ count_is s n p D) (sends_payload k given before ∙ sym (payload_is s n p k D)))
 
 -- ---- what was accepted
 

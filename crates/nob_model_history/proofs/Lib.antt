@@ -1,3 +1,4 @@
+pub mod Sessions
 pub mod Numbered
 pub mod Arriving
 pub mod Sending

@@ -1,6 +1,6 @@
 -- No session closes for a bad item: what is acted on was read, and no frame acknowledges what was never transmitted.
 use Rattle.std.proofs.Common.{◌≡◌, ℕ, ◌+◌, ◌≤◌, ◌&&◌, not, Bool, true, false, cond, List, [], ◌∷◌, length, Option, Some, None, Result, Ok, Err, refl, sym, ap, subst, ◌∙◌, arith}
-use Rattle.std.specs.Prelude.{◌==◌, ◌≢◌, nat_lt, nat_le}
+use Rattle.std.specs.Prelude.{◌==◌, ◌≢◌, ◌||◌, nat_lt, nat_le}
 use Rattle.std.specs.List.{AllByRecursion, list_any}
 use Rattle.std.proofs.lemmas.Bool.{eqb-true, le-ltb, false_from_ne_true}
 use Rattle.nob_ids.specs.declared.limits.Limits.{Limits}
@@ -10,7 +10,7 @@ use Rattle.nob_frame.specs.declared.frame.Frame.{Frame}
 use Rattle.nob_frame.specs.Kinds.{is_close}
 use Rattle.nob_item.specs.declared.item.Item.{Item}
 use Rattle.nob_item.specs.declared.item.Item.TheVariants as items
-use Rattle.nob_model_session.specs.End.{is_open, accepted, transmitted, is_out, ticks}
+use Rattle.nob_model_session.specs.End.{number, is_open, accepted, transmitted, is_out, ticks}
 use Rattle.nob_model_session.specs.Right.{is_of_pair, taken_by}
 use Rattle.nob_model_session.specs.declared.entry.Ending.{Ending}
 use Rattle.nob_model_session.specs.declared.entry.Arrived.{Arrived}
@@ -100,12 +100,13 @@ same_ending : (one ending : Ending) → arrives (arrived.Closed one) ≡ arrives
 same_ending one ending e = cc
 
 -- an arrival that acknowledges only what was transmitted closes a session as its peer did
-arrival_reason : (strange shut ends_it behind : Bool) (count : ℕ) (one two ending : Ending) → behind ≡ false → cond strange (Err end_refusals.Strange) (cond shut (Ok (arrived.Took 0)) (cond ends_it (Ok (arrived.Closed one)) (cond behind (Ok (arrived.Closed two)) (Ok (arrived.Took count))))) ≡ arrives (arrived.Closed ending) → one ≡ ending
-arrival_reason true shut ends_it behind count one two ending known e = absurd (refused end_refusals.Strange _ e)
-arrival_reason false true ends_it behind count one two ending known e = absurd (took_ended 0 ending e)
-arrival_reason false false true behind count one two ending known e = same_ending one ending e
-arrival_reason false false false true count one two ending known e = cc
-arrival_reason false false false false count one two ending known e = absurd (took_ended count ending e)
+arrival_reason : (strange older shut ends_it behind : Bool) (count : ℕ) (one two ending : Ending) → behind ≡ false → cond strange (Err end_refusals.Strange) (Ok (cond older (arrived.Took 0) (cond shut (arrived.Took 0) (cond ends_it (arrived.Closed one) (cond behind (arrived.Closed two) (arrived.Took count)))))) ≡ arrives (arrived.Closed ending) → one ≡ ending
+arrival_reason true older shut ends_it behind count one two ending known e = absurd (refused end_refusals.Strange _ e)
+arrival_reason false true shut ends_it behind count one two ending known e = absurd (took_ended 0 ending e)
+arrival_reason false false true ends_it behind count one two ending known e = absurd (took_ended 0 ending e)
+arrival_reason false false false true behind count one two ending known e = same_ending one ending e
+arrival_reason false false false false true count one two ending known e = cc
+arrival_reason false false false false false count one two ending known e = absurd (took_ended count ending e)
 
 -- a result of a tick that is no refusal
 abbrev ticked : Option Ending → Result (Option Ending) EndRefusal
@@ -144,7 +145,7 @@ arrive_bad s n frame limits J run given_it e =
     let carried : frame.ack ≤ length (accepted peers) + 1 = subst (λ (q : ℕ). frame.ack ≤ length (accepted (calls_at q (history_at frame.from n J))) + 1) (eqb-true frame.to s told.0) (frames_carried n limits J run frame given_it).acknowledges in
     let reach : length (accepted peers) ≤ transmitted calls = (reached s frame.from n limits J apart run).accepted_transmitted in
     let known : nat_lt (transmitted calls + 1) frame.ack ≡ false = le-ltb _ _ (omega (arith, carried, reach)) in
-    let ended : record_of frame.from ≡ told.2.0 = arrival_reason (not (is_of_pair s frame.from frame)) (not (is_open calls)) (is_close frame.kind) (nat_lt (transmitted calls + 1) frame.ack) (taken_by frame calls) (record_of frame.from) (record { peer = frame.from; reason = BadItem }) told.2.0 known told.2.1 in
+    let ended : record_of frame.from ≡ told.2.0 = arrival_reason (not (is_of_pair s frame.from frame)) (nat_lt frame.session (number calls)) (not (is_open calls)) (nat_lt (number calls) frame.session || is_close frame.kind) (nat_lt (transmitted calls + 1) frame.ack) (taken_by frame calls) (record_of frame.from) (record { peer = frame.from; reason = BadItem }) told.2.0 known told.2.1 in
     peer_bad (ap (λ (ending : Ending). ending.reason) ended ∙ told.2.2)
   where
     record_of : ℕ → Ending

@@ -1,6 +1,6 @@
 -- Every reference is found: what comes next has no fault, and so no session closes for a fault in what came over it.
 use Rattle.std.proofs.Common.{◌≡◌, ℕ, ◌+◌, ◌&&◌, not, Bool, true, false, cond, List, [], ◌∷◌, length, Option, Some, None, Result, Ok, Err, refl, sym, ap, subst, ◌∙◌}
-use Rattle.std.specs.Prelude.{◌==◌, ◌≢◌, nat_lt, nat_le}
+use Rattle.std.specs.Prelude.{◌==◌, ◌≢◌, ◌||◌, nat_lt, nat_le}
 use Rattle.std.specs.List.{AllByRecursion, list_any}
 use Rattle.std.proofs.lemmas.Bool.{eqb-true, eq-eqb, and_from, or_left, or_right, or_from, not_from_true, false_from_ne_true}
 use Rattle.nob_ids.specs.Names.{is_same}
@@ -13,7 +13,7 @@ use Rattle.nob_frame.specs.Kinds.{is_close}
 use Rattle.nob_item.specs.Kinds.{counted_in}
 use Rattle.nob_item.specs.declared.item.Item.{Item}
 use Rattle.nob_item.specs.declared.item.Item.TheVariants as items
-use Rattle.nob_model_session.specs.End.{is_open, transmitted, is_out, ticks}
+use Rattle.nob_model_session.specs.End.{number, is_open, transmitted, is_out, ticks}
 use Rattle.nob_model_session.specs.Right.{is_of_pair, taken_by}
 use Rattle.nob_model_session.specs.declared.entry.Ending.{Ending}
 use Rattle.nob_model_session.specs.declared.entry.Arrived.{Arrived}
@@ -139,12 +139,13 @@ same_ending : (one ending : Ending) → arrives (arrived.Closed one) ≡ arrives
 same_ending one ending e = cc
 
 -- an arrival closes a session as its peer did, or for a bad item
-arrival_reason : (p : ℕ) (strange shut ends_it behind : Bool) (count : ℕ) (ending : Ending) → cond strange (Err end_refusals.Strange) (cond shut (Ok (arrived.Took 0)) (cond ends_it (Ok (arrived.Closed (record { peer = p; reason = PeerClosed }))) (cond behind (Ok (arrived.Closed (record { peer = p; reason = BadItem }))) (Ok (arrived.Took count))))) ≡ arrives (arrived.Closed ending) → is_fault ending.reason ≡ true → BadItem ≡ ending.reason
-arrival_reason p true shut ends_it behind count ending e fault = absurd (refused end_refusals.Strange _ e)
-arrival_reason p false true ends_it behind count ending e fault = absurd (took_ended 0 ending e)
-arrival_reason p false false true behind count ending e fault = absurd (peer_kind ending.reason (ap (λ (one : Ending). one.reason) (same_ending (record { peer = p; reason = PeerClosed }) ending e)) fault)
-arrival_reason p false false false true count ending e fault = ap (λ (one : Ending). one.reason) (same_ending (record { peer = p; reason = BadItem }) ending e)
-arrival_reason p false false false false count ending e fault = absurd (took_ended count ending e)
+arrival_reason : (p : ℕ) (strange older shut ends_it behind : Bool) (count : ℕ) (ending : Ending) → cond strange (Err end_refusals.Strange) (Ok (cond older (arrived.Took 0) (cond shut (arrived.Took 0) (cond ends_it (arrived.Closed (record { peer = p; reason = PeerClosed })) (cond behind (arrived.Closed (record { peer = p; reason = BadItem })) (arrived.Took count)))))) ≡ arrives (arrived.Closed ending) → is_fault ending.reason ≡ true → BadItem ≡ ending.reason
+arrival_reason p true older shut ends_it behind count ending e fault = absurd (refused end_refusals.Strange _ e)
+arrival_reason p false true shut ends_it behind count ending e fault = absurd (took_ended 0 ending e)
+arrival_reason p false false true ends_it behind count ending e fault = absurd (took_ended 0 ending e)
+arrival_reason p false false false true behind count ending e fault = absurd (peer_kind ending.reason (ap (λ (one : Ending). one.reason) (same_ending (record { peer = p; reason = PeerClosed }) ending e)) fault)
+arrival_reason p false false false false true count ending e fault = ap (λ (one : Ending). one.reason) (same_ending (record { peer = p; reason = BadItem }) ending e)
+arrival_reason p false false false false false count ending e fault = absurd (took_ended count ending e)
 
 -- a result of a tick that is no refusal
 abbrev ticked : Option Ending → Result (Option Ending) EndRefusal
@@ -184,7 +185,7 @@ unfolding right_after
 arrive_closes s n frame limits h reason e fault =
     let told = (arrive_end_tells s n reason frame h e).2 in
     let calls : List EndEntry = calls_at frame.from h in
-    arrival_reason frame.from (not (is_of_pair s frame.from frame)) (not (is_open calls)) (is_close frame.kind) (nat_lt (transmitted calls + 1) frame.ack) (taken_by frame calls) told.0 told.1 (ap is_fault told.2 ∙ fault) ∙ told.2
+    arrival_reason frame.from (not (is_of_pair s frame.from frame)) (nat_lt frame.session (number calls)) (not (is_open calls)) (nat_lt (number calls) frame.session || is_close frame.kind) (nat_lt (transmitted calls + 1) frame.ack) (taken_by frame calls) told.0 told.1 (ap is_fault told.2 ∙ fault) ∙ told.2
 
 tick_closes : (s n p : ℕ) (limits : Limits) (h : History) (reason : Reason) → Closes (right_after s n limits h (events.Tick p)) reason → OnlyBad reason
 unfolding right_after

@@ -8,7 +8,7 @@ use Rattle.nob_ids.specs.declared.limits.Limits.{Limits}
 use Rattle.nob_ids.specs.declared.reason.Reason.{Reason}
 use Rattle.nob_frame.specs.declared.frame.Frame.{Frame}
 use Rattle.nob_item.specs.declared.item.Item.{Item}
-use Rattle.nob_model_session.specs.End.{is_open, accepted_count, lowest, transmitted, data_arrived, unacknowledged, owes_close, ending, handed}
+use Rattle.nob_model_session.specs.End.{number, is_open, accepted_count, lowest, transmitted, data_arrived, unacknowledged, owes_close, ending, handed}
 use Rattle.nob_model_session.specs.Right.{data_frames, open_frames, closed_frames, right_transmit}
 use Rattle.nob_model_session.specs.Pair as pair
 use Rattle.nob_model_session.specs.declared.entry.EndEntry.{EndEntry}
@@ -37,29 +37,29 @@ use Rattle.nob_model_invariant.proofs.Entries.{grows, grows_own, right_deeds_at}
 abbrev pub IsBetween : (me peer : ℕ) → Frame → Type 0
 IsBetween me peer frame = (frame.from ≡ me) × (frame.to ≡ peer)
 
-data_between : (me peer ack k : ℕ) (payloads : List (List ℕ)) → AllByRecursion (IsBetween me peer) (data_frames me peer ack k payloads)
-data_between me peer ack k [] = tt
-data_between me peer ack k (payload ∷ payloads) = ((refl, refl), data_between me peer ack (k + 1) payloads)
+data_between : (me peer session ack k : ℕ) (payloads : List (List ℕ)) → AllByRecursion (IsBetween me peer) (data_frames me peer session ack k payloads)
+data_between me peer session ack k [] = tt
+data_between me peer session ack k (payload ∷ payloads) = ((refl, refl), data_between me peer session ack (k + 1) payloads)
 
-open_between : (me peer ack k given : ℕ) (due : Bool) (payloads : List (List ℕ)) → AllByRecursion (IsBetween me peer) (open_frames me peer ack k given due payloads)
-open_between me peer ack k given true [] = ((refl, refl), tt)
-open_between me peer ack k given false [] = tt
-open_between me peer ack k given due (payload ∷ payloads) = ((refl, refl), data_between me peer ack (max k given + 1) (drop (given - k) payloads))
+open_between : (me peer session ack k given : ℕ) (due : Bool) (payloads : List (List ℕ)) → AllByRecursion (IsBetween me peer) (open_frames me peer session ack k given due payloads)
+open_between me peer session ack k given true [] = ((refl, refl), tt)
+open_between me peer session ack k given false [] = tt
+open_between me peer session ack k given due (payload ∷ payloads) = ((refl, refl), data_between me peer session ack (max k given + 1) (drop (given - k) payloads))
 
-closed_between : (me peer ack : ℕ) (owes : Bool) (reason : Option Reason) → AllByRecursion (IsBetween me peer) (closed_frames me peer ack owes reason)
-closed_between me peer ack owes None = tt
-closed_between me peer ack true (Some reason) = ((refl, refl), tt)
-closed_between me peer ack false (Some reason) = tt
+closed_between : (me peer session ack : ℕ) (owes : Bool) (reason : Option Reason) → AllByRecursion (IsBetween me peer) (closed_frames me peer session ack owes reason)
+closed_between me peer session ack owes None = tt
+closed_between me peer session ack true (Some reason) = ((refl, refl), tt)
+closed_between me peer session ack false (Some reason) = tt
 
-either_between : (up : Bool) (me peer ack k given : ℕ) (due owes : Bool) (reason : Option Reason) (payloads : List (List ℕ)) → AllByRecursion (IsBetween me peer) (cond up (open_frames me peer ack k given due payloads) (closed_frames me peer ack owes reason))
-either_between true me peer ack k given due owes reason payloads = open_between me peer ack k given due payloads
-either_between false me peer ack k given due owes reason payloads = closed_between me peer ack owes reason
+either_between : (up : Bool) (me peer session ack k given : ℕ) (due owes : Bool) (reason : Option Reason) (payloads : List (List ℕ)) → AllByRecursion (IsBetween me peer) (cond up (open_frames me peer session ack k given due payloads) (closed_frames me peer session ack owes reason))
+either_between true me peer session ack k given due owes reason payloads = open_between me peer session ack k given due payloads
+either_between false me peer session ack k given due owes reason payloads = closed_between me peer session ack owes reason
 
 -- what an end gives goes from its space to its peer
 pub transmit_between : (me peer window : ℕ) (L : List EndEntry) (frame : Frame) → Contains (right_transmit me peer window L) frame → IsBetween me peer frame
 transmit_between me peer window L frame from =
     All-contains (IsBetween me peer) (right_transmit me peer window L) frame
-    (All-from_recursion (IsBetween me peer) (right_transmit me peer window L) (either_between (is_open L) me peer (accepted_count L + 1) (lowest L) (transmitted L) (data_arrived L) (owes_close L) (ending L) (take window (unacknowledged L))))
+    (All-from_recursion (IsBetween me peer) (right_transmit me peer window L) (either_between (is_open L) me peer (number L) (accepted_count L + 1) (lowest L) (transmitted L) (data_arrived L) (owes_close L) (ending L) (take window (unacknowledged L))))
     from
 
 -- ---- what was given on an end

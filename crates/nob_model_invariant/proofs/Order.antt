@@ -1,14 +1,14 @@
 -- What each space acted on from each peer is a beginning of what that peer sent it, and all that is sent has a spelling.
 use Rattle.std.proofs.Common.{◌≡◌, ℕ, ◌+◌, ◌-◌, ◌≤◌, ◌&&◌, not, Bool, true, false, cond, List, [], ◌∷◌, ◌++◌, length, map, Option, Some, Ok, Err, refl, sym, ap, subst, ◌∙◌, inl, inr, arith}
-use Rattle.std.specs.Prelude.{◌==◌, ◌≢◌, nat_le}
+use Rattle.std.specs.Prelude.{◌==◌, ◌≢◌, nat_le, if◌then◌else◌}
 use Rattle.std.specs.List.{AllByRecursion, slice_get}
-use Rattle.std.proofs.lemmas.Bool.{eqb-true, eqb-false, leb-false, and_parts, not-true}
+use Rattle.std.proofs.lemmas.Bool.{eqb-true, eq-eqb, eqb-false, leb-false, and_parts, not-true}
 use Rattle.std.proofs.lemmas.List.{append-nil, length-map, length_push}
 use Rattle.std.proofs.lemmas.Option.{slice_get_within}
 use Rattle.nob_ids.specs.declared.limits.Limits.{Limits}
 use Rattle.nob_item.specs.Spelling.{Fits, IsItemNumber}
 use Rattle.nob_item.specs.declared.item.Item.{Item}
-use Rattle.nob_model_session.specs.End.{last_item, handed, takes, is_open, unacknowledged}
+use Rattle.nob_model_session.specs.End.{number, up_to, last_item, handed, takes, is_open, unacknowledged}
 use Rattle.nob_model_session.specs.Right.{right_front, is_limited, queue_limit}
 use Rattle.nob_model_session.specs.Pair.{IsBeginning, Reaches, first_calls}
 use Rattle.nob_model_session.specs.declared.refusal.EndRefusal.TheVariants as end_refusals
@@ -25,6 +25,7 @@ use Rattle.nob_model_history.specs.declared.transit.SentItem.{SentItem}
 use Rattle.nob_model_history.specs.Histories.{history_of}
 use Rattle.nob_model_history.specs.Ends.{items_to, payload_of, calls_at}
 use Rattle.nob_model_history.specs.Transit.{sent}
+use Rattle.nob_model_history.proofs.Sessions.{first_session}
 use Rattle.nob_model_history.proofs.Inbox.{acted_takes, front_number}
 use Rattle.nob_model_history.proofs.Arriving.{payload_is, front_payload}
 use Rattle.nob_model_history.proofs.Numbered.{gifts_sent_to, payloads_handed, items_sent_to}
@@ -50,12 +51,26 @@ use Rattle.nob_model_invariant.proofs.Carried.{frames_carried}
 
 -- ---- how far items come
 
+-- the calls of an end up to its present session are all of its calls
+up_to_all : (k : ℕ) (calls : List EndEntry) → number calls ≡ k → up_to k calls ≡ calls
+up_to_all k [] is = refl
+up_to_all k (call ∷ calls) is = ap (λ (b : Bool). if b then call ∷ calls else up_to k calls) (eq-eqb (number (call ∷ calls)) k is)
+
+-- the calls of an end of a space are all of its first session
+all_first : (s n p : ℕ) (D : List Deed) → up_to 1 (calls_at p (history_of s n D)) ≡ calls_at p (history_of s n D)
+all_first s n p D = up_to_all 1 (calls_at p (history_of s n D)) (first_session s n p D)
+
 -- the items of one space came so far at another
 pub reached : (a b n : ℕ) (limits : ℕ → Limits) (J : List Entry) → a ≢ b → WorldRun n limits J → Reaches (calls_at b (history_at a n J)) (calls_at a (history_at b n J))
 reached a b n limits J apart run =
     let paired = are_paired a b n limits J apart run in
-    subst (λ first. Reaches first (calls_at a (history_at b n J))) paired.firsts
-    (subst (λ second. Reaches (first_calls paired.run) second) paired.seconds (accepted_law a b (limits a) (limits b) paired.run paired.is_run).0)
+    let first : List EndEntry = calls_at b (history_at a n J) in
+    let second : List EndEntry = calls_at a (history_at b n J) in
+    let all : Reaches (up_to 1 first) (up_to 1 second) =
+      subst (λ calls. Reaches (up_to 1 calls) (up_to 1 second)) paired.firsts
+      (subst (λ calls. Reaches (up_to 1 (first_calls paired.run)) (up_to 1 calls)) paired.seconds (accepted_law a b (limits a) (limits b) paired.run paired.is_run 1).0) in
+    subst (λ calls. Reaches calls second) (all_first a n b (deeds_at a J))
+    (subst (λ calls. Reaches (up_to 1 first) calls) (all_first b n a (deeds_at b J)) all)
 
 -- a Send that was taken had a free number
 send_low : (number count : ℕ) (shut full over : Bool) → Ok number ≡ cond shut (Err end_refusals.Closed) (cond full (Err end_refusals.QueueFull) (cond over (Err end_refusals.SeqEnd) (Ok (count + 1)))) → over ≡ false

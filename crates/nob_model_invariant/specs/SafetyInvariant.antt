@@ -5,7 +5,7 @@ use Rattle.std.specs.List.{AllByRecursion, Contains}
 use Rattle.nob_frame.specs.declared.frame.Frame.{Frame}
 use Rattle.nob_frame.specs.Kinds.{is_data}
 use Rattle.nob_item.specs.Spelling.{Fits}
-use Rattle.nob_model_session.specs.End.{handed, accepted, transmitted}
+use Rattle.nob_model_session.specs.End.{number, handed, accepted, transmitted}
 use Rattle.nob_model_session.specs.Pair.{IsBeginning, Reaches}
 use Rattle.nob_model_session.specs.declared.entry.EndEntry.{EndEntry}
 use Rattle.nob_ids.specs.declared.reason.Reason.TheVariants.{BadItem}
@@ -30,8 +30,9 @@ use Rattle.nob_model_invariant.specs.Asking.{asked, heard, was_asked, gave, turn
 use Rattle.nob_model_journal.specs.Journals.{deeds_at, closed_at, history_at, sent_to, acted_from, transmitted_frames}
 use Rattle.nob_model_journal.specs.Fronts.{ActsInOrder}
 
--- a frame as an end gave it: it acknowledges no more than the end accepted, and a Data frame carries the transmitted payload of its number
+-- a frame as an end gave it: it is of the end's session, acknowledges no more than the end accepted, and a Data frame carries the transmitted payload of its number
 pub record IsCarried (calls : List EndEntry) (frame : Frame) : Type 0 where
+  pub is_of_session : frame.session ≡ number calls
   pub acknowledges : frame.ack ≤ length (accepted calls) + 1
   pub is_transmitted : is_data frame.kind ≡ true → frame.seq ≤ transmitted calls
   pub is_numbered : is_data frame.kind ≡ true → 1 ≤ frame.seq

@@ -1,5 +1,5 @@
 -- What arrivals bring, keep and accept: how the words of a list change with one call more, and what holds of what was accepted.
-use Rattle.std.proofs.Common.{◌≡◌, ℕ, zero, suc, ◌+◌, ◌-◌, ◌<◌, ◌≤◌, Bool, true, false, not, cond, nat_lt, List, [], ◌∷◌, ◌++◌, length, take, drop, Option, Some, None, Ok, Err, IsSome, if◌then◌else◌, refl, sym, ap, subst, ◌∙◌, arith}
+use Rattle.std.proofs.Common.{◌≡◌, ℕ, zero, suc, ◌+◌, ◌-◌, ◌<◌, ◌≤◌, Bool, true, false, not, cond, nat_lt, ◌&&◌, ◌||◌, ◌==◌, List, [], ◌∷◌, ◌++◌, length, take, drop, Option, Some, None, Ok, Err, IsSome, if◌then◌else◌, refl, sym, ap, subst, ◌∙◌, arith}
 use Rattle.std.specs.List.{slice_get}
 use Rattle.std.specs.Option.{option_or}
 use Rattle.std.proofs.lemmas.Bool.Decides.{nat_tests}
@@ -12,8 +12,8 @@ use Rattle.nob_model_session.specs.declared.refusal.EndRefusal.TheVariants as re
 use Rattle.nob_model_session.specs.declared.entry.Ending.{Ending}
 use Rattle.nob_model_session.specs.declared.entry.Arrived.TheVariants as arrived
 use Rattle.nob_model_session.specs.declared.entry.EndEntry.{EndEntry}
-use Rattle.nob_model_session.specs.declared.entry.EndEntry.TheVariants.{Arrive}
-use Rattle.nob_model_session.specs.End.{is_open, last_item, reach, accepted_count, brings_at, payload, places, filled, accepted, early, waiting, transmitted}
+use Rattle.nob_model_session.specs.declared.entry.EndEntry.TheVariants.{Arrive, Reopen}
+use Rattle.nob_model_session.specs.End.{number, is_present, is_open, last_item, reach, accepted_count, brings_at, payload, places, filled, accepted, early, waiting, transmitted}
 use Rattle.nob_model_session.specs.Right.{inbox_limit, in_a_row, taken_by, is_of_pair, right_arrive, IsRight}
 use Rattle.nob_model_session.specs.Accepting.{AcceptsWhatCame, AllCame}
 
@@ -22,10 +22,18 @@ use Rattle.nob_model_session.specs.Accepting.{AcceptsWhatCame, AllCame}
 or_some : (x y : Option (List ℕ)) (p : List ℕ) → x ≡ Some p → option_or x y ≡ Some p
 or_some x y p e = ap (λ (z : Option (List ℕ)). option_or z y) e
 
--- what came of a number stays
-pub payload_stays : (n : ℕ) (e : EndEntry) (L : List EndEntry) (p : List ℕ) → payload n L ≡ Some p → payload n (e ∷ L) ≡ Some p
-payload_stays n (Arrive frame (Ok (arrived.Took k))) L p h = or_some (payload n L) (if brings_at n frame (accepted_count L) then Some frame.payload else None) p h
-payload_stays n (_) L p h = h
+-- what came of a number stays when a frame is taken
+pub payload_stays : (n : ℕ) (frame : Frame) (k : ℕ) (L : List EndEntry) (p : List ℕ) → payload n L ≡ Some p → payload n (Arrive frame (Ok (arrived.Took k)) ∷ L) ≡ Some p
+payload_stays n frame k L p h = or_some (payload n L) (if is_present frame L && brings_at n frame (accepted_count L) then Some frame.payload else None) p h
+
+both_false : (b c : Bool) → c ≡ false → b && c ≡ false
+both_false true c e = e
+both_false false c e = refl
+
+-- a frame makes no fewer items accepted
+more_count : (b : Bool) (k m : ℕ) → m ≤ (if b then k + m else m)
+more_count true k m = omega arith
+more_count false k m = omega arith
 
 -- nothing is brought beyond the reach
 far_brings : (n : ℕ) (frame : Frame) (count : ℕ) → count + reach < n → brings_at n frame count ≡ false
@@ -44,15 +52,17 @@ none_brought (Some y) brings p e none = absurd cc
 pub payload_beyond : (n : ℕ) (L : List EndEntry) → accepted_count L + reach < n → payload n L ≡ None
 payload_beyond n [] far = refl
 payload_beyond n (Arrive frame (Ok (arrived.Took k)) ∷ L) far =
-    let before : accepted_count L + reach < n = omega (arith, far) in
-    none_brought (payload n L) (brings_at n frame (accepted_count L)) frame.payload (payload_beyond n L before) (far_brings n frame (accepted_count L) before)
+    let before : accepted_count L + reach < n = omega (arith, far, more_count (is_present frame L) k (accepted_count L)) in
+    none_brought (payload n L) (is_present frame L && brings_at n frame (accepted_count L)) frame.payload (payload_beyond n L before) (both_false (is_present frame L) _ (far_brings n frame (accepted_count L) before))
+payload_beyond n (Reopen k (Ok done) ∷ L) far = refl
 payload_beyond n (_ ∷ L) far = payload_beyond n L far
 
 -- nothing came above the greatest number of an item
 pub payload_last : (n : ℕ) (L : List EndEntry) → last_item < n → payload n L ≡ None
 payload_last n [] high = refl
 payload_last n (Arrive frame (Ok (arrived.Took k)) ∷ L) high =
-    none_brought (payload n L) (brings_at n frame (accepted_count L)) frame.payload (payload_last n L high) (last_brings n frame (accepted_count L) high)
+    none_brought (payload n L) (is_present frame L && brings_at n frame (accepted_count L)) frame.payload (payload_last n L high) (both_false (is_present frame L) _ (last_brings n frame (accepted_count L) high))
+payload_last n (Reopen k (Ok done) ∷ L) high = refl
 payload_last n (_ ∷ L) high = payload_last n L high
 
 -- ---- places
@@ -160,40 +170,50 @@ filled_at n (suc count) (suc i) L came within =
 
 -- ---- what an arrival answers
 
--- that an arrival took so many items: of its pair, at the open end, no Close, its acknowledgement in order, and as many as it makes the end accept
+-- that an arrival took so many items: of its pair and of the present session, at the open end, no Close, its acknowledgement in order, and as many as it makes the end accept
 pub record Took (me peer : ℕ) (frame : Frame) (k : ℕ) (L : List EndEntry) : Type 0 where
   pub pair : is_of_pair me peer frame ≡ true
+  pub present : is_present frame L ≡ true
   pub open_end : is_open L ≡ true
   pub no_close : is_close frame.kind ≡ false
   pub ack : nat_lt (transmitted L + 1) frame.ack ≡ false
   pub count : k ≡ taken_by frame L
   pub is_item : is_data frame.kind ≡ true
 
-took_by : (x y : Ending) (strange closed close bad data_frame : Bool) (found k : ℕ)
-    → Ok (arrived.Took (suc k)) ≡ cond strange (Err refusal.Strange) (cond closed (Ok (arrived.Took 0)) (cond close (Ok (arrived.Closed x)) (cond bad (Ok (arrived.Closed y)) (Ok (arrived.Took (cond data_frame found 0))))))
-    → (strange ≡ false) × (closed ≡ false) × (close ≡ false) × (bad ≡ false) × (suc k ≡ cond data_frame found 0) × (data_frame ≡ true)
-took_by x y true closed close bad data_frame found k e = absurd cc
-took_by x y false true close bad data_frame found k e = let none : suc k ≡ 0 = cc in absurd (omega arith)
-took_by x y false false true bad data_frame found k e = absurd cc
-took_by x y false false false true data_frame found k e = absurd cc
-took_by x y false false false false true found k e = (refl, refl, refl, refl, cc, refl)
-took_by x y false false false false false found k e = let none : suc k ≡ 0 = cc in absurd (omega arith)
+took_by : (x y : Ending) (strange older closed newer close bad data_frame : Bool) (found k : ℕ)
+    → Ok (arrived.Took (suc k)) ≡ cond strange (Err refusal.Strange) (Ok (cond older (arrived.Took 0) (cond closed (arrived.Took 0) (cond (newer || close) (arrived.Closed x) (cond bad (arrived.Closed y) (arrived.Took (cond data_frame found 0)))))))
+    → (strange ≡ false) × (older ≡ false) × (closed ≡ false) × (newer ≡ false) × (close ≡ false) × (bad ≡ false) × (suc k ≡ cond data_frame found 0) × (data_frame ≡ true)
+took_by x y true older closed newer close bad data_frame found k e = absurd cc
+took_by x y false true closed newer close bad data_frame found k e = let none : suc k ≡ 0 = cc in absurd (omega arith)
+took_by x y false false true newer close bad data_frame found k e = let none : suc k ≡ 0 = cc in absurd (omega arith)
+took_by x y false false false true close bad data_frame found k e = absurd cc
+took_by x y false false false false true bad data_frame found k e = absurd cc
+took_by x y false false false false false true data_frame found k e = absurd cc
+took_by x y false false false false false false true found k e = (refl, refl, refl, refl, refl, refl, cc, refl)
+took_by x y false false false false false false false found k e = let none : suc k ≡ 0 = cc in absurd (omega arith)
 
 not_false : (b : Bool) → not b ≡ false → b ≡ true
 not_false true e = refl
 not_false false e = absurd cc
 
+neither : (m n : ℕ) → nat_lt m n ≡ false → nat_lt n m ≡ false → (m == n) ≡ true
+neither m n low high = grind (arith, nat_tests, low, high)
+
 pub took_is : (me peer : ℕ) (frame : Frame) (L : List EndEntry) (k : ℕ) → Ok (arrived.Took (suc k)) ≡ right_arrive me peer frame L → Took me peer frame (suc k) L
 took_is me peer frame L k e =
-    let parts = took_by (record { peer = peer; reason = reason.PeerClosed }) (record { peer = peer; reason = reason.BadItem }) (not (is_of_pair me peer frame)) (not (is_open L)) (is_close frame.kind) (nat_lt (transmitted L + 1) frame.ack) (is_data frame.kind)
+    let parts = took_by (record { peer = peer; reason = reason.PeerClosed }) (record { peer = peer; reason = reason.BadItem }) (not (is_of_pair me peer frame)) (nat_lt frame.session (number L)) (not (is_open L)) (nat_lt (number L) frame.session) (is_close frame.kind) (nat_lt (transmitted L + 1) frame.ack) (is_data frame.kind)
     (in_a_row (inbox_limit - length (waiting L)) (early (Arrive frame (Ok (arrived.Took 0)) ∷ L))) k e in
-    record { pair = not_false _ parts.0; open_end = not_false _ parts.1; no_close = parts.2; ack = parts.3; count = parts.4; is_item = parts.5 }
+    record { pair = not_false _ parts.0; present = neither frame.session (number L) parts.1 parts.3; open_end = not_false _ parts.2; no_close = parts.4; ack = parts.5; count = parts.6; is_item = parts.7 }
+
+same_count : (b : Bool) (m : ℕ) → (if b then 0 + m else m) ≡ m
+same_count true m = omega arith
+same_count false m = refl
 
 -- what a Data frame makes an open end accept, as the places say
 pub taken_is : (frame : Frame) (L : List EndEntry) → is_data frame.kind ≡ true → is_open L ≡ true
     → taken_by frame L ≡ in_a_row (inbox_limit - length (waiting L)) (places (accepted_count L + 1) reach (Arrive frame (Ok (arrived.Took 0)) ∷ L))
 taken_is frame L its opened =
-    let none : accepted_count (Arrive frame (Ok (arrived.Took 0)) ∷ L) ≡ accepted_count L = omega arith in
+    let none : accepted_count (Arrive frame (Ok (arrived.Took 0)) ∷ L) ≡ accepted_count L = same_count (is_present frame L) (accepted_count L) in
     rw (its, opened, none) refl
 
 taken_most : (b : Bool) (room : ℕ) (ps : List (Option (List ℕ))) → (if b then in_a_row room ps else 0) ≤ room
@@ -221,8 +241,8 @@ same_some x y p e f = let same : x ≡ y = cc in subst IsSome (sym (same ∙ f))
 
 -- a payload had come for each number that an arrival took, if its answer was right
 took_came : (me peer : ℕ) (frame : Frame) (L : List EndEntry) (k : ℕ) → Ok (arrived.Took k) ≡ right_arrive me peer frame L → AcceptsWhatCame (Arrive frame (Ok (arrived.Took k))) L
-took_came me peer frame L zero e i within = absurd (omega arith)
-took_came me peer frame L (suc k) e i within =
+took_came me peer frame L zero e present i within = absurd (omega arith)
+took_came me peer frame L (suc k) e present i within =
     let took = took_is me peer frame L k e in
     let L0 = Arrive frame (Ok (arrived.Took 0)) ∷ L in
     let room = inbox_limit - length (waiting L) in
@@ -246,9 +266,14 @@ accepted_length [] came = refl
 accepted_length (Arrive frame (Ok (arrived.Took k)) ∷ L) came =
     let more = filled (places (accepted_count L + 1) k (Arrive frame (Ok (arrived.Took k)) ∷ L)) in
     let before = accepted_length L came.1 in
-    let now = filled_length (accepted_count L + 1) k (Arrive frame (Ok (arrived.Took k)) ∷ L) came.0 in
-    let both = length-append (accepted L) more in
-    omega (arith, before, now, both)
+    elim (is_present frame L) as (λ b. is_present frame L ≡ b → length (if b then accepted L ++ more else accepted L) ≡ (if b then k + accepted_count L else accepted_count L)) [
+      | true ↦ λ present.
+          let now = filled_length (accepted_count L + 1) k (Arrive frame (Ok (arrived.Took k)) ∷ L) (came.0 present) in
+          let both = length-append (accepted L) more in
+          omega (arith, before, now, both)
+      | false ↦ λ other. before
+    ] refl
+accepted_length (Reopen k (Ok done) ∷ L) came = refl
 accepted_length (_ ∷ L) came = accepted_length L came.1
 
 get_before : (xs ys : List (List ℕ)) (i : ℕ) → i < length xs → slice_get (xs ++ ys) i ≡ slice_get xs i
@@ -266,20 +291,21 @@ within_some [] i within = absurd (omega arith)
 within_some (x ∷ xs) zero within = (x, refl)
 within_some (x ∷ xs) (suc i) within = within_some xs i (omega (arith, within))
 
--- each is what came of its number
-pub accepted_at : (L : List EndEntry) → AllCame L → (i : ℕ) → i < accepted_count L → slice_get (accepted L) i ≡ payload (i + 1) L
-accepted_at [] came i within = absurd (omega arith)
-accepted_at (Arrive frame (Ok (arrived.Took k)) ∷ L) came i within =
+-- each is what came of its number, also once a frame of the present session made more accepted
+accepted_more : (frame : Frame) (k : ℕ) (L : List EndEntry) → AllCame L → ((i : ℕ) → i < k → IsSome (payload (accepted_count L + 1 + i) (Arrive frame (Ok (arrived.Took k)) ∷ L)))
+    → ((i : ℕ) → i < accepted_count L → slice_get (accepted L) i ≡ payload (i + 1) L)
+    → (i : ℕ) → i < k + accepted_count L → slice_get (accepted L ++ filled (places (accepted_count L + 1) k (Arrive frame (Ok (arrived.Took k)) ∷ L))) i ≡ payload (i + 1) (Arrive frame (Ok (arrived.Took k)) ∷ L)
+accepted_more frame k L came now before i within =
     let e = Arrive frame (Ok (arrived.Took k)) in
     let n = accepted_count L + 1 in
     let more = filled (places n k (e ∷ L)) in
-    let len = accepted_length L came.1 in
+    let len = accepted_length L came in
     elim (nat_lt i (accepted_count L)) as (λ b. nat_lt i (accepted_count L) ≡ b → slice_get (accepted L ++ more) i ≡ payload (i + 1) (e ∷ L)) [
-      | true ↦ λ before.
-          let low : i < accepted_count L = grind (arith, nat_tests, before) in
-          let old = accepted_at L came.1 i low in
+      | true ↦ λ here.
+          let low : i < accepted_count L = grind (arith, nat_tests, here) in
+          let old = before i low in
           let there = within_some (accepted L) i (omega (arith, low, len)) in
-          let stays : payload (i + 1) (e ∷ L) ≡ Some there.0 = payload_stays (i + 1) e L there.0 (sym old ∙ there.1) in
+          let stays : payload (i + 1) (e ∷ L) ≡ Some there.0 = payload_stays (i + 1) frame k L there.0 (sym old ∙ there.1) in
           get_before (accepted L) more i (omega (arith, low, len)) ∙ there.1 ∙ sym stays
       | false ↦ λ behind.
           let high : accepted_count L ≤ i = grind (arith, nat_tests, behind) in
@@ -287,9 +313,24 @@ accepted_at (Arrive frame (Ok (arrived.Took k)) ∷ L) came i within =
           let number : n + (i - accepted_count L) ≡ i + 1 = omega (arith, high) in
           ap (slice_get (accepted L ++ more)) (sym place)
           ∙ get_behind (accepted L) more (i - accepted_count L)
-          ∙ filled_at n k (i - accepted_count L) (e ∷ L) came.0 (omega (arith, high, within))
+          ∙ filled_at n k (i - accepted_count L) (e ∷ L) now (omega (arith, high, within))
           ∙ ap (λ (m : ℕ). payload m (e ∷ L)) number
     ] refl
+
+-- each is what came of its number
+pub accepted_at : (L : List EndEntry) → AllCame L → (i : ℕ) → i < accepted_count L → slice_get (accepted L) i ≡ payload (i + 1) L
+accepted_at [] came i within = absurd (omega arith)
+accepted_at (Arrive frame (Ok (arrived.Took k)) ∷ L) came i within =
+    let e = Arrive frame (Ok (arrived.Took k)) in
+    let more = filled (places (accepted_count L + 1) k (e ∷ L)) in
+    elim (is_present frame L) as (λ b. is_present frame L ≡ b → i < (if b then k + accepted_count L else accepted_count L) → slice_get (if b then accepted L ++ more else accepted L) i ≡ payload (i + 1) (e ∷ L)) [
+      | true ↦ λ present low. accepted_more frame k L came.1 (came.0 present) (accepted_at L came.1) i low
+      | false ↦ λ other low.
+          let old = accepted_at L came.1 i low in
+          let there = within_some (accepted L) i (omega (arith, low, accepted_length L came.1)) in
+          there.1 ∙ sym (payload_stays (i + 1) frame k L there.0 (sym old ∙ there.1))
+    ] refl within
+accepted_at (Reopen k (Ok done) ∷ L) came i within = absurd (omega arith)
 accepted_at (_ ∷ L) came i within = accepted_at L came.1 i within
 
 -- no more than have numbers

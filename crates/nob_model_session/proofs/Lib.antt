@@ -1,3 +1,4 @@
 pub mod TextLists
 pub mod Arriving
+pub mod Sessions
 pub mod Fronts

@@ -1,4 +1,5 @@
-//! The words of one end, computed plainly from the whole list of its calls, the newest first.
+//! The words of one end, computed plainly from the whole list of its calls, the newest first. A
+//! `reopen` that was answered begins each of them anew, but for `number` and `seen`.
 
 ghost use Rattle.std.specs.Prelude.{◌≡◌, ◌≤◌, ◌<◌, ◌+◌, ◌-◌, ◌*◌, ◌^◌, IfOk, length, drop};
 ghost use Rattle.std.specs.Option.{option_map};
@@ -16,12 +17,52 @@ pub const LAST_ITEM: u64 = 1 << 40;
 /// How many numbers, from the next one on, are in reach.
 pub const REACH: usize = 64;
 
+/// The greatest number of a session.
+pub const LAST_SESSION: u32 = u32::MAX;
+
+/// The number of the session that the end is in.
+pub fn number(calls: &[EndEntry]) -> u32
+    ensures { result ≡ words.number calls.now }
+{
+    match calls {
+        [] => 1,
+        [EndEntry::Reopen(session, Ok(())), ..] => *session,
+        [_, older @ ..] => number(older),
+    }
+}
+
+/// The highest number in a frame of the pair that arrived, 0 if none did.
+pub fn seen(calls: &[EndEntry]) -> u32
+    ensures { result ≡ words.seen calls.now }
+{
+    match calls {
+        [] => 0,
+        [EndEntry::Arrive(frame, Ok(_)), older @ ..] => seen(older).max(frame.session),
+        [_, older @ ..] => seen(older),
+    }
+}
+
+/// Whether a frame is of the session that the end is in.
+pub fn is_present(frame: &Frame, calls: &[EndEntry]) -> bool
+    ensures { result ≡ words.is_present frame.now calls.now }
+{
+    frame.session == number(calls)
+}
+
+/// Whether a frame is of that session or of an older one.
+pub fn is_known(frame: &Frame, calls: &[EndEntry]) -> bool
+    ensures { result ≡ words.is_known frame.now calls.now }
+{
+    frame.session <= number(calls)
+}
+
 /// Why the end closed, if it has.
 pub fn ending(calls: &[EndEntry]) -> Option<Reason>
     ensures { result ≡ words.ending calls.now }
 {
     match calls {
         [] => None,
+        [EndEntry::Reopen(_, Ok(())), ..] => None,
         [EndEntry::Arrive(_, Ok(Arrived::Closed(e))), ..] => Some(e.reason),
         [EndEntry::Tick(Ok(Some(e))), ..] => Some(e.reason),
         [EndEntry::Close(_, Ok(e)), ..] => Some(e.reason),
@@ -36,12 +77,13 @@ pub fn is_open(calls: &[EndEntry]) -> bool
     ending(calls).is_none()
 }
 
-/// The payloads that `send` took, the first first.
+/// The payloads that `send` took in this session, the first first.
 pub fn handed(alloc: Global, calls: &[EndEntry]) -> Result<Vec<&[u8]>, AllocError>
     ensures { IfOk result (λ payloads. texts payloads.items ≡ words.handed calls.now) }
 {
     match calls {
         [] => Ok(Vec::new(alloc)),
+        [EndEntry::Reopen(_, Ok(())), ..] => Ok(Vec::new(alloc)),
         [EndEntry::Send(payload, _, Ok(_)), older @ ..] => {
             let mut payloads = handed(alloc, older)?;
             payloads.push(payload.as_slice())?;
@@ -57,9 +99,10 @@ pub fn lowest(calls: &[EndEntry]) -> u64
 {
     match calls {
         [] => 1,
+        [EndEntry::Reopen(_, Ok(())), ..] => 1,
         [EndEntry::Arrive(frame, Ok(Arrived::Took(_))), older @ ..] => {
             let before = lowest(older);
-            if is_open(older) && !frame.kind.is_close() {
+            if is_present(frame, older) && is_open(older) && !frame.kind.is_close() {
                 before.max(frame.ack)
             } else {
                 before
@@ -82,12 +125,13 @@ pub fn greatest_seq(frames: &[Frame]) -> u64
     }
 }
 
-/// The highest number that was transmitted.
+/// The highest number that was transmitted in this session.
 pub fn transmitted(calls: &[EndEntry]) -> u64
     ensures { result ≡ words.transmitted calls.now }
 {
     match calls {
         [] => 0,
+        [EndEntry::Reopen(_, Ok(())), ..] => 0,
         [EndEntry::Transmit(frames), older @ ..] => {
             transmitted(older).max(greatest_seq(frames.as_slice()))
         }
@@ -95,15 +139,23 @@ pub fn transmitted(calls: &[EndEntry]) -> u64
     }
 }
 
-/// How many items were accepted.
+/// How many items were accepted in this session.
 pub fn accepted_count(calls: &[EndEntry]) -> u128
     ensures value { result ≡ words.accepted_count calls.now }
     ensures bound { result ≤ length calls.now * 2 ^ 64 }
 {
     match calls {
         [] => 0,
-        [EndEntry::Arrive(_, Ok(Arrived::Took(count))), older @ ..] => {
-            u128::from(*count) + accepted_count(older)
+        [EndEntry::Reopen(_, Ok(())), ..] => 0,
+        [
+            EndEntry::Arrive(frame, Ok(Arrived::Took(count))),
+            older @ ..,
+        ] => {
+            if is_present(frame, older) {
+                u128::from(*count) + accepted_count(older)
+            } else {
+                accepted_count(older)
+            }
         }
         [_, older @ ..] => accepted_count(older),
     }
@@ -120,15 +172,19 @@ pub fn brings_at(number: u128, frame: &Frame, accepted: u128) -> bool
         && number <= u128::from(LAST_ITEM)
 }
 
-/// The payload of an item, where it came.
+/// The payload of an item of this session, where it came.
 pub fn payload(number: u128, calls: &[EndEntry]) -> Option<&[u8]>
     ensures { option_map (λ payload. payload.now) result ≡ words.payload number calls.now }
 {
     match calls {
         [] => None,
+        [EndEntry::Reopen(_, Ok(())), ..] => None,
         [EndEntry::Arrive(frame, Ok(Arrived::Took(_))), older @ ..] => {
             if let Some(before) = payload(number, older) {
                 return Some(before);
+            }
+            if !is_present(frame, older) {
+                return None;
             }
             // the number first, since to count takes a walk
             if u128::from(frame.seq) == number && brings_at(number, frame, accepted_count(older)) {
@@ -162,14 +218,21 @@ fn filled(
     Ok(payloads)
 }
 
-/// The payloads that were accepted, the first first.
+/// The payloads that were accepted in this session, the first first.
 pub fn accepted(alloc: Global, calls: &[EndEntry]) -> Result<Vec<&[u8]>, AllocError>
     ensures { IfOk result (λ payloads. texts payloads.items ≡ words.accepted calls.now) }
 {
     match calls {
         [] => Ok(Vec::new(alloc)),
-        [EndEntry::Arrive(_, Ok(Arrived::Took(count))), older @ ..] => {
+        [EndEntry::Reopen(_, Ok(())), ..] => Ok(Vec::new(alloc)),
+        [
+            EndEntry::Arrive(frame, Ok(Arrived::Took(count))),
+            older @ ..,
+        ] => {
             let mut payloads = accepted(alloc, older)?;
+            if !is_present(frame, older) {
+                return Ok(payloads);
+            }
             let more = filled(alloc, accepted_count(older) + 1, *count, calls)?;
             payloads.extend_from_slice(&more)?;
             Ok(payloads)
@@ -178,26 +241,30 @@ pub fn accepted(alloc: Global, calls: &[EndEntry]) -> Result<Vec<&[u8]>, AllocEr
     }
 }
 
-/// How many items were taken.
+/// How many items were taken in this session.
 pub fn takes(calls: &[EndEntry]) -> usize
     ensures value { result ≡ words.takes calls.now }
     ensures bound { result ≤ length calls.now }
 {
     match calls {
         [] => 0,
+        [EndEntry::Reopen(_, Ok(())), ..] => 0,
         [EndEntry::Take, older @ ..] => takes(older) + 1,
         [_, older @ ..] => takes(older),
     }
 }
 
-/// Whether a Data frame arrived at the open end since the last transmit.
+/// Whether a Data frame of this session or an older one arrived at the open end since the last
+/// transmit.
 pub fn data_arrived(calls: &[EndEntry]) -> bool
     ensures { result ≡ words.data_arrived calls.now }
 {
     match calls {
         [] => false,
+        [EndEntry::Reopen(_, Ok(())), ..] => false,
         [EndEntry::Arrive(frame, Ok(Arrived::Took(_))), older @ ..] => {
-            data_arrived(older) || (is_open(older) && frame.kind.is_data())
+            data_arrived(older)
+                || (is_known(frame, older) && is_open(older) && frame.kind.is_data())
         }
         [EndEntry::Transmit(_), ..] => false,
         [_, older @ ..] => data_arrived(older),
@@ -218,6 +285,7 @@ pub fn ticks(calls: &[EndEntry]) -> usize
 {
     match calls {
         [] => 0,
+        [EndEntry::Reopen(_, Ok(())), ..] => 0,
         [EndEntry::Tick(Ok(None)), older @ ..] => {
             if is_out(older) {
                 ticks(older) + 1
@@ -226,7 +294,11 @@ pub fn ticks(calls: &[EndEntry]) -> usize
             }
         }
         [EndEntry::Arrive(frame, Ok(Arrived::Took(_))), older @ ..] => {
-            if is_open(older) && !frame.kind.is_close() && lowest(older) < frame.ack {
+            if is_present(frame, older)
+                && is_open(older)
+                && !frame.kind.is_close()
+                && lowest(older) < frame.ack
+            {
                 0
             } else {
                 ticks(older)
@@ -256,8 +328,10 @@ pub fn owes_close(calls: &[EndEntry]) -> bool
 {
     match calls {
         [] => false,
+        [EndEntry::Reopen(_, Ok(())), ..] => false,
         [EndEntry::Arrive(frame, Ok(Arrived::Took(_))), older @ ..] => {
-            owes_close(older) || (!is_open(older) && !frame.kind.is_close())
+            owes_close(older)
+                || (is_known(frame, older) && !is_open(older) && !frame.kind.is_close())
         }
         [EndEntry::Arrive(_, Ok(Arrived::Closed(e))), ..] => owes_after(e.reason),
         [EndEntry::Tick(Ok(Some(e))), ..] => owes_after(e.reason),

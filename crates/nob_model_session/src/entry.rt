@@ -116,6 +116,8 @@ pub enum EndEntry {
     Tick(Result<Option<Ending>, EndRefusal>),
     /// `close` for a reason.
     Close(Reason, Result<Ending, EndRefusal>),
+    /// `reopen` under a number.
+    Reopen(u32, Result<(), EndRefusal>),
 }
 
 /// One call on one of the two ends of a session.

@@ -17,4 +17,11 @@ pub enum EndRefusal {
     /// N4: the frame is of another pair of spaces.
     #[error("N4: the frame is of another pair of spaces")]
     Strange,
+    /// N5: the session is open at this end.
+    #[error("N5: the session is open at this end")]
+    StillOpen,
+    /// N6: the number isn't above that of this end's session, or is below one that a frame of the
+    /// pair had.
+    #[error("N6: the number is no new session's")]
+    Number,
 }

@@ -58,23 +58,37 @@ pub fn arrive(
     if frame.from != peer || frame.to != me {
         return Ok(Err(EndRefusal::Strange));
     }
-    if !end::is_open(calls) {
-        return Ok(Ok(Arrived::Took(0)));
+    Ok(Ok(arrived_by(alloc, peer, frame, calls)?))
+}
+
+// What a frame of the pair does.
+fn arrived_by(
+    alloc: Global,
+    peer: SpaceId,
+    frame: &Frame,
+    calls: &[EndEntry],
+) -> Result<Arrived, AllocError>
+    ensures { IfOk result (λ arrived. arrived ≡ right.arrived_by peer frame.now calls.now) }
+{
+    let number = end::number(calls);
+    if frame.session < number || !end::is_open(calls) {
+        return Ok(Arrived::Took(0));
     }
-    if frame.kind.is_close() {
+    if number < frame.session || frame.kind.is_close() {
         let reason = Reason::PeerClosed;
-        return Ok(Ok(Arrived::Closed(Ending { peer, reason })));
+        return Ok(Arrived::Closed(Ending { peer, reason }));
     }
     if frame.ack > end::transmitted(calls).saturating_add(1) {
         let reason = Reason::BadItem;
-        return Ok(Ok(Arrived::Closed(Ending { peer, reason })));
+        return Ok(Arrived::Closed(Ending { peer, reason }));
     }
-    Ok(Ok(Arrived::Took(taken_by(alloc, frame, calls)?)))
+    Ok(Arrived::Took(taken_by(alloc, frame, calls)?))
 }
 
-// How many items the open end accepts with a frame that it hears.
+// How many items the open end accepts with a frame of its session that it hears.
 fn taken_by(alloc: Global, frame: &Frame, calls: &[EndEntry]) -> Result<u64, AllocError>
-    requires { words.is_open calls.now ≡ true }
+    requires open { words.is_open calls.now ≡ true }
+    requires present { words.is_present frame.now calls.now ≡ true }
     ensures { IfOk result (λ count. count ≡ right.taken_by frame.now calls.now) }
 {
     if !frame.kind.is_data() {
@@ -86,11 +100,12 @@ fn taken_by(alloc: Global, frame: &Frame, calls: &[EndEntry]) -> Result<u64, All
     Ok(in_a_row(first, end::REACH, room as u64, frame, calls))
 }
 
-// How many of `count` numbers from the first one on came in a row, with this frame at the latest,
-// none counted beyond `most`.
+// How many of `count` numbers from the first one on came in a row, with this frame of the present
+// session at the latest, none counted beyond `most`.
 #[tactic(auto, unfolding(crate::specs::End::places))]
 fn in_a_row(first: u128, count: usize, most: u64, frame: &Frame, calls: &[EndEntry]) -> u64
-    requires { first + count < 2 ^ 128 }
+    requires numbers { first + count < 2 ^ 128 }
+    requires present { words.is_present frame.now calls.now ≡ true }
     ensures value { result ≡ right.in_a_row most (words.places first count
         (Arrive frame.now (Ok (arrived.Took 0)) ∷ calls.now)) }
     ensures bound { result ≤ most }
@@ -139,18 +154,32 @@ pub fn close(peer: SpaceId, reason: Reason, calls: &[EndEntry]) -> Result<Ending
     Ok(Ending { peer, reason })
 }
 
+/// What `reopen` answers.
+pub fn reopen(session: u32, calls: &[EndEntry]) -> Result<(), EndRefusal>
+    ensures { result ≡ right.right_reopen session calls.now }
+{
+    if end::is_open(calls) {
+        return Err(EndRefusal::StillOpen);
+    }
+    if session <= end::number(calls) || session < end::seen(calls) {
+        return Err(EndRefusal::Number);
+    }
+    Ok(())
+}
+
 // A Data frame for each of these payloads, numbered from `first`.
 fn data_frames(
     alloc: Global,
     me: SpaceId,
     peer: SpaceId,
+    session: u32,
     ack: u64,
     first: u64,
     payloads: &[&[u8]],
 ) -> Result<Vec<Frame>, AllocError>
     requires { 0 < length payloads.now → first + length payloads.now < 2 ^ 64 }
     ensures { IfOk result (λ frames. frames.items
-        ≡ right.data_frames me peer ack first (texts payloads.now)) }
+        ≡ right.data_frames me peer session ack first (texts payloads.now)) }
 {
     let mut frames = Vec::new(alloc);
     for (i, payload) in payloads.iter().enumerate() {
@@ -158,6 +187,7 @@ fn data_frames(
             kind: FrameKind::Data,
             from: me,
             to: peer,
+            session,
             seq: first + i as u64,
             ack,
             payload: Bytes::from_vec(Vec::from_slice(alloc, payload)?),
@@ -172,11 +202,20 @@ fn lone_frame(
     kind: FrameKind,
     me: SpaceId,
     peer: SpaceId,
+    session: u32,
     ack: u64,
     payload: &[u8],
 ) -> Result<Vec<Frame>, AllocError>
     ensures { IfOk result (λ frames. frames.items
-        ≡ record { kind = kind; from = me; to = peer; seq = 0; ack = ack; payload = payload.now } ∷
+        ≡ record {
+          kind = kind;
+          from = me;
+          to = peer;
+          session = session;
+          seq = 0;
+          ack = ack;
+          payload = payload.now;
+        } ∷
         []) }
 {
     let mut frames = Vec::new(alloc);
@@ -184,6 +223,7 @@ fn lone_frame(
         kind,
         from: me,
         to: peer,
+        session,
         seq: 0,
         ack,
         payload: Bytes::from_vec(Vec::from_slice(alloc, payload)?),
@@ -213,23 +253,31 @@ pub fn transmit(
 ) -> Result<Vec<Frame>, AllocError>
     ensures { IfOk result (λ frames. frames.items ≡ right.right_transmit me peer window calls.now) }
 {
-    let ack = next_of(calls)?;
+    let (session, ack) = (end::number(calls), next_of(calls)?);
     if let Some(reason) = end::ending(calls) {
         if !end::owes_close(calls) {
             return Ok(Vec::new(alloc));
         }
-        return lone_frame(alloc, FrameKind::Close, me, peer, ack, &[reason.number()]);
+        return lone_frame(
+            alloc,
+            FrameKind::Close,
+            me,
+            peer,
+            session,
+            ack,
+            &[reason.number()],
+        );
     }
     let unacknowledged = end::unacknowledged(alloc, calls)?;
     let given = window_of(&unacknowledged, window);
     if !given.is_empty() {
         let (first, transmitted) = (end::lowest(calls), end::transmitted(calls));
-        return given_frames(alloc, me, peer, ack, first, transmitted, given);
+        return given_frames(alloc, me, peer, session, ack, first, transmitted, given);
     }
     if !end::data_arrived(calls) {
         return Ok(Vec::new(alloc));
     }
-    lone_frame(alloc, FrameKind::Ack, me, peer, ack, &[])
+    lone_frame(alloc, FrameKind::Ack, me, peer, session, ack, &[])
 }
 
 // The next number: one more than the number of items accepted. No end that memory has room for
@@ -250,6 +298,7 @@ fn given_frames(
     alloc: Global,
     me: SpaceId,
     peer: SpaceId,
+    session: u32,
     ack: u64,
     first: u64,
     transmitted: u64,
@@ -258,17 +307,17 @@ fn given_frames(
     requires some { 0 < length payloads.now }
     requires numbers { first + length payloads.now < 2 ^ 64 }
     ensures { (due : Bool) → IfOk result (λ frames. frames.items
-        ≡ right.open_frames me peer ack first transmitted due (texts payloads.now)) }
+        ≡ right.open_frames me peer session ack first transmitted due (texts payloads.now)) }
 {
     let (lowest, later) = payloads.split_at(1);
-    let mut frames = data_frames(alloc, me, peer, ack, first, lowest)?;
+    let mut frames = data_frames(alloc, me, peer, session, ack, first, lowest)?;
     let repeated = transmitted.saturating_sub(first);
     if repeated >= later.len() as u64 {
         return Ok(frames);
     }
     let new = later.split_at(repeated as usize).1;
     let first_new = first.max(transmitted) + 1;
-    let mut more = data_frames(alloc, me, peer, ack, first_new, new)?;
+    let mut more = data_frames(alloc, me, peer, session, ack, first_new, new)?;
     frames.append(&mut more)?;
     Ok(frames)
 }

@@ -1,6 +1,7 @@
--- Which sessions have closed here, and which items came from each peer.
+-- Which sessions have closed here, their numbers, and which items came from each peer.
 use Rattle.std.specs.Prelude.{ℕ, ◌+◌, Bool, false, ◌&&◌, ◌||◌, not, ◌==◌, nat_le, List, [], ◌∷◌, ◌++◌, Option, Some, None, Result, Ok, Err, option_and_then, if◌then◌else◌}
 use Rattle.std.specs.Option.{option_or}
+use Rattle.nob_frame.specs.declared.frame.Frame.{Frame}
 use Rattle.nob_item.specs.Reading.{item_read}
 use Rattle.nob_item.specs.declared.item.Item.{Item}
 use Rattle.nob_item.specs.declared.fault.ItemFault.{ItemFault}
@@ -18,16 +19,25 @@ closed p [] = false
 closed p (Closing q reason cause ∷ D) = q == p || closed p D
 closed p (_ ∷ D) = closed p D
 
--- how many items from p were accepted: the sum of what arrivals from p took
+-- the number of the session with p: no deed opens one anew, so it is the first
+abbrev pub number : ℕ → List Deed → ℕ
+number p [] = 1
+number p (_ ∷ D) = number p D
+
+-- whether a frame is from p, and of the session with p
+abbrev pub is_from : ℕ → Frame → List Deed → Bool
+is_from p frame D = frame.from == p && frame.session == number p D
+
+-- how many items from p were accepted: the sum of what arrivals of frames of the session with p took
 abbrev pub accepted_from : ℕ → List Deed → ℕ
 accepted_from p [] = 0
-accepted_from p (Arrive frame count ∷ D) = if frame.from == p then count + accepted_from p D else accepted_from p D
+accepted_from p (Arrive frame count ∷ D) = if is_from p frame D then count + accepted_from p D else accepted_from p D
 accepted_from p (_ ∷ D) = accepted_from p D
 
--- the payload of item n from p: that of the first Data frame with this number that arrived while the number was in reach
+-- the payload of item n from p: that of the first Data frame of the session with p and of this number that arrived while the number was in reach
 abbrev pub payload_at : (p n : ℕ) → List Deed → Option (List ℕ)
 payload_at p n [] = None
-payload_at p n (Arrive frame count ∷ D) = option_or (payload_at p n D) (if frame.from == p && brings_at n frame (accepted_from p D) then Some frame.payload else None)
+payload_at p n (Arrive frame count ∷ D) = option_or (payload_at p n D) (if is_from p frame D && brings_at n frame (accepted_from p D) then Some frame.payload else None)
 payload_at p n (_ ∷ D) = payload_at p n D
 
 -- the item that was read, if it was

@@ -1,4 +1,4 @@
-//! Which sessions have closed here, and which items came from each peer.
+//! Which sessions have closed here, their numbers, and which items came from each peer.
 
 ghost use Rattle.std.specs.Prelude.{◌≡◌, ◌≤◌, ◌*◌, ◌^◌, IfOk, length};
 ghost use Rattle.std.specs.Option.{option_map};
@@ -21,26 +21,42 @@ pub fn closed(peer: SpaceId, deeds: &[Deed]) -> bool
     }
 }
 
-/// How many items from a peer were accepted.
+// The number of the session with a peer, and how many items of it were accepted.
+fn session_with(peer: SpaceId, deeds: &[Deed]) -> (u32, u128)
+    ensures number { result.0 ≡ words.number peer deeds.now }
+    ensures accepted { result.1 ≡ words.accepted_from peer deeds.now }
+    ensures bound { result.1 ≤ length deeds.now * 2 ^ 64 }
+{
+    match deeds {
+        [] => (1, 0),
+        [Deed::Arrive(frame, count), older @ ..] => {
+            let (session, before) = session_with(peer, older);
+            if frame.from == peer && frame.session == session {
+                (session, u128::from(*count) + before)
+            } else {
+                (session, before)
+            }
+        }
+        [_, older @ ..] => session_with(peer, older),
+    }
+}
+
+/// The number of the session with a peer.
+pub fn number(peer: SpaceId, deeds: &[Deed]) -> u32
+    ensures { result ≡ words.number peer deeds.now }
+{
+    session_with(peer, deeds).0
+}
+
+/// How many items from a peer were accepted in the session with it.
 pub fn accepted_from(peer: SpaceId, deeds: &[Deed]) -> u128
     ensures value { result ≡ words.accepted_from peer deeds.now }
     ensures bound { result ≤ length deeds.now * 2 ^ 64 }
 {
-    match deeds {
-        [] => 0,
-        [Deed::Arrive(frame, count), older @ ..] => {
-            let before = accepted_from(peer, older);
-            if frame.from == peer {
-                u128::from(*count) + before
-            } else {
-                before
-            }
-        }
-        [_, older @ ..] => accepted_from(peer, older),
-    }
+    session_with(peer, deeds).1
 }
 
-/// The payload of an item from a peer, where it came.
+/// The payload of an item from a peer, where it came in the session with it.
 pub fn payload_at(peer: SpaceId, number: ItemNo, deeds: &[Deed]) -> Option<&[u8]>
     ensures { option_map (λ payload. payload.now) result ≡ words.payload_at peer number deeds.now }
 {
@@ -51,10 +67,11 @@ pub fn payload_at(peer: SpaceId, number: ItemNo, deeds: &[Deed]) -> Option<&[u8]
                 return Some(payload);
             }
             // Most frames have another number: those need no count.
-            if frame.from == peer
-                && frame.seq == number.get()
-                && brings_at(u128::from(number.get()), frame, accepted_from(peer, older))
-            {
+            if frame.from != peer || frame.seq != number.get() {
+                return None;
+            }
+            let (session, accepted) = session_with(peer, older);
+            if frame.session == session && brings_at(u128::from(number.get()), frame, accepted) {
                 return Some(frame.payload.as_slice());
             }
             None

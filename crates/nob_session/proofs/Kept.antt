@@ -1,11 +1,11 @@
 -- What an end keeps before its turn, by the calls that it stands for: what stays with a call more, and what an arrival changes.
-use Rattle.std.proofs.Common.{◌≡◌, ◌≢◌, ℕ, zero, suc, ◌+◌, ◌-◌, true, false, if◌then◌else◌, List, [], ◌∷◌, Option, Some, None, Result, replicate, refl, ap}
+use Rattle.std.proofs.Common.{◌≡◌, ◌≢◌, ℕ, zero, suc, ◌+◌, ◌-◌, true, false, if◌then◌else◌, List, [], ◌∷◌, Option, Some, None, Result, Ok, Err, replicate, refl, ap}
 use Rattle.nob_frame.specs.declared.frame.Frame.{Frame}
 use Rattle.nob_model_session.specs.declared.refusal.EndRefusal.{EndRefusal}
 use Rattle.nob_model_session.specs.declared.entry.Kind.{Kind}
 use Rattle.nob_model_session.specs.declared.entry.Ending.{Ending}
 use Rattle.nob_model_session.specs.declared.entry.EndEntry.{EndEntry}
-use Rattle.nob_model_session.specs.declared.entry.EndEntry.TheVariants.{Send, Transmit, Take, Tick}
+use Rattle.nob_model_session.specs.declared.entry.EndEntry.TheVariants.{Send, Transmit, Take, Tick, Reopen}
 use Rattle.nob_model_session.specs.End.{is_in_reach, payload, places}
 use Rattle.std.specs.List.{slice_get}
 use Rattle.nob_session.specs.Calls.{keeping}
@@ -18,6 +18,12 @@ pub none_kept : (n count : ℕ) → replicate count None ≡ places n count []
 unfolding places
 none_kept n zero = refl
 none_kept n (suc count) = ap (λ (ps : List (Option (List ℕ))). None ∷ ps) (none_kept (n + 1) count)
+
+-- nor does one that begins a new session
+pub none_again : (n count number : ℕ) (L : List EndEntry) → replicate count None ≡ places n count (Reopen number (Ok tt) ∷ L)
+unfolding places
+none_again n zero number L = refl
+none_again n (suc count) number L = ap (λ (ps : List (Option (List ℕ))). None ∷ ps) (none_again (n + 1) count number L)
 
 -- places are the same where each payload is
 pub same_places : (n count : ℕ) (K L : List EndEntry) → ((m : ℕ) → payload m K ≡ payload m L) → places n count K ≡ places n count L
@@ -37,6 +43,9 @@ places_take n count L = same_places n count (Take ∷ L) L (λ m. refl)
 
 pub places_tick : (n count : ℕ) (answer : Result (Option Ending) EndRefusal) (L : List EndEntry) → places n count (Tick answer ∷ L) ≡ places n count L
 places_tick n count answer L = same_places n count (Tick answer ∷ L) L (λ m. refl)
+
+pub places_refused : (n count number : ℕ) (refusal : EndRefusal) (L : List EndEntry) → places n count (Reopen number (Err refusal) ∷ L) ≡ places n count L
+places_refused n count number refusal L = same_places n count (Reopen number (Err refusal) ∷ L) L (λ m. refl)
 
 -- what is out of reach, or has a place that is filled, isn't kept
 pub keeping_none : (e : End) (frame : Frame) → slice_get e.early (frame.seq - (e.accepted + 1)) ≢ Some None → e ≡ keeping e frame

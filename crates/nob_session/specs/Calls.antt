@@ -1,11 +1,11 @@
 -- What the calls on an end answer and leave, by the end alone: for callers who know no list of calls.
-use Rattle.std.specs.Prelude.{◌≡◌, ℕ, ◌+◌, ◌-◌, true, false, not, ◌&&◌, nat_le, max, List, [], ◌∷◌, ◌++◌, length, take, drop, Option, Some, None, Result, Ok, Err, if◌then◌else◌}
+use Rattle.std.specs.Prelude.{◌≡◌, ℕ, ◌+◌, ◌-◌, true, false, not, ◌&&◌, nat_lt, nat_le, max, List, [], ◌∷◌, ◌++◌, length, take, drop, replicate, Option, Some, None, Result, Ok, Err, if◌then◌else◌}
 use Rattle.nob_frame.specs.declared.frame.Frame.{Frame}
 use Rattle.nob_model_session.specs.declared.refusal.EndRefusal.{EndRefusal}
 use Rattle.nob_model_session.specs.declared.refusal.EndRefusal.TheVariants as refusal
 use Rattle.nob_model_session.specs.declared.entry.Kind.{Kind}
 use Rattle.nob_model_session.specs.declared.entry.Ending.{Ending}
-use Rattle.nob_model_session.specs.End.{greatest_seq, last_item, is_in_reach, filled}
+use Rattle.nob_model_session.specs.End.{greatest_seq, last_item, last_session, reach, is_in_reach, filled}
 use Rattle.nob_model_session.specs.Right.{queue_limit, inbox_limit, is_limited, open_frames, closed_frames, in_a_row}
 use Rattle.nob_session.specs.Keeping.{put_at, moved_up}
 use Rattle.nob_session.specs.declared.closed.Arrival.{Arrival}
@@ -22,75 +22,21 @@ next_of kind e =
 
 -- an open end with one more item handed to it
 abbrev pub with_item : End → List ℕ → End
-with_item e payload =
-    record {
-      me = e.me;
-      peer = e.peer;
-      limits = e.limits;
-      handed = e.handed + 1;
-      lowest = e.lowest;
-      unacknowledged = e.unacknowledged ++ payload ∷ [];
-      transmitted = e.transmitted;
-      accepted = e.accepted;
-      came = e.came;
-      taken = e.taken;
-      waiting = e.waiting;
-      early = e.early;
-      data_arrived = e.data_arrived;
-      ticks = e.ticks;
-      ending = e.ending;
-      owes_close = e.owes_close;
-    }
+with_item e payload = record e { handed = e.handed + 1; unacknowledged = e.unacknowledged ++ payload ∷ [] }
 
 -- what a transmit gives: of an open end, of a window of unacknowledged items, the lowest and those that it never gave, or an Ack if one is due; of a closed end the Close that it owes
 abbrev pub frames_of : End → List Frame
 frames_of e =
-    if is_open_end e then open_frames e.me e.peer (e.accepted + 1) e.lowest e.transmitted e.data_arrived (take e.limits.window e.unacknowledged)
-    else closed_frames e.me e.peer (e.accepted + 1) e.owes_close e.ending
+    if is_open_end e then open_frames e.me e.peer e.number (e.accepted + 1) e.lowest e.transmitted e.data_arrived (take e.limits.window e.unacknowledged)
+    else closed_frames e.me e.peer e.number (e.accepted + 1) e.owes_close e.ending
 
 -- an end once it has transmitted
 abbrev pub after_transmit : End → End
-after_transmit e =
-    record {
-      me = e.me;
-      peer = e.peer;
-      limits = e.limits;
-      handed = e.handed;
-      lowest = e.lowest;
-      unacknowledged = e.unacknowledged;
-      transmitted = max e.transmitted (greatest_seq (frames_of e));
-      accepted = e.accepted;
-      came = e.came;
-      taken = e.taken;
-      waiting = e.waiting;
-      early = e.early;
-      data_arrived = false;
-      ticks = e.ticks;
-      ending = e.ending;
-      owes_close = false;
-    }
+after_transmit e = record e { transmitted = max e.transmitted (greatest_seq (frames_of e)); data_arrived = false; owes_close = false }
 
 -- an open end that keeps what a Data frame brings: its payload is kept in the place of its number, if that is in reach and empty
 abbrev pub keeping : End → Frame → End
-keeping e frame =
-    record {
-      me = e.me;
-      peer = e.peer;
-      limits = e.limits;
-      handed = e.handed;
-      lowest = e.lowest;
-      unacknowledged = e.unacknowledged;
-      transmitted = e.transmitted;
-      accepted = e.accepted;
-      came = e.came;
-      taken = e.taken;
-      waiting = e.waiting;
-      early = if is_in_reach e.accepted frame.seq then put_at (frame.seq - (e.accepted + 1)) frame.payload e.early else e.early;
-      data_arrived = e.data_arrived;
-      ticks = e.ticks;
-      ending = e.ending;
-      owes_close = e.owes_close;
-    }
+keeping e frame = record e { early = if is_in_reach e.accepted frame.seq then put_at (frame.seq - (e.accepted + 1)) frame.payload e.early else e.early }
 
 -- how many items an open end can accept: those that are kept in a row from the next on, while its inbox has room
 abbrev pub acceptable : End → ℕ
@@ -98,52 +44,48 @@ acceptable e = in_a_row (inbox_limit - length e.waiting) e.early
 
 -- an open end once it has accepted so many of the items that it kept: they wait
 abbrev pub accepting : ℕ → End → End
-accepting count e =
-    record {
-      me = e.me;
-      peer = e.peer;
-      limits = e.limits;
-      handed = e.handed;
-      lowest = e.lowest;
-      unacknowledged = e.unacknowledged;
-      transmitted = e.transmitted;
-      accepted = e.accepted + count;
-      came = e.came + count;
-      taken = e.taken;
-      waiting = e.waiting ++ filled (take count e.early);
-      early = moved_up count e.early;
-      data_arrived = e.data_arrived;
-      ticks = e.ticks;
-      ending = e.ending;
-      owes_close = e.owes_close;
-    }
+accepting count e = record e { accepted = e.accepted + count; came = e.came + count; waiting = e.waiting ++ filled (take count e.early); early = moved_up count e.early }
 
 -- an end without the first item that waited
 abbrev pub without_front : End → End
-without_front e =
+without_front e = record e { taken = e.taken + 1; waiting = drop 1 e.waiting }
+
+-- what `reopen` answers: an open end refuses it, and so does each a number that isn't above its session's, is below the highest that arrived, or is no session's
+abbrev pub reopening_of : ℕ → End → Result Unit EndRefusal
+reopening_of number e =
+    if is_open_end e then Err refusal.StillOpen
+    else (if not (nat_lt e.number number && nat_le e.seen number && nat_le number last_session) then Err refusal.Number
+    else Ok tt)
+
+-- an end that begins the session of this number: it is as a new one, but for the highest number that arrived
+abbrev pub beginning : ℕ → End → End
+beginning number e =
     record {
       me = e.me;
       peer = e.peer;
       limits = e.limits;
-      handed = e.handed;
-      lowest = e.lowest;
-      unacknowledged = e.unacknowledged;
-      transmitted = e.transmitted;
-      accepted = e.accepted;
-      came = e.came;
-      taken = e.taken + 1;
-      waiting = drop 1 e.waiting;
-      early = e.early;
-      data_arrived = e.data_arrived;
-      ticks = e.ticks;
-      ending = e.ending;
-      owes_close = e.owes_close;
+      number = number;
+      seen = e.seen;
+      handed = 0;
+      lowest = 1;
+      unacknowledged = [];
+      transmitted = 0;
+      accepted = 0;
+      came = 0;
+      taken = 0;
+      waiting = [];
+      early = replicate reach None;
+      data_arrived = false;
+      ticks = 0;
+      ending = None;
+      owes_close = false;
     }
 
 -- new is the end of the same session, with the same limits, and as many items were handed to it
 pub record SameHanded (old new : End) : Type 0 where
   pub me : new.me ≡ old.me
   pub peer : new.peer ≡ old.peer
+  pub number : new.number ≡ old.number
   pub limits : new.limits ≡ old.limits
   pub handed : new.handed ≡ old.handed
 

@@ -15,6 +15,8 @@ as_seen s =
         me = s.me;
         peer = s.peer;
         limits = s.limits;
+        number = s.number;
+        seen = s.seen;
         handed = s.handed;
         lowest = s.lowest;
         unacknowledged = s.unacknowledged.items;
@@ -32,8 +34,10 @@ as_seen s =
       room = deque_capacity s.unacknowledged - deque_len s.unacknowledged;
     }
 
--- the counts are in order; an open end holds each unacknowledged payload, each that waits and each that is kept in one of 64 places, a closed one none, and the ring has 256 places
+-- the session has a number, and the counts are in order; an open end holds each unacknowledged payload, each that waits and each that is kept in one of 64 places, a closed one none, and the ring has 256 places
 pub record IsSound (s : Inside) : Type 0 where
+  pub number_positive : 1 ≤ s.number
+  pub number_limit : s.number < 2 ^ 32
   pub unacknowledged_open : is_none s.ending ≡ true → length s.unacknowledged.items + s.lowest ≡ s.handed + 1
   pub unacknowledged_closed : is_none s.ending ≡ false → s.unacknowledged.items ≡ []
   pub sizes : AllByRecursion IsItem s.unacknowledged.items

@@ -1,17 +1,19 @@
 -- What a caller may know of an end of a session, and for which lists of calls an end stands.
-use Rattle.std.specs.Prelude.{◌≡◌, ℕ, ◌≤◌, Bool, true, ◌-◌, ◌||◌, max, nat_lt, if◌then◌else◌, List, [], length, drop, Option, Some, is_none}
+use Rattle.std.specs.Prelude.{◌≡◌, ℕ, ◌≤◌, Bool, true, not, ◌-◌, ◌&&◌, ◌||◌, max, nat_lt, nat_le, if◌then◌else◌, List, [], length, drop, Option, Some, is_none}
 use Rattle.nob_frame.specs.declared.frame.Frame.{Frame}
-use Rattle.nob_frame.specs.Kinds.{is_data}
+use Rattle.nob_frame.specs.Kinds.{is_data, is_close}
 use Rattle.nob_ids.specs.declared.limits.Limits.{Limits}
 use Rattle.nob_ids.specs.declared.reason.Reason.{Reason}
 use Rattle.nob_model_session.specs.declared.entry.EndEntry.{EndEntry}
 use Rattle.nob_model_session.specs.End as word
 
--- an end as its callers see it: what is unacknowledged, what waits and what is kept early, how far each count has come, and whether it is closed; `came` counts the payloads of the accepted items: each has one
+-- an end as its callers see it: the number of its session and the highest that arrived, what is unacknowledged, what waits and what is kept early, how far each count has come, and whether it is closed; `came` counts the payloads of the accepted items: each has one
 pub record End : Type 0 where
   pub me : ℕ
   pub peer : ℕ
   pub limits : Limits
+  pub number : ℕ
+  pub seen : ℕ
   pub handed : ℕ
   pub lowest : ℕ
   pub unacknowledged : List (List ℕ)
@@ -46,6 +48,8 @@ end_of me peer limits L =
       me = me;
       peer = peer;
       limits = limits;
+      number = word.number L;
+      seen = word.seen L;
       handed = length (word.handed L);
       lowest = word.lowest L;
       unacknowledged = word.unacknowledged L;
@@ -61,50 +65,34 @@ end_of me peer limits L =
       owes_close = word.owes_close L;
     }
 
+-- an end at which a frame of this session has arrived
+abbrev pub seeing : ℕ → End → End
+seeing session e = record e { seen = max e.seen session }
+
 -- an open end once it is closed for a reason: what is unacknowledged, what waits and what is kept early is thrown away, and a Close is owed unless the peer has closed
 abbrev pub closed_end : End → Reason → End
-closed_end e reason =
-    record {
-      me = e.me;
-      peer = e.peer;
-      limits = e.limits;
-      handed = e.handed;
-      lowest = e.lowest;
-      unacknowledged = [];
-      transmitted = e.transmitted;
-      accepted = e.accepted;
-      came = e.came;
-      taken = e.taken;
-      waiting = [];
-      early = [];
-      data_arrived = e.data_arrived;
-      ticks = e.ticks;
-      ending = Some reason;
-      owes_close = word.owes_after reason;
+closed_end e reason = record e { unacknowledged = []; waiting = []; early = []; ending = Some reason; owes_close = word.owes_after reason }
+
+-- an end that has passed over a frame of an older session, or, once it is closed, of any: it takes nothing, and a frame of its session or an older one is answered by an Ack if it is Data and the end is open, by a Close if it is none and the end is closed
+abbrev pub passed_over : End → Frame → End
+passed_over e frame =
+    record e {
+      seen = max e.seen frame.session;
+      data_arrived = e.data_arrived || (nat_le frame.session e.number && is_open_end e && is_data frame.kind);
+      owes_close = e.owes_close || (nat_le frame.session e.number && not (is_open_end e) && not (is_close frame.kind));
     }
 
 -- an open end that has heard a Data or Ack frame: it keeps what is not yet acknowledged, and its ticks start anew if some newly is
 abbrev pub heard : End → Frame → End
 heard e frame =
-    record {
-      me = e.me;
-      peer = e.peer;
-      limits = e.limits;
-      handed = e.handed;
+    record e {
+      seen = max e.seen frame.session;
       lowest = max e.lowest frame.ack;
       unacknowledged = drop (frame.ack - e.lowest) e.unacknowledged;
-      transmitted = e.transmitted;
-      accepted = e.accepted;
-      came = e.came;
-      taken = e.taken;
-      waiting = e.waiting;
-      early = e.early;
       data_arrived = e.data_arrived || is_data frame.kind;
       ticks = if nat_lt e.lowest frame.ack then 0 else e.ticks;
-      ending = e.ending;
-      owes_close = e.owes_close;
     }
 
--- an end of the session between these spaces, with these limits, stands for a list of calls if it is the end that they leave
+-- an end of the sessions between these spaces, with these limits, stands for a list of calls if it is the end that they leave
 abbrev pub Stands : (me peer : ℕ) → Limits → End → List EndEntry → Type 0
 Stands me peer limits e L = e ≡ end_of me peer limits L

@@ -3,11 +3,12 @@
 ghost use Rattle.std.specs.Prelude.{◌≡◌, ◌≢◌, ◌+◌, ◌<◌, ◌≤◌, List, ℕ, Option, Some, None, Bool, true, false, IfOk, OnErr, length, drop, take, replicate, ◌++◌, [], option_to_list};
 ghost use Rattle.std.specs.List.{slice_get};
 ghost use Rattle.std.specs.VecDeque.{deque_len, deque_capacity};
-ghost use Rattle.nob_model_session.specs.End.{filled};
+ghost use Rattle.nob_model_session.specs.End.{filled, reach};
 ghost use Rattle.nob_model_session.specs.Right.{in_a_row};
 ghost use Rattle.nob_session.specs.Keeping.{put_at, first_filled, moved_up};
 
 use nob_bytes::Bytes;
+use nob_model_session::end::REACH;
 use std::alloc::{AllocError, Global};
 use std::collections::VecDeque;
 use std::marker::Model;
@@ -19,23 +20,33 @@ pub struct Places {
 }
 
 impl Model for Places {
-    ghost use Rattle.std.specs.Prelude.{List, ℕ, Option};
+    ghost use Rattle.std.specs.Prelude.{◌≤◌, List, ℕ, Option};
+    ghost use Rattle.std.specs.VecDeque.{deque_capacity};
+    ghost use Rattle.nob_model_session.specs.End.{reach};
 
     ghost Value = { List (Option (List ℕ)) };
 
     ghost view = { λ places. places.ring.items };
+
+    // Once there were as many.
+    ghost invariant = { λ places. reach ≤ deque_capacity places.ring };
 }
 
 impl Places {
-    /// So many empty places. Only memory fails it.
-    pub fn empty(alloc: Global, count: usize) -> Result<Places, AllocError>
-        ensures { IfOk result (λ places. places ≡ replicate count None) }
+    /// 64 empty places, one for each number in reach. Only memory fails it.
+    pub fn empty(alloc: Global) -> Result<Places, AllocError>
+        ensures { IfOk result (λ places. places ≡ replicate reach None) }
     {
-        let mut ring = VecDeque::with_capacity(alloc, count)?;
-        for _ in 0..count {
-            ring.push_back_reserved(None);
-        }
+        let mut ring = VecDeque::with_capacity(alloc, REACH)?;
+        fill(&mut ring);
         Ok(Places { ring })
+    }
+
+    /// Makes 64 empty places anew. It takes no memory.
+    pub fn refill(&mut self)
+        ensures { self.new ≡ replicate reach None }
+    {
+        fill(&mut self.ring);
     }
 
     /// Whether the place behind the first `at` is empty; not where there is none.
@@ -95,5 +106,17 @@ impl Places {
         ensures { self.new ≡ [] }
     {
         self.ring.clear();
+    }
+}
+
+// Puts 64 empty places into a ring, and nothing else.
+fn fill(ring: &mut VecDeque<Option<Bytes>>)
+    requires { reach ≤ deque_capacity ring.old }
+    ensures places { ring.new.items ≡ replicate reach None }
+    ensures capacity { deque_capacity ring.new ≡ deque_capacity ring.old }
+{
+    ring.clear();
+    for _ in 0..REACH {
+        ring.push_back_reserved(None);
     }
 }

@@ -1,10 +1,10 @@
-//! One end of a session.
+//! One end of the sessions between two spaces.
 
-ghost use Rattle.std.specs.Prelude.{◌≡◌, ◌≢◌, ◌+◌, ◌-◌, ◌<◌, ◌≤◌, ◌^◌, List, ℕ, Ok, Err, Some, None, Bool, true, false, ◌&&◌, ◌==◌, is_ok, nat_le, nat_lt, max, IfOk, IfErr, IfSome, OnOk, OnErr, IsOk, IsOkUnless, length, take, drop, vec_len, [], ◌∷◌, ◌++◌};
+ghost use Rattle.std.specs.Prelude.{◌≡◌, ◌≢◌, ◌+◌, ◌-◌, ◌<◌, ◌≤◌, ◌^◌, List, ℕ, Ok, Err, Some, None, Bool, true, false, not, ◌&&◌, ◌||◌, ◌==◌, is_ok, nat_le, nat_lt, max, IfOk, IfErr, IfSome, OnOk, OnErr, IsOk, IsOkUnless, length, take, drop, vec_len, [], ◌∷◌, ◌++◌};
 ghost use Rattle.nob_ids.specs.declared.limits.Limits.{Limits as LimitsOf};
 ghost use Rattle.nob_ids.specs.declared.reason.Reason.{Reason as ReasonOf};
 ghost use Rattle.nob_model_session.specs.declared.entry.EndEntry.{EndEntry};
-ghost use Rattle.nob_model_session.specs.declared.entry.EndEntry.TheVariants.{Send, Transmit, Arrive, Front, Take, IsOpen, Tick, Close};
+ghost use Rattle.nob_model_session.specs.declared.entry.EndEntry.TheVariants.{Send, Transmit, Arrive, Front, Take, IsOpen, Tick, Close, Reopen};
 ghost use Rattle.nob_model_session.specs.Texts.{front_text};
 ghost use Rattle.nob_model_session.specs.End.{greatest_seq, is_in_reach, last_item};
 ghost use Rattle.nob_model_session.specs.Right as right;
@@ -12,10 +12,11 @@ ghost use Rattle.nob_model_session.specs.Right.{IsRight};
 ghost use Rattle.std.specs.List.{AllByRecursion, slice_get};
 ghost use Rattle.std.specs.VecDeque.{deque_len, deque_capacity};
 ghost use Rattle.nob_frame.specs.Kinds.{is_data};
+ghost use Rattle.nob_frame.specs.declared.version.Version.TheVariants.{Two};
 ghost use Rattle.nob_frame.specs.Spelling.{Fits};
 ghost use Rattle.nob_session.specs.Items.{IsItem, IsPair};
-ghost use Rattle.nob_session.specs.Stands.{KeepsRoom, Stands, closed_end, heard, is_open_end};
-ghost use Rattle.nob_session.specs.Calls.{EndsBy, SameHanded, acceptable, accepting, after_transmit, evidence_of, frames_of, keeping, next_of, with_item, without_front};
+ghost use Rattle.nob_session.specs.Stands.{KeepsRoom, Stands, closed_end, heard, is_open_end, passed_over, seeing};
+ghost use Rattle.nob_session.specs.Calls.{EndsBy, SameHanded, acceptable, accepting, after_transmit, beginning, evidence_of, frames_of, keeping, next_of, reopening_of, with_item, without_front};
 ghost use Rattle.nob_session.specs.Answers.{Answered, KeepsAnew, arrived_of};
 ghost use Rattle.nob_session.specs.Dues.{due_of, due_up_to};
 
@@ -34,15 +35,19 @@ use std::collections::VecDeque;
 use std::marker::Model;
 use std::ops::Range;
 
-/// One end of the session between two spaces. It holds the payloads that are unacknowledged, those
-/// that wait and those that came before their turn, and no other: what is acknowledged or taken is
-/// given up at once, and so is all when the end closes.
+/// One end of the sessions between two spaces, which follow one another. It holds the payloads that
+/// are unacknowledged, those that wait and those that came before their turn, and no other: what is
+/// acknowledged or taken is given up at once, and so is all when the end closes.
 #[derive(Debug, Drop)]
 pub struct Session {
     alloc: Global,
     me: SpaceId,
     peer: SpaceId,
     limits: Limits,
+    // the number of the session
+    number: u32,
+    // the highest number in a frame of the pair that arrived, 0 if none did
+    seen: u32,
     // the payloads that are unacknowledged, the first first; none once it is closed
     unacknowledged: VecDeque<Bytes>,
     handed: u64,
@@ -77,8 +82,8 @@ impl Model for Session {
 }
 
 impl Session {
-    /// Opens the end of `me` towards `peer`, with places for all items that can wait and for those
-    /// that can be kept before their turn. Only memory fails it.
+    /// Opens the end of `me` towards `peer` in session 1, with places for all items that can wait
+    /// and for those that can be kept before their turn. Only memory fails it.
     #[tactic(auto, using(crate::proofs::Kept::none_kept))]
     pub fn open(
         alloc: Global,
@@ -93,12 +98,14 @@ impl Session {
             me,
             peer,
             limits,
+            number: 1,
+            seen: 0,
             unacknowledged: VecDeque::new(alloc),
             handed: 0,
             lowest: 1,
             transmitted: 0,
             waiting: VecDeque::with_capacity(alloc, INBOX_LIMIT)?,
-            early: Places::empty(alloc, REACH)?,
+            early: Places::empty(alloc)?,
             accepted: 0,
             taken: 0,
             data_arrived: false,
@@ -126,14 +133,28 @@ impl Session {
         (self.unacknowledged.len(), self.waiting.len())
     }
 
-    /// How many items were handed to this end. Constant time.
+    /// The number of the session that this end is in. Constant time.
+    pub fn number(&self) -> u32
+        ensures { result ≡ self.now.end.number }
+    {
+        self.number
+    }
+
+    /// The highest number in a frame of the pair that arrived here, 0 if none did. Constant time.
+    pub fn seen(&self) -> u32
+        ensures { result ≡ self.now.end.seen }
+    {
+        self.seen
+    }
+
+    /// How many items were handed to this end in its session. Constant time.
     pub fn handed(&self) -> u64
         ensures { result ≡ self.now.end.handed }
     {
         self.handed
     }
 
-    /// How many of the peer's items were taken from this end. Constant time.
+    /// How many of the peer's items were taken from this end in its session. Constant time.
     pub fn taken(&self) -> u64
         ensures { result ≡ self.now.end.taken }
     {
@@ -239,7 +260,7 @@ impl Session {
         ensures frames { IfOk result (λ frames. frames.items ≡ frames_of self.now.end) }
         ensures few { IfOk result (λ frames. length frames.items ≤ 64) }
         ensures spelt { IsPair self.now.end.me self.now.end.peer
-            → IfOk result (λ frames. AllByRecursion Fits frames.items) }
+            → IfOk result (λ frames. AllByRecursion (Fits Two) frames.items) }
         ensures memory { OnErr result (frames_of self.now.end ≢ []) }
     {
         match self.ending {
@@ -264,7 +285,7 @@ impl Session {
         // Each frame has a spelling.
         ensures few { IfOk result (λ frames. length frames.items ≤ 64) }
         ensures spelt { IsPair self.old.end.me self.old.end.peer
-            → IfOk result (λ frames. AllByRecursion Fits frames.items) }
+            → IfOk result (λ frames. AllByRecursion (Fits Two) frames.items) }
         ensures memory { IsOkUnless result SessionError.OutOfMemory }
         // Memory is wanted only where there is something to give.
         ensures memory_last { OnErr result (frames_of self.old.end ≢ []) }
@@ -311,7 +332,7 @@ impl Session {
     fn due_open(&self) -> Due
         requires { self.now.end.ending ≡ None }
         ensures { result ≡ due_of self.now.end.transmitted
-            (right.open_frames self.now.end.me self.now.end.peer
+            (right.open_frames self.now.end.me self.now.end.peer self.now.end.number
             (self.now.end.accepted + 1) self.now.end.lowest self.now.end.transmitted
             self.now.end.data_arrived
             (take self.now.end.limits.window self.now.end.unacknowledged)) }
@@ -325,13 +346,14 @@ impl Session {
         requires { self.now.end.ending ≡ None }
         ensures few { IfOk result (λ frames. length frames.items ≤ 64) }
         ensures spelt { IsPair self.now.end.me self.now.end.peer
-            → IfOk result (λ frames. AllByRecursion Fits frames.items) }
+            → IfOk result (λ frames. AllByRecursion (Fits Two) frames.items) }
         ensures frames { IfOk result (λ frames. frames.items
-            ≡ right.open_frames self.now.end.me self.now.end.peer
+            ≡ right.open_frames self.now.end.me self.now.end.peer self.now.end.number
             (self.now.end.accepted + 1) self.now.end.lowest self.now.end.transmitted
             self.now.end.data_arrived
             (take self.now.end.limits.window self.now.end.unacknowledged)) }
         ensures memory { OnErr result (right.open_frames self.now.end.me self.now.end.peer
+            self.now.end.number
             (self.now.end.accepted + 1) self.now.end.lowest self.now.end.transmitted
             self.now.end.data_arrived
             (take self.now.end.limits.window self.now.end.unacknowledged) ≢ []) }
@@ -344,7 +366,7 @@ impl Session {
         if !self.data_arrived {
             return Ok(Vec::new(self.alloc));
         }
-        lone_frame(self.alloc, FrameKind::Ack, self.me, self.peer, ack, &[])
+        self.lone_frame(FrameKind::Ack, ack, &[])
     }
 
     // What a transmit of the open end gives of a window of so many items: the lowest, and those
@@ -354,16 +376,49 @@ impl Session {
         requires there { count ≤ length self.now.end.unacknowledged }
         requires last { self.now.end.lowest + count ≤ self.now.end.handed + 1 }
         ensures { (due : Bool) → IfOk result (λ frames. frames.items
-            ≡ right.open_frames self.now.end.me self.now.end.peer ack self.now.end.lowest
+            ≡ right.open_frames self.now.end.me self.now.end.peer self.now.end.number ack
+            self.now.end.lowest
             self.now.end.transmitted due (take count self.now.end.unacknowledged)) }
     {
-        let (me, peer) = (self.me, self.peer);
+        let (me, peer, session) = (self.me, self.peer, self.number);
         let (lowest, payloads) = (self.lowest, &self.unacknowledged);
         let first_new = self.transmitted.saturating_sub(lowest) as usize + 1;
         let new = first_new..count;
         let mut frames = Vec::with_capacity(self.alloc, count.saturating_sub(first_new) + 1)?;
-        push_data(&mut frames, me, peer, ack, lowest, payloads, 0..1)?;
-        push_data(&mut frames, me, peer, ack, lowest, payloads, new)?;
+        push_data(&mut frames, me, peer, session, ack, lowest, payloads, 0..1)?;
+        push_data(&mut frames, me, peer, session, ack, lowest, payloads, new)?;
+        Ok(frames)
+    }
+
+    // The one frame of this kind.
+    fn lone_frame(
+        &self,
+        kind: FrameKind,
+        ack: u64,
+        payload: &[u8],
+    ) -> Result<Vec<Frame>, AllocError>
+        ensures len { IfOk result (λ frames. length frames.items ≤ 64) }
+        ensures frame { IfOk result (λ frames. frames.items
+            ≡ record {
+              kind = kind;
+              from = self.now.end.me;
+              to = self.now.end.peer;
+              session = self.now.end.number;
+              seq = 0;
+              ack = ack;
+              payload = payload.now;
+            } ∷ []) }
+    {
+        let mut frames = Vec::with_capacity(self.alloc, 1)?;
+        frames.push(Frame {
+            kind,
+            from: self.me,
+            to: self.peer,
+            session: self.number,
+            seq: 0,
+            ack,
+            payload: Bytes::from_vec(Vec::from_slice(self.alloc, payload)?),
+        })?;
         Ok(frames)
     }
 
@@ -371,11 +426,12 @@ impl Session {
     fn closed_frames(&self, reason: Reason) -> Result<Vec<Frame>, AllocError>
         ensures few { IfOk result (λ frames. length frames.items ≤ 64) }
         ensures spelt { IsPair self.now.end.me self.now.end.peer
-            → IfOk result (λ frames. AllByRecursion Fits frames.items) }
+            → IfOk result (λ frames. AllByRecursion (Fits Two) frames.items) }
         ensures frames { IfOk result (λ frames. frames.items
-            ≡ right.closed_frames self.now.end.me self.now.end.peer
+            ≡ right.closed_frames self.now.end.me self.now.end.peer self.now.end.number
             (self.now.end.accepted + 1) self.now.end.owes_close (Some reason)) }
         ensures memory { OnErr result (right.closed_frames self.now.end.me self.now.end.peer
+            self.now.end.number
             (self.now.end.accepted + 1) self.now.end.owes_close (Some reason) ≢ []) }
     {
         if !self.owes_close {
@@ -383,23 +439,18 @@ impl Session {
         }
         let payload = [reason.number()];
         let ack = self.accepted + 1;
-        lone_frame(
-            self.alloc,
-            FrameKind::Close,
-            self.me,
-            self.peer,
-            ack,
-            &payload,
-        )
+        self.lone_frame(FrameKind::Close, ack, &payload)
     }
 
-    /// Gives a frame to this end. An open end is closed by a Close frame (reason 2) and by an
-    /// acknowledgement of what it never transmitted (reason 4). A Data frame's item is kept if its
+    /// Gives a frame to this end. An open end is closed by a Close frame of its session, by any
+    /// frame of a newer one (reason 2), and by an acknowledgement of what it never transmitted
+    /// (reason 4); of an older session's frame it takes note alone that Data is to be answered. A
+    /// Data frame's item is kept if its
     /// number is the next or one of the 63 behind it, at most 2^40, and no item with it is kept
     /// yet; then those that are kept in a row from the next on are accepted, while fewer than 256
     /// wait, and the answer says how many. A closed end takes nothing. N4 for a frame of another
     /// pair. Only an item that is kept takes memory.
-    #[tactic(auto, using(crate::proofs::Arrived::none_taken, crate::proofs::Arrived::none_brought))]
+    #[tactic(auto, using(crate::proofs::Arrived::none_brought))]
     pub fn arrive(&mut self, frame: &Frame) -> Result<Arrival, SessionError>
         ensures answer { (me peer : ℕ) (limits : LimitsOf) (L : List EndEntry)
             → Stands me peer limits self.old.end L →
@@ -412,22 +463,22 @@ impl Session {
             → Stands me peer limits self.old.end L →
             result ≡ Err SessionError.OutOfMemory → KeepsAnew me peer frame.now L }
         ensures same { SameHanded self.old.end self.new.end }
-        ensures ends { IfOk result (λ arrival.
-            EndsBy self.old.end self.new.end (evidence_of arrival)) }
+        ensures ends { IfOk result (λ arrival. EndsBy
+            (seeing frame.now.session self.old.end) self.new.end (evidence_of arrival)) }
         ensures room { KeepsRoom self.old self.new }
     {
         if frame.from != self.peer || frame.to != self.me {
             return Err(SessionError::Refused(EndRefusal::Strange));
         }
-        if self.ending.is_some() {
-            self.owes_close = self.owes_close || !frame.kind.is_close();
+        if self.passes(frame) {
+            self.pass_over(frame);
             return Ok(Arrival::Took(0));
         }
-        if frame.kind.is_close() {
-            return Ok(Arrival::Closed(self.end(Reason::PeerClosed)));
+        if frame.session > self.number || frame.kind.is_close() {
+            return Ok(Arrival::Closed(self.end_by(frame, Reason::PeerClosed)));
         }
         if frame.ack > self.transmitted + 1 {
-            return Ok(Arrival::Closed(self.end(Reason::BadItem)));
+            return Ok(Arrival::Closed(self.end_by(frame, Reason::BadItem)));
         }
         if !frame.kind.is_data() {
             self.hear(frame);
@@ -437,6 +488,30 @@ impl Session {
         let count = self.accept();
         self.hear(frame);
         Ok(Arrival::Took(count as u64))
+    }
+
+    // Whether nothing is taken of a frame: one of an older session, and any at a closed end.
+    fn passes(&self, frame: &Frame) -> bool
+        ensures { result ≡ (nat_lt frame.now.session self.now.end.number
+            || not (is_open_end self.now.end)) }
+    {
+        frame.session < self.number || self.ending.is_some()
+    }
+
+    // Takes note of such a frame.
+    fn pass_over(&mut self, frame: &Frame)
+        ensures passed { self.new.end ≡ passed_over self.old.end frame.now }
+        ensures room { self.old.room ≤ self.new.room }
+    {
+        self.seen = self.seen.max(frame.session);
+        if frame.session > self.number {
+            return;
+        }
+        if self.ending.is_some() {
+            self.owes_close = self.owes_close || !frame.kind.is_close();
+        } else {
+            self.data_arrived = self.data_arrived || frame.kind.is_data();
+        }
     }
 
     // Keeps the payload of a Data frame, if its place is in reach and empty. Only memory fails it,
@@ -489,6 +564,7 @@ impl Session {
         ensures heard { self.new.end ≡ heard self.old.end frame.now }
         ensures room { self.old.room ≤ self.new.room }
     {
+        self.seen = self.seen.max(frame.session);
         if frame.ack > self.lowest {
             give_up(&mut self.unacknowledged, (frame.ack - self.lowest) as usize);
             self.lowest = frame.ack;
@@ -575,6 +651,61 @@ impl Session {
         Ok(self.end(reason))
     }
 
+    /// Opens this closed end again, in the session of this number: everything begins anew, and what
+    /// it owed is given up. N5 at an open end; N6 for a number that isn't above that of its
+    /// session, or is below the highest that arrived. It takes no memory.
+    #[tactic(auto, using(crate::proofs::Kept::none_again, crate::proofs::Kept::places_refused))]
+    pub fn reopen(&mut self, number: u32) -> Result<(), EndRefusal>
+        ensures answer { (me peer : ℕ) (limits : LimitsOf) (L : List EndEntry)
+            → Stands me peer limits self.old.end L →
+            IsRight me peer limits (Reopen number result) L
+            × Stands me peer limits self.new.end (Reopen number result ∷ L) }
+        ensures judged { result ≡ reopening_of number self.old.end }
+        ensures reopened { OnOk result (self.new.end ≡ beginning number self.old.end) }
+        ensures err { OnErr result (self.new.end ≡ self.old.end) }
+        ensures room { self.old.room ≤ self.new.room }
+    {
+        if self.is_open() {
+            return Err(EndRefusal::StillOpen);
+        }
+        if number <= self.number || number < self.seen {
+            return Err(EndRefusal::Number);
+        }
+        self.begin(number);
+        Ok(())
+    }
+
+    // Begins the session of this number: the closed end holds nothing of the one before.
+    fn begin(&mut self, number: u32)
+        requires closed { is_open_end self.old.end ≡ false }
+        requires positive { 1 ≤ number }
+        ensures begun { self.new.end ≡ beginning number self.old.end }
+        ensures room { self.old.room ≤ self.new.room }
+    {
+        self.number = number;
+        self.handed = 0;
+        self.lowest = 1;
+        self.transmitted = 0;
+        self.early.refill();
+        self.accepted = 0;
+        self.taken = 0;
+        self.data_arrived = false;
+        self.ticks = 0;
+        self.ending = None;
+        self.owes_close = false;
+    }
+
+    // Closes the open end, at which this frame arrived.
+    fn end_by(&mut self, frame: &Frame, reason: Reason) -> Closed
+        requires { self.old.end.ending ≡ None }
+        ensures closed { (result.peer ≡ self.old.end.peer) × (result.reason ≡ reason) }
+        ensures thrown_away { self.new.end
+            ≡ closed_end (seeing frame.now.session self.old.end) reason }
+    {
+        self.seen = self.seen.max(frame.session);
+        self.end(reason)
+    }
+
     // Closes the open end: what it kept is thrown away.
     fn end(&mut self, reason: Reason) -> Closed
         requires { self.old.end.ending ≡ None }
@@ -617,6 +748,7 @@ fn push_data(
     frames: &mut Vec<Frame>,
     me: SpaceId,
     peer: SpaceId,
+    session: u32,
     ack: u64,
     lowest: u64,
     payloads: &VecDeque<Bytes>,
@@ -625,7 +757,7 @@ fn push_data(
     requires there { places.end ≤ length payloads.now.items }
     requires numbers { lowest + places.end < 2 ^ 64 }
     ensures { OnOk result (frames.new.items ≡ frames.old.items
-        ++ right.data_frames me peer ack (lowest + places.start)
+        ++ right.data_frames me peer session ack (lowest + places.start)
         (drop places.start (take places.end payloads.now.items))) }
 {
     for i in places.start..places.end {
@@ -633,6 +765,7 @@ fn push_data(
             kind: FrameKind::Data,
             from: me,
             to: peer,
+            session,
             seq: lowest + i as u64,
             ack,
             payload: payloads[i].copy()?,
@@ -641,36 +774,10 @@ fn push_data(
     Ok(())
 }
 
-// The one frame of this kind.
-fn lone_frame(
-    alloc: Global,
-    kind: FrameKind,
-    me: SpaceId,
-    peer: SpaceId,
-    ack: u64,
-    payload: &[u8],
-) -> Result<Vec<Frame>, AllocError>
-    ensures len { IfOk result (λ frames. length frames.items ≤ 64) }
-    ensures frame { IfOk result (λ frames. frames.items
-        ≡ record { kind = kind; from = me; to = peer; seq = 0; ack = ack; payload = payload.now } ∷
-        []) }
-{
-    let mut frames = Vec::with_capacity(alloc, 1)?;
-    frames.push(Frame {
-        kind,
-        from: me,
-        to: peer,
-        seq: 0,
-        ack,
-        payload: Bytes::from_vec(Vec::from_slice(alloc, payload)?),
-    })?;
-    Ok(frames)
-}
-
 // What a closed end has to give.
 fn due_of_closed(owes_close: bool) -> Due
-    ensures { (me peer ack transmitted : ℕ) (reason : ReasonOf) → result
-        ≡ due_of transmitted (right.closed_frames me peer ack owes_close (Some reason)) }
+    ensures { (me peer session ack transmitted : ℕ) (reason : ReasonOf) → result
+        ≡ due_of transmitted (right.closed_frames me peer session ack owes_close (Some reason)) }
 {
     if owes_close { Due::Close } else { Due::Nothing }
 }
@@ -678,9 +785,10 @@ fn due_of_closed(owes_close: bool) -> Due
 // What an open end has to give, in whose window there are so many items, from the lowest on.
 fn due_of_window(transmitted: u64, lowest: u64, data_arrived: bool, count: usize) -> Due
     requires { lowest + count < 2 ^ 63 }
-    ensures { (me peer ack : ℕ) (payloads : List (List ℕ)) → length payloads ≡ count → result
+    ensures { (me peer session ack : ℕ) (payloads : List (List ℕ)) → length payloads ≡ count
+        → result
         ≡ due_of transmitted
-        (right.open_frames me peer ack lowest transmitted data_arrived payloads) }
+        (right.open_frames me peer session ack lowest transmitted data_arrived payloads) }
 {
     if count > 0 {
         return due_of_items(transmitted, lowest + (count - 1) as u64);

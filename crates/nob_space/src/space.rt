@@ -4,6 +4,7 @@ ghost use Rattle.std.specs.Prelude.{◌≡◌, ◌≢◌, ◌≤◌, ◌-◌, �
 ghost use Rattle.std.specs.List.{AllByRecursion};
 ghost use Rattle.nob_ids.specs.Names.{IsSpace};
 ghost use Rattle.nob_frame.specs.Spelling.{Fits};
+ghost use Rattle.nob_frame.specs.declared.version.Version.TheVariants.{Two};
 ghost use Rattle.nob_model_types.specs.declared.answer.Answer.TheVariants as answers;
 ghost use Rattle.nob_model_types.specs.declared.event.Event.TheVariants as events;
 ghost use Rattle.nob_model_types.specs.declared.entry.Entry.{Entry};
@@ -240,7 +241,7 @@ impl Space {
             → AnswersOrWants (λ frames. answers.Frames frames.items) result
             (right self.now.id self.now.n self.now.limits L (events.Transmit peer)) }
         ensures spelt { IsSpace self.now.id
-            → IfOk result (λ frames. AllByRecursion Fits frames.items) }
+            → IfOk result (λ frames. AllByRecursion (Fits Two) frames.items) }
     {
         self.parts.frames(peer)
     }

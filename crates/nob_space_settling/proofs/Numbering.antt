@@ -3,14 +3,13 @@ use Rattle.std.proofs.Common.{◌≡◌, ℕ, ◌+◌, ◌≤◌, ◌<◌, Bool,
 use Prim.Native.Nat.{zero, suc}
 use Rattle.std.specs.List.{AllByRecursion}
 use Rattle.std.proofs.lemmas.Bool.Decides.{nat_tests}
-use Rattle.std.proofs.lemmas.List.{length-append}
 use Rattle.nob_ids.specs.declared.limits.Limits.{Limits}
 use Rattle.nob_item.specs.Judging.{is_call_number, is_item_number}
 use Rattle.nob_item.specs.Writing.{bytes_of}
 use Rattle.nob_item.specs.declared.item.Item.{Item}
 use Rattle.nob_item.specs.declared.item.Item.TheVariants as items
 use Rattle.nob_pickle.specs.Writing.{pickle_of}
-use Rattle.nob_model_session.specs.End.{last_item, is_open, accepted_count, accepted, filled, places, takes}
+use Rattle.nob_model_session.specs.End.{last_item, is_present, is_open, accepted_count, accepted, filled, places, takes}
 use Rattle.nob_model_session.specs.Right.{first_of}
 use Rattle.nob_model_session.specs.Accepting.{AllCame}
 use Rattle.nob_model_session.specs.declared.entry.Arrived.TheVariants as arrived
@@ -26,6 +25,7 @@ use Rattle.nob_model_work.specs.declared.work.Outstanding.{Outstanding}
 use Rattle.nob_model_work.specs.Work.{work, work_after, with_loans, is_none_of, wait, make_ready, make_reply, is_not_reply, after_message, after_act, after_settlement, after_settle, after_claim, after_call, after_take, after_end, after_finish, after_close, without_waiting}
 use Rattle.nob_model_history.specs.Histories.{history_of}
 use Rattle.nob_model_history.specs.Ends.{calls_at}
+use Rattle.nob_model_history.proofs.Arriving.{accepts_more}
 use Rattle.nob_model.specs.Laws.{AreRightCalls}
 use Rattle.nob_model.specs.Lists.{AreRightDeeds, IsRightDeed}
 use Rattle.nob_space_settling.specs.Settling.{reply_to_lost}
@@ -55,10 +55,11 @@ all_came me peer limits (call ∷ L) right = (right_came me peer limits call L r
 -- what was taken was accepted
 taken_accepted : (me peer : ℕ) (limits : Limits) (L : List EndEntry) → AreRightCalls me peer limits L → takes L ≤ length (accepted L)
 taken_accepted me peer limits [] right = omega arith
+taken_accepted me peer limits (ends.Reopen k (Ok done) ∷ L) right = omega arith
 taken_accepted me peer limits (ends.Take ∷ L) right = let more = some_waits (is_open L) (takes L + 1) (takes L) (accepted L) right.0 in omega (arith, more)
 taken_accepted me peer limits (ends.Arrive frame (Ok (arrived.Took k)) ∷ L) right =
     let before = taken_accepted me peer limits L right.1 in
-    let more = length-append (accepted L) (filled (places (accepted_count L + 1) k (ends.Arrive frame (Ok (arrived.Took k)) ∷ L))) in
+    let more = accepts_more (is_present frame L) (accepted L) (filled (places (accepted_count L + 1) k (ends.Arrive frame (Ok (arrived.Took k)) ∷ L))) in
     omega (arith, before, more)
 taken_accepted me peer limits (call ∷ L) right = taken_accepted me peer limits L right.1
 

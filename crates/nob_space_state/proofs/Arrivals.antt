@@ -1,14 +1,11 @@
 -- What is right for Tick and Arrive, by what the end with the peer answers.
-use Rattle.std.proofs.Common.{◌≡◌, ℕ, ◌+◌, nat_lt, Bool, true, false, not, ◌==◌, List, Ok, Err, if◌then◌else◌, refl, ◌∙◌}
+use Rattle.std.proofs.Common.{◌≡◌, ℕ, Bool, true, false, not, ◌==◌, List, Result, Ok, Err, refl, ◌∙◌}
 use Rattle.std.proofs.lemmas.Cmp.{nat_eq_equiv}
 use Rattle.nob_frame.specs.declared.frame.Frame.{Frame}
 use Rattle.nob_model_session.specs.declared.entry.EndEntry.{EndEntry}
 use Rattle.nob_model_session.specs.declared.refusal.EndRefusal.{EndRefusal}
-use Rattle.nob_model_session.specs.End.{is_open, transmitted}
-use Rattle.nob_model_session.specs.Right.{taken_by, right_tick, right_arrive, is_of_pair}
-use Rattle.nob_model_session.specs.declared.entry.Arrived.TheVariants as arrived
-use Rattle.nob_ids.specs.declared.reason.Reason.TheVariants.{PeerClosed, BadItem}
-use Rattle.nob_frame.specs.Kinds.{is_close}
+use Rattle.nob_model_session.specs.declared.entry.Arrived.{Arrived}
+use Rattle.nob_model_session.specs.Right.{right_tick, arrived_by, right_arrive, is_of_pair}
 use Rattle.nob_model_types.specs.declared.refusal.Refusal.TheVariants as refusals
 use Rattle.nob_model_types.specs.Sessions.{is_peer}
 use Rattle.nob_model_history.specs.declared.history.History.{History}
@@ -40,16 +37,17 @@ arrive_told s n frame h here peer = rw (here, peer) refl
 of_pair : (s : ℕ) (frame : Frame) → frame.to == s ≡ true → is_of_pair s frame.from frame ≡ true
 of_pair s frame here = rw (nat_eq_equiv.refl frame.from, here) refl
 
-not_refused : (still closes late : Bool) (count peer : ℕ) (refusal : EndRefusal) → Err refusal ≡ (if not still then Ok (arrived.Took 0) else (if closes then Ok (arrived.Closed (record { peer = peer; reason = PeerClosed })) else (if late then Ok (arrived.Closed (record { peer = peer; reason = BadItem })) else Ok (arrived.Took count)))) → ⊥
-not_refused false closes late count peer refusal e = cc
-not_refused true true late count peer refusal e = cc
-not_refused true false true count peer refusal e = cc
-not_refused true false false count peer refusal e = cc
+-- what an arrival did, as its answer
+abbrev arrives : Arrived → Result Arrived EndRefusal
+arrives did = Ok did
+
+not_refused : (refusal : EndRefusal) (did : Arrived) → Err refusal ≡ arrives did → ⊥
+not_refused refusal did e = cc
 
 -- so the end with its sender refuses no frame that is for this space
 pub never_strange : (s : ℕ) (frame : Frame) (L : List EndEntry) (refusal : EndRefusal) → frame.to == s ≡ true → Err refusal ≡ right_arrive s frame.from frame L → ⊥
 never_strange s frame L refusal here told =
-    not_refused (is_open L) (is_close frame.kind) (nat_lt (transmitted L + 1) frame.ack) (taken_by frame L) frame.from refusal (told ∙ rw (of_pair s frame here) refl)
+    not_refused refusal (arrived_by frame.from frame L) (told ∙ rw (of_pair s frame here) refl)
 
 -- a test and its denial
 pub not_not : (b : Bool) → not b ≡ false → b ≡ true

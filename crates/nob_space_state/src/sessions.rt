@@ -11,6 +11,7 @@ ghost use Rattle.nob_space_state.specs.Stands.{StandFor, IsState, Keeps, Did, An
 ghost use Rattle.std.specs.List.{AllByRecursion};
 ghost use Rattle.nob_frame.specs.Kinds.{is_data};
 ghost use Rattle.nob_frame.specs.Spelling.{Fits};
+ghost use Rattle.nob_frame.specs.declared.version.Version.TheVariants.{Two};
 ghost use Rattle.nob_space_state.specs.Closing.{tick_answer, tick_deed, arrive_answer, arrive_deed};
 
 use crate::error::SpaceError;
@@ -48,7 +49,7 @@ impl Parts {
     /// memory, as Transmit. Linear in them.
     pub fn frames(&self, peer: SpaceId) -> Result<Vec<Frame>, SpaceError>
         ensures spelt { IsState self.now
-            → IsSpace self.now.here.space → IfOk result (λ frames. AllByRecursion Fits frames.items) }
+            → IsSpace self.now.here.space → IfOk result (λ frames. AllByRecursion (Fits Two) frames.items) }
         ensures answer { (limits : LimitsOf) (D : List Deed)
             → StandFor limits self.now D
             → AnswersOrWants (λ frames. answers.Frames frames.items) result

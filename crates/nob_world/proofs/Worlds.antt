@@ -13,6 +13,7 @@ use Rattle.nob_ids.specs.Names.{IsSpace}
 use Rattle.nob_ids.specs.declared.reason.Reason.{Reason}
 use Rattle.nob_frame.specs.declared.frame.Frame.{Frame}
 use Rattle.nob_frame.specs.Spelling.{Fits}
+use Rattle.nob_frame.specs.declared.version.Version.TheVariants.{Two}
 use Rattle.nob_model_types.specs.declared.answer.Answer.{Answer}
 use Rattle.nob_model_types.specs.declared.refusal.Refusal.{Refusal}
 use Rattle.nob_model_types.specs.declared.event.Event.{Event}
@@ -21,7 +22,7 @@ use Rattle.nob_model_types.specs.declared.answer.Answer.TheVariants as answers
 use Rattle.nob_model_types.specs.declared.event.Event.TheVariants as events
 use Rattle.nob_model_types.specs.declared.refusal.Refusal.TheVariants as refusals
 use Rattle.nob_model_session.specs.declared.entry.EndEntry.{EndEntry}
-use Rattle.nob_model_session.specs.End.{is_open, accepted_count, lowest, transmitted, data_arrived, unacknowledged, owes_close, ending}
+use Rattle.nob_model_session.specs.End.{number, is_open, accepted_count, lowest, transmitted, data_arrived, unacknowledged, owes_close, ending}
 use Rattle.nob_model_session.specs.Right.{data_frames, open_frames, closed_frames, right_transmit}
 use Rattle.nob_model_types.specs.Deeds.{deed_by, deed_of}
 use Rattle.nob_model_types.specs.Sessions.{is_peer}
@@ -136,7 +137,7 @@ module _ {n : ℕ} {limits : Limits} {spaces : List Owner} {entries : List Entry
   pub world_made : (result : Result Answer Refusal) (more : List Frame) (entries' : List Entry) (frames' : List Frame)
       → ((L : List Entry) → StandsFor old L → right old.id old.n old.limits L event ≡ result)
       → ((L : List Entry) → StandsFor old L → StandsFor new (entry_of old.id event result ∷ L))
-      → more ≡ frames_of (deed_by event result) → AllByRecursion Fits more → AllByRecursion (λ frame. frame.to ≤ n) more → IsOfTypes (entry_of p event result)
+      → more ≡ frames_of (deed_by event result) → AllByRecursion (Fits Two) more → AllByRecursion (λ frame. frame.to ≤ n) more → IsOfTypes (entry_of p event result)
       → entries' ≡ entries ++ entry_of p event result ∷ [] → frames' ≡ frames ++ more
       → IsWorld (world_of n limits (set spaces k new) entries' frames')
   world_made result more entries' frames' answered stands gives spelt for_spaces typed entries_is frames_is =
@@ -155,7 +156,7 @@ module _ {n : ℕ} {limits : Limits} {spaces : List Owner} {entries : List Entry
         spaces = subst (SpacesStand n limits (set spaces (p - 1) new)) newest spaces';
         run = subst (λ (its : List Entry). WorldRun n (λ _. limits) its) newest (record { first = asked.low; last = high; is_right = is_right; arrives = asked.arrives }, asked.world.run);
         frames = ap (λ fs. fs ++ more) asked.world.frames ∙ ap (λ fs. transmitted_frames J ++ fs) gives ∙ ap transmitted_frames newest;
-        spelt = all_append Fits frames more asked.world.spelt spelt;
+        spelt = all_append (Fits Two) frames more asked.world.spelt spelt;
         for_spaces = all_append (λ frame. frame.to ≤ n) frames more asked.world.for_spaces for_spaces;
         typed = subst AreOfTypes newest (typed, asked.world.typed);
       })))
@@ -181,24 +182,24 @@ module _ {n : ℕ} {limits : Limits} {spaces : List Owner} {entries : List Entry
       subst (λ m. AllByRecursion (λ (frame : Frame). frame.to ≤ m) more) (ap (λ (space : Owner). space.n) same_space ∙ place_of.count) (told (at p (reverse entries)) there)
 
 -- ---- where frames go
-data_go : (me peer ack k n : ℕ) (payloads : List (List ℕ)) → peer ≤ n → AllByRecursion (λ frame. frame.to ≤ n) (data_frames me peer ack k payloads)
-data_go me peer ack k n [] low = tt
-data_go me peer ack k n (payload ∷ payloads) low = (low, data_go me peer ack (k + 1) n payloads low)
+data_go : (me peer session ack k n : ℕ) (payloads : List (List ℕ)) → peer ≤ n → AllByRecursion (λ frame. frame.to ≤ n) (data_frames me peer session ack k payloads)
+data_go me peer session ack k n [] low = tt
+data_go me peer session ack k n (payload ∷ payloads) low = (low, data_go me peer session ack (k + 1) n payloads low)
 
-open_go : (me peer ack k given n : ℕ) (due : Bool) (payloads : List (List ℕ)) → peer ≤ n → AllByRecursion (λ frame. frame.to ≤ n) (open_frames me peer ack k given due payloads)
-open_go me peer ack k given n true [] low = (low, tt)
-open_go me peer ack k given n false [] low = tt
-open_go me peer ack k given n due (payload ∷ payloads) low = (low, data_go me peer ack (max k given + 1) n (drop (given - k) payloads) low)
+open_go : (me peer session ack k given n : ℕ) (due : Bool) (payloads : List (List ℕ)) → peer ≤ n → AllByRecursion (λ frame. frame.to ≤ n) (open_frames me peer session ack k given due payloads)
+open_go me peer session ack k given n true [] low = (low, tt)
+open_go me peer session ack k given n false [] low = tt
+open_go me peer session ack k given n due (payload ∷ payloads) low = (low, data_go me peer session ack (max k given + 1) n (drop (given - k) payloads) low)
 
-closed_go : (me peer ack n : ℕ) (owes : Bool) (reason : Option Reason) → peer ≤ n → AllByRecursion (λ frame. frame.to ≤ n) (closed_frames me peer ack owes reason)
-closed_go me peer ack n owes None low = tt
-closed_go me peer ack n true (Some reason) low = (low, tt)
-closed_go me peer ack n false (Some reason) low = tt
+closed_go : (me peer session ack n : ℕ) (owes : Bool) (reason : Option Reason) → peer ≤ n → AllByRecursion (λ frame. frame.to ≤ n) (closed_frames me peer session ack owes reason)
+closed_go me peer session ack n owes None low = tt
+closed_go me peer session ack n true (Some reason) low = (low, tt)
+closed_go me peer session ack n false (Some reason) low = tt
 
 transmit_go : (me peer window n : ℕ) (L : List EndEntry) → peer ≤ n → AllByRecursion (λ frame. frame.to ≤ n) (right_transmit me peer window L)
-transmit_go me peer window n L low = elim (is_open L) as (λ b. AllByRecursion (λ (frame : Frame). frame.to ≤ n) (if b then open_frames me peer (accepted_count L + 1) (lowest L) (transmitted L) (data_arrived L) (take window (unacknowledged L)) else closed_frames me peer (accepted_count L + 1) (owes_close L) (ending L))) [
-  | true ↦ open_go me peer (accepted_count L + 1) (lowest L) (transmitted L) n (data_arrived L) (take window (unacknowledged L)) low
-  | false ↦ closed_go me peer (accepted_count L + 1) n (owes_close L) (ending L) low
+transmit_go me peer window n L low = elim (is_open L) as (λ b. AllByRecursion (λ (frame : Frame). frame.to ≤ n) (if b then open_frames me peer (number L) (accepted_count L + 1) (lowest L) (transmitted L) (data_arrived L) (take window (unacknowledged L)) else closed_frames me peer (number L) (accepted_count L + 1) (owes_close L) (ending L))) [
+  | true ↦ open_go me peer (number L) (accepted_count L + 1) (lowest L) (transmitted L) n (data_arrived L) (take window (unacknowledged L)) low
+  | false ↦ closed_go me peer (number L) (accepted_count L + 1) n (owes_close L) (ending L) low
 ]
 
 -- the frames that a right Transmit gives go to a space

@@ -4,6 +4,7 @@ use Rattle.std.specs.List.{AllByRecursion}
 use Rattle.nob_ids.specs.declared.limits.Limits.{Limits}
 use Rattle.nob_frame.specs.declared.frame.Frame.{Frame}
 use Rattle.nob_frame.specs.Spelling.{Fits}
+use Rattle.nob_frame.specs.declared.version.Version.TheVariants.{Two}
 use Rattle.nob_model_types.specs.declared.answer.Answer.{Answer}
 use Rattle.nob_model_types.specs.declared.refusal.Refusal.{Refusal}
 use Rattle.nob_model_types.specs.declared.event.Event.{Event}
@@ -58,7 +59,7 @@ pub record IsWorld (world : World) : Type 0 where
   -- the frames are those that were transmitted
   pub frames : world.frames ≡ transmitted_frames (journal world)
   -- each of which has a spelling
-  pub spelt : AllByRecursion Fits world.frames
+  pub spelt : AllByRecursion (Fits Two) world.frames
   -- and goes to a space
   pub for_spaces : AllByRecursion (λ frame. frame.to ≤ world.n) world.frames
   -- what was handed on is of its types

@@ -6,6 +6,7 @@ ghost use Rattle.std.specs.Vec.{vec_len, vec_capacity};
 ghost use Rattle.nob_ids.specs.Names.{IsSpace};
 ghost use Rattle.nob_ids.specs.declared.limits.Limits.{Limits as LimitsOf};
 ghost use Rattle.nob_frame.specs.Spelling.{Fits};
+ghost use Rattle.nob_frame.specs.declared.version.Version.TheVariants.{Two};
 ghost use Rattle.nob_model_types.specs.declared.entry.Entry.{Entry as EntryOf};
 ghost use Rattle.nob_model_types.specs.declared.answer.Answer.{Answer as AnswerOf};
 ghost use Rattle.nob_model.specs.Right.{right};
@@ -27,7 +28,7 @@ use std::alloc::{AllocError, Global};
 
 // A frame as it arrives: its bytes are written, and it is read from them alone.
 pub(crate) fn carry(alloc: Global, frame: &Frame) -> Result<Frame, AllocError>
-    requires { Fits frame.now }
+    requires { Fits Two frame.now }
     ensures { IfOk result (λ arrived. arrived ≡ frame.now) }
 {
     let bytes = wire::to_bytes(alloc, frame)?;
@@ -57,7 +58,7 @@ pub(crate) fn frames_due(
     ensures to { IfOk result (λ frames. (L : List EntryOf) → StandsFor space.now L
         → AllByRecursion (λ frame. frame.to ≤ space.now.n) frames.items) }
     ensures spelt { IsSpace space.now.id
-        → IfOk result (λ frames. AllByRecursion Fits frames.items) }
+        → IfOk result (λ frames. AllByRecursion (Fits Two) frames.items) }
 {
     let Event::Transmit(peer) = event else {
         return Ok(Vec::new(alloc));

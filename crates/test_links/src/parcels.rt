@@ -17,6 +17,7 @@ pub fn parcel(alloc: Global, number: u64) -> Result<Parcel, AllocError> {
             kind: FrameKind::Data,
             from: space(1),
             to: space(2),
+            session: 1,
             seq: number,
             ack: 1,
             payload,

@@ -133,6 +133,15 @@ pub fn reason_bytes(alloc: Global, words: &mut Words) -> Result<Bytes, AllocErro
     Ok(Bytes::from_vec(bytes))
 }
 
+/// The number of a session: the first mostly, else one of the next, or 0, which no frame has.
+pub fn random_session(words: &mut Words) -> u32 {
+    if words.below(128) == 0 {
+        (words.below(FEW) % 5) as u32
+    } else {
+        1
+    }
+}
+
 /// A frame between two of 32 spaces with a payload of no meaning.
 pub fn any_frame(alloc: Global, words: &mut Words) -> Result<Option<Frame>, AllocError> {
     let Some(from) = random_space(words, 32) else {
@@ -157,6 +166,7 @@ pub fn any_frame(alloc: Global, words: &mut Words) -> Result<Option<Frame>, Allo
         kind,
         from,
         to,
+        session: random_session(words),
         seq,
         ack,
         payload,
@@ -178,7 +188,7 @@ pub fn change_one(bytes: &mut Vec<u8>, words: &mut Words) {
     let reach = if words.below(2) == 0 {
         count
     } else {
-        count.min(28)
+        count.min(32)
     };
     let place = words.below(reach) as usize;
     let change = if words.below(2) == 0 {

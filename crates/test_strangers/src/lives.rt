@@ -1,8 +1,8 @@
 //! Short lives of one space among strangers: each answer must be the right one by the definitions.
 
 use crate::frames::{
-    change_one, good_payload, random_payload, random_rep, random_space, random_value, reason_bytes,
-    spelling_of,
+    change_one, good_payload, random_payload, random_rep, random_session, random_space,
+    random_value, reason_bytes, spelling_of,
 };
 use crate::seen::Happenings;
 use nob_frame::{Bytes, Frame, FrameError, FrameKind, decode};
@@ -120,6 +120,7 @@ impl Life {
             kind,
             from,
             to: self.here.space,
+            session: random_session(words),
             seq,
             ack,
             payload,

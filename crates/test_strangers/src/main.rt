@@ -67,7 +67,7 @@ fn try_lives(rt: &HostRuntime, frames: u64) -> io::Result<()> {
     let reasons = seen.reasons.count();
     let answers = seen.answers.count();
     let text = format!(in alloc;
-        "{faults} of 11 faults, {reasons} of 6 reasons, {answers} of 15 kinds of answer"
+        "{faults} of 12 faults, {reasons} of 6 reasons, {answers} of 15 kinds of answer"
     )?;
     rt.println(text.as_str())
 }
@@ -110,7 +110,7 @@ fn try_changed(rt: &HostRuntime, words: &mut Words) -> io::Result<()> {
     }
     let faults = seen.faults.count();
     let text = format!(in alloc;
-        "{right} of {CHANGED} streams with a changed byte: what decode says, {faults} of 9 faults"
+        "{right} of {CHANGED} streams with a changed byte: what decode says, {faults} of 10 faults"
     )?;
     rt.println(text.as_str())
 }

@@ -97,6 +97,7 @@ fn number_of_fault(fault: FrameFault) -> u8 {
         FrameFault::Length => 9,
         FrameFault::Reason => 10,
         FrameFault::Trailing => 11,
+        FrameFault::Session => 12,
     }
 }
 

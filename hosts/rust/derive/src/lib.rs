@@ -1,4 +1,4 @@
-//! The macros of masttomato, which hands them on: `#[interface]` and `#[derive(Pass)]`.
+//! The macros of masttomato, which hands them on, with examples: `#[interface]` and `#[derive(Pass)]`.
 
 mod interface;
 mod pass;

@@ -100,7 +100,7 @@ impl Stranger {
                     continue;
                 }
                 self.taken += 1;
-                let payload = &frame.as_bytes()[28..];
+                let payload = &frame.as_bytes()[32..];
                 if payload[0] == DIRTY {
                     let mut granted = payload.to_vec();
                     granted[0] = DIRTY_OK;
@@ -123,10 +123,11 @@ impl Stranger {
 
     /// A frame of its own, with what it has accepted.
     fn frame(&self, kind: u8, seq: u64, payload: &[u8]) -> Fallible<Frame> {
-        let mut bytes = vec![0x4e, 1, kind, 0, 0, 2, 0, 1];
+        let mut bytes = vec![0x4e, 2, kind, 0, 0, 2, 0, 1];
         bytes.extend(seq.to_be_bytes());
         bytes.extend((self.taken + 1).to_be_bytes());
         bytes.extend((payload.len() as u32).to_be_bytes());
+        bytes.extend(1_u32.to_be_bytes());
         bytes.extend(payload);
         Ok(Frame::from_bytes(bytes)?)
     }

@@ -27,8 +27,34 @@ use std::sync::Arc;
 )]
 pub trait Interface: Send + 'static {
     /// The trait's name.
+    ///
+    /// ```
+    /// # use masttomato::{Interface, interface};
+    /// #[interface]
+    /// pub trait Door {
+    ///     fn knock(&mut self);
+    /// }
+    /// assert_eq!(<dyn Door as Interface>::NAME, "Door");
+    /// ```
     const NAME: &'static str;
     /// A number of its methods' signatures: two traits of one name and other methods have others.
+    ///
+    /// ```
+    /// # use masttomato::{Interface, interface};
+    /// mod first {
+    ///     #[masttomato::interface]
+    ///     pub trait Door {
+    ///         fn knock(&mut self);
+    ///     }
+    /// }
+    /// mod second {
+    ///     #[masttomato::interface]
+    ///     pub trait Door {
+    ///         fn knock(&mut self, times: u32);
+    ///     }
+    /// }
+    /// assert_ne!(<dyn first::Door as Interface>::CHECKSUM, <dyn second::Door as Interface>::CHECKSUM);
+    /// ```
     const CHECKSUM: u64;
 
     /// Carries out a method, by its number.

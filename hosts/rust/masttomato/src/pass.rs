@@ -9,6 +9,11 @@ use std::sync::Arc;
 const PIECE: usize = 8_192;
 
 /// A value that isn't one of the type that is wanted: see [`Pass`].
+///
+/// ```
+/// # use masttomato::NotPassed;
+/// assert_eq!(NotPassed.to_string(), "the value isn't of the type that is wanted");
+/// ```
 #[derive(Clone, Copy, Debug, PartialEq, Eq)]
 pub struct NotPassed;
 
@@ -21,12 +26,37 @@ impl fmt::Display for NotPassed {
 impl std::error::Error for NotPassed {}
 
 /// Keeps the references that are in what is passed until it has gone: see [`Pass`].
+///
+/// ```
+/// # use masttomato::{Packer, Pass, Value};
+/// assert_eq!(7_i64.pack(&mut Packer::default()), Value::Int(7));
+/// ```
 #[derive(Debug, Default)]
 pub struct Packer {
     pub(crate) holds: Vec<Arc<Hold>>,
 }
 
 /// Knows the references that are in what came: see [`Pass`].
+///
+/// ```
+/// use masttomato::{NotPassed, Packer, Pass, Unpacker, Value};
+///
+/// /// A number that isn't 0.
+/// struct Count(u32);
+///
+/// impl Pass for Count {
+///     fn pack(self, packer: &mut Packer) -> Value {
+///         self.0.pack(packer)
+///     }
+///
+///     fn unpack(value: Value, unpacker: &Unpacker) -> Result<Count, NotPassed> {
+///         match u32::unpack(value, unpacker)? {
+///             0 => Err(NotPassed),
+///             count => Ok(Count(count)),
+///         }
+///     }
+/// }
+/// ```
 #[derive(Debug)]
 pub struct Unpacker {
     pub(crate) shared: Arc<Shared>,
@@ -89,9 +119,24 @@ impl Unpacker {
 )]
 pub trait Pass: Sized + Send + 'static {
     /// The value that says it, of which the packer keeps the references.
+    ///
+    /// ```
+    /// # use masttomato::{Packer, Pass, Value};
+    /// let value = ("tea".to_string(), 3_u8).pack(&mut Packer::default());
+    /// assert_eq!(value.to_string(), "[b746561,i3]");
+    /// # let _: Value = value;
+    /// ```
     fn pack(self, packer: &mut Packer) -> Value;
 
     /// What a value says.
+    ///
+    /// ```
+    /// # use masttomato::{NotPassed, Pass, Unpacker, Value};
+    /// // What a type of your own does, too, with each of its parts.
+    /// fn both(value: Value, unpacker: &Unpacker) -> Result<(String, u8), NotPassed> {
+    ///     Pass::unpack(value, unpacker)
+    /// }
+    /// ```
     ///
     /// # Errors
     /// Where it says nothing of this type.

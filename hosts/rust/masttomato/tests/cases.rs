@@ -147,8 +147,9 @@ fn fields_of(frame: &Frame) -> String {
         FrameKind::Close => "close",
         other => panic!("{other:?}"),
     };
-    let (from, to, seq, ack) = (frame.from(), frame.to(), frame.seq(), frame.ack());
-    let payload = frame.to_string()[56..].to_string();
+    let (from, to, session) = (frame.from(), frame.to(), frame.session());
+    let (seq, ack) = (frame.seq(), frame.ack());
+    let payload = frame.to_string()[64..].to_string();
     let payload = if payload.is_empty() { "-".to_string() } else { payload };
-    format!("{kind} {from} to {to} seq {seq} ack {ack} {payload}")
+    format!("{kind} {from} to {to} session {session} seq {seq} ack {ack} {payload}")
 }

@@ -203,9 +203,9 @@ impl Scene {
             if length == 0 {
                 self.way.push((1 - place, head.to_vec()));
             }
-            while let Some(frame) = body.first_chunk::<28>() {
-                let length =
-                    28 + u32::from_be_bytes(*frame.last_chunk().expect("a length")) as usize;
+            while let Some(frame) = body.first_chunk::<32>() {
+                let length = frame[24..].first_chunk().expect("a length");
+                let length = 32 + u32::from_be_bytes(*length) as usize;
                 let stamp = &head[4..];
                 let bytes = [&(length as u32).to_be_bytes()[..], stamp, &body[..length]].concat();
                 self.way.push((1 - place, bytes));

@@ -71,14 +71,17 @@ fn accepted_of(mut sets: Vec<String>) -> Vec<String> {
 
 fn assert_set_played_again(name: &str) {
     let text = file(&format!("{name}.traces"));
-    let places: Vec<usize> = text.match_indices("trace ").map(|(place, _)| place).collect();
-    let ends = places.iter().skip(1).copied().chain([text.len()]);
-    for (start, end) in places.iter().copied().zip(ends) {
-        assert_played_again(name, &text[start..end]);
+    let mut traces: Vec<String> = Vec::new();
+    for line in text.split_inclusive('\n') {
+        match traces.last_mut() {
+            Some(trace) if !line.starts_with("trace") => trace.push_str(line),
+            _ => traces.push(line.into()),
+        }
     }
+    traces.iter().for_each(|trace| assert_played_again(name, trace));
 }
 
-// A space that is asked what a trace says gives that trace, byte for byte.
+// A space that is asked what a trace says gives that trace, byte for byte but for the version of its frames.
 fn assert_played_again(name: &str, trace: &str) {
     assert_eq!(replay_fault(trace), None, "{name}");
 }

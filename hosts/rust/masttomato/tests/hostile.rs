@@ -95,12 +95,13 @@ impl Scene {
 }
 
 fn frame(from: u16, to: u16, seq: u64, payload: &[u8]) -> Vec<u8> {
-    let mut bytes = vec![0x4e, 1, 1, 0];
+    let mut bytes = vec![0x4e, 2, 1, 0];
     bytes.extend(from.to_be_bytes());
     bytes.extend(to.to_be_bytes());
     bytes.extend(seq.to_be_bytes());
     bytes.extend(1_u64.to_be_bytes());
     bytes.extend((payload.len() as u32).to_be_bytes());
+    bytes.extend(1_u32.to_be_bytes());
     bytes.extend(payload);
     bytes
 }
@@ -290,6 +291,34 @@ fn one_that_sends_its_items_backwards_and_two_of_each_number() {
     scene.serve_all();
     assert_eq!((scene.served, scene.session(HOSTILE)), (3, Session::Open));
     scene.assert_serves();
+}
+
+// Its frames come of a session in which the owner's end never was, of an unknown version, or of a session that has
+// no number.
+#[test]
+fn one_that_speaks_of_another_session() {
+    let other = |place: usize, byte| {
+        let mut frame = frame(HOSTILE, HERE, 1, &call(1, &[0]));
+        frame[place] = byte;
+        record(0, 1, &frame)
+    };
+    for (place, byte) in [(1, 1), (1, 3), (31, 0)] {
+        let mut scene = Scene::new();
+        assert_eq!(scene.send(&other(place, byte)), Err(Misbehaved::NoFrame));
+        assert_eq!(scene.session(HOSTILE), Session::Open);
+        scene.assert_serves();
+    }
+    for (place, byte) in [(31, 2), (28, 0xff)] {
+        let mut scene = Scene::new();
+        scene.send(&other(place, byte)).expect("a frame");
+        assert_eq!(scene.session(HOSTILE), Session::Closed(Reason::PeerClosed));
+        // Nothing but its number was looked at, and nothing is owed for it.
+        scene.serve_all();
+        assert_eq!((scene.served, scene.read()), (0, 0));
+        scene.send(&other(place, byte)).expect("a frame");
+        assert_eq!(scene.read(), 0);
+        scene.assert_serves();
+    }
 }
 
 // More items in one record than may wait at once: those behind them are kept up to the reach, and there when

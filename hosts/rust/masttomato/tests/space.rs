@@ -260,7 +260,7 @@ fn a_full_inbox_keeps_what_is_behind_it() {
     assert_eq!(ack_of(&mut two), 257);
     two.act(id(1)).unwrap();
     // There is room for one; but a space accepts when a frame of data comes, and at nothing else.
-    let mut ack = numbered(1).as_bytes()[..28].to_vec();
+    let mut ack = numbered(1).as_bytes()[..32].to_vec();
     ack[2] = 2;
     [8..16, 24..28].into_iter().for_each(|field| ack[field].fill(0));
     assert_eq!(took(&mut two, &Frame::from_bytes(ack).unwrap()), 0);
@@ -331,7 +331,7 @@ fn an_event_and_its_method_are_one() {
     one.rise_to(70);
     one.settle().unwrap_err();
     let text = one.trace().unwrap().to_string();
-    let first = "trace 1 of 2 window 8 retry 16 entries 3\n";
+    let first = "trace2 1 of 2 window 8 retry 16 entries 3\n";
     assert_eq!(text, format!("{first}1 export = exported 1.1\n2 dup 1.1 = ok\n71 settle = S10\n"));
 }
 

@@ -24,9 +24,21 @@ pub mod proved {
 }
 
 /// Whether [`Handle`] is that of the proved library, and not the stand-in's.
+///
+/// ```
+/// println!("proved: {}", masttomato_sys::IS_PROVED);
+/// ```
 pub const IS_PROVED: bool = cfg!(nob_host_library);
 
 /// What came of what was asked.
+///
+/// ```
+/// # use masttomato_sys::{Handle, Told};
+/// # let mut handle = Handle::new(1, 2, 8, 16)?;
+/// assert_eq!(handle.export(), (0, Told { kind: 1, space: 1, index: 1, ..Told::default() }));
+/// assert_eq!(handle.claim(), (10, Told::default()));
+/// # Ok::<(), u32>(())
+/// ```
 #[repr(C)]
 #[derive(Clone, Copy, Debug, Default, PartialEq, Eq)]
 pub struct Told {
@@ -45,6 +57,13 @@ pub struct Told {
 }
 
 /// What a space could do next.
+///
+/// ```
+/// # use masttomato_sys::{Handle, Work};
+/// # let handle = Handle::new(1, 2, 8, 16)?;
+/// assert_eq!(handle.work(), Work::default());
+/// # Ok::<(), u32>(())
+/// ```
 #[repr(C)]
 #[derive(Clone, Copy, Debug, Default, PartialEq, Eq)]
 pub struct Work {
@@ -65,4 +84,12 @@ pub struct Work {
 }
 
 /// What a call answered: a status, and what it told.
+///
+/// ```
+/// # use masttomato_sys::{Answered, Handle};
+/// # let mut handle = Handle::new(1, 2, 8, 16)?;
+/// let (status, told): Answered = handle.export();
+/// assert_eq!((status, told.index), (0, 1));
+/// # Ok::<(), u32>(())
+/// ```
 pub type Answered = (u32, Told);

@@ -80,8 +80,17 @@ unsafe extern "C" {
     fn nob_due(handle: *mut RawHandle, peer: u16) -> u32;
 }
 
-/// A space in the library. The cell is there since looks, too, are given a pointer that may be
-/// written through.
+/// A space in the library. Its functions are those of the library by the same names without `nob_`, and are the
+/// stand-in's, with [its examples](crate::stand_in::Handle), too: a status, and what is told.
+///
+/// ```
+/// use masttomato_sys::{Told, proved::Handle};
+///
+/// let mut space = Handle::new(1, 2, 8, 16)?;
+/// assert_eq!(space.export(), (0, Told { kind: 1, space: 1, index: 1, ..Told::default() }));
+/// # Ok::<(), u32>(())
+/// ```
+// The cell is there since looks, too, are given a pointer that may be written through.
 pub struct Handle(UnsafeCell<RawHandle>);
 
 impl fmt::Debug for Handle {
@@ -100,6 +109,9 @@ impl Drop for Handle {
 
 impl Handle {
     /// A space, or the status that says why there is none.
+    ///
+    /// # Errors
+    /// 60 where a number is outside its range, 14 for want of memory.
     pub fn new(id: u16, n: u16, window: u64, retry: u64) -> Result<Handle, u32> {
         let mut raw = RawHandle { at: std::ptr::null_mut() };
         // SAFETY: the handle is null, so it keeps nothing. If the status is another than 0 it
@@ -118,100 +130,119 @@ impl Handle {
         (status, told)
     }
 
+    /// Export.
     pub fn export(&mut self) -> Answered {
         // SAFETY: as above; it takes nothing else.
         self.ask(|handle, told| unsafe { nob_export(handle, told) })
     }
 
+    /// Dup.
     pub fn dup(&mut self, owner: u16, index: u64) -> Answered {
         // SAFETY: as above; any numbers may be given.
         self.ask(|handle, told| unsafe { nob_dup(handle, owner, index, told) })
     }
 
+    /// Release.
     pub fn release(&mut self, owner: u16, index: u64) -> Answered {
         // SAFETY: as above; any numbers may be given.
         self.ask(|handle, told| unsafe { nob_release(handle, owner, index, told) })
     }
 
+    /// Call.
     pub fn call(&mut self, owner: u16, index: u64, method: u16, pickle: &[u8]) -> Answered {
         let (at, length) = (pickle.as_ptr(), pickle.len());
         // SAFETY: as above; any numbers may be given, and the pickle is one slice.
         self.ask(|handle, told| unsafe { nob_call(handle, owner, index, method, at, length, told) })
     }
 
+    /// TakeReply.
     pub fn take_reply(&mut self, call: u64) -> Answered {
         // SAFETY: as above; any number may be given.
         self.ask(|handle, told| unsafe { nob_take_reply(handle, call, told) })
     }
 
+    /// Claim.
     pub fn claim(&mut self) -> Answered {
         // SAFETY: as above; it takes nothing else.
         self.ask(|handle, told| unsafe { nob_claim(handle, told) })
     }
 
+    /// Finish.
     pub fn finish(&mut self, job: u64, outcome: u32, pickle: &[u8]) -> Answered {
         let (at, length) = (pickle.as_ptr(), pickle.len());
         // SAFETY: as above; any numbers may be given, and the pickle is one slice.
         self.ask(|handle, told| unsafe { nob_finish(handle, job, outcome, at, length, told) })
     }
 
+    /// Act.
     pub fn act(&mut self, peer: u16) -> Answered {
         // SAFETY: as above; any number may be given.
         self.ask(|handle, told| unsafe { nob_act(handle, peer, told) })
     }
 
+    /// Settle.
     pub fn settle(&mut self) -> Answered {
         // SAFETY: as above; it takes nothing else.
         self.ask(|handle, told| unsafe { nob_settle(handle, told) })
     }
 
+    /// Clean.
     pub fn clean(&mut self) -> Answered {
         // SAFETY: as above; it takes nothing else.
         self.ask(|handle, told| unsafe { nob_clean(handle, told) })
     }
 
+    /// Withdraw.
     pub fn withdraw(&mut self, index: u64) -> Answered {
         // SAFETY: as above; any number may be given.
         self.ask(|handle, told| unsafe { nob_withdraw(handle, index, told) })
     }
 
+    /// Transmit.
     pub fn transmit(&mut self, peer: u16) -> Answered {
         // SAFETY: as above; any number may be given.
         self.ask(|handle, told| unsafe { nob_transmit(handle, peer, told) })
     }
 
+    /// Arrive.
     pub fn arrive(&mut self, frame: &[u8]) -> Answered {
         let (at, length) = (frame.as_ptr(), frame.len());
         // SAFETY: as above; any bytes may be given, and they are one slice.
         self.ask(|handle, told| unsafe { nob_arrive(handle, at, length, told) })
     }
 
+    /// Tick.
     pub fn tick(&mut self, peer: u16) -> Answered {
         // SAFETY: as above; any number may be given.
         self.ask(|handle, told| unsafe { nob_tick(handle, peer, told) })
     }
 
+    /// Close.
     pub fn close(&mut self, peer: u16) -> Answered {
         // SAFETY: as above; any number may be given.
         self.ask(|handle, told| unsafe { nob_close(handle, peer, told) })
     }
 
+    /// The next piece of a stream of frames.
     pub fn push(&mut self, peer: u16, piece: &[u8]) -> Answered {
         let (at, length) = (piece.as_ptr(), piece.len());
         // SAFETY: as above; any bytes may be given, and they are one slice.
         self.ask(|handle, told| unsafe { nob_push(handle, peer, at, length, told) })
     }
 
+    /// The first frame that waits arrives.
     pub fn bring_next(&mut self) -> Answered {
         // SAFETY: as above; it takes nothing else.
         self.ask(|handle, told| unsafe { nob_next(handle, told) })
     }
 
+    /// A new stream from a peer.
     pub fn restart(&mut self, peer: u16) -> u32 {
         // SAFETY: as above; any number may be given.
         unsafe { nob_restart(self.0.get(), peer) }
     }
 
+    /// The kept value's pickle becomes the answer.
     pub fn value(&mut self) -> u32 {
         // SAFETY: as above; it takes nothing else.
         unsafe { nob_value(self.0.get()) }
@@ -223,17 +254,20 @@ impl Handle {
         unsafe { nob_answer(self.0.get(), out.as_mut_ptr(), out.len()) }
     }
 
+    /// Whether a client is listed for an object.
     pub fn lists(&self, index: u64, client: u16) -> bool {
         // SAFETY: as above; any numbers may be given. The cell is borrowed by nobody, since no
         // reference into it is ever made.
         unsafe { nob_lists(self.0.get(), index, client) }
     }
 
+    /// Whether TakeReply of a call would say anything but that it isn't ready.
     pub fn reply_ready(&self, call: u64) -> bool {
         // SAFETY: as of `lists`.
         unsafe { nob_reply_ready(self.0.get(), call) }
     }
 
+    /// What the space could do next.
     pub fn work(&self) -> Work {
         let mut work = Work::default();
         // SAFETY: as of `lists`; the work is written alone.
@@ -241,6 +275,7 @@ impl Handle {
         work
     }
 
+    /// What a Transmit to a peer would give.
     pub fn due(&self, peer: u16) -> u32 {
         // SAFETY: as of `lists`.
         unsafe { nob_due(self.0.get(), peer) }

@@ -101,6 +101,9 @@ mod compared {
                 20..=22 => self.arrive(frame),
                 _ if number == 1 => both!(pair, tick, peer),
                 _ if number == 2 && outcome == 0 => both!(pair, close, peer),
+                _ if number == 3 => {
+                    both!(pair, arrive, &frame[..frame.len().min((index % 6) as usize * 17)])
+                }
                 _ => both!(pair, arrive, &pickle),
             };
             self.look(place);
@@ -127,9 +130,16 @@ mod compared {
         }
 
         // What one Transmit gave comes as a stream to whom it is for; seldom with another number in its first
-        // frame, which may be in reach of the next one or not.
+        // frame, which may be in reach of the next one or not, or with another session or version.
         fn arrive(&mut self, mut frames: Vec<u8>) -> Answered {
             let ahead = if self.below(12) == 0 { self.below(70) } else { 0 };
+            for (place, one_of) in [(1, 200), (31, 80)] {
+                if self.below(one_of) == 0
+                    && let Some(byte) = frames.get_mut(place)
+                {
+                    *byte = self.below(4) as u8;
+                }
+            }
             if let [_, _, 1, _, _, _, _, _, number @ ..] = &mut frames[..]
                 && let Some(number) = number.first_chunk_mut::<8>()
             {

@@ -1,5 +1,5 @@
 use Rattle.std.proofs.Common.{◌++◌, length}
-use Rattle.nob_demo_scripts.specs.declared.step.Call.TheVariants.{Put, Send, Get, Tick, Close}
+use Rattle.nob_demo_scripts.specs.declared.step.Call.TheVariants.{Put, Send, Get, Tick, Close, Open}
 use Rattle.nob_demo_scripts.specs.Run.{calls_of}
 use Rattle.nob_demo_scripts.proofs.Keeping.{kept}
 use Rattle.nob_demo_scripts.proofs.pair.call_at.Goals as goal
@@ -33,6 +33,12 @@ returns-in-Close-clause-answer c me peer limits L st = rw (c.in-Close.is) (c.clo
 
 pub returns-in-Close-clause-end : goal.returns-in-Close-clause-end
 returns-in-Close-clause-end c me peer h = (h.0, calls_of h.0 me peer Close h.1 ++ h.1, (c.close.ensures.answer me peer 0 h.0 h.1 h.2).1)
+
+pub returns-in-Open-clause-answer : goal.returns-in-Open-clause-answer
+returns-in-Open-clause-answer c me peer limits L st = rw (c.in-Open.is) (c.open.ensures.answer me peer (length c.args.frames.now.frames) limits L st)
+
+pub returns-in-Open-clause-end : goal.returns-in-Open-clause-end
+returns-in-Open-clause-end c me peer h = (h.0, calls_of h.0 me peer Open h.1 ++ h.1, (c.open.ensures.answer me peer 0 h.0 h.1 h.2).1)
 
 pub returns-in-Get-clause-memory : goal.returns-in-Get-clause-memory
 returns-in-Get-clause-memory c me peer limits L st = rw (c.in-Get.is) (c.get.ensures.memory me peer limits L st)

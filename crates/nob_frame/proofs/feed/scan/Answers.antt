@@ -6,7 +6,7 @@ pub loop-header-preserved : goal.loop-header-preserved
 loop-header-preserved c =
     rw c.in_ok-push-in-Ok.ensures.items (reads_push c.args.bytes.now c.loop-header.frames.items c.loop-header.rest.now c.in-Ok.header c.in_ok-frame_of-in-Ok.field-0
     c.split_at-in-Ok.result.0.now c.split_at-in-Ok.result.1.now c.split_at.result.1.now (λ i. omega (arith, c.type_inv.bytes i)) c.loop-header.invariant c.in-Ok.ensures.exact
-    c.split_at.ensures.back c.split_at-in-Ok.ensures.front c.split_at-in-Ok.ensures.back c.in_ok-frame_of-in-Ok.ensures.frame)
+    (rw c.header_len.ensures at c.split_at.ensures.back) c.split_at-in-Ok.ensures.front c.split_at-in-Ok.ensures.back c.in_ok-frame_of-in-Ok.ensures.frame)
 
 pub returns-in-Short-clause-found : goal.returns-in-Short-clause-found
 returns-in-Short-clause-found c = scan_cut c.args.bytes.now c.loop-header.frames.items c.loop-header.rest.now c.loop-header.invariant (rw c.in-Short.is at c.in-Err.ensures.exact)

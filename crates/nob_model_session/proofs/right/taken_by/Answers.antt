@@ -17,4 +17,4 @@ returns c =
     c.in_a_row.ensures.value
     ∙ ap (λ (n : ℕ). right.in_a_row n (words.places (c.accepted_count-first.result + 1) 64 more)) room
     ∙ ap (λ (n : ℕ). right.in_a_row (256 - length (words.waiting c.args.calls.now)) (words.places (n + 1) 64 more)) c.accepted_count-first.ensures.value
-    ∙ sym (taken_is c.args.frame.now c.args.calls.now (sym c.is_data.ensures ∙ c.if-not-is_data.false) c.requires)
+    ∙ sym (taken_is c.args.frame.now c.args.calls.now (sym c.is_data.ensures ∙ c.if-not-is_data.false) c.requires.open)

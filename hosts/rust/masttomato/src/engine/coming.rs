@@ -10,6 +10,33 @@ use std::time::Duration;
 impl Engine {
     /// A piece of what came over the connection of a peer, cut anywhere.
     ///
+    /// ```
+    /// # use masttomato::engine::*;
+    /// # use masttomato::space::{Outcome, Status};
+    /// # use masttomato::{SpaceId, Value};
+    /// # use std::time::Duration;
+    /// # fn carry(from: &mut Engine, to: &mut Engine) -> Vec<masttomato::space::Job> {
+    /// #     let (one, two, now) = (from.id(), to.id(), Duration::ZERO);
+    /// #     let _turn = from.turn(now);
+    /// #     to.bytes(one, from.output(two).left(), now).expect("an honest peer");
+    /// #     from.output(two).advance(usize::MAX);
+    /// #     to.turn(now).jobs
+    /// # }
+    /// # let [one, two] = [1, 2].map(|number| SpaceId::new(number).expect("1 to 32"));
+    /// # let now = Duration::ZERO;
+    /// # let mut owner = Engine::new(Settings::new(one, two), now)?;
+    /// # let mut caller = Engine::new(Settings::new(two, two), now)?;
+    /// # owner.connected(two, Life(12), now)?;
+    /// # caller.connected(one, Life(11), now)?;
+    /// caller.call(Ticket(7), one.agent(), 0, Value::Unit);
+    /// let _turn = caller.turn(now);
+    /// for byte in caller.output(one).left() {
+    ///     owner.bytes(two, &[*byte], now)?;                        // cut anywhere
+    /// }
+    /// assert_eq!(owner.turn(now).jobs.len(), 1);
+    /// # Ok::<(), Box<dyn std::error::Error>>(())
+    /// ```
+    ///
     /// # Errors
     /// What the peer did that no honest one does: its connection is to be dropped. Nothing of the
     /// record in which it did so has come to the space.
@@ -91,7 +118,10 @@ impl Engine {
                 }
             };
             let Some(link) = self.links.get_mut(peer) else { continue };
-            link.acked = link.acked.max(seen.ack());
+            let is_heard = seen.is_of_this_session();
+            if is_heard {
+                link.acked = link.acked.max(seen.ack());
+            }
             if seen.is_data() {
                 if link.owed == 0 {
                     link.owed_since = now;
@@ -99,7 +129,9 @@ impl Engine {
                 link.owed += 1;
             }
             match arrived {
-                Arrived::Took(count) if seen.is_data() && link.is_open() => link.came(&seen, count),
+                Arrived::Took(count) if is_heard && seen.is_data() && link.is_open() => {
+                    link.came(&seen, count);
+                }
                 Arrived::Took(_) => {}
                 Arrived::Closed(reason) => self.closed(peer, reason),
             }

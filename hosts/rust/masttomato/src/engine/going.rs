@@ -7,6 +7,22 @@ use std::time::Duration;
 
 impl Engine {
     /// Fills each connection's output that is empty and that there is something for.
+    ///
+    /// ```
+    /// # use masttomato::engine::*;
+    /// # use masttomato::{SpaceId, Value};
+    /// # use std::time::Duration;
+    /// # let [one, two] = [1, 2].map(|number| SpaceId::new(number).expect("1 to 32"));
+    /// # let now = Duration::ZERO;
+    /// # let mut engine = Engine::new(Settings::new(one, two), now)?;
+    /// engine.connected(two, Life(12), now)?;
+    /// engine.call(Ticket(1), two.agent(), 0, Value::Unit);
+    /// let _turn = engine.work(now);
+    /// assert!(engine.output(two).is_empty());
+    /// engine.fill(now);
+    /// assert!(!engine.output(two).is_empty());
+    /// # Ok::<(), Box<dyn std::error::Error>>(())
+    /// ```
     pub fn fill(&mut self, now: Duration) {
         for place in 0..self.up.len() {
             self.fill_for(self.up[place], now);
@@ -15,6 +31,18 @@ impl Engine {
     }
 
     /// When it wants the next turn at the latest.
+    ///
+    /// ```
+    /// # use masttomato::engine::*;
+    /// # use masttomato::{SpaceId, Value};
+    /// # use std::time::Duration;
+    /// # let [one, two] = [1, 2].map(|number| SpaceId::new(number).expect("1 to 32"));
+    /// # let now = Duration::ZERO;
+    /// # let mut engine = Engine::new(Settings::new(one, two), now)?;
+    /// let _turn = engine.turn(now);
+    /// assert!(engine.next(now).is_some_and(|next| next > now));
+    /// # Ok::<(), Box<dyn std::error::Error>>(())
+    /// ```
     pub fn next(&self, now: Duration) -> Option<Duration> {
         let waits = self.up.iter().filter_map(|peer| self.next_of(*peer, now));
         waits.chain([self.look_at]).chain(self.has_stuck.then_some(now + STUCK)).min()

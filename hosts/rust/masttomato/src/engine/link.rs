@@ -35,7 +35,7 @@ const REACH: u64 = 64;
 /// # let _turn = engine.turn(Duration::ZERO);
 /// # let mut written = Vec::new();
 /// # write(&mut engine, two, &mut written)?;
-/// # assert_eq!(written.len(), 16 + 28 + 20);
+/// # assert_eq!(written.len(), 16 + 32 + 20);
 /// # Ok::<(), Box<dyn std::error::Error>>(())
 /// ```
 #[derive(Debug, Default)]
@@ -46,16 +46,58 @@ pub struct OutBuffer {
 
 impl OutBuffer {
     /// What is left to be written.
+    ///
+    /// ```
+    /// # use masttomato::engine::*;
+    /// # use masttomato::{SpaceId, Value};
+    /// # use std::time::Duration;
+    /// # let [one, two] = [1, 2].map(|number| SpaceId::new(number).expect("1 to 32"));
+    /// # let now = Duration::ZERO;
+    /// # let mut engine = Engine::new(Settings::new(one, two), now)?;
+    /// engine.connected(two, Life(12), now)?;
+    /// engine.call(Ticket(1), two.agent(), 0, Value::Unit);
+    /// let _turn = engine.turn(now);
+    /// assert_eq!(engine.output(two).left().len(), 16 + 32 + 20);    // a record's head, a frame's header, an item
+    /// # Ok::<(), Box<dyn std::error::Error>>(())
+    /// ```
     pub fn left(&self) -> &[u8] {
         &self.bytes[self.written..]
     }
 
     /// Whether all of it was written.
+    ///
+    /// ```
+    /// # use masttomato::engine::*;
+    /// # use masttomato::{SpaceId, Value};
+    /// # use std::time::Duration;
+    /// # let [one, two] = [1, 2].map(|number| SpaceId::new(number).expect("1 to 32"));
+    /// # let now = Duration::ZERO;
+    /// # let mut engine = Engine::new(Settings::new(one, two), now)?;
+    /// engine.connected(two, Life(12), now)?;
+    /// let _turn = engine.turn(now);
+    /// assert!(engine.output(two).is_empty());
+    /// # Ok::<(), Box<dyn std::error::Error>>(())
+    /// ```
     pub fn is_empty(&self) -> bool {
         self.written == self.bytes.len()
     }
 
     /// So many more bytes were written, at most those that are left.
+    ///
+    /// ```
+    /// # use masttomato::engine::*;
+    /// # use masttomato::{SpaceId, Value};
+    /// # use std::time::Duration;
+    /// # let [one, two] = [1, 2].map(|number| SpaceId::new(number).expect("1 to 32"));
+    /// # let now = Duration::ZERO;
+    /// # let mut engine = Engine::new(Settings::new(one, two), now)?;
+    /// engine.connected(two, Life(12), now)?;
+    /// engine.call(Ticket(1), two.agent(), 0, Value::Unit);
+    /// let _turn = engine.turn(now);
+    /// engine.output(two).advance(60);
+    /// assert_eq!(engine.output(two).left().len(), 8);
+    /// # Ok::<(), Box<dyn std::error::Error>>(())
+    /// ```
     pub fn advance(&mut self, count: usize) {
         self.written = self.bytes.len().min(self.written + count);
         if self.is_empty() {

@@ -65,8 +65,23 @@ const MOST_UNANSWERED: u64 = 4_096;
 const LOOK: Duration = Duration::from_millis(500);
 /// So many ticks without progress close a session.
 const TICKS: u8 = 255;
+/// The limits of an engine's sessions.
+const LIMITS: Limits = Limits::new(64, TICKS).expect("these are limits");
 
 /// The program's own number of a call, by which it knows the answer again: see [`Engine::call`].
+///
+/// ```
+/// # use masttomato::engine::*;
+/// # use masttomato::{SpaceId, Value};
+/// # use std::time::Duration;
+/// # let [one, two] = [1, 2].map(|number| SpaceId::new(number).expect("1 to 32"));
+/// # let now = Duration::ZERO;
+/// # let mut engine = Engine::new(Settings::new(one, two), now)?;
+/// engine.connected(two, Life(12), now)?;
+/// engine.call(Ticket(700), two.agent(), 0, Value::Unit);
+/// assert_eq!(engine.number(Ticket(700)).map(|call| call.get()), Some(1));
+/// # Ok::<(), Box<dyn std::error::Error>>(())
+/// ```
 #[derive(Clone, Copy, Debug, PartialEq, Eq, Hash, PartialOrd, Ord)]
 pub struct Ticket(pub u64);
 
@@ -97,6 +112,18 @@ pub struct Settings {
 impl Settings {
     /// The usual settings of a space among those from 1 to `spaces`: give up after ten minutes, and
     /// 2,048 open calls.
+    ///
+    /// ```
+    /// # use masttomato::engine::*;
+    /// # use masttomato::{SpaceId, Value};
+    /// # use std::time::Duration;
+    /// # let [one, two] = [1, 2].map(|number| SpaceId::new(number).expect("1 to 32"));
+    /// # let now = Duration::ZERO;
+    /// # let mut engine = Engine::new(Settings::new(one, two), now)?;
+    /// let settings = Settings::new(one, two);
+    /// assert_eq!((settings.give_up_after, settings.open_calls), (Duration::from_secs(600), 2_048));
+    /// # Ok::<(), Box<dyn std::error::Error>>(())
+    /// ```
     pub fn new(space: SpaceId, spaces: SpaceId) -> Settings {
         let give_up_after = Duration::from_secs(600);
         Settings { space, spaces, give_up_after, open_calls: 2_048 }
@@ -105,6 +132,21 @@ impl Settings {
 
 /// How the session with a peer stands: see [`Node::session`](crate::Node::session) and
 /// [`Engine::session`].
+///
+/// ```
+/// # use masttomato::engine::*;
+/// # use masttomato::{SpaceId, Value};
+/// # use std::time::Duration;
+/// # let [one, two] = [1, 2].map(|number| SpaceId::new(number).expect("1 to 32"));
+/// # let now = Duration::ZERO;
+/// # let mut engine = Engine::new(Settings::new(one, two), now)?;
+/// assert_eq!(engine.session(two), Session::Down { since: now });
+/// engine.connected(two, Life(12), now)?;
+/// assert_eq!(engine.session(two), Session::Open);
+/// engine.close(two);
+/// assert_eq!(engine.session(two), Session::Closed(masttomato::Reason::Asked));
+/// # Ok::<(), Box<dyn std::error::Error>>(())
+/// ```
 #[derive(Clone, Copy, Debug, PartialEq, Eq)]
 #[non_exhaustive]
 pub enum Session {
@@ -122,6 +164,19 @@ pub enum Session {
 }
 
 /// What came of a call: see [`Engine::call`].
+///
+/// ```
+/// # use masttomato::engine::*;
+/// # use masttomato::{SpaceId, Value};
+/// # use std::time::Duration;
+/// # let [one, two] = [1, 2].map(|number| SpaceId::new(number).expect("1 to 32"));
+/// # let now = Duration::ZERO;
+/// # let mut engine = Engine::new(Settings::new(one, two), now)?;
+/// engine.close(two);
+/// engine.call(Ticket(1), two.agent(), 0, Value::Unit);
+/// assert_eq!(engine.turn(now).answers, [(Ticket(1), Answered::Down(two))]);
+/// # Ok::<(), Box<dyn std::error::Error>>(())
+/// ```
 #[derive(Clone, Debug, PartialEq, Eq)]
 #[non_exhaustive]
 pub enum Answered {
@@ -147,6 +202,18 @@ pub enum Answered {
 }
 
 /// What a peer did that no honest one does. Its connection is to be dropped. See [`Engine::bytes`].
+///
+/// ```
+/// # use masttomato::engine::*;
+/// # use masttomato::{SpaceId, Value};
+/// # use std::time::Duration;
+/// # let [one, two] = [1, 2].map(|number| SpaceId::new(number).expect("1 to 32"));
+/// # let now = Duration::ZERO;
+/// # let mut engine = Engine::new(Settings::new(one, two), now)?;
+/// engine.connected(two, Life(12), now)?;
+/// assert_eq!(engine.bytes(two, &[7; 16], now), Err(Misbehaved::NoRecord));
+/// # Ok::<(), Box<dyn std::error::Error>>(())
+/// ```
 #[derive(Clone, Copy, Debug, PartialEq, Eq, Hash)]
 #[non_exhaustive]
 pub enum Misbehaved {
@@ -180,6 +247,20 @@ impl fmt::Display for Misbehaved {
 impl std::error::Error for Misbehaved {}
 
 /// What a turn of an engine gave: see [`Engine::turn`].
+///
+/// ```
+/// # use masttomato::engine::*;
+/// # use masttomato::{SpaceId, Value};
+/// # use std::time::Duration;
+/// # let [one, two] = [1, 2].map(|number| SpaceId::new(number).expect("1 to 32"));
+/// # let now = Duration::ZERO;
+/// # let mut engine = Engine::new(Settings::new(one, two), now)?;
+/// engine.connected(two, Life(12), now)?;
+/// let turn = engine.turn(now);
+/// assert_eq!(turn.changes, [(two, Session::Open)]);
+/// assert!(turn.jobs.is_empty() && turn.answers.is_empty() && turn.next.is_some());
+/// # Ok::<(), Box<dyn std::error::Error>>(())
+/// ```
 #[derive(Debug, Default)]
 #[must_use]
 pub struct Turn {
@@ -320,14 +401,25 @@ impl fmt::Debug for Engine {
 impl Engine {
     /// An engine of a space that has done nothing.
     ///
+    /// ```
+    /// # use masttomato::engine::*;
+    /// # use masttomato::{SpaceId, Value};
+    /// # use std::time::Duration;
+    /// # let [one, two] = [1, 2].map(|number| SpaceId::new(number).expect("1 to 32"));
+    /// # let now = Duration::ZERO;
+    /// # let mut engine = Engine::new(Settings::new(one, two), now)?;
+    /// let engine = Engine::new(Settings { open_calls: 64, ..Settings::new(one, two) }, now)?;
+    /// assert_eq!(engine.peers().collect::<Vec<_>>(), [two]);
+    /// # Ok::<(), Box<dyn std::error::Error>>(())
+    /// ```
+    ///
     /// # Errors
     /// Where there is no memory for the space.
     ///
     /// # Panics
     /// Where its number is above the last one.
     pub fn new(settings: Settings, now: Duration) -> Result<Engine, SpaceError> {
-        let limits = Limits::new(64, TICKS).expect("these are limits");
-        let space = Space::new(settings.space, settings.spaces, limits)?;
+        let space = Space::new(settings.space, settings.spaces, LIMITS)?;
         let links = Links::new(space.peers(), now);
         Ok(Engine {
             settings,
@@ -352,37 +444,124 @@ impl Engine {
 
     /// From now on the entries of the space's trace go to a sink, each before the bytes leave that it
     /// tells of. It is to be asked for before anything else. See [`Files`].
+    ///
+    /// ```
+    /// # use masttomato::engine::*;
+    /// # use masttomato::{SpaceId, Value};
+    /// # use std::time::Duration;
+    /// # let [one, two] = [1, 2].map(|number| SpaceId::new(number).expect("1 to 32"));
+    /// # let now = Duration::ZERO;
+    /// # let mut engine = Engine::new(Settings::new(one, two), now)?;
+    /// engine.record(Box::new(|entries: &str| {
+    ///     print!("{entries}");
+    ///     Ok(())
+    /// }));
+    /// # Ok::<(), Box<dyn std::error::Error>>(())
+    /// ```
     pub fn record(&mut self, sink: Box<dyn TraceSink>) {
         self.space.keep_trace();
         self.sink = Some(sink);
     }
 
     /// The number of the space.
+    ///
+    /// ```
+    /// # use masttomato::engine::*;
+    /// # use masttomato::{SpaceId, Value};
+    /// # use std::time::Duration;
+    /// # let [one, two] = [1, 2].map(|number| SpaceId::new(number).expect("1 to 32"));
+    /// # let now = Duration::ZERO;
+    /// # let mut engine = Engine::new(Settings::new(one, two), now)?;
+    /// assert_eq!(engine.id(), one);
+    /// # Ok::<(), Box<dyn std::error::Error>>(())
+    /// ```
     pub fn id(&self) -> SpaceId {
         self.space.id()
     }
 
     /// How the session with a peer stands; that of a space which is no peer is closed.
+    ///
+    /// ```
+    /// # use masttomato::engine::*;
+    /// # use masttomato::{SpaceId, Value};
+    /// # use std::time::Duration;
+    /// # let [one, two] = [1, 2].map(|number| SpaceId::new(number).expect("1 to 32"));
+    /// # let now = Duration::ZERO;
+    /// # let mut engine = Engine::new(Settings::new(one, two), now)?;
+    /// assert_eq!(engine.session(two), Session::Down { since: now });
+    /// # Ok::<(), Box<dyn std::error::Error>>(())
+    /// ```
     pub fn session(&self, peer: SpaceId) -> Session {
         self.links.get(peer).map_or(Session::Closed(Reason::Asked), |link| link.session)
     }
 
     /// What was counted until now.
+    ///
+    /// ```
+    /// # use masttomato::engine::*;
+    /// # use masttomato::{SpaceId, Value};
+    /// # use std::time::Duration;
+    /// # let [one, two] = [1, 2].map(|number| SpaceId::new(number).expect("1 to 32"));
+    /// # let now = Duration::ZERO;
+    /// # let mut engine = Engine::new(Settings::new(one, two), now)?;
+    /// engine.connected(two, Life(12), now)?;
+    /// engine.call(Ticket(1), two.agent(), 0, Value::Unit);
+    /// assert_eq!((engine.counts().calls_made, engine.counts().calls_open), (1, 1));
+    /// # Ok::<(), Box<dyn std::error::Error>>(())
+    /// ```
     pub fn counts(&self) -> Counts {
         Counts { calls_open: self.calls.len() as u64, ..self.counts }
     }
 
     /// The number of the call of a ticket, once it was made and until it is answered.
+    ///
+    /// ```
+    /// # use masttomato::engine::*;
+    /// # use masttomato::{SpaceId, Value};
+    /// # use std::time::Duration;
+    /// # let [one, two] = [1, 2].map(|number| SpaceId::new(number).expect("1 to 32"));
+    /// # let now = Duration::ZERO;
+    /// # let mut engine = Engine::new(Settings::new(one, two), now)?;
+    /// engine.call(Ticket(1), two.agent(), 0, Value::Unit);
+    /// assert!(engine.number(Ticket(1)).is_some() && engine.number(Ticket(2)).is_none());
+    /// # Ok::<(), Box<dyn std::error::Error>>(())
+    /// ```
     pub fn number(&self, ticket: Ticket) -> Option<CallNo> {
         self.tickets.get(&ticket).copied().flatten()
     }
 
     /// The stamp of the last entry of the trace.
+    ///
+    /// ```
+    /// # use masttomato::engine::*;
+    /// # use masttomato::{SpaceId, Value};
+    /// # use std::time::Duration;
+    /// # let [one, two] = [1, 2].map(|number| SpaceId::new(number).expect("1 to 32"));
+    /// # let now = Duration::ZERO;
+    /// # let mut engine = Engine::new(Settings::new(one, two), now)?;
+    /// engine.record(Box::new(|_: &str| Ok(())));
+    /// engine.export()?;
+    /// assert_eq!(engine.stamp(), 1);
+    /// # Ok::<(), Box<dyn std::error::Error>>(())
+    /// ```
     pub fn stamp(&self) -> u64 {
         self.space.stamp()
     }
 
     /// A connection with a peer stands, over which nothing went yet but the hellos.
+    ///
+    /// ```
+    /// # use masttomato::engine::*;
+    /// # use masttomato::{SpaceId, Value};
+    /// # use std::time::Duration;
+    /// # let [one, two] = [1, 2].map(|number| SpaceId::new(number).expect("1 to 32"));
+    /// # let now = Duration::ZERO;
+    /// # let mut engine = Engine::new(Settings::new(one, two), now)?;
+    /// engine.connected(two, Life(12), now)?;
+    /// assert_eq!(engine.session(two), Session::Open);
+    /// assert_eq!(engine.connected(one, Life(12), now), Err(Why::OtherNumber));
+    /// # Ok::<(), Box<dyn std::error::Error>>(())
+    /// ```
     ///
     /// # Errors
     /// `NumberUsed` where another life has used the peer's number, `OtherNumber` where it is none.
@@ -401,6 +580,20 @@ impl Engine {
     }
 
     /// The connection with a peer is gone.
+    ///
+    /// ```
+    /// # use masttomato::engine::*;
+    /// # use masttomato::{SpaceId, Value};
+    /// # use std::time::Duration;
+    /// # let [one, two] = [1, 2].map(|number| SpaceId::new(number).expect("1 to 32"));
+    /// # let now = Duration::ZERO;
+    /// # let mut engine = Engine::new(Settings::new(one, two), now)?;
+    /// engine.connected(two, Life(12), now)?;
+    /// let later = now + Duration::from_secs(1);
+    /// engine.disconnected(two, later);
+    /// assert_eq!(engine.session(two), Session::Down { since: later });
+    /// # Ok::<(), Box<dyn std::error::Error>>(())
+    /// ```
     pub fn disconnected(&mut self, peer: SpaceId, now: Duration) {
         let Some(link) = self.links.get_mut(peer) else { return };
         if link.is_up {
@@ -412,6 +605,19 @@ impl Engine {
 
     /// A peer refused this node's hello, or the other way round. Where they were never connected, and
     /// another try would end the same, the session closes, and what waited for it ends.
+    ///
+    /// ```
+    /// # use masttomato::engine::*;
+    /// # use masttomato::{SpaceId, Value};
+    /// # use std::time::Duration;
+    /// # let [one, two] = [1, 2].map(|number| SpaceId::new(number).expect("1 to 32"));
+    /// # let now = Duration::ZERO;
+    /// # let mut engine = Engine::new(Settings::new(one, two), now)?;
+    /// engine.refused(two, Why::OtherWorld);
+    /// engine.call(Ticket(1), two.agent(), 0, Value::Unit);
+    /// assert_eq!(engine.turn(now).answers, [(Ticket(1), Answered::Refused(two, Why::OtherWorld))]);
+    /// # Ok::<(), Box<dyn std::error::Error>>(())
+    /// ```
     pub fn refused(&mut self, peer: SpaceId, why: Why) {
         let Some(link) = self.links.get_mut(peer) else { return };
         if link.is_up || matches!(link.session, Session::Closed(_)) || link.refused.is_some() {
@@ -430,6 +636,18 @@ impl Engine {
 
     /// A new object: its reference, once in the hand.
     ///
+    /// ```
+    /// # use masttomato::engine::*;
+    /// # use masttomato::{SpaceId, Value};
+    /// # use std::time::Duration;
+    /// # let [one, two] = [1, 2].map(|number| SpaceId::new(number).expect("1 to 32"));
+    /// # let now = Duration::ZERO;
+    /// # let mut engine = Engine::new(Settings::new(one, two), now)?;
+    /// let object = engine.export()?;
+    /// assert_eq!(object.to_string(), "1.1");
+    /// # Ok::<(), Box<dyn std::error::Error>>(())
+    /// ```
+    ///
     /// # Errors
     /// Where there are as many objects as there may be.
     pub fn export(&mut self) -> Result<Reference, SpaceError> {
@@ -438,6 +656,20 @@ impl Engine {
 
     /// One more hold of a reference.
     ///
+    /// ```
+    /// # use masttomato::engine::*;
+    /// # use masttomato::{SpaceId, Value};
+    /// # use std::time::Duration;
+    /// # let [one, two] = [1, 2].map(|number| SpaceId::new(number).expect("1 to 32"));
+    /// # let now = Duration::ZERO;
+    /// # let mut engine = Engine::new(Settings::new(one, two), now)?;
+    /// let object = engine.export()?;
+    /// engine.hold(object)?;
+    /// engine.release(object);
+    /// assert!(engine.turn(now).withdrawn.is_empty());              // it is held once still
+    /// # Ok::<(), Box<dyn std::error::Error>>(())
+    /// ```
+    ///
     /// # Errors
     /// Where it isn't held, or its owner has gone.
     pub fn hold(&mut self, reference: Reference) -> Result<(), SpaceError> {
@@ -445,6 +677,19 @@ impl Engine {
     }
 
     /// A hold is given back.
+    ///
+    /// ```
+    /// # use masttomato::engine::*;
+    /// # use masttomato::{SpaceId, Value};
+    /// # use std::time::Duration;
+    /// # let [one, two] = [1, 2].map(|number| SpaceId::new(number).expect("1 to 32"));
+    /// # let now = Duration::ZERO;
+    /// # let mut engine = Engine::new(Settings::new(one, two), now)?;
+    /// let object = engine.export()?;
+    /// engine.release(object);
+    /// assert_eq!(engine.turn(now).withdrawn, [object.index]);
+    /// # Ok::<(), Box<dyn std::error::Error>>(())
+    /// ```
     pub fn release(&mut self, reference: Reference) {
         self.is_stirred = true;
         if self.space.release(reference).is_err() {
@@ -455,6 +700,30 @@ impl Engine {
     /// Calls a method of another space's object, as soon as there is room for it. What comes of it is
     /// an answer of a later turn. What the value refers to and the target are held until this returns,
     /// and needn't be any longer.
+    ///
+    /// ```
+    /// # use masttomato::engine::*;
+    /// # use masttomato::space::{Outcome, Status};
+    /// # use masttomato::{SpaceId, Value};
+    /// # use std::time::Duration;
+    /// # fn carry(from: &mut Engine, to: &mut Engine) -> Vec<masttomato::space::Job> {
+    /// #     let (one, two, now) = (from.id(), to.id(), Duration::ZERO);
+    /// #     let _turn = from.turn(now);
+    /// #     to.bytes(one, from.output(two).left(), now).expect("an honest peer");
+    /// #     from.output(two).advance(usize::MAX);
+    /// #     to.turn(now).jobs
+    /// # }
+    /// # let [one, two] = [1, 2].map(|number| SpaceId::new(number).expect("1 to 32"));
+    /// # let now = Duration::ZERO;
+    /// # let mut owner = Engine::new(Settings::new(one, two), now)?;
+    /// # let mut caller = Engine::new(Settings::new(two, two), now)?;
+    /// # owner.connected(two, Life(12), now)?;
+    /// # caller.connected(one, Life(11), now)?;
+    /// caller.call(Ticket(7), one.agent(), 3, Value::Int(20));
+    /// let job = carry(&mut caller, &mut owner).remove(0);
+    /// assert_eq!((job.client, job.method, job.value), (two, 3, Value::Int(20)));
+    /// # Ok::<(), Box<dyn std::error::Error>>(())
+    /// ```
     pub fn call(&mut self, ticket: Ticket, target: Reference, method: u16, value: Value) {
         self.tickets.insert(ticket, None);
         let mut call = HeldCall { ticket, target, method, value, holds: Vec::new() };
@@ -470,6 +739,20 @@ impl Engine {
 
     /// Calls as [`Engine::call`] does, but only where there is room for it now; else what comes of it is
     /// [`Answered::Busy`].
+    ///
+    /// ```
+    /// # use masttomato::engine::*;
+    /// # use masttomato::{SpaceId, Value};
+    /// # use std::time::Duration;
+    /// # let [one, two] = [1, 2].map(|number| SpaceId::new(number).expect("1 to 32"));
+    /// # let now = Duration::ZERO;
+    /// # let mut engine = Engine::new(Settings::new(one, two), now)?;
+    /// let mut engine = Engine::new(Settings { open_calls: 1, ..Settings::new(one, two) }, now)?;
+    /// engine.try_call(Ticket(1), two.agent(), 0, Value::Unit);
+    /// engine.try_call(Ticket(2), two.agent(), 0, Value::Unit);
+    /// assert_eq!(engine.turn(now).answers, [(Ticket(2), Answered::Busy)]);
+    /// # Ok::<(), Box<dyn std::error::Error>>(())
+    /// ```
     pub fn try_call(&mut self, ticket: Ticket, target: Reference, method: u16, value: Value) {
         self.tickets.insert(ticket, None);
         if !self.make_now(&HeldCall { ticket, target, method, value, holds: Vec::new() }) {
@@ -544,6 +827,21 @@ impl Engine {
 
     /// Nobody waits for a call any more. One that wasn't made yet never is; the reply of another is
     /// taken when it comes, and what it brings is given back.
+    ///
+    /// ```
+    /// # use masttomato::engine::*;
+    /// # use masttomato::{SpaceId, Value};
+    /// # use std::time::Duration;
+    /// # let [one, two] = [1, 2].map(|number| SpaceId::new(number).expect("1 to 32"));
+    /// # let now = Duration::ZERO;
+    /// # let mut engine = Engine::new(Settings::new(one, two), now)?;
+    /// engine.call(Ticket(1), two.agent(), 0, Value::Unit);
+    /// engine.abandon(Ticket(1));
+    /// engine.close(two);
+    /// assert!(engine.turn(now).answers.is_empty());
+    /// assert_eq!(engine.counts().calls_abandoned, 1);
+    /// # Ok::<(), Box<dyn std::error::Error>>(())
+    /// ```
     pub fn abandon(&mut self, ticket: Ticket) {
         let Some(made) = self.tickets.remove(&ticket) else {
             return self.forget_answer(ticket);
@@ -577,6 +875,33 @@ impl Engine {
 
     /// A peer waits no more for a call that it made, or won't for one that waits to be claimed: whether that
     /// is still to be answered.
+    ///
+    /// ```
+    /// # use masttomato::engine::*;
+    /// # use masttomato::space::{Outcome, Status};
+    /// # use masttomato::{SpaceId, Value};
+    /// # use std::time::Duration;
+    /// # fn carry(from: &mut Engine, to: &mut Engine) -> Vec<masttomato::space::Job> {
+    /// #     let (one, two, now) = (from.id(), to.id(), Duration::ZERO);
+    /// #     let _turn = from.turn(now);
+    /// #     to.bytes(one, from.output(two).left(), now).expect("an honest peer");
+    /// #     from.output(two).advance(usize::MAX);
+    /// #     to.turn(now).jobs
+    /// # }
+    /// # let [one, two] = [1, 2].map(|number| SpaceId::new(number).expect("1 to 32"));
+    /// # let now = Duration::ZERO;
+    /// # let mut owner = Engine::new(Settings::new(one, two), now)?;
+    /// # let mut caller = Engine::new(Settings::new(two, two), now)?;
+    /// # owner.connected(two, Life(12), now)?;
+    /// # caller.connected(one, Life(11), now)?;
+    /// caller.call(Ticket(7), one.agent(), 0, Value::Unit);
+    /// let job = carry(&mut caller, &mut owner).remove(0);
+    /// assert!(owner.cancel(two, job.call) && owner.is_cancelled(two, job.call));
+    /// owner.finish(job.job, Outcome::NoMethod);
+    /// carry(&mut owner, &mut caller);
+    /// assert!(!owner.cancel(two, job.call));                       // it was answered
+    /// # Ok::<(), Box<dyn std::error::Error>>(())
+    /// ```
     pub fn cancel(&mut self, client: SpaceId, call: CallNo) -> bool {
         let link = self.links.get_mut(client);
         let cancelled = link.and_then(|link| link.asked.get_mut(&call.get()));
@@ -584,6 +909,30 @@ impl Engine {
     }
 
     /// Whether a call of a peer that is still to be answered was cancelled.
+    ///
+    /// ```
+    /// # use masttomato::engine::*;
+    /// # use masttomato::space::{Outcome, Status};
+    /// # use masttomato::{SpaceId, Value};
+    /// # use std::time::Duration;
+    /// # fn carry(from: &mut Engine, to: &mut Engine) -> Vec<masttomato::space::Job> {
+    /// #     let (one, two, now) = (from.id(), to.id(), Duration::ZERO);
+    /// #     let _turn = from.turn(now);
+    /// #     to.bytes(one, from.output(two).left(), now).expect("an honest peer");
+    /// #     from.output(two).advance(usize::MAX);
+    /// #     to.turn(now).jobs
+    /// # }
+    /// # let [one, two] = [1, 2].map(|number| SpaceId::new(number).expect("1 to 32"));
+    /// # let now = Duration::ZERO;
+    /// # let mut owner = Engine::new(Settings::new(one, two), now)?;
+    /// # let mut caller = Engine::new(Settings::new(two, two), now)?;
+    /// # owner.connected(two, Life(12), now)?;
+    /// # caller.connected(one, Life(11), now)?;
+    /// caller.call(Ticket(7), one.agent(), 0, Value::Unit);
+    /// let job = carry(&mut caller, &mut owner).remove(0);
+    /// assert!(!owner.is_cancelled(two, job.call));
+    /// # Ok::<(), Box<dyn std::error::Error>>(())
+    /// ```
     pub fn is_cancelled(&self, client: SpaceId, call: CallNo) -> bool {
         self.links.get(client).is_some_and(|link| link.asked.get(&call.get()) == Some(&true))
     }
@@ -591,6 +940,34 @@ impl Engine {
     /// A job's outcome goes to its client as soon as there is room for it. What it refers to is held
     /// until this returns, and needn't be any longer. An answer without a pickle becomes a fault of
     /// this value, and so does one that refers to what is lost.
+    ///
+    /// ```
+    /// # use masttomato::engine::*;
+    /// # use masttomato::space::{Outcome, Status};
+    /// # use masttomato::{SpaceId, Value};
+    /// # use std::time::Duration;
+    /// # fn carry(from: &mut Engine, to: &mut Engine) -> Vec<masttomato::space::Job> {
+    /// #     let (one, two, now) = (from.id(), to.id(), Duration::ZERO);
+    /// #     let _turn = from.turn(now);
+    /// #     to.bytes(one, from.output(two).left(), now).expect("an honest peer");
+    /// #     from.output(two).advance(usize::MAX);
+    /// #     to.turn(now).jobs
+    /// # }
+    /// # let [one, two] = [1, 2].map(|number| SpaceId::new(number).expect("1 to 32"));
+    /// # let now = Duration::ZERO;
+    /// # let mut owner = Engine::new(Settings::new(one, two), now)?;
+    /// # let mut caller = Engine::new(Settings::new(two, two), now)?;
+    /// # owner.connected(two, Life(12), now)?;
+    /// # caller.connected(one, Life(11), now)?;
+    /// caller.call(Ticket(7), one.agent(), 0, Value::Unit);
+    /// let job = carry(&mut caller, &mut owner).remove(0);
+    /// owner.finish(job.job, Outcome::Answer(Value::Int(42)));
+    /// let _turn = owner.turn(now);
+    /// caller.bytes(one, owner.output(two).left(), now)?;
+    /// let replied = Answered::Replied { status: Status::Answered, value: Value::Int(42) };
+    /// assert_eq!(caller.turn(now).answers, [(Ticket(7), replied)]);
+    /// # Ok::<(), Box<dyn std::error::Error>>(())
+    /// ```
     pub fn finish(&mut self, job: JobNo, outcome: Outcome) {
         let mut finish = HeldFinish { job, outcome, holds: Vec::new() };
         if self.try_finish(&finish) {
@@ -633,6 +1010,18 @@ impl Engine {
     }
 
     /// Closes the session with a peer.
+    ///
+    /// ```
+    /// # use masttomato::engine::*;
+    /// # use masttomato::{SpaceId, Value};
+    /// # use std::time::Duration;
+    /// # let [one, two] = [1, 2].map(|number| SpaceId::new(number).expect("1 to 32"));
+    /// # let now = Duration::ZERO;
+    /// # let mut engine = Engine::new(Settings::new(one, two), now)?;
+    /// engine.close(two);
+    /// assert_eq!(engine.session(two), Session::Closed(masttomato::Reason::Asked));
+    /// # Ok::<(), Box<dyn std::error::Error>>(())
+    /// ```
     pub fn close(&mut self, peer: SpaceId) {
         if let Ok(reason) = self.space.close(peer) {
             self.closed(peer, reason);
@@ -640,6 +1029,30 @@ impl Engine {
     }
 
     /// Closes all sessions, and says bye over each connection once what is due was written.
+    ///
+    /// ```
+    /// # use masttomato::engine::*;
+    /// # use masttomato::space::{Outcome, Status};
+    /// # use masttomato::{SpaceId, Value};
+    /// # use std::time::Duration;
+    /// # fn carry(from: &mut Engine, to: &mut Engine) -> Vec<masttomato::space::Job> {
+    /// #     let (one, two, now) = (from.id(), to.id(), Duration::ZERO);
+    /// #     let _turn = from.turn(now);
+    /// #     to.bytes(one, from.output(two).left(), now).expect("an honest peer");
+    /// #     from.output(two).advance(usize::MAX);
+    /// #     to.turn(now).jobs
+    /// # }
+    /// # let [one, two] = [1, 2].map(|number| SpaceId::new(number).expect("1 to 32"));
+    /// # let now = Duration::ZERO;
+    /// # let mut owner = Engine::new(Settings::new(one, two), now)?;
+    /// # let mut caller = Engine::new(Settings::new(two, two), now)?;
+    /// # owner.connected(two, Life(12), now)?;
+    /// # caller.connected(one, Life(11), now)?;
+    /// owner.close_all();
+    /// carry(&mut owner, &mut caller);
+    /// assert_eq!(caller.session(one), Session::Closed(masttomato::Reason::PeerClosed));
+    /// # Ok::<(), Box<dyn std::error::Error>>(())
+    /// ```
     pub fn close_all(&mut self) {
         for peer in self.space.peers() {
             self.close(peer);
@@ -650,6 +1063,31 @@ impl Engine {
     }
 
     /// Whether anything is still to be written, or acknowledged by a peer that is connected.
+    ///
+    /// ```
+    /// # use masttomato::engine::*;
+    /// # use masttomato::space::{Outcome, Status};
+    /// # use masttomato::{SpaceId, Value};
+    /// # use std::time::Duration;
+    /// # fn carry(from: &mut Engine, to: &mut Engine) -> Vec<masttomato::space::Job> {
+    /// #     let (one, two, now) = (from.id(), to.id(), Duration::ZERO);
+    /// #     let _turn = from.turn(now);
+    /// #     to.bytes(one, from.output(two).left(), now).expect("an honest peer");
+    /// #     from.output(two).advance(usize::MAX);
+    /// #     to.turn(now).jobs
+    /// # }
+    /// # let [one, two] = [1, 2].map(|number| SpaceId::new(number).expect("1 to 32"));
+    /// # let now = Duration::ZERO;
+    /// # let mut owner = Engine::new(Settings::new(one, two), now)?;
+    /// # let mut caller = Engine::new(Settings::new(two, two), now)?;
+    /// # owner.connected(two, Life(12), now)?;
+    /// # caller.connected(one, Life(11), now)?;
+    /// assert!(caller.is_settled());
+    /// caller.call(Ticket(7), one.agent(), 0, Value::Unit);
+    /// let _turn = caller.turn(now);
+    /// assert!(!caller.is_settled());
+    /// # Ok::<(), Box<dyn std::error::Error>>(())
+    /// ```
     pub fn is_settled(&self) -> bool {
         self.up.iter().filter_map(|peer| Some((peer, self.links.get(*peer)?))).all(
             |(peer, link)| {
@@ -664,6 +1102,21 @@ impl Engine {
     /// What is to be written to a peer: at most one record, and what goes with it. A turn fills it where
     /// it is empty.
     ///
+    /// ```
+    /// # use masttomato::engine::*;
+    /// # use masttomato::{SpaceId, Value};
+    /// # use std::time::Duration;
+    /// # let [one, two] = [1, 2].map(|number| SpaceId::new(number).expect("1 to 32"));
+    /// # let now = Duration::ZERO;
+    /// # let mut engine = Engine::new(Settings::new(one, two), now)?;
+    /// engine.connected(two, Life(12), now)?;
+    /// engine.call(Ticket(1), two.agent(), 0, Value::Unit);
+    /// let _turn = engine.turn(now);
+    /// let record = engine.output(two).left().to_vec();
+    /// assert!(!record.is_empty());
+    /// # Ok::<(), Box<dyn std::error::Error>>(())
+    /// ```
+    ///
     /// # Panics
     /// Where the space is none of the peers.
     pub fn output(&mut self, peer: SpaceId) -> &mut OutBuffer {
@@ -671,6 +1124,17 @@ impl Engine {
     }
 
     /// The peers, rising.
+    ///
+    /// ```
+    /// # use masttomato::engine::*;
+    /// # use masttomato::{SpaceId, Value};
+    /// # use std::time::Duration;
+    /// # let [one, two] = [1, 2].map(|number| SpaceId::new(number).expect("1 to 32"));
+    /// # let now = Duration::ZERO;
+    /// # let mut engine = Engine::new(Settings::new(one, two), now)?;
+    /// assert_eq!(engine.peers().collect::<Vec<_>>(), [two]);
+    /// # Ok::<(), Box<dyn std::error::Error>>(())
+    /// ```
     pub fn peers(&self) -> impl Iterator<Item = SpaceId> + use<> {
         self.space.peers()
     }

@@ -1,6 +1,6 @@
 //! Where the entries of a trace go.
 
-use crate::space::{Limits, SpaceId, Trace};
+use crate::space::{SpaceId, Trace};
 use std::fs::{self, File};
 use std::io::{self, Write};
 use std::path::{Path, PathBuf};
@@ -28,6 +28,20 @@ use std::path::{Path, PathBuf};
 pub trait TraceSink: Send {
     /// The next lines.
     ///
+    /// ```
+    /// use masttomato::engine::TraceSink;
+    /// use std::io::{self, Write};
+    ///
+    /// /// Writes the entries to standard output.
+    /// struct Shown;
+    ///
+    /// impl TraceSink for Shown {
+    ///     fn entries(&mut self, lines: &str) -> io::Result<()> {
+    ///         io::stdout().write_all(lines.as_bytes())
+    ///     }
+    /// }
+    /// ```
+    ///
     /// # Errors
     /// Where they can't be kept: then no more are given, and it is counted.
     fn entries(&mut self, lines: &str) -> io::Result<()>;
@@ -54,7 +68,7 @@ impl<F: FnMut(&str) -> io::Result<()> + Send> TraceSink for F {
 /// files.entries("1 export = exported 1.1\n")?;
 /// files.entries("2 dup 1.1 = o")?;
 /// let trace = Files::join(&folder, here, last)?;           // for `nobj check`
-/// assert_eq!(trace, "trace 1 of 2 window 64 retry 255 entries 1\n1 export = exported 1.1\n");
+/// assert_eq!(trace, "trace2 1 of 2 window 64 retry 255 entries 1\n1 export = exported 1.1\n");
 /// # std::fs::remove_dir_all(&folder)?;
 /// # Ok(())
 /// # }
@@ -70,12 +84,40 @@ pub struct Files {
 
 impl Files {
     /// Files of a space in a folder, each of which is left for the next one once it has this size.
+    ///
+    /// ```
+    /// # use masttomato::engine::*;
+    /// # use masttomato::{SpaceId, Value};
+    /// # use std::time::Duration;
+    /// # let [one, two] = [1, 2].map(|number| SpaceId::new(number).expect("1 to 32"));
+    /// # let now = Duration::ZERO;
+    /// # let mut engine = Engine::new(Settings::new(one, two), now)?;
+    /// engine.record(Box::new(Files::new("traces", one, 1 << 20)));      // traces/space-1.000001.entries, and so on
+    /// # Ok::<(), Box<dyn std::error::Error>>(())
+    /// ```
     pub fn new(folder: impl Into<PathBuf>, space: SpaceId, size: u64) -> Files {
         Files { folder: folder.into(), space, size, number: 0, open: None }
     }
 
     /// The trace that a space's files in a folder have together, for `nobj check`. A last line that
     /// isn't whole is left out.
+    ///
+    /// ```
+    /// use masttomato::SpaceId;
+    /// use masttomato::engine::Files;
+    /// use std::path::Path;
+    ///
+    /// // All traces of a folder, for `nobj check`.
+    /// fn traces(folder: &Path, last: SpaceId) -> std::io::Result<String> {
+    ///     last.up_to().map(|space| Files::join(folder, space, last)).collect()
+    /// }
+    /// # let last = SpaceId::new(2).expect("1 to 32");
+    /// # let empty = std::env::temp_dir().join(format!("masttomato-join-{}", std::process::id()));
+    /// # std::fs::create_dir_all(&empty)?;
+    /// assert_eq!(traces(&empty, last)?.lines().count(), 2);       // nothing was recorded there
+    /// # std::fs::remove_dir_all(&empty)?;
+    /// # Ok::<(), std::io::Error>(())
+    /// ```
     ///
     /// # Errors
     /// Where they can't be read.
@@ -93,9 +135,8 @@ impl Files {
         paths.sort();
         let text = paths.iter().map(fs::read_to_string).collect::<io::Result<String>>()?;
         let whole = &text[..text.rfind('\n').map_or(0, |end| end + 1)];
-        let limits = Limits::new(64, 255).expect("these are limits");
         let count = whole.lines().count() as u64;
-        Ok(Trace::first_line(space, spaces, limits, count) + whole)
+        Ok(Trace::first_line(space, spaces, super::LIMITS, count) + whole)
     }
 
     fn file(&mut self) -> io::Result<&mut (File, u64)> {

@@ -8,6 +8,20 @@ use std::time::Duration;
 impl Engine {
     /// Does all that there is to do, and fills each connection's output that is empty: `work`, then
     /// `fill`.
+    ///
+    /// ```
+    /// # use masttomato::engine::*;
+    /// # use masttomato::{SpaceId, Value};
+    /// # use std::time::Duration;
+    /// # let [one, two] = [1, 2].map(|number| SpaceId::new(number).expect("1 to 32"));
+    /// # let now = Duration::ZERO;
+    /// # let mut engine = Engine::new(Settings::new(one, two), now)?;
+    /// let object = engine.export()?;
+    /// engine.release(object);
+    /// let turn = engine.turn(now);
+    /// assert_eq!(turn.withdrawn, [object.index]);
+    /// # Ok::<(), Box<dyn std::error::Error>>(())
+    /// ```
     pub fn turn(&mut self, now: Duration) -> Turn {
         let mut turn = self.work(now);
         self.fill(now);
@@ -19,6 +33,35 @@ impl Engine {
 
     /// Does all that there is to do, but writes nothing. Whoever has short jobs ends them before `fill`, so
     /// that their replies go at once.
+    ///
+    /// ```
+    /// # use masttomato::engine::*;
+    /// # use masttomato::space::{Outcome, Status};
+    /// # use masttomato::{SpaceId, Value};
+    /// # use std::time::Duration;
+    /// # fn carry(from: &mut Engine, to: &mut Engine) -> Vec<masttomato::space::Job> {
+    /// #     let (one, two, now) = (from.id(), to.id(), Duration::ZERO);
+    /// #     let _turn = from.turn(now);
+    /// #     to.bytes(one, from.output(two).left(), now).expect("an honest peer");
+    /// #     from.output(two).advance(usize::MAX);
+    /// #     to.turn(now).jobs
+    /// # }
+    /// # let [one, two] = [1, 2].map(|number| SpaceId::new(number).expect("1 to 32"));
+    /// # let now = Duration::ZERO;
+    /// # let mut owner = Engine::new(Settings::new(one, two), now)?;
+    /// # let mut caller = Engine::new(Settings::new(two, two), now)?;
+    /// # owner.connected(two, Life(12), now)?;
+    /// # caller.connected(one, Life(11), now)?;
+    /// caller.call(Ticket(7), one.agent(), 0, Value::Unit);
+    /// let _turn = caller.turn(now);
+    /// owner.bytes(two, caller.output(one).left(), now)?;
+    /// for job in owner.work(now).jobs {
+    ///     owner.finish(job.job, Outcome::Answer(Value::Unit));
+    /// }
+    /// owner.fill(now);                                             // the answers go at once
+    /// assert!(!owner.output(two).is_empty());
+    /// # Ok::<(), Box<dyn std::error::Error>>(())
+    /// ```
     pub fn work(&mut self, now: Duration) -> Turn {
         if std::mem::take(&mut self.has_stuck) {
             for peer in self.peers.clone().iter() {
@@ -46,6 +89,30 @@ impl Engine {
     }
 
     /// From now on no job is claimed.
+    ///
+    /// ```
+    /// # use masttomato::engine::*;
+    /// # use masttomato::space::{Outcome, Status};
+    /// # use masttomato::{SpaceId, Value};
+    /// # use std::time::Duration;
+    /// # fn carry(from: &mut Engine, to: &mut Engine) -> Vec<masttomato::space::Job> {
+    /// #     let (one, two, now) = (from.id(), to.id(), Duration::ZERO);
+    /// #     let _turn = from.turn(now);
+    /// #     to.bytes(one, from.output(two).left(), now).expect("an honest peer");
+    /// #     from.output(two).advance(usize::MAX);
+    /// #     to.turn(now).jobs
+    /// # }
+    /// # let [one, two] = [1, 2].map(|number| SpaceId::new(number).expect("1 to 32"));
+    /// # let now = Duration::ZERO;
+    /// # let mut owner = Engine::new(Settings::new(one, two), now)?;
+    /// # let mut caller = Engine::new(Settings::new(two, two), now)?;
+    /// # owner.connected(two, Life(12), now)?;
+    /// # caller.connected(one, Life(11), now)?;
+    /// owner.claim_no_more();
+    /// caller.call(Ticket(7), one.agent(), 0, Value::Unit);
+    /// assert!(carry(&mut caller, &mut owner).is_empty());
+    /// # Ok::<(), Box<dyn std::error::Error>>(())
+    /// ```
     pub fn claim_no_more(&mut self) {
         self.claims = false;
     }

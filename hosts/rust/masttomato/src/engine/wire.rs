@@ -5,22 +5,61 @@ use crate::space::SpaceId;
 use std::fmt;
 
 /// How long a hello is.
+///
+/// ```
+/// # use masttomato::engine::*;
+/// # use masttomato::SpaceId;
+/// # let [one, two] = [1, 2].map(|number| SpaceId::new(number).expect("1 to 32"));
+/// # let world = World::named("shop");
+/// # let hello = Hello { space: one, spaces: two, world, life: Life(7), refused: None };
+/// assert_eq!(hello.to_bytes().len(), HELLO);
+/// # Ok::<(), Why>(())
+/// ```
 pub const HELLO: usize = 64;
 /// The head of a record.
 pub(crate) const HEAD: usize = 16;
 /// The header of a frame.
-const FRAME_HEADER: usize = 28;
+const FRAME_HEADER: usize = 32;
+/// The number of the session in which all ends are: none opens a session that closed again yet.
+pub(crate) const SESSION: u32 = 1;
 /// The longest body: as many frames as a peer may have to acknowledge, each as long as one can be.
-pub const LONGEST_BODY: usize = 64 * 16_412;
+///
+/// ```
+/// # use masttomato::engine::*;
+/// # use masttomato::SpaceId;
+/// assert_eq!(LONGEST_BODY, 64 * (32 + 16_384));
+/// ```
+pub const LONGEST_BODY: usize = 64 * 16_416;
 
 const MARK: [u8; 4] = *b"NOBN";
-const VERSION: u16 = 1;
+// The second, since frames have version 2: an end of the first would understand none of them.
+const VERSION: u16 = 2;
 
 /// A random number of one life of a process: a process that starts again has another one. See [`Hello`].
+///
+/// ```
+/// # use masttomato::engine::*;
+/// # use masttomato::{SpaceId, Value};
+/// # use std::time::Duration;
+/// # let [one, two] = [1, 2].map(|number| SpaceId::new(number).expect("1 to 32"));
+/// # let now = Duration::ZERO;
+/// # let mut engine = Engine::new(Settings::new(one, two), now)?;
+/// engine.connected(two, Life(12), now)?;
+/// engine.disconnected(two, now);
+/// engine.connected(two, Life(12), now)?;                       // the same process, over another connection
+/// assert_eq!(engine.connected(two, Life(13), now), Err(Why::NumberUsed));
+/// # Ok::<(), Box<dyn std::error::Error>>(())
+/// ```
 #[derive(Clone, Copy, Debug, PartialEq, Eq, Hash)]
 pub struct Life(pub u64);
 
 /// The name of a world, 16 bytes. Two worlds never mix.
+///
+/// ```
+/// # use masttomato::engine::*;
+/// # use masttomato::SpaceId;
+/// assert_eq!(World::default(), World::named(""));
+/// ```
 #[derive(Clone, Copy, Debug, Default, PartialEq, Eq, Hash)]
 pub struct World(pub [u8; 16]);
 
@@ -41,6 +80,18 @@ impl World {
 }
 
 /// Why a hello was refused: see [`Hello`].
+///
+/// ```
+/// # use masttomato::engine::*;
+/// # use masttomato::SpaceId;
+/// # let [one, two] = [1, 2].map(|number| SpaceId::new(number).expect("1 to 32"));
+/// # let world = World::named("shop");
+/// # let hello = Hello { space: one, spaces: two, world, life: Life(7), refused: None };
+/// let other = Hello { space: two, world: World::named("bank"), ..hello };
+/// let why = hello.judge(&other).unwrap_err();
+/// assert_eq!((why, why.to_string()), (Why::OtherWorld, "it is of another world".into()));
+/// # Ok::<(), Why>(())
+/// ```
 #[derive(Clone, Copy, Debug, PartialEq, Eq, Hash)]
 #[non_exhaustive]
 pub enum Why {
@@ -114,6 +165,16 @@ pub struct Hello {
 
 impl Hello {
     /// The bytes that spell it.
+    ///
+    /// ```
+    /// # use masttomato::engine::*;
+    /// # use masttomato::SpaceId;
+    /// # let [one, two] = [1, 2].map(|number| SpaceId::new(number).expect("1 to 32"));
+    /// # let world = World::named("shop");
+    /// # let hello = Hello { space: one, spaces: two, world, life: Life(7), refused: None };
+    /// assert!(hello.to_bytes().starts_with(b"NOBN"));
+    /// # Ok::<(), Why>(())
+    /// ```
     pub fn to_bytes(&self) -> [u8; HELLO] {
         let mut bytes = [0; HELLO];
         let mut put =
@@ -129,6 +190,17 @@ impl Hello {
     }
 
     /// The hello that these bytes spell.
+    ///
+    /// ```
+    /// # use masttomato::engine::*;
+    /// # use masttomato::SpaceId;
+    /// # let [one, two] = [1, 2].map(|number| SpaceId::new(number).expect("1 to 32"));
+    /// # let world = World::named("shop");
+    /// # let hello = Hello { space: one, spaces: two, world, life: Life(7), refused: None };
+    /// assert_eq!(Hello::from_bytes(&hello.to_bytes())?, hello);
+    /// assert_eq!(Hello::from_bytes(&[0; HELLO]), Err(Why::NoHello));
+    /// # Ok::<(), Why>(())
+    /// ```
     ///
     /// # Errors
     /// `NoHello` where they spell none.
@@ -149,6 +221,17 @@ impl Hello {
     }
 
     /// Whether a peer's hello goes with this one.
+    ///
+    /// ```
+    /// # use masttomato::engine::*;
+    /// # use masttomato::SpaceId;
+    /// # let [one, two] = [1, 2].map(|number| SpaceId::new(number).expect("1 to 32"));
+    /// # let world = World::named("shop");
+    /// # let hello = Hello { space: one, spaces: two, world, life: Life(7), refused: None };
+    /// hello.judge(&Hello { space: two, life: Life(8), ..hello })?;
+    /// assert_eq!(hello.judge(&hello), Err(Why::OtherNumber));
+    /// # Ok::<(), Why>(())
+    /// ```
     ///
     /// # Errors
     /// Why it doesn't.
@@ -242,6 +325,11 @@ impl Seen<'_> {
         self.bytes[2] == 1
     }
 
+    /// Whether its sender's end was in the session in which all ends are.
+    pub(crate) fn is_of_this_session(&self) -> bool {
+        self.bytes[28..FRAME_HEADER] == SESSION.to_be_bytes()
+    }
+
     pub(crate) fn seq(&self) -> u64 {
         self.u64_at(8)
     }
@@ -286,8 +374,8 @@ mod tests {
 
     // A Clean of 5 from one space to another.
     fn frame(from: u8, to: u8) -> Vec<u8> {
-        let mut bytes = vec![0x4e, 1, 1, 0, 0, from, 0, to];
-        bytes.extend([0, 0, 0, 0, 0, 0, 0, 1, 0, 0, 0, 0, 0, 0, 0, 1, 0, 0, 0, 9]);
+        let mut bytes = vec![0x4e, 2, 1, 0, 0, from, 0, to];
+        bytes.extend([0, 0, 0, 0, 0, 0, 0, 1, 0, 0, 0, 0, 0, 0, 0, 1, 0, 0, 0, 9, 0, 0, 0, 1]);
         bytes.extend([7, 0, 0, 0, 0, 0, 0, 0, 5]);
         bytes
     }
@@ -297,7 +385,7 @@ mod tests {
         let two = [frame(2, 1), frame(2, 1)].concat();
         assert_eq!(check_frames(&two, id(2), id(1)), Ok(()));
         assert_eq!(check_frames(&[], id(2), id(1)), Ok(()));
-        assert_eq!(frames_of(&two).map(|seen| seen.bytes.len()).collect::<Vec<_>>(), [37, 37]);
+        assert_eq!(frames_of(&two).map(|seen| seen.bytes.len()).collect::<Vec<_>>(), [41, 41]);
     }
 
     #[test]
@@ -311,7 +399,7 @@ mod tests {
     #[test]
     fn a_record_that_cuts_a_frame_is_refused_wherever_it_is_cut() {
         let two = [frame(2, 1), frame(2, 1)].concat();
-        for end in (1..two.len()).filter(|end| *end != 37) {
+        for end in (1..two.len()).filter(|end| *end != 41) {
             assert_eq!(check_frames(&two[..end], id(2), id(1)), Err(Misbehaved::CutFrame), "{end}");
         }
     }
@@ -337,8 +425,8 @@ mod tests {
     #[test]
     fn only_heads_of_records_are_taken() {
         let mut bytes = Vec::new();
-        put_head(&mut bytes, Kind::Frames, 7, 37);
-        assert_eq!(head_of(&bytes), Ok(Some((Kind::Frames, 7, 37))));
+        put_head(&mut bytes, Kind::Frames, 7, 41);
+        assert_eq!(head_of(&bytes), Ok(Some((Kind::Frames, 7, 41))));
         assert_eq!(head_of(&bytes[..15]), Ok(None));
         for (place, byte) in [(4, 4), (5, 1), (7, 1)] {
             let mut other = bytes.clone();

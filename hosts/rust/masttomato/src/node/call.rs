@@ -19,6 +19,20 @@ use std::time::{Duration, Instant};
 
 /// A fault that a node answered in a method's place, or that a method of another kind of program did. What a
 /// method itself has to say of its failing is in its answer, a `Result`.
+///
+/// ```
+/// # use masttomato::*;
+/// # #[interface]
+/// # pub trait Bell { fn ring(&mut self) -> String; }
+/// # struct Brass;
+/// # impl Bell for Brass { fn ring(&mut self) -> String { "ding".into() } }
+/// # let [one, two] = [1, 2].map(|number| SpaceId::new(number).expect("1 to 32"));
+/// # let node = Node::builder(one, Peers::none()).spaces(two).start()?;
+/// let missing = node.lookup::<dyn Bell>(one, "bell").wait();
+/// assert_eq!(missing.unwrap_err(), CallError::Fault(Fault::NoName));
+/// assert_eq!(Fault::NoName.to_string(), "no object has that name");
+/// # Ok::<(), Box<dyn std::error::Error>>(())
+/// ```
 #[derive(Clone, Debug, PartialEq, Eq)]
 #[non_exhaustive]
 pub enum Fault {
@@ -300,6 +314,19 @@ impl<T> Call<T> {
     }
 
     /// Nobody wants the answer, or the call itself, any more: [`or_cancel`](Call::or_cancel), and dropped.
+    ///
+    /// ```
+    /// # use masttomato::*;
+    /// # #[interface]
+    /// # pub trait Bell { fn ring(&mut self) -> String; }
+    /// # struct Brass;
+    /// # impl Bell for Brass { fn ring(&mut self) -> String { "ding".into() } }
+    /// # let [one, two] = [1, 2].map(|number| SpaceId::new(number).expect("1 to 32"));
+    /// # let node = Node::builder(one, Peers::none()).spaces(two).start()?;
+    /// let bell = node.export::<dyn Bell>(Box::new(Brass))?;
+    /// bell.ring().cancel();
+    /// # Ok::<(), Box<dyn std::error::Error>>(())
+    /// ```
     pub fn cancel(self) {
         drop(self.or_cancel());
     }
@@ -307,6 +334,20 @@ impl<T> Call<T> {
 
 impl<T: Pass> Call<T> {
     /// Waits for the answer.
+    ///
+    /// ```
+    /// # use masttomato::*;
+    /// # #[interface]
+    /// # pub trait Bell { fn ring(&mut self) -> String; }
+    /// # struct Brass;
+    /// # impl Bell for Brass { fn ring(&mut self) -> String { "ding".into() } }
+    /// # let [one, two] = [1, 2].map(|number| SpaceId::new(number).expect("1 to 32"));
+    /// # let node = Node::builder(one, Peers::none()).spaces(two).start()?;
+    /// let bell = node.export::<dyn Bell>(Box::new(Brass))?;
+    /// let [first, second] = [bell.ring(), bell.ring()];          // both are on their way
+    /// assert_eq!((first.wait()?, second.wait()?), ("ding".into(), "ding".into()));
+    /// # Ok::<(), Box<dyn std::error::Error>>(())
+    /// ```
     ///
     /// # Errors
     /// Why there is none.

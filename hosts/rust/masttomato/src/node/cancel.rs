@@ -30,6 +30,23 @@ impl Cancel {
 }
 
 /// What is ready once its call is cancelled: see [`Context::cancelled`](crate::Context::cancelled).
+///
+/// ```
+/// # use masttomato::{Context, interface};
+/// #[interface]
+/// pub trait Kiln {
+///     /// Burns until nobody wants that any more.
+///     async fn burn(&mut self, context: &Context);
+/// }
+///
+/// struct Brick;
+///
+/// impl Kiln for Brick {
+///     async fn burn(&mut self, context: &Context) {
+///         context.cancelled().await;
+///     }
+/// }
+/// ```
 #[derive(Debug)]
 #[must_use = "a future does nothing until it is awaited"]
 pub struct Cancelled<'a>(pub(super) &'a Cancel);

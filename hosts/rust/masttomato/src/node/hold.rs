@@ -116,11 +116,37 @@ impl<I: ?Sized> Remote<I> {
     }
 
     /// The space whose object it is.
+    ///
+    /// ```
+    /// # use masttomato::*;
+    /// # #[interface]
+    /// # pub trait Bell { fn ring(&mut self) -> String; }
+    /// # struct Brass;
+    /// # impl Bell for Brass { fn ring(&mut self) -> String { "ding".into() } }
+    /// # let [one, two] = [1, 2].map(|number| SpaceId::new(number).expect("1 to 32"));
+    /// # let node = Node::builder(one, Peers::none()).spaces(two).start()?;
+    /// let bell = node.export::<dyn Bell>(Box::new(Brass))?;
+    /// assert_eq!(bell.owner(), node.id());
+    /// # Ok::<(), Box<dyn std::error::Error>>(())
+    /// ```
     pub fn owner(&self) -> SpaceId {
         self.hold.reference.owner
     }
 
     /// Whether the object is this node's own.
+    ///
+    /// ```
+    /// # use masttomato::*;
+    /// # #[interface]
+    /// # pub trait Bell { fn ring(&mut self) -> String; }
+    /// # struct Brass;
+    /// # impl Bell for Brass { fn ring(&mut self) -> String { "ding".into() } }
+    /// # let [one, two] = [1, 2].map(|number| SpaceId::new(number).expect("1 to 32"));
+    /// # let node = Node::builder(one, Peers::none()).spaces(two).start()?;
+    /// let bell = node.export::<dyn Bell>(Box::new(Brass))?;
+    /// assert!(bell.is_mine());
+    /// # Ok::<(), Box<dyn std::error::Error>>(())
+    /// ```
     pub fn is_mine(&self) -> bool {
         self.owner() == self.hold.shared.id()
     }

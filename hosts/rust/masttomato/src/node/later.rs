@@ -36,6 +36,21 @@ use std::task::{Context, Poll, Wake, Waker};
 pub trait Spawn: Send + Sync + 'static {
     /// Runs a future to its end, on any thread; it is called on the node's own, which it mustn't hold up. Of
     /// one that is dropped before its end the object is gone: it is as if its method had panicked.
+    ///
+    /// ```
+    /// use masttomato::Spawn;
+    /// use std::pin::Pin;
+    ///
+    /// /// Runs each future by a thread of its own.
+    /// struct Threads;
+    ///
+    /// impl Spawn for Threads {
+    ///     fn spawn(&self, future: Pin<Box<dyn Future<Output = ()> + Send>>) {
+    ///         let _thread = std::thread::spawn(|| my_executor::block_on(future));
+    ///     }
+    /// }
+    /// # mod my_executor { pub fn block_on(future: impl Future) { drop(future) } }
+    /// ```
     fn spawn(&self, future: Pin<Box<dyn Future<Output = ()> + Send>>);
 }
 

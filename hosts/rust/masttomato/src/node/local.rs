@@ -64,16 +64,55 @@ impl LocalNode {
     }
 
     /// The number of its space.
+    ///
+    /// ```
+    /// # use masttomato::*;
+    /// # #[interface]
+    /// # pub trait Bell { fn ring(&mut self) -> String; }
+    /// # struct Brass;
+    /// # impl Bell for Brass { fn ring(&mut self) -> String { "ding".into() } }
+    /// # let [one, two] = [1, 2].map(|number| SpaceId::new(number).expect("1 to 32"));
+    /// # let node = Node::builder(one, Peers::none()).spaces(two).start_local()?;
+    /// assert_eq!(node.id(), one);
+    /// # Ok::<(), Box<dyn std::error::Error>>(())
+    /// ```
     pub fn id(&self) -> SpaceId {
         self.shared.id()
     }
 
     /// Where it listens.
+    ///
+    /// ```
+    /// # use masttomato::*;
+    /// # #[interface]
+    /// # pub trait Bell { fn ring(&mut self) -> String; }
+    /// # struct Brass;
+    /// # impl Bell for Brass { fn ring(&mut self) -> String { "ding".into() } }
+    /// # let [one, two] = [1, 2].map(|number| SpaceId::new(number).expect("1 to 32"));
+    /// # let node = Node::builder(one, Peers::none()).spaces(two).start_local()?;
+    /// assert_eq!(node.address(), None);
+    /// let node = Node::builder(one, Peers::none()).listen("127.0.0.1:0").start_local()?;
+    /// assert!(node.address().is_some());
+    /// # Ok::<(), Box<dyn std::error::Error>>(())
+    /// ```
     pub fn address(&self) -> Option<SocketAddr> {
         self.address
     }
 
     /// Makes an object known: a reference to it.
+    ///
+    /// ```
+    /// # use masttomato::*;
+    /// # #[interface]
+    /// # pub trait Bell { fn ring(&mut self) -> String; }
+    /// # struct Brass;
+    /// # impl Bell for Brass { fn ring(&mut self) -> String { "ding".into() } }
+    /// # let [one, two] = [1, 2].map(|number| SpaceId::new(number).expect("1 to 32"));
+    /// # let node = Node::builder(one, Peers::none()).spaces(two).start_local()?;
+    /// let bell = node.export::<dyn Bell>(Box::new(Brass))?;
+    /// assert_eq!(bell.ring().wait()?, "ding");
+    /// # Ok::<(), Box<dyn std::error::Error>>(())
+    /// ```
     ///
     /// # Errors
     /// Where there are as many objects as there may be.
@@ -83,6 +122,19 @@ impl LocalNode {
 
     /// Makes an object known by a name, as [`Node::bind`](super::Node::bind).
     ///
+    /// ```
+    /// # use masttomato::*;
+    /// # #[interface]
+    /// # pub trait Bell { fn ring(&mut self) -> String; }
+    /// # struct Brass;
+    /// # impl Bell for Brass { fn ring(&mut self) -> String { "ding".into() } }
+    /// # let [one, two] = [1, 2].map(|number| SpaceId::new(number).expect("1 to 32"));
+    /// # let node = Node::builder(one, Peers::none()).spaces(two).start_local()?;
+    /// node.bind("bell", &node.export::<dyn Bell>(Box::new(Brass))?)?;
+    /// assert_eq!(node.lookup::<dyn Bell>(one, "bell").wait()?.ring().wait()?, "ding");
+    /// # Ok::<(), Box<dyn std::error::Error>>(())
+    /// ```
+    ///
     /// # Errors
     /// Where it is no name, or there are too many; where the reference is another node's.
     pub fn bind<I: ?Sized>(&self, name: &str, object: &Remote<I>) -> Result<(), NodeError> {
@@ -90,31 +142,106 @@ impl LocalNode {
     }
 
     /// Whether the name was bound. It isn't any more.
+    ///
+    /// ```
+    /// # use masttomato::*;
+    /// # #[interface]
+    /// # pub trait Bell { fn ring(&mut self) -> String; }
+    /// # struct Brass;
+    /// # impl Bell for Brass { fn ring(&mut self) -> String { "ding".into() } }
+    /// # let [one, two] = [1, 2].map(|number| SpaceId::new(number).expect("1 to 32"));
+    /// # let node = Node::builder(one, Peers::none()).spaces(two).start_local()?;
+    /// node.bind("bell", &node.export::<dyn Bell>(Box::new(Brass))?)?;
+    /// assert!(node.unbind("bell") && !node.unbind("bell"));
+    /// # Ok::<(), Box<dyn std::error::Error>>(())
+    /// ```
     pub fn unbind(&self, name: &str) -> bool {
         super::unbind(&self.shared, name)
     }
 
     /// Asks a space for the object of a name, as [`Node::lookup`](super::Node::lookup).
+    ///
+    /// ```
+    /// # use masttomato::*;
+    /// # #[interface]
+    /// # pub trait Bell { fn ring(&mut self) -> String; }
+    /// # struct Brass;
+    /// # impl Bell for Brass { fn ring(&mut self) -> String { "ding".into() } }
+    /// # let [one, two] = [1, 2].map(|number| SpaceId::new(number).expect("1 to 32"));
+    /// # let node = Node::builder(one, Peers::none()).spaces(two).start_local()?;
+    /// let missing = node.lookup::<dyn Bell>(one, "bell").wait();
+    /// assert_eq!(missing.unwrap_err(), CallError::Fault(Fault::NoName));
+    /// # Ok::<(), Box<dyn std::error::Error>>(())
+    /// ```
     pub fn lookup<I: Interface + ?Sized>(&self, peer: SpaceId, name: &str) -> Call<Remote<I>> {
         super::lookup(&self.shared, peer, name)
     }
 
     /// How the session with a peer stands.
+    ///
+    /// ```
+    /// # use masttomato::*;
+    /// # #[interface]
+    /// # pub trait Bell { fn ring(&mut self) -> String; }
+    /// # struct Brass;
+    /// # impl Bell for Brass { fn ring(&mut self) -> String { "ding".into() } }
+    /// # let [one, two] = [1, 2].map(|number| SpaceId::new(number).expect("1 to 32"));
+    /// # let node = Node::builder(one, Peers::none()).spaces(two).start_local()?;
+    /// assert!(matches!(node.session(two), Session::Down { .. }));
+    /// # Ok::<(), Box<dyn std::error::Error>>(())
+    /// ```
     pub fn session(&self, peer: SpaceId) -> Session {
         self.driver.ask(|core| core.engine.session(peer))
     }
 
     /// How sessions change from now on.
+    ///
+    /// ```
+    /// # use masttomato::*;
+    /// # #[interface]
+    /// # pub trait Bell { fn ring(&mut self) -> String; }
+    /// # struct Brass;
+    /// # impl Bell for Brass { fn ring(&mut self) -> String { "ding".into() } }
+    /// # let [one, two] = [1, 2].map(|number| SpaceId::new(number).expect("1 to 32"));
+    /// # let node = Node::builder(one, Peers::none()).spaces(two).start_local()?;
+    /// let changes = node.changes();
+    /// assert_eq!(changes.try_next(), None);
+    /// # Ok::<(), Box<dyn std::error::Error>>(())
+    /// ```
     pub fn changes(&self) -> Changes {
         self.driver.ask(super::Core::watch)
     }
 
     /// What was counted.
+    ///
+    /// ```
+    /// # use masttomato::*;
+    /// # #[interface]
+    /// # pub trait Bell { fn ring(&mut self) -> String; }
+    /// # struct Brass;
+    /// # impl Bell for Brass { fn ring(&mut self) -> String { "ding".into() } }
+    /// # let [one, two] = [1, 2].map(|number| SpaceId::new(number).expect("1 to 32"));
+    /// # let node = Node::builder(one, Peers::none()).spaces(two).start_local()?;
+    /// assert_eq!(node.counts().calls_open, 0);
+    /// # Ok::<(), Box<dyn std::error::Error>>(())
+    /// ```
     pub fn counts(&self) -> Counts {
         self.driver.ask(|core| core.engine.counts())
     }
 
     /// Turns the node for so long.
+    ///
+    /// ```
+    /// # use masttomato::*;
+    /// # #[interface]
+    /// # pub trait Bell { fn ring(&mut self) -> String; }
+    /// # struct Brass;
+    /// # impl Bell for Brass { fn ring(&mut self) -> String { "ding".into() } }
+    /// # let [one, two] = [1, 2].map(|number| SpaceId::new(number).expect("1 to 32"));
+    /// # let node = Node::builder(one, Peers::none()).spaces(two).start_local()?;
+    /// node.run_for(std::time::Duration::from_millis(1));
+    /// # Ok::<(), Box<dyn std::error::Error>>(())
+    /// ```
     pub fn run_for(&self, time: Duration) {
         self.driver.turn_until(Instant::now().checked_add(time), || None::<()>);
     }
@@ -139,6 +266,20 @@ impl LocalNode {
     }
 
     /// Turns the node until a future is ready.
+    ///
+    /// ```
+    /// # use masttomato::*;
+    /// # #[interface]
+    /// # pub trait Bell { fn ring(&mut self) -> String; }
+    /// # struct Brass;
+    /// # impl Bell for Brass { fn ring(&mut self) -> String { "ding".into() } }
+    /// # let [one, two] = [1, 2].map(|number| SpaceId::new(number).expect("1 to 32"));
+    /// # let node = Node::builder(one, Peers::none()).spaces(two).start_local()?;
+    /// let bell = node.export::<dyn Bell>(Box::new(Brass))?;
+    /// let rung = node.block_on(async { Ok::<_, CallError>((bell.ring().await?, bell.ring().await?)) })?;
+    /// assert_eq!(rung, ("ding".into(), "ding".into()));
+    /// # Ok::<(), Box<dyn std::error::Error>>(())
+    /// ```
     pub fn block_on<F: Future>(&self, future: F) -> F::Output {
         let mut future = pin!(future);
         let waker = Waker::from(Arc::new(Nobody));
@@ -155,6 +296,18 @@ impl LocalNode {
     }
 
     /// Shuts the node down, in so long at most: peers are told.
+    ///
+    /// ```
+    /// # use masttomato::*;
+    /// # #[interface]
+    /// # pub trait Bell { fn ring(&mut self) -> String; }
+    /// # struct Brass;
+    /// # impl Bell for Brass { fn ring(&mut self) -> String { "ding".into() } }
+    /// # let [one, two] = [1, 2].map(|number| SpaceId::new(number).expect("1 to 32"));
+    /// # let node = Node::builder(one, Peers::none()).spaces(two).start_local()?;
+    /// assert!(node.shutdown(std::time::Duration::from_secs(5)).told);
+    /// # Ok::<(), Box<dyn std::error::Error>>(())
+    /// ```
     pub fn shutdown(self, limit: Duration) -> Shutdown {
         let (still_running, told) = self.driver.end(Instant::now() + limit);
         Shutdown { still_running, told }

@@ -39,6 +39,20 @@ use std::time::{Duration, Instant};
 use std::{io, thread};
 
 /// Where an object's methods run: see [`Node::export_with`].
+///
+/// ```
+/// # use masttomato::*;
+/// # #[interface]
+/// # pub trait Bell { fn ring(&mut self) -> String; }
+/// # struct Brass;
+/// # impl Bell for Brass { fn ring(&mut self) -> String { "ding".into() } }
+/// # let [one, two] = [1, 2].map(|number| SpaceId::new(number).expect("1 to 32"));
+/// # let node = Node::builder(one, Peers::none()).spaces(two).start()?;
+/// let sooner = node.export_with::<dyn Bell>(Box::new(Brass), Run::Inline)?;
+/// let may_block = node.export_with::<dyn Bell>(Box::new(Brass), Run::Pool)?;
+/// assert_eq!((sooner.ring().wait()?, may_block.ring().wait()?), ("ding".into(), "ding".into()));
+/// # Ok::<(), Box<dyn std::error::Error>>(())
+/// ```
 #[derive(Clone, Copy, Debug, Default, PartialEq, Eq)]
 #[non_exhaustive]
 pub enum Run {
@@ -141,11 +155,42 @@ impl Changes {
     }
 
     /// The next one, if it is there.
+    ///
+    /// ```
+    /// # use masttomato::*;
+    /// # #[interface]
+    /// # pub trait Bell { fn ring(&mut self) -> String; }
+    /// # struct Brass;
+    /// # impl Bell for Brass { fn ring(&mut self) -> String { "ding".into() } }
+    /// # let [one, two] = [1, 2].map(|number| SpaceId::new(number).expect("1 to 32"));
+    /// # let node = Node::builder(one, Peers::none()).spaces(two).start()?;
+    /// let changes = node.changes()?;
+    /// assert_eq!(changes.try_next(), None);
+    /// node.close(two);
+    /// # let closed = Session::Closed(Reason::Asked);
+    /// assert_eq!(changes.next_within(std::time::Duration::from_secs(60)), Some((two, closed)));
+    /// # Ok::<(), Box<dyn std::error::Error>>(())
+    /// ```
     pub fn try_next(&self) -> Option<(SpaceId, Session)> {
         self.0.try_recv().ok()
     }
 
     /// The next one within so long.
+    ///
+    /// ```
+    /// # use masttomato::*;
+    /// # #[interface]
+    /// # pub trait Bell { fn ring(&mut self) -> String; }
+    /// # struct Brass;
+    /// # impl Bell for Brass { fn ring(&mut self) -> String { "ding".into() } }
+    /// # let [one, two] = [1, 2].map(|number| SpaceId::new(number).expect("1 to 32"));
+    /// # let node = Node::builder(one, Peers::none()).spaces(two).start()?;
+    /// let changes = node.changes()?;
+    /// node.close(two);
+    /// let change = changes.next_within(std::time::Duration::from_secs(60));
+    /// assert_eq!(change, Some((two, Session::Closed(Reason::Asked))));
+    /// # Ok::<(), Box<dyn std::error::Error>>(())
+    /// ```
     pub fn next_within(&self, limit: Duration) -> Option<(SpaceId, Session)> {
         self.0.recv_timeout(limit).ok()
     }
@@ -191,11 +236,49 @@ impl Context {
     }
 
     /// The space that calls.
+    ///
+    /// ```
+    /// # use masttomato::*;
+    /// #[interface]
+    /// pub trait Door {
+    ///     fn knock(&mut self, context: &Context) -> u16;
+    /// }
+    ///
+    /// struct Oak;
+    ///
+    /// impl Door for Oak {
+    ///     fn knock(&mut self, context: &Context) -> u16 {
+    ///         context.caller().get()
+    ///     }
+    /// }
+    /// # let node = Node::builder(SpaceId::new(1).expect("1 to 32"), Peers::none()).start()?;
+    /// assert_eq!(node.export::<dyn Door>(Box::new(Oak))?.knock().wait()?, 1);
+    /// # Ok::<(), Box<dyn std::error::Error>>(())
+    /// ```
     pub fn caller(&self) -> SpaceId {
         self.caller
     }
 
     /// The space of this node.
+    ///
+    /// ```
+    /// # use masttomato::*;
+    /// #[interface]
+    /// pub trait Door {
+    ///     fn is_called_from_inside(&mut self, context: &Context) -> bool;
+    /// }
+    ///
+    /// struct Oak;
+    ///
+    /// impl Door for Oak {
+    ///     fn is_called_from_inside(&mut self, context: &Context) -> bool {
+    ///         context.caller() == context.here()
+    ///     }
+    /// }
+    /// # let node = Node::builder(SpaceId::new(1).expect("1 to 32"), Peers::none()).start()?;
+    /// assert!(node.export::<dyn Door>(Box::new(Oak))?.is_called_from_inside().wait()?);
+    /// # Ok::<(), Box<dyn std::error::Error>>(())
+    /// ```
     pub fn here(&self) -> SpaceId {
         self.shared.id()
     }
@@ -394,6 +477,14 @@ impl Builder {
     }
 
     /// Where it listens, in place of its own address among the peers.
+    ///
+    /// ```
+    /// # use masttomato::{Node, Peers, SpaceId};
+    /// # let [one, two] = [1, 2].map(|number| SpaceId::new(number).expect("1 to 32"));
+    /// let node = Node::builder(one, Peers::none()).listen("127.0.0.1:0").start()?;
+    /// assert!(node.address().is_some());
+    /// # Ok::<(), Box<dyn std::error::Error>>(())
+    /// ```
     pub fn listen(mut self, address: impl fmt::Display) -> Builder {
         self.listen = Some(address.to_string());
         self
@@ -401,24 +492,56 @@ impl Builder {
 
     /// How many spaces there are, in place of the last one among the peers. All nodes of a world must
     /// say the same.
+    ///
+    /// ```
+    /// # use masttomato::{Node, Peers, SpaceId};
+    /// # let [one, two] = [1, 2].map(|number| SpaceId::new(number).expect("1 to 32"));
+    /// let node = Node::builder(one, Peers::none()).spaces(two).start()?;
+    /// node.close(two);                                 // there is such a space
+    /// # Ok::<(), Box<dyn std::error::Error>>(())
+    /// ```
     pub fn spaces(mut self, last: SpaceId) -> Builder {
         self.spaces = Some(last);
         self
     }
 
     /// The world's name, of which the first 16 bytes count: nodes of two worlds never connect.
+    ///
+    /// ```
+    /// # use masttomato::{Node, Peers, SpaceId};
+    /// # let [one, two] = [1, 2].map(|number| SpaceId::new(number).expect("1 to 32"));
+    /// let node = Node::builder(one, Peers::none()).world("shop").start()?;
+    /// # drop(node);
+    /// # Ok::<(), Box<dyn std::error::Error>>(())
+    /// ```
     pub fn world(mut self, name: &str) -> Builder {
         self.world = World::named(name);
         self
     }
 
     /// Allows addresses of other machines, though nothing is encrypted and nobody is asked who they are.
+    ///
+    /// ```
+    /// # use masttomato::{Node, Peers, SpaceId};
+    /// # let [one, two] = [1, 2].map(|number| SpaceId::new(number).expect("1 to 32"));
+    /// let node = Node::builder(one, Peers::none()).listen("0.0.0.0:0").insecure().start()?;
+    /// assert!(node.address().is_some());
+    /// # Ok::<(), Box<dyn std::error::Error>>(())
+    /// ```
     pub fn insecure(mut self) -> Builder {
         self.is_insecure = true;
         self
     }
 
     /// How many threads run methods; 4 where it isn't said.
+    ///
+    /// ```
+    /// # use masttomato::{Node, Peers, SpaceId};
+    /// # let [one, two] = [1, 2].map(|number| SpaceId::new(number).expect("1 to 32"));
+    /// let node = Node::builder(one, Peers::none()).workers(16).start()?;
+    /// # drop(node);
+    /// # Ok::<(), Box<dyn std::error::Error>>(())
+    /// ```
     pub fn workers(mut self, count: usize) -> Builder {
         self.workers = count;
         self
@@ -426,6 +549,19 @@ impl Builder {
 
     /// Who runs methods that are async, in place of the node's workers: an executor of your own. A
     /// [`LocalNode`] runs them itself.
+    ///
+    /// ```
+    /// # use masttomato::{Node, Peers, SpaceId};
+    /// # let [one, two] = [1, 2].map(|number| SpaceId::new(number).expect("1 to 32"));
+    /// # mod my_executor { pub fn block_on(future: impl Future) { drop(future) } }
+    /// # use std::pin::Pin;
+    /// let spawner = |future: Pin<Box<dyn Future<Output = ()> + Send>>| {
+    ///     let _thread = std::thread::spawn(|| my_executor::block_on(future));
+    /// };
+    /// let node = Node::builder(one, Peers::none()).spawner(spawner).start()?;
+    /// # drop(node);
+    /// # Ok::<(), Box<dyn std::error::Error>>(())
+    /// ```
     pub fn spawner(mut self, spawner: impl Spawn) -> Builder {
         self.spawner = Some(Arc::new(spawner));
         self
@@ -433,6 +569,16 @@ impl Builder {
 
     /// For how long a thread that waits looks before it sleeps; 50 microseconds where it isn't said.
     /// That is most of the speed where there are processors for it, and a loss where there aren't.
+    ///
+    /// ```
+    /// # use masttomato::{Node, Peers, SpaceId};
+    /// # let [one, two] = [1, 2].map(|number| SpaceId::new(number).expect("1 to 32"));
+    /// use std::time::Duration;
+    ///
+    /// let node = Node::builder(one, Peers::none()).looks(Duration::ZERO).start()?;     // whoever waits sleeps at once
+    /// # drop(node);
+    /// # Ok::<(), Box<dyn std::error::Error>>(())
+    /// ```
     pub fn looks(mut self, time: Duration) -> Builder {
         self.looks = time;
         self
@@ -440,12 +586,30 @@ impl Builder {
 
     /// When a session closes that has no connection, or whose peer acknowledges nothing; ten minutes
     /// where it isn't said.
+    ///
+    /// ```
+    /// # use masttomato::{Node, Peers, SpaceId};
+    /// # let [one, two] = [1, 2].map(|number| SpaceId::new(number).expect("1 to 32"));
+    /// use std::time::Duration;
+    ///
+    /// let node = Node::builder(one, Peers::none()).give_up_after(Duration::from_secs(3_600)).start()?;
+    /// # drop(node);
+    /// # Ok::<(), Box<dyn std::error::Error>>(())
+    /// ```
     pub fn give_up_after(mut self, time: Duration) -> Builder {
         self.give_up_after = time;
         self
     }
 
     /// How many calls are open at most, up to 4,096, while further ones wait; 2,048 where it isn't said.
+    ///
+    /// ```
+    /// # use masttomato::{Node, Peers, SpaceId};
+    /// # let [one, two] = [1, 2].map(|number| SpaceId::new(number).expect("1 to 32"));
+    /// let node = Node::builder(one, Peers::none()).open_calls(64).start()?;
+    /// # drop(node);
+    /// # Ok::<(), Box<dyn std::error::Error>>(())
+    /// ```
     pub fn open_calls(mut self, count: usize) -> Builder {
         self.open_calls = count.clamp(1, 4_096);
         self
@@ -453,6 +617,16 @@ impl Builder {
 
     /// The entries of the space's trace go to a sink: for `nobj check`, which then says of the traces
     /// of all nodes whether they kept their promises.
+    ///
+    /// ```
+    /// # use masttomato::{Node, Peers, SpaceId};
+    /// # let [one, two] = [1, 2].map(|number| SpaceId::new(number).expect("1 to 32"));
+    /// use masttomato::engine::Files;
+    ///
+    /// let node = Node::builder(one, Peers::none()).record(Files::new("traces", one, 1 << 20)).start()?;
+    /// # drop(node);
+    /// # Ok::<(), Box<dyn std::error::Error>>(())
+    /// ```
     pub fn record(mut self, sink: impl TraceSink + 'static) -> Builder {
         self.sink = Some(Box::new(sink));
         self
@@ -466,6 +640,14 @@ impl Builder {
     }
 
     /// Starts the node, with a thread of its own and its workers. See [`Node`].
+    ///
+    /// ```
+    /// # use masttomato::{Node, Peers, SpaceId};
+    /// # let [one, two] = [1, 2].map(|number| SpaceId::new(number).expect("1 to 32"));
+    /// let node = Node::builder(one, Peers::none()).start()?;
+    /// assert_eq!(node.id(), one);
+    /// # Ok::<(), Box<dyn std::error::Error>>(())
+    /// ```
     ///
     /// # Errors
     /// Where an address isn't this machine's own and `insecure` wasn't said; where the node's number is
@@ -502,6 +684,14 @@ impl Builder {
     }
 
     /// Starts the node on this thread, which turns it where it waits. See [`LocalNode`].
+    ///
+    /// ```
+    /// # use masttomato::{Node, Peers, SpaceId};
+    /// # let [one, two] = [1, 2].map(|number| SpaceId::new(number).expect("1 to 32"));
+    /// let node = Node::builder(one, Peers::none()).start_local()?;
+    /// assert_eq!(node.id(), one);
+    /// # Ok::<(), Box<dyn std::error::Error>>(())
+    /// ```
     ///
     /// # Errors
     /// As [`Builder::start`].
@@ -573,6 +763,19 @@ impl Parts {
 }
 
 /// What was left when a node had been shut down: see [`Node::shutdown`].
+///
+/// ```
+/// # use masttomato::*;
+/// # #[interface]
+/// # pub trait Bell { fn ring(&mut self) -> String; }
+/// # struct Brass;
+/// # impl Bell for Brass { fn ring(&mut self) -> String { "ding".into() } }
+/// # let [one, two] = [1, 2].map(|number| SpaceId::new(number).expect("1 to 32"));
+/// # let node = Node::builder(one, Peers::none()).spaces(two).start()?;
+/// let left = node.shutdown(std::time::Duration::from_secs(5));
+/// assert_eq!((left.still_running, left.told), (0, true));
+/// # Ok::<(), Box<dyn std::error::Error>>(())
+/// ```
 #[derive(Clone, Copy, Debug, PartialEq, Eq)]
 #[non_exhaustive]
 pub struct Shutdown {
@@ -658,22 +861,70 @@ impl fmt::Debug for Node {
 
 impl Node {
     /// What a node of this number among these peers is started with.
+    ///
+    /// ```
+    /// # use masttomato::{Node, Peers, SpaceId};
+    /// # let [one, two] = [1, 2].map(|number| SpaceId::new(number).expect("1 to 32"));
+    /// let peers: Peers = "1 127.0.0.1:7001\n2..=32 127.0.0.1:0".parse()?;
+    /// let builder = Node::builder(two, peers).workers(2);
+    /// # drop(builder);
+    /// # Ok::<(), Box<dyn std::error::Error>>(())
+    /// ```
     pub fn builder(space: SpaceId, peers: Peers) -> Builder {
         Builder::new(space, peers)
     }
 
     /// The number of its space.
+    ///
+    /// ```
+    /// # use masttomato::*;
+    /// # #[interface]
+    /// # pub trait Bell { fn ring(&mut self) -> String; }
+    /// # struct Brass;
+    /// # impl Bell for Brass { fn ring(&mut self) -> String { "ding".into() } }
+    /// # let [one, two] = [1, 2].map(|number| SpaceId::new(number).expect("1 to 32"));
+    /// # let node = Node::builder(one, Peers::none()).spaces(two).start()?;
+    /// assert_eq!(node.id(), one);
+    /// # Ok::<(), Box<dyn std::error::Error>>(())
+    /// ```
     pub fn id(&self) -> SpaceId {
         self.inner.shared.id()
     }
 
     /// Where it listens.
+    ///
+    /// ```
+    /// # use masttomato::*;
+    /// # #[interface]
+    /// # pub trait Bell { fn ring(&mut self) -> String; }
+    /// # struct Brass;
+    /// # impl Bell for Brass { fn ring(&mut self) -> String { "ding".into() } }
+    /// # let [one, two] = [1, 2].map(|number| SpaceId::new(number).expect("1 to 32"));
+    /// # let node = Node::builder(one, Peers::none()).spaces(two).start()?;
+    /// assert_eq!(node.address(), None);                // nobody connects to it
+    /// let node = Node::builder(one, Peers::none()).listen("127.0.0.1:0").start()?;
+    /// assert!(node.address().is_some_and(|address| address.port() > 0));
+    /// # Ok::<(), Box<dyn std::error::Error>>(())
+    /// ```
     pub fn address(&self) -> Option<SocketAddr> {
         self.inner.address
     }
 
     /// Makes an object known, whose methods run on a worker: a reference to it. The object is dropped
     /// once nobody has one.
+    ///
+    /// ```
+    /// # use masttomato::*;
+    /// # #[interface]
+    /// # pub trait Bell { fn ring(&mut self) -> String; }
+    /// # struct Brass;
+    /// # impl Bell for Brass { fn ring(&mut self) -> String { "ding".into() } }
+    /// # let [one, two] = [1, 2].map(|number| SpaceId::new(number).expect("1 to 32"));
+    /// # let node = Node::builder(one, Peers::none()).spaces(two).start()?;
+    /// let bell = node.export::<dyn Bell>(Box::new(Brass))?;
+    /// assert_eq!(bell.ring().wait()?, "ding");
+    /// # Ok::<(), Box<dyn std::error::Error>>(())
+    /// ```
     ///
     /// # Errors
     /// Where there are as many objects as there may be, or the node has stopped.
@@ -737,6 +988,19 @@ impl Node {
     }
 
     /// Whether the name was bound. It isn't any more.
+    ///
+    /// ```
+    /// # use masttomato::*;
+    /// # #[interface]
+    /// # pub trait Bell { fn ring(&mut self) -> String; }
+    /// # struct Brass;
+    /// # impl Bell for Brass { fn ring(&mut self) -> String { "ding".into() } }
+    /// # let [one, two] = [1, 2].map(|number| SpaceId::new(number).expect("1 to 32"));
+    /// # let node = Node::builder(one, Peers::none()).spaces(two).start()?;
+    /// node.bind("bell", &node.export::<dyn Bell>(Box::new(Brass))?)?;
+    /// assert!(node.unbind("bell") && !node.unbind("bell"));
+    /// # Ok::<(), Box<dyn std::error::Error>>(())
+    /// ```
     pub fn unbind(&self, name: &str) -> bool {
         unbind(&self.inner.shared, name)
     }
@@ -744,17 +1008,57 @@ impl Node {
     /// Asks a space for the object of a name. An object of another interface is
     /// [`Fault::OtherInterface`]. Where the space can't be reached, the call waits, up to
     /// `give_up_after`.
+    ///
+    /// ```
+    /// # use masttomato::*;
+    /// # #[interface]
+    /// # pub trait Bell { fn ring(&mut self) -> String; }
+    /// # struct Brass;
+    /// # impl Bell for Brass { fn ring(&mut self) -> String { "ding".into() } }
+    /// # let [one, two] = [1, 2].map(|number| SpaceId::new(number).expect("1 to 32"));
+    /// # let node = Node::builder(one, Peers::none()).spaces(two).start()?;
+    /// node.bind("bell", &node.export::<dyn Bell>(Box::new(Brass))?)?;
+    /// let bell: Remote<dyn Bell> = node.lookup(one, "bell").wait()?;
+    /// assert!(bell.is_mine());
+    /// # Ok::<(), Box<dyn std::error::Error>>(())
+    /// ```
     pub fn lookup<I: Interface + ?Sized>(&self, peer: SpaceId, name: &str) -> Call<Remote<I>> {
         lookup(&self.inner.shared, peer, name)
     }
 
     /// How the session with a peer stands; closed where the node has stopped.
+    ///
+    /// ```
+    /// # use masttomato::*;
+    /// # #[interface]
+    /// # pub trait Bell { fn ring(&mut self) -> String; }
+    /// # struct Brass;
+    /// # impl Bell for Brass { fn ring(&mut self) -> String { "ding".into() } }
+    /// # let [one, two] = [1, 2].map(|number| SpaceId::new(number).expect("1 to 32"));
+    /// # let node = Node::builder(one, Peers::none()).spaces(two).start()?;
+    /// assert!(matches!(node.session(two), Session::Down { .. }));
+    /// # Ok::<(), Box<dyn std::error::Error>>(())
+    /// ```
     pub fn session(&self, peer: SpaceId) -> Session {
         let stopped = Session::Closed(crate::space::Reason::Asked);
         ask(&self.inner.shared, move |core| core.engine.session(peer)).unwrap_or(stopped)
     }
 
     /// How sessions change from now on.
+    ///
+    /// ```
+    /// # use masttomato::*;
+    /// # #[interface]
+    /// # pub trait Bell { fn ring(&mut self) -> String; }
+    /// # struct Brass;
+    /// # impl Bell for Brass { fn ring(&mut self) -> String { "ding".into() } }
+    /// # let [one, two] = [1, 2].map(|number| SpaceId::new(number).expect("1 to 32"));
+    /// # let node = Node::builder(one, Peers::none()).spaces(two).start()?;
+    /// let mut changes = node.changes()?;
+    /// node.close(two);
+    /// assert_eq!(changes.next(), Some((two, Session::Closed(Reason::Asked))));
+    /// # Ok::<(), Box<dyn std::error::Error>>(())
+    /// ```
     ///
     /// # Errors
     /// Where the node has stopped.
@@ -780,11 +1084,37 @@ impl Node {
     }
 
     /// What was counted; nothing where the node has stopped.
+    ///
+    /// ```
+    /// # use masttomato::*;
+    /// # #[interface]
+    /// # pub trait Bell { fn ring(&mut self) -> String; }
+    /// # struct Brass;
+    /// # impl Bell for Brass { fn ring(&mut self) -> String { "ding".into() } }
+    /// # let [one, two] = [1, 2].map(|number| SpaceId::new(number).expect("1 to 32"));
+    /// # let node = Node::builder(one, Peers::none()).spaces(two).start()?;
+    /// assert_eq!(node.counts().calls_made, 0);
+    /// # Ok::<(), Box<dyn std::error::Error>>(())
+    /// ```
     pub fn counts(&self) -> Counts {
         ask(&self.inner.shared, |core| core.engine.counts()).unwrap_or_default()
     }
 
     /// Has the node stop, in five seconds at most, and returns at once.
+    ///
+    /// ```
+    /// # use masttomato::*;
+    /// # #[interface]
+    /// # pub trait Bell { fn ring(&mut self) -> String; }
+    /// # struct Brass;
+    /// # impl Bell for Brass { fn ring(&mut self) -> String { "ding".into() } }
+    /// # let [one, two] = [1, 2].map(|number| SpaceId::new(number).expect("1 to 32"));
+    /// # let node = Node::builder(one, Peers::none()).spaces(two).start()?;
+    /// node.stop();
+    /// node.run_until_stopped();
+    /// assert!(matches!(node.export::<dyn Bell>(Box::new(Brass)), Err(NodeError::Stopped)));
+    /// # Ok::<(), Box<dyn std::error::Error>>(())
+    /// ```
     pub fn stop(&self) {
         self.inner.shared.post(Command::Stop(Instant::now() + Duration::from_secs(5)));
     }

@@ -90,11 +90,25 @@ fn line_of(line: &str) -> Option<Line> {
 
 impl Peers {
     /// No other space.
+    ///
+    /// ```
+    /// # use masttomato::Peers;
+    /// assert_eq!(Peers::none().last(), None);
+    /// ```
     pub fn none() -> Peers {
         Peers::default()
     }
 
     /// The peers that a file says.
+    ///
+    /// ```
+    /// # use masttomato::{Peers, SpaceId};
+    /// # let path = std::env::temp_dir().join(format!("masttomato-peers-{}", std::process::id()));
+    /// std::fs::write(&path, "1 127.0.0.1:7001       # who has the counter\n2..=32 127.0.0.1:0\n")?;
+    /// assert_eq!(Peers::read(&path)?.last(), SpaceId::new(32));
+    /// # std::fs::remove_file(&path)?;
+    /// # Ok::<(), std::io::Error>(())
+    /// ```
     ///
     /// # Errors
     /// Where it can't be read, or a line says none.
@@ -118,6 +132,12 @@ impl Peers {
     }
 
     /// The last space that is named.
+    ///
+    /// ```
+    /// # use masttomato::{Peers, SpaceId};
+    /// assert_eq!("3 127.0.0.1:7003\n1 127.0.0.1:7001".parse::<Peers>()?.last(), SpaceId::new(3));
+    /// # Ok::<(), masttomato::BadPeers>(())
+    /// ```
     pub fn last(&self) -> Option<SpaceId> {
         self.lines.iter().map(|line| line.last).max()
     }

@@ -29,11 +29,21 @@ impl Status {
     const ALL: [Status; 4] = [Status::Answered, Status::Fault, Status::NoMethod, Status::Lost];
 
     /// The status's number, 0 to 3.
+    ///
+    /// ```
+    /// # use masttomato::space::*;
+    /// assert_eq!((Status::Answered.number(), Status::Lost.number()), (0, 3));
+    /// ```
     pub const fn number(self) -> u8 {
         self as u8
     }
 
     /// The status of this number: `None` where none has it.
+    ///
+    /// ```
+    /// # use masttomato::space::*;
+    /// assert_eq!((Status::from_number(1), Status::from_number(4)), (Some(Status::Fault), None));
+    /// ```
     pub fn from_number(number: u8) -> Option<Status> {
         Status::ALL.into_iter().find(|status| status.number() == number)
     }
@@ -46,6 +56,19 @@ impl fmt::Display for Status {
 }
 
 /// What a call brought: see [`Space::take_reply`](super::Space::take_reply).
+///
+/// ```
+/// # use masttomato::space::*;
+/// // What a call was answered, where it was.
+/// fn answer_of(result: CallResult) -> Option<Value> {
+///     match result {
+///         CallResult::Replied { status: Status::Answered, value } => Some(value),
+///         _ => None,
+///     }
+/// }
+/// let replied = CallResult::Replied { status: Status::Answered, value: Value::Int(5) };
+/// assert_eq!((answer_of(replied), answer_of(CallResult::Ended)), (Some(Value::Int(5)), None));
+/// ```
 #[derive(Clone, Debug, PartialEq, Eq)]
 #[non_exhaustive]
 pub enum CallResult {
@@ -61,6 +84,12 @@ pub enum CallResult {
 }
 
 /// What became of a reply: see [`Space::finish`](super::Space::finish).
+///
+/// ```
+/// # use masttomato::space::*;
+/// assert_eq!(Answer::from(ReplyFate::HandedOn).to_string(), "finished");
+/// assert_eq!(Answer::from(ReplyFate::Dropped).to_string(), "dropped");
+/// ```
 #[derive(Clone, Copy, Debug, PartialEq, Eq)]
 #[non_exhaustive]
 pub enum ReplyFate {
@@ -71,6 +100,12 @@ pub enum ReplyFate {
 }
 
 /// What an Act did: see [`Space::act`](super::Space::act).
+///
+/// ```
+/// # use masttomato::space::*;
+/// assert_eq!(Answer::from(ActResult::Acted(ItemNo::new(4))).to_string(), "acted 4");
+/// assert_eq!(Answer::from(ActResult::Closed(Reason::BadItem)).to_string(), "closed 4");
+/// ```
 #[derive(Clone, Copy, Debug, PartialEq, Eq)]
 #[non_exhaustive]
 pub enum ActResult {
@@ -81,6 +116,12 @@ pub enum ActResult {
 }
 
 /// What a frame brought: see [`Space::arrive`](super::Space::arrive).
+///
+/// ```
+/// # use masttomato::space::*;
+/// assert_eq!(Answer::from(Arrived::Took(2)).to_string(), "took 2");
+/// assert_eq!(Answer::from(Arrived::Closed(Reason::PeerClosed)).to_string(), "closed 2");
+/// ```
 #[derive(Clone, Copy, Debug, PartialEq, Eq)]
 #[non_exhaustive]
 pub enum Arrived {
@@ -92,6 +133,13 @@ pub enum Arrived {
 }
 
 /// A message that was settled: whose item it was. See [`Space::settle`](super::Space::settle).
+///
+/// ```
+/// # use masttomato::space::*;
+/// let settled = SettledItem { peer: SpaceId::try_from(3)?, item: ItemNo::new(7) };
+/// assert_eq!(Answer::from(settled).to_string(), "settled 3 7");
+/// # Ok::<(), NoSpace>(())
+/// ```
 #[derive(Clone, Copy, Debug, PartialEq, Eq)]
 pub struct SettledItem {
     /// The peer that sent it.

@@ -74,6 +74,26 @@ pub enum Event {
 }
 
 /// A call that its owner is to carry out: see [`Space::claim`](super::Space::claim).
+///
+/// ```
+/// # use masttomato::space::*;
+/// # fn carry(from: &mut Space, to: &mut Space) -> Result<(), SpaceError> {
+/// #     for frame in from.transmit(to.id())?.iter() {
+/// #         to.arrive(&frame)?;
+/// #     }
+/// #     while to.act(from.id()).is_ok() || to.settle().is_ok() || to.clean().is_ok() {}
+/// #     Ok(())
+/// # }
+/// # let [one, two] = [1, 2].map(|number| SpaceId::new(number).expect("1 to 32"));
+/// # let mut caller = Space::new(one, two, Limits::default())?;
+/// # let mut owner = Space::new(two, two, Limits::default())?;
+/// caller.call(two.agent(), 3, &Value::Int(20))?;
+/// carry(&mut caller, &mut owner)?;
+/// let job = owner.claim()?;
+/// assert_eq!((job.client, job.call.get(), job.target, job.method), (one, 1, 0, 3));
+/// assert_eq!(job.to_string(), "job 1 from 1 call 1 on 0 method 3 i20");
+/// # Ok::<(), SpaceError>(())
+/// ```
 #[derive(Clone, Debug, PartialEq, Eq)]
 pub struct Job {
     /// The number of the job at this space.
@@ -92,6 +112,15 @@ pub struct Job {
 
 /// What a space answers to an event that it doesn't refuse: see [`Space::step`](super::Space::step). Its text
 /// is that of traces.
+///
+/// ```
+/// # use masttomato::space::*;
+/// # let [one, two] = [1, 2].map(|number| SpaceId::new(number).expect("1 to 32"));
+/// # let mut space = Space::new(one, two, Limits::default())?;
+/// assert_eq!(space.step(&Event::Export)?.to_string(), "exported 1.1");
+/// assert_eq!(space.step(&Event::Transmit(two))?, Answer::Frames(Frames::default()));
+/// # Ok::<(), SpaceError>(())
+/// ```
 #[derive(Clone, Debug, PartialEq, Eq)]
 #[non_exhaustive]
 pub enum Answer {

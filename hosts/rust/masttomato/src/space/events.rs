@@ -63,6 +63,9 @@ use masttomato_sys::{Handle, Told};
 /// # }
 /// ```
 ///
+/// What the library tells is believed: where it is of another version than this crate and tells a number that
+/// this crate doesn't know, the method that asked panics.
+///
 /// A space stays on the thread that made it: it is neither `Send` nor `Sync`.
 ///
 /// ```compile_fail
@@ -82,6 +85,20 @@ pub struct Space {
 }
 
 /// What a Transmit would give: see [`Space::due`].
+///
+/// ```
+/// # use masttomato::space::*;
+/// # let [one, two] = [1, 2].map(|number| SpaceId::new(number).expect("1 to 32"));
+/// # let mut space = Space::new(one, two, Limits::default())?;
+/// assert_eq!(space.due(two), Due::Nothing);
+/// space.call(two.agent(), 0, &Value::Unit)?;
+/// assert_eq!(space.due(two), Due::New);
+/// space.transmit(two)?;
+/// assert_eq!(space.due(two), Due::Again);
+/// space.close(two)?;
+/// assert_eq!(space.due(two), Due::Close);
+/// # Ok::<(), SpaceError>(())
+/// ```
 #[derive(Clone, Copy, Debug, PartialEq, Eq)]
 #[non_exhaustive]
 pub enum Due {
@@ -98,6 +115,18 @@ pub enum Due {
 }
 
 /// What a space could do next, limits, free numbers and want of memory aside: see [`Space::work`].
+///
+/// ```
+/// # use masttomato::space::*;
+/// # let [one, two] = [1, 2].map(|number| SpaceId::new(number).expect("1 to 32"));
+/// # let mut space = Space::new(one, two, Limits::default())?;
+/// let object = space.export()?;
+/// space.release(object)?;
+/// let work = space.work();
+/// assert!(!work.settle && !work.clean && !work.claim && !work.act(two) && !work.send(two));
+/// assert_eq!(work.withdraw, Some(object.index));
+/// # Ok::<(), SpaceError>(())
+/// ```
 #[derive(Clone, Copy, Debug, PartialEq, Eq)]
 pub struct Work {
     act: u32,
@@ -114,17 +143,54 @@ pub struct Work {
 
 impl Work {
     /// Whether there is an item from this space to act on, also one whose fault closes the session.
+    ///
+    /// ```
+    /// # use masttomato::space::*;
+    /// # fn carry(from: &mut Space, to: &mut Space) -> Result<(), SpaceError> {
+    /// #     for frame in from.transmit(to.id())?.iter() {
+    /// #         to.arrive(&frame)?;
+    /// #     }
+    /// #     while to.act(from.id()).is_ok() || to.settle().is_ok() || to.clean().is_ok() {}
+    /// #     Ok(())
+    /// # }
+    /// # let [one, two] = [1, 2].map(|number| SpaceId::new(number).expect("1 to 32"));
+    /// # let mut caller = Space::new(one, two, Limits::default())?;
+    /// # let mut owner = Space::new(two, two, Limits::default())?;
+    /// caller.call(two.agent(), 0, &Value::Unit)?;
+    /// for frame in caller.transmit(two)?.iter() {
+    ///     owner.arrive(&frame)?;
+    /// }
+    /// assert!(owner.work().act(one));
+    /// # Ok::<(), SpaceError>(())
+    /// ```
     pub fn act(&self, peer: SpaceId) -> bool {
         self.act >> (peer.get() - 1) & 1 == 1
     }
 
     /// Whether a Transmit to this space would give a frame.
+    ///
+    /// ```
+    /// # use masttomato::space::*;
+    /// # let [one, two] = [1, 2].map(|number| SpaceId::new(number).expect("1 to 32"));
+    /// # let mut space = Space::new(one, two, Limits::default())?;
+    /// space.call(two.agent(), 0, &Value::Unit)?;
+    /// assert!(space.work().send(two));
+    /// # Ok::<(), SpaceError>(())
+    /// ```
     pub fn send(&self, peer: SpaceId) -> bool {
         self.send >> (peer.get() - 1) & 1 == 1
     }
 }
 
 /// Why a piece of a stream of frames wasn't taken.
+///
+/// ```
+/// # use masttomato::space::*;
+/// # let [one, two] = [1, 2].map(|number| SpaceId::new(number).expect("1 to 32"));
+/// # let mut space = Space::new(one, two, Limits::default())?;
+/// assert_eq!(space.push(two, &[0; 32]), Err(StreamError::Fault(FrameFault::Magic)));
+/// # Ok::<(), SpaceError>(())
+/// ```
 #[derive(Clone, Copy, Debug, PartialEq, Eq)]
 #[non_exhaustive]
 pub enum StreamError {
@@ -156,6 +222,14 @@ impl std::error::Error for StreamError {
 }
 
 /// Why bytes didn't arrive as a frame.
+///
+/// ```
+/// # use masttomato::space::*;
+/// # let [one, two] = [1, 2].map(|number| SpaceId::new(number).expect("1 to 32"));
+/// # let mut space = Space::new(one, two, Limits::default())?;
+/// assert_eq!(space.arrive_bytes(&[0; 32]), Err(ArriveError::Fault(FrameFault::Magic)));
+/// # Ok::<(), SpaceError>(())
+/// ```
 #[derive(Clone, Copy, Debug, PartialEq, Eq)]
 #[non_exhaustive]
 pub enum ArriveError {
@@ -193,6 +267,14 @@ impl Space {
     /// A space that has done nothing: its sessions with all others, those from 1 to `spaces`, are
     /// open.
     ///
+    /// ```
+    /// # use masttomato::space::*;
+    /// let [second, last] = [2, 5].map(|number| SpaceId::new(number).expect("1 to 32"));
+    /// let space = Space::new(second, last, Limits::default())?;
+    /// assert_eq!(space.peers().count(), 4);
+    /// # Ok::<(), SpaceError>(())
+    /// ```
+    ///
     /// # Errors
     /// Where memory runs out.
     ///
@@ -205,22 +287,54 @@ impl Space {
     }
 
     /// The number of the space.
+    ///
+    /// ```
+    /// # use masttomato::space::*;
+    /// # let [one, two] = [1, 2].map(|number| SpaceId::new(number).expect("1 to 32"));
+    /// # let mut space = Space::new(one, two, Limits::default())?;
+    /// assert_eq!(space.id(), one);
+    /// # Ok::<(), SpaceError>(())
+    /// ```
     pub fn id(&self) -> SpaceId {
         self.id
     }
 
     /// How many spaces there are, named by the last of them.
+    ///
+    /// ```
+    /// # use masttomato::space::*;
+    /// # let [one, two] = [1, 2].map(|number| SpaceId::new(number).expect("1 to 32"));
+    /// # let mut space = Space::new(one, two, Limits::default())?;
+    /// assert_eq!(space.spaces(), two);
+    /// # Ok::<(), SpaceError>(())
+    /// ```
     pub fn spaces(&self) -> SpaceId {
         self.spaces
     }
 
     /// All other spaces.
+    ///
+    /// ```
+    /// # use masttomato::space::*;
+    /// # let [one, two] = [1, 2].map(|number| SpaceId::new(number).expect("1 to 32"));
+    /// # let mut space = Space::new(one, two, Limits::default())?;
+    /// assert_eq!(space.peers().collect::<Vec<_>>(), [two]);
+    /// # Ok::<(), SpaceError>(())
+    /// ```
     pub fn peers(&self) -> impl Iterator<Item = SpaceId> + use<> {
         let id = self.id;
         self.spaces.up_to().filter(move |space| *space != id)
     }
 
     /// The limits of its sessions.
+    ///
+    /// ```
+    /// # use masttomato::space::*;
+    /// # let [one, two] = [1, 2].map(|number| SpaceId::new(number).expect("1 to 32"));
+    /// # let mut space = Space::new(one, two, Limits::default())?;
+    /// assert_eq!(space.limits(), Limits::default());
+    /// # Ok::<(), SpaceError>(())
+    /// ```
     pub fn limits(&self) -> Limits {
         self.limits
     }
@@ -248,21 +362,63 @@ impl Space {
 
     /// Takes the lines of the trace that weren't taken yet, so that they need no more memory: none
     /// where no trace is kept.
+    ///
+    /// ```
+    /// # use masttomato::space::*;
+    /// # let [one, two] = [1, 2].map(|number| SpaceId::new(number).expect("1 to 32"));
+    /// # let mut space = Space::new(one, two, Limits::default())?;
+    /// space.keep_trace();
+    /// let _nothing = space.clean();
+    /// assert_eq!(space.take_lines(), "1 clean = S10\n");
+    /// # Ok::<(), SpaceError>(())
+    /// ```
     pub fn take_lines(&mut self) -> String {
         self.trace.as_mut().map(Trace::take_lines).unwrap_or_default()
     }
 
     /// The trace, where one is kept.
+    ///
+    /// ```
+    /// # use masttomato::space::*;
+    /// # let [one, two] = [1, 2].map(|number| SpaceId::new(number).expect("1 to 32"));
+    /// # let mut space = Space::new(one, two, Limits::default())?;
+    /// assert!(space.trace().is_none());
+    /// space.keep_trace();
+    /// space.export()?;
+    /// assert_eq!(space.trace().map(Trace::lines), Some("1 export = exported 1.1\n"));
+    /// # Ok::<(), SpaceError>(())
+    /// ```
     pub fn trace(&self) -> Option<&Trace> {
         self.trace.as_ref()
     }
 
     /// The stamp of the trace's last entry, or what it was risen to since; 0 where none is kept.
+    ///
+    /// ```
+    /// # use masttomato::space::*;
+    /// # let [one, two] = [1, 2].map(|number| SpaceId::new(number).expect("1 to 32"));
+    /// # let mut space = Space::new(one, two, Limits::default())?;
+    /// space.keep_trace();
+    /// space.export()?;
+    /// assert_eq!(space.stamp(), 1);
+    /// # Ok::<(), SpaceError>(())
+    /// ```
     pub fn stamp(&self) -> u64 {
         self.trace.as_ref().map_or(0, Trace::stamp)
     }
 
     /// The trace's next entry has a stamp above this one.
+    ///
+    /// ```
+    /// # use masttomato::space::*;
+    /// # let [one, two] = [1, 2].map(|number| SpaceId::new(number).expect("1 to 32"));
+    /// # let mut space = Space::new(one, two, Limits::default())?;
+    /// space.keep_trace();
+    /// space.rise_to(7);                                // that of the entry by which a frame was transmitted
+    /// space.export()?;
+    /// assert_eq!(space.stamp(), 8);
+    /// # Ok::<(), SpaceError>(())
+    /// ```
     pub fn rise_to(&mut self, stamp: u64) {
         if let Some(trace) = &mut self.trace {
             trace.rise_to(stamp);
@@ -270,6 +426,15 @@ impl Space {
     }
 
     /// A new object: its reference, once in the hand.
+    ///
+    /// ```
+    /// # use masttomato::space::*;
+    /// # let [one, two] = [1, 2].map(|number| SpaceId::new(number).expect("1 to 32"));
+    /// # let mut space = Space::new(one, two, Limits::default())?;
+    /// assert_eq!(space.export()?.to_string(), "1.1");
+    /// assert_eq!(space.export()?.to_string(), "1.2");
+    /// # Ok::<(), SpaceError>(())
+    /// ```
     ///
     /// # Errors
     /// Limit where the space has all the live objects or indexes that it may have.
@@ -279,6 +444,18 @@ impl Space {
     }
 
     /// One more hold in the hand.
+    ///
+    /// ```
+    /// # use masttomato::space::*;
+    /// # let [one, two] = [1, 2].map(|number| SpaceId::new(number).expect("1 to 32"));
+    /// # let mut space = Space::new(one, two, Limits::default())?;
+    /// let object = space.export()?;
+    /// space.dup(object)?;                              // it is held twice now,
+    /// space.release(object)?;
+    /// space.release(object)?;                          // and no more
+    /// assert_eq!(space.dup(object), Err(SpaceError::Refused(Refusal::NotHeld)));
+    /// # Ok::<(), SpaceError>(())
+    /// ```
     ///
     /// # Errors
     /// NoObject where an own object isn't live, NotHeld where nothing holds the reference or it is an
@@ -290,6 +467,16 @@ impl Space {
 
     /// A hold in the hand is given back.
     ///
+    /// ```
+    /// # use masttomato::space::*;
+    /// # let [one, two] = [1, 2].map(|number| SpaceId::new(number).expect("1 to 32"));
+    /// # let mut space = Space::new(one, two, Limits::default())?;
+    /// let object = space.export()?;
+    /// space.release(object)?;
+    /// assert_eq!(space.release(object), Err(SpaceError::Refused(Refusal::NotHeld)));
+    /// # Ok::<(), SpaceError>(())
+    /// ```
+    ///
     /// # Errors
     /// NoObject where an own object isn't live, NotHeld where none is in the hand.
     pub fn release(&mut self, reference: Reference) -> Result<(), SpaceError> {
@@ -299,6 +486,18 @@ impl Space {
 
     /// Calls a method of an object with a value, whose references are pinned until the object's
     /// owner has settled them: the number of the call. Linear in the value.
+    ///
+    /// ```
+    /// # use masttomato::space::*;
+    /// # let [one, two] = [1, 2].map(|number| SpaceId::new(number).expect("1 to 32"));
+    /// # let mut space = Space::new(one, two, Limits::default())?;
+    /// let object = space.export()?;
+    /// let call = space.call(two.agent(), 1, &Value::List(vec![Value::Int(5), Value::Ref(object)]))?;
+    /// assert_eq!(call.get(), 1);
+    /// space.release(object)?;                          // it is pinned until space 2 has settled it
+    /// assert_eq!(space.withdraw(object.index), Err(SpaceError::Refused(Refusal::StillUsed(Use::InTransit))));
+    /// # Ok::<(), SpaceError>(())
+    /// ```
     ///
     /// # Errors
     /// NoPeer, Closed, NotHeld of the target; TooBig where the value has no pickle; NoObject, NotHeld or
@@ -319,6 +518,18 @@ impl Space {
     /// What a call brought: its reply, whose references come into the hand, or that there will be
     /// none.
     ///
+    /// ```
+    /// # use masttomato::space::*;
+    /// # let [one, two] = [1, 2].map(|number| SpaceId::new(number).expect("1 to 32"));
+    /// # let mut space = Space::new(one, two, Limits::default())?;
+    /// let call = space.call(two.agent(), 0, &Value::Unit)?;
+    /// assert_eq!(space.take_reply(call), Err(SpaceError::Refused(Refusal::NotReady)));
+    /// space.close(two)?;
+    /// assert_eq!(space.take_reply(call)?, CallResult::Ended);
+    /// assert_eq!(space.take_reply(call), Err(SpaceError::Refused(Refusal::NoCall)));
+    /// # Ok::<(), SpaceError>(())
+    /// ```
+    ///
     /// # Errors
     /// NoCall where there is no such call, NotReady while there is no reply, Limit where a hand would be
     /// too full.
@@ -335,6 +546,25 @@ impl Space {
     }
 
     /// The first ready job, in order of becoming ready, whose target isn't running.
+    ///
+    /// ```
+    /// # use masttomato::space::*;
+    /// # fn carry(from: &mut Space, to: &mut Space) -> Result<(), SpaceError> {
+    /// #     for frame in from.transmit(to.id())?.iter() {
+    /// #         to.arrive(&frame)?;
+    /// #     }
+    /// #     while to.act(from.id()).is_ok() || to.settle().is_ok() || to.clean().is_ok() {}
+    /// #     Ok(())
+    /// # }
+    /// # let [one, two] = [1, 2].map(|number| SpaceId::new(number).expect("1 to 32"));
+    /// # let mut caller = Space::new(one, two, Limits::default())?;
+    /// # let mut owner = Space::new(two, two, Limits::default())?;
+    /// caller.call(two.agent(), 3, &Value::Int(20))?;
+    /// carry(&mut caller, &mut owner)?;
+    /// let job = owner.claim()?;
+    /// assert_eq!((job.client, job.target, job.method, job.value), (one, 0, 3, Value::Int(20)));
+    /// # Ok::<(), SpaceError>(())
+    /// ```
     ///
     /// # Errors
     /// Nothing where there is none, Limit where the numbers are used up.
@@ -356,6 +586,28 @@ impl Space {
     /// A job's outcome goes to its client, or is dropped where the session with the client has
     /// closed; what the job had on loan is given back.
     ///
+    /// ```
+    /// # use masttomato::space::*;
+    /// # fn carry(from: &mut Space, to: &mut Space) -> Result<(), SpaceError> {
+    /// #     for frame in from.transmit(to.id())?.iter() {
+    /// #         to.arrive(&frame)?;
+    /// #     }
+    /// #     while to.act(from.id()).is_ok() || to.settle().is_ok() || to.clean().is_ok() {}
+    /// #     Ok(())
+    /// # }
+    /// # let [one, two] = [1, 2].map(|number| SpaceId::new(number).expect("1 to 32"));
+    /// # let mut caller = Space::new(one, two, Limits::default())?;
+    /// # let mut owner = Space::new(two, two, Limits::default())?;
+    /// let call = caller.call(two.agent(), 3, &Value::Int(20))?;
+    /// carry(&mut caller, &mut owner)?;
+    /// let job = owner.claim()?;
+    /// assert_eq!(owner.finish(job.job, &Outcome::Answer(Value::Int(42)))?, ReplyFate::HandedOn);
+    /// carry(&mut owner, &mut caller)?;
+    /// let replied = CallResult::Replied { status: Status::Answered, value: Value::Int(42) };
+    /// assert_eq!(caller.take_reply(call)?, replied);
+    /// # Ok::<(), SpaceError>(())
+    /// ```
+    ///
     /// # Errors
     /// NoJob where no such job runs; then as of the value of a call, or QueueFull or SeqEnd.
     pub fn finish(&mut self, job: JobNo, outcome: &Outcome) -> Result<ReplyFate, SpaceError> {
@@ -376,6 +628,27 @@ impl Space {
     /// The item at the front of the inbox from a peer is acted on; one with a fault closes the
     /// session instead.
     ///
+    /// ```
+    /// # use masttomato::space::*;
+    /// # fn carry(from: &mut Space, to: &mut Space) -> Result<(), SpaceError> {
+    /// #     for frame in from.transmit(to.id())?.iter() {
+    /// #         to.arrive(&frame)?;
+    /// #     }
+    /// #     while to.act(from.id()).is_ok() || to.settle().is_ok() || to.clean().is_ok() {}
+    /// #     Ok(())
+    /// # }
+    /// # let [one, two] = [1, 2].map(|number| SpaceId::new(number).expect("1 to 32"));
+    /// # let mut caller = Space::new(one, two, Limits::default())?;
+    /// # let mut owner = Space::new(two, two, Limits::default())?;
+    /// caller.call(two.agent(), 0, &Value::Unit)?;
+    /// for frame in caller.transmit(two)?.iter() {
+    ///     owner.arrive(&frame)?;
+    /// }
+    /// assert_eq!(owner.act(one)?, ActResult::Acted(ItemNo::new(1)));
+    /// assert_eq!(owner.act(one), Err(SpaceError::Refused(Refusal::Nothing)));
+    /// # Ok::<(), SpaceError>(())
+    /// ```
+    ///
     /// # Errors
     /// NoPeer, Closed, Nothing where none waits; and the item stays, by Limit or SeqEnd, where a limit would
     /// be passed or a session has no number for what it asks for.
@@ -391,6 +664,31 @@ impl Space {
     /// The first message, in order of acting, whose references are all resolved is settled, and
     /// its sender told: whose item that was.
     ///
+    /// ```
+    /// # use masttomato::space::*;
+    /// # fn carry(from: &mut Space, to: &mut Space) -> Result<(), SpaceError> {
+    /// #     for frame in from.transmit(to.id())?.iter() {
+    /// #         to.arrive(&frame)?;
+    /// #     }
+    /// #     while to.act(from.id()).is_ok() || to.settle().is_ok() || to.clean().is_ok() {}
+    /// #     Ok(())
+    /// # }
+    /// # let [one, two] = [1, 2].map(|number| SpaceId::new(number).expect("1 to 32"));
+    /// # let mut caller = Space::new(one, two, Limits::default())?;
+    /// # let mut owner = Space::new(two, two, Limits::default())?;
+    /// let object = caller.export()?;
+    /// caller.call(two.agent(), 0, &Value::Ref(object))?;
+    /// carry(&mut caller, &mut owner)?;                 // the call waits, and its reference is asked for
+    /// carry(&mut owner, &mut caller)?;
+    /// for frame in caller.transmit(two)?.iter() {
+    ///     owner.arrive(&frame)?;
+    /// }
+    /// owner.act(one)?;                                 // it is granted
+    /// assert_eq!(owner.settle()?, SettledItem { peer: one, item: ItemNo::new(1) });
+    /// assert!(owner.work().claim);                     // and the call is a job
+    /// # Ok::<(), SpaceError>(())
+    /// ```
+    ///
     /// # Errors
     /// Nothing where there is none, SeqEnd where a session has no number left.
     pub fn settle(&mut self) -> Result<SettledItem, SpaceError> {
@@ -402,6 +700,32 @@ impl Space {
     /// The first surrogate, in the order of their last Dirties, that is granted on an open session,
     /// without holds and without pins, is given up, and its owner told: its reference.
     ///
+    /// ```
+    /// # use masttomato::space::*;
+    /// # fn carry(from: &mut Space, to: &mut Space) -> Result<(), SpaceError> {
+    /// #     for frame in from.transmit(to.id())?.iter() {
+    /// #         to.arrive(&frame)?;
+    /// #     }
+    /// #     while to.act(from.id()).is_ok() || to.settle().is_ok() || to.clean().is_ok() {}
+    /// #     Ok(())
+    /// # }
+    /// # let [one, two] = [1, 2].map(|number| SpaceId::new(number).expect("1 to 32"));
+    /// # let mut caller = Space::new(one, two, Limits::default())?;
+    /// # let mut owner = Space::new(two, two, Limits::default())?;
+    /// let object = caller.export()?;
+    /// caller.call(two.agent(), 0, &Value::Ref(object))?;
+    /// for _ in 0..2 {
+    ///     carry(&mut caller, &mut owner)?;             // the owner of the agent asks for the reference, and is granted it
+    ///     carry(&mut owner, &mut caller)?;
+    /// }
+    /// carry(&mut caller, &mut owner)?;
+    /// let job = owner.claim()?;
+    /// assert!(owner.clean().is_err());                 // the job has it
+    /// owner.finish(job.job, &Outcome::NoMethod)?;
+    /// assert_eq!(owner.clean()?, object);
+    /// # Ok::<(), SpaceError>(())
+    /// ```
+    ///
     /// # Errors
     /// Nothing where there is none, SeqEnd where the session has no number left.
     pub fn clean(&mut self) -> Result<Reference, SpaceError> {
@@ -410,6 +734,17 @@ impl Space {
     }
 
     /// The object of an index is live no more.
+    ///
+    /// ```
+    /// # use masttomato::space::*;
+    /// # let [one, two] = [1, 2].map(|number| SpaceId::new(number).expect("1 to 32"));
+    /// # let mut space = Space::new(one, two, Limits::default())?;
+    /// let object = space.export()?;
+    /// assert_eq!(space.withdraw(object.index), Err(SpaceError::Refused(Refusal::StillUsed(Use::Held))));
+    /// space.release(object)?;
+    /// space.withdraw(object.index)?;
+    /// # Ok::<(), SpaceError>(())
+    /// ```
     ///
     /// # Errors
     /// NoObject where none is live, StillUsed where it is held, pinned here, listed for a client, or the
@@ -421,6 +756,17 @@ impl Space {
 
     /// The frames that are to be sent to a peer now: the first item that isn't acknowledged and, up to a
     /// window from it on, those that were never given; or an Ack or a Close that is owed, or none.
+    ///
+    /// ```
+    /// # use masttomato::space::*;
+    /// # let [one, two] = [1, 2].map(|number| SpaceId::new(number).expect("1 to 32"));
+    /// # let mut space = Space::new(one, two, Limits::default())?;
+    /// space.call(two.agent(), 0, &Value::Unit)?;
+    /// assert_eq!(space.transmit(two)?.iter().count(), 1);
+    /// space.call(two.agent(), 0, &Value::Unit)?;
+    /// assert_eq!(space.transmit(two)?.iter().count(), 2);      // the first again, since it isn't acknowledged
+    /// # Ok::<(), SpaceError>(())
+    /// ```
     ///
     /// # Errors
     /// NoPeer where there is no such peer.
@@ -435,6 +781,27 @@ impl Space {
     /// A frame came for this space: how many items are there with it, or that it closed the session with
     /// its sender.
     ///
+    /// ```
+    /// # use masttomato::space::*;
+    /// # fn carry(from: &mut Space, to: &mut Space) -> Result<(), SpaceError> {
+    /// #     for frame in from.transmit(to.id())?.iter() {
+    /// #         to.arrive(&frame)?;
+    /// #     }
+    /// #     while to.act(from.id()).is_ok() || to.settle().is_ok() || to.clean().is_ok() {}
+    /// #     Ok(())
+    /// # }
+    /// # let [one, two] = [1, 2].map(|number| SpaceId::new(number).expect("1 to 32"));
+    /// # let mut caller = Space::new(one, two, Limits::default())?;
+    /// # let mut owner = Space::new(two, two, Limits::default())?;
+    /// caller.call(two.agent(), 0, &Value::Unit)?;
+    /// caller.call(two.agent(), 1, &Value::Unit)?;
+    /// let frames: Vec<Frame> = caller.transmit(two)?.iter().collect();
+    /// assert_eq!(owner.arrive(&frames[1])?, Arrived::Took(0));      // it is early, and kept
+    /// assert_eq!(owner.arrive(&frames[0])?, Arrived::Took(2));
+    /// assert_eq!(owner.arrive(&frames[0])?, Arrived::Took(0));      // it came before
+    /// # Ok::<(), SpaceError>(())
+    /// ```
+    ///
     /// # Errors
     /// NoPeer where it isn't for this space or from none of its peers.
     pub fn arrive(&mut self, frame: &Frame) -> Result<Arrived, SpaceError> {
@@ -444,11 +811,33 @@ impl Space {
 
     /// The frame that these bytes spell came for this space: as [`arrive`](Space::arrive).
     ///
+    /// ```
+    /// # use masttomato::space::*;
+    /// # fn carry(from: &mut Space, to: &mut Space) -> Result<(), SpaceError> {
+    /// #     for frame in from.transmit(to.id())?.iter() {
+    /// #         to.arrive(&frame)?;
+    /// #     }
+    /// #     while to.act(from.id()).is_ok() || to.settle().is_ok() || to.clean().is_ok() {}
+    /// #     Ok(())
+    /// # }
+    /// # let [one, two] = [1, 2].map(|number| SpaceId::new(number).expect("1 to 32"));
+    /// # let mut caller = Space::new(one, two, Limits::default())?;
+    /// # let mut owner = Space::new(two, two, Limits::default())?;
+    /// caller.call(two.agent(), 0, &Value::Unit)?;
+    /// let frames = caller.transmit(two)?;
+    /// assert_eq!(owner.arrive_bytes(frames.as_bytes()), Ok(Arrived::Took(1)));
+    /// assert_eq!(owner.arrive_bytes(&[7]), Err(ArriveError::Fault(FrameFault::Short)));
+    /// # Ok::<(), SpaceError>(())
+    /// ```
+    ///
     /// # Errors
     /// [`ArriveError::Fault`] where they spell no frame, and else what `arrive` answers.
+    ///
+    /// # Panics
+    /// Where the library takes bytes for a frame that are none, and a trace is kept.
     pub fn arrive_bytes(&mut self, bytes: &[u8]) -> Result<Arrived, ArriveError> {
         let asked = self.handle.arrive(bytes);
-        if let status @ 41..=51 = asked.0 {
+        if let status @ 41..=52 = asked.0 {
             return Err(ArriveError::Fault(FrameFault::ALL[status as usize - 41]));
         }
         let result = told(asked).map(arrived_of);
@@ -484,12 +873,34 @@ impl Space {
             (0, told) => Ok(told.number),
             (14, _) => Err(StreamError::OutOfMemory),
             (61, _) => Err(StreamError::Waiting),
-            (status @ 41..=51, _) => Err(FrameFault::ALL[status as usize - 41].into()),
+            (status @ 41..=52, _) => Err(FrameFault::ALL[status as usize - 41].into()),
             (other, _) => unknown("status of nob_push", other),
         }
     }
 
     /// The first frame that waits arrives: as [`arrive`](Space::arrive), or `None` where none waits.
+    ///
+    /// ```
+    /// # use masttomato::space::*;
+    /// # fn carry(from: &mut Space, to: &mut Space) -> Result<(), SpaceError> {
+    /// #     for frame in from.transmit(to.id())?.iter() {
+    /// #         to.arrive(&frame)?;
+    /// #     }
+    /// #     while to.act(from.id()).is_ok() || to.settle().is_ok() || to.clean().is_ok() {}
+    /// #     Ok(())
+    /// # }
+    /// # let [one, two] = [1, 2].map(|number| SpaceId::new(number).expect("1 to 32"));
+    /// # let mut caller = Space::new(one, two, Limits::default())?;
+    /// # let mut owner = Space::new(two, two, Limits::default())?;
+    /// caller.call(two.agent(), 0, &Value::Unit)?;
+    /// owner.push(one, caller.transmit(two)?.as_bytes()).expect("frames");
+    /// assert_eq!(owner.arrive_next(), Some(Ok(Arrived::Took(1))));
+    /// assert_eq!(owner.arrive_next(), None);
+    /// # Ok::<(), SpaceError>(())
+    /// ```
+    ///
+    /// # Panics
+    /// Where the library gave bytes that are no frame, and a trace is kept.
     pub fn arrive_next(&mut self) -> Option<Result<Arrived, SpaceError>> {
         let asked = self.handle.bring_next();
         if asked.0 == 62 {
@@ -505,6 +916,29 @@ impl Space {
 
     /// Forgets what is kept of a peer's stream, and its fault, for a new stream, as where a connection was
     /// opened again. Frames that wait stay.
+    ///
+    /// ```
+    /// # use masttomato::space::*;
+    /// # fn carry(from: &mut Space, to: &mut Space) -> Result<(), SpaceError> {
+    /// #     for frame in from.transmit(to.id())?.iter() {
+    /// #         to.arrive(&frame)?;
+    /// #     }
+    /// #     while to.act(from.id()).is_ok() || to.settle().is_ok() || to.clean().is_ok() {}
+    /// #     Ok(())
+    /// # }
+    /// # let [one, two] = [1, 2].map(|number| SpaceId::new(number).expect("1 to 32"));
+    /// # let mut caller = Space::new(one, two, Limits::default())?;
+    /// # let mut owner = Space::new(two, two, Limits::default())?;
+    /// caller.call(two.agent(), 0, &Value::Unit)?;
+    /// let frames = caller.transmit(two)?;
+    /// assert_eq!(owner.push(one, &frames.as_bytes()[..20]), Ok(0));
+    /// owner.restart(one);                              // the connection broke, and there is another one
+    /// assert_eq!(owner.push(one, frames.as_bytes()), Ok(1));
+    /// # Ok::<(), SpaceError>(())
+    /// ```
+    ///
+    /// # Panics
+    /// Where the library says that the peer is no space.
     pub fn restart(&mut self, peer: SpaceId) {
         let status = self.handle.restart(peer.get());
         assert_eq!(status, 0, "nob_restart takes any space's number");
@@ -539,6 +973,15 @@ impl Space {
     }
 
     /// Closes the session with a peer, for the reason that it was asked to.
+    ///
+    /// ```
+    /// # use masttomato::space::*;
+    /// # let [one, two] = [1, 2].map(|number| SpaceId::new(number).expect("1 to 32"));
+    /// # let mut space = Space::new(one, two, Limits::default())?;
+    /// assert_eq!(space.close(two)?, Reason::Asked);
+    /// assert_eq!(space.close(two), Err(SpaceError::Refused(Refusal::Closed)));
+    /// # Ok::<(), SpaceError>(())
+    /// ```
     ///
     /// # Errors
     /// NoPeer where there is no such peer, Closed where the session has closed already.
@@ -589,11 +1032,58 @@ impl Space {
 
     /// Whether a client is listed for the object of an index: it asked for it, was granted it, and
     /// hasn't given it up.
+    ///
+    /// ```
+    /// # use masttomato::space::*;
+    /// # fn carry(from: &mut Space, to: &mut Space) -> Result<(), SpaceError> {
+    /// #     for frame in from.transmit(to.id())?.iter() {
+    /// #         to.arrive(&frame)?;
+    /// #     }
+    /// #     while to.act(from.id()).is_ok() || to.settle().is_ok() || to.clean().is_ok() {}
+    /// #     Ok(())
+    /// # }
+    /// # let [one, two] = [1, 2].map(|number| SpaceId::new(number).expect("1 to 32"));
+    /// # let mut caller = Space::new(one, two, Limits::default())?;
+    /// # let mut owner = Space::new(two, two, Limits::default())?;
+    /// let object = owner.export()?;
+    /// let call = caller.call(two.agent(), 0, &Value::Unit)?;
+    /// carry(&mut caller, &mut owner)?;
+    /// let job = owner.claim()?;
+    /// owner.finish(job.job, &Outcome::Answer(Value::Ref(object)))?;
+    /// assert!(!owner.lists(object.index, one));
+    /// carry(&mut owner, &mut caller)?;                 // the caller asks for the object
+    /// carry(&mut caller, &mut owner)?;
+    /// assert!(owner.lists(object.index, one));
+    /// # let _ = call;
+    /// # Ok::<(), SpaceError>(())
+    /// ```
     pub fn lists(&self, index: u64, client: SpaceId) -> bool {
         self.handle.lists(index, client.get())
     }
 
     /// Whether TakeReply of a call would say anything but that the reply isn't ready.
+    ///
+    /// ```
+    /// # use masttomato::space::*;
+    /// # fn carry(from: &mut Space, to: &mut Space) -> Result<(), SpaceError> {
+    /// #     for frame in from.transmit(to.id())?.iter() {
+    /// #         to.arrive(&frame)?;
+    /// #     }
+    /// #     while to.act(from.id()).is_ok() || to.settle().is_ok() || to.clean().is_ok() {}
+    /// #     Ok(())
+    /// # }
+    /// # let [one, two] = [1, 2].map(|number| SpaceId::new(number).expect("1 to 32"));
+    /// # let mut caller = Space::new(one, two, Limits::default())?;
+    /// # let mut owner = Space::new(two, two, Limits::default())?;
+    /// let call = caller.call(two.agent(), 0, &Value::Unit)?;
+    /// carry(&mut caller, &mut owner)?;
+    /// assert!(!caller.reply_ready(call));
+    /// let job = owner.claim()?;
+    /// owner.finish(job.job, &Outcome::NoMethod)?;
+    /// carry(&mut owner, &mut caller)?;
+    /// assert!(caller.reply_ready(call));
+    /// # Ok::<(), SpaceError>(())
+    /// ```
     pub fn reply_ready(&self, call: CallNo) -> bool {
         self.handle.reply_ready(call.get())
     }
@@ -628,6 +1118,15 @@ impl Space {
     }
 
     /// What a Transmit to a peer would give.
+    ///
+    /// ```
+    /// # use masttomato::space::*;
+    /// # let [one, two] = [1, 2].map(|number| SpaceId::new(number).expect("1 to 32"));
+    /// # let mut space = Space::new(one, two, Limits::default())?;
+    /// space.call(two.agent(), 0, &Value::Unit)?;
+    /// assert_eq!(space.due(two), Due::New);
+    /// # Ok::<(), SpaceError>(())
+    /// ```
     pub fn due(&self, peer: SpaceId) -> Due {
         match self.handle.due(peer.get()) {
             0 => Due::Nothing,

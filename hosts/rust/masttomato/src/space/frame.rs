@@ -6,12 +6,35 @@ use std::fmt;
 use std::io::{self, Read};
 
 /// A header is so long, and a payload at most so long.
-const HEADER: usize = 28;
+const HEADER: usize = 32;
 const LONGEST_PAYLOAD: usize = 16_384;
 /// The greatest number of an item.
 const LAST_ITEM: u64 = 1 << 40;
 
 /// What a frame is for: see [`Frame`].
+///
+/// ```
+/// # use masttomato::space::*;
+/// # fn carry(from: &mut Space, to: &mut Space) -> Result<(), SpaceError> {
+/// #     for frame in from.transmit(to.id())?.iter() {
+/// #         to.arrive(&frame)?;
+/// #     }
+/// #     while to.act(from.id()).is_ok() || to.settle().is_ok() || to.clean().is_ok() {}
+/// #     Ok(())
+/// # }
+/// # let [one, two] = [1, 2].map(|number| SpaceId::new(number).expect("1 to 32"));
+/// # let mut caller = Space::new(one, two, Limits::default())?;
+/// # let mut owner = Space::new(two, two, Limits::default())?;
+/// assert!(caller.transmit(two)?.is_empty());
+/// caller.call(two.agent(), 0, &Value::Unit)?;
+/// let kind = |frames: Frames| frames.iter().next().map(|frame| frame.kind());
+/// assert_eq!(kind(caller.transmit(two)?), Some(FrameKind::Data));
+/// carry(&mut caller, &mut owner)?;
+/// assert_eq!(kind(owner.transmit(one)?), Some(FrameKind::Ack));
+/// caller.close(two)?;
+/// assert_eq!(kind(caller.transmit(two)?), Some(FrameKind::Close));
+/// # Ok::<(), SpaceError>(())
+/// ```
 #[derive(Clone, Copy, Debug, PartialEq, Eq)]
 #[non_exhaustive]
 pub enum FrameKind {
@@ -24,6 +47,13 @@ pub enum FrameKind {
 }
 
 /// Why bytes are no frame: see [`Frame::from_bytes`].
+///
+/// ```
+/// # use masttomato::space::*;
+/// assert_eq!(Frame::from_bytes(vec![0x4e, 2]), Err(FrameFault::Short));
+/// assert_eq!(Frame::from_bytes(vec![0; 32]), Err(FrameFault::Magic));
+/// assert_eq!(FrameFault::Magic.to_string(), "F2: the first byte isn't 4e");
+/// ```
 #[derive(Clone, Copy, Debug, PartialEq, Eq)]
 #[non_exhaustive]
 pub enum FrameFault {
@@ -31,7 +61,7 @@ pub enum FrameFault {
     Short,
     /// F2: the first byte isn't a frame's.
     Magic,
-    /// F3: the version isn't 1.
+    /// F3: the version isn't 2.
     Version,
     /// F4: the kind is none of the three.
     Kind,
@@ -49,11 +79,18 @@ pub enum FrameFault {
     Reason,
     /// F11: bytes stand after the frame.
     Trailing,
+    /// F12: the number of the session is 0. It is judged behind F9.
+    Session,
 }
 
 impl FrameFault {
-    /// All faults, F1 to F11.
-    pub const ALL: [FrameFault; 11] = [
+    /// All faults, F1 to F12.
+    ///
+    /// ```
+    /// # use masttomato::space::*;
+    /// assert!(FrameFault::ALL.iter().zip(1..).all(|(fault, n)| fault.to_string().starts_with(&format!("F{n}:"))));
+    /// ```
+    pub const ALL: [FrameFault; 12] = [
         FrameFault::Short,
         FrameFault::Magic,
         FrameFault::Version,
@@ -65,6 +102,7 @@ impl FrameFault {
         FrameFault::Length,
         FrameFault::Reason,
         FrameFault::Trailing,
+        FrameFault::Session,
     ];
 }
 
@@ -82,6 +120,7 @@ impl fmt::Display for FrameFault {
             FrameFault::Length => "F9: the payload's length is out of range",
             FrameFault::Reason => "F10: an unknown reason",
             FrameFault::Trailing => "F11: bytes after the frame",
+            FrameFault::Session => "F12: the session's number is out of range",
         })
     }
 }
@@ -100,7 +139,7 @@ impl std::error::Error for FrameFault {}
 /// let frames = space.transmit(second)?;
 /// let frame = frames.iter().next().expect("one item");
 /// assert_eq!((frame.kind(), frame.from(), frame.to()), (FrameKind::Data, first, second));
-/// assert_eq!((frame.seq(), frame.ack()), (1, 1));
+/// assert_eq!((frame.session(), frame.seq(), frame.ack()), (1, 1, 1));
 /// # Ok(())
 /// # }
 /// ```
@@ -114,14 +153,14 @@ impl Frame {
     ///
     /// ```
     /// # use masttomato::space::{Frame, FrameFault};
-    /// let bytes = [&[0x4e, 1, 2, 0, 0, 1, 0, 2][..], &[0; 15], &[1], &[0; 4]].concat();
-    /// assert_eq!(Frame::from_bytes(bytes.clone())?.ack(), 1);
-    /// assert_eq!(Frame::from_bytes(bytes[..27].to_vec()), Err(FrameFault::Short));
+    /// let bytes = [&[0x4e, 2, 2, 0, 0, 1, 0, 2][..], &[0; 15], &[1], &[0; 4], &[0, 0, 0, 9]].concat();
+    /// assert_eq!(Frame::from_bytes(bytes.clone())?.session(), 9);
+    /// assert_eq!(Frame::from_bytes(bytes[..31].to_vec()), Err(FrameFault::Short));
     /// # Ok::<(), FrameFault>(())
     /// ```
     ///
     /// # Errors
-    /// The first of F1 to F11 that they are refused for.
+    /// The first that they are refused for, of F1 to F9, F12, F1 of the payload, F10 and F11.
     pub fn from_bytes(bytes: Vec<u8>) -> Result<Frame, FrameFault> {
         let header = bytes.first_chunk().ok_or(FrameFault::Short)?;
         let end = HEADER + judge_header(header)?;
@@ -139,7 +178,7 @@ impl Frame {
     /// ```
     /// # use masttomato::space::Frame;
     /// # fn main() -> std::io::Result<()> {
-    /// let bytes = [&[0x4e, 1, 2, 0, 0, 1, 0, 2][..], &[0; 15], &[1], &[0; 4]].concat();
+    /// let bytes = [&[0x4e, 2, 2, 0, 0, 1, 0, 2][..], &[0; 15], &[1], &[0; 4], &[0, 0, 0, 1]].concat();
     /// let mut stream = &bytes[..];
     /// assert!(Frame::read_from(&mut stream)?.is_some());
     /// assert!(Frame::read_from(&mut stream)?.is_none());
@@ -163,16 +202,50 @@ impl Frame {
     }
 
     /// The bytes that spell the frame.
+    ///
+    /// ```
+    /// # use masttomato::space::*;
+    /// # let [one, two] = [1, 2].map(|number| SpaceId::new(number).expect("1 to 32"));
+    /// # let mut space = Space::new(one, two, Limits::default())?;
+    /// # space.call(two.agent(), 0, &Value::Unit)?;
+    /// # let frames = space.transmit(two)?;
+    /// # let frame = frames.iter().next().expect("one");
+    /// assert_eq!(frame.as_bytes()[..3], [0x4e, 2, 1]);
+    /// # Ok::<(), SpaceError>(())
+    /// ```
     pub fn as_bytes(&self) -> &[u8] {
         &self.bytes
     }
 
     /// The bytes that spell the frame.
+    ///
+    /// ```
+    /// # use masttomato::space::*;
+    /// # let [one, two] = [1, 2].map(|number| SpaceId::new(number).expect("1 to 32"));
+    /// # let mut space = Space::new(one, two, Limits::default())?;
+    /// # space.call(two.agent(), 0, &Value::Unit)?;
+    /// # let frames = space.transmit(two)?;
+    /// # let frame = frames.iter().next().expect("one");
+    /// let bytes = frame.clone().into_bytes();
+    /// assert_eq!(Frame::from_bytes(bytes), Ok(frame));
+    /// # Ok::<(), SpaceError>(())
+    /// ```
     pub fn into_bytes(self) -> Vec<u8> {
         self.bytes
     }
 
     /// What the frame is for.
+    ///
+    /// ```
+    /// # use masttomato::space::*;
+    /// # let [one, two] = [1, 2].map(|number| SpaceId::new(number).expect("1 to 32"));
+    /// # let mut space = Space::new(one, two, Limits::default())?;
+    /// # space.call(two.agent(), 0, &Value::Unit)?;
+    /// # let frames = space.transmit(two)?;
+    /// # let frame = frames.iter().next().expect("one");
+    /// assert_eq!(frame.kind(), FrameKind::Data);
+    /// # Ok::<(), SpaceError>(())
+    /// ```
     pub fn kind(&self) -> FrameKind {
         match self.bytes[2] {
             1 => FrameKind::Data,
@@ -182,21 +255,82 @@ impl Frame {
     }
 
     /// The space that transmitted it.
+    ///
+    /// ```
+    /// # use masttomato::space::*;
+    /// # let [one, two] = [1, 2].map(|number| SpaceId::new(number).expect("1 to 32"));
+    /// # let mut space = Space::new(one, two, Limits::default())?;
+    /// # space.call(two.agent(), 0, &Value::Unit)?;
+    /// # let frames = space.transmit(two)?;
+    /// # let frame = frames.iter().next().expect("one");
+    /// assert_eq!(frame.from(), space.id());
+    /// # Ok::<(), SpaceError>(())
+    /// ```
     pub fn from(&self) -> SpaceId {
         self.space_at(4)
     }
 
     /// The space that it goes to.
+    ///
+    /// ```
+    /// # use masttomato::space::*;
+    /// # let [one, two] = [1, 2].map(|number| SpaceId::new(number).expect("1 to 32"));
+    /// # let mut space = Space::new(one, two, Limits::default())?;
+    /// # space.call(two.agent(), 0, &Value::Unit)?;
+    /// # let frames = space.transmit(two)?;
+    /// # let frame = frames.iter().next().expect("one");
+    /// assert_eq!(frame.to(), two);
+    /// # Ok::<(), SpaceError>(())
+    /// ```
     pub fn to(&self) -> SpaceId {
         self.space_at(6)
     }
 
+    /// The number of the session that its sender's end was in. As spaces don't open a closed session again
+    /// yet, it is 1 in each frame that a space gives.
+    ///
+    /// ```
+    /// # use masttomato::space::*;
+    /// # let [one, two] = [1, 2].map(|number| SpaceId::new(number).expect("1 to 32"));
+    /// # let mut space = Space::new(one, two, Limits::default())?;
+    /// # space.call(two.agent(), 0, &Value::Unit)?;
+    /// # let frames = space.transmit(two)?;
+    /// # let frame = frames.iter().next().expect("one");
+    /// assert_eq!(frame.session(), 1);
+    /// # Ok::<(), SpaceError>(())
+    /// ```
+    pub fn session(&self) -> u32 {
+        u32_at(&self.bytes, 28)
+    }
+
     /// The number of the item that a Data frame carries; 0 in the others.
+    ///
+    /// ```
+    /// # use masttomato::space::*;
+    /// # let [one, two] = [1, 2].map(|number| SpaceId::new(number).expect("1 to 32"));
+    /// # let mut space = Space::new(one, two, Limits::default())?;
+    /// # space.call(two.agent(), 0, &Value::Unit)?;
+    /// # let frames = space.transmit(two)?;
+    /// # let frame = frames.iter().next().expect("one");
+    /// assert_eq!(frame.seq(), 1);                      // it is the first item of all
+    /// # Ok::<(), SpaceError>(())
+    /// ```
     pub fn seq(&self) -> u64 {
         u64_at(&self.bytes, 8)
     }
 
     /// The number of the next item that its sender hasn't accepted yet.
+    ///
+    /// ```
+    /// # use masttomato::space::*;
+    /// # let [one, two] = [1, 2].map(|number| SpaceId::new(number).expect("1 to 32"));
+    /// # let mut space = Space::new(one, two, Limits::default())?;
+    /// # space.call(two.agent(), 0, &Value::Unit)?;
+    /// # let frames = space.transmit(two)?;
+    /// # let frame = frames.iter().next().expect("one");
+    /// assert_eq!(frame.ack(), 1);                      // nothing was accepted yet
+    /// # Ok::<(), SpaceError>(())
+    /// ```
     pub fn ack(&self) -> u64 {
         u64_at(&self.bytes, 16)
     }
@@ -213,6 +347,16 @@ impl fmt::Display for Frame {
 }
 
 /// The frames that one Transmit gave, in order. They may be none. See [`Space::push`](super::Space::push).
+///
+/// ```
+/// # use masttomato::space::*;
+/// # let [one, two] = [1, 2].map(|number| SpaceId::new(number).expect("1 to 32"));
+/// # let mut space = Space::new(one, two, Limits::default())?;
+/// (0..3).try_for_each(|number| space.call(two.agent(), 0, &Value::Int(number)).map(drop))?;
+/// let frames = space.transmit(two)?;
+/// assert_eq!(frames.iter().map(|frame| frame.seq()).collect::<Vec<_>>(), [1, 2, 3]);
+/// # Ok::<(), SpaceError>(())
+/// ```
 #[derive(Clone, Debug, Default, PartialEq, Eq)]
 pub struct Frames {
     // They stand one after the other.
@@ -226,28 +370,61 @@ impl Frames {
     }
 
     /// Whether there is none.
+    ///
+    /// ```
+    /// # use masttomato::space::*;
+    /// # let [one, two] = [1, 2].map(|number| SpaceId::new(number).expect("1 to 32"));
+    /// # let mut space = Space::new(one, two, Limits::default())?;
+    /// assert!(space.transmit(two)?.is_empty());
+    /// # Ok::<(), SpaceError>(())
+    /// ```
     pub fn is_empty(&self) -> bool {
         self.bytes.is_empty()
     }
 
     /// The bytes of the frames, one after the other: what a stream of frames is made of.
+    ///
+    /// ```
+    /// # use masttomato::space::*;
+    /// # let [one, two] = [1, 2].map(|number| SpaceId::new(number).expect("1 to 32"));
+    /// # let mut space = Space::new(one, two, Limits::default())?;
+    /// # space.call(two.agent(), 0, &Value::Unit)?;
+    /// # let frames = space.transmit(two)?;
+    /// # let frame = frames.iter().next().expect("one");
+    /// assert_eq!(frames.as_bytes(), frame.as_bytes());          // there is but one
+    /// # Ok::<(), SpaceError>(())
+    /// ```
     pub fn as_bytes(&self) -> &[u8] {
         &self.bytes
     }
 
     /// The frames, in order.
+    ///
+    /// ```
+    /// # use masttomato::space::*;
+    /// # let [one, two] = [1, 2].map(|number| SpaceId::new(number).expect("1 to 32"));
+    /// # let mut space = Space::new(one, two, Limits::default())?;
+    /// # space.call(two.agent(), 0, &Value::Unit)?;
+    /// # let frames = space.transmit(two)?;
+    /// # let frame = frames.iter().next().expect("one");
+    /// assert_eq!(frames.iter().count(), 1);
+    /// # Ok::<(), SpaceError>(())
+    /// ```
+    ///
+    /// # Panics
+    /// Where the library gave other bytes than frames.
     pub fn iter(&self) -> impl Iterator<Item = Frame> + '_ {
         let mut left = &self.bytes[..];
         std::iter::from_fn(move || Frame::read_from(&mut left).expect("whole frames"))
     }
 }
 
-// How long the payload is behind a header, or the first of F2 to F9.
+// How long the payload is behind a header, or the first of F2 to F9 and F12.
 fn judge_header(header: &[u8; HEADER]) -> Result<usize, FrameFault> {
     if header[0] != 0x4e {
         return Err(FrameFault::Magic);
     }
-    if header[1] != 1 {
+    if header[1] != 2 {
         return Err(FrameFault::Version);
     }
     let kind = header[2];
@@ -269,13 +446,17 @@ fn judge_header(header: &[u8; HEADER]) -> Result<usize, FrameFault> {
     if !(1..=LAST_ITEM + 1).contains(&u64_at(header, 16)) {
         return Err(FrameFault::Ack);
     }
-    let length = u32::from_be_bytes([header[24], header[25], header[26], header[27]]) as usize;
+    let length = u32_at(header, 24) as usize;
     let fits = match kind {
         1 => (1..=LONGEST_PAYLOAD).contains(&length),
         2 => length == 0,
         _ => length == 1,
     };
-    if fits { Ok(length) } else { Err(FrameFault::Length) }
+    match () {
+        () if !fits => Err(FrameFault::Length),
+        () if u32_at(header, 28) == 0 => Err(FrameFault::Session),
+        () => Ok(length),
+    }
 }
 
 // F10, of a Close.
@@ -307,6 +488,12 @@ fn invalid(fault: FrameFault) -> io::Error {
 
 fn u16_at(bytes: &[u8], place: usize) -> u16 {
     u16::from_be_bytes([bytes[place], bytes[place + 1]])
+}
+
+fn u32_at(bytes: &[u8], place: usize) -> u32 {
+    let mut number = [0; 4];
+    number.copy_from_slice(&bytes[place..place + 4]);
+    u32::from_be_bytes(number)
 }
 
 fn u64_at(bytes: &[u8], place: usize) -> u64 {

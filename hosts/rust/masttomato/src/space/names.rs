@@ -17,9 +17,20 @@ pub struct SpaceId(u16);
 
 impl SpaceId {
     /// The greatest number of a space.
+    ///
+    /// ```
+    /// # use masttomato::space::*;
+    /// assert_eq!((SpaceId::new(SpaceId::MOST).is_some(), SpaceId::new(SpaceId::MOST + 1)), (true, None));
+    /// ```
     pub const MOST: u16 = 32;
 
     /// The space of this number: `None` where no space has it.
+    ///
+    /// ```
+    /// # use masttomato::space::*;
+    /// const ORDERS: SpaceId = SpaceId::new(7).expect("1 to 32");
+    /// assert_eq!((ORDERS.get(), SpaceId::new(0)), (7, None));
+    /// ```
     pub const fn new(number: u16) -> Option<SpaceId> {
         if number == 0 || number > SpaceId::MOST {
             return None;
@@ -28,22 +39,47 @@ impl SpaceId {
     }
 
     /// The space's number.
+    ///
+    /// ```
+    /// # use masttomato::space::*;
+    /// assert_eq!(SpaceId::try_from(7)?.get(), 7);
+    /// # Ok::<(), NoSpace>(())
+    /// ```
     pub const fn get(self) -> u16 {
         self.0
     }
 
     /// The reference to this space's agent, which every space may call and which isn't counted.
+    ///
+    /// ```
+    /// # use masttomato::space::*;
+    /// let agent = SpaceId::try_from(7)?.agent();
+    /// assert_eq!((agent.to_string(), agent.is_counted()), ("7.0".to_string(), false));
+    /// # Ok::<(), NoSpace>(())
+    /// ```
     pub const fn agent(self) -> Reference {
         Reference { owner: self, index: 0 }
     }
 
     /// The spaces from 1 to this one.
+    ///
+    /// ```
+    /// # use masttomato::space::*;
+    /// let all: Vec<u16> = SpaceId::try_from(3)?.up_to().map(SpaceId::get).collect();
+    /// assert_eq!(all, [1, 2, 3]);
+    /// # Ok::<(), NoSpace>(())
+    /// ```
     pub fn up_to(self) -> impl Iterator<Item = SpaceId> {
         (1..=self.0).map(SpaceId)
     }
 }
 
 /// A number that no space has: see [`SpaceId`].
+///
+/// ```
+/// # use masttomato::space::*;
+/// assert_eq!((SpaceId::try_from(33), "0".parse::<SpaceId>()), (Err(NoSpace), Err(NoSpace)));
+/// ```
 #[derive(Clone, Copy, Debug, PartialEq, Eq)]
 pub struct NoSpace;
 
@@ -98,6 +134,13 @@ pub struct Reference {
 
 impl Reference {
     /// Whether the collector counts the reference: it doesn't count those to an agent.
+    ///
+    /// ```
+    /// # use masttomato::space::*;
+    /// let owner = SpaceId::try_from(3)?;
+    /// assert!(Reference { owner, index: 1 }.is_counted() && !owner.agent().is_counted());
+    /// # Ok::<(), NoSpace>(())
+    /// ```
     pub const fn is_counted(self) -> bool {
         self.index != 0
     }
@@ -118,11 +161,21 @@ macro_rules! numbers {
 
         impl $name {
             /// The one of this number, which may be any.
+            ///
+            /// ```
+            /// # use masttomato::space::*;
+            /// assert_eq!(Event::TakeReply(CallNo::new(7)).to_string(), "take 7");
+            /// ```
             pub const fn new(number: u64) -> $name {
                 $name(number)
             }
 
             /// The number.
+            ///
+            /// ```
+            /// # use masttomato::space::*;
+            /// assert_eq!(CallNo::new(7).get(), 7);
+            /// ```
             pub const fn get(self) -> u64 {
                 self.0
             }
@@ -138,10 +191,25 @@ macro_rules! numbers {
 
 numbers! {
     /// The number of a call among those of its client, from 1 on.
+    ///
+    /// ```
+    /// # use masttomato::space::*;
+    /// assert!(CallNo::new(1) < CallNo::new(2));
+    /// ```
     CallNo
     /// The number of a job among those that its space has claimed, from 1 on.
+    ///
+    /// ```
+    /// # use masttomato::space::*;
+    /// assert_eq!(Event::Finish(JobNo::new(4), Outcome::NoMethod).to_string(), "finish 4 nomethod");
+    /// ```
     JobNo
     /// The number of an item among those that one space handed on to another, from 1 on.
+    ///
+    /// ```
+    /// # use masttomato::space::*;
+    /// assert_eq!(Answer::Acted(ItemNo::new(4)).to_string(), "acted 4");
+    /// ```
     ItemNo
 }
 
@@ -162,6 +230,12 @@ pub struct Limits {
 
 impl Limits {
     /// These limits: `None` where the window isn't 1 to 64, or the retry limit is 0.
+    ///
+    /// ```
+    /// # use masttomato::space::*;
+    /// assert!(Limits::new(1, 1).is_some() && Limits::new(64, 255).is_some());
+    /// assert!(Limits::new(0, 1).is_none() && Limits::new(65, 1).is_none() && Limits::new(1, 0).is_none());
+    /// ```
     pub const fn new(window: u8, retry: u8) -> Option<Limits> {
         if window == 0 || window > 64 || retry == 0 {
             return None;
@@ -170,11 +244,21 @@ impl Limits {
     }
 
     /// How many items may be given and not acknowledged.
+    ///
+    /// ```
+    /// # use masttomato::space::*;
+    /// assert_eq!(Limits::default().window(), 8);
+    /// ```
     pub const fn window(self) -> u8 {
         self.window
     }
 
     /// At how many counted ticks a session closes.
+    ///
+    /// ```
+    /// # use masttomato::space::*;
+    /// assert_eq!(Limits::default().retry(), 16);
+    /// ```
     pub const fn retry(self) -> u8 {
         self.retry
     }
@@ -223,11 +307,21 @@ impl Reason {
     ];
 
     /// The reason's number, 1 to 6.
+    ///
+    /// ```
+    /// # use masttomato::space::*;
+    /// assert_eq!((Reason::Asked.number(), Reason::OutOfPlace.number()), (1, 6));
+    /// ```
     pub const fn number(self) -> u8 {
         self as u8
     }
 
     /// The reason of this number: `None` where no reason has it.
+    ///
+    /// ```
+    /// # use masttomato::space::*;
+    /// assert_eq!((Reason::from_number(2), Reason::from_number(7)), (Some(Reason::PeerClosed), None));
+    /// ```
     pub fn from_number(number: u8) -> Option<Reason> {
         Reason::ALL.into_iter().find(|reason| reason.number() == number)
     }

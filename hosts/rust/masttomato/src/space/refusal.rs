@@ -4,6 +4,16 @@ use std::error::Error;
 use std::fmt;
 
 /// What still uses an object that is to be withdrawn: the first of these that holds. See [`Refusal`].
+///
+/// ```
+/// # use masttomato::space::*;
+/// # let [one, two] = [1, 2].map(|number| SpaceId::new(number).expect("1 to 32"));
+/// # let mut space = Space::new(one, two, Limits::default())?;
+/// let object = space.export()?;
+/// let refused = space.withdraw(object.index);
+/// assert_eq!(refused, Err(SpaceError::Refused(Refusal::StillUsed(Use::Held))));
+/// # Ok::<(), SpaceError>(())
+/// ```
 #[derive(Clone, Copy, Debug, PartialEq, Eq)]
 #[non_exhaustive]
 pub enum Use {
@@ -58,6 +68,11 @@ pub enum Refusal {
 
 impl Refusal {
     /// All refusals, in the order of their names.
+    ///
+    /// ```
+    /// # use masttomato::space::*;
+    /// assert_eq!((Refusal::ALL[0].name(), Refusal::ALL[15].name()), ("S1", "S13"));
+    /// ```
     pub const ALL: [Refusal; 16] = [
         Refusal::NoPeer,
         Refusal::Closed,
@@ -78,6 +93,11 @@ impl Refusal {
     ];
 
     /// The refusal's name, as scripts and traces have it: `S1`, .., `S11(3)`, ..
+    ///
+    /// ```
+    /// # use masttomato::space::*;
+    /// assert_eq!(Refusal::Nothing.name(), "S10");
+    /// ```
     pub fn name(self) -> &'static str {
         self.texts().0
     }

@@ -9,6 +9,14 @@ use super::refusal::SpaceError;
 use std::fmt::{self, Write};
 
 /// What the first line of a script says: see [`World`].
+///
+/// ```
+/// # use masttomato::space::script::*;
+/// # use masttomato::space::*;
+/// let opening = Opening { spaces: SpaceId::try_from(3)?, limits: Limits::default() };
+/// assert_eq!(World::new(opening)?.spaces().len(), 3);
+/// # Ok::<(), Box<dyn std::error::Error>>(())
+/// ```
 #[derive(Clone, Copy, Debug)]
 pub struct Opening {
     /// The last space: there are those from 1 to it.
@@ -18,6 +26,14 @@ pub struct Opening {
 }
 
 /// A step of a world: see [`World`].
+///
+/// ```
+/// # use masttomato::space::script::*;
+/// # use masttomato::space::*;
+/// let step = Step::Do(SpaceId::try_from(2)?, Event::Export);
+/// assert_eq!((step.to_string(), Step::Deliver(5).to_string()), ("2 export".into(), "deliver 5".into()));
+/// # Ok::<(), Box<dyn std::error::Error>>(())
+/// ```
 #[derive(Clone, Debug, PartialEq, Eq)]
 #[non_exhaustive]
 pub enum Step {
@@ -37,6 +53,15 @@ impl fmt::Display for Step {
 }
 
 /// Why a step isn't done. Its text is its name in scripts: `X1`, `X2`, or that of a space's refusal.
+///
+/// ```
+/// # use masttomato::space::script::*;
+/// # use masttomato::space::*;
+/// let mut world = World::new(Opening { spaces: SpaceId::try_from(1)?, limits: Limits::default() })?;
+/// assert_eq!(world.step(&Step::Deliver(1)), Err(StepError::NoFrame));
+/// assert_eq!(world.step(&Step::Do(SpaceId::try_from(2)?, Event::Export)), Err(StepError::NoSpace));
+/// # Ok::<(), Box<dyn std::error::Error>>(())
+/// ```
 #[derive(Clone, Copy, Debug, PartialEq, Eq)]
 #[non_exhaustive]
 pub enum StepError {
@@ -97,6 +122,14 @@ pub struct World {
 impl World {
     /// Spaces that did nothing.
     ///
+    /// ```
+    /// # use masttomato::space::script::*;
+    /// # use masttomato::space::*;
+    /// let world = World::new(Opening { spaces: SpaceId::try_from(2)?, limits: Limits::default() })?;
+    /// assert_eq!((world.spaces().len(), world.frame_count()), (2, 0));
+    /// # Ok::<(), Box<dyn std::error::Error>>(())
+    /// ```
+    ///
     /// # Errors
     /// Where memory runs out.
     pub fn new(opening: Opening) -> Result<World, SpaceError> {
@@ -110,6 +143,15 @@ impl World {
     }
 
     /// One step: what its space answers. It is written as a script has it.
+    ///
+    /// ```
+    /// # use masttomato::space::script::*;
+    /// # use masttomato::space::*;
+    /// let one = SpaceId::try_from(1)?;
+    /// let mut world = World::new(Opening { spaces: one, limits: Limits::default() })?;
+    /// assert_eq!(world.step(&Step::Do(one, Event::Export))?.to_string(), "exported 1.1");
+    /// # Ok::<(), Box<dyn std::error::Error>>(())
+    /// ```
     ///
     /// # Errors
     /// Where there is no such space or frame, or the space doesn't do it.
@@ -128,21 +170,59 @@ impl World {
     }
 
     /// The frame of a number, counted from 1.
+    ///
+    /// ```
+    /// # use masttomato::space::script::*;
+    /// # use masttomato::space::*;
+    /// let [one, two] = [SpaceId::try_from(1)?, SpaceId::try_from(2)?];
+    /// let mut world = World::new(Opening { spaces: two, limits: Limits::default() })?;
+    /// world.step(&Step::Do(one, "call 2.0 1 u".parse()?))?;
+    /// world.step(&Step::Do(one, Event::Transmit(two)))?;
+    /// assert_eq!(world.frame(1).map(Frame::to), Some(two));
+    /// assert_eq!((world.frame(0), world.frame(2)), (None, None));
+    /// # Ok::<(), Box<dyn std::error::Error>>(())
+    /// ```
     pub fn frame(&self, number: u64) -> Option<&Frame> {
         self.frames.get(usize::try_from(number).ok()?.checked_sub(1)?)
     }
 
     /// How many frames were transmitted.
+    ///
+    /// ```
+    /// # use masttomato::space::script::*;
+    /// # use masttomato::space::*;
+    /// let world = World::new(Opening { spaces: SpaceId::try_from(2)?, limits: Limits::default() })?;
+    /// assert_eq!(world.frame_count(), 0);
+    /// # Ok::<(), Box<dyn std::error::Error>>(())
+    /// ```
     pub fn frame_count(&self) -> u64 {
         self.frames.len() as u64
     }
 
     /// The spaces, from 1 on.
+    ///
+    /// ```
+    /// # use masttomato::space::script::*;
+    /// # use masttomato::space::*;
+    /// let world = World::new(Opening { spaces: SpaceId::try_from(2)?, limits: Limits::default() })?;
+    /// assert_eq!(world.spaces().iter().map(|space| space.id().get()).collect::<Vec<_>>(), [1, 2]);
+    /// # Ok::<(), Box<dyn std::error::Error>>(())
+    /// ```
     pub fn spaces(&self) -> &[Space] {
         &self.spaces
     }
 
     /// The traces of all spaces, one after the other: what `nobj check` reads.
+    ///
+    /// ```
+    /// # use masttomato::space::script::*;
+    /// # use masttomato::space::*;
+    /// let one = SpaceId::try_from(1)?;
+    /// let mut world = World::new(Opening { spaces: one, limits: Limits::default() })?;
+    /// world.step(&Step::Do(one, Event::Export))?;
+    /// assert_eq!(world.traces(), "trace2 1 of 1 window 8 retry 16 entries 1\n1 export = exported 1.1\n");
+    /// # Ok::<(), Box<dyn std::error::Error>>(())
+    /// ```
     pub fn traces(&self) -> String {
         self.spaces.iter().filter_map(Space::trace).map(|trace| trace.to_string()).collect()
     }

@@ -73,6 +73,11 @@ pub enum PickleFault {
 
 impl PickleFault {
     /// All faults, P1 to P8.
+    ///
+    /// ```
+    /// # use masttomato::space::*;
+    /// assert!(PickleFault::ALL.iter().zip(1..).all(|(fault, n)| fault.to_string().starts_with(&format!("P{n}:"))));
+    /// ```
     pub const ALL: [PickleFault; 8] = [
         PickleFault::Short,
         PickleFault::Tag,
@@ -159,6 +164,13 @@ impl Value {
     }
 
     /// The value that all of these bytes spell.
+    ///
+    /// ```
+    /// # use masttomato::space::*;
+    /// assert_eq!(Value::decode(&[0]), Ok(Value::Unit));
+    /// assert_eq!(Value::decode(&[1, 0, 0]), Err(PickleFault::Short));
+    /// assert_eq!(Value::decode(&[0, 9]), Err(PickleFault::Trailing));
+    /// ```
     ///
     /// # Errors
     /// The first fault from the front.

@@ -40,8 +40,10 @@ fn entries(trace: &str) -> impl Iterator<Item = (u64, &str, &str)> {
     })
 }
 
-/// What a space answers otherwise than its trace says.
+/// What a space answers otherwise than its trace says. One of version 1 is read as one of version 2: its
+/// frames name no session, and are of the first.
 pub fn replay_fault(trace: &str) -> Option<String> {
+    let trace = &of_version_2(trace);
     let mut lines = trace.lines();
     let mut space = space_of(lines.next().expect("a first line"));
     for line in lines {
@@ -60,10 +62,33 @@ pub fn replay_fault(trace: &str) -> Option<String> {
     }
 }
 
-// A space as the first line of a trace says: `trace S of N window W retry R entries K`.
+// The same trace with frames of version 2.
+fn of_version_2(trace: &str) -> String {
+    let Some(rest) = trace.strip_prefix("trace ") else { return trace.into() };
+    let mut text = String::from("trace2 ");
+    for line in rest.split_inclusive('\n') {
+        let (event, result) = line.split_once(" = ").unwrap_or((line, ""));
+        let has_frames = result.starts_with("frames ") || event.contains(" arrive ");
+        match has_frames {
+            true => text.extend(line.split_inclusive([' ', '\n']).map(frame_of_version_2)),
+            false => text.push_str(line),
+        }
+    }
+    text
+}
+
+// A word with a frame of version 2, where it has one of version 1: the session behind the length.
+fn frame_of_version_2(word: &str) -> String {
+    match word.strip_prefix("4e01").and_then(|rest| rest.split_at_checked(52)) {
+        Some((header, payload)) => format!("4e02{header}00000001{payload}"),
+        None => word.into(),
+    }
+}
+
+// A space as the first line of a trace says: `trace2 S of N window W retry R entries K`.
 fn space_of(line: &str) -> Space {
     let words: Vec<&str> = line.split(' ').collect();
-    let ["trace", space, "of", spaces, "window", window, "retry", retry, "entries", _] = words[..]
+    let ["trace2", space, "of", spaces, "window", window, "retry", retry, "entries", _] = words[..]
     else {
         panic!("{line}");
     };

@@ -1,6 +1,6 @@
 //! Frames, judged and spelled, and streams of them.
 
-const HEADER: usize = 28;
+const HEADER: usize = 32;
 const LONGEST: usize = 16_384;
 const LAST_ITEM: u64 = 1 << 40;
 
@@ -14,6 +14,7 @@ pub(super) struct Frame<'a> {
     pub(super) kind: u8,
     pub(super) from: u16,
     pub(super) to: u16,
+    pub(super) session: u32,
     pub(super) seq: u64,
     pub(super) ack: u64,
     pub(super) payload: &'a [u8],
@@ -22,12 +23,13 @@ pub(super) struct Frame<'a> {
 impl Frame<'_> {
     /// Puts the frame behind others.
     pub(super) fn put(&self, out: &mut Vec<u8>) {
-        out.extend([0x4e, 1, self.kind, 0]);
+        out.extend([0x4e, 2, self.kind, 0]);
         out.extend(self.from.to_be_bytes());
         out.extend(self.to.to_be_bytes());
         out.extend(self.seq.to_be_bytes());
         out.extend(self.ack.to_be_bytes());
         out.extend((self.payload.len() as u32).to_be_bytes());
+        out.extend(self.session.to_be_bytes());
         out.extend(self.payload);
     }
 }
@@ -39,11 +41,11 @@ pub(super) fn front(bytes: &[u8]) -> Result<(Frame<'_>, usize), u32> {
     let u64_at =
         |place: usize| header[place..place + 8].iter().fold(0, |n, b| n << 8 | u64::from(*b));
     let (kind, from, to, seq, ack) = (header[2], u16_at(4), u16_at(6), u64_at(8), u64_at(16));
-    let length = (u64_at(20) & 0xffff_ffff) as usize;
+    let (length, session) = ((u64_at(20) & 0xffff_ffff) as usize, u64_at(24) as u32);
     let is_space = |number| (1..=32).contains(&number);
     let faults = [
         (2, header[0] != 0x4e),
-        (3, header[1] != 1),
+        (3, header[1] != 2),
         (4, !(DATA..=CLOSE).contains(&kind)),
         (5, header[3] != 0),
         (6, !is_space(from) || !is_space(to) || from == to),
@@ -57,6 +59,7 @@ pub(super) fn front(bytes: &[u8]) -> Result<(Frame<'_>, usize), u32> {
                 _ => length != 1,
             },
         ),
+        (12, session == 0),
     ];
     if let Some((number, _)) = faults.iter().find(|(_, holds)| *holds) {
         return Err(*number);
@@ -65,7 +68,7 @@ pub(super) fn front(bytes: &[u8]) -> Result<(Frame<'_>, usize), u32> {
     if kind == CLOSE && !(1..=6).contains(&payload[0]) {
         return Err(10);
     }
-    Ok((Frame { kind, from, to, seq, ack, payload }, HEADER + length))
+    Ok((Frame { kind, from, to, session, seq, ack, payload }, HEADER + length))
 }
 
 /// The frame that all of these bytes spell, or the number of its first fault.

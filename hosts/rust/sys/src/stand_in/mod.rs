@@ -68,6 +68,23 @@ impl Answer {
 }
 
 /// A space, with the answer that is kept and the streams that come to it.
+///
+/// ```
+/// use masttomato_sys::Told;
+/// use masttomato_sys::stand_in::Handle;
+///
+/// let mut caller = Handle::new(1, 2, 8, 16)?;
+/// let mut owner = Handle::new(2, 2, 8, 16)?;
+/// assert_eq!(caller.call(2, 0, 3, &[0]), (0, Told { kind: 3, number: 1, ..Told::default() }));
+/// caller.transmit(2);
+/// let mut frame = [0; 100];
+/// let length = caller.answer(&mut frame);
+/// assert_eq!(owner.arrive(&frame[..length]), (0, Told { kind: 15, number: 1, ..Told::default() }));
+/// assert_eq!(owner.act(1).0, 0);
+/// let (status, job) = owner.claim();
+/// assert_eq!((status, job.kind, job.space, job.method), (0, 6, 1, 3));
+/// # Ok::<(), u32>(())
+/// ```
 #[derive(Debug)]
 pub struct Handle {
     space: Space,
@@ -99,6 +116,12 @@ fn in_range(space: u16, ask: impl FnOnce() -> Result<Answer, u32>) -> Answered {
 impl Handle {
     /// A space, or the status that says why there is none.
     ///
+    /// ```
+    /// # use masttomato_sys::stand_in::Handle;
+    /// assert!(Handle::new(1, 2, 8, 16).is_ok());
+    /// assert_eq!(Handle::new(33, 33, 8, 16).err(), Some(60));
+    /// ```
+    ///
     /// # Errors
     /// 60 where a number is outside its range.
     pub fn new(id: u16, n: u16, window: u64, retry: u64) -> Result<Handle, u32> {
@@ -117,21 +140,52 @@ impl Handle {
     }
 
     /// Export.
+    ///
+    /// ```
+    /// # use masttomato_sys::stand_in::Handle;
+    /// # let mut handle = Handle::new(1, 2, 8, 16)?;
+    /// let (status, told) = handle.export();
+    /// assert_eq!((status, told.kind, told.space, told.index), (0, 1, 1, 1));
+    /// # Ok::<(), u32>(())
+    /// ```
     pub fn export(&mut self) -> Answered {
         answered(self.space.export())
     }
 
     /// Dup.
+    ///
+    /// ```
+    /// # use masttomato_sys::stand_in::Handle;
+    /// # let mut handle = Handle::new(1, 2, 8, 16)?;
+    /// handle.export();
+    /// assert_eq!((handle.dup(1, 1).0, handle.dup(1, 2).0), (0, 3));
+    /// # Ok::<(), u32>(())
+    /// ```
     pub fn dup(&mut self, owner: u16, index: u64) -> Answered {
         in_range(owner, || self.space.dup(Reference { owner, index }))
     }
 
     /// Release.
+    ///
+    /// ```
+    /// # use masttomato_sys::stand_in::Handle;
+    /// # let mut handle = Handle::new(1, 2, 8, 16)?;
+    /// handle.export();
+    /// assert_eq!((handle.release(1, 1).0, handle.release(1, 1).0), (0, 4));
+    /// # Ok::<(), u32>(())
+    /// ```
     pub fn release(&mut self, owner: u16, index: u64) -> Answered {
         in_range(owner, || self.space.release(Reference { owner, index }))
     }
 
     /// Call.
+    ///
+    /// ```
+    /// # use masttomato_sys::stand_in::Handle;
+    /// # let mut handle = Handle::new(1, 2, 8, 16)?;
+    /// assert_eq!((handle.call(2, 0, 0, &[0]).0, handle.call(2, 0, 0, &[9]).0), (0, 22));
+    /// # Ok::<(), u32>(())
+    /// ```
     pub fn call(&mut self, owner: u16, index: u64, method: u16, pickle: &[u8]) -> Answered {
         in_range(owner, || {
             let value = Pickle::judge(pickle).map_err(|fault| PICKLE + fault)?;
@@ -140,6 +194,14 @@ impl Handle {
     }
 
     /// TakeReply.
+    ///
+    /// ```
+    /// # use masttomato_sys::stand_in::Handle;
+    /// # let mut handle = Handle::new(1, 2, 8, 16)?;
+    /// handle.call(2, 0, 0, &[0]);
+    /// assert_eq!((handle.take_reply(1).0, handle.take_reply(2).0), (9, 8));
+    /// # Ok::<(), u32>(())
+    /// ```
     pub fn take_reply(&mut self, call: u64) -> Answered {
         answered(self.space.take_reply(call).map(|(answer, value)| {
             self.value = value.map(|value| value.bytes).or(self.value.take());
@@ -148,6 +210,13 @@ impl Handle {
     }
 
     /// Claim.
+    ///
+    /// ```
+    /// # use masttomato_sys::stand_in::Handle;
+    /// # let mut handle = Handle::new(1, 2, 8, 16)?;
+    /// assert_eq!(handle.claim().0, 10);
+    /// # Ok::<(), u32>(())
+    /// ```
     pub fn claim(&mut self) -> Answered {
         answered(self.space.claim().map(|(answer, value)| {
             self.value = Some(value.bytes);
@@ -156,6 +225,13 @@ impl Handle {
     }
 
     /// Finish.
+    ///
+    /// ```
+    /// # use masttomato_sys::stand_in::Handle;
+    /// # let mut handle = Handle::new(1, 2, 8, 16)?;
+    /// assert_eq!((handle.finish(1, 2, &[]).0, handle.finish(1, 3, &[]).0), (12, 60));
+    /// # Ok::<(), u32>(())
+    /// ```
     pub fn finish(&mut self, job: u64, outcome: u32, pickle: &[u8]) -> Answered {
         answered(match outcome {
             0 | 1 => Pickle::judge(pickle)
@@ -167,26 +243,66 @@ impl Handle {
     }
 
     /// Act.
+    ///
+    /// ```
+    /// # use masttomato_sys::stand_in::Handle;
+    /// # let mut handle = Handle::new(1, 2, 8, 16)?;
+    /// assert_eq!((handle.act(2).0, handle.act(3).0), (10, 1));
+    /// # Ok::<(), u32>(())
+    /// ```
     pub fn act(&mut self, peer: u16) -> Answered {
         in_range(peer, || self.space.act(peer))
     }
 
     /// Settle.
+    ///
+    /// ```
+    /// # use masttomato_sys::stand_in::Handle;
+    /// # let mut handle = Handle::new(1, 2, 8, 16)?;
+    /// assert_eq!(handle.settle().0, 10);
+    /// # Ok::<(), u32>(())
+    /// ```
     pub fn settle(&mut self) -> Answered {
         answered(self.space.settle())
     }
 
     /// Clean.
+    ///
+    /// ```
+    /// # use masttomato_sys::stand_in::Handle;
+    /// # let mut handle = Handle::new(1, 2, 8, 16)?;
+    /// assert_eq!(handle.clean().0, 10);
+    /// # Ok::<(), u32>(())
+    /// ```
     pub fn clean(&mut self) -> Answered {
         answered(self.space.clean())
     }
 
     /// Withdraw.
+    ///
+    /// ```
+    /// # use masttomato_sys::stand_in::Handle;
+    /// # let mut handle = Handle::new(1, 2, 8, 16)?;
+    /// handle.export();
+    /// assert_eq!(handle.withdraw(1).0, 111);
+    /// handle.release(1, 1);
+    /// assert_eq!(handle.withdraw(1).0, 0);
+    /// # Ok::<(), u32>(())
+    /// ```
     pub fn withdraw(&mut self, index: u64) -> Answered {
         answered(self.space.withdraw(index))
     }
 
     /// Transmit.
+    ///
+    /// ```
+    /// # use masttomato_sys::stand_in::Handle;
+    /// # let mut handle = Handle::new(1, 2, 8, 16)?;
+    /// handle.call(2, 0, 0, &[0]);
+    /// let (status, told) = handle.transmit(2);
+    /// assert_eq!((status, told.kind, told.number, handle.answer(&mut [])), (0, 14, 1, 32 + 20));
+    /// # Ok::<(), u32>(())
+    /// ```
     pub fn transmit(&mut self, peer: u16) -> Answered {
         in_range(peer, || {
             let (bytes, count) = self.space.transmit(peer)?;
@@ -196,6 +312,13 @@ impl Handle {
     }
 
     /// Arrive.
+    ///
+    /// ```
+    /// # use masttomato_sys::stand_in::Handle;
+    /// # let mut handle = Handle::new(1, 2, 8, 16)?;
+    /// assert_eq!((handle.arrive(&[0x4e, 2]).0, handle.arrive(&[0; 32]).0), (41, 42));
+    /// # Ok::<(), u32>(())
+    /// ```
     pub fn arrive(&mut self, bytes: &[u8]) -> Answered {
         answered(match frame::whole(bytes) {
             Ok(frame) => self.space.arrive(&frame),
@@ -204,16 +327,40 @@ impl Handle {
     }
 
     /// Tick.
+    ///
+    /// ```
+    /// # use masttomato_sys::stand_in::Handle;
+    /// # let mut handle = Handle::new(1, 2, 8, 16)?;
+    /// let (status, told) = handle.tick(2);
+    /// assert_eq!((status, told.kind), (0, 2));
+    /// # Ok::<(), u32>(())
+    /// ```
     pub fn tick(&mut self, peer: u16) -> Answered {
         in_range(peer, || self.space.tick(peer))
     }
 
     /// Close.
+    ///
+    /// ```
+    /// # use masttomato_sys::stand_in::Handle;
+    /// # let mut handle = Handle::new(1, 2, 8, 16)?;
+    /// let (status, told) = handle.close(2);
+    /// assert_eq!((status, told.kind, told.number), (0, 10, 1));
+    /// # Ok::<(), u32>(())
+    /// ```
     pub fn close(&mut self, peer: u16) -> Answered {
         in_range(peer, || self.space.asked_to_close(peer))
     }
 
     /// The next piece of a stream of frames.
+    ///
+    /// ```
+    /// # use masttomato_sys::stand_in::Handle;
+    /// # let mut handle = Handle::new(1, 2, 8, 16)?;
+    /// let (status, told) = handle.push(2, &[0x4e, 2]);
+    /// assert_eq!((status, told.kind, told.number), (0, 16, 0));
+    /// # Ok::<(), u32>(())
+    /// ```
     pub fn push(&mut self, peer: u16, piece: &[u8]) -> Answered {
         in_range(peer, || {
             if !self.waiting.is_empty() {
@@ -227,6 +374,13 @@ impl Handle {
     }
 
     /// The first frame that waits arrives.
+    ///
+    /// ```
+    /// # use masttomato_sys::stand_in::Handle;
+    /// # let mut handle = Handle::new(1, 2, 8, 16)?;
+    /// assert_eq!(handle.bring_next().0, 62);
+    /// # Ok::<(), u32>(())
+    /// ```
     pub fn bring_next(&mut self) -> Answered {
         let Some(bytes) = self.waiting.pop_front() else {
             return (NONE_WAITS, Told::default());
@@ -239,6 +393,14 @@ impl Handle {
     }
 
     /// A new stream from a peer.
+    ///
+    /// ```
+    /// # use masttomato_sys::stand_in::Handle;
+    /// # let mut handle = Handle::new(1, 2, 8, 16)?;
+    /// assert_eq!((handle.push(2, &[0; 32]).0, handle.push(2, &[]).0), (42, 42));
+    /// assert_eq!((handle.restart(2), handle.push(2, &[]).0), (0, 0));
+    /// # Ok::<(), u32>(())
+    /// ```
     pub fn restart(&mut self, peer: u16) -> u32 {
         if !is_space(peer) {
             return OUT_OF_RANGE;
@@ -248,6 +410,13 @@ impl Handle {
     }
 
     /// The kept value's pickle becomes the answer.
+    ///
+    /// ```
+    /// # use masttomato_sys::stand_in::Handle;
+    /// # let mut handle = Handle::new(1, 2, 8, 16)?;
+    /// assert_eq!(handle.value(), 63);
+    /// # Ok::<(), u32>(())
+    /// ```
     pub fn value(&mut self) -> u32 {
         let Some(value) = &self.value else { return NO_VALUE };
         self.answer.clone_from(value);
@@ -255,6 +424,16 @@ impl Handle {
     }
 
     /// How many bytes the answer has; as many as there is room for are copied.
+    ///
+    /// ```
+    /// # use masttomato_sys::stand_in::Handle;
+    /// # let mut handle = Handle::new(1, 2, 8, 16)?;
+    /// handle.close(2);
+    /// handle.transmit(2);
+    /// let mut out = [0; 64];
+    /// assert_eq!((handle.answer(&mut out), &out[..3]), (33, &[0x4e, 2, 3][..]));
+    /// # Ok::<(), u32>(())
+    /// ```
     pub fn answer(&mut self, out: &mut [u8]) -> usize {
         let length = self.answer.len().min(out.len());
         out[..length].copy_from_slice(&self.answer[..length]);
@@ -262,16 +441,40 @@ impl Handle {
     }
 
     /// Whether a client is listed for an object.
+    ///
+    /// ```
+    /// # use masttomato_sys::stand_in::Handle;
+    /// # let mut handle = Handle::new(1, 2, 8, 16)?;
+    /// handle.export();
+    /// assert!(!handle.lists(1, 2));
+    /// # Ok::<(), u32>(())
+    /// ```
     pub fn lists(&self, index: u64, client: u16) -> bool {
         self.space.is_listed(index, client)
     }
 
     /// Whether TakeReply of a call would say anything but that it isn't ready.
+    ///
+    /// ```
+    /// # use masttomato_sys::stand_in::Handle;
+    /// # let mut handle = Handle::new(1, 2, 8, 16)?;
+    /// handle.call(2, 0, 0, &[0]);
+    /// assert!(!handle.reply_ready(1));
+    /// # Ok::<(), u32>(())
+    /// ```
     pub fn reply_ready(&self, call: u64) -> bool {
         self.space.reply_ready(call)
     }
 
     /// What the space could do next.
+    ///
+    /// ```
+    /// # use masttomato_sys::stand_in::Handle;
+    /// # let mut handle = Handle::new(1, 2, 8, 16)?;
+    /// handle.call(2, 0, 0, &[0]);
+    /// assert_eq!(handle.work().send, 1 << (2 - 1));
+    /// # Ok::<(), u32>(())
+    /// ```
     pub fn work(&self) -> Work {
         let bits = |holds: &dyn Fn(u16) -> bool| {
             let peers = self.space.peers().filter(|peer| holds(*peer));
@@ -290,6 +493,15 @@ impl Handle {
     }
 
     /// What a Transmit to a peer would give.
+    ///
+    /// ```
+    /// # use masttomato_sys::stand_in::Handle;
+    /// # let mut handle = Handle::new(1, 2, 8, 16)?;
+    /// assert_eq!(handle.due(2), 0);
+    /// handle.close(2);
+    /// assert_eq!(handle.due(2), 4);
+    /// # Ok::<(), u32>(())
+    /// ```
     pub fn due(&self, peer: u16) -> u32 {
         if self.space.is_peer(peer) { self.space.session(peer).due() } else { 0 }
     }

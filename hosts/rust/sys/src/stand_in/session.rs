@@ -1,6 +1,7 @@
 //! One end of a session.
 
 use super::frame::{ACK, CLOSE, DATA, Frame};
+use std::cmp::Ordering;
 use std::collections::VecDeque;
 
 /// The greatest number of an item.
@@ -11,12 +12,16 @@ const MOST_OUT: usize = 4_096;
 const MOST_WAITING: usize = 256;
 /// So many numbers from the next on are in reach: a frame of one of them is kept, whatever came before it.
 const REACH: usize = 64;
+/// The number of the session that a new end is in.
+const FIRST_SESSION: u32 = 1;
 
 /// An end of a session: what it sent, what it accepted, and whether it has closed.
 #[derive(Debug)]
 pub(super) struct Session {
     here: u16,
     peer: u16,
+    // The session's number, which stands in each frame that it gives.
+    number: u32,
     window: u64,
     retry: u64,
     // Unacknowledged payloads; the first has the number `lowest`.
@@ -44,6 +49,7 @@ impl Session {
         Session {
             here,
             peer,
+            number: FIRST_SESSION,
             window,
             retry,
             out: VecDeque::new(),
@@ -112,8 +118,8 @@ impl Session {
         let due = self.due();
         let reason = self.closed.unwrap_or(0);
         let ack = self.accepted + 1;
-        let (from, to) = (self.here, self.peer);
-        let alone = |kind, payload| Frame { kind, from, to, seq: 0, ack, payload };
+        let (from, to, session) = (self.here, self.peer, self.number);
+        let alone = |kind, payload| Frame { kind, from, to, session, seq: 0, ack, payload };
         let mut bytes = Vec::new();
         self.data_came = false;
         match due {
@@ -129,7 +135,8 @@ impl Session {
                 let window = (self.lowest..=last).zip(&self.out);
                 let wanted: Vec<_> = window.filter(|(seq, _)| is_wanted(*seq)).collect();
                 for (seq, payload) in &wanted {
-                    Frame { kind: DATA, from, to, seq: *seq, ack, payload }.put(&mut bytes);
+                    let seq = *seq;
+                    Frame { kind: DATA, from, to, session, seq, ack, payload }.put(&mut bytes);
                 }
                 let count = wanted.len() as u64;
                 self.transmitted = given.max(last);
@@ -141,6 +148,24 @@ impl Session {
 
     /// A frame from the peer.
     pub(super) fn arrive(&mut self, frame: &Frame<'_>) -> Arrival {
+        match frame.session.cmp(&self.number) {
+            Ordering::Less => self.older(frame),
+            Ordering::Equal => self.of_this_session(frame),
+            Ordering::Greater if self.is_open() => Arrival::Closed(2),
+            Ordering::Greater => Arrival::Took(0),
+        }
+    }
+
+    // A frame that its sender gave in an earlier session: it brings nothing, but is answered.
+    fn older(&mut self, frame: &Frame<'_>) -> Arrival {
+        match self.closed {
+            Some(_) => self.owes |= frame.kind != CLOSE,
+            None => self.data_came |= frame.kind == DATA,
+        }
+        Arrival::Took(0)
+    }
+
+    fn of_this_session(&mut self, frame: &Frame<'_>) -> Arrival {
         if self.closed.is_some() {
             self.owes |= frame.kind != CLOSE;
             return Arrival::Took(0);
@@ -204,5 +229,78 @@ impl Session {
         self.out = VecDeque::new();
         self.inbox = VecDeque::new();
         self.early = VecDeque::new();
+    }
+}
+
+#[cfg(test)]
+mod tests {
+    use super::*;
+
+    // Space 1's end of a session with space 2, of this number.
+    fn end(number: u32) -> Session {
+        Session { number, ..Session::new(1, 2, 8, 16) }
+    }
+
+    fn frame(kind: u8, session: u32) -> Frame<'static> {
+        let (seq, payload): (u64, &[u8]) = match kind {
+            DATA => (1, &[7]),
+            CLOSE => (0, &[1]),
+            _ => (0, &[]),
+        };
+        Frame { kind, from: 2, to: 1, session, seq, ack: 99, payload }
+    }
+
+    fn took(arrival: Arrival) -> Option<u64> {
+        match arrival {
+            Arrival::Took(count) => Some(count),
+            Arrival::Closed(_) => None,
+        }
+    }
+
+    fn is_closed_by_peer(arrival: Arrival) -> bool {
+        matches!(arrival, Arrival::Closed(2))
+    }
+
+    // Its acknowledgement isn't heard and its item isn't kept, but one that carries an item is answered.
+    #[test]
+    fn an_open_end_takes_nothing_of_an_older_frame() {
+        for (kind, due) in [(DATA, 1), (ACK, 0), (CLOSE, 0)] {
+            let mut end = end(3);
+            assert_eq!(took(end.arrive(&frame(kind, 2))), Some(0));
+            assert_eq!((end.is_open(), end.due(), end.accepted), (true, due, 0));
+            assert!(end.early.iter().all(Option::is_none));
+        }
+    }
+
+    #[test]
+    fn a_closed_end_owes_a_close_for_an_older_frame_that_is_none() {
+        for (kind, due) in [(DATA, 4), (ACK, 4), (CLOSE, 0)] {
+            let mut end = end(3);
+            end.close(2);
+            assert_eq!(took(end.arrive(&frame(kind, 1))), Some(0));
+            assert_eq!(end.due(), due);
+        }
+    }
+
+    // Whatever else it says, a newer frame says that its sender has left this session.
+    #[test]
+    fn a_newer_frame_closes_an_open_end_and_is_nothing_to_a_closed_one() {
+        for kind in [DATA, ACK, CLOSE] {
+            let mut end = end(3);
+            assert!(is_closed_by_peer(end.arrive(&frame(kind, 4))));
+            end.close(2);
+            assert_eq!(took(end.arrive(&frame(kind, u32::MAX))), Some(0));
+            assert_eq!(end.due(), 0);
+        }
+    }
+
+    #[test]
+    fn a_frame_has_the_number_of_its_end() {
+        let mut end = end(0x0102_0304);
+        end.send(vec![7]);
+        let (bytes, count) = end.transmit();
+        assert_eq!((count, &bytes[28..]), (1, &[1, 2, 3, 4, 7][..]));
+        end.close(1);
+        assert_eq!(end.transmit().0[28..], [1, 2, 3, 4, 1]);
     }
 }

@@ -24,6 +24,8 @@ invariant_of-self c =
     let waited = sound.waiting_open opened in
     let low = row_low (s.accepted + 1) (256 - c.len-room.result) s.early (omega (arith, sound.accepted_limit)) sound.early_low in
     record {
+      number_positive = sound.number_positive;
+      number_limit = sound.number_limit;
       unacknowledged_open = sound.unacknowledged_open;
       unacknowledged_closed = sound.unacknowledged_closed;
       sizes = sound.sizes;

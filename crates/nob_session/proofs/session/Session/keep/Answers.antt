@@ -24,6 +24,8 @@ invariant_of-self-2 c =
     let reach : is_in_reach s.accepted c.args.frame.now.seq ≡ true = subst (λ (r : Roomy). is_in_reach r.end.accepted c.args.frame.now.seq ≡ true) (sym c.self.view_is) (sym c.is_in_reach.ensures ∙ c.if-not-is_in_reach.false) in
     let low = reach_low s.accepted c.args.frame.now.seq reach in
     record {
+      number_positive = sound.number_positive;
+      number_limit = sound.number_limit;
       unacknowledged_open = sound.unacknowledged_open;
       unacknowledged_closed = sound.unacknowledged_closed;
       sizes = sound.sizes;

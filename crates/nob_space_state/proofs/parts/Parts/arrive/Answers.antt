@@ -73,7 +73,7 @@ returns-in-Ok-Closed-clause-stands c limits D stands =
     let peer : is_peer c.args.self.now.here.space c.args.self.now.here.n c.args.frame.now.from ≡ true = sym c.is_peer.ensures ∙ c.if-not-is_peer.false in
     let is = at_peer c.args.self.now.sessions.items c.place.result c.args.frame.now.from c.index_mut.result.now c.place.ensures.value c.index_mut.ensures.value in
     same_space c.close_down.new.self.here c.args.self.now.here c.close_down.ensures.here (ended_stands stands c.args.frame.now.from c.reason.result (causes.Frame c.args.frame.now) (λ e. ends.Arrive c.args.frame.now (Ok (arrived.Closed e))) refl c.index_mut.result.now c.arrive.new.self (state_of c.close_down.new.self) c.in-Ok-Closed.closed peer is
-    (sym c.reason.ensures) (subst (λ a. EndsBy c.index_mut.result.now.end c.arrive.new.self.end (evidence_of a)) c.in-Ok-Closed.field-0-is (c.in-Ok-Closed.ensures {u = tt}).ends).1
+    (sym c.reason.ensures) (subst (λ a. EndsBy (session.seeing c.args.frame.now.session c.index_mut.result.now.end) c.arrive.new.self.end (evidence_of a)) c.in-Ok-Closed.field-0-is (c.in-Ok-Closed.ensures {u = tt}).ends).1
     (λ before. (subst (λ a. IsRight c.args.self.now.here.space c.args.frame.now.from limits (ends.Arrive c.args.frame.now (Ok (arrived_of a))) (calls_at c.args.frame.now.from (history_of c.args.self.now.here.space c.args.self.now.here.n D)) × session.Stands c.args.self.now.here.space c.args.frame.now.from limits c.arrive.new.self.end (ends.Arrive c.args.frame.now (Ok (arrived_of a)) ∷ (calls_at c.args.frame.now.from (history_of c.args.self.now.here.space c.args.self.now.here.n D)))) c.in-Ok-Closed.field-0-is ((c.in-Ok-Closed.ensures {u = tt}).answer c.args.self.now.here.space c.args.frame.now.from limits (calls_at c.args.frame.now.from (history_of c.args.self.now.here.space c.args.self.now.here.n D)) before)).1)
     (subst (λ (k : ℕ). ClosesDown c.args.self.now.here.space c.in-Ok-Closed.closed.peer (with_sessions (set c.args.self.now.sessions.items k c.arrive.new.self) (state_of c.args.self.now)) (state_of c.close_down.new.self)) c.place.ensures.value c.close_down.ensures.closes)
     (arrive_close_is c.args.self.now.here.space c.args.self.now.here.n limits D c.args.frame.now c.reason.result (returns-in-Ok-Closed-clause-answer c limits D stands)))
