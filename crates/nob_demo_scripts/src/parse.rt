@@ -1,6 +1,6 @@
 //! Reading a script's lines.
 
-ghost use Rattle.std.specs.Prelude.{◌≡◌, ◌++◌, ◌<◌, ◌^◌, List, ℕ, Some, IfOk, IfSome, IsSome, IsSomeAnd, codes, ◌≤◌, length};
+ghost use Rattle.std.specs.Prelude.{◌≡◌, ◌≢◌, ◌++◌, ◌<◌, ◌^◌, List, ℕ, Some, true, false, IfOk, IfSome, IsSome, IsSomeAnd, codes, ◌≤◌, length};
 ghost use Rattle.std.specs.Fmt.{decimal};
 ghost use Rattle.hex.specs.Hex.{encode_lower, IsBytes};
 ghost use Rattle.nob_session.specs.Items.{IsItem};
@@ -62,15 +62,25 @@ fn call_of(alloc: Global, text: &[u8]) -> Result<Option<Call>, AllocError>
     ensures only { IfOk result (λ r. (call : CallOf) → IsCall call → text.now ≡ call_text call
         → r ≡ Some call) }
 {
+    if is_open(text) {
+        return Ok(Some(Call::Open));
+    }
     match text {
         b"send" => Ok(Some(Call::Send)),
         b"get" => Ok(Some(Call::Get)),
         b"tick" => Ok(Some(Call::Tick)),
         b"close" => Ok(Some(Call::Close)),
-        b"open" => Ok(Some(Call::Open)),
         [b'p', b'u', b't', b' ', item @ ..] => put_of(alloc, item),
         _ => Ok(None),
     }
+}
+
+// Whether a text is that of the call `open`.
+fn is_open(text: &[u8]) -> bool
+    ensures yes { result ≡ true → text.now ≡ codes "open" }
+    ensures no { result ≡ false → text.now ≢ codes "open" }
+{
+    matches!(text, b"open")
 }
 
 // The `put` of an item that is spelled so.
