@@ -2,6 +2,7 @@
 
 use crate::world::{SPACES, space_at};
 use nob_check::{CheckError, check};
+use nob_frame::Version;
 use nob_ids::{Limits, SpaceId};
 use nob_model::{Answer, Entry, Refusal};
 use nob_trace::{Entries, Stamped, Trace};
@@ -41,6 +42,7 @@ fn trace_of(alloc: Global, space: SpaceId, all: &[Entry]) -> Result<Trace, Alloc
         }
     }
     Ok(Trace {
+        version: Version::Two,
         space,
         n: space_at(SPACES - 1),
         limits: Limits::default(),

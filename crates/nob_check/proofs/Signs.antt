@@ -56,23 +56,26 @@ sign_is a b h =
     let one = and_parts (a.kind == b.kind) _ h in
     let two = and_parts (a.from == b.from) _ one.1 in
     let three = and_parts (a.to == b.to) _ two.1 in
-    let four = and_parts (a.seq == b.seq) _ three.1 in
-    let five = and_parts (a.ack == b.ack) _ four.1 in
+    let four = and_parts (a.session == b.session) _ three.1 in
+    let five = and_parts (a.seq == b.seq) _ four.1 in
+    let six = and_parts (a.ack == b.ack) _ five.1 in
     let kinds = eqb-true a.kind b.kind one.0 in
     let froms = eqb-true a.from b.from two.0 in
     let tos = eqb-true a.to b.to three.0 in
-    let seqs = eqb-true a.seq b.seq four.0 in
-    let acks = eqb-true a.ack b.ack five.0 in
-    let payloads = (bytes_eq-Decides a.payload b.payload).0 five.1 in
-    λ i. record { kind = kinds i; from = froms i; to = tos i; seq = seqs i; ack = acks i; payload = payloads i }
+    let sessions = eqb-true a.session b.session four.0 in
+    let seqs = eqb-true a.seq b.seq five.0 in
+    let acks = eqb-true a.ack b.ack six.0 in
+    let payloads = (bytes_eq-Decides a.payload b.payload).0 six.1 in
+    λ i. record { kind = kinds i; from = froms i; to = tos i; session = sessions i; seq = seqs i; ack = acks i; payload = payloads i }
 
 sign_self : (a : Sign) → is_same_sign a a ≡ true
 sign_self a =
     and_from (a.kind == a.kind) _ (eq-eqb a.kind a.kind refl)
     (and_from (a.from == a.from) _ (eq-eqb a.from a.from refl)
     (and_from (a.to == a.to) _ (eq-eqb a.to a.to refl)
+    (and_from (a.session == a.session) _ (eq-eqb a.session a.session refl)
     (and_from (a.seq == a.seq) _ (eq-eqb a.seq a.seq refl)
-    (and_from (a.ack == a.ack) _ (eq-eqb a.ack a.ack refl) ((bytes_eq-Decides a.payload a.payload).1 refl)))))
+    (and_from (a.ack == a.ack) _ (eq-eqb a.ack a.ack refl) ((bytes_eq-Decides a.payload a.payload).1 refl))))))
 
 -- the same stands in one frame alone
 frame_is : (f g : Frame) → sign_of f ≡ sign_of g → f ≡ g
@@ -80,10 +83,11 @@ frame_is f g h =
     let kinds = kind_is f.kind g.kind (ap (λ (s : Sign). s.kind) h) in
     let froms = ap (λ (s : Sign). s.from) h in
     let tos = ap (λ (s : Sign). s.to) h in
+    let sessions = ap (λ (s : Sign). s.session) h in
     let seqs = ap (λ (s : Sign). s.seq) h in
     let acks = ap (λ (s : Sign). s.ack) h in
     let payloads = ap (λ (s : Sign). s.payload) h in
-    λ i. record { kind = kinds i; from = froms i; to = tos i; seq = seqs i; ack = acks i; payload = payloads i }
+    λ i. record { kind = kinds i; from = froms i; to = tos i; session = sessions i; seq = seqs i; ack = acks i; payload = payloads i }
 
 -- one among those behind the first
 later : {X : Type 0} (y x : X) (xs : List X) → Contains xs x → Contains (y ∷ xs) x

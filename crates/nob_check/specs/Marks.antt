@@ -11,21 +11,22 @@ pub record Sign : Type 0 where
   pub kind : ℕ
   pub from : ℕ
   pub to : ℕ
+  pub session : ℕ
   pub seq : ℕ
   pub ack : ℕ
   pub payload : List ℕ
 
 -- what stands in a frame
 abbrev pub sign_of : Frame → Sign
-sign_of frame = record { kind = kind_number frame.kind; from = frame.from; to = frame.to; seq = frame.seq; ack = frame.ack; payload = frame.payload }
+sign_of frame = record { kind = kind_number frame.kind; from = frame.from; to = frame.to; session = frame.session; seq = frame.seq; ack = frame.ack; payload = frame.payload }
 
 -- what stands in a mark
 abbrev pub sign_in : Mark → Sign
-sign_in mark = record { kind = mark.kind; from = mark.from; to = mark.to; seq = mark.seq; ack = mark.ack; payload = mark.payload.items }
+sign_in mark = record { kind = mark.kind; from = mark.from; to = mark.to; session = mark.session; seq = mark.seq; ack = mark.ack; payload = mark.payload.items }
 
 -- whether the same stands in two frames
 abbrev pub is_same_sign : Sign → Sign → Bool
-is_same_sign a b = a.kind == b.kind && (a.from == b.from && (a.to == b.to && (a.seq == b.seq && (a.ack == b.ack && bytes_eq a.payload b.payload))))
+is_same_sign a b = a.kind == b.kind && (a.from == b.from && (a.to == b.to && (a.session == b.session && (a.seq == b.seq && (a.ack == b.ack && bytes_eq a.payload b.payload)))))
 
 -- whether it is among others
 abbrev pub is_among : Sign → List Sign → Bool

@@ -15,6 +15,8 @@ pub struct Mark {
     // The space that transmits it, and the space at which it arrives.
     from: SpaceId,
     to: SpaceId,
+    // The number of the session that its sender's end was in.
+    session: u32,
     // The numbers of the item that it carries, and of the next one that its sender waits for.
     seq: u64,
     ack: u64,
@@ -31,6 +33,7 @@ impl Mark {
             kind: frame.kind.number(),
             from: frame.from,
             to: frame.to,
+            session: frame.session,
             seq: frame.seq,
             ack: frame.ack,
             payload: Vec::from_slice(alloc, frame.payload.as_slice())?,

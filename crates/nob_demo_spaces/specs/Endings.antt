@@ -5,6 +5,7 @@ use Rattle.nob_model_types.specs.declared.entry.Entry.{Entry}
 use Rattle.nob_model_invariant.specs.Safe.{IsSafe}
 use Rattle.nob_trace.specs.declared.trace.Trace.{Trace}
 use Rattle.nob_trace.specs.Traces.{trace_text, IsWritable}
+use Rattle.nob_trace.specs.Sessions.{is_known}
 use Rattle.nob_model_traces.specs.declared.fault.CheckFault.{CheckFault}
 use Rattle.nob_model_traces.specs.Faults.{IsFault, AreAccepted}
 use Rattle.nob_keeper.specs.declared.keep.Keep.{Keep}
@@ -17,10 +18,11 @@ use Rattle.nob_demo_spaces.specs.declared.ending.Ending.{Ending}
 use Rattle.nob_demo_spaces.specs.declared.ending.Stop.{Stop}
 use Rattle.nob_demo_spaces.specs.declared.ending.Ending.TheVariants.{Accepted, Refused, Printed, Unchecked, OutOfMemory}
 
--- what is printed where traces are to be printed: they, one after the other, or R2 where a frame in one has no spelling
+-- what is printed where traces are to be printed: they, one after the other; or R2 where a frame in one has no spelling, or R5 where the version of one can't speak of all that stands in it
 pub data Prints (traces : List Trace) (text : List ℕ) (ending : Ending) : Type 0 where
   printed : All IsWritable traces → text ≡ flat_map trace_text traces → ending ≡ Printed → Prints traces text ending
   unwritten : (All IsWritable traces → ⊥) → text ≡ codes "R2\n" → ending ≡ Refused → Prints traces text ending
+  unknown : (All (λ trace. is_known trace ≡ true) traces → ⊥) → text ≡ codes "R5\n" → ending ≡ Refused → Prints traces text ending
 
 -- what is said of traces, with a score: yes where they are together a run of a world, which is safe; no where something is wrong with them
 pub data Judges (score : Score) (traces : List Trace) (text : List ℕ) (ending : Ending) : Type 0 where

@@ -25,20 +25,23 @@ frame_is f g h =
     let one = and_parts (kind_number f.kind == kind_number g.kind) _ h in
     let two = and_parts (f.from == g.from) _ one.1 in
     let three = and_parts (f.to == g.to) _ two.1 in
-    let four = and_parts (f.seq == g.seq) _ three.1 in
-    let five = and_parts (f.ack == g.ack) _ four.1 in
+    let four = and_parts (f.session == g.session) _ three.1 in
+    let five = and_parts (f.seq == g.seq) _ four.1 in
+    let six = and_parts (f.ack == g.ack) _ five.1 in
     let kinds = kind_is f.kind g.kind (eqb-true (kind_number f.kind) (kind_number g.kind) one.0) in
     let froms = eqb-true f.from g.from two.0 in
     let tos = eqb-true f.to g.to three.0 in
-    let seqs = eqb-true f.seq g.seq four.0 in
-    let acks = eqb-true f.ack g.ack five.0 in
-    let payloads = (bytes_eq-Decides f.payload g.payload).0 five.1 in
-    λ i. record { kind = kinds i; from = froms i; to = tos i; seq = seqs i; ack = acks i; payload = payloads i }
+    let sessions = eqb-true f.session g.session four.0 in
+    let seqs = eqb-true f.seq g.seq five.0 in
+    let acks = eqb-true f.ack g.ack six.0 in
+    let payloads = (bytes_eq-Decides f.payload g.payload).0 six.1 in
+    λ i. record { kind = kinds i; from = froms i; to = tos i; session = sessions i; seq = seqs i; ack = acks i; payload = payloads i }
 
 pub frame_self : (f : Frame) → same_frame f f ≡ true
 frame_self f =
     and_from (kind_number f.kind == kind_number f.kind) _ (eq-eqb (kind_number f.kind) (kind_number f.kind) refl)
     (and_from (f.from == f.from) _ (eq-eqb f.from f.from refl)
     (and_from (f.to == f.to) _ (eq-eqb f.to f.to refl)
+    (and_from (f.session == f.session) _ (eq-eqb f.session f.session refl)
     (and_from (f.seq == f.seq) _ (eq-eqb f.seq f.seq refl)
-    (and_from (f.ack == f.ack) _ (eq-eqb f.ack f.ack refl) ((bytes_eq-Decides f.payload f.payload).1 refl)))))
+    (and_from (f.ack == f.ack) _ (eq-eqb f.ack f.ack refl) ((bytes_eq-Decides f.payload f.payload).1 refl))))))

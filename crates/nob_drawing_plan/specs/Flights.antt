@@ -20,11 +20,11 @@ use Rattle.nob_drawing_plan.specs.Bars.{row_after}
 
 -- whether two frames are the same
 abbrev pub same_frame : Frame → Frame → Bool
-same_frame frame other = kind_number frame.kind == kind_number other.kind && (frame.from == other.from && (frame.to == other.to && (frame.seq == other.seq && (frame.ack == other.ack && bytes_eq frame.payload other.payload))))
+same_frame frame other = kind_number frame.kind == kind_number other.kind && (frame.from == other.from && (frame.to == other.to && (frame.session == other.session && (frame.seq == other.seq && (frame.ack == other.ack && bytes_eq frame.payload other.payload)))))
 
 -- whether a frame carries the item of another: both are Data frames of one session, in one direction, with one number
 abbrev pub is_twin : Frame → Frame → Bool
-is_twin frame other = is_data frame.kind && is_data other.kind && frame.from == other.from && frame.to == other.to && frame.seq == other.seq
+is_twin frame other = is_data frame.kind && is_data other.kind && frame.from == other.from && frame.to == other.to && frame.session == other.session && frame.seq == other.seq
 
 -- whether the item of a frame was given before
 abbrev pub is_again : Frame → List Departure → Bool

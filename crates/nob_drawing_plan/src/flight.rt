@@ -69,9 +69,10 @@ fn same_frame(frame: &Frame, other: &Frame) -> bool
     frame.kind.number() == other.kind.number()
         && (frame.from == other.from
             && (frame.to == other.to
-                && (frame.seq == other.seq
-                    && (frame.ack == other.ack
-                        && frame.payload.as_slice() == other.payload.as_slice()))))
+                && (frame.session == other.session
+                    && (frame.seq == other.seq
+                        && (frame.ack == other.ack
+                            && frame.payload.as_slice() == other.payload.as_slice())))))
 }
 
 // Whether a frame carries the item of another.
@@ -82,6 +83,7 @@ fn is_twin(frame: &Frame, other: &Frame) -> bool
         && other.kind.is_data()
         && frame.from == other.from
         && frame.to == other.to
+        && frame.session == other.session
         && frame.seq == other.seq
 }
 

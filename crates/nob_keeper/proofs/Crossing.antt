@@ -229,7 +229,7 @@ entries_send : IsSend Entries.the_row
 entries_send = view_send EntriesInside.the_row _ _ _ _ entries_inside_send
 
 trace_send : IsSend (Trace.the_field).row
-trace_send = struct_send (shape Trace.the_type) (search sendable depth 30, (search sendable depth 30, (search (crosses, sendable) depth 60, (entries_send, tt))))
+trace_send = struct_send (shape Trace.the_type) (search sendable depth 30, (search sendable depth 30, (search sendable depth 30, (search (crosses, sendable) depth 60, (entries_send, tt)))))
 
 peer_tally_send : IsSend PeerTally.the_row
 peer_tally_send = search (crosses, sendable) depth 60 fits 20000

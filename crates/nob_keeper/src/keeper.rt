@@ -1,6 +1,7 @@
 //! A keeper: a space and its trace under one lock.
 
 ghost use Rattle.std.specs.Prelude.{◌≡◌, ◌⊎◌, ◌≤◌, [], OnOk, OnErr, IfOk, IfErr, IfSome, vec_len};
+ghost use Rattle.nob_frame.specs.declared.version.Version.TheVariants as versions;
 ghost use Rattle.nob_model_types.specs.declared.event.Event.TheVariants as events;
 ghost use Rattle.nob_space.specs.Spaces.{StandsFor};
 ghost use Rattle.nob_keeper.specs.Accounts as accounts;
@@ -247,7 +248,7 @@ impl Keeper {
         lock_soon(rt, &self.held).kept.backlog()
     }
 
-    /// Ends the keeper and gives the trace, where the seats' receipts are those of its entries,
+    /// Ends the keeper and gives the trace, of version 2, where the seats' receipts are those of its entries,
     /// each once: else K4, or K2 where memory is wanted, and all is handed back; so it is where the
     /// entries or the receipts of a seat weren't kept. Linear in the entries and what they own.
     pub fn close_with(self, seats: Vec<Seat>) -> Result<Trace, (KeeperError, Keeper, Vec<Seat>)>
@@ -257,6 +258,7 @@ impl Keeper {
         ensures unkept { self.keep ≡ keeps.Nothing → IfErr result (λ back.
             back.0 ≡ KeeperError.NoTrace) }
         ensures ended { OnOk result (self.keep ≡ keeps.All) }
+        ensures version { IfOk result (λ trace. trace.version ≡ versions.Two) }
         ensures back { IfErr result (λ back. back.2.items ≡ seats.items) }
         ensures only { IfErr result (λ back. (back.0 ≡ KeeperError.Seats)
             ⊎ ((back.0 ≡ KeeperError.OutOfMemory) ⊎ (back.0 ≡ KeeperError.NoTrace))) }

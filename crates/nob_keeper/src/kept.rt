@@ -2,6 +2,7 @@
 
 ghost use Rattle.std.specs.Prelude.{◌≡◌, ◌≢◌, ◌↔◌, ◌≤◌, ◌<◌, ◌^◌, ◌+◌, ◌-◌, ◌⊎◌, ◌&&◌, ◌||◌, ◌++◌, ◌∷◌, [], ℕ, List, Some, None, true, Err, length, slice_get, IfOk, IfErr, OnOk, OnErr};
 ghost use Rattle.nob_ids.specs.Names.{IsSpace};
+ghost use Rattle.nob_frame.specs.declared.version.Version.TheVariants as versions;
 ghost use Rattle.nob_model_types.specs.declared.entry.Entry.{Entry as EntryOf};
 ghost use Rattle.nob_model.specs.Next as next;
 ghost use Rattle.nob_model.specs.Right.{right};
@@ -28,6 +29,7 @@ use crate::receipt::Receipt;
 use crate::seat::Seat;
 use crate::summary::{Summary, check_all, tallies_of};
 use crate::waking::{Prospects, Wakes, is_new};
+use nob_frame::Version;
 use nob_ids::{CallNo, SpaceId};
 use nob_model_types::{Answer, Backlog, Event, Here, List, Refusal, Tally};
 use nob_past::Past;
@@ -385,10 +387,10 @@ impl Kept {
         })
     }
 
-    /// The trace, where the seats' receipts are those of its entries, each once: else K4, or K2
-    /// where memory is wanted, and all is handed back; so it is where the entries or the receipts
-    /// of a seat weren't kept (`NoTrace`): `end_with` ends such a one. The space is ended. Linear in
-    /// the entries and what they own, which it compares and doesn't copy.
+    /// The trace, of version 2, where the seats' receipts are those of its entries, each once: else
+    /// K4, or K2 where memory is wanted, and all is handed back; so it is where the entries or the
+    /// receipts of a seat weren't kept (`NoTrace`): `end_with` ends such a one. The space is ended.
+    /// Linear in the entries and what they own, which it compares and doesn't copy.
     pub fn close_with(self, seats: Vec<Seat>) -> Result<Trace, (KeeperError, Kept, Vec<Seat>)>
         ensures trace { IfOk result (λ trace. accounts.account_in trace ≡ self) }
         ensures receipts { IfOk result (λ trace.
@@ -402,6 +404,7 @@ impl Kept {
         ensures unkept { self.keep ≡ keeps.Nothing → IfErr result (λ back.
             back.0 ≡ KeeperError.NoTrace) }
         ensures ended { OnOk result (self.keep ≡ keeps.All) }
+        ensures version { IfOk result (λ trace. trace.version ≡ versions.Two) }
         ensures only { IfErr result (λ back. (back.0 ≡ KeeperError.Seats)
             ⊎ ((back.0 ≡ KeeperError.OutOfMemory) ⊎ (back.0 ≡ KeeperError.NoTrace))) }
     {
@@ -421,6 +424,7 @@ impl Kept {
             noted: _noted,
         } = self;
         let trace = Trace {
+            version: Version::Two,
             space: space.id(),
             n,
             limits: space.limits(),

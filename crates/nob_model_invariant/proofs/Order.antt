@@ -1,19 +1,20 @@
 -- What each space acted on from each peer is a beginning of what that peer sent it, and all that is sent has a spelling.
 use Rattle.std.proofs.Common.{◌≡◌, ℕ, ◌+◌, ◌-◌, ◌≤◌, ◌&&◌, not, Bool, true, false, cond, List, [], ◌∷◌, ◌++◌, length, map, Option, Some, Ok, Err, refl, sym, ap, subst, ◌∙◌, inl, inr, arith}
-use Rattle.std.specs.Prelude.{◌==◌, ◌≢◌, nat_le, if◌then◌else◌}
+use Rattle.std.specs.Prelude.{◌==◌, ◌≢◌, nat_le}
 use Rattle.std.specs.List.{AllByRecursion, slice_get}
-use Rattle.std.proofs.lemmas.Bool.{eqb-true, eq-eqb, eqb-false, leb-false, and_parts, not-true}
+use Rattle.std.proofs.lemmas.Bool.{eqb-true, eqb-false, leb-false, and_parts, not-true}
 use Rattle.std.proofs.lemmas.List.{append-nil, length-map, length_push}
 use Rattle.std.proofs.lemmas.Option.{slice_get_within}
 use Rattle.nob_ids.specs.declared.limits.Limits.{Limits}
 use Rattle.nob_item.specs.Spelling.{Fits, IsItemNumber}
 use Rattle.nob_item.specs.declared.item.Item.{Item}
-use Rattle.nob_model_session.specs.End.{number, up_to, last_item, handed, takes, is_open, unacknowledged}
+use Rattle.nob_model_session.specs.End.{up_to, last_item, handed, takes, is_open, unacknowledged}
 use Rattle.nob_model_session.specs.Right.{right_front, is_limited, queue_limit}
 use Rattle.nob_model_session.specs.Pair.{IsBeginning, Reaches, first_calls}
 use Rattle.nob_model_session.specs.declared.refusal.EndRefusal.TheVariants as end_refusals
 use Rattle.nob_model_session.specs.declared.entry.EndEntry.{EndEntry}
 use Rattle.nob_model_session.specs.declared.entry.EndEntry.TheVariants as ends
+use Rattle.nob_model_session.proofs.Sessions.{up_to_present}
 use Rattle.nob_model_session.proofs.Fronts.{accepted_law}
 use Rattle.nob_model_types.specs.declared.entry.Entry.{Entry}
 use Rattle.nob_model_types.specs.declared.deed.Deed.{Deed}
@@ -51,14 +52,9 @@ use Rattle.nob_model_invariant.proofs.Carried.{frames_carried}
 
 -- ---- how far items come
 
--- the calls of an end up to its present session are all of its calls
-up_to_all : (k : ℕ) (calls : List EndEntry) → number calls ≡ k → up_to k calls ≡ calls
-up_to_all k [] is = refl
-up_to_all k (call ∷ calls) is = ap (λ (b : Bool). if b then call ∷ calls else up_to k calls) (eq-eqb (number (call ∷ calls)) k is)
-
 -- the calls of an end of a space are all of its first session
 all_first : (s n p : ℕ) (D : List Deed) → up_to 1 (calls_at p (history_of s n D)) ≡ calls_at p (history_of s n D)
-all_first s n p D = up_to_all 1 (calls_at p (history_of s n D)) (first_session s n p D)
+all_first s n p D = up_to_present 1 (calls_at p (history_of s n D)) (first_session s n p D)
 
 -- the items of one space came so far at another
 pub reached : (a b n : ℕ) (limits : ℕ → Limits) (J : List Entry) → a ≢ b → WorldRun n limits J → Reaches (calls_at b (history_at a n J)) (calls_at a (history_at b n J))
@@ -82,6 +78,7 @@ send_low number count false false false e = refl
 -- right calls hand on no more items than there are numbers
 handed_few : (s p : ℕ) (limits : Limits) (calls : List EndEntry) → AreRightCalls s p limits calls → length (handed calls) ≤ last_item
 handed_few s p limits [] right = omega arith
+handed_few s p limits (ends.Reopen k (Ok done) ∷ calls) right = omega arith
 handed_few s p limits (ends.Send payload kind (Ok number) ∷ calls) right =
     let low = leb-false last_item (length (handed calls)) (send_low number (length (handed calls)) (not (is_open calls)) (is_limited kind && nat_le queue_limit (length (unacknowledged calls))) (nat_le last_item (length (handed calls))) right.0) in
     let more = length_push (handed calls) payload in

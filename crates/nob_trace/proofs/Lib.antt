@@ -9,6 +9,7 @@ pub mod Written
 pub mod ReadLines
 pub mod ReadTraces
 pub mod Writable
+pub mod Speaking
 pub mod OneValue
 pub mod OneEvent
 pub mod OneResult

@@ -1,10 +1,12 @@
--- A text spells one event.
-use Rattle.std.proofs.Common.{◌≡◌, ℕ, ◌+◌, ◌*◌, ◌^◌, ◌<◌, List, [], ◌∷◌, ◌++◌, codes, refl, ap, ◌∙◌, arith}
+-- A text spells one event, in whichever version.
+use Rattle.std.proofs.Common.{◌≡◌, ℕ, ◌+◌, ◌*◌, ◌^◌, ◌<◌, List, [], ◌∷◌, ◌++◌, codes, refl, sym, ap, ◌∙◌, arith}
 use Rattle.std.specs.Fmt.{decimal}
 use Rattle.std.proofs.lemmas.List.{append_cancel_left}
 use Rattle.nob_ids.specs.declared.wire_rep.WireRep.{WireRep}
 use Rattle.nob_pickle.specs.declared.value.Value.{Value}
 use Rattle.nob_frame.specs.declared.frame.Frame.{Frame}
+use Rattle.nob_frame.specs.declared.version.Version.{Version}
+use Rattle.nob_frame.specs.declared.version.Version.TheVariants.{One, Two}
 use Rattle.nob_frame.specs.Spelling.{spelling}
 use Rattle.nob_frame.proofs.Codec.{no_front}
 use Rattle.nob_model_types.specs.declared.event.Outcome.{Outcome}
@@ -15,7 +17,7 @@ use Rattle.nob_model_text.specs.Values.{rep_text, value_text, HasText}
 use Rattle.nob_model_text.specs.Events.{event_text, outcome_text, IsOutcome, IsRep}
 use Rattle.nob_trace.specs.Frames.{frame_text, IsFramed}
 use Rattle.nob_trace.specs.Entries.{arrival_text, IsTracedEvent}
-use Rattle.nob_trace.proofs.FrameBytes.{spelling_bytes}
+use Rattle.nob_trace.proofs.FrameBytes.{spelling_bytes, versions_differ}
 use Rattle.nob_trace.proofs.OneValue.{one_number, one_rep, number_is, rep_is, same_hex, space_is, value_is}
 
 -- the first three letters of a text, as a number
@@ -32,11 +34,20 @@ behind word xs ys same = append_cancel_left word xs ys same
 pub tail_is : (a b : ℕ) (xs ys : List ℕ) → a ∷ xs ≡ b ∷ ys → xs ≡ ys
 tail_is a b xs ys e = cc
 
+-- frames of one text are spelt by the same bytes
+same_bytes : (v w : Version) (f g : Frame) → IsFramed v f → IsFramed w g → frame_text v f ≡ frame_text w g → spelling v f ≡ spelling w g
+same_bytes v w f g is was same = same_hex (spelling v f) (spelling w g) (spelling_bytes v f is) (spelling_bytes w g was) same
+
+-- a text spells one frame of a version
+of_version : (v : Version) (f g : Frame) → IsFramed v f → IsFramed v g → frame_text v f ≡ frame_text v g → f ≡ g
+of_version v f g is was same = (no_front v (spelling v f) (spelling v g) [] [] f g (is.0, refl) (was.0, refl) (ap (λ (bs : List ℕ). bs ++ []) (same_bytes v v f g is was same))).1
+
 -- a text spells one frame
-pub frame_is : (f g : Frame) → IsFramed f → IsFramed g → frame_text f ≡ frame_text g → f ≡ g
-frame_is f g is was same =
-    let bytes = same_hex (spelling f) (spelling g) (spelling_bytes f is) (spelling_bytes g was) same in
-    (no_front (spelling f) (spelling g) [] [] f g (is.0, refl) (was.0, refl) (ap (λ (bs : List ℕ). bs ++ []) bytes)).1
+pub frame_is : (v w : Version) (f g : Frame) → IsFramed v f → IsFramed w g → frame_text v f ≡ frame_text w g → f ≡ g
+frame_is One One f g is was same = of_version One f g is was same
+frame_is Two Two f g is was same = of_version Two f g is was same
+frame_is One Two f g is was same = absurd (versions_differ f g (same_bytes One Two f g is was same))
+frame_is Two One f g is was same = absurd (versions_differ g f (sym (same_bytes Two One f g is was same)))
 
 outcome_is : (o p : Outcome) → IsOutcome o → IsOutcome p → outcome_text o ≡ outcome_text p → o ≡ p
 outcome_is (outcomes.Answer v) (outcomes.Answer w) is was same = ap outcomes.Answer (value_is v w is was (behind (codes "answer ") _ _ same))
@@ -61,20 +72,20 @@ finish_is i j o p is was same =
     ap (λ (x : ℕ). events.Finish x o) job.0 ∙ ap (λ (x : Outcome). events.Finish j x) outcome
 
 -- a text spells one event: events of different kinds differ in the first three letters
-pub event_is : (a b : Event) → IsTracedEvent a → IsTracedEvent b → event_text (arrival_text a) a ≡ event_text (arrival_text b) b → a ≡ b
-event_is events.Export events.Export is was same = refl
-event_is (events.Dup r) (events.Dup s) is was same = ap events.Dup (rep_is r s is was (behind (codes "dup ") _ _ same))
-event_is (events.Release r) (events.Release s) is was same = ap events.Release (rep_is r s is was (behind (codes "release ") _ _ same))
-event_is (events.Call r n v) (events.Call s m w) is was same = call_is r s n m v w is was (behind (codes "call ") _ _ same)
-event_is (events.TakeReply c) (events.TakeReply d) is was same = ap events.TakeReply (number_is c d is was (behind (codes "take ") _ _ same))
-event_is events.Claim events.Claim is was same = refl
-event_is (events.Finish i o) (events.Finish j p) is was same = finish_is i j o p is was (behind (codes "finish ") _ _ same)
-event_is (events.Act p) (events.Act q) is was same = ap events.Act (space_is p q is was (behind (codes "act ") _ _ same))
-event_is events.Settle events.Settle is was same = refl
-event_is events.Clean events.Clean is was same = refl
-event_is (events.Withdraw x) (events.Withdraw y) is was same = ap events.Withdraw (number_is x y is was (behind (codes "withdraw ") _ _ same))
-event_is (events.Transmit p) (events.Transmit q) is was same = ap events.Transmit (space_is p q is was (behind (codes "send ") _ _ same))
-event_is (events.Arrive f) (events.Arrive g) is was same = ap events.Arrive (frame_is f g is was (behind (codes "arrive ") _ _ same))
-event_is (events.Tick p) (events.Tick q) is was same = ap events.Tick (space_is p q is was (behind (codes "tick ") _ _ same))
-event_is (events.Close p) (events.Close q) is was same = ap events.Close (space_is p q is was (behind (codes "close ") _ _ same))
-event_is a b is was same = absurd (let k = ap key same in omega (arith, k))
+pub event_is : (v w : Version) (a b : Event) → IsTracedEvent v a → IsTracedEvent w b → event_text (arrival_text v a) a ≡ event_text (arrival_text w b) b → a ≡ b
+event_is v w events.Export events.Export is was same = refl
+event_is v w (events.Dup r) (events.Dup s) is was same = ap events.Dup (rep_is r s is was (behind (codes "dup ") _ _ same))
+event_is v w (events.Release r) (events.Release s) is was same = ap events.Release (rep_is r s is was (behind (codes "release ") _ _ same))
+event_is v w (events.Call r n x) (events.Call s m y) is was same = call_is r s n m x y is was (behind (codes "call ") _ _ same)
+event_is v w (events.TakeReply c) (events.TakeReply d) is was same = ap events.TakeReply (number_is c d is was (behind (codes "take ") _ _ same))
+event_is v w events.Claim events.Claim is was same = refl
+event_is v w (events.Finish i o) (events.Finish j p) is was same = finish_is i j o p is was (behind (codes "finish ") _ _ same)
+event_is v w (events.Act p) (events.Act q) is was same = ap events.Act (space_is p q is was (behind (codes "act ") _ _ same))
+event_is v w events.Settle events.Settle is was same = refl
+event_is v w events.Clean events.Clean is was same = refl
+event_is v w (events.Withdraw x) (events.Withdraw y) is was same = ap events.Withdraw (number_is x y is was (behind (codes "withdraw ") _ _ same))
+event_is v w (events.Transmit p) (events.Transmit q) is was same = ap events.Transmit (space_is p q is was (behind (codes "send ") _ _ same))
+event_is v w (events.Arrive f) (events.Arrive g) is was same = ap events.Arrive (frame_is v w f g is was (behind (codes "arrive ") _ _ same))
+event_is v w (events.Tick p) (events.Tick q) is was same = ap events.Tick (space_is p q is was (behind (codes "tick ") _ _ same))
+event_is v w (events.Close p) (events.Close q) is was same = ap events.Close (space_is p q is was (behind (codes "close ") _ _ same))
+event_is v w a b is was same = absurd (let k = ap key same in omega (arith, k))

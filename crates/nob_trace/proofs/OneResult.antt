@@ -1,4 +1,4 @@
--- A text spells one result.
+-- A text spells one result, in whichever version.
 use Rattle.std.proofs.Common.{◌≡◌, ℕ, ◌^◌, ◌%◌, ◌<◌, List, [], ◌∷◌, ◌++◌, codes, refl, sym, ap, ◌∙◌, arith, Result, Ok, Err}
 use Rattle.std.specs.List.{AllByRecursion}
 use Rattle.std.specs.Fmt.{decimal}
@@ -8,6 +8,7 @@ use Rattle.nob_ids.specs.declared.reason.Reason.{Reason}
 use Rattle.nob_ids.specs.declared.reason.Reason.TheVariants as reasons
 use Rattle.nob_pickle.specs.declared.value.Value.{Value}
 use Rattle.nob_frame.specs.declared.frame.Frame.{Frame}
+use Rattle.nob_frame.specs.declared.version.Version.{Version}
 use Rattle.nob_frame.specs.Spelling.{spelling}
 use Rattle.nob_model_types.specs.declared.answer.Job.{Job}
 use Rattle.nob_model_types.specs.declared.answer.Answer.{Answer}
@@ -89,28 +90,28 @@ refusal_is r s same = same_refusal r s (sym (refusal_keyed r) ∙ ap key same �
 
 -- ---- frames
 
-one_frame : (f g : Frame) (rest left : List ℕ) → IsFramed f → IsFramed g → Stops rest → Stops left → frame_text f ++ rest ≡ frame_text g ++ left → (f ≡ g) × (rest ≡ left)
-one_frame f g rest left is was stopped halts same =
-    let parts = one_front (frame_text f) (frame_text g) rest left (hex_no_mark (spelling f)) (hex_no_mark (spelling g)) stopped halts same in
-    (frame_is f g is was parts.0, parts.1)
+one_frame : (v w : Version) (f g : Frame) (rest left : List ℕ) → IsFramed v f → IsFramed w g → Stops rest → Stops left → frame_text v f ++ rest ≡ frame_text w g ++ left → (f ≡ g) × (rest ≡ left)
+one_frame v w f g rest left is was stopped halts same =
+    let parts = one_front (frame_text v f) (frame_text w g) rest left (hex_no_mark (spelling v f)) (hex_no_mark (spelling w g)) stopped halts same in
+    (frame_is v w f g is was parts.0, parts.1)
 
 nothing : (b : ℕ) (ys : List ℕ) → [] ≡ b ∷ ys → ⊥
 nothing b ys e = cc
 
-spaced_is : (fs gs : List Frame) → AllByRecursion IsFramed fs → AllByRecursion IsFramed gs → spaced_text fs ≡ spaced_text gs → fs ≡ gs
-spaced_is [] [] are were same = refl
-spaced_is [] (g ∷ gs) are were same = absurd (nothing _ _ same)
-spaced_is (f ∷ fs) [] are were same = absurd (nothing _ _ (sym same))
-spaced_is (f ∷ fs) (g ∷ gs) are were same =
-    let first = one_frame f g (spaced_text fs) (spaced_text gs) are.0 were.0 (stops fs) (stops gs) (tail_is _ _ _ _ same) in
-    let others = spaced_is fs gs are.1 were.1 first.1 in
+spaced_is : (v w : Version) (fs gs : List Frame) → AllByRecursion (IsFramed v) fs → AllByRecursion (IsFramed w) gs → spaced_text v fs ≡ spaced_text w gs → fs ≡ gs
+spaced_is v w [] [] are were same = refl
+spaced_is v w [] (g ∷ gs) are were same = absurd (nothing _ _ same)
+spaced_is v w (f ∷ fs) [] are were same = absurd (nothing _ _ (sym same))
+spaced_is v w (f ∷ fs) (g ∷ gs) are were same =
+    let first = one_frame v w f g (spaced_text v fs) (spaced_text w gs) are.0 were.0 (stops v fs) (stops w gs) (tail_is _ _ _ _ same) in
+    let others = spaced_is v w fs gs are.1 were.1 first.1 in
     ap (λ (x : Frame). x ∷ fs) first.0 ∙ ap (λ (xs : List Frame). g ∷ xs) others
 
-frames_is : (fs gs : List Frame) → AllByRecursion IsFramed fs → AllByRecursion IsFramed gs → frames_text fs ≡ frames_text gs → fs ≡ gs
-frames_is [] [] are were same = refl
-frames_is [] (g ∷ gs) are were same = absurd (not_none g gs (behind (codes "frames") _ _ same))
-frames_is (f ∷ fs) [] are were same = absurd (not_none f fs (behind (codes "frames") _ _ (sym same)))
-frames_is (f ∷ fs) (g ∷ gs) are were same = spaced_is (f ∷ fs) (g ∷ gs) are were (behind (codes "frames") _ _ same)
+frames_is : (v w : Version) (fs gs : List Frame) → AllByRecursion (IsFramed v) fs → AllByRecursion (IsFramed w) gs → frames_text v fs ≡ frames_text w gs → fs ≡ gs
+frames_is v w [] [] are were same = refl
+frames_is v w [] (g ∷ gs) are were same = absurd (not_none w g gs (behind (codes "frames") _ _ same))
+frames_is v w (f ∷ fs) [] are were same = absurd (not_none v f fs (behind (codes "frames") _ _ (sym same)))
+frames_is v w (f ∷ fs) (g ∷ gs) are were same = spaced_is v w (f ∷ fs) (g ∷ gs) are were (behind (codes "frames") _ _ same)
 
 -- ---- answers
 
@@ -181,34 +182,34 @@ answer_key answers.Withdrawn = key (codes "wit")
 answer_key (answers.Frames fs) = key (codes "fra")
 answer_key (answers.Took n) = key (codes "too")
 
-frames_keyed : (fs : List Frame) → key (frames_text fs) ≡ key (codes "fra")
-frames_keyed [] = refl
-frames_keyed (f ∷ fs) = refl
+frames_keyed : (v : Version) (fs : List Frame) → key (frames_text v fs) ≡ key (codes "fra")
+frames_keyed v [] = refl
+frames_keyed v (f ∷ fs) = refl
 
-answer_keyed : (a : Answer) → key (result_text (Ok a)) ≡ answer_key a
-answer_keyed (answers.Frames fs) = frames_keyed fs
-answer_keyed a = refl
+answer_keyed : (v : Version) (a : Answer) → key (result_text v (Ok a)) ≡ answer_key a
+answer_keyed v (answers.Frames fs) = frames_keyed v fs
+answer_keyed v a = refl
 
-same_answer : (a b : Answer) → answer_key a ≡ answer_key b → IsTracedResult (Ok a) → IsTracedResult (Ok b) → result_text (Ok a) ≡ result_text (Ok b) → a ≡ b
-same_answer (answers.Exported r) (answers.Exported s) keys is was same = ap answers.Exported (rep_is r s is was (behind (codes "exported ") _ _ same))
-same_answer answers.Done answers.Done keys is was same = refl
-same_answer (answers.Called c) (answers.Called d) keys is was same = ap answers.Called (number_is c d is was (behind (codes "call ") _ _ same))
-same_answer (answers.Replied n v) (answers.Replied m w) keys is was same = reply_is n m v w is was (behind (codes "reply ") _ _ same)
-same_answer answers.Ended answers.Ended keys is was same = refl
-same_answer (answers.Job j) (answers.Job k) keys is was same = ap answers.Job (job_is j k is was same)
-same_answer answers.Finished answers.Finished keys is was same = refl
-same_answer answers.Dropped answers.Dropped keys is was same = refl
-same_answer (answers.Acted n) (answers.Acted m) keys is was same = ap answers.Acted (number_is n m is was (behind (codes "acted ") _ _ same))
-same_answer (answers.Closed r) (answers.Closed s) keys is was same = ap answers.Closed (reason_is r s (behind (codes "closed ") _ _ same))
-same_answer (answers.Settled p n) (answers.Settled q m) keys is was same = settled_is p q n m is was (behind (codes "settled ") _ _ same)
-same_answer (answers.Cleaned r) (answers.Cleaned s) keys is was same = ap answers.Cleaned (rep_is r s is was (behind (codes "cleaned ") _ _ same))
-same_answer answers.Withdrawn answers.Withdrawn keys is was same = refl
-same_answer (answers.Frames fs) (answers.Frames gs) keys is was same = ap answers.Frames (frames_is fs gs is was same)
-same_answer (answers.Took n) (answers.Took m) keys is was same = ap answers.Took (number_is n m is was (behind (codes "took ") _ _ same))
-same_answer a b keys is was same = absurd (omega (arith, keys))
+same_answer : (v w : Version) (a b : Answer) → answer_key a ≡ answer_key b → IsTracedResult v (Ok a) → IsTracedResult w (Ok b) → result_text v (Ok a) ≡ result_text w (Ok b) → a ≡ b
+same_answer v w (answers.Exported r) (answers.Exported s) keys is was same = ap answers.Exported (rep_is r s is was (behind (codes "exported ") _ _ same))
+same_answer v w answers.Done answers.Done keys is was same = refl
+same_answer v w (answers.Called c) (answers.Called d) keys is was same = ap answers.Called (number_is c d is was (behind (codes "call ") _ _ same))
+same_answer v w (answers.Replied n x) (answers.Replied m y) keys is was same = reply_is n m x y is was (behind (codes "reply ") _ _ same)
+same_answer v w answers.Ended answers.Ended keys is was same = refl
+same_answer v w (answers.Job j) (answers.Job k) keys is was same = ap answers.Job (job_is j k is was same)
+same_answer v w answers.Finished answers.Finished keys is was same = refl
+same_answer v w answers.Dropped answers.Dropped keys is was same = refl
+same_answer v w (answers.Acted n) (answers.Acted m) keys is was same = ap answers.Acted (number_is n m is was (behind (codes "acted ") _ _ same))
+same_answer v w (answers.Closed r) (answers.Closed s) keys is was same = ap answers.Closed (reason_is r s (behind (codes "closed ") _ _ same))
+same_answer v w (answers.Settled p n) (answers.Settled q m) keys is was same = settled_is p q n m is was (behind (codes "settled ") _ _ same)
+same_answer v w (answers.Cleaned r) (answers.Cleaned s) keys is was same = ap answers.Cleaned (rep_is r s is was (behind (codes "cleaned ") _ _ same))
+same_answer v w answers.Withdrawn answers.Withdrawn keys is was same = refl
+same_answer v w (answers.Frames fs) (answers.Frames gs) keys is was same = ap answers.Frames (frames_is v w fs gs is was same)
+same_answer v w (answers.Took n) (answers.Took m) keys is was same = ap answers.Took (number_is n m is was (behind (codes "took ") _ _ same))
+same_answer v w a b keys is was same = absurd (omega (arith, keys))
 
-answer_is : (a b : Answer) → IsTracedResult (Ok a) → IsTracedResult (Ok b) → result_text (Ok a) ≡ result_text (Ok b) → a ≡ b
-answer_is a b is was same = same_answer a b (sym (answer_keyed a) ∙ ap key same ∙ answer_keyed b) is was same
+answer_is : (v w : Version) (a b : Answer) → IsTracedResult v (Ok a) → IsTracedResult w (Ok b) → result_text v (Ok a) ≡ result_text w (Ok b) → a ≡ b
+answer_is v w a b is was same = same_answer v w a b (sym (answer_keyed v a) ∙ ap key same ∙ answer_keyed w b) is was same
 
 -- ---- results
 
@@ -225,11 +226,11 @@ apart : (a : Answer) (r : Refusal) → answer_key a ≡ refusal_key r → ⊥
 apart a r keys = answer_first a (ap (λ (k : ℕ). k % 256) keys ∙ refusal_first r)
 
 -- a text spells one result
-pub result_is : (a b : Result Answer Refusal) → IsTracedResult a → IsTracedResult b → result_text a ≡ result_text b → a ≡ b
-result_is (Ok a) (Ok b) is was same = ap Ok (answer_is a b is was same)
-result_is (Ok a) (Err s) is was same = absurd (apart a s (sym (answer_keyed a) ∙ ap key same ∙ refusal_keyed s))
-result_is (Err r) (Ok b) is was same = absurd (apart b r (sym (answer_keyed b) ∙ ap key (sym same) ∙ refusal_keyed r))
-result_is (Err r) (Err s) is was same = ap Err (refusal_is r s same)
+pub result_is : (v w : Version) (a b : Result Answer Refusal) → IsTracedResult v a → IsTracedResult w b → result_text v a ≡ result_text w b → a ≡ b
+result_is v w (Ok a) (Ok b) is was same = ap Ok (answer_is v w a b is was same)
+result_is v w (Ok a) (Err s) is was same = absurd (apart a s (sym (answer_keyed v a) ∙ ap key same ∙ refusal_keyed s))
+result_is v w (Err r) (Ok b) is was same = absurd (apart b r (sym (answer_keyed w b) ∙ ap key (sym same) ∙ refusal_keyed r))
+result_is v w (Err r) (Err s) is was same = ap Err (refusal_is r s same)
 
 pub one_result : OneResult
-one_result text a b is was spelt again = result_is a b is was (sym spelt ∙ again)
+one_result text v w a b is was spelt again = result_is v w a b is was (sym spelt ∙ again)

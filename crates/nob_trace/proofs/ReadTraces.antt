@@ -4,45 +4,51 @@ use Rattle.std.specs.Prelude.{IsErrAnd}
 use Rattle.std.specs.List.{AllByRecursion, flat_map}
 use Rattle.std.specs.Fmt.{decimal}
 use Rattle.std.proofs.lemmas.List.{append-nil}
+use Rattle.nob_frame.specs.declared.version.Version.{Version}
+use Rattle.nob_frame.specs.declared.version.Version.TheVariants.{One, Two}
 use Rattle.nob_trace.specs.declared.head.Head.{Head}
 use Rattle.nob_trace.specs.declared.trace.Trace.{Trace}
 use Rattle.nob_trace.specs.declared.fault.TraceFault.{TraceFault}
 use Rattle.nob_trace.specs.declared.fault.TraceError.{TraceError}
 use Rattle.nob_trace.specs.declared.fault.TraceError.TheVariants.{Fault, OutOfMemory}
-use Rattle.nob_trace.specs.Traces.{head_of, head_text, entries_text, trace_text, IsHead, IsTrace}
+use Rattle.nob_trace.specs.Traces.{head_of, head_word, head_text, entries_text, trace_text, IsHead, IsTrace}
 use Rattle.nob_trace.specs.Reading.{Answers, AtEntry, AtLine, AtTrace, BeginsWithLine, EntriesFault, Explains, IsThere, Lacks, RunsOut, TextFault}
 use Rattle.nob_trace.proofs.Parting.{has_one, one_parting}
 use Rattle.nob_trace.proofs.Signs as signs
+
+word_lacks : (version : Version) → signs.HasNone (head_word version)
+word_lacks One = search rules
+word_lacks Two = search rules
 
 -- no newline stands in a first line
 pub head_lacks : (head : Head) → IsHead head → Lacks 10 (head_text head)
 head_lacks head is =
     signs.lacks_newline (head_text head)
-    (signs.word (codes "trace ") _ (search rules) (signs.both (decimal head.space) _ (signs.space head.space is.space)
+    (signs.word (head_word head.version) _ (word_lacks head.version) (signs.both (decimal head.space) _ (signs.space head.space is.space)
     (signs.word (codes " of ") _ (search rules) (signs.both (decimal head.n) _ (signs.space head.n is.n)
     (signs.word (codes " window ") _ (search rules) (signs.both (decimal head.limits.window) _ (signs.number head.limits.window (let low = is.limits.1 in omega (arith, low)))
     (signs.word (codes " retry ") _ (search rules) (signs.both (decimal head.limits.retry) _ (signs.number head.limits.retry (let low = is.limits.3 in omega (arith, low)))
     (signs.word (codes " entries ") (decimal head.count) (search rules) (signs.number head.count is.count))))))))))
 
 -- the first line of a trace's text and the lines behind it
-pub lines_of : (text line lines : List ℕ) (trace : Trace) (rest : List ℕ) → BeginsWithLine text line lines → IsTrace trace → text ≡ trace_text trace ++ rest → (line ≡ head_text (head_of trace)) × (lines ≡ entries_text trace.entries ++ rest)
+pub lines_of : (text line lines : List ℕ) (trace : Trace) (rest : List ℕ) → BeginsWithLine text line lines → IsTrace trace → text ≡ trace_text trace ++ rest → (line ≡ head_text (head_of trace)) × (lines ≡ entries_text trace.version trace.entries ++ rest)
 lines_of text line lines trace rest begins is spelt =
-    one_parting 10 line (head_text (head_of trace)) lines (entries_text trace.entries ++ rest) begins.0 (head_lacks (head_of trace) is.head)
-    (sym begins.1 ∙ spelt ∙ append_assoc (head_text (head_of trace)) (10 ∷ entries_text trace.entries) rest)
+    one_parting 10 line (head_text (head_of trace)) lines (entries_text trace.version trace.entries ++ rest) begins.0 (head_lacks (head_of trace) is.head)
+    (sym begins.1 ∙ spelt ∙ append_assoc (head_text (head_of trace)) (10 ∷ entries_text trace.version trace.entries) rest)
 
 pub no_line : (text : List ℕ) (trace : Trace) (rest : List ℕ) → Lacks 10 text → text ≡ trace_text trace ++ rest → ⊥
-no_line text trace rest lacks spelt = has_one 10 text (head_text (head_of trace)) (entries_text trace.entries ++ rest) lacks (spelt ∙ append_assoc (head_text (head_of trace)) (10 ∷ entries_text trace.entries) rest)
+no_line text trace rest lacks spelt = has_one 10 text (head_text (head_of trace)) (entries_text trace.version trace.entries ++ rest) lacks (spelt ∙ append_assoc (head_text (head_of trace)) (10 ∷ entries_text trace.version trace.entries) rest)
 
 -- the text of a trace whose parts were read
-pub whole : (text line lines rest : List ℕ) (trace : Trace) → BeginsWithLine text line lines → line ≡ head_text (head_of trace) → lines ≡ entries_text trace.entries ++ rest → text ≡ trace_text trace ++ rest
+pub whole : (text line lines rest : List ℕ) (trace : Trace) → BeginsWithLine text line lines → line ≡ head_text (head_of trace) → lines ≡ entries_text trace.version trace.entries ++ rest → text ≡ trace_text trace ++ rest
 whole text line lines rest trace begins head entries =
     begins.1 ∙ ap (λ (bs : List ℕ). bs ++ 10 ∷ lines) head ∙ ap (λ (bs : List ℕ). head_text (head_of trace) ++ 10 ∷ bs) entries
-    ∙ sym (append_assoc (head_text (head_of trace)) (10 ∷ entries_text trace.entries) rest)
+    ∙ sym (append_assoc (head_text (head_of trace)) (10 ∷ entries_text trace.version trace.entries) rest)
 
 -- ---- faults
 
 pub lines_fault : {X : Type 0} (P : X → Type 0) (text line lines : List ℕ) (head : Head) (r : Result X TraceError) (e : TraceError) → BeginsWithLine text line lines → IsHead head × (line ≡ head_text head) → IsErrAnd r (λ f. f ≡ e)
-    → Explains (EntriesFault lines head.count) e → Answers P (TextFault text) r
+    → Explains (EntriesFault head.version lines head.count) e → Answers P (TextFault text) r
 lines_fault P text line lines head (Ok x) e begins spelt is wrong = absurd is
 lines_fault P text line lines head (Err f) (Fault fault) begins spelt is wrong =
     subst (λ (g : TraceError). Answers P (TextFault text) (Err g)) (sym is) (TextFault.lines head lines spelt.0 (begins.1 ∙ ap (λ (bs : List ℕ). bs ++ 10 ∷ lines) spelt.1) wrong)
@@ -65,7 +71,7 @@ always_there Q (Ok x) there = tt
 always_there Q (Err (Fault fault)) there = tt
 always_there Q (Err OutOfMemory) there = there
 
-pub at_entry : (text line lines : List ℕ) (head : Head) → BeginsWithLine text line lines → IsHead head × (line ≡ head_text head) → AtLine lines head.count → AtEntry text
+pub at_entry : (text line lines : List ℕ) (head : Head) → BeginsWithLine text line lines → IsHead head × (line ≡ head_text head) → AtLine head.version lines head.count → AtEntry text
 at_entry text line lines head begins spelt at = (head, lines, spelt.0, begins.1 ∙ ap (λ (bs : List ℕ). bs ++ 10 ∷ lines) spelt.1, at)
 
 -- ---- traces one after the other
@@ -110,7 +116,9 @@ only_next text left after done t some read so_far all are spelt =
 
 -- a trace's text is some
 some_text : (t : Trace) (rest : List ℕ) → [] ≡ trace_text t ++ rest → ⊥
-some_text t rest is = absurd cc
+some_text t rest is =
+    let l : 0 ≡ length (trace_text t ++ rest) = ap length is in
+    omega (arith, l, length-append (trace_text t) rest, length-append (head_text (head_of t)) (10 ∷ entries_text t.version t.entries))
 
 no_more : (others : List Trace) → [] ≡ flat_map trace_text others → others ≡ []
 no_more [] is = refl
@@ -129,7 +137,7 @@ unread_next (u ∷ others) left e some are is unread = unread u (flat_map trace_
 pub shorter : (text rest : List ℕ) (t : Trace) → text ≡ trace_text t ++ rest → length rest < length text
 shorter text rest t is =
     let l : length text ≡ length (trace_text t ++ rest) = ap length is in
-    omega (arith, l, length-append (trace_text t) rest, length-append (head_text (head_of t)) (10 ∷ entries_text t.entries))
+    omega (arith, l, length-append (trace_text t) rest, length-append (head_text (head_of t)) (10 ∷ entries_text t.version t.entries))
 
 -- ---- where memory runs out
 

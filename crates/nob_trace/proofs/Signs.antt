@@ -15,6 +15,7 @@ use Rattle.nob_ids.specs.declared.reason.Reason.{Reason}
 use Rattle.nob_ids.specs.declared.reason.Reason.TheVariants as reasons
 use Rattle.nob_ids.specs.declared.wire_rep.WireRep.{WireRep}
 use Rattle.nob_frame.specs.declared.frame.Frame.{Frame}
+use Rattle.nob_frame.specs.declared.version.Version.{Version}
 use Rattle.nob_frame.specs.Spelling.{spelling}
 use Rattle.nob_pickle.specs.Trees.{Tree, Trees}
 use Rattle.nob_pickle.specs.Trees as shapes
@@ -133,29 +134,29 @@ outcome (outcomes.Answer v) is = word (codes "answer ") (value_text v) (search r
 outcome (outcomes.Fault v) is = word (codes "fault ") (value_text v) (search rules) (value v is)
 outcome outcomes.NoMethod is = search rules
 
-frame : (f : Frame) → HasNone (frame_text f)
-frame f = hex (spelling f)
+frame : (version : Version) (f : Frame) → HasNone (frame_text version f)
+frame version f = hex (spelling version f)
 
 -- ---- events
 
-pub event : (e : Event) → IsTracedEvent e → HasNone (event_text (arrival_text e) e)
-event events.Export is = search rules
-event (events.Dup r) is = word (codes "dup ") (rep_text r) (search rules) (rep r is.0 is.1)
-event (events.Release r) is = word (codes "release ") (rep_text r) (search rules) (rep r is.0 is.1)
-event (events.Call t m v) is =
+pub event : (version : Version) (e : Event) → IsTracedEvent version e → HasNone (event_text (arrival_text version e) e)
+event version events.Export is = search rules
+event version (events.Dup r) is = word (codes "dup ") (rep_text r) (search rules) (rep r is.0 is.1)
+event version (events.Release r) is = word (codes "release ") (rep_text r) (search rules) (rep r is.0 is.1)
+event version (events.Call t m v) is =
     word (codes "call ") (rep_text t ++ 32 ∷ (decimal m ++ 32 ∷ value_text v)) (search rules)
     (both (rep_text t) (32 ∷ (decimal m ++ 32 ∷ value_text v)) (rep t is.0.0 is.0.1) (refl, both (decimal m) (32 ∷ value_text v) (number m (omega (arith, is.1))) (refl, value v is.2)))
-event (events.TakeReply c) is = word (codes "take ") (decimal c) (search rules) (number c is)
-event events.Claim is = search rules
-event (events.Finish j o) is = word (codes "finish ") (decimal j ++ 32 ∷ outcome_text o) (search rules) (both (decimal j) (32 ∷ outcome_text o) (number j is.0) (refl, outcome o is.1))
-event (events.Act p) is = word (codes "act ") (decimal p) (search rules) (space p is)
-event events.Settle is = search rules
-event events.Clean is = search rules
-event (events.Withdraw x) is = word (codes "withdraw ") (decimal x) (search rules) (number x is)
-event (events.Transmit p) is = word (codes "send ") (decimal p) (search rules) (space p is)
-event (events.Arrive f) is = word (codes "arrive ") (frame_text f) (search rules) (frame f)
-event (events.Tick p) is = word (codes "tick ") (decimal p) (search rules) (space p is)
-event (events.Close p) is = word (codes "close ") (decimal p) (search rules) (space p is)
+event version (events.TakeReply c) is = word (codes "take ") (decimal c) (search rules) (number c is)
+event version events.Claim is = search rules
+event version (events.Finish j o) is = word (codes "finish ") (decimal j ++ 32 ∷ outcome_text o) (search rules) (both (decimal j) (32 ∷ outcome_text o) (number j is.0) (refl, outcome o is.1))
+event version (events.Act p) is = word (codes "act ") (decimal p) (search rules) (space p is)
+event version events.Settle is = search rules
+event version events.Clean is = search rules
+event version (events.Withdraw x) is = word (codes "withdraw ") (decimal x) (search rules) (number x is)
+event version (events.Transmit p) is = word (codes "send ") (decimal p) (search rules) (space p is)
+event version (events.Arrive f) is = word (codes "arrive ") (frame_text version f) (search rules) (frame version f)
+event version (events.Tick p) is = word (codes "tick ") (decimal p) (search rules) (space p is)
+event version (events.Close p) is = word (codes "close ") (decimal p) (search rules) (space p is)
 
 -- ---- results
 
@@ -167,13 +168,13 @@ reason reasons.BadItem = number 4 (omega arith)
 reason reasons.BadReference = number 5 (omega arith)
 reason reasons.OutOfPlace = number 6 (omega arith)
 
-spaced : (fs : List Frame) → HasNone (spaced_text fs)
-spaced [] = tt
-spaced (f ∷ fs) = (refl, both (frame_text f) (spaced_text fs) (frame f) (spaced fs))
+spaced : (version : Version) (fs : List Frame) → HasNone (spaced_text version fs)
+spaced version [] = tt
+spaced version (f ∷ fs) = (refl, both (frame_text version f) (spaced_text version fs) (frame version f) (spaced version fs))
 
-frames : (fs : List Frame) → HasNone (frames_text fs)
-frames [] = search rules
-frames (f ∷ fs) = word (codes "frames") (spaced_text (f ∷ fs)) (search rules) (spaced (f ∷ fs))
+frames : (version : Version) (fs : List Frame) → HasNone (frames_text version fs)
+frames version [] = search rules
+frames version (f ∷ fs) = word (codes "frames") (spaced_text version (f ∷ fs)) (search rules) (spaced version (f ∷ fs))
 
 job : (j : Job) → IsJob j → HasNone (job_text j)
 job j is =
@@ -205,23 +206,23 @@ refused (refusals.StillUsed u) = used u
 refused refusals.NoJob = search rules
 refused refusals.Limit = search rules
 
-pub answered : (r : Result Answer Refusal) → IsTracedResult r → HasNone (result_text r)
-answered (Ok (answers.Exported r)) is = word (codes "exported ") (rep_text r) (search rules) (rep r is.0 is.1)
-answered (Ok answers.Done) is = search rules
-answered (Ok (answers.Called c)) is = word (codes "call ") (decimal c) (search rules) (number c is)
-answered (Ok (answers.Replied s v)) is = word (codes "reply ") (decimal s ++ 32 ∷ value_text v) (search rules) (both (decimal s) (32 ∷ value_text v) (number s (omega (arith, is.0))) (refl, value v is.1))
-answered (Ok answers.Ended) is = search rules
-answered (Ok (answers.Job j)) is = job j is
-answered (Ok answers.Finished) is = search rules
-answered (Ok answers.Dropped) is = search rules
-answered (Ok (answers.Acted n)) is = word (codes "acted ") (decimal n) (search rules) (number n is)
-answered (Ok (answers.Closed r)) is = word (codes "closed ") (decimal (reason_number r)) (search rules) (reason r)
-answered (Ok (answers.Settled p n)) is = word (codes "settled ") (decimal p ++ 32 ∷ decimal n) (search rules) (both (decimal p) (32 ∷ decimal n) (space p is.0) (refl, number n is.1))
-answered (Ok (answers.Cleaned r)) is = word (codes "cleaned ") (rep_text r) (search rules) (rep r is.0 is.1)
-answered (Ok answers.Withdrawn) is = search rules
-answered (Ok (answers.Frames fs)) is = frames fs
-answered (Ok (answers.Took n)) is = word (codes "took ") (decimal n) (search rules) (number n is)
-answered (Err r) is = refused r
+pub answered : (version : Version) (r : Result Answer Refusal) → IsTracedResult version r → HasNone (result_text version r)
+answered version (Ok (answers.Exported r)) is = word (codes "exported ") (rep_text r) (search rules) (rep r is.0 is.1)
+answered version (Ok answers.Done) is = search rules
+answered version (Ok (answers.Called c)) is = word (codes "call ") (decimal c) (search rules) (number c is)
+answered version (Ok (answers.Replied s v)) is = word (codes "reply ") (decimal s ++ 32 ∷ value_text v) (search rules) (both (decimal s) (32 ∷ value_text v) (number s (omega (arith, is.0))) (refl, value v is.1))
+answered version (Ok answers.Ended) is = search rules
+answered version (Ok (answers.Job j)) is = job j is
+answered version (Ok answers.Finished) is = search rules
+answered version (Ok answers.Dropped) is = search rules
+answered version (Ok (answers.Acted n)) is = word (codes "acted ") (decimal n) (search rules) (number n is)
+answered version (Ok (answers.Closed r)) is = word (codes "closed ") (decimal (reason_number r)) (search rules) (reason r)
+answered version (Ok (answers.Settled p n)) is = word (codes "settled ") (decimal p ++ 32 ∷ decimal n) (search rules) (both (decimal p) (32 ∷ decimal n) (space p is.0) (refl, number n is.1))
+answered version (Ok (answers.Cleaned r)) is = word (codes "cleaned ") (rep_text r) (search rules) (rep r is.0 is.1)
+answered version (Ok answers.Withdrawn) is = search rules
+answered version (Ok (answers.Frames fs)) is = frames version fs
+answered version (Ok (answers.Took n)) is = word (codes "took ") (decimal n) (search rules) (number n is)
+answered version (Err r) is = refused r
 
 -- ---- entries
 
@@ -230,10 +231,10 @@ lacks_both byte [] rest one two = two
 lacks_both byte (b ∷ front) rest one two = (one.0, lacks_both byte front rest one.1 two)
 
 -- no newline stands in an entry
-pub entry : (e : Stamped) → IsTraced e → Lacks 10 (entry_text e)
-entry e is =
+pub entry : (version : Version) (e : Stamped) → IsTraced version e → Lacks 10 (entry_text version e)
+entry version e is =
     lacks_both 10 (decimal e.stamp) _ (lacks_newline (decimal e.stamp) (number e.stamp is.0)) (
       refl,
-      lacks_both 10 (event_text (arrival_text e.event) e.event) (codes " = " ++ result_text e.result) (lacks_newline _ (event e.event is.1))
-          (refl, (refl, (refl, lacks_newline _ (answered e.result is.2)))),
+      lacks_both 10 (event_text (arrival_text version e.event) e.event) (codes " = " ++ result_text version e.result) (lacks_newline _ (event version e.event is.1))
+          (refl, (refl, (refl, lacks_newline _ (answered version e.result is.2)))),
     )

@@ -3,6 +3,7 @@ use Rattle.std.proofs.Common.{List, [], ◌∷◌, Result, Ok, Err}
 use Rattle.std.specs.List.{AllByRecursion}
 use Rattle.nob_frame.specs.declared.frame.Frame.{Frame}
 use Rattle.nob_frame.specs.Spelling.{Fits}
+use Rattle.nob_frame.specs.declared.version.Version.{Version}
 use Rattle.nob_model_types.specs.declared.event.Event.{Event}
 use Rattle.nob_model_types.specs.declared.event.Event.TheVariants as events
 use Rattle.nob_model_types.specs.declared.answer.Answer.{Answer}
@@ -12,45 +13,45 @@ use Rattle.nob_trace.specs.declared.stamped.Stamped.{Stamped}
 use Rattle.nob_trace.specs.Frames.{IsFramed}
 use Rattle.nob_trace.specs.Entries.{ArrivalFits, TransmitFits, HasSpelling, IsTraced, IsTracedEvent, IsTracedResult}
 
-arrival : (event : Event) → IsTracedEvent event → ArrivalFits event
-arrival events.Export is = tt
-arrival (events.Dup r) is = tt
-arrival (events.Release r) is = tt
-arrival (events.Call t m v) is = tt
-arrival (events.TakeReply c) is = tt
-arrival events.Claim is = tt
-arrival (events.Finish j o) is = tt
-arrival (events.Act p) is = tt
-arrival events.Settle is = tt
-arrival events.Clean is = tt
-arrival (events.Withdraw x) is = tt
-arrival (events.Transmit p) is = tt
-arrival (events.Arrive f) is = is.0
-arrival (events.Tick p) is = tt
-arrival (events.Close p) is = tt
+arrival : (version : Version) (event : Event) → IsTracedEvent version event → ArrivalFits version event
+arrival version events.Export is = tt
+arrival version (events.Dup r) is = tt
+arrival version (events.Release r) is = tt
+arrival version (events.Call t m v) is = tt
+arrival version (events.TakeReply c) is = tt
+arrival version events.Claim is = tt
+arrival version (events.Finish j o) is = tt
+arrival version (events.Act p) is = tt
+arrival version events.Settle is = tt
+arrival version events.Clean is = tt
+arrival version (events.Withdraw x) is = tt
+arrival version (events.Transmit p) is = tt
+arrival version (events.Arrive f) is = is.0
+arrival version (events.Tick p) is = tt
+arrival version (events.Close p) is = tt
 
-frames : (fs : List Frame) → AllByRecursion IsFramed fs → AllByRecursion Fits fs
-frames [] all = tt
-frames (f ∷ fs) all = (all.0.0, frames fs all.1)
+frames : (version : Version) (fs : List Frame) → AllByRecursion (IsFramed version) fs → AllByRecursion (Fits version) fs
+frames version [] all = tt
+frames version (f ∷ fs) all = (all.0.0, frames version fs all.1)
 
-transmit : (result : Result Answer Refusal) → IsTracedResult result → TransmitFits result
-transmit (Ok (answers.Exported r)) is = tt
-transmit (Ok answers.Done) is = tt
-transmit (Ok (answers.Called c)) is = tt
-transmit (Ok (answers.Replied s v)) is = tt
-transmit (Ok answers.Ended) is = tt
-transmit (Ok (answers.Job j)) is = tt
-transmit (Ok answers.Finished) is = tt
-transmit (Ok answers.Dropped) is = tt
-transmit (Ok (answers.Acted n)) is = tt
-transmit (Ok (answers.Closed r)) is = tt
-transmit (Ok (answers.Settled p n)) is = tt
-transmit (Ok (answers.Cleaned r)) is = tt
-transmit (Ok answers.Withdrawn) is = tt
-transmit (Ok (answers.Frames fs)) is = frames fs is
-transmit (Ok (answers.Took n)) is = tt
-transmit (Err refusal) is = tt
+transmit : (version : Version) (result : Result Answer Refusal) → IsTracedResult version result → TransmitFits version result
+transmit version (Ok (answers.Exported r)) is = tt
+transmit version (Ok answers.Done) is = tt
+transmit version (Ok (answers.Called c)) is = tt
+transmit version (Ok (answers.Replied s v)) is = tt
+transmit version (Ok answers.Ended) is = tt
+transmit version (Ok (answers.Job j)) is = tt
+transmit version (Ok answers.Finished) is = tt
+transmit version (Ok answers.Dropped) is = tt
+transmit version (Ok (answers.Acted n)) is = tt
+transmit version (Ok (answers.Closed r)) is = tt
+transmit version (Ok (answers.Settled p n)) is = tt
+transmit version (Ok (answers.Cleaned r)) is = tt
+transmit version (Ok answers.Withdrawn) is = tt
+transmit version (Ok (answers.Frames fs)) is = frames version fs is
+transmit version (Ok (answers.Took n)) is = tt
+transmit version (Err refusal) is = tt
 
-pub entries : (es : List Stamped) → AllByRecursion IsTraced es → AllByRecursion HasSpelling es
-entries [] all = tt
-entries (e ∷ es) all = ((arrival e.event all.0.1, transmit e.result all.0.2), entries es all.1)
+pub entries : (version : Version) (es : List Stamped) → AllByRecursion (IsTraced version) es → AllByRecursion (HasSpelling version) es
+entries version [] all = tt
+entries version (e ∷ es) all = ((arrival version e.event all.0.1, transmit version e.result all.0.2), entries version es all.1)

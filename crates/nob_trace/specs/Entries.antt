@@ -1,7 +1,8 @@
--- The one spelling of each entry in traces.
+-- The one spelling of each entry in traces of a version.
 use Rattle.std.specs.Prelude.{ℕ, ◌<◌, ◌^◌, List, [], ◌∷◌, ◌++◌, codes, Result, Ok, Err}
 use Rattle.std.specs.List.{AllByRecursion}
 use Rattle.std.specs.Fmt.{decimal}
+use Rattle.nob_frame.specs.declared.version.Version.{Version}
 use Rattle.nob_frame.specs.Spelling.{Fits}
 use Rattle.nob_model_types.specs.declared.event.Event.{Event}
 use Rattle.nob_model_types.specs.declared.event.Event.TheVariants as events
@@ -15,50 +16,50 @@ use Rattle.nob_trace.specs.declared.stamped.Stamped.{Stamped}
 use Rattle.nob_trace.specs.Frames.{frame_text, frames_text, IsFramed}
 
 -- the frame's text of an arrival, and none of another event
-abbrev pub arrival_text : Event → List ℕ
-arrival_text (events.Arrive frame) = frame_text frame
-arrival_text event = []
+abbrev pub arrival_text : Version → Event → List ℕ
+arrival_text version (events.Arrive frame) = frame_text version frame
+arrival_text version event = []
 
 -- the frames' text of a transmit's answer, and none of another answer
-abbrev pub transmit_text : Answer → List ℕ
-transmit_text (answers.Frames frames) = frames_text frames
-transmit_text answer = []
+abbrev pub transmit_text : Version → Answer → List ℕ
+transmit_text version (answers.Frames frames) = frames_text version frames
+transmit_text version answer = []
 
 -- an answer or a refusal
-abbrev pub result_text : Result Answer Refusal → List ℕ
-result_text (Ok answer) = answer_text (transmit_text answer) answer
-result_text (Err refusal) = refusal_text refusal
+abbrev pub result_text : Version → Result Answer Refusal → List ℕ
+result_text version (Ok answer) = answer_text (transmit_text version answer) answer
+result_text version (Err refusal) = refusal_text refusal
 
 -- an entry: its stamp, its event, and its result behind an equals sign
-abbrev pub entry_text : Stamped → List ℕ
-entry_text entry = decimal entry.stamp ++ 32 ∷ (event_text (arrival_text entry.event) entry.event ++ (codes " = " ++ result_text entry.result))
+abbrev pub entry_text : Version → Stamped → List ℕ
+entry_text version entry = decimal entry.stamp ++ 32 ∷ (event_text (arrival_text version entry.event) entry.event ++ (codes " = " ++ result_text version entry.result))
 
 -- a frame that arrives has a spelling
-abbrev pub ArrivalFits : Event → Type 0
-ArrivalFits (events.Arrive frame) = Fits frame
-ArrivalFits event = Unit {0}
+abbrev pub ArrivalFits : Version → Event → Type 0
+ArrivalFits version (events.Arrive frame) = Fits version frame
+ArrivalFits version event = Unit {0}
 
 -- frames that a transmit gave have spellings
-abbrev pub TransmitFits : Result Answer Refusal → Type 0
-TransmitFits (Ok (answers.Frames frames)) = AllByRecursion Fits frames
-TransmitFits (Ok answer) = Unit {0}
-TransmitFits (Err refusal) = Unit {0}
+abbrev pub TransmitFits : Version → Result Answer Refusal → Type 0
+TransmitFits version (Ok (answers.Frames frames)) = AllByRecursion (Fits version) frames
+TransmitFits version (Ok answer) = Unit {0}
+TransmitFits version (Err refusal) = Unit {0}
 
 -- an entry in which each frame has a spelling
-abbrev pub HasSpelling : Stamped → Type 0
-HasSpelling entry = ArrivalFits entry.event × TransmitFits entry.result
+abbrev pub HasSpelling : Version → Stamped → Type 0
+HasSpelling version entry = ArrivalFits version entry.event × TransmitFits version entry.result
 
 -- an event that a trace can have: one that a script can have, or the arrival of a frame that bytes spell
-abbrev pub IsTracedEvent : Event → Type 0
-IsTracedEvent (events.Arrive frame) = IsFramed frame
-IsTracedEvent event = IsSpoken event
+abbrev pub IsTracedEvent : Version → Event → Type 0
+IsTracedEvent version (events.Arrive frame) = IsFramed version frame
+IsTracedEvent version event = IsSpoken event
 
 -- a result that a trace can have: a refusal, frames that bytes spell, or another answer whose numbers are of their types
-abbrev pub IsTracedResult : Result Answer Refusal → Type 0
-IsTracedResult (Ok (answers.Frames frames)) = AllByRecursion IsFramed frames
-IsTracedResult (Ok answer) = IsTold answer
-IsTracedResult (Err refusal) = Unit {0}
+abbrev pub IsTracedResult : Version → Result Answer Refusal → Type 0
+IsTracedResult version (Ok (answers.Frames frames)) = AllByRecursion (IsFramed version) frames
+IsTracedResult version (Ok answer) = IsTold answer
+IsTracedResult version (Err refusal) = Unit {0}
 
 -- an entry that a trace can have
-abbrev pub IsTraced : Stamped → Type 0
-IsTraced entry = (entry.stamp < 2 ^ 64) × IsTracedEvent entry.event × IsTracedResult entry.result
+abbrev pub IsTraced : Version → Stamped → Type 0
+IsTraced version entry = (entry.stamp < 2 ^ 64) × IsTracedEvent version entry.event × IsTracedResult version entry.result

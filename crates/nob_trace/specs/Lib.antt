@@ -2,6 +2,7 @@ pub mod Stamps
 pub mod Frames
 pub mod Entries
 pub mod Traces
+pub mod Sessions
 pub mod Reading
 pub mod Writing
 pub mod Laws

@@ -1,6 +1,7 @@
 -- Which of R1 to R4 a text is refused for: what the first line says that isn't as it should be.
 use Rattle.std.specs.Prelude.{◌≡◌, ◌≢◌, ℕ, ◌<◌, ◌≤◌, ◌==◌, false, List, [], ◌∷◌, ◌++◌, length, Result, Ok, Err}
 use Rattle.std.specs.List.{AllByRecursion, flat_map}
+use Rattle.nob_frame.specs.declared.version.Version.{Version}
 use Rattle.nob_trace.specs.declared.stamped.Stamped.{Stamped}
 use Rattle.nob_trace.specs.declared.head.Head.{Head}
 use Rattle.nob_trace.specs.declared.trace.Trace.{Trace}
@@ -24,31 +25,32 @@ BeginsWithLine text line rest = Lacks 10 line × (text ≡ line ++ 10 ∷ rest)
 abbrev pub IsNoHead : List ℕ → Type 0
 IsNoHead line = (head : Head) → IsHead head → line ≢ head_text head
 
--- a line that spells no entry
-abbrev pub IsNoEntry : List ℕ → Type 0
-IsNoEntry line = (entry : Stamped) → IsTraced entry → line ≢ entry_text entry
+-- a line that spells no entry of this version
+abbrev pub IsNoEntry : Version → List ℕ → Type 0
+IsNoEntry version line = (entry : Stamped) → IsTraced version entry → line ≢ entry_text version entry
 
--- lines that should begin with so many entries: these fewer ones stand there, each such that a trace can have it, and then these lines are left
-pub record Breaks (lines : List ℕ) (count : ℕ) (entries : List Stamped) (left : List ℕ) : Type 0 where
+-- lines that should begin with so many entries: these fewer ones stand there, each such that a trace of this version can have it, and then these lines are left
+pub record Breaks (version : Version) (lines : List ℕ) (count : ℕ) (entries : List Stamped) (left : List ℕ) : Type 0 where
   pub few : length entries < count
   pub rise : Rise 0 entries
-  pub traced : AllByRecursion IsTraced entries
-  pub lines_are : lines ≡ entries_text entries ++ left
+  pub traced : AllByRecursion (IsTraced version) entries
+  pub lines_are : lines ≡ entries_text version entries ++ left
 
 -- why lines don't begin with so many entries, whose stamps rise: the first line that breaks off, spells no entry, or has no greater stamp
-abbrev pub EntriesFault : List ℕ → ℕ → TraceFault → Type 0
-EntriesFault lines count faults.Short = (entries : List Stamped) × (left : List ℕ) × Breaks lines count entries left × Lacks 10 left
-EntriesFault lines count faults.Entry = (entries : List Stamped) × (left line rest : List ℕ) × Breaks lines count entries left × BeginsWithLine left line rest × IsNoEntry line
-EntriesFault lines count faults.Stamp = (entries : List Stamped) × (left rest : List ℕ) × (entry : Stamped) × Breaks lines count entries left × IsTraced entry × (left ≡ entry_text entry ++ 10 ∷ rest) × (entry.stamp ≤ last_stamp 0 entries)
-EntriesFault lines count faults.Trailing = ⊥
+abbrev pub EntriesFault : Version → List ℕ → ℕ → TraceFault → Type 0
+EntriesFault version lines count faults.Short = (entries : List Stamped) × (left : List ℕ) × Breaks version lines count entries left × Lacks 10 left
+EntriesFault version lines count faults.Entry = (entries : List Stamped) × (left line rest : List ℕ) × Breaks version lines count entries left × BeginsWithLine left line rest × IsNoEntry version line
+EntriesFault version lines count faults.Stamp = (entries : List Stamped) × (left rest : List ℕ) × (entry : Stamped) × Breaks version lines count entries left × IsTraced version entry × (left ≡ entry_text version entry ++ 10 ∷ rest) × (entry.stamp ≤ last_stamp 0 entries)
+EntriesFault version lines count faults.Trailing = ⊥
+EntriesFault version lines count faults.Version = ⊥
 
 -- lines go on with a whole line where they should have another entry: all before it are as they should be
-abbrev pub AtLine : List ℕ → ℕ → Type 0
-AtLine lines count = (entries : List Stamped) × (left line rest : List ℕ) × Breaks lines count entries left × BeginsWithLine left line rest
+abbrev pub AtLine : Version → List ℕ → ℕ → Type 0
+AtLine version lines count = (entries : List Stamped) × (left line rest : List ℕ) × Breaks version lines count entries left × BeginsWithLine left line rest
 
 -- a text begins with a first line, and goes on so behind it
 abbrev pub AtEntry : List ℕ → Type 0
-AtEntry text = (head : Head) × (rest : List ℕ) × IsHead head × (text ≡ head_text head ++ 10 ∷ rest) × AtLine rest head.count
+AtEntry text = (head : Head) × (rest : List ℕ) × IsHead head × (text ≡ head_text head ++ 10 ∷ rest) × AtLine head.version rest head.count
 
 -- why a text doesn't begin with a trace
 pub data TextFault (text : List ℕ) (fault : TraceFault) : Type 0 where
@@ -57,7 +59,7 @@ pub data TextFault (text : List ℕ) (fault : TraceFault) : Type 0 where
   -- the first line spells none
   bad : (line rest : List ℕ) → BeginsWithLine text line rest → IsNoHead line → fault ≡ faults.Entry → TextFault text fault
   -- the lines behind it don't begin with the entries that it promises
-  lines : (head : Head) (rest : List ℕ) → IsHead head → text ≡ head_text head ++ 10 ∷ rest → EntriesFault rest head.count fault → TextFault text fault
+  lines : (head : Head) (rest : List ℕ) → IsHead head → text ≡ head_text head ++ 10 ∷ rest → EntriesFault head.version rest head.count fault → TextFault text fault
 
 -- what is wrong with a text that should be one trace
 pub data TraceProblem (text : List ℕ) (fault : TraceFault) : Type 0 where

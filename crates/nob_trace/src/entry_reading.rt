@@ -18,23 +18,25 @@ ghost use Rattle.nob_trace.specs.Reading.{Lacks};
 use crate::frame_reading::{whole_frame, whole_frames};
 use crate::lines::split_at_byte;
 use crate::stamped::Stamped;
+use nob_frame::Version;
 use nob_model_reading::{after_space, whole_answer, whole_event};
 use nob_model_text::{Unread, number_at, refusal_of};
 use nob_model_types::{Answer, Event, Refusal};
 use std::alloc::Global;
 
-/// The entry that a line of a trace spells, without its newline. Only memory and a line that spells
-/// none fail it. It costs time and memory in proportion to the line, and recurses once for each
-/// level of a value.
-pub fn entry_of(alloc: Global, line: &[u8]) -> Result<Stamped, Unread>
-    ensures found { IfOk result (λ entry. IsTraced entry × (line.now ≡ entry_text entry)) }
-    ensures only { (entry : StampedOf) → IsTraced entry → line.now ≡ entry_text entry
-        → Reads (λ e. e ≡ entry) result }
+/// The entry that a line of a trace of a version spells, without its newline. Only memory and a
+/// line that spells none fail it. It costs time and memory in proportion to the line, and recurses
+/// once for each level of a value.
+pub fn entry_of(alloc: Global, version: Version, line: &[u8]) -> Result<Stamped, Unread>
+    ensures found { IfOk result (λ entry. IsTraced version entry
+        × (line.now ≡ entry_text version entry)) }
+    ensures only { (entry : StampedOf) → IsTraced version entry
+        → line.now ≡ entry_text version entry → Reads (λ e. e ≡ entry) result }
 {
     let (stamp, behind) = number_at(alloc, line)?;
     let (event, answer) = sides_of(after_space(behind)?)?;
-    let event = traced_event(alloc, event)?;
-    let result = traced_result(alloc, answer)?;
+    let event = traced_event(alloc, version, event)?;
+    let result = traced_result(alloc, version, answer)?;
     Ok(Stamped {
         stamp,
         event,
@@ -61,16 +63,16 @@ fn sides_of(text: &[u8]) -> Result<(&[u8], &[u8]), Unread>
     Ok((left, right))
 }
 
-// The event of a trace that a text spells.
-fn traced_event(alloc: Global, text: &[u8]) -> Result<Event, Unread>
-    ensures found { IfOk result (λ event. IsTracedEvent event
-        × (text.now ≡ event_text (arrival_text event) event)) }
-    ensures only { (event : EventOf) → IsTracedEvent event
-        → text.now ≡ event_text (arrival_text event) event → Reads (λ e. e ≡ event) result }
+// The event of a trace of a version that a text spells.
+fn traced_event(alloc: Global, version: Version, text: &[u8]) -> Result<Event, Unread>
+    ensures found { IfOk result (λ event. IsTracedEvent version event
+        × (text.now ≡ event_text (arrival_text version event) event)) }
+    ensures only { (event : EventOf) → IsTracedEvent version event
+        → text.now ≡ event_text (arrival_text version event) event → Reads (λ e. e ≡ event) result }
 {
     match after_arrive(text) {
-        Some(rest) => arrival_of(alloc, rest),
-        None => script_event(alloc, text),
+        Some(rest) => arrival_of(alloc, version, rest),
+        None => script_event(alloc, version, text),
     }
 }
 
@@ -86,19 +88,20 @@ fn after_arrive(text: &[u8]) -> Option<&[u8]>
 }
 
 // The arrival that a text spells behind its word.
-fn arrival_of(alloc: Global, text: &[u8]) -> Result<Event, Unread>
-    ensures found { IfOk result (λ event. IsTracedEvent event
-        × (codes "arrive " ++ text.now ≡ event_text (arrival_text event) event)) }
-    ensures only { (frame : FrameOf) → IsFramed frame → text.now ≡ frame_text frame
+fn arrival_of(alloc: Global, version: Version, text: &[u8]) -> Result<Event, Unread>
+    ensures found { IfOk result (λ event. IsTracedEvent version event
+        × (codes "arrive " ++ text.now ≡ event_text (arrival_text version event) event)) }
+    ensures only { (frame : FrameOf) → IsFramed version frame
+        → text.now ≡ frame_text version frame
         → Reads (λ e. e ≡ Event.Arrive frame) result }
 {
-    Ok(Event::Arrive(whole_frame(alloc, text)?))
+    Ok(Event::Arrive(whole_frame(alloc, version, text)?))
 }
 
-// The event of a script that a text spells.
-fn script_event(alloc: Global, text: &[u8]) -> Result<Event, Unread>
-    ensures found { IfOk result (λ event. IsTracedEvent event
-        × (text.now ≡ event_text (arrival_text event) event)) }
+// The event of a script that a text spells, which stands so in traces of each version.
+fn script_event(alloc: Global, version: Version, text: &[u8]) -> Result<Event, Unread>
+    ensures found { IfOk result (λ event. IsTracedEvent version event
+        × (text.now ≡ event_text (arrival_text version event) event)) }
     ensures only { (event : EventOf) → IsSpoken event → text.now ≡ event_text [] event
         → Reads (λ e. e ≡ event) result }
 {
@@ -108,20 +111,24 @@ fn script_event(alloc: Global, text: &[u8]) -> Result<Event, Unread>
     }
 }
 
-// The result in a trace that a text spells.
-fn traced_result(alloc: Global, text: &[u8]) -> Result<Result<Answer, Refusal>, Unread>
-    ensures found { IfOk result (λ response. IsTracedResult response
-        × (text.now ≡ result_text response)) }
-    ensures only { (response : ResultOf AnswerOf RefusalOf) → IsTracedResult response
-        → text.now ≡ result_text response → Reads (λ r. r ≡ response) result }
+// The result in a trace of a version that a text spells.
+fn traced_result(
+    alloc: Global,
+    version: Version,
+    text: &[u8],
+) -> Result<Result<Answer, Refusal>, Unread>
+    ensures found { IfOk result (λ response. IsTracedResult version response
+        × (text.now ≡ result_text version response)) }
+    ensures only { (response : ResultOf AnswerOf RefusalOf) → IsTracedResult version response
+        → text.now ≡ result_text version response → Reads (λ r. r ≡ response) result }
 {
     if begins_as_refusal(text) {
-        return refusal_result(text);
+        return refusal_result(version, text);
     }
     if begins_as_frames(text) {
-        return frames_result(alloc, text);
+        return frames_result(alloc, version, text);
     }
-    answer_result(alloc, text)
+    answer_result(alloc, version, text)
 }
 
 // Whether a text begins with the letter of refusals.
@@ -147,10 +154,10 @@ fn begins_as_frames(text: &[u8]) -> bool
 }
 
 // The refusal that a text spells, as a result. It takes no memory.
-fn refusal_result(text: &[u8]) -> Result<Result<Answer, Refusal>, Unread>
-    ensures found { IfOk result (λ response. IsTracedResult response
-        × (text.now ≡ result_text response)) }
-    ensures only { (refusal : RefusalOf) → text.now ≡ result_text (Err refusal)
+fn refusal_result(version: Version, text: &[u8]) -> Result<Result<Answer, Refusal>, Unread>
+    ensures found { IfOk result (λ response. IsTracedResult version response
+        × (text.now ≡ result_text version response)) }
+    ensures only { (refusal : RefusalOf) → text.now ≡ result_text version (Err refusal)
         → Reads (λ r. r ≡ Err refusal) result }
 {
     match refusal_of(text) {
@@ -160,20 +167,28 @@ fn refusal_result(text: &[u8]) -> Result<Result<Answer, Refusal>, Unread>
 }
 
 // The frames that a text spells, as a result.
-fn frames_result(alloc: Global, text: &[u8]) -> Result<Result<Answer, Refusal>, Unread>
-    ensures found { IfOk result (λ response. IsTracedResult response
-        × (text.now ≡ result_text response)) }
-    ensures only { (frames : List FrameOf) → IsTracedResult (Ok (Answer.Frames frames))
-        → text.now ≡ result_text (Ok (Answer.Frames frames))
+fn frames_result(
+    alloc: Global,
+    version: Version,
+    text: &[u8],
+) -> Result<Result<Answer, Refusal>, Unread>
+    ensures found { IfOk result (λ response. IsTracedResult version response
+        × (text.now ≡ result_text version response)) }
+    ensures only { (frames : List FrameOf) → IsTracedResult version (Ok (Answer.Frames frames))
+        → text.now ≡ result_text version (Ok (Answer.Frames frames))
         → Reads (λ r. r ≡ Ok (Answer.Frames frames)) result }
 {
-    Ok(Ok(Answer::Frames(whole_frames(alloc, text)?)))
+    Ok(Ok(Answer::Frames(whole_frames(alloc, version, text)?)))
 }
 
 // The answer without frames that a text spells, as a result.
-fn answer_result(alloc: Global, text: &[u8]) -> Result<Result<Answer, Refusal>, Unread>
-    ensures found { IfOk result (λ response. IsTracedResult response
-        × (text.now ≡ result_text response)) }
+fn answer_result(
+    alloc: Global,
+    version: Version,
+    text: &[u8],
+) -> Result<Result<Answer, Refusal>, Unread>
+    ensures found { IfOk result (λ response. IsTracedResult version response
+        × (text.now ≡ result_text version response)) }
     ensures only { (answer : AnswerOf) → IsTold answer → text.now ≡ answer_text [] answer
         → Reads (λ r. r ≡ Ok answer) result }
 {

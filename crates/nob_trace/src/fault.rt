@@ -22,6 +22,9 @@ pub enum TraceFault {
     /// R4: bytes stand after the one trace.
     #[error("R4: bytes after the trace")]
     Trailing,
+    /// R5: a trace of version 1 that is to be written speaks of a session after the first.
+    #[error("R5: the trace's version has no spelling for it")]
+    Version,
 }
 
 /// Why a trace wasn't read or written.

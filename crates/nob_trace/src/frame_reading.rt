@@ -1,44 +1,47 @@
 //! Texts of traces to frames.
 
-ghost use Rattle.std.specs.Prelude.{◌≡◌, ◌++◌, List, ℕ, IfOk};
+ghost use Rattle.std.specs.Prelude.{◌≡◌, ◌++◌, List, ℕ, IfOk, Ok};
 ghost use Rattle.std.specs.List.{AllByRecursion};
 ghost use Rattle.nob_frame.specs.declared.frame.Frame.{Frame as FrameOf};
 ghost use Rattle.hex.specs.Hex.{IsBytes};
 ghost use Rattle.nob_frame.specs.Spelling.{Spelt};
+ghost use Rattle.nob_frame.specs.Reading.{Gives};
 ghost use Rattle.nob_model_text.specs.Fronts.{Stops};
 ghost use Rattle.nob_model_text.specs.Reading.{Reads};
 ghost use Rattle.nob_trace.specs.Frames.{IsFramed, frame_text, frames_text, spaced_text};
 
-use nob_frame::{Frame, FrameError};
+use nob_frame::{Frame, FrameError, Version};
 use nob_model_reading::{after, after_space};
 use nob_model_session::Frames;
 use nob_model_text::{Unread, bytes_at};
 use std::alloc::Global;
 
-// The frame that a text spells.
-pub fn whole_frame(alloc: Global, text: &[u8]) -> Result<Frame, Unread>
-    ensures found { IfOk result (λ frame. IsFramed frame × (text.now ≡ frame_text frame)) }
-    ensures only { (frame : FrameOf) → IsFramed frame → text.now ≡ frame_text frame
+// The frame that a text spells in a version.
+pub fn whole_frame(alloc: Global, version: Version, text: &[u8]) -> Result<Frame, Unread>
+    ensures found { IfOk result (λ frame. IsFramed version frame
+        × (text.now ≡ frame_text version frame)) }
+    ensures only { (frame : FrameOf) → IsFramed version frame
+        → text.now ≡ frame_text version frame
         → Reads (λ f. f ≡ frame) result }
 {
-    let (frame, rest) = frame_at(alloc, text)?;
+    let (frame, rest) = frame_at(alloc, version, text)?;
     if !rest.is_empty() {
         return Err(Unread::NoText);
     }
     Ok(frame)
 }
 
-// The frames of a transmit that a text spells.
-pub fn whole_frames(alloc: Global, text: &[u8]) -> Result<Frames, Unread>
-    ensures found { IfOk result (λ frames. AllByRecursion IsFramed frames
-        × (text.now ≡ frames_text frames)) }
-    ensures only { (frames : List FrameOf) → AllByRecursion IsFramed frames
-        → text.now ≡ frames_text frames → Reads (λ fs. fs ≡ frames) result }
+// The frames of a transmit that a text spells in a version.
+pub fn whole_frames(alloc: Global, version: Version, text: &[u8]) -> Result<Frames, Unread>
+    ensures found { IfOk result (λ frames. AllByRecursion (IsFramed version) frames
+        × (text.now ≡ frames_text version frames)) }
+    ensures only { (frames : List FrameOf) → AllByRecursion (IsFramed version) frames
+        → text.now ≡ frames_text version frames → Reads (λ fs. fs ≡ frames) result }
 {
     if text == b"frames none".as_slice() {
         return Ok(Frames::from_vec(Vec::new(alloc)));
     }
-    let frames = spaced_frames(alloc, after(text, b"frames".as_slice())?)?;
+    let frames = spaced_frames(alloc, version, after(text, b"frames".as_slice())?)?;
     if frames.as_slice().is_empty() {
         return Err(Unread::NoText);
     }
@@ -46,16 +49,16 @@ pub fn whole_frames(alloc: Global, text: &[u8]) -> Result<Frames, Unread>
 }
 
 // The frames, each behind a space, that a text spells.
-fn spaced_frames(alloc: Global, text: &[u8]) -> Result<Frames, Unread>
-    ensures found { IfOk result (λ frames. AllByRecursion IsFramed frames
-        × (text.now ≡ spaced_text frames)) }
-    ensures only { (frames : List FrameOf) → AllByRecursion IsFramed frames
-        → text.now ≡ spaced_text frames → Reads (λ fs. fs ≡ frames) result }
+fn spaced_frames(alloc: Global, version: Version, text: &[u8]) -> Result<Frames, Unread>
+    ensures found { IfOk result (λ frames. AllByRecursion (IsFramed version) frames
+        × (text.now ≡ spaced_text version frames)) }
+    ensures only { (frames : List FrameOf) → AllByRecursion (IsFramed version) frames
+        → text.now ≡ spaced_text version frames → Reads (λ fs. fs ≡ frames) result }
 {
     let mut frames = Vec::new(alloc);
     let mut left = text;
     while !left.is_empty() {
-        let (frame, rest) = frame_at(alloc, after_space(left)?)?;
+        let (frame, rest) = frame_at(alloc, version, after_space(left)?)?;
         frames.push(frame)?;
         left = rest;
     }
@@ -63,26 +66,39 @@ fn spaced_frames(alloc: Global, text: &[u8]) -> Result<Frames, Unread>
 }
 
 // The frame at the front of a text, and what is left.
-fn frame_at(alloc: Global, text: &[u8]) -> Result<(Frame, &[u8]), Unread>
-    ensures found { IfOk result (λ parts. IsFramed parts.0
-        × (text.now ≡ frame_text parts.0 ++ parts.1.now)) }
-    ensures only { (frame : FrameOf) (rest : List ℕ) → IsFramed frame → Stops rest
-        → text.now ≡ frame_text frame ++ rest
+fn frame_at(alloc: Global, version: Version, text: &[u8]) -> Result<(Frame, &[u8]), Unread>
+    ensures found { IfOk result (λ parts. IsFramed version parts.0
+        × (text.now ≡ frame_text version parts.0 ++ parts.1.now)) }
+    ensures only { (frame : FrameOf) (rest : List ℕ) → IsFramed version frame → Stops rest
+        → text.now ≡ frame_text version frame ++ rest
         → Reads (λ parts. (parts.0 ≡ frame) × (parts.1.now ≡ rest)) result }
 {
     let (bytes, rest) = bytes_at(alloc, text)?;
-    let frame = frame_of_bytes(alloc, bytes.as_slice())?;
+    let frame = frame_of_bytes(alloc, version, bytes.as_slice())?;
     Ok((frame, rest))
 }
 
-// The frame that bytes spell.
-fn frame_of_bytes(alloc: Global, bytes: &[u8]) -> Result<Frame, Unread>
-    ensures found { IfOk result (λ frame. Spelt bytes.now frame × IsBytes frame.payload) }
-    ensures only { (frame : FrameOf) → Spelt bytes.now frame → Reads (λ f. f ≡ frame) result }
+// The frame that bytes spell in a version.
+fn frame_of_bytes(alloc: Global, version: Version, bytes: &[u8]) -> Result<Frame, Unread>
+    ensures found { IfOk result (λ frame. Spelt version bytes.now frame × IsBytes frame.payload) }
+    ensures only { (frame : FrameOf) → Spelt version bytes.now frame
+        → Reads (λ f. f ≡ frame) result }
 {
-    match nob_frame::decode(alloc, bytes) {
+    match decoded(alloc, version, bytes) {
         Ok(frame) => Ok(frame),
         Err(FrameError::Fault(_)) => Err(Unread::NoText),
         Err(FrameError::OutOfMemory) => Err(Unread::OutOfMemory),
+    }
+}
+
+// The frame that bytes spell in a version, or why they spell none.
+fn decoded(alloc: Global, version: Version, bytes: &[u8]) -> Result<Frame, FrameError>
+    ensures found { IfOk result (λ frame. Spelt version bytes.now frame) }
+    ensures only { (frame : FrameOf) → Spelt version bytes.now frame
+        → Gives (λ read. read) result (Ok frame) }
+{
+    match version {
+        Version::One => nob_frame::decode_v1(alloc, bytes),
+        Version::Two => nob_frame::decode(alloc, bytes),
     }
 }

@@ -6,6 +6,7 @@ mod fault;
 mod frame_reading;
 mod head;
 mod head_reading;
+mod known;
 pub mod laws;
 mod lines;
 mod numbers;

@@ -16,6 +16,7 @@ use crate::head_reading::head_of;
 use crate::lines::whole_line;
 use crate::stamped::Stamped;
 use crate::trace::{Entries, Trace};
+use nob_frame::Version;
 use nob_model_text::Unread;
 use std::alloc::Global;
 
@@ -77,9 +78,10 @@ pub fn trace_at(alloc: Global, text: &[u8]) -> Result<(Trace, &[u8]), TraceError
     let Some(head) = head_of(line) else {
         return Err(TraceError::Fault(TraceFault::Entry));
     };
-    let (entries, rest) = entries_at(alloc, lines, head.count)?;
+    let (entries, rest) = entries_at(alloc, head.version, lines, head.count)?;
     Ok((
         Trace {
+            version: head.version,
             space: head.space,
             n: head.n,
             limits: head.limits,
@@ -90,14 +92,14 @@ pub fn trace_at(alloc: Global, text: &[u8]) -> Result<(Trace, &[u8]), TraceError
 }
 
 // The entry that a line spells, or R2.
-fn spelt_entry(alloc: Global, line: &[u8]) -> Result<Stamped, TraceError>
-    ensures found { spec.Answers (λ entry. entries.IsTraced entry
-        × (line.now ≡ entries.entry_text entry))
-        (λ fault. (fault ≡ faults.Entry) × spec.IsNoEntry line.now) result }
-    ensures only { (entry : StampedOf) → entries.IsTraced entry
-        → line.now ≡ entries.entry_text entry → spec.Finds (λ e. e ≡ entry) result }
+fn spelt_entry(alloc: Global, version: Version, line: &[u8]) -> Result<Stamped, TraceError>
+    ensures found { spec.Answers (λ entry. entries.IsTraced version entry
+        × (line.now ≡ entries.entry_text version entry))
+        (λ fault. (fault ≡ faults.Entry) × spec.IsNoEntry version line.now) result }
+    ensures only { (entry : StampedOf) → entries.IsTraced version entry
+        → line.now ≡ entries.entry_text version entry → spec.Finds (λ e. e ≡ entry) result }
 {
-    match entry_of(alloc, line) {
+    match entry_of(alloc, version, line) {
         Ok(entry) => Ok(entry),
         Err(Unread::NoText) => Err(TraceError::Fault(TraceFault::Entry)),
         Err(Unread::OutOfMemory) => Err(TraceError::OutOfMemory),
@@ -105,15 +107,21 @@ fn spelt_entry(alloc: Global, line: &[u8]) -> Result<Stamped, TraceError>
 }
 
 // So many entries, whose stamps rise, at the front of lines, and what is left; or R1, R2 or R3.
-fn entries_at(alloc: Global, text: &[u8], count: u64) -> Result<(Entries, &[u8]), TraceError>
+fn entries_at(
+    alloc: Global,
+    version: Version,
+    text: &[u8],
+    count: u64,
+) -> Result<(Entries, &[u8]), TraceError>
     ensures found { spec.Answers (λ parts. (length parts.0 ≡ count) × Rise 0 parts.0
-        × AllByRecursion entries.IsTraced parts.0
-        × (text.now ≡ traces.entries_text parts.0 ++ parts.1.now))
-        (λ fault. spec.EntriesFault text.now count fault) result }
+        × AllByRecursion (entries.IsTraced version) parts.0
+        × (text.now ≡ traces.entries_text version parts.0 ++ parts.1.now))
+        (λ fault. spec.EntriesFault version text.now count fault) result }
     ensures only { (all : List StampedOf) (rest : List ℕ) → length all ≡ count → Rise 0 all
-        → AllByRecursion entries.IsTraced all → text.now ≡ traces.entries_text all ++ rest
+        → AllByRecursion (entries.IsTraced version) all
+        → text.now ≡ traces.entries_text version all ++ rest
         → spec.Finds (λ parts. (parts.0 ≡ all) × (parts.1.now ≡ rest)) result }
-    ensures memory { spec.RunsOut (spec.AtLine text.now count) result }
+    ensures memory { spec.RunsOut (spec.AtLine version text.now count) result }
 {
     let mut all = Entries::new(alloc);
     let mut left = text;
@@ -121,7 +129,7 @@ fn entries_at(alloc: Global, text: &[u8], count: u64) -> Result<(Entries, &[u8])
         let Some((line, rest)) = whole_line(left) else {
             return Err(TraceError::Fault(TraceFault::Short));
         };
-        let entry = spelt_entry(alloc, line)?;
+        let entry = spelt_entry(alloc, version, line)?;
         if entry.stamp <= all.last_stamp() {
             return Err(TraceError::Fault(TraceFault::Stamp));
         }

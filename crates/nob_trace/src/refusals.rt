@@ -14,6 +14,7 @@ pub fn refusal_line(error: TraceError) -> &'static [u8]
         TraceError::Fault(TraceFault::Entry) => b"R2\n",
         TraceError::Fault(TraceFault::Stamp) => b"R3\n",
         TraceError::Fault(TraceFault::Trailing) => b"R4\n",
+        TraceError::Fault(TraceFault::Version) => b"R5\n",
         TraceError::OutOfMemory => b"memory\n",
     }
 }

@@ -7,6 +7,7 @@ ghost use Rattle.nob_trace.specs.Texts as spec;
 
 use crate::fault::TraceError;
 use crate::writing::result_text;
+use nob_frame::Version;
 use nob_model_types::{Answer, Refusal};
 use std::alloc::{AllocError, Global};
 
@@ -25,33 +26,36 @@ pub fn wrong_line(alloc: Global, count: usize) -> Result<String, AllocError>
     format!(in alloc; "wrong {place}\n")
 }
 
-/// Whether two results have a text in traces, and it is the same. Only memory fails it. Linear in
-/// the texts.
+/// Whether two results have a text in traces of a version, and it is the same. Only memory fails
+/// it. Linear in the texts.
 pub fn have_one_text(
     alloc: Global,
+    version: Version,
     one: &Result<Answer, Refusal>,
     other: &Result<Answer, Refusal>,
 ) -> Result<bool, AllocError>
-    ensures { IfOk result (λ have. (have ≡ true) ↔ spec.HaveOneText one.now other.now) }
+    ensures { IfOk result (λ have. (have ≡ true) ↔ spec.HaveOneText version one.now other.now) }
 {
-    let Some(one) = spelling_of(alloc, one)? else {
+    let Some(one) = spelling_of(alloc, version, one)? else {
         return Ok(false);
     };
-    let Some(other) = spelling_of(alloc, other)? else {
+    let Some(other) = spelling_of(alloc, version, other)? else {
         return Ok(false);
     };
     Ok(one.as_bytes() == other.as_bytes())
 }
 
-// The text of a result in a trace: `None` where it has none.
+// The text of a result in a trace of a version: `None` where it has none.
 fn spelling_of(
     alloc: Global,
+    version: Version,
     response: &Result<Answer, Refusal>,
 ) -> Result<Option<String>, AllocError>
-    ensures { IfOk result (λ text. MatchOption text (TransmitFits response.now → ⊥)
-        (λ text. TransmitFits response.now × (string_bytes text ≡ spelling response.now))) }
+    ensures { IfOk result (λ text. MatchOption text (TransmitFits version response.now → ⊥)
+        (λ text. TransmitFits version response.now
+        × (string_bytes text ≡ spelling version response.now))) }
 {
-    match result_text(alloc, response) {
+    match result_text(alloc, version, response) {
         Ok(text) => Ok(Some(text)),
         Err(TraceError::Fault(_)) => Ok(None),
         Err(TraceError::OutOfMemory) => Err(AllocError),

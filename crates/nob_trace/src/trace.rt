@@ -4,6 +4,7 @@ ghost use Rattle.std.specs.Prelude.{◌≡◌, ◌++◌, ◌∷◌, ◌<◌, [],
 ghost use Rattle.nob_trace.specs.Stamps as spec;
 
 use crate::stamped::Stamped;
+use nob_frame::Version;
 use nob_ids::{Limits, SpaceId};
 use std::alloc::{AllocError, Global};
 use std::marker::Model;
@@ -104,6 +105,8 @@ impl Entries {
 /// What one space was asked and answered, as it happened.
 #[derive(Debug, Drop)]
 pub struct Trace {
+    /// The version of its frames: in version 1 each is of the first session.
+    pub version: Version,
     /// The space.
     pub space: SpaceId,
     /// How many spaces there are, named by the last of them.

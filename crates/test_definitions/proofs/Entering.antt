@@ -1,30 +1,54 @@
 -- The lines of a journal that are read, and those that are left.
-use Rattle.std.proofs.Common.{◌≡◌, ℕ, ◌+◌, List, [], ◌∷◌, Option, Some, None, Result, Ok, Err, IfOk, sym, subst, arith, ◌≤◌}
+use Rattle.std.proofs.Common.{◌≡◌, ℕ, ◌+◌, List, [], ◌∷◌, Option, Some, None, Result, Ok, Err, IfOk, sym, ap, subst, arith, ◌≤◌}
+use Rattle.nob_frame.specs.declared.version.Version.{Version}
+use Rattle.nob_frame.specs.declared.version.Version.TheVariants.{One, Two}
 use Rattle.nob_model_types.specs.declared.entry.Entry.{Entry}
 use Rattle.nob_model_reading.specs.declared.opening.Opening.{Opening}
 use Rattle.nob_model_reading.specs.Scripts.{opening_text, IsOpening}
 use Rattle.nob_model_text.specs.declared.unread.Unread.{Unread}
 use Rattle.nob_model_text.specs.declared.unread.Unread.TheVariants.{NoText, OutOfMemory}
 use Rattle.nob_model_text.specs.Reading as reading
+use Rattle.nob_trace.specs.declared.stamped.Stamped.{Stamped}
 use Rattle.nob_trace.specs.Entries.{IsTraced}
-use Rattle.test_definitions.specs.Journals.{stamped_of, IsEntry, IsNoEntry, FromEntry, FromEntries, FromFirstLine, FromJournal, entry_line}
+use Rattle.nob_trace.proofs.OneTrace.{one_entry}
+use Rattle.test_definitions.specs.Journals.{stamped_of, IsEntry, Spells, IsNoEntry, FromEntry, FromEntries, FromFirstLine, FromJournal, entry_line}
 
 -- what is written for the lines that are left is written for all
 abbrev pub Reads : ℕ → List Entry → List (List ℕ) → List (List ℕ) → Type 0
 Reads number J left all = (text : List ℕ) → FromEntries number J left text → FromEntries 2 [] all text
 
 -- a line is an entry
-pub reads_on : (number : ℕ) (J next : List Entry) (line : List ℕ) (left all : List (List ℕ)) (entry : Entry) → Reads number J (line ∷ left) all → IsEntry entry → line ≡ entry_line entry → next ≡ entry ∷ J → Reads (number + 1) next left all
-reads_on number J next line left all entry so_far is spelt more text from =
-    so_far text (FromEntry.read entry is spelt (subst (λ (K : List Entry). FromEntries (number + 1) K left text) more from))
+pub reads_on : (number : ℕ) (J next : List Entry) (line : List ℕ) (left all : List (List ℕ)) (entry : Entry) → Reads number J (line ∷ left) all → Spells line entry → next ≡ entry ∷ J → Reads (number + 1) next left all
+reads_on number J next line left all entry so_far spelt more text from =
+    so_far text (FromEntry.read entry spelt (subst (λ (K : List Entry). FromEntries (number + 1) K left text) more from))
 
 -- a line that is read as no entry is none
-pub no_entry : (line : List ℕ) (found : Option Entry) → found ≡ None → ((entry : Entry) → IsEntry entry → line ≡ entry_line entry → found ≡ Some entry) → IsNoEntry line
-no_entry line found none only entry is spelt = let some = only entry is spelt in absurd cc
+pub no_entry : (line : List ℕ) (found : Option Entry) → found ≡ None → ((entry : Entry) → Spells line entry → found ≡ Some entry) → IsNoEntry line
+no_entry line found none only entry spelt = let some = only entry spelt in absurd cc
 
 -- an entry that a line can spell is one that a trace can have, with its space for a stamp
-pub traced : (entry : Entry) → IsEntry entry → IsTraced (stamped_of entry)
-traced entry is = let few : entry.space ≤ 32 = is.0.1 in (omega (arith, few), is.1, is.2)
+pub traced : (version : Version) (entry : Entry) → IsEntry version entry → IsTraced version (stamped_of entry)
+traced version entry is = let few : entry.space ≤ 32 = is.0.1 in (omega (arith, few), is.1, is.2)
+
+-- an entry of a stamped one
+entry_in : Stamped → Entry
+entry_in stamped = record { space = stamped.stamp; event = stamped.event; result = stamped.result }
+
+-- a line spells one entry, in whichever version
+pub one_spelt : (line : List ℕ) (entry twin : Entry) → Spells line entry → Spells line twin → entry ≡ twin
+unfolding entry_in
+one_spelt line entry twin (version, is, spelt) (other, was, again) =
+    ap entry_in (one_entry line version other (stamped_of entry) (stamped_of twin) (traced version entry is) (traced other twin was) spelt again)
+
+-- what is found in version 2 is all that the line spells
+pub found_first : (line : List ℕ) (entry twin : Entry) → IsEntry Two entry × (line ≡ entry_line Two entry) → Spells line twin → Some entry ≡ Some twin
+found_first line entry twin found spelt = ap Some (one_spelt line entry twin (Two, found.0, found.1) spelt)
+
+-- what isn't found in version 2 is spelt in version 1
+pub found_then : (line : List ℕ) (found first : Option Entry) → found ≡ None → ((entry : Entry) → IsEntry Two entry → line ≡ entry_line Two entry → found ≡ Some entry) → ((entry : Entry) → IsEntry One entry → line ≡ entry_line One entry → first ≡ Some entry)
+    → (entry : Entry) → Spells line entry → first ≡ Some entry
+found_then line found first none only then entry (One, is, spelt) = then entry is spelt
+found_then line found first none only then entry (Two, is, spelt) = let some = only entry is spelt in absurd cc
 
 -- nothing is read where a text spells nothing
 pub is_unread : {X : Type 0} (P : X → Type 0) (e : Unread) → e ≡ NoText → reading.Reads P (Err e) → ⊥

@@ -23,7 +23,7 @@ AreBefore trace place entries = (entries ≡ map (entry_at trace.space) (before_
 
 -- an entry's result is the right one after the entries of the space
 abbrev pub IsRightAfter : Trace → List Entry → Stamped → Type 0
-IsRightAfter trace entries e = HaveOneText e.result (right trace.space trace.n trace.limits entries e.event)
+IsRightAfter trace entries e = HaveOneText trace.version e.result (right trace.space trace.n trace.limits entries e.event)
 
 pub right_next : (trace : Trace) (place : ℕ) (e : Stamped) (entries next : List Entry) → place < length trace.entries → e ≡ get_or trace.entries place e → next ≡ entry_at trace.space e ∷ entries → IsRightAfter trace entries e → AreBefore trace place entries → AreBefore trace (place + 1) next
 right_next trace place e entries next less same one right before =

@@ -1,5 +1,5 @@
 -- What is written for an input.
-use Rattle.std.specs.Prelude.{◌≡◌, ℕ, Bool, true, false, List, [], ◌∷◌, ◌++◌, ◌==◌, codes}
+use Rattle.std.specs.Prelude.{◌≡◌, ◌⊎◌, ℕ, Bool, true, false, List, [], ◌∷◌, ◌++◌, ◌==◌, codes}
 use Rattle.std.specs.List.{AllByRecursion, flat_map, list_any}
 use Rattle.nob_trace.specs.declared.trace.Trace.{Trace}
 use Rattle.nob_trace.specs.declared.fault.TraceFault.{TraceFault}
@@ -11,9 +11,13 @@ use Rattle.nob_script_text.specs.declared.ending.Ending.{Ending}
 use Rattle.nob_script_text.specs.Scripts.{FromScript, IsVerdictOf}
 use Rattle.test_definitions.specs.Journals.{FromJournal}
 
--- the input begins as a trace does
+-- the input begins with this
+abbrev pub BeginsWith : List ℕ → List ℕ → Type 0
+BeginsWith word input = (rest : List ℕ) × (input ≡ word ++ rest)
+
+-- the input begins as a trace of one of the two versions does
 abbrev pub BeginsAsTrace : List ℕ → Type 0
-BeginsAsTrace input = (rest : List ℕ) × (input ≡ codes "trace " ++ rest)
+BeginsAsTrace input = BeginsWith (codes "trace ") input ⊎ BeginsWith (codes "trace2 ") input
 
 -- the input is traces, one after the other, and what is written is the input
 abbrev pub IsCopy : List ℕ → List ℕ → Type 0

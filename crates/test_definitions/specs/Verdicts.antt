@@ -17,9 +17,9 @@ entry_at space entry = record { space = space; event = entry.event; result = ent
 abbrev pub right_after : Trace → List Stamped → Event → Result Answer Refusal
 right_after trace before event = right trace.space trace.n trace.limits (map (entry_at trace.space) before) event
 
--- an entry's result is the right one after these entries, the newest of which stands first
+-- an entry's result is the right one after these entries, the newest of which stands first: they have one text in the trace's version
 abbrev pub IsRight : Trace → List Stamped → Stamped → Type 0
-IsRight trace before entry = HaveOneText entry.result (right_after trace before entry.event)
+IsRight trace before entry = HaveOneText trace.version entry.result (right_after trace before entry.event)
 
 -- of these entries, the newest of which stands first, each has the right result after those before it
 abbrev pub AreRight : Trace → List Stamped → Type 0

@@ -7,6 +7,7 @@ ghost use Rattle.nob_text.specs.Lines.{lines_of};
 ghost use Rattle.test_definitions.specs.Journals as spec;
 
 use nob_check::judge;
+use nob_frame::Version;
 use nob_model::Entry;
 use nob_model_reading::opening_of;
 use nob_model_text::{Unread, space_of};
@@ -51,14 +52,31 @@ fn verdict_on_lines(alloc: Global, lines: &[u8]) -> Result<Vec<u8>, AllocError>
     Ok(text)
 }
 
-// The entry that a line spells: that of a trace, with the space where the stamp stands there.
+// The entry that a line spells: that of a trace of either version, with the space where the stamp
+// stands there.
 fn journal_entry_of(alloc: Global, line: &[u8]) -> Result<Option<Entry>, AllocError>
-    ensures found { IfOk result (λ r. IfSome r
-        (λ entry. spec.IsEntry entry × (line.now ≡ spec.entry_line entry))) }
-    ensures only { IfOk result (λ r. (entry : EntryOf) → spec.IsEntry entry
-        → line.now ≡ spec.entry_line entry → r ≡ Some entry) }
+    ensures found { IfOk result (λ r. IfSome r (λ entry. spec.Spells line.now entry)) }
+    ensures only { IfOk result (λ r. (entry : EntryOf) → spec.Spells line.now entry
+        → r ≡ Some entry) }
 {
-    match entry_of(alloc, line) {
+    match spelt_entry(alloc, Version::Two, line)? {
+        Some(entry) => Ok(Some(entry)),
+        None => spelt_entry(alloc, Version::One, line),
+    }
+}
+
+// The entry that a line spells in a version.
+fn spelt_entry(
+    alloc: Global,
+    version: Version,
+    line: &[u8],
+) -> Result<Option<Entry>, AllocError>
+    ensures found { IfOk result (λ r. IfSome r
+        (λ entry. spec.IsEntry version entry × (line.now ≡ spec.entry_line version entry))) }
+    ensures only { IfOk result (λ r. (entry : EntryOf) → spec.IsEntry version entry
+        → line.now ≡ spec.entry_line version entry → r ≡ Some entry) }
+{
+    match entry_of(alloc, version, line) {
         Ok(stamped) => Ok(at_space(stamped)),
         Err(Unread::NoText) => Ok(None),
         Err(Unread::OutOfMemory) => Err(AllocError),

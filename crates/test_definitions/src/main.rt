@@ -6,10 +6,10 @@
 //! space.
 #![tactic(auto)]
 
-ghost use Rattle.std.specs.Prelude.{◌≡◌, true, false};
+ghost use Rattle.std.specs.Prelude.{◌≡◌, true, false, codes};
 ghost use Rattle.nob_trace.specs.Reading.{Answers};
 ghost use Rattle.nob_text.specs.Lines.{lines_of};
-ghost use Rattle.test_definitions.specs.Outputs.{BeginsAsTrace, IsOutput, IsRefused, has_equals_sign as has_equals_sign_in, has_results as has_results_of};
+ghost use Rattle.test_definitions.specs.Outputs.{BeginsAsTrace, BeginsWith, IsOutput, IsRefused, has_equals_sign as has_equals_sign_in, has_results as has_results_of};
 
 mod checking;
 mod entries;
@@ -103,13 +103,32 @@ fn output_of(alloc: Global, input: &[u8], is_copy: bool) -> Result<Vec<u8>, Trac
     Ok(script::answers_of(alloc, input)?)
 }
 
-// Whether an input begins as a trace does.
+// Whether an input begins as a trace of one of the two versions does.
 fn begins_as_trace(input: &[u8]) -> bool
     ensures yes { result ≡ true → BeginsAsTrace input.now }
     ensures no { result ≡ false → BeginsAsTrace input.now → ⊥ }
 {
+    begins_in_first(input) || begins_in_second(input)
+}
+
+// Whether an input begins as a trace of version 1 does.
+fn begins_in_first(input: &[u8]) -> bool
+    ensures yes { result ≡ true → BeginsWith (codes "trace ") input.now }
+    ensures no { result ≡ false → BeginsWith (codes "trace ") input.now → ⊥ }
+{
     match input {
         [b't', b'r', b'a', b'c', b'e', b' ', ..] => true,
+        _ => false,
+    }
+}
+
+// Whether an input begins as a trace of version 2 does.
+fn begins_in_second(input: &[u8]) -> bool
+    ensures yes { result ≡ true → BeginsWith (codes "trace2 ") input.now }
+    ensures no { result ≡ false → BeginsWith (codes "trace2 ") input.now → ⊥ }
+{
+    match input {
+        [b't', b'r', b'a', b'c', b'e', b'2', b' ', ..] => true,
         _ => false,
     }
 }

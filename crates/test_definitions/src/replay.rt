@@ -1,5 +1,6 @@
 //! A trace, run on a space.
 
+use nob_frame::Version;
 use nob_model::{Answer, Event};
 use nob_space::{Space, SpaceError};
 use nob_trace::{Stamped, TraceError, decode, have_one_text, right_line, wrong_line};
@@ -9,15 +10,20 @@ use std::alloc::{AllocError, Global};
 pub fn verdict_of(alloc: Global, input: &[u8]) -> Result<Vec<u8>, TraceError> {
     let trace = decode(alloc, input)?;
     let mut space = Space::new(alloc, trace.space, trace.n.get(), trace.limits)?;
-    let text = verdict_on(alloc, &mut space, trace.entries.as_slice());
+    let text = verdict_on(alloc, &mut space, trace.version, trace.entries.as_slice());
     space.shut();
     Ok(text?.into_bytes())
 }
 
-// What is said of the entries of a trace, when a new space is asked their events.
-fn verdict_on(alloc: Global, space: &mut Space, entries: &[Stamped]) -> Result<String, AllocError> {
+// What is said of the entries of a trace of a version, when a new space is asked their events.
+fn verdict_on(
+    alloc: Global,
+    space: &mut Space,
+    version: Version,
+    entries: &[Stamped],
+) -> Result<String, AllocError> {
     for (place, entry) in entries.iter().enumerate() {
-        if !answers(alloc, space, entry)? {
+        if !answers(alloc, space, version, entry)? {
             return wrong_line(alloc, place);
         }
     }
@@ -33,11 +39,16 @@ fn ask(space: &mut Space, event: &Event) -> Result<Answer, SpaceError> {
 }
 
 // Whether a space answers an event as the trace has it.
-fn answers(alloc: Global, space: &mut Space, entry: &Stamped) -> Result<bool, AllocError> {
+fn answers(
+    alloc: Global,
+    space: &mut Space,
+    version: Version,
+    entry: &Stamped,
+) -> Result<bool, AllocError> {
     let result = match ask(space, &entry.event) {
         Ok(answer) => Ok(answer),
         Err(SpaceError::Refused(refusal)) => Err(refusal),
         Err(SpaceError::OutOfMemory) => return Err(AllocError),
     };
-    have_one_text(alloc, &entry.result, &result)
+    have_one_text(alloc, version, &entry.result, &result)
 }

@@ -12,6 +12,7 @@ ghost use Rattle.test_definitions.specs.Outputs.{IsCopy, IsJudged, IsUncopied};
 ghost use Rattle.test_definitions.specs.Verdicts as spec;
 ghost use Rattle.nob_trace.specs.Texts.{HaveOneText};
 
+use nob_frame::Version;
 use nob_ids::{Limits, SpaceId};
 use nob_model::{Entry, Here, right};
 use nob_trace::{
@@ -41,7 +42,7 @@ fn verdict_on(alloc: Global, trace: &Trace) -> Result<String, AllocError>
     let all = trace.entries.as_slice();
     let mut before = Vec::new(alloc);
     for (place, entry) in all.iter().enumerate() {
-        if !is_right(alloc, &here, &trace.limits, before.as_slice(), entry)? {
+        if !is_right(alloc, trace.version, &here, &trace.limits, before.as_slice(), entry)? {
             return wrong_line(alloc, place);
         }
         before.insert(0, entry_at(trace.space, entry)?)?;
@@ -69,20 +70,21 @@ fn entry_at(space: SpaceId, entry: &Stamped) -> Result<Entry, AllocError>
 }
 
 // Whether an entry's result is the right one after the entries before it, the newest of which
-// stands first.
+// stands first: both have one text in a version.
 fn is_right(
     alloc: Global,
+    version: Version,
     here: &Here,
     limits: &Limits,
     entries: &[Entry],
     stamped: &Stamped,
 ) -> Result<bool, AllocError>
     ensures { IfOk result (λ is_right. (is_right ≡ true)
-        ↔ HaveOneText stamped.now.result
+        ↔ HaveOneText version stamped.now.result
         (model.right here.now.space here.now.n limits.now entries.now stamped.now.event)) }
 {
     let answer = right::right(alloc, here, limits, entries, &stamped.event)?;
-    have_one_text(alloc, &stamped.result, &answer)
+    have_one_text(alloc, version, &stamped.result, &answer)
 }
 
 /// The traces of an input, one after the other, as they are written; or what the first line that

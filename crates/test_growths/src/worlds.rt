@@ -9,6 +9,7 @@ ghost use Rattle.test_growths.specs.Growths as growths;
 
 use crate::script::Script;
 use nob_check::{CheckError, check};
+use nob_frame::Version;
 use nob_ids::SpaceId;
 use nob_model::{Answer, Entry, Refusal, WorldStep};
 use nob_trace::{Entries, Stamped, Trace};
@@ -247,6 +248,7 @@ fn trace_of(
         }
     }
     Ok(Trace {
+        version: Version::Two,
         space,
         n: script.n,
         limits: script.limits,

@@ -4,7 +4,7 @@ use Rattle.nob_trace.proofs.OneTrace.{same_head, same_limits}
 use Rattle.nob_trace.proofs.head_reading.head_from.Goals as goal
 
 pub returns-in-Some-new-clause-only : goal.returns-in-Some-new-clause-only
-returns-in-Some-new-clause-only c head is space n window retry count =
-    let made : Head = record { space = c.in-Some.space; n = c.in-Some-space_of.n; limits = c.in-Some-new.limits; count = c.args.count } in
+returns-in-Some-new-clause-only c head is version space n window retry count =
+    let made : Head = record { version = c.args.version; space = c.in-Some.space; n = c.in-Some-space_of.n; limits = c.in-Some-new.limits; count = c.args.count } in
     let limits = same_limits c.in-Some-new.limits head.limits (c.in-Some-new.ensures.window ∙ sym window) (c.in-Some-new.ensures.retry ∙ sym retry) in
-    ap Some (same_head made head (c.in-Some.ensures.value ∙ sym space) (c.in-Some-space_of.ensures.value ∙ sym n) limits (sym count))
+    ap Some (same_head made head (sym version) (c.in-Some.ensures.value ∙ sym space) (c.in-Some-space_of.ensures.value ∙ sym n) limits (sym count))

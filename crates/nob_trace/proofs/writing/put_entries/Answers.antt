@@ -5,4 +5,4 @@ use Rattle.nob_trace.proofs.writing.put_entries.Goals as goal
 pub returns-in_err-line : goal.returns-in_err-line
 returns-in_err-line c =
     passed _ _ _ c.from_residual.result c.in_err-line.field-0.0 c.from_residual.ensures.1 c.in_err-line.ensures
-    (this_one HasSpelling c.args.all.now c.loop-entry.entry-index c.entry-item.result c.loop-entry-test.true c.entry-item.is c.loop-entry.invariant.1)
+    (this_one (HasSpelling c.args.version) c.args.all.now c.loop-entry.entry-index c.entry-item.result c.loop-entry-test.true c.entry-item.is c.loop-entry.invariant.1)

@@ -8,4 +8,4 @@ use Rattle.nob_trace.proofs.writing.put_entries.Given as goal
 -- what is written and what is left are all
 abbrev pub invariant-loop-entry : goal.invariant-loop-entry
 invariant-loop-entry l =
-    (string_bytes l.text ++ entries_text (drop l.entry-index l.all) ≡ string_bytes l.initial.text ++ entries_text l.all) × SameAll HasSpelling l.all l.entry-index
+    (string_bytes l.text ++ entries_text l.version (drop l.entry-index l.all) ≡ string_bytes l.initial.text ++ entries_text l.version l.all) × SameAll (HasSpelling l.version) l.all l.entry-index

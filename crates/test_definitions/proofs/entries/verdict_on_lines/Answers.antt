@@ -11,4 +11,4 @@ loop-line-preserved c =
     let so_far = subst (λ (ls : List (List ℕ)). Reads c.loop-line.number (reverse c.loop-line.journal.items) ls all) c.in-Some.ensures.lines c.loop-line.invariant.1 in
     let found = found_so _ c.in_ok-entry.field-0 c.in-Some-2.entry c.in-Some-2.is c.in_ok-entry.ensures.found in
     let grown : reverse c.push.new.self.items ≡ c.in-Some-2.entry ∷ reverse c.loop-line.journal.items = ap reverse c.in_ok-push.ensures.items ∙ reverse-append c.loop-line.journal.items (c.in-Some-2.entry ∷ []) in
-    (omega (arith, c.loop-line.invariant.0, c.in-Some.ensures.shorter), reads_on c.loop-line.number (reverse c.loop-line.journal.items) (reverse c.push.new.self.items) c.in-Some.line.now (lines_of c.in-Some.rest.now) all c.in-Some-2.entry so_far found.0 found.1 grown)
+    (omega (arith, c.loop-line.invariant.0, c.in-Some.ensures.shorter), reads_on c.loop-line.number (reverse c.loop-line.journal.items) (reverse c.push.new.self.items) c.in-Some.line.now (lines_of c.in-Some.rest.now) all c.in-Some-2.entry so_far found grown)
