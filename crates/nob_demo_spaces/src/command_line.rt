@@ -301,7 +301,7 @@ fn command_with_pair<'a>(alloc: Global) -> Result<Command<'a>, AllocError>
         .after_help(PAIR_HELP);
     Command::new(alloc, "nobj")
         .about("Network Objects, proved: `nobj` alone is `nobj pair`")
-        .version("0.1.0")
+        .version("0.2.0")
         .after_help(PAIR_EXAMPLE)
         .bin_name("nobj")?
         .subcommand(pair)

@@ -63,8 +63,8 @@ reached a b n limits J apart run =
     let first : List EndEntry = calls_at b (history_at a n J) in
     let second : List EndEntry = calls_at a (history_at b n J) in
     let all : Reaches (up_to 1 first) (up_to 1 second) =
-      subst (λ calls. Reaches (up_to 1 calls) (up_to 1 second)) paired.firsts
-      (subst (λ calls. Reaches (up_to 1 (first_calls paired.run)) (up_to 1 calls)) paired.seconds (accepted_law a b (limits a) (limits b) paired.run paired.is_run 1).0) in
+    subst (λ calls. Reaches (up_to 1 calls) (up_to 1 second)) paired.firsts
+    (subst (λ calls. Reaches (up_to 1 (first_calls paired.run)) (up_to 1 calls)) paired.seconds (accepted_law a b (limits a) (limits b) paired.run paired.is_run 1).0) in
     subst (λ calls. Reaches calls second) (all_first a n b (deeds_at a J))
     (subst (λ calls. Reaches (up_to 1 first) calls) (all_first b n a (deeds_at b J)) all)
 

@@ -66,11 +66,7 @@ fn journal_entry_of(alloc: Global, line: &[u8]) -> Result<Option<Entry>, AllocEr
 }
 
 // The entry that a line spells in a version.
-fn spelt_entry(
-    alloc: Global,
-    version: Version,
-    line: &[u8],
-) -> Result<Option<Entry>, AllocError>
+fn spelt_entry(alloc: Global, version: Version, line: &[u8]) -> Result<Option<Entry>, AllocError>
     ensures found { IfOk result (λ r. IfSome r
         (λ entry. spec.IsEntry version entry × (line.now ≡ spec.entry_line version entry))) }
     ensures only { IfOk result (λ r. (entry : EntryOf) → spec.IsEntry version entry

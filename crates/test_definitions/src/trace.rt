@@ -42,7 +42,14 @@ fn verdict_on(alloc: Global, trace: &Trace) -> Result<String, AllocError>
     let all = trace.entries.as_slice();
     let mut before = Vec::new(alloc);
     for (place, entry) in all.iter().enumerate() {
-        if !is_right(alloc, trace.version, &here, &trace.limits, before.as_slice(), entry)? {
+        if !is_right(
+            alloc,
+            trace.version,
+            &here,
+            &trace.limits,
+            before.as_slice(),
+            entry,
+        )? {
             return wrong_line(alloc, place);
         }
         before.insert(0, entry_at(trace.space, entry)?)?;
