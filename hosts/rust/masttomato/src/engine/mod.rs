@@ -97,7 +97,7 @@ pub struct Ticket(pub u64);
 /// assert_eq!(settings.open_calls, 2_048);
 /// # Ok::<(), masttomato::space::NoSpace>(())
 /// ```
-#[derive(Clone, Debug)]
+#[derive(Clone, Debug, PartialEq, Eq, Hash)]
 pub struct Settings {
     /// The number of its space.
     pub space: SpaceId,
@@ -147,7 +147,7 @@ impl Settings {
 /// assert_eq!(engine.session(two), Session::Closed(masttomato::Reason::Asked));
 /// # Ok::<(), Box<dyn std::error::Error>>(())
 /// ```
-#[derive(Clone, Copy, Debug, PartialEq, Eq)]
+#[derive(Clone, Copy, Debug, PartialEq, Eq, Hash)]
 #[non_exhaustive]
 pub enum Session {
     /// There is a connection.
@@ -177,7 +177,7 @@ pub enum Session {
 /// assert_eq!(engine.turn(now).answers, [(Ticket(1), Answered::Down(two))]);
 /// # Ok::<(), Box<dyn std::error::Error>>(())
 /// ```
-#[derive(Clone, Debug, PartialEq, Eq)]
+#[derive(Clone, Debug, PartialEq, Eq, Hash)]
 #[non_exhaustive]
 pub enum Answered {
     /// Its reply. Each reference in it is once in the hand, repeats included.

@@ -129,7 +129,8 @@ impl Engine {
             did_any |= did;
             if !did {
                 // What memory was wanted for is tried again in the next turn.
-                self.is_stirred = work.settle || work.clean || work.withdraw.is_some();
+                let claims = work.claim && self.claims;
+                self.is_stirred = work.settle || work.clean || claims || work.withdraw.is_some();
                 return did_any;
             }
         }

@@ -149,7 +149,7 @@ impl std::error::Error for Why {}
 /// # Ok(())
 /// # }
 /// ```
-#[derive(Clone, Copy, Debug, PartialEq, Eq)]
+#[derive(Clone, Copy, Debug, PartialEq, Eq, Hash)]
 pub struct Hello {
     /// Who says it.
     pub space: SpaceId,

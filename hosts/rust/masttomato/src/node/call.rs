@@ -33,7 +33,7 @@ use std::time::{Duration, Instant};
 /// assert_eq!(Fault::NoName.to_string(), "no object has that name");
 /// # Ok::<(), Box<dyn std::error::Error>>(())
 /// ```
-#[derive(Clone, Debug, PartialEq, Eq)]
+#[derive(Clone, Debug, PartialEq, Eq, Hash)]
 #[non_exhaustive]
 pub enum Fault {
     /// The method takes other arguments.
@@ -87,7 +87,7 @@ impl std::error::Error for Fault {}
 /// }
 /// assert!(is_to_be_tried_again(&CallError::Busy));
 /// ```
-#[derive(Clone, Debug, PartialEq, Eq)]
+#[derive(Clone, Debug, PartialEq, Eq, Hash)]
 #[non_exhaustive]
 pub enum CallError {
     /// It wasn't made: the session with the object's owner has closed, or never was.

@@ -53,7 +53,7 @@ use std::{io, thread};
 /// assert_eq!((sooner.ring().wait()?, may_block.ring().wait()?), ("ding".into(), "ding".into()));
 /// # Ok::<(), Box<dyn std::error::Error>>(())
 /// ```
-#[derive(Clone, Copy, Debug, Default, PartialEq, Eq)]
+#[derive(Clone, Copy, Debug, Default, PartialEq, Eq, Hash)]
 #[non_exhaustive]
 pub enum Run {
     /// On one of the node's workers: they may block, and wait for calls of others. Those that are async take
@@ -776,7 +776,7 @@ impl Parts {
 /// assert_eq!((left.still_running, left.told), (0, true));
 /// # Ok::<(), Box<dyn std::error::Error>>(())
 /// ```
-#[derive(Clone, Copy, Debug, PartialEq, Eq)]
+#[derive(Clone, Copy, Debug, PartialEq, Eq, Hash)]
 #[non_exhaustive]
 pub struct Shutdown {
     /// How many methods still ran.

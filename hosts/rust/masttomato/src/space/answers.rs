@@ -69,7 +69,7 @@ impl fmt::Display for Status {
 /// let replied = CallResult::Replied { status: Status::Answered, value: Value::Int(5) };
 /// assert_eq!((answer_of(replied), answer_of(CallResult::Ended)), (Some(Value::Int(5)), None));
 /// ```
-#[derive(Clone, Debug, PartialEq, Eq)]
+#[derive(Clone, Debug, PartialEq, Eq, Hash)]
 #[non_exhaustive]
 pub enum CallResult {
     /// Its reply.
@@ -90,7 +90,7 @@ pub enum CallResult {
 /// assert_eq!(Answer::from(ReplyFate::HandedOn).to_string(), "finished");
 /// assert_eq!(Answer::from(ReplyFate::Dropped).to_string(), "dropped");
 /// ```
-#[derive(Clone, Copy, Debug, PartialEq, Eq)]
+#[derive(Clone, Copy, Debug, PartialEq, Eq, Hash)]
 #[non_exhaustive]
 pub enum ReplyFate {
     /// It is handed on.
@@ -106,7 +106,7 @@ pub enum ReplyFate {
 /// assert_eq!(Answer::from(ActResult::Acted(ItemNo::new(4))).to_string(), "acted 4");
 /// assert_eq!(Answer::from(ActResult::Closed(Reason::BadItem)).to_string(), "closed 4");
 /// ```
-#[derive(Clone, Copy, Debug, PartialEq, Eq)]
+#[derive(Clone, Copy, Debug, PartialEq, Eq, Hash)]
 #[non_exhaustive]
 pub enum ActResult {
     /// The item of this number was acted on.
@@ -122,7 +122,7 @@ pub enum ActResult {
 /// assert_eq!(Answer::from(Arrived::Took(2)).to_string(), "took 2");
 /// assert_eq!(Answer::from(Arrived::Closed(Reason::PeerClosed)).to_string(), "closed 2");
 /// ```
-#[derive(Clone, Copy, Debug, PartialEq, Eq)]
+#[derive(Clone, Copy, Debug, PartialEq, Eq, Hash)]
 #[non_exhaustive]
 pub enum Arrived {
     /// So many items, 0 to 64: it may be kept until those before it come, and bring those behind it that
@@ -140,7 +140,7 @@ pub enum Arrived {
 /// assert_eq!(Answer::from(settled).to_string(), "settled 3 7");
 /// # Ok::<(), NoSpace>(())
 /// ```
-#[derive(Clone, Copy, Debug, PartialEq, Eq)]
+#[derive(Clone, Copy, Debug, PartialEq, Eq, Hash)]
 pub struct SettledItem {
     /// The peer that sent it.
     pub peer: SpaceId,

@@ -12,7 +12,7 @@ use std::fmt;
 /// # use masttomato::space::{Outcome, Value};
 /// assert_eq!(Outcome::Answer(Value::Int(7)).to_string(), "answer i7");
 /// ```
-#[derive(Clone, Debug, PartialEq, Eq)]
+#[derive(Clone, Debug, PartialEq, Eq, Hash)]
 pub enum Outcome {
     /// It answered this value.
     Answer(Value),
@@ -31,7 +31,7 @@ pub enum Outcome {
 /// assert_eq!((target.to_string(), values.len()), ("2.1".to_string(), 2));
 /// # Ok::<(), masttomato::space::NoText>(())
 /// ```
-#[derive(Clone, Debug, PartialEq, Eq)]
+#[derive(Clone, Debug, PartialEq, Eq, Hash)]
 #[non_exhaustive]
 pub enum Event {
     /// Makes a new object known under the next index and holds it once.
@@ -94,7 +94,7 @@ pub enum Event {
 /// assert_eq!(job.to_string(), "job 1 from 1 call 1 on 0 method 3 i20");
 /// # Ok::<(), SpaceError>(())
 /// ```
-#[derive(Clone, Debug, PartialEq, Eq)]
+#[derive(Clone, Debug, PartialEq, Eq, Hash)]
 pub struct Job {
     /// The number of the job at this space.
     pub job: JobNo,
@@ -121,7 +121,7 @@ pub struct Job {
 /// assert_eq!(space.step(&Event::Transmit(two))?, Answer::Frames(Frames::default()));
 /// # Ok::<(), SpaceError>(())
 /// ```
-#[derive(Clone, Debug, PartialEq, Eq)]
+#[derive(Clone, Debug, PartialEq, Eq, Hash)]
 #[non_exhaustive]
 pub enum Answer {
     /// Of Export: the new object's reference.

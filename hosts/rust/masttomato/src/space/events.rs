@@ -99,7 +99,7 @@ pub struct Space {
 /// assert_eq!(space.due(two), Due::Close);
 /// # Ok::<(), SpaceError>(())
 /// ```
-#[derive(Clone, Copy, Debug, PartialEq, Eq)]
+#[derive(Clone, Copy, Debug, PartialEq, Eq, Hash)]
 #[non_exhaustive]
 pub enum Due {
     /// Nothing.
@@ -127,7 +127,7 @@ pub enum Due {
 /// assert_eq!(work.withdraw, Some(object.index));
 /// # Ok::<(), SpaceError>(())
 /// ```
-#[derive(Clone, Copy, Debug, PartialEq, Eq)]
+#[derive(Clone, Copy, Debug, PartialEq, Eq, Hash)]
 pub struct Work {
     act: u32,
     send: u32,
@@ -191,7 +191,7 @@ impl Work {
 /// assert_eq!(space.push(two, &[0; 32]), Err(StreamError::Fault(FrameFault::Magic)));
 /// # Ok::<(), SpaceError>(())
 /// ```
-#[derive(Clone, Copy, Debug, PartialEq, Eq)]
+#[derive(Clone, Copy, Debug, PartialEq, Eq, Hash)]
 #[non_exhaustive]
 pub enum StreamError {
     /// The stream isn't one of frames: said from then on, until the stream is restarted.
@@ -230,7 +230,7 @@ impl std::error::Error for StreamError {
 /// assert_eq!(space.arrive_bytes(&[0; 32]), Err(ArriveError::Fault(FrameFault::Magic)));
 /// # Ok::<(), SpaceError>(())
 /// ```
-#[derive(Clone, Copy, Debug, PartialEq, Eq)]
+#[derive(Clone, Copy, Debug, PartialEq, Eq, Hash)]
 #[non_exhaustive]
 pub enum ArriveError {
     /// They spell no frame.

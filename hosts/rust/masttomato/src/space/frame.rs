@@ -35,7 +35,7 @@ const LAST_ITEM: u64 = 1 << 40;
 /// assert_eq!(kind(caller.transmit(two)?), Some(FrameKind::Close));
 /// # Ok::<(), SpaceError>(())
 /// ```
-#[derive(Clone, Copy, Debug, PartialEq, Eq)]
+#[derive(Clone, Copy, Debug, PartialEq, Eq, Hash)]
 #[non_exhaustive]
 pub enum FrameKind {
     /// It carries one item.
@@ -54,7 +54,7 @@ pub enum FrameKind {
 /// assert_eq!(Frame::from_bytes(vec![0; 32]), Err(FrameFault::Magic));
 /// assert_eq!(FrameFault::Magic.to_string(), "F2: the first byte isn't 4e");
 /// ```
-#[derive(Clone, Copy, Debug, PartialEq, Eq)]
+#[derive(Clone, Copy, Debug, PartialEq, Eq, Hash)]
 #[non_exhaustive]
 pub enum FrameFault {
     /// F1: the header or the payload isn't all there.
@@ -188,9 +188,9 @@ impl Frame {
     ///
     /// # Errors
     /// Those of the stream; one of kind `InvalidData`, with the [`FrameFault`], where it has other bytes.
-    pub fn read_from(stream: &mut impl Read) -> io::Result<Option<Frame>> {
+    pub fn read_from(mut stream: impl Read) -> io::Result<Option<Frame>> {
         let mut header = [0; HEADER];
-        if !fill_or_end(stream, &mut header)? {
+        if !fill_or_end(&mut stream, &mut header)? {
             return Ok(None);
         }
         let length = judge_header(&header).map_err(invalid)?;
@@ -357,7 +357,7 @@ impl fmt::Display for Frame {
 /// assert_eq!(frames.iter().map(|frame| frame.seq()).collect::<Vec<_>>(), [1, 2, 3]);
 /// # Ok::<(), SpaceError>(())
 /// ```
-#[derive(Clone, Debug, Default, PartialEq, Eq)]
+#[derive(Clone, Debug, Default, PartialEq, Eq, Hash)]
 pub struct Frames {
     // They stand one after the other.
     bytes: Vec<u8>,
@@ -411,11 +411,43 @@ impl Frames {
     /// # Ok::<(), SpaceError>(())
     /// ```
     ///
-    /// # Panics
-    /// Where the library gave other bytes than frames.
-    pub fn iter(&self) -> impl Iterator<Item = Frame> + '_ {
-        let mut left = &self.bytes[..];
-        std::iter::from_fn(move || Frame::read_from(&mut left).expect("whole frames"))
+    /// The iterator panics where the library gave other bytes than frames.
+    pub fn iter(&self) -> FramesIter<'_> {
+        FramesIter { left: &self.bytes }
+    }
+}
+
+impl<'a> IntoIterator for &'a Frames {
+    type Item = Frame;
+    type IntoIter = FramesIter<'a>;
+
+    fn into_iter(self) -> FramesIter<'a> {
+        self.iter()
+    }
+}
+
+/// The frames that a Transmit gave, in order: see [`Frames::iter`].
+///
+/// ```
+/// # use masttomato::space::*;
+/// # let [one, two] = [1, 2].map(|number| SpaceId::new(number).expect("1 to 32"));
+/// # let mut space = Space::new(one, two, Limits::default())?;
+/// space.call(two.agent(), 0, &Value::Unit)?;
+/// for frame in &space.transmit(two)? {
+///     assert_eq!(frame.to(), two);
+/// }
+/// # Ok::<(), SpaceError>(())
+/// ```
+#[derive(Clone, Debug)]
+pub struct FramesIter<'a> {
+    left: &'a [u8],
+}
+
+impl Iterator for FramesIter<'_> {
+    type Item = Frame;
+
+    fn next(&mut self) -> Option<Frame> {
+        Frame::read_from(&mut self.left).expect("whole frames")
     }
 }
 

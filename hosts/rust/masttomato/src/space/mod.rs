@@ -44,7 +44,7 @@ mod value;
 pub use answers::{ActResult, Arrived, CallResult, ReplyFate, SettledItem, Status};
 pub use event::{Answer, Event, Job, Outcome};
 pub use events::{ArriveError, Due, Space, StreamError, Work};
-pub use frame::{Frame, FrameFault, FrameKind, Frames};
+pub use frame::{Frame, FrameFault, FrameKind, Frames, FramesIter};
 pub use names::{CallNo, ItemNo, JobNo, Limits, NoSpace, Reason, Reference, SpaceId};
 pub use reading::NoText;
 pub use refusal::{Refusal, SpaceError, Use};

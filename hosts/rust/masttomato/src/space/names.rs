@@ -80,7 +80,7 @@ impl SpaceId {
 /// # use masttomato::space::*;
 /// assert_eq!((SpaceId::try_from(33), "0".parse::<SpaceId>()), (Err(NoSpace), Err(NoSpace)));
 /// ```
-#[derive(Clone, Copy, Debug, PartialEq, Eq)]
+#[derive(Clone, Copy, Debug, PartialEq, Eq, Hash)]
 pub struct NoSpace;
 
 impl fmt::Display for NoSpace {
@@ -222,7 +222,7 @@ numbers! {
 /// assert_eq!((limits.window(), limits.retry()), (64, 255));
 /// assert_eq!((Limits::default().window(), Limits::new(65, 1)), (8, None));
 /// ```
-#[derive(Clone, Copy, Debug, PartialEq, Eq)]
+#[derive(Clone, Copy, Debug, PartialEq, Eq, Hash)]
 pub struct Limits {
     window: u8,
     retry: u8,
@@ -279,7 +279,7 @@ impl Default for Limits {
 /// assert_eq!(Reason::from_number(3), Some(Reason::RetriesUsedUp));
 /// assert_eq!(Reason::RetriesUsedUp.to_string(), "3");
 /// ```
-#[derive(Clone, Copy, Debug, PartialEq, Eq)]
+#[derive(Clone, Copy, Debug, PartialEq, Eq, Hash)]
 #[non_exhaustive]
 pub enum Reason {
     /// 1: this end was asked to close.

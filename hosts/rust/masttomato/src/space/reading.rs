@@ -16,7 +16,7 @@ use std::str::FromStr;
 /// # use masttomato::space::{NoText, Value};
 /// assert_eq!("i05".parse::<Value>(), Err(NoText));      // a number has one text
 /// ```
-#[derive(Clone, Copy, Debug, PartialEq, Eq)]
+#[derive(Clone, Copy, Debug, PartialEq, Eq, Hash)]
 pub struct NoText;
 
 impl fmt::Display for NoText {

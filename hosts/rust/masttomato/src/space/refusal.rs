@@ -14,7 +14,7 @@ use std::fmt;
 /// assert_eq!(refused, Err(SpaceError::Refused(Refusal::StillUsed(Use::Held))));
 /// # Ok::<(), SpaceError>(())
 /// ```
-#[derive(Clone, Copy, Debug, PartialEq, Eq)]
+#[derive(Clone, Copy, Debug, PartialEq, Eq, Hash)]
 #[non_exhaustive]
 pub enum Use {
     /// S11(1): its owner holds it.
@@ -35,7 +35,7 @@ pub enum Use {
 /// assert_eq!(Refusal::NotHeld.to_string(), "S4: the reference isn't held");
 /// assert_eq!(Refusal::StillUsed(Use::Listed).name(), "S11(3)");
 /// ```
-#[derive(Clone, Copy, Debug, PartialEq, Eq)]
+#[derive(Clone, Copy, Debug, PartialEq, Eq, Hash)]
 #[non_exhaustive]
 pub enum Refusal {
     /// S1: there is no such peer.
@@ -148,7 +148,7 @@ impl Error for Refusal {}
 /// # Ok(())
 /// # }
 /// ```
-#[derive(Clone, Copy, Debug, PartialEq, Eq)]
+#[derive(Clone, Copy, Debug, PartialEq, Eq, Hash)]
 #[non_exhaustive]
 pub enum SpaceError {
     /// The space refuses it.

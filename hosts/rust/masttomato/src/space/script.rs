@@ -17,7 +17,7 @@ use std::fmt::{self, Write};
 /// assert_eq!(World::new(opening)?.spaces().len(), 3);
 /// # Ok::<(), Box<dyn std::error::Error>>(())
 /// ```
-#[derive(Clone, Copy, Debug)]
+#[derive(Clone, Copy, Debug, PartialEq, Eq, Hash)]
 pub struct Opening {
     /// The last space: there are those from 1 to it.
     pub spaces: SpaceId,
@@ -34,7 +34,7 @@ pub struct Opening {
 /// assert_eq!((step.to_string(), Step::Deliver(5).to_string()), ("2 export".into(), "deliver 5".into()));
 /// # Ok::<(), Box<dyn std::error::Error>>(())
 /// ```
-#[derive(Clone, Debug, PartialEq, Eq)]
+#[derive(Clone, Debug, PartialEq, Eq, Hash)]
 #[non_exhaustive]
 pub enum Step {
     /// A space is asked something.
@@ -62,7 +62,7 @@ impl fmt::Display for Step {
 /// assert_eq!(world.step(&Step::Do(SpaceId::try_from(2)?, Event::Export)), Err(StepError::NoSpace));
 /// # Ok::<(), Box<dyn std::error::Error>>(())
 /// ```
-#[derive(Clone, Copy, Debug, PartialEq, Eq)]
+#[derive(Clone, Copy, Debug, PartialEq, Eq, Hash)]
 #[non_exhaustive]
 pub enum StepError {
     /// X1: there is no such space.

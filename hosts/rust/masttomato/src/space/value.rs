@@ -50,7 +50,7 @@ pub enum Value {
 /// assert_eq!(Value::Bytes(vec![0; 8_193]).encode(), Err(PickleFault::Bytes));
 /// assert_eq!(PickleFault::Bytes.to_string(), "P3: more than 8192 bytes in one value");
 /// ```
-#[derive(Clone, Copy, Debug, PartialEq, Eq)]
+#[derive(Clone, Copy, Debug, PartialEq, Eq, Hash)]
 #[non_exhaustive]
 pub enum PickleFault {
     /// P1: the bytes end inside a value.

@@ -36,6 +36,7 @@ const LIFE: &str = "MASTTOMATO_LIFE";
 const JUDGE: &str = "MASTTOMATO_JUDGE";
 
 /// Numbers from a seed.
+#[derive(Debug)]
 pub struct Numbers(u64);
 
 impl Numbers {

@@ -11,6 +11,7 @@ mod world;
 
 use common::nobj;
 use deeds::{Deed, Kind, Script};
+use masttomato_sys::stand_in::want_memory;
 use std::panic::{AssertUnwindSafe, catch_unwind};
 use std::sync::atomic::{AtomicU64, Ordering::Relaxed};
 use std::thread;
@@ -67,6 +68,25 @@ fn ten_thousand_worlds_keep_their_promises() {
          nobj checked {checked}"
     );
     assert!(replies > 5 * RUNS && closed > RUNS / 50 && closed < RUNS / 2);
+}
+
+// What wanted memory is tried again, and nothing is lost. The library wants none where there is some, so this
+// is tried over the stand-in.
+#[test]
+fn a_thousand_worlds_want_memory() {
+    if masttomato::IS_PROVED {
+        return eprintln!("skipped: the proved library can't be told to want memory");
+    }
+    let mut wants = 0;
+    for seed in 1..=1_000 {
+        let script = Script::of_seed(seed);
+        want_memory(2 + seed % 20, seed);
+        let mut world = World::new(&script);
+        world.play(&script);
+        world.judge();
+        wants += world.wants();
+    }
+    assert!(wants > 10_000, "{wants}");
 }
 
 #[test]

@@ -4,7 +4,10 @@ use crate::common::checking::fault_of;
 use crate::deeds::{Deed, Kind, Script};
 use crate::net::Net;
 use masttomato::engine::{Answered, Engine, Life, Session, Settings, Ticket};
-use masttomato::space::{Job, Limits, Outcome, Reference, SpaceId, Status, Trace, Value};
+use masttomato::space::{
+    Job, Limits, Outcome, Reference, SpaceError, SpaceId, Status, Trace, Value,
+};
+use masttomato_sys::stand_in::want_memory;
 use std::collections::HashMap;
 use std::sync::{Arc, Mutex};
 use std::time::Duration;
@@ -35,6 +38,16 @@ pub struct World {
     calls: HashMap<u64, Fate>,
     made: u64,
     spoils: bool,
+}
+
+// A new object. Where memory is wanted, it is asked for again.
+fn exported(engine: &mut Engine) -> Reference {
+    loop {
+        match engine.export() {
+            Err(SpaceError::OutOfMemory) => {}
+            object => return object.expect("room for an object"),
+        }
+    }
 }
 
 pub fn space(place: usize) -> SpaceId {
@@ -100,7 +113,7 @@ impl World {
 
     fn export(&mut self, one: usize) {
         let node = &mut self.nodes[one];
-        node.hands.push(node.engine.export().expect("room for an object"));
+        node.hands.push(exported(&mut node.engine));
         node.exported += 1;
     }
 
@@ -152,7 +165,7 @@ impl World {
             4 => Outcome::Answer(Value::Bytes(vec![7; 9_000])),
             5 => Outcome::Answer(Value::Bytes(vec![7; 1 + how % 5_000])),
             _ => {
-                let fresh = node.engine.export().expect("room for an object");
+                let fresh = exported(&mut node.engine);
                 node.exported += 1;
                 node.engine.finish(job.job, Outcome::Answer(Value::Ref(fresh)));
                 return node.engine.release(fresh);
@@ -257,10 +270,14 @@ impl World {
         };
     }
 
-    // All connections come back, all jobs end, all is given back, until there is nothing to do.
+    // All connections come back, all jobs end, all is given back, until there is nothing to do. Memory, where it
+    // was wanted, is there again after some rounds.
     fn heal(&mut self) {
         let count = self.nodes.len();
         for round in 0..4_000 {
+            if round == 40 {
+                want_memory(0, 0);
+            }
             for one in 0..count {
                 (0..one).for_each(|other| self.connect(one, other));
                 self.nodes[one].now += Duration::from_millis(5);
@@ -309,6 +326,7 @@ impl World {
     /// Whether each call was answered once, and ran once if it was replied to and at most once in any
     /// case; and what is wrong with the traces.
     pub fn judge(&self) {
+        want_memory(0, 0);
         for (ticket, fate) in &self.calls {
             let wanted = u32::from(!fate.is_abandoned);
             assert!(
@@ -333,6 +351,11 @@ impl World {
             Trace::first_line(space(place), spaces, limits, count) + &lines
         };
         self.nodes.iter().enumerate().map(trace).collect()
+    }
+
+    /// How often memory or room was wanted.
+    pub fn wants(&self) -> u64 {
+        self.nodes.iter().map(|node| node.engine.counts().wants).sum()
     }
 
     /// Whether any session has closed, and how many calls were replied to.

@@ -13,9 +13,12 @@ use crate::{Answered, Told, Work};
 use frame::Feed;
 use pickle::Pickle;
 use space::{Space, refusal};
+use std::cell::Cell;
 use std::collections::VecDeque;
 use std::marker::PhantomData;
 
+/// There is no memory.
+const WANTED: u32 = 14;
 /// A number is outside its range.
 const OUT_OF_RANGE: u32 = 60;
 const STILL_WAITING: u32 = 61;
@@ -96,6 +99,39 @@ pub struct Handle {
     stays: PhantomData<*const ()>,
 }
 
+thread_local! {
+    // Of how many one is refused, and where the random numbers stand.
+    static WANTS: Cell<(u64, u64)> = const { Cell::new((0, 1)) };
+}
+
+/// From now on, on this thread, one of so many calls that may want memory is answered by 14 and changes nothing, by
+/// random from a seed; with 0, none. It is for tests of what a program does then. The library answers so
+/// only where nothing else refuses the call; this asks nothing else first.
+///
+/// ```
+/// use masttomato_sys::stand_in::{Handle, want_memory};
+///
+/// let mut handle = Handle::new(1, 2, 8, 16)?;
+/// want_memory(1, 7);
+/// assert_eq!((handle.export().0, handle.dup(1, 1).0), (14, 3));      // Dup wants none
+/// want_memory(0, 7);
+/// assert_eq!(handle.export().0, 0);
+/// # Ok::<(), u32>(())
+/// ```
+pub fn want_memory(one_of: u64, seed: u64) {
+    WANTS.set((one_of, seed.wrapping_mul(0x9e37_79b9_7f4a_7c15) | 1));
+}
+
+// What may want memory asks this first.
+fn memory() -> Result<(), u32> {
+    let (one_of, mut state) = WANTS.get();
+    state ^= state << 13;
+    state ^= state >> 7;
+    state ^= state << 17;
+    WANTS.set((one_of, state));
+    if one_of > 0 && (state >> 11).is_multiple_of(one_of) { Err(WANTED) } else { Ok(()) }
+}
+
 fn answered(result: Result<Answer, u32>) -> Answered {
     match result {
         Ok(answer) => (0, answer.told()),
@@ -149,7 +185,7 @@ impl Handle {
     /// # Ok::<(), u32>(())
     /// ```
     pub fn export(&mut self) -> Answered {
-        answered(self.space.export())
+        answered(memory().and_then(|()| self.space.export()))
     }
 
     /// Dup.
@@ -188,6 +224,7 @@ impl Handle {
     /// ```
     pub fn call(&mut self, owner: u16, index: u64, method: u16, pickle: &[u8]) -> Answered {
         in_range(owner, || {
+            memory()?;
             let value = Pickle::judge(pickle).map_err(|fault| PICKLE + fault)?;
             self.space.call(Reference { owner, index }, method, value)
         })
@@ -218,7 +255,7 @@ impl Handle {
     /// # Ok::<(), u32>(())
     /// ```
     pub fn claim(&mut self) -> Answered {
-        answered(self.space.claim().map(|(answer, value)| {
+        answered(memory().and_then(|()| self.space.claim()).map(|(answer, value)| {
             self.value = Some(value.bytes);
             answer
         }))
@@ -234,6 +271,7 @@ impl Handle {
     /// ```
     pub fn finish(&mut self, job: u64, outcome: u32, pickle: &[u8]) -> Answered {
         answered(match outcome {
+            0..=2 if memory().is_err() => Err(WANTED),
             0 | 1 => Pickle::judge(pickle)
                 .map_err(|fault| PICKLE + fault)
                 .and_then(|value| self.space.finish(job, outcome as u8, value)),
@@ -251,7 +289,7 @@ impl Handle {
     /// # Ok::<(), u32>(())
     /// ```
     pub fn act(&mut self, peer: u16) -> Answered {
-        in_range(peer, || self.space.act(peer))
+        in_range(peer, || memory().and_then(|()| self.space.act(peer)))
     }
 
     /// Settle.
@@ -263,7 +301,7 @@ impl Handle {
     /// # Ok::<(), u32>(())
     /// ```
     pub fn settle(&mut self) -> Answered {
-        answered(self.space.settle())
+        answered(memory().and_then(|()| self.space.settle()))
     }
 
     /// Clean.
@@ -275,7 +313,7 @@ impl Handle {
     /// # Ok::<(), u32>(())
     /// ```
     pub fn clean(&mut self) -> Answered {
-        answered(self.space.clean())
+        answered(memory().and_then(|()| self.space.clean()))
     }
 
     /// Withdraw.
@@ -305,6 +343,9 @@ impl Handle {
     /// ```
     pub fn transmit(&mut self, peer: u16) -> Answered {
         in_range(peer, || {
+            if self.due(peer) != 0 {
+                memory()?;
+            }
             let (bytes, count) = self.space.transmit(peer)?;
             self.answer = bytes;
             Ok(Answer::Number(14, count))
@@ -321,6 +362,9 @@ impl Handle {
     /// ```
     pub fn arrive(&mut self, bytes: &[u8]) -> Answered {
         answered(match frame::whole(bytes) {
+            Ok(frame) if frame.kind == frame::DATA => {
+                memory().and_then(|()| self.space.arrive(&frame))
+            }
             Ok(frame) => self.space.arrive(&frame),
             Err(fault) => Err(FRAME + fault),
         })
@@ -366,6 +410,7 @@ impl Handle {
             if !self.waiting.is_empty() {
                 return Err(STILL_WAITING);
             }
+            memory()?;
             let frames =
                 self.feeds[usize::from(peer)].push(piece).map_err(|fault| FRAME + fault)?;
             self.waiting = frames.into();
@@ -382,6 +427,9 @@ impl Handle {
     /// # Ok::<(), u32>(())
     /// ```
     pub fn bring_next(&mut self) -> Answered {
+        if !self.waiting.is_empty() && memory().is_err() {
+            return (WANTED, Told::default());
+        }
         let Some(bytes) = self.waiting.pop_front() else {
             return (NONE_WAITS, Told::default());
         };
