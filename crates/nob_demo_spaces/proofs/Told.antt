@@ -9,9 +9,11 @@ use Rattle.nob_model_invariant.specs.Safe.{IsSafe}
 use Rattle.nob_trace.specs.declared.trace.Trace.{Trace}
 use Rattle.nob_trace.specs.declared.fault.TraceFault.{TraceFault}
 use Rattle.nob_trace.specs.declared.fault.TraceFault.TheVariants as trace_faults
+use Rattle.nob_trace.specs.declared.fault.TraceError.{TraceError}
 use Rattle.nob_trace.specs.declared.fault.TraceError.TheVariants as trace_errors
 use Rattle.nob_trace.specs.Traces.{trace_text, IsWritable}
 use Rattle.nob_trace.specs.Sessions.{is_known}
+use Rattle.nob_trace.specs.Reading.{Explains}
 use Rattle.nob_trace.specs.Writing.{WritingFault}
 use Rattle.nob_trace.specs.Faults.{refusal_line}
 use Rattle.nob_model_traces.specs.declared.fault.CheckFault.{CheckFault}
@@ -41,12 +43,16 @@ one_of : (P : Trace → Type 0) (traces : List Trace) (i : ℕ) (item : Trace) �
 one_of P traces i item below is all = subst P (sym is) (All-get_or P traces i item below all)
 
 -- the line of a trace that isn't written
-pub not_printed : (traces : List Trace) (i : ℕ) (item : Trace) (fault : TraceFault) (text : List ℕ) → i < length traces → item ≡ get_or traces i item → WritingFault item fault → text ≡ refusal_line (trace_errors.Fault fault) → Prints traces text Refused
+not_printed : (traces : List Trace) (i : ℕ) (item : Trace) (fault : TraceFault) (text : List ℕ) → i < length traces → item ≡ get_or traces i item → WritingFault item fault → text ≡ refusal_line (trace_errors.Fault fault) → Prints traces text Refused
 not_printed traces i item trace_faults.Short text below is wrong said = absurd wrong
 not_printed traces i item trace_faults.Entry text below is wrong said = Prints.unwritten (λ all. wrong.1 (one_of IsWritable traces i item below is all)) said refl
 not_printed traces i item trace_faults.Stamp text below is wrong said = absurd wrong
 not_printed traces i item trace_faults.Trailing text below is wrong said = absurd wrong
 not_printed traces i item trace_faults.Version text below is wrong said = Prints.unknown (λ all. true≢false (sym (one_of (λ trace. is_known trace ≡ true) traces i item below is all) ∙ wrong)) said refl
+
+-- the same of the error that was met
+pub error_printed : (traces : List Trace) (i : ℕ) (item : Trace) (fault : TraceFault) (text : List ℕ) (error : TraceError) → i < length traces → item ≡ get_or traces i item → error ≡ trace_errors.Fault fault → Explains (WritingFault item) error → text ≡ refusal_line (trace_errors.Fault fault) → Prints traces text Refused
+error_printed traces i item fault text error below is error_is wrong said = not_printed traces i item fault text below is (subst (Explains (WritingFault item)) error_is wrong) said
 
 -- what is said of traces that are to be checked
 judged : (prints : Bool) (score : Score) (traces : List Trace) (text : List ℕ) (ending : Ending) → prints ≡ false → Judges score traces text ending → TellsTraces prints score traces text ending
