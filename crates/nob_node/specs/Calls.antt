@@ -1,5 +1,5 @@
 -- What a node's calls say. In lists of receipts the newest stands FIRST.
-use Rattle.std.specs.Prelude.{◌≡◌, ℕ, List, [], ◌∷◌, map, Option, Some, None, Result, Ok, Err}
+use Rattle.std.specs.Prelude.{◌≡◌, ◌⊎◌, ℕ, List, [], ◌∷◌, Result, Ok, Err}
 use Rattle.nob_ids.specs.declared.wire_rep.WireRep.{WireRep}
 use Rattle.nob_pickle.specs.declared.value.Value.{Value}
 use Rattle.nob_pickle.specs.declared.value.Value.TheVariants as values
@@ -13,6 +13,7 @@ use Rattle.nob_node.specs.declared.error.NodeError.{NodeError}
 use Rattle.nob_node.specs.declared.error.NodeError.TheVariants as errors
 use Rattle.nob_node.specs.declared.hold.Returned.{Returned}
 use Rattle.nob_node.specs.declared.hold.Returned.TheVariants as returns
+use Rattle.nob_node.specs.Holds.{held_by, counted_in}
 
 -- one receipt was added: the event was answered so
 abbrev pub Answered : List Receipt → List Receipt → Event → Result Answer Refusal → Type 0
@@ -23,9 +24,9 @@ abbrev pub IsRefusal : List Receipt → List Receipt → Event → NodeError →
 IsRefusal old new event (errors.Refused refusal) = Answered old new event (Err refusal)
 IsRefusal old new event (errors.Keeper error) = Unit {0}
 
--- an answer is handed on: the reply's status and value, or that none comes
+-- an answer is handed on: the reply's status and value, with a hold on each counted reference in it, in reading order; or that none comes
 abbrev pub IsHandedOn : Result Answer Refusal → Returned → Type 0
-IsHandedOn (Ok (answers.Replied status value)) (returns.Replied said given holds) = (said ≡ status) × (given ≡ value)
+IsHandedOn (Ok (answers.Replied status value)) (returns.Replied said given holds) = (said ≡ status) × (given ≡ value) × (held_by holds.items ≡ counted_in value)
 IsHandedOn (Ok answers.Ended) returns.Ended = Unit {0}
 IsHandedOn _ _ = ⊥
 
@@ -33,6 +34,11 @@ IsHandedOn _ _ = ⊥
 abbrev pub IsNewest : List Receipt → Result Answer Refusal → Type 0
 IsNewest [] result = ⊥
 IsNewest (receipt ∷ earlier) result = receipt.result ≡ result
+
+-- where a node says that the space refuses something, the newest receipt has that refusal
+abbrev pub IsNewestRefusal : List Receipt → NodeError → Type 0
+IsNewestRefusal receipts (errors.Refused refusal) = IsNewest receipts (Err refusal)
+IsNewestRefusal receipts (errors.Keeper error) = Unit {0}
 
 -- the newest receipt's answer is handed on
 abbrev pub HandsOn : List Receipt → Returned → Type 0
@@ -57,9 +63,28 @@ IsCallBy old new event returned =
     × (taken.event ≡ events.TakeReply call)
     × IsHandedOn taken.result returned
 
+-- the call of an event was made, and taking its reply was refused
+abbrev pub IsReplyRefused : List Receipt → List Receipt → Event → Refusal → Type 0
+IsReplyRefused old new event refusal =
+    (call : ℕ) × (asked : Receipt) × (taken : Receipt)
+    × (new ≡ taken ∷ asked ∷ old)
+    × (asked.event ≡ event)
+    × (asked.result ≡ Ok (answers.Called call))
+    × (taken.event ≡ events.TakeReply call)
+    × (taken.result ≡ Err refusal)
+
+-- where a node says that the space refuses a call, a receipt of that refusal was added: of the call's event, or, behind that of the call that was made, of taking its reply
+abbrev pub IsRefusalBy : List Receipt → List Receipt → Event → NodeError → Type 0
+IsRefusalBy old new event (errors.Refused refusal) = Answered old new event (Err refusal) ⊎ IsReplyRefused old new event refusal
+IsRefusalBy old new event (errors.Keeper error) = Unit {0}
+
 -- a call was made of this method of this object with this value, and its reply was taken and is handed on
 abbrev pub IsCall : List Receipt → List Receipt → WireRep → (method : ℕ) → Value → Returned → Type 0
 IsCall old new target method value returned = IsCallBy old new (events.Call target method value) returned
+
+-- such a call was refused so
+abbrev pub IsCallRefusal : List Receipt → List Receipt → WireRep → (method : ℕ) → Value → NodeError → Type 0
+IsCallRefusal old new target method value error = IsRefusalBy old new (events.Call target method value) error
 
 -- the value of a call
 abbrev pub value_of : Event → Value

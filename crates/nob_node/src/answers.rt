@@ -2,6 +2,7 @@
 
 ghost use Rattle.std.specs.Prelude.{◌≡◌, Some, None, Ok, Err, IfSome, IfOk, MatchOption};
 ghost use Rattle.nob_node.specs.Calls.{IsNewest, HandsOn};
+ghost use Rattle.nob_node.specs.Holds.{counted_in, held_by};
 ghost use Rattle.nob_model_types.specs.declared.answer.Answer.TheVariants as answers;
 
 use crate::hold::{Hold, Returned, forget_all};
@@ -78,13 +79,12 @@ pub(crate) fn returned_in(alloc: Global, seat: &Seat) -> Result<Option<Returned>
     }
 }
 
-// A hold on each counted reference in a value. Only memory fails it.
-fn holds_in(alloc: Global, value: &Value) -> Result<Vec<Hold>, AllocError> {
+// A hold on each counted reference in a value, in reading order. Only memory fails it.
+fn holds_in(alloc: Global, value: &Value) -> Result<Vec<Hold>, AllocError>
+    ensures { IfOk result (λ holds. held_by holds.items ≡ counted_in value.now) }
+{
     let mut holds = Vec::new(alloc);
-    for number in 0..MOST_HOLDS {
-        let Some(rep) = counted_ref(value, number) else {
-            return Ok(holds);
-        };
+    while let Some(rep) = counted_ref(value, holds.len()) {
         if let Err(failed) = holds.push(Hold { rep }) {
             failed.value.forget();
             forget_all(holds);
@@ -93,6 +93,3 @@ fn holds_in(alloc: Global, value: &Value) -> Result<Vec<Hold>, AllocError> {
     }
     Ok(holds)
 }
-
-/// So many references a value has at most that comes in an item.
-const MOST_HOLDS: usize = 32;

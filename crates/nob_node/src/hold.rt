@@ -1,6 +1,9 @@
 //! Holds on references, and what a call returns.
 
-ghost use Rattle.std.specs.Prelude.{◌≡◌};
+ghost use Rattle.std.specs.Prelude.{◌≡◌, Ok, IfOk, IfErr};
+ghost use Rattle.nob_node.specs.Holds.{IsOneHold};
+ghost use Rattle.nob_node.specs.declared.hold.Hold.{Hold as HoldOf};
+ghost use Rattle.nob_node.specs.declared.hold.Returned.TheVariants as returns;
 
 use nob_ids::WireRep;
 use nob_pickle::Value;
@@ -41,8 +44,12 @@ pub enum Returned {
 }
 
 impl Returned {
-    /// The hold of an answer that is one reference: else what was returned comes back.
-    pub fn into_hold(self) -> Result<Hold, Returned> {
+    /// The hold of an answer with one counted reference: else what was returned comes back.
+    pub fn into_hold(self) -> Result<Hold, Returned>
+        ensures hold { IfOk result (λ hold. IsOneHold self hold) }
+        ensures only { (hold : HoldOf) → IsOneHold self hold → result ≡ Ok hold }
+        ensures back { IfErr result (λ back. back ≡ self) }
+    {
         match self {
             Returned::Replied {
                 status,
@@ -66,8 +73,13 @@ impl Returned {
     }
 }
 
-// The hold of an answer that is one reference.
-fn one_hold(status: u8, value: Value, mut holds: Vec<Hold>) -> Result<Hold, Returned> {
+// The hold of an answer with one counted reference.
+fn one_hold(status: u8, value: Value, mut holds: Vec<Hold>) -> Result<Hold, Returned>
+    ensures hold { IfOk result (λ hold. IsOneHold (returns.Replied status value holds) hold) }
+    ensures only { (hold : HoldOf) → IsOneHold (returns.Replied status value holds) hold
+        → result ≡ Ok hold }
+    ensures back { IfErr result (λ back. back ≡ returns.Replied status value holds) }
+{
     if status == 0
         && holds.len() == 1
         && let Some(hold) = holds.pop()

@@ -174,6 +174,8 @@ impl<'x, B: Object> Node<'x, B> {
     ) -> Result<Returned, (NodeError, Value)>
         ensures returned { IfOk result (λ returned.
             calls.IsCall self.old self.new hold.now.rep method value returned) }
+        ensures refused { IfErr result (λ back.
+            calls.IsCallRefusal self.old self.new hold.now.rep method value back.0) }
         ensures back { IfErr result (λ back. back.1 ≡ value) }
     {
         self.call_at(rt, hold.rep, method, value)
@@ -188,6 +190,8 @@ impl<'x, B: Object> Node<'x, B> {
     ) -> Result<Returned, NodeError>
         ensures returned { IfOk result (λ returned. calls.IsCall self.old self.new
             (calls.agent_of space) 1 (values.Bytes name.now) returned) }
+        ensures refused { IfErr result (λ error. calls.IsCallRefusal self.old self.new
+            (calls.agent_of space) 1 (values.Bytes name.now) error) }
     {
         let Ok(name) = Bytes::from_slice(self.alloc, name) else {
             return Err(NodeError::Keeper(KeeperError::OutOfMemory));
@@ -212,6 +216,8 @@ impl<'x, B: Object> Node<'x, B> {
     ) -> Result<Returned, (NodeError, Value)>
         ensures returned { IfOk result (λ returned.
             calls.IsCall self.old self.new target method value returned) }
+        ensures refused { IfErr result (λ back.
+            calls.IsCallRefusal self.old self.new target method value back.0) }
         ensures back { IfErr result (λ back. back.1 ≡ value) }
     {
         let event = Event::Call {
@@ -227,8 +233,10 @@ impl<'x, B: Object> Node<'x, B> {
 
     // Makes the call that an event asks for, and takes its reply.
     fn call_by<R: Wait>(&mut self, rt: &R, event: &Event) -> Result<Returned, NodeError>
-        ensures { IfOk result (λ returned.
+        ensures returned { IfOk result (λ returned.
             calls.IsCallBy self.old self.new event.now returned) }
+        ensures refused { IfErr result (λ error.
+            calls.IsRefusalBy self.old self.new event.now error) }
     {
         self.ask(rt, event)?;
         let Some(call) = call_in(&self.seat) else {
@@ -239,7 +247,10 @@ impl<'x, B: Object> Node<'x, B> {
 
     // Takes the reply to a call once it is ready, or can't come any more.
     fn take_reply<R: Wait>(&mut self, rt: &R, call: CallNo) -> Result<Returned, NodeError>
-        ensures { IfOk result (λ returned. calls.TakesReply self.old self.new call returned) }
+        ensures taken { IfOk result (λ returned.
+            calls.TakesReply self.old self.new call returned) }
+        ensures refused { IfErr result (λ error.
+            calls.IsRefusal self.old self.new (events.TakeReply call) error) }
     {
         self.await_reply(rt, call)?;
         for _ in rt.forever() {
@@ -255,7 +266,9 @@ impl<'x, B: Object> Node<'x, B> {
     // The event that takes the reply to a call, once it is ready. Want of memory is waited out: the
     // call is made.
     fn await_reply<R: Wait>(&mut self, rt: &R, call: CallNo) -> Result<(), NodeError>
-        ensures { OnOk result (calls.IsAsked self.old self.new (events.TakeReply call)) }
+        ensures asked { OnOk result (calls.IsAsked self.old self.new (events.TakeReply call)) }
+        ensures refused { IfErr result (λ error.
+            calls.IsRefusal self.old self.new (events.TakeReply call) error) }
     {
         for _ in rt.forever() {
             match JobCalls::wait_reply(self.site, rt, &mut self.seat, call) {
@@ -374,7 +387,9 @@ fn value_in(event: Event) -> Value
 }
 
 // Why a reply isn't handed on.
-fn refused_by(seat: &Seat) -> NodeError {
+fn refused_by(seat: &Seat) -> NodeError
+    ensures { calls.IsNewestRefusal seat.now result }
+{
     match refusal_in(seat) {
         Some(refusal) => NodeError::Refused(refusal),
         None => STRANGE,

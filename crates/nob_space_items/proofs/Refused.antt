@@ -70,6 +70,7 @@ handed_low me peer limits (ends.Send payload kind (Ok number) ∷ calls) right =
     let under : nat_le last_item (length (handed calls)) ≡ false = sent_low (not (is_open calls)) (is_limited kind && nat_le queue_limit (length (unacknowledged calls))) (length (handed calls)) number right.0 in
     let longer : length (handed calls ++ payload ∷ []) ≡ length (handed calls) + 1 = length-append (handed calls) (payload ∷ []) in
     grind (arith, nat_tests, under, longer)
+handed_low me peer limits (ends.Reopen k (Ok done) ∷ calls) right = (let low : 0 ≤ last_item = omega arith in low)
 handed_low me peer limits ((_) ∷ calls) right = handed_low me peer limits calls right.1
 
 -- whether so many numbers are free, said in two ways

@@ -1,5 +1,5 @@
 -- What a node's receipts say after a player's calls. In lists of receipts the newest stands FIRST.
-use Rattle.std.specs.Prelude.{◌≡◌, ℕ, List, Result}
+use Rattle.std.specs.Prelude.{◌≡◌, ℕ, List, [], Result}
 use Rattle.nob_ids.specs.declared.wire_rep.WireRep.{WireRep}
 use Rattle.nob_pickle.specs.declared.value.Value.{Value}
 use Rattle.nob_pickle.specs.declared.value.Value.TheVariants as values
@@ -9,6 +9,8 @@ use Rattle.nob_model_types.specs.declared.refusal.Refusal.{Refusal}
 use Rattle.nob_node.specs.Receipt.{Receipt}
 use Rattle.nob_node.specs.Calls as calls
 use Rattle.nob_node.specs.declared.error.NodeError.{NodeError}
+use Rattle.nob_node.specs.Holds.{IsOneHold}
+use Rattle.nob_node.specs.declared.hold.Hold.{Hold}
 use Rattle.nob_node.specs.declared.hold.Returned.{Returned}
 use Rattle.nob_node.specs.declared.hold.Returned.TheVariants as returns
 
@@ -20,15 +22,15 @@ IsLast new event result = (earlier : List Receipt) × calls.Answered earlier new
 abbrev pub IsLastRefusal : List Receipt → Event → NodeError → Type 0
 IsLastRefusal new event error = (earlier : List Receipt) × calls.IsRefusal earlier new event error
 
--- what was returned is an answer with this value
+-- what was returned is an answer with this value, and no hold
 abbrev pub IsValue : Returned → Value → Type 0
-IsValue (returns.Replied status given holds) value = (status ≡ 0) × (given ≡ value)
+IsValue (returns.Replied status given holds) value = (status ≡ 0) × (given ≡ value) × (holds.items ≡ [])
 IsValue returns.Ended value = ⊥
 
 -- a call was made of this method of this object with this value, and its reply was taken: an answer with that value
 abbrev pub IsAnswered : List Receipt → List Receipt → WireRep → (method : ℕ) → Value → Value → Type 0
 IsAnswered old new target method value answer = (returned : Returned) × calls.IsCall old new target method value returned × IsValue returned answer
 
--- the agent of a space was asked for a name, and its reply was taken
-abbrev pub IsLookedUp : List Receipt → List Receipt → (space : ℕ) → (name : List ℕ) → Type 0
-IsLookedUp old new space name = (returned : Returned) × calls.IsCall old new (calls.agent_of space) 1 (values.Bytes name) returned
+-- the agent of a space was asked for a name, and its reply was taken: an answer with this hold and no other
+abbrev pub IsLookedUp : List Receipt → List Receipt → (space : ℕ) → (name : List ℕ) → Hold → Type 0
+IsLookedUp old new space name hold = (returned : Returned) × calls.IsCall old new (calls.agent_of space) 1 (values.Bytes name) returned × IsOneHold returned hold

@@ -50,7 +50,8 @@ pub fn look_up<O: Object, R: Wait>(
     space: SpaceId,
     name: &[u8],
 ) -> Option<Hold>
-    ensures { IfSome result (λ hold. asked.IsLookedUp node.old node.new space name.now) }
+    ensures { IfSome result (λ hold.
+        asked.IsLookedUp node.old node.new space name.now hold) }
 {
     let Ok(returned) = node.lookup(rt, space, name) else {
         return None;
