@@ -45,10 +45,16 @@ pub found_first : (line : List ℕ) (entry twin : Entry) → IsEntry Two entry �
 found_first line entry twin found spelt = ap Some (one_spelt line entry twin (Two, found.0, found.1) spelt)
 
 -- what isn't found in version 2 is spelt in version 1
-pub found_then : (line : List ℕ) (found first : Option Entry) → found ≡ None → ((entry : Entry) → IsEntry Two entry → line ≡ entry_line Two entry → found ≡ Some entry) → ((entry : Entry) → IsEntry One entry → line ≡ entry_line One entry → first ≡ Some entry)
+found_then : (line : List ℕ) (found first : Option Entry) → found ≡ None → ((entry : Entry) → IsEntry Two entry → line ≡ entry_line Two entry → found ≡ Some entry) → ((entry : Entry) → IsEntry One entry → line ≡ entry_line One entry → first ≡ Some entry)
     → (entry : Entry) → Spells line entry → first ≡ Some entry
 found_then line found first none only then entry (One, is, spelt) = then entry is spelt
 found_then line found first none only then entry (Two, is, spelt) = let some = only entry is spelt in absurd cc
+
+-- what was read in version 1, where nothing was found in version 2, is all that the line spells
+pub found_rest : {E : Type 0} (line : List ℕ) (found : Option Entry) (r : Result (Option Entry) E) → found ≡ None → ((entry : Entry) → IsEntry Two entry → line ≡ entry_line Two entry → found ≡ Some entry)
+    → IfOk r (λ first. (entry : Entry) → IsEntry One entry → line ≡ entry_line One entry → first ≡ Some entry) → IfOk r (λ first. (entry : Entry) → Spells line entry → first ≡ Some entry)
+found_rest line found (Ok first) none only then = found_then line found first none only then
+found_rest line found (Err e) none only then = tt
 
 -- nothing is read where a text spells nothing
 pub is_unread : {X : Type 0} (P : X → Type 0) (e : Unread) → e ≡ NoText → reading.Reads P (Err e) → ⊥
