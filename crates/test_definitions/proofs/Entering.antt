@@ -11,7 +11,7 @@ use Rattle.nob_model_text.specs.Reading as reading
 use Rattle.nob_trace.specs.declared.stamped.Stamped.{Stamped}
 use Rattle.nob_trace.specs.Entries.{IsTraced}
 use Rattle.nob_trace.proofs.OneTrace.{one_entry}
-use Rattle.test_definitions.specs.Journals.{stamped_of, IsEntry, Spells, IsNoEntry, FromEntry, FromEntries, FromFirstLine, FromJournal, entry_line}
+use Rattle.test_definitions.specs.Journals.{stamped_of, IsEntry, Spells, IsNoEntry, bad_entry_text, FromEntry, FromEntries, FromFirstLine, FromJournal, entry_line}
 
 -- what is written for the lines that are left is written for all
 abbrev pub Reads : ℕ → List Entry → List (List ℕ) → List (List ℕ) → Type 0
@@ -25,6 +25,12 @@ reads_on number J next line left all entry so_far spelt more text from =
 -- a line that is read as no entry is none
 pub no_entry : (line : List ℕ) (found : Option Entry) → found ≡ None → ((entry : Entry) → Spells line entry → found ≡ Some entry) → IsNoEntry line
 no_entry line found none only entry spelt = let some = only entry spelt in absurd cc
+
+-- what is written for a line that is no entry is written for all lines
+pub bad_so : {X E : Type 0} (view : X → List ℕ) (r : Result X E) (number : ℕ) (J : List Entry) (line : List ℕ) (left all : List (List ℕ)) → Reads number J (line ∷ left) all → IsNoEntry line
+    → IfOk r (λ text. view text ≡ bad_entry_text number) → IfOk r (λ text. FromEntries 2 [] all (view text))
+bad_so view (Ok text) number J line left all so_far none is = so_far (view text) (FromEntry.bad none is)
+bad_so view (Err e) number J line left all so_far none is = tt
 
 -- an entry that a line can spell is one that a trace can have, with its space for a stamp
 pub traced : (version : Version) (entry : Entry) → IsEntry version entry → IsTraced version (stamped_of entry)
