@@ -8,20 +8,20 @@ use Rattle.nob_ids.specs.declared.reason.Reason.{Reason}
 use Rattle.nob_chain.specs.declared.seal.PeerSeal.{PeerSeal}
 use Rattle.nob_chain.specs.declared.seal.Seal.{Seal}
 
--- whether this end of a session is open, or the reason for which it was closed
-abbrev pub ending_text : Option Reason → List ℕ
-ending_text None = codes " open"
-ending_text (Some reason) = codes " closed " ++ decimal (reason_number reason)
+-- whether this end of a session is open, or the reason for which it was closed, and what stands behind it
+abbrev pub ending_text : Option Reason → List ℕ → List ℕ
+ending_text None rest = codes " open" ++ rest
+ending_text (Some reason) rest = codes " closed " ++ (decimal (reason_number reason) ++ rest)
 
--- what is sealed of the session with a peer
-abbrev pub peer_text : PeerSeal → List ℕ
-peer_text peer =
-    codes " peer " ++ (decimal peer.peer ++ (codes " session " ++ (decimal peer.session ++ (codes " sent " ++ (decimal peer.sent ++ (codes " acted " ++ (decimal peer.acted ++ ending_text peer.closed)))))))
+-- what is sealed of the session with a peer, and what stands behind it
+abbrev pub peer_text : PeerSeal → List ℕ → List ℕ
+peer_text peer rest =
+    codes " peer " ++ (decimal peer.peer ++ (codes " session " ++ (decimal peer.session ++ (codes " sent " ++ (decimal peer.sent ++ (codes " acted " ++ (decimal peer.acted ++ ending_text peer.closed rest)))))))
 
 -- the same of peers, one after the other
 abbrev pub peers_text : List PeerSeal → List ℕ
 peers_text [] = []
-peers_text (peer ∷ peers) = peer_text peer ++ peers_text peers
+peers_text (peer ∷ peers) = peer_text peer (peers_text peers)
 
 -- a seal: the stamp, the number of live objects, and each peer
 abbrev pub seal_text : Seal → List ℕ
@@ -42,7 +42,7 @@ IsDue own n seal = are_others own n 1 seal.peers ≡ true
 
 -- a peer and numbers in their ranges
 pub record IsPeerSeal (peer : PeerSeal) : Type 0 where
-  pub peer : IsSpace peer.peer
+  pub named : IsSpace peer.peer
   pub session : peer.session < 2 ^ 32
   pub sent : peer.sent < 2 ^ 64
   pub acted : peer.acted < 2 ^ 64
