@@ -10,8 +10,8 @@ use Rattle.nob_trace.specs.Entries.{IsTraced}
 use Rattle.nob_chain.specs.declared.seal.Seal.{Seal}
 use Rattle.nob_chain.specs.declared.segment.Segment.{Segment}
 use Rattle.nob_chain.specs.declared.head.ChainHead.{ChainHead}
-use Rattle.nob_chain.specs.Chains.{ChainLine, begins, has, ends, entries_of, line_text, lines_text, entry_lines, seal_lines, segment_lines, segments_lines, IsSealed, IsSegment}
-use Rattle.nob_chain.specs.Reading.{Stage, between, within, Waits, CanStand, Passes, next, after, Go}
+use Rattle.nob_chain.specs.Chains.{ChainLine, entries_of, line_text, lines_text, entry_lines, seal_lines, segment_lines, segments_lines, IsSealed, IsSegment}
+use Rattle.nob_chain.specs.Reading.{Stage, between, within, next, after, Go}
 
 -- ---- stamps of entries one part after the other
 

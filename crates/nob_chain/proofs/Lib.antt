@@ -6,4 +6,5 @@ pub mod OneChain
 pub mod ReadEntries
 pub mod ReadSegments
 pub mod ReadPeers
+pub mod Memory
 pub mod Written

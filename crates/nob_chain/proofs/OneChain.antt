@@ -1,13 +1,12 @@
 -- A text begins with one chain, and has one fault at most where it begins with none.
-use Rattle.std.proofs.Common.{◌≡◌, ◌⊎◌, inl, inr, ℕ, suc, ◌+◌, ◌<◌, ◌≤◌, List, [], ◌∷◌, ◌++◌, length, refl, sym, ap, subst, ◌∙◌, append_assoc, arith}
+use Rattle.std.proofs.Common.{◌≡◌, inl, inr, ℕ, suc, ◌+◌, ◌≤◌, List, [], ◌∷◌, ◌++◌, length, refl, sym, ap, subst, ◌∙◌, append_assoc, arith}
 use Rattle.std.specs.Prelude.{Option, Some, None}
 use Rattle.std.specs.List.{AllByRecursion}
 use Rattle.std.proofs.lemmas.List.{append-nil}
 use Rattle.nob_frame.specs.declared.version.Version.TheVariants.{Two}
 use Rattle.nob_trace.specs.declared.stamped.Stamped.{Stamped}
-use Rattle.nob_trace.specs.Entries.{HasSpelling}
 use Rattle.nob_trace.specs.Stamps.{last_stamp}
-use Rattle.nob_trace.specs.Reading.{BeginsWithLine, Lacks}
+use Rattle.nob_trace.specs.Reading.{BeginsWithLine}
 use Rattle.nob_trace.proofs.Parting.{has_one, one_parting}
 use Rattle.nob_trace.proofs.Writable as writable
 use Rattle.nob_chain.specs.declared.seal.Seal.{Seal}
@@ -15,10 +14,9 @@ use Rattle.nob_chain.specs.declared.segment.Segment.{Segment}
 use Rattle.nob_chain.specs.declared.head.ChainHead.{ChainHead}
 use Rattle.nob_chain.specs.declared.chain.ChainParts.{ChainParts}
 use Rattle.nob_chain.specs.declared.fault.ChainFault.{ChainFault}
-use Rattle.nob_chain.specs.declared.fault.ChainFault.TheVariants as faults
-use Rattle.nob_chain.specs.Chains.{ChainLine, begins, has, ends, entries_of, lines_text, entry_lines, seal_lines, segment_lines, segments_lines, head_text, head_of, chain_text, IsHead, IsSealed, IsSegment, IsChain}
-use Rattle.nob_chain.specs.Reading.{Stage, between, within, start, Waits, after, Go, IsNoHead, LineFault, LinesFault, GoesWrong, FrontFault, ChainProblem}
-use Rattle.nob_chain.specs.Writing.{HasSeal, IsSpeakable, IsWritable}
+use Rattle.nob_chain.specs.Chains.{ChainLine, begins, has, ends, entries_of, lines_text, entry_lines, seal_lines, segments_lines, head_text, head_of, chain_text, IsHead, IsSealed, IsSegment, IsChain}
+use Rattle.nob_chain.specs.Reading.{Stage, between, start, Waits, after, Go, LineFault, LinesFault, GoesWrong, FrontFault, ChainProblem}
+use Rattle.nob_chain.specs.Writing.{HasSeal, IsSpeakable}
 use Rattle.nob_chain.specs.Laws.{AreWritable, OneFront, OneChain, OneFault, OneProblem}
 use Rattle.nob_chain.proofs.Signs as signs
 use Rattle.nob_chain.proofs.OneLine.{head_is}

@@ -1,13 +1,12 @@
 -- A text goes on in one way, and for one fault at most it doesn't.
-use Rattle.std.proofs.Common.{◌≡◌, ◌⊎◌, inl, inr, ℕ, suc, ◌<◌, ◌≤◌, List, [], ◌∷◌, ◌++◌, refl, sym, ap, subst, ◌∙◌, append_assoc, arith}
-use Prim.Native.Nat.{zero}
+use Rattle.std.proofs.Common.{◌≡◌, ◌⊎◌, inl, inr, ℕ, List, [], ◌∷◌, ◌++◌, refl, sym, ap, subst, ◌∙◌, append_assoc, arith}
 use Rattle.nob_trace.specs.Reading.{BeginsWithLine, Lacks}
 use Rattle.nob_trace.proofs.Parting.{has_one, one_parting}
 use Rattle.nob_chain.specs.declared.head.ChainHead.{ChainHead}
 use Rattle.nob_chain.specs.declared.fault.ChainFault.{ChainFault}
 use Rattle.nob_chain.specs.declared.fault.ChainFault.TheVariants as faults
-use Rattle.nob_chain.specs.Chains.{ChainLine, begins, has, ends, line_text, lines_text}
-use Rattle.nob_chain.specs.Reading.{Stage, between, within, Waits, CanStand, Passes, IsFaultOf, next, after, Go, IsNoLine, IsRefused, LineFault}
+use Rattle.nob_chain.specs.Chains.{ChainLine, begins, has, line_text, lines_text}
+use Rattle.nob_chain.specs.Reading.{Stage, between, within, Waits, CanStand, Passes, IsFaultOf, next, after, Go, IsRefused, LineFault}
 use Rattle.nob_chain.proofs.Signs as signs
 use Rattle.nob_chain.proofs.OneLine.{line_is}
 

@@ -1,5 +1,5 @@
 -- Entries that were read so far, and the lines that are left.
-use Rattle.std.proofs.Common.{◌≡◌, ◌≢◌, ℕ, suc, ◌+◌, ◌-◌, ◌<◌, ◌≤◌, ◌^◌, List, [], ◌∷◌, ◌++◌, length, refl, sym, ap, subst, arith, ◌∙◌, append_assoc, length-append, Result, Ok, Err}
+use Rattle.std.proofs.Common.{◌≡◌, ◌≢◌, ℕ, suc, ◌+◌, ◌-◌, ◌<◌, ◌≤◌, List, [], ◌∷◌, ◌++◌, length, refl, sym, ap, subst, arith, ◌∙◌, append_assoc, length-append, Result, Ok, Err}
 use Rattle.std.specs.Prelude.{IsErrAnd}
 use Rattle.std.specs.List.{AllByRecursion}
 use Rattle.nob_frame.specs.declared.version.Version.TheVariants.{Two}
@@ -14,7 +14,7 @@ use Rattle.nob_chain.specs.declared.fault.ChainFault.TheVariants as faults
 use Rattle.nob_chain.specs.declared.fault.ChainError.{ChainError}
 use Rattle.nob_chain.specs.declared.fault.ChainError.TheVariants.{Fault, OutOfMemory}
 use Rattle.nob_chain.specs.Chains.{ChainLine, begins, has, ends, line_text, lines_text, entry_lines}
-use Rattle.nob_chain.specs.Reading.{Stage, between, within, Waits, CanStand, after, Go, LineFault, LinesFault, GoesWrong, Answers, Explains}
+use Rattle.nob_chain.specs.Reading.{Stage, within, Waits, CanStand, after, Go, LineFault, GoesWrong, Answers, Explains}
 use Rattle.nob_chain.proofs.Leads.{lines_both, go_both, after_both, go_entries, after_entries, last_low}
 
 -- ---- errors

@@ -7,7 +7,7 @@ use Rattle.std.proofs.lemmas.List.{append-nil}
 use Rattle.nob_frame.specs.declared.version.Version.TheVariants.{Two}
 use Rattle.nob_trace.specs.declared.stamped.Stamped.{Stamped}
 use Rattle.nob_trace.specs.Stamps.{Rise, last_stamp}
-use Rattle.nob_trace.specs.Entries.{entry_text, IsTraced}
+use Rattle.nob_trace.specs.Entries.{IsTraced}
 use Rattle.nob_trace.specs.Reading.{BeginsWithLine, Lacks}
 use Rattle.nob_chain.specs.declared.seal.Seal.{Seal}
 use Rattle.nob_chain.specs.declared.segment.Segment.{Segment}
@@ -18,12 +18,11 @@ use Rattle.nob_chain.specs.declared.fault.ChainFault.TheVariants as faults
 use Rattle.nob_chain.specs.declared.fault.ChainError.{ChainError}
 use Rattle.nob_chain.specs.declared.fault.ChainError.TheVariants.{Fault, OutOfMemory}
 use Rattle.nob_chain.specs.Seals.{IsSeal, seal_text}
-use Rattle.nob_chain.specs.Chains.{ChainLine, begins, has, ends, entries_of, opening_text, line_text, lines_text, entry_lines, seal_lines, segment_lines, segments_lines, head_text, head_of, chain_text, HasDue, IsPart, IsKept, IsHead, IsSealed, IsSegment, IsChain}
+use Rattle.nob_chain.specs.Chains.{ChainLine, begins, has, ends, entries_of, opening_text, line_text, lines_text, entry_lines, segment_lines, segments_lines, head_text, head_of, chain_text, HasDue, IsPart, IsKept, IsHead, IsSealed, IsSegment, IsChain}
 use Rattle.nob_chain.specs.Openings.{OpeningFault}
-use Rattle.nob_chain.specs.Reading.{Stage, between, within, start, Waits, CanStand, after, Go, IsNoHead, LineFault, GoesWrong, FrontFault, ChainProblem, Answers, Explains, Finds}
-use Rattle.nob_chain.proofs.Leads.{lines_both, go_segments, go_both, after_both, last_both, last_some, rise_both, whole_entries}
+use Rattle.nob_chain.specs.Reading.{between, within, start, CanStand, Go, IsNoHead, LineFault, GoesWrong, FrontFault, Answers, Explains, Finds}
+use Rattle.nob_chain.proofs.Leads.{lines_both, go_segments, last_both, last_some, rise_both, whole_entries}
 use Rattle.nob_chain.proofs.ReadEntries.{EntriesFault, map_fault, wrong_behind, wrong_here}
-use Rattle.nob_chain.proofs.OneChain.{no_front_fault, no_problem, one_chain, one_front}
 
 -- ---- a segment's first line
 
@@ -39,15 +38,12 @@ no_opening h behind last line none (begins n c) can = none n c can.0 can.1
 no_opening h behind last line none (has e) can = absurd can
 no_opening h behind last line none (ends s) can = absurd can
 
-wrong_opening : (behind : ℕ) (text line rest : List ℕ) (f : ChainFault) → BeginsWithLine text line rest → OpeningFault behind line f → OpeningWrong behind text f
+pub wrong_opening : (behind : ℕ) (text line rest : List ℕ) (f : ChainFault) → BeginsWithLine text line rest → OpeningFault behind line f → OpeningWrong behind text f
 wrong_opening behind text line rest faults.Entry starts wrong h last = (line, rest, starts, no_opening h behind last line wrong)
 wrong_opening behind text line rest faults.Segment starts wrong h last = (begins wrong.0 wrong.1, rest, (wrong.2, wrong.3), starts.1 ∙ ap (λ (bs : List ℕ). bs ++ 10 ∷ rest) wrong.4, wrong.5)
 wrong_opening behind text line rest faults.Short starts wrong h last = absurd wrong
 wrong_opening behind text line rest faults.Stamp starts wrong h last = absurd wrong
 wrong_opening behind text line rest faults.Trailing starts wrong h last = absurd wrong
-
-pub opening_error : {X : Type 0} (P : X → Type 0) (behind : ℕ) (text line rest : List ℕ) (r : Result X ChainError) (e : ChainError) → BeginsWithLine text line rest → IsErrAnd r (λ f. f ≡ e) → Explains (OpeningFault behind line) e → Answers P (OpeningWrong behind text) r
-opening_error P behind text line rest r e starts is wrong = map_fault P (OpeningFault behind line) (OpeningWrong behind text) r e is wrong (λ f w. wrong_opening behind text line rest f starts w)
 
 -- the line and what stands behind it
 pub with_line : (text line rest spelt : List ℕ) → BeginsWithLine text line rest → line ≡ spelt → text ≡ spelt ++ 10 ∷ rest
@@ -82,15 +78,16 @@ seal_error P h text line rest r e starts is wrong = map_fault P (NoSeal h line) 
 abbrev pub SegmentWrong : ChainHead → ℕ → ℕ → List ℕ → ChainFault → Type 0
 SegmentWrong h behind last text fault = GoesWrong h (between behind last) text fault
 
-pub first_error : {X : Type 0} (P : X → Type 0) (h : ChainHead) (behind last : ℕ) (text : List ℕ) (r : Result X ChainError) (e : ChainError) → behind < h.count → IsErrAnd r (λ f. f ≡ e) → Explains (OpeningWrong behind text) e → Answers P (SegmentWrong h behind last text) r
-first_error P h behind last text r e less is wrong = map_fault P (OpeningWrong behind text) (SegmentWrong h behind last text) r e is wrong (λ f w. wrong_here h (between behind last) text f less (w h last))
+pub first_error : {X : Type 0} (P : X → Type 0) (h : ChainHead) (behind last : ℕ) (text : List ℕ) (r : Result X ChainError) (f : ChainFault) → behind < h.count → IsErrAnd r (λ e. e ≡ Fault f) → OpeningWrong behind text f → Answers P (SegmentWrong h behind last text) r
+first_error P h behind last text (Ok x) f less is wrong = absurd is
+first_error P h behind last text (Err e) f less is wrong = subst (λ (g : ChainError). Answers P (SegmentWrong h behind last text) (Err g)) (sym is) (wrong_here h (between behind last) text f less (wrong h last))
 
 -- the first line of a segment goes on
-go_opening : (h : ChainHead) (behind last count : ℕ) → behind < h.count → h.count < 2 ^ 64 → 0 < count → count < 2 ^ 64 → Go h (between behind last) (begins (behind + 1) count ∷ [])
+pub go_opening : (h : ChainHead) (behind last count : ℕ) → behind < h.count → h.count < 2 ^ 64 → 0 < count → count < 2 ^ 64 → Go h (between behind last) (begins (behind + 1) count ∷ [])
 go_opening h behind last count less few some small = (less, (omega (arith, less, few), small), (omega arith, some), tt)
 
 -- the first line of a text and what stands behind it
-one_line : (text line rest : List ℕ) → text ≡ line ++ 10 ∷ rest → text ≡ (line ++ 10 ∷ []) ++ rest
+pub one_line : (text line rest : List ℕ) → text ≡ line ++ 10 ∷ rest → text ≡ (line ++ 10 ∷ []) ++ rest
 one_line text line rest is = is ∙ sym (append_assoc line (10 ∷ []) rest)
 
 pub middle_error : {X : Type 0} (P : X → Type 0) (h : ChainHead) (behind last count : ℕ) (text lines : List ℕ) (r : Result X ChainError) (e : ChainError) → behind < h.count → h.count < 2 ^ 64 → (0 < count) × (count < 2 ^ 64) × (text ≡ opening_text (behind + 1) count ++ 10 ∷ lines)
@@ -176,12 +173,8 @@ segments_error P h text done left last behind r e long few so_far is wrong = map
 
 -- ---- chains
 
--- what a line is refused for that spells no first line
-abbrev pub NoHead : List ℕ → ChainFault → Type 0
-NoHead line fault = (fault ≡ faults.Entry) × IsNoHead line
-
-pub head_error : {X : Type 0} (P : X → Type 0) (text line rest : List ℕ) (r : Result X ChainError) (e : ChainError) → BeginsWithLine text line rest → IsErrAnd r (λ f. f ≡ e) → Explains (NoHead line) e → Answers P (FrontFault text) r
-head_error P text line rest r e starts is wrong = map_fault P (NoHead line) (FrontFault text) r e is wrong (λ f w. FrontFault.bad line rest starts w.1 w.0)
+pub no_head : (text line rest : List ℕ) → BeginsWithLine text line rest → IsNoHead line → FrontFault text faults.Entry
+no_head text line rest starts none = FrontFault.bad line rest starts none refl
 
 pub inside_error : {X : Type 0} (P : X → Type 0) (h : ChainHead) (text line rest : List ℕ) (r : Result X ChainError) (e : ChainError) → BeginsWithLine text line rest → IsHead h × (line ≡ head_text h) → IsErrAnd r (λ f. f ≡ e) → Explains (GoesWrong h start rest) e → Answers P (FrontFault text) r
 inside_error P h text line rest r e starts head is wrong = map_fault P (GoesWrong h start rest) (FrontFault text) r e is wrong (λ f w. FrontFault.inside h rest head.0 (with_line text line rest (head_text h) starts head.1) w)

@@ -15,7 +15,7 @@ use Rattle.nob_chain.specs.declared.segment.Segment.{Segment}
 use Rattle.nob_chain.specs.declared.fault.ChainError.{ChainError}
 use Rattle.nob_chain.specs.declared.fault.ChainError.TheVariants.{Fault, OutOfMemory}
 use Rattle.nob_chain.specs.Seals.{ending_text, peer_text, peers_text}
-use Rattle.nob_chain.specs.Chains.{ChainLine, begins, has, ends, opening_text, lines_text, entry_lines, seal_lines, segment_lines, segments_lines}
+use Rattle.nob_chain.specs.Chains.{ChainLine, opening_text, lines_text, entry_lines, seal_lines, segment_lines, segments_lines}
 use Rattle.nob_chain.specs.Writing.{HasSeal, IsSpeakable, Refuses, Writes}
 use Rattle.nob_chain.proofs.Leads.{lines_both}
 

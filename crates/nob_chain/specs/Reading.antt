@@ -122,3 +122,37 @@ Answers IsRight IsFault (Err e) = Explains IsFault e
 -- this is given, unless memory ran out
 abbrev pub Finds : {X : Type 0} → (X → Type 0) → Result X ChainError → Type 0
 Finds IsRight result = Answers IsRight (λ fault. ⊥) result
+
+-- a whole line stands at the front of a text
+abbrev pub HasLine : List ℕ → Type 0
+HasLine text = (line rest : List ℕ) × BeginsWithLine text line rest
+
+-- in a segment: an entry or its seal is due
+abbrev pub InSegment : Stage → Type 0
+InSegment (between number last) = ⊥
+InSegment (within number last missing) = Unit {0}
+
+-- lines go on as they should into a segment, to where a whole line is left
+pub record Reaches (head : ChainHead) (stage : Stage) (text : List ℕ) (lines : List ChainLine) (left : List ℕ) : Type 0 where
+  pub go : Go head stage lines
+  pub text_is : text ≡ lines_text lines ++ left
+  pub inside : InSegment (after stage lines)
+  pub whole : HasLine left
+
+-- such lines are there
+abbrev pub AtLine : ChainHead → Stage → List ℕ → Type 0
+AtLine head stage text = (lines : List ChainLine) × (left : List ℕ) × Reaches head stage text lines left
+
+-- a text begins with a first line, and goes on so behind it: to a whole line where an entry or a seal is due
+abbrev pub AtSegment : List ℕ → Type 0
+AtSegment text = (head : ChainHead) × (rest : List ℕ) × IsHead head × (text ≡ head_text head ++ 10 ∷ rest) × AtLine head start rest
+
+-- an error for want of memory comes only there
+abbrev pub IsThere : Type 0 → ChainError → Type 0
+IsThere There (Fault fault) = Unit {0}
+IsThere There OutOfMemory = There
+
+-- memory runs out only there
+abbrev pub RunsOut : {X : Type 0} → Type 0 → Result X ChainError → Type 0
+RunsOut There (Ok x) = Unit {0}
+RunsOut There (Err e) = IsThere There e

@@ -1,62 +1,57 @@
-//! First lines of chains and of segments to what they say.
+//! First lines of chains and of segments to what they say, without memory.
 
-ghost use Rattle.std.specs.Prelude.{◌≡◌, ◌++◌, ◌<◌, ◌^◌, ◌+◌, ℕ, List, IfOk, IfSome, IsSome, codes};
+ghost use Rattle.std.specs.Prelude.{◌≡◌, ◌++◌, ◌∷◌, ◌<◌, ◌^◌, ◌+◌, ℕ, List, Some, IfSome, IfOk, IfErr, IsSomeAnd, codes};
 ghost use Rattle.std.specs.Fmt.{decimal};
-ghost use Rattle.nob_ids.specs.Names.{IsSpace};
-ghost use Rattle.nob_model_text.specs.Fronts.{Stops};
-ghost use Rattle.nob_model_text.specs.Reading.{Reads};
 ghost use Rattle.nob_chain.specs.declared.head.ChainHead.{ChainHead as HeadOf};
-ghost use Rattle.nob_chain.specs.declared.fault.ChainFault.TheVariants as faults;
 ghost use Rattle.nob_chain.specs.Chains as spec;
-ghost use Rattle.nob_chain.specs.Reading.{Answers, IsNoHead};
 ghost use Rattle.nob_chain.specs.Openings.{OpeningFault};
 
-use crate::fault::{ChainError, ChainFault};
+use crate::digits::{number_behind, number_of};
+use crate::fault::ChainFault;
 use crate::head::ChainHead;
-use crate::numbers::{number_after, whole_after};
 use nob_ids::Limits;
-use nob_model_reading::limits_at;
-use nob_model_text::{Unread, space_of};
-use std::alloc::Global;
+use nob_model_text::space_of;
 
-// What a first line says, or R2.
-pub fn spelt_head(alloc: Global, line: &[u8]) -> Result<ChainHead, ChainError>
-    ensures { Answers (λ head. spec.IsHead head × (line.now ≡ spec.head_text head))
-        (λ fault. (fault ≡ faults.Entry) × IsNoHead line.now) result }
-{
-    match head_of(alloc, line) {
-        Ok(head) => Ok(head),
-        Err(Unread::NoText) => Err(ChainError::Fault(ChainFault::Entry)),
-        Err(Unread::OutOfMemory) => Err(ChainError::OutOfMemory),
-    }
-}
-
-// What a first line says.
-fn head_of(alloc: Global, line: &[u8]) -> Result<ChainHead, Unread>
-    ensures found { IfOk result (λ head. spec.IsHead head × (line.now ≡ spec.head_text head)) }
+// What a first line says: `None` where it spells none. It takes no memory.
+pub fn head_of(line: &[u8]) -> Option<ChainHead>
+    ensures found { IfSome result (λ head. spec.IsHead head × (line.now ≡ spec.head_text head)) }
     ensures only { (head : HeadOf) → spec.IsHead head → line.now ≡ spec.head_text head
-        → Reads (λ h. h ≡ head) result }
+        → result ≡ Some head }
 {
-    let (space, n, behind) = spaces_at(alloc, line)?;
-    let (limits, left) = limits_at(alloc, behind)?;
-    let count = whole_after(alloc, left, b" segments ".as_slice())?;
-    match head_from(space, n, limits, count) {
-        Some(head) => Ok(head),
-        None => Err(Unread::NoText),
-    }
+    let Some((space, n, behind)) = spaces_at(line) else {
+        return None;
+    };
+    let Some((window, retry, left)) = limits_at(behind) else {
+        return None;
+    };
+    let Some(digits) = left.strip_prefix(b"segments ".as_slice()) else {
+        return None;
+    };
+    let Some(count) = number_of(digits) else {
+        return None;
+    };
+    head_from(space, n, window, retry, count)
 }
 
-// The first line of these numbers: `None` where one of the spaces is outside its range.
-fn head_from(space: u64, n: u64, limits: Limits, count: u64) -> Option<ChainHead>
-    ensures found { IfSome result (λ head. IsSpace head.space × IsSpace head.n
-        × (head.space ≡ space) × (head.n ≡ n) × (head.limits ≡ limits) × (head.count ≡ count)) }
-    ensures only { IsSpace space → IsSpace n → IsSome result }
+// The first line of these numbers: `None` where one is outside its range.
+fn head_from(space: u64, n: u64, window: u64, retry: u64, count: u64) -> Option<ChainHead>
+    ensures found { IfSome result (λ head. spec.IsHead head
+        × (head.space ≡ space) × (head.n ≡ n)
+        × (head.limits.window ≡ window) × (head.limits.retry ≡ retry)
+        × (head.count ≡ count)) }
+    ensures only { (head : HeadOf) → spec.IsHead head
+        → head.space ≡ space → head.n ≡ n → head.limits.window ≡ window → head.limits.retry ≡ retry
+        → head.count ≡ count
+        → result ≡ Some head }
 {
     let Some(space) = space_of(space) else {
         return None;
     };
-    match space_of(n) {
-        Some(n) => Some(ChainHead {
+    let Some(n) = space_of(n) else {
+        return None;
+    };
+    match Limits::new(window, retry) {
+        Some(limits) => Some(ChainHead {
             space,
             n,
             limits,
@@ -67,55 +62,75 @@ fn head_from(space: u64, n: u64, limits: Limits, count: u64) -> Option<ChainHead
 }
 
 // The numbers of the space and of how many there are at the front of a first line, and what is
-// left.
-fn spaces_at(alloc: Global, text: &[u8]) -> Result<(u64, u64, &[u8]), Unread>
-    ensures found { IfOk result (λ parts. text.now ≡ codes "chain " ++ (decimal parts.0 ++ (codes
-        " of " ++ (decimal parts.1 ++ parts.2.now)))) }
-    ensures only { (space n : ℕ) (rest : List ℕ) → space < 2 ^ 64 → n < 2 ^ 64 → Stops rest
-        → text.now ≡ codes "chain " ++ (decimal space ++ (codes " of " ++ (decimal n ++ rest)))
-        → Reads (λ parts. (parts.0 ≡ space) × (parts.1 ≡ n) × (parts.2.now ≡ rest)) result }
+// left behind the space that follows.
+fn spaces_at(text: &[u8]) -> Option<(u64, u64, &[u8])>
+    ensures found { IfSome result (λ parts. text.now ≡ codes "chain " ++ (decimal parts.0 ++
+        (codes " of " ++ (decimal parts.1 ++ 32 ∷ parts.2.now)))) }
+    ensures only { (space n : ℕ) (rest : List ℕ) → space < 2 ^ 64 → n < 2 ^ 64
+        → text.now
+        ≡ codes "chain " ++ (decimal space ++ (codes " of " ++ (decimal n ++ 32 ∷ rest)))
+        → IsSomeAnd result (λ parts. (parts.0 ≡ space) × (parts.1 ≡ n) × (parts.2.now ≡ rest)) }
 {
-    let (space, behind) = number_after(alloc, text, b"chain ".as_slice())?;
-    let (n, rest) = number_after(alloc, behind, b" of ".as_slice())?;
-    Ok((space, n, rest))
+    let Some((space, behind)) = number_behind(text, b"chain ".as_slice()) else {
+        return None;
+    };
+    match number_behind(behind, b"of ".as_slice()) {
+        Some((n, rest)) => Some((space, n, rest)),
+        None => None,
+    }
 }
 
-// How many entries the first line of the segment behind so many says, or R2 or R6.
-pub fn count_of(alloc: Global, behind: u64, line: &[u8]) -> Result<u64, ChainError>
-    requires { behind + 1 < 2 ^ 64 }
-    ensures { Answers (λ count. (0 < count) × (count < 2 ^ 64)
-        × (line.now ≡ spec.opening_text (behind + 1) count))
-        (λ fault. OpeningFault behind line.now fault) result }
+// The numbers of the limits at the front of a text, and what is left behind the space that follows.
+fn limits_at(text: &[u8]) -> Option<(u64, u64, &[u8])>
+    ensures found { IfSome result (λ parts. text.now ≡ codes "window " ++ (decimal parts.0 ++
+        (codes " retry " ++ (decimal parts.1 ++ 32 ∷ parts.2.now)))) }
+    ensures only { (window retry : ℕ) (rest : List ℕ) → window < 2 ^ 64 → retry < 2 ^ 64
+        → text.now
+        ≡ codes "window " ++ (decimal window ++ (codes " retry " ++ (decimal retry ++ 32 ∷ rest)))
+        → IsSomeAnd result (λ parts. (parts.0 ≡ window) × (parts.1 ≡ retry)
+        × (parts.2.now ≡ rest)) }
 {
-    let (number, count) = spelt_opening(alloc, line)?;
+    let Some((window, behind)) = number_behind(text, b"window ".as_slice()) else {
+        return None;
+    };
+    match number_behind(behind, b"retry ".as_slice()) {
+        Some((retry, rest)) => Some((window, retry, rest)),
+        None => None,
+    }
+}
+
+// How many entries the first line of the segment behind so many says, or R2 or R6. It takes no
+// memory.
+pub fn count_of(behind: u64, line: &[u8]) -> Result<u64, ChainFault>
+    requires { behind + 1 < 2 ^ 64 }
+    ensures found { IfOk result (λ count. (0 < count) × (count < 2 ^ 64)
+        × (line.now ≡ spec.opening_text (behind + 1) count)) }
+    ensures fault { IfErr result (λ fault. OpeningFault behind line.now fault) }
+{
+    let Some((number, count)) = opening_of(line) else {
+        return Err(ChainFault::Entry);
+    };
     if number != behind + 1 || count == 0 {
-        return Err(ChainError::Fault(ChainFault::Segment));
+        return Err(ChainFault::Segment);
     }
     Ok(count)
 }
 
-// What the first line of a segment says, or R2.
-fn spelt_opening(alloc: Global, line: &[u8]) -> Result<(u64, u64), ChainError>
-    ensures { Answers (λ parts. line.now ≡ spec.opening_text parts.0 parts.1)
-        (λ fault. (fault ≡ faults.Entry)
-        × ((number count : ℕ) → number < 2 ^ 64 → count < 2 ^ 64
-        → line.now ≡ spec.opening_text number count → ⊥)) result }
-{
-    match opening_of(alloc, line) {
-        Ok(parts) => Ok(parts),
-        Err(Unread::NoText) => Err(ChainError::Fault(ChainFault::Entry)),
-        Err(Unread::OutOfMemory) => Err(ChainError::OutOfMemory),
-    }
-}
-
 // What the first line of a segment says: its number, and how many entries it has.
-fn opening_of(alloc: Global, line: &[u8]) -> Result<(u64, u64), Unread>
-    ensures found { IfOk result (λ parts. line.now ≡ spec.opening_text parts.0 parts.1) }
+fn opening_of(line: &[u8]) -> Option<(u64, u64)>
+    ensures found { IfSome result (λ parts. line.now ≡ spec.opening_text parts.0 parts.1) }
     ensures only { (number count : ℕ) → number < 2 ^ 64 → count < 2 ^ 64
         → line.now ≡ spec.opening_text number count
-        → Reads (λ parts. (parts.0 ≡ number) × (parts.1 ≡ count)) result }
+        → IsSomeAnd result (λ parts. (parts.0 ≡ number) × (parts.1 ≡ count)) }
 {
-    let (number, behind) = number_after(alloc, line, b"segment ".as_slice())?;
-    let count = whole_after(alloc, behind, b" entries ".as_slice())?;
-    Ok((number, count))
+    let Some((number, behind)) = number_behind(line, b"segment ".as_slice()) else {
+        return None;
+    };
+    let Some(digits) = behind.strip_prefix(b"entries ".as_slice()) else {
+        return None;
+    };
+    match number_of(digits) {
+        Some(count) => Some((number, count)),
+        None => None,
+    }
 }

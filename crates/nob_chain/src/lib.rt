@@ -2,6 +2,7 @@
 #![tactic(auto)]
 
 mod chain;
+mod digits;
 mod fault;
 mod head;
 mod head_reading;

@@ -5,7 +5,7 @@ ghost use Rattle.std.specs.Fmt.{decimal};
 ghost use Rattle.nob_model_text.specs.Fronts.{Stops};
 ghost use Rattle.nob_model_text.specs.Reading.{Reads};
 
-use nob_model_reading::{after, whole_number};
+use nob_model_reading::after;
 use nob_model_text::{Unread, number_at};
 use std::alloc::Global;
 
@@ -21,13 +21,4 @@ pub fn number_after<'a>(
         → Reads (λ parts. (parts.0 ≡ n) × (parts.1.now ≡ rest)) result }
 {
     number_at(alloc, after(text, word)?)
-}
-
-// The number behind a word that a text is.
-pub fn whole_after(alloc: Global, text: &[u8], word: &[u8]) -> Result<u64, Unread>
-    ensures found { IfOk result (λ n. text.now ≡ word.now ++ decimal n) }
-    ensures only { (n : ℕ) → n < 2 ^ 64 → text.now ≡ word.now ++ decimal n
-        → Reads (λ m. m ≡ n) result }
-{
-    whole_number(alloc, after(text, word)?)
 }

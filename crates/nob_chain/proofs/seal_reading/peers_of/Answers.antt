@@ -5,7 +5,7 @@ use Rattle.std.proofs.lemmas.Bool.Decides.{Decides-eqb}
 use Rattle.nob_model_text.proofs.Read.{by_error, passed, not_empty}
 use Rattle.nob_chain.specs.declared.seal.PeerSeal.{PeerSeal}
 use Rattle.nob_chain.specs.Seals.{peers_text, IsPeerSeal}
-use Rattle.nob_chain.proofs.ReadPeers.{FoundPeers, OnlyPeers, peers_next, peers_end, only_next, only_end, no_peer}
+use Rattle.nob_chain.proofs.ReadPeers.{FoundPeers, peers_next, peers_end, only_next, only_end, no_peer}
 use Rattle.nob_chain.proofs.seal_reading.peers_of.Goals as goal
 
 pub returns-in_err-rest-clause-only : goal.returns-in_err-rest-clause-only
