@@ -1,0 +1,10 @@
+pub mod Signs
+pub mod OneLine
+pub mod OneRun
+pub mod Leads
+pub mod OneChain
+pub mod ReadEntries
+pub mod ReadSegments
+pub mod ReadPeers
+pub mod Memory
+pub mod Written

@@ -1,0 +1,6 @@
+pub mod Seals
+pub mod Chains
+pub mod Reading
+pub mod Openings
+pub mod Writing
+pub mod Laws

@@ -1,0 +1,24 @@
+//! Chains of sealed segments and their one spelling in text.
+#![tactic(auto)]
+
+mod chain;
+mod digits;
+mod fault;
+mod head;
+mod head_reading;
+pub mod laws;
+mod lines;
+mod numbers;
+mod reading;
+mod seal;
+mod seal_reading;
+mod segment;
+mod writing;
+
+pub use chain::{Chain, ChainParts};
+pub use fault::{ChainError, ChainFault};
+pub use head::ChainHead;
+pub use reading::{chain_at, decode};
+pub use seal::{PeerSeal, PeerSeals, Seal};
+pub use segment::{Segment, Segments};
+pub use writing::encode;
