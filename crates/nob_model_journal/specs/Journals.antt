@@ -32,6 +32,10 @@ number_at a b J = number b (deeds_at a J)
 abbrev pub sent_in : (n a b k : ℕ) → List Entry → List Item
 sent_in n a b k J = map (λ sent_item. sent_item.item) (filter (is_sent_to b k) (sent (history_at a n J)))
 
+-- those of the session in which a itself is
+abbrev pub sent_now : (n a b : ℕ) → List Entry → List Item
+sent_now n a b J = sent_in n a b (number_at a b J) J
+
 -- those of the session in which b is: what b may act on
 abbrev pub sent_to : (n a b : ℕ) → List Entry → List Item
 sent_to n a b J = sent_in n a b (number_at b a J) J
