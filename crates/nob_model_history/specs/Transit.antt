@@ -78,6 +78,16 @@ is_some_of (x ∷ xs) = true
 abbrev pub is_of_present : List Deed → SentItem → Bool
 is_of_present D sent_item = sent_item.session == number sent_item.to D
 
+-- the number that stands at the place of a reference, 0 where it has none
+abbrev pub number_at_place : WireRep → List WireRep → List ℕ → ℕ
+number_at_place rep [] numbers = 0
+number_at_place rep (other ∷ reps) [] = 0
+number_at_place rep (other ∷ reps) (k ∷ numbers) = if is_same rep other then k else number_at_place rep reps numbers
+
+-- the number of the session with the owner of a reference in which an item with it was sent
+abbrev pub owner_session : WireRep → SentItem → ℕ
+owner_session rep sent_item = number_at_place rep (counted_in sent_item.item) sent_item.owners
+
 -- whether what was sent has pins here: it carries counted references, it was sent in the present session, its Settle wasn't acted on, and the session hasn't closed here
 abbrev pub is_pinned : List Deed → SentItem → Bool
 is_pinned D sent_item = is_some_of (counted_in sent_item.item) && is_of_present D sent_item && not (is_settled sent_item.to sent_item.number D) && not (closed sent_item.to D)

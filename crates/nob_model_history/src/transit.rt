@@ -169,6 +169,33 @@ pub fn is_settled(
     }
 }
 
+// The number that stands at the place of a reference.
+fn number_at_place(rep: &WireRep, reps: &[WireRep], numbers: &[u32]) -> u32
+    ensures { result ≡ words.number_at_place rep.now reps.now numbers.now }
+{
+    match reps {
+        [] => 0,
+        [other, others @ ..] => match numbers {
+            [] => 0,
+            [number, rest @ ..] => {
+                if *rep == *other {
+                    return *number;
+                }
+                number_at_place(rep, others, rest)
+            }
+        },
+    }
+}
+
+/// The number of the session with the owner of a reference in which an item with it was sent, 0
+/// where it doesn't carry the reference.
+pub fn owner_session(alloc: Global, rep: &WireRep, sent_item: &SentItem) -> Result<u32, AllocError>
+    ensures { IfOk result (λ number. number ≡ words.owner_session rep.now sent_item.now) }
+{
+    let reps = nob_item::counted_refs(alloc, &sent_item.item)?;
+    Ok(number_at_place(rep, reps.as_slice(), sent_item.owners.as_slice()))
+}
+
 // Whether what was sent has pins.
 fn is_pinned(alloc: Global, deeds: &[Deed], sent_item: &SentItem) -> Result<bool, AllocError>
     ensures { IfOk result (λ answer. answer ≡ words.is_pinned deeds.now sent_item.now) }

@@ -26,7 +26,7 @@ use Rattle.nob_model_work.specs.Gifts.{once, dirty_for, dirties_for, answer_to, 
 use Rattle.nob_model.proofs.Accepted.{found_passes}
 use Rattle.nob_model.proofs.Carrying.{AllOutstanding, all_filter, all_found}
 use Rattle.nob_model_journal.specs.Losses.{is_carried, sources}
-use Rattle.nob_model_invariant.proofs.Lists.{all_map}
+use Rattle.nob_model_holdings.proofs.Lists.{all_map}
 use Rattle.nob_model_invariant.specs.FirstSpaces.{IsOfFirst, SpeaksOfFirst, AmongFirst}
 use Rattle.nob_model_invariant.proofs.AlikeLists.{filter_alike}
 use Rattle.nob_model_invariant.proofs.AlikeReading.{IsMessageOfFirst, peer_alike, wants_alike, turns_alike, lost_message_alike, hand_first, work_alike}

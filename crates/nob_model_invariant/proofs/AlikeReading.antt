@@ -24,8 +24,8 @@ use Rattle.nob_model_work.specs.declared.work.Run.{Run}
 use Rattle.nob_model_work.specs.Work.{after_message, after_act, lost_reply, without_waiting, after_settlement, after_settle, work_after, run_after, with_loans, work}
 use Rattle.nob_model_history.proofs.Turning.{same_ref}
 use Rattle.nob_model.proofs.Carrying.{AllOutstanding, all_found}
-use Rattle.nob_model_invariant.proofs.Lists.{all_map}
-use Rattle.nob_model_invariant.proofs.Hands.{New, outstanding_more}
+use Rattle.nob_model_holdings.proofs.Lists.{all_map}
+use Rattle.nob_model_holdings.proofs.Hands.{New, outstanding_more}
 use Rattle.nob_model_invariant.specs.FirstSpaces.{IsOfFirst, SpeaksOfFirst, AmongFirst}
 use Rattle.nob_model_invariant.proofs.AlikeLists.{map_same, map_alike, any_alike}
 

@@ -25,7 +25,7 @@ use Rattle.nob_model.proofs.Calling.{calls_law}
 use Rattle.nob_model_journal.specs.Journals.{deeds_at, history_at, transmitted_frames}
 use Rattle.nob_model_journal.specs.Runs.{WorldRun}
 use Rattle.nob_model_invariant.specs.SafetyInvariant.{IsCarried}
-use Rattle.nob_model_invariant.proofs.Lists.{all_append, place_in_whole}
+use Rattle.nob_model_holdings.proofs.Lists.{all_append, place_in_whole}
 use Rattle.nob_model_invariant.proofs.Entries.{right_deeds_at}
 use Rattle.nob_model_invariant.proofs.Frames.{given_there}
 

@@ -29,7 +29,7 @@ use Rattle.nob_model.proofs.Premises.{took_turns}
 use Rattle.nob_model.proofs.Waiting.{settled_message, act_number, all_weaker}
 use Rattle.nob_model_journal.specs.Losses.{is_carried, sources}
 use Rattle.nob_model_invariant.proofs.Clients.{asks_peer}
-use Rattle.nob_model_invariant.proofs.Lists.{all_both, place_in_whole, some_same}
+use Rattle.nob_model_holdings.proofs.Lists.{all_both, place_in_whole, some_same}
 use Rattle.nob_model_invariant.proofs.Settling.{waits_more}
 use Rattle.nob_model_invariant.specs.Copies.{copies}
 use Rattle.nob_model_invariant.proofs.Denied.{carried_some}

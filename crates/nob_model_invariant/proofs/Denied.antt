@@ -30,8 +30,8 @@ use Rattle.nob_model.proofs.Carrying.{all_filter}
 use Rattle.nob_model.proofs.Guarding.{GuardsItem, IsGuarded, AreGuarded, gifts_guarded, pinned_law}
 use Rattle.nob_model.proofs.Waiting.{act_open, all_weaker}
 use Rattle.nob_model_invariant.specs.Asking.{answer_in, answers_among, asks_among, items_among, has_no, dirties_in}
-use Rattle.nob_model_invariant.proofs.Holdings.{pins_stand}
-use Rattle.nob_model_invariant.proofs.Lists.{all_append}
+use Rattle.nob_model_holdings.proofs.Holdings.{pins_stand}
+use Rattle.nob_model_holdings.proofs.Lists.{all_append}
 use Rattle.nob_model_invariant.proofs.Owners.{gave_of, asked_of, are_answered}
 
 -- what went to client c with a reference to the object of an index is settled

@@ -40,9 +40,10 @@ use Rattle.nob_model_invariant.specs.Settles.{settle_in, settles_among, is_in}
 use Rattle.nob_model_invariant.specs.Typed.{AreOfTypes}
 use Rattle.nob_model_invariant.proofs.Bundles.{up_to_at, settled_in}
 use Rattle.nob_model_invariant.proofs.Entries.{grows, grows_own, right_deeds_at}
-use Rattle.nob_model_invariant.proofs.Holdings.{pins_stand}
+use Rattle.nob_model_holdings.proofs.Holdings.{pins_stand}
 use Rattle.nob_model_invariant.proofs.Listings.{items_begin, answers_begin, listings}
-use Rattle.nob_model_invariant.proofs.Lists.{all_at, all_both, all_map, all_pass, numbered_at, place_before, place_in_whole, some_same}
+use Rattle.nob_model_holdings.proofs.Lists.{all_at, all_both, all_map, all_pass, place_before, place_in_whole, some_same}
+use Rattle.nob_model_invariant.proofs.Numbered.{numbered_at}
 use Rattle.nob_model_invariant.proofs.Bundles.{numbered_item}
 use Rattle.nob_model_invariant.proofs.Order.{acts_on_next, all_fit, in_order}
 use Rattle.nob_model_invariant.proofs.SafetyPoints.{clients, owners, holdings, living, settlements}

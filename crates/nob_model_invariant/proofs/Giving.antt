@@ -37,9 +37,9 @@ use Rattle.nob_model.proofs.Doing.{was_answered}
 use Rattle.nob_model.proofs.Accepted.{found_passes, call_tells, finish_tells, clean_tells}
 use Rattle.nob_model.proofs.Carrying.{AllOutstanding, all_filter, all_found}
 use Rattle.nob_model_invariant.specs.Typed.{HandsTyped}
-use Rattle.nob_model_invariant.proofs.Lists.{all_append}
-use Rattle.nob_model_invariant.proofs.Typing.{HasIndex, counted_index, sendable_fits}
-use Rattle.nob_model_invariant.proofs.Hands.{New, outstanding_more}
+use Rattle.nob_model_holdings.proofs.Lists.{all_append}
+use Rattle.nob_model_holdings.proofs.Typing.{HasIndex, counted_index, sendable_fits}
+use Rattle.nob_model_holdings.proofs.Hands.{New, outstanding_more}
 
 -- ---- what fits
 

@@ -47,12 +47,12 @@ use Rattle.nob_model_journal.specs.Runs.{WorldRun}
 use Rattle.nob_model_journal.specs.Fronts.{with_numbers, ActsInOrder}
 use Rattle.nob_model_invariant.specs.Typed.{AreOfTypes}
 use Rattle.nob_model_invariant.specs.Asking.{ask_in, asks_among, items_among, dirties_in, last_or, turns_by, asked, heard, was_asked, gave}
-use Rattle.nob_model_invariant.proofs.Lists.{all_map, all_both, all_pass, place_in_whole, some_same}
-use Rattle.nob_model_invariant.proofs.Typing.{next_none, refs_held}
+use Rattle.nob_model_holdings.proofs.Lists.{all_map, all_both, all_pass, place_in_whole, some_same}
+use Rattle.nob_model_holdings.proofs.Typing.{next_none, refs_held}
 use Rattle.nob_model_invariant.proofs.Entries.{grows, right_deeds_at}
 use Rattle.nob_model_invariant.proofs.Order.{IsNextOf, acts_on_next, all_fit, in_order}
-use Rattle.nob_model_invariant.proofs.Granted.{is_owned, held_owned}
-use Rattle.nob_model_invariant.proofs.Holdings.{holds_owned}
+use Rattle.nob_model_holdings.proofs.Granted.{is_owned, held_owned}
+use Rattle.nob_model_holdings.proofs.Holdings.{holds_owned}
 use Rattle.nob_model_invariant.proofs.Listings.{items_split, items_begin, answers_begin, dirties_append, granted_entered}
 use Rattle.nob_model_invariant.proofs.SafetyPoints.{clients, owners}
 use Rattle.nob_model_invariant.specs.Underway.{under_way, calls_object, needs_object, unless_asked, AreGuarded}

@@ -44,7 +44,8 @@ use Rattle.nob_model_journal.specs.Safety.{can_use}
 use Rattle.nob_model_invariant.specs.Asking.{answers_among, asks_among, items_among, dirties_in, last_or, last_word, turns_by, asked, heard, was_asked, gave}
 use Rattle.nob_model_invariant.specs.Settles.{settle_in, settles_among, is_in}
 use Rattle.nob_model_invariant.proofs.Entries.{grows, right_deeds_at}
-use Rattle.nob_model_invariant.proofs.Lists.{all_at, all_both, numbered_at}
+use Rattle.nob_model_holdings.proofs.Lists.{all_at, all_both}
+use Rattle.nob_model_invariant.proofs.Numbered.{numbered_at}
 use Rattle.nob_model_invariant.proofs.SafetyPoints.{clients, owners}
 use Rattle.nob_model_invariant.specs.Copies.{carries_any, is_waiting}
 use Rattle.nob_model_invariant.specs.LossInvariant.{is_known}

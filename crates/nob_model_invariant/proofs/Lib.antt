@@ -17,10 +17,8 @@ pub mod Excused
 pub mod Points
 pub mod Placed
 pub mod Leaking
-pub mod Lists
+pub mod Numbered
 pub mod Reading
-pub mod Typing
-pub mod Hands
 pub mod Giving
 pub mod Entries
 pub mod Frames
@@ -33,10 +31,7 @@ pub mod Carried
 pub mod Order
 pub mod Open
 pub mod Fronts
-pub mod Holding
 pub mod Naming
-pub mod Granted
-pub mod Holdings
 pub mod SafetyPoints
 pub mod Listings
 pub mod Withdrawing

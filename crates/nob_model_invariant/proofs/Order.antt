@@ -43,7 +43,8 @@ use Rattle.nob_model_journal.specs.Runs.{WorldRun}
 use Rattle.nob_model_journal.specs.Fronts.{with_numbers, ActsInOrder}
 use Rattle.nob_model_invariant.specs.Typed.{AreOfTypes}
 use Rattle.nob_model_invariant.specs.SafetyInvariant.{Sessions}
-use Rattle.nob_model_invariant.proofs.Lists.{all_map, all_at, some_same, place_before, begins_longer, begins_further, numbered-append, numbered_at}
+use Rattle.nob_model_holdings.proofs.Lists.{all_map, all_at, some_same, place_before, begins_longer, begins_further}
+use Rattle.nob_model_invariant.proofs.Numbered.{numbered-append, numbered_at}
 use Rattle.nob_model_invariant.proofs.Reading.{payload_back}
 use Rattle.nob_model_invariant.proofs.Giving.{SentFits, ActsOnWhole, AllFit, fits_more, fits_none}
 use Rattle.nob_model_invariant.proofs.Entries.{grows, right_deeds_at}

@@ -25,7 +25,7 @@ use Rattle.nob_model.proofs.Carrying.{all_push}
 use Rattle.nob_model.proofs.Waiting.{all_weaker}
 use Rattle.nob_model_invariant.specs.Asking.{ask_in, asks_among, last_or}
 use Rattle.nob_model_invariant.proofs.Asked.{asks_of}
-use Rattle.nob_model_invariant.proofs.Lists.{all_append, all_pass, place_in_whole}
+use Rattle.nob_model_holdings.proofs.Lists.{all_append, all_pass, place_in_whole}
 
 -- ---- numbers and places
 

@@ -23,7 +23,8 @@ use Rattle.nob_model_journal.specs.Fronts.{ActsInOrder}
 use Rattle.nob_model_invariant.specs.Typed.{AreOfTypes}
 use Rattle.nob_model_invariant.specs.Asking.{answer_in, answers_among, items_among, dirties_in, last_or, turns_by, AskedInTurn, asked, heard, was_asked, gave}
 use Rattle.nob_model_invariant.specs.Naming.{NamesExported}
-use Rattle.nob_model_invariant.proofs.Lists.{all_at, next_of_rest, numbered_at}
+use Rattle.nob_model_holdings.proofs.Lists.{all_at, next_of_rest}
+use Rattle.nob_model_invariant.proofs.Numbered.{numbered_at}
 use Rattle.nob_model_invariant.proofs.Entries.{right_deeds_at}
 use Rattle.nob_model_invariant.proofs.Order.{in_order}
 use Rattle.nob_model_invariant.proofs.Naming.{names}

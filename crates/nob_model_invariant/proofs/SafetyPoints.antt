@@ -17,8 +17,8 @@ use Rattle.nob_model_invariant.specs.SafetyLaws.{ClientsLaw, OwnersLaw, Holdings
 use Rattle.nob_model_invariant.proofs.Entries.{right_deeds_at}
 use Rattle.nob_model_invariant.proofs.Clients.{are_turned}
 use Rattle.nob_model_invariant.proofs.Owners.{are_answered}
-use Rattle.nob_model_invariant.proofs.Granted.{held_owned}
-use Rattle.nob_model_invariant.proofs.Holdings.{holds_owned, pinned_owned}
+use Rattle.nob_model_holdings.proofs.Granted.{held_owned}
+use Rattle.nob_model_holdings.proofs.Holdings.{holds_owned, pinned_owned}
 
 pub clients : ClientsLaw
 clients n limits J run = record {

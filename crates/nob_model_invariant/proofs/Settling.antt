@@ -35,7 +35,7 @@ use Rattle.nob_model_history.proofs.Numbered.{items_sent_to, gifts_sent_to}
 use Rattle.nob_model.proofs.Waiting.{AreApart, IsOpenIn, are_waiting, settled_message, act_number, all_weaker}
 use Rattle.nob_model.specs.Lists.{IsRightDeed, AreRightDeeds}
 use Rattle.nob_model_history.proofs.Inbox.{takes_no_fewer}
-use Rattle.nob_model_invariant.proofs.Lists.{all_both}
+use Rattle.nob_model_holdings.proofs.Lists.{all_both}
 use Rattle.nob_model_invariant.specs.Settles.{settle_in, is_in, AreOnce}
 use Rattle.nob_model_invariant.proofs.Owners.{any_push}
 

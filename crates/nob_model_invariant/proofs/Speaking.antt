@@ -25,7 +25,7 @@ use Rattle.nob_model_journal.specs.Journals.{deeds_at, history_at, sent_to, acte
 use Rattle.nob_model_journal.specs.Runs.{WorldRun}
 use Rattle.nob_model_invariant.specs.Typed.{AreOfTypes}
 use Rattle.nob_model_invariant.specs.Naming.{object_of, WasExported, NamesExported}
-use Rattle.nob_model_invariant.proofs.Lists.{all_at, all_split, some_same}
+use Rattle.nob_model_holdings.proofs.Lists.{all_at, all_split, some_same}
 use Rattle.nob_model_invariant.proofs.Entries.{grows, right_deeds_at}
 use Rattle.nob_model_invariant.proofs.Clients.{asks_peer}
 use Rattle.nob_model_invariant.proofs.Order.{acts_on_next, all_fit}

@@ -19,7 +19,7 @@ use Rattle.nob_model_journal.specs.Runs.{WorldRun}
 use Rattle.nob_model_invariant.specs.Typed.{AreOfTypes}
 use Rattle.nob_model_invariant.specs.Asking.{items_among}
 use Rattle.nob_model_invariant.specs.Settles.{settles_among, settle_in, AreOnce, IsCarrying}
-use Rattle.nob_model_invariant.proofs.Lists.{all_at, all_pass, all_split, place_before, place_in_whole, some_same}
+use Rattle.nob_model_holdings.proofs.Lists.{all_at, all_pass, all_split, place_before, place_in_whole, some_same}
 use Rattle.nob_model_invariant.proofs.Listings.{items_split}
 use Rattle.nob_model_invariant.proofs.Order.{in_order}
 use Rattle.nob_model_invariant.proofs.Places.{IsNext, rest_next}

@@ -27,7 +27,7 @@ use Rattle.nob_model_journal.specs.Safety.{reaches_owner, can_use, is_in_transit
 use Rattle.nob_model_invariant.specs.Typed.{AreOfTypes}
 use Rattle.nob_model_invariant.specs.SafetyLaws.{SafeWithdrawLaw}
 use Rattle.nob_model_invariant.proofs.Entries.{grows_own, right_deeds_at}
-use Rattle.nob_model_invariant.proofs.Holdings.{pins_stand}
+use Rattle.nob_model_holdings.proofs.Holdings.{pins_stand}
 use Rattle.nob_model_invariant.proofs.Listings.{listings}
 use Rattle.nob_model_invariant.proofs.SafetyPoints.{holdings}
 

@@ -23,7 +23,7 @@ use Rattle.nob_model_acting.specs.Sending.{◌or_else◌, refuse_if, is_gone, re
 use Rattle.nob_model_history.specs.Holds.{is_held}
 use Rattle.std.proofs.lemmas.Bool.{not-false}
 use Rattle.nob_model.proofs.Carrying.{all_filter}
-use Rattle.nob_model_invariant.proofs.Lists.{all_append}
+use Rattle.nob_model_holdings.proofs.Lists.{all_append}
 
 -- ---- references
 

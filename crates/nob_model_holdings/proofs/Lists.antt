@@ -1,9 +1,7 @@
 -- Lists: what holds of all elements, elements at a place, and beginnings.
 use Rattle.std.proofs.Common.{◌≡◌, Bool, true, false, cond, filter, ℕ, zero, suc, ◌+◌, List, [], ◌∷◌, ◌++◌, length, map, Some, None, refl, sym, ap, subst, ◌∙◌, append_assoc, arith}
 use Rattle.std.specs.List.{AllByRecursion, slice_get}
-use Rattle.nob_item.specs.declared.item.Item.{Item}
 use Rattle.nob_model_session.specs.Pair.{IsBeginning}
-use Rattle.nob_model_journal.specs.Fronts.{with_numbers}
 
 -- ---- all elements
 
@@ -94,16 +92,3 @@ pub begins_further : {X : Type 0} (xs whole : List X) (x : X) → IsBeginning xs
 begins_further xs whole x begins at =
     let next = next_of_rest xs begins.0 x (subst (λ ys. slice_get ys (length xs) ≡ Some x) (sym begins.1) at) in
     (next.0, append_assoc xs (x ∷ []) next.0 ∙ ap (λ ys. xs ++ ys) (sym next.1) ∙ begins.1)
-
--- ---- numbered items
-
--- items with their numbers, in two parts
-pub numbered-append : (k : ℕ) (xs ys : List Item) → with_numbers k (xs ++ ys) ≡ with_numbers k xs ++ with_numbers (k + length xs) ys
-numbered-append k [] ys = ap (λ (m : ℕ). with_numbers m ys) (omega arith)
-numbered-append k (x ∷ xs) ys = ap (λ zs. (k, Some x) ∷ zs) (numbered-append (k + 1) xs ys ∙ ap (λ (m : ℕ). with_numbers (k + 1) xs ++ with_numbers m ys) (omega arith))
-
--- the item at a place, with its number
-pub numbered_at : (k : ℕ) (xs : List Item) (place : ℕ) (x : Item) → slice_get xs place ≡ Some x → slice_get (with_numbers k xs) place ≡ Some (k + place, Some x)
-numbered_at k [] place x at = absurd (none_some x at)
-numbered_at k (y ∷ xs) zero x at = ap (λ item. Some (k, Some item)) (some_same y x at) ∙ ap (λ (m : ℕ). Some (m, Some x)) (omega arith)
-numbered_at k (y ∷ xs) (suc place) x at = numbered_at (k + 1) xs place x at ∙ ap (λ (m : ℕ). Some (m, Some x)) (omega arith)

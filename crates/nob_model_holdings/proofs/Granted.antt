@@ -34,9 +34,9 @@ use Rattle.nob_model.proofs.Accepted.{found_passes, clean_tells}
 use Rattle.nob_model.proofs.Orderly.{holds_law}
 use Rattle.nob_model.proofs.Carrying.{AllOutstanding}
 use Rattle.nob_model.proofs.Waiting.{all_weaker}
-use Rattle.nob_model_invariant.proofs.Lists.{all_append, all_split}
-use Rattle.nob_model_invariant.proofs.Hands.{hand_weaker}
-use Rattle.nob_model_invariant.proofs.Holding.{times_some}
+use Rattle.nob_model_holdings.proofs.Lists.{all_append, all_split}
+use Rattle.nob_model_holdings.proofs.Hands.{hand_weaker}
+use Rattle.nob_model_holdings.proofs.Holding.{times_some}
 
 -- whether a reference is own or granted
 abbrev pub is_owned : (s n : ℕ) → WireRep → List Deed → Bool

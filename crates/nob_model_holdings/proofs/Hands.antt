@@ -15,7 +15,7 @@ use Rattle.nob_model_work.specs.declared.work.OwnCall.{OwnCall}
 use Rattle.nob_model_work.specs.declared.work.Run.{Run}
 use Rattle.nob_model_work.specs.Work.{wait, make_ready, make_reply, with_calls, call_after_reply, work, work_after, with_loans, run_after, is_none_of, lost_reply, is_run, is_not_reply, after_message, after_act, after_settlement, after_settle, after_claim, after_finish, after_take, after_end, after_call, after_close, without_waiting}
 use Rattle.nob_model.proofs.Waiting.{all_weaker}
-use Rattle.nob_model_invariant.proofs.Lists.{all_both}
+use Rattle.nob_model_holdings.proofs.Lists.{all_both}
 use Rattle.nob_model.proofs.Carrying.{AllOutstanding, all_push, all_filter, all_without, all_found, all_mapped}
 
 -- what follows from what holds of all that is outstanding holds of all that is outstanding

@@ -46,11 +46,11 @@ use Rattle.nob_model.proofs.Premises.{took_turns, objects_in_turn}
 use Rattle.nob_model.proofs.Orderly.{holds_law}
 use Rattle.nob_model.proofs.Lending.{IsAllLent, all_lent}
 use Rattle.nob_model.proofs.Carrying.{AllOutstanding, Carries, all_carry, all_filter, all_found}
-use Rattle.nob_model_invariant.proofs.Lists.{all_append, all_split, all_both, all_pass, all_unfilter}
-use Rattle.nob_model_invariant.proofs.Typing.{next_none, refs_held}
-use Rattle.nob_model_invariant.proofs.Hands.{New, outstanding_more, hand_both}
-use Rattle.nob_model_invariant.proofs.Holding.{OfCounted, times_some}
-use Rattle.nob_model_invariant.proofs.Granted.{is_owned, owned_stays, held_kept, pinned_kept, all_stand, all_apart, all_joined, hand_apart, copies_apart, LendsOwned, HoldsOwned, held_owned}
+use Rattle.nob_model_holdings.proofs.Lists.{all_append, all_split, all_both, all_pass, all_unfilter}
+use Rattle.nob_model_holdings.proofs.Typing.{next_none, refs_held}
+use Rattle.nob_model_holdings.proofs.Hands.{New, outstanding_more, hand_both}
+use Rattle.nob_model_holdings.proofs.Holding.{OfCounted, times_some}
+use Rattle.nob_model_holdings.proofs.Granted.{is_owned, owned_stays, held_kept, pinned_kept, all_stand, all_apart, all_joined, hand_apart, copies_apart, LendsOwned, HoldsOwned, held_owned}
 
 -- ---- what is held at all
 

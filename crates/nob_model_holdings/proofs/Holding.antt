@@ -17,7 +17,7 @@ use Rattle.nob_model_history.specs.Histories.{history_of}
 use Rattle.nob_model_history.specs.Holds.{times, gains, releases, is_lent, copies_lent, target_lent, loans_of, lent_in, is_held}
 use Rattle.nob_model_history.proofs.Turning.{same_ref}
 use Rattle.nob_model.proofs.Carrying.{AllOutstanding, Carries, all_carry}
-use Rattle.nob_model_invariant.proofs.Lists.{all_append}
+use Rattle.nob_model_holdings.proofs.Lists.{all_append}
 
 -- something holds of each counted reference
 abbrev pub OfCounted : (WireRep → Type 0) → WireRep → Type 0
