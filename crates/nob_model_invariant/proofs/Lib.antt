@@ -21,6 +21,8 @@ pub mod Numbered
 pub mod Reading
 pub mod Giving
 pub mod Entries
+pub mod OneSession
+pub mod BySession
 pub mod Frames
 pub mod Pairs
 pub mod Bools
