@@ -159,7 +159,7 @@ number_positive (call ∷ calls) rises = let before = number_positive calls rise
 
 opened_one : (m k : ℕ) (frame : Frame) (calls : List EndEntry) → Rises calls → number calls < k → k ≡ m → frame.session ≡ m → IsCarried (up_to m calls) frame → ⊥
 opened_one m k frame calls rises above same session carried =
-    let first : frame.session ≡ 1 = subst (λ before. IsCarried before frame) (none_above m calls rises (subst (λ (j : ℕ). number calls < j) same above)) carried .is_of_session in
+    let first : frame.session ≡ 1 = (subst (λ before. IsCarried before frame) (none_above m calls rises (subst (λ (j : ℕ). number calls < j) same above)) carried).is_of_session in
     let low = number_positive calls rises in
     omega (arith, above, low, first, same, session)
 
