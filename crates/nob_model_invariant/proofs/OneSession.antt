@@ -1,6 +1,6 @@
 -- Two spaces are in one session with each other: no event opens one anew yet. What is proved of two spaces by this file alone
 -- is to be looked at again once one does.
-use Rattle.std.proofs.Common.{◌≡◌, ℕ, true, List, sym, ap, ◌∙◌}
+use Rattle.std.proofs.Common.{◌≡◌, ℕ, true, List, ◌∷◌, sym, ap, ◌∙◌}
 use Rattle.std.proofs.lemmas.Bool.{eq-eqb}
 use Rattle.nob_model_session.proofs.Sessions.{up_to_present}
 use Rattle.nob_model_types.specs.declared.entry.Entry.{Entry}
@@ -23,3 +23,7 @@ sent_alike n a b J = ap (λ (k : ℕ). sent_in n a b k J) (numbers_alike a b J)
 -- the calls of a's end up to those of b's session are all of them
 pub calls_alike : (n a b : ℕ) (J : List Entry) → calls_in n a b (number_at b a J) J ≡ calls_at b (history_at a n J)
 calls_alike n a b J = up_to_present (number_at b a J) (calls_at b (history_at a n J)) (number_is a n b (deeds_at a J) ∙ numbers_alike a b J)
+
+-- an entry leaves each space in its session
+pub number_kept : (a b : ℕ) (entry : Entry) (J : List Entry) → number_at a b (entry ∷ J) ≡ number_at a b J
+number_kept a b entry J = number_first b (deeds_at a (entry ∷ J)) ∙ sym (number_first b (deeds_at a J))
