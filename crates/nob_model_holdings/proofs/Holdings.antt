@@ -33,9 +33,9 @@ use Rattle.nob_model_work.specs.Gifts.{dirty_for, dirties_for, answer_to, gifts_
 use Rattle.nob_model_history.specs.declared.transit.SentItem.{SentItem}
 use Rattle.nob_model_history.specs.Histories.{history_of}
 use Rattle.nob_model_history.specs.Holds.{times, gains, releases, hand, loans_of, target_lent, copies_lent, lent_in, holds, is_held}
-use Rattle.nob_model_history.specs.Transit.{sent, is_settled, is_pinned, bundles, pinned, pins}
+use Rattle.nob_model_history.specs.Transit.{next_sent, sent, is_settled, is_pinned, bundles, pinned, pins}
 use Rattle.nob_model_history.specs.Premises.{TookTurns}
-use Rattle.nob_model_history.proofs.Sending.{new_items, next_item, sent_more}
+use Rattle.nob_model_history.proofs.Sending.{new_items, sent_more}
 use Rattle.nob_model_history.proofs.Turning.{same_ref}
 use Rattle.nob_model_acting.specs.Sending.{refs_refused, is_faulty, value_refused}
 use Rattle.nob_model.specs.Right.{right_after}
@@ -317,9 +317,9 @@ gifts_carry s n limits (did.Settle p k) D right all = settle_carries s n (did.Se
 gifts_carry s n limits (did.Clean rep) D right all = clean_carries s n (did.Clean rep ∷ D) rep (turns s n rep D).asks
 gifts_carry s n limits deed D right all = tt
 
-new_pins : (s n : ℕ) (D : List Deed) (more : List Gift) (before : List SentItem) → AllByRecursion (CarriesOwned s n D) more → AllByRecursion (PinsOwned s n D) (new_items before more)
-new_pins s n D [] before all = tt
-new_pins s n D (gift ∷ more) before all = (λ is. all.0, new_pins s n D more (before ++ next_item before gift ∷ []) all.1)
+new_pins : (s n : ℕ) (D older : List Deed) (more : List Gift) (before : List SentItem) → AllByRecursion (CarriesOwned s n D) more → AllByRecursion (PinsOwned s n D) (new_items older before more)
+new_pins s n D older [] before all = tt
+new_pins s n D older (gift ∷ more) before all = (λ is. all.0, new_pins s n D older more (before ++ next_sent older before gift ∷ []) all.1)
 
 -- in every list of right deeds what has pins of what was sent is own or granted
 pub pins_owned : (s n : ℕ) (limits : Limits) (D : List Deed) → AreRightDeeds s n limits D → AllByRecursion (PinsOwned s n D) (sent (history_of s n D))
@@ -328,7 +328,7 @@ pins_owned s n limits [] right = tt
 pins_owned s n limits (deed ∷ D) right =
     subst (AllByRecursion (PinsOwned s n (deed ∷ D))) (sym (sent_more s n deed D))
     (all_append (PinsOwned s n (deed ∷ D)) (sent (history_of s n D)) _ (pins_still s n limits deed D right (pins_owned s n limits D right.1))
-    (new_pins s n (deed ∷ D) (gifts s n deed D (work s n D)) (sent (history_of s n D)) (all_filter (CarriesOwned s n (deed ∷ D)) (λ (gift : Gift). is_peer s n gift.to) (gifts_of s n deed D (work s n D)) (gifts_carry s n limits deed D right (holds_owned s n limits D right.1)))))
+    (new_pins s n (deed ∷ D) D (gifts s n deed D (work s n D)) (sent (history_of s n D)) (all_filter (CarriesOwned s n (deed ∷ D)) (λ (gift : Gift). is_peer s n gift.to) (gifts_of s n deed D (work s n D)) (gifts_carry s n limits deed D right (holds_owned s n limits D right.1)))))
 
 filtered : {X : Type 0} (P : X → Type 0) (test : X → Bool) (xs : List X) → AllByRecursion (λ x. test x ≡ true → P x) xs → AllByRecursion P (filter test xs)
 filtered P test [] all = tt

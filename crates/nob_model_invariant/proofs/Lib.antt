@@ -45,6 +45,7 @@ pub mod Settling
 pub mod Alive
 pub mod Settled
 pub mod Bundles
+pub mod Sent
 pub mod Unsettled
 pub mod AlikeLists
 pub mod AlikeReading
