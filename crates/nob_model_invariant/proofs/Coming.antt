@@ -42,7 +42,7 @@ message_present D m (items.DirtyNo index) W is all = all
 message_present D m (items.Clean index) W is all = all
 
 act_present : (s n p k : ℕ) (D : List Deed) (found : Option Item) (W : Outstanding) → AreOfPresent D W.waiting → AreOfPresent D (after_act s n p k D found W).waiting
-unfolding after_act new_message
+unfolding after_act
 act_present s n p k D None W all = all
 act_present s n p k D (Some item) W all = message_present D (new_message s n p k item (did.Act p k ∷ D)) item W refl all
 

@@ -23,10 +23,11 @@ use Rattle.nob_model_history.specs.Histories.{history_of}
 use Rattle.nob_model_history.specs.Holds.{is_held}
 use Rattle.nob_model_history.specs.Transit.{sent}
 use Rattle.nob_model.specs.Right.{own_ref}
-use Rattle.nob_model_journal.specs.Journals.{deeds_at, sent_in, acted_during, acted_in}
+use Rattle.nob_model_journal.specs.Journals.{deeds_at, sent_in, acted_in, acted_during}
 use Rattle.nob_model_journal.specs.Fronts.{Fronts, ActsInOrder, ActsWhileOpen, SendsWhileOpen, with_numbers}
 use Rattle.nob_model_journal.specs.Safety.{can_use, has_open_copy, is_open_copy, reaches_owner, NoneNeeds, WithdrawsUnneeded, SafeWithdraw}
 use Rattle.nob_model_journal.specs.Losses.{is_loss, is_excuse, sources, LosesExcused, NoFalseLoss}
+use Rattle.nob_model_journal.specs.declared.losses.Source.{Source}
 use Rattle.nob_model_journal.specs.Findings.{is_fault_found, Found}
 use Rattle.nob_model_journal.specs.Tests.{spaces_in, sessions_in, same_item, is_front, acts_while_open, sends_while_open, has_fronts, keeps_fronts, needs, is_unneeded, withdraws_safely, reps_at_risk, is_excused, is_lossless, excuses_losses, finds_all}
 use Rattle.nob_model_journal.proofs.Sameness.{item_is, item_self}
@@ -101,8 +102,8 @@ pub record FrontsOf (n : ℕ) (J : List Entry) (b : ℕ) : Type 0 where
   pub acts : ActsWhileOpen (deeds_at b J)
   pub sends : SendsWhileOpen b n (deeds_at b J)
 
--- whether what a space acted on in a session is a front of what was sent to it in it
-abbrev pub is_session_front : (n b : ℕ) → List Entry → ℕ × ℕ → Bool
+-- whether what space b acted on in a session is a front of what was sent to it in it
+abbrev is_session_front : (n b : ℕ) → List Entry → ℕ × ℕ → Bool
 is_session_front n b J session = is_front 1 (acted_in session.0 b session.1 J) (sent_in n session.0 b session.1 J)
 
 in_order : (n a b k : ℕ) (J : List Entry) → list_all (is_session_front n b J) (sessions_in (deeds_at b J)) ≡ true → ActsInOrder n a b k J
@@ -139,7 +140,7 @@ all_fronts n J h b = by (is_in b (spaces_in J)) refl
 pub fronts_decides : (n : ℕ) (J : List Entry) → Decides (keeps_fronts n J) (Fronts n J)
 fronts_decides n J = (
   λ h. record { order = λ a b k. (all_fronts n J h b).order a k; acts = λ s. (all_fronts n J h s).acts; sends = λ s. (all_fronts n J h s).sends },
-  λ f. all_of (has_fronts n J) (spaces_in J) (λ b. and_from _ _ (and_from _ _ (all_of _ (sessions_in (deeds_at b J)) (λ session. is_the_front 1 (acted_in session.0 b session.1 J) (sent_in n session.0 b session.1 J) (f.order session.0 b session.1))) ((acts_decides (deeds_at b J)).1 (f.acts b))) ((sends_decides b n (deeds_at b J)).1 (f.sends b))),
+  λ f. all_of (has_fronts n J) (spaces_in J) (λ b. and_from _ _ (and_from _ _ (all_of (is_session_front n b J) (sessions_in (deeds_at b J)) (λ session. is_the_front 1 (acted_in session.0 b session.1 J) (sent_in n session.0 b session.1 J) (f.order session.0 b session.1))) ((acts_decides (deeds_at b J)).1 (f.acts b))) ((sends_decides b n (deeds_at b J)).1 (f.sends b))),
 )
 
 -- ---- withdrawals
@@ -196,14 +197,14 @@ at_risk s n p rep _ D h = absurd (true≢false (sym h))
 
 -- the sources of a reference that is lost there excuse it
 abbrev pub AreExcuses : (n s p k : ℕ) → List Entry → WireRep → Type 0
-AreExcuses n s p k J rep = AllByRecursion (λ copy. is_excuse n s rep J copy ≡ true) (sources s n rep (Act p k ∷ deeds_at s J))
+AreExcuses n s p k J rep = AllByRecursion (λ (source : Source). is_excuse n s rep J source ≡ true) (sources s n rep (Act p k ∷ deeds_at s J))
 
 -- what a deed loses is excused
 abbrev pub IsLossless : (n s : ℕ) → Option Deed → List Entry → Type 0
 IsLossless n s deed J = (p k : ℕ) (rep : WireRep) → deed ≡ Some (Act p k) → is_loss s n p rep (item_at p k (deeds_at s J)) (deeds_at s J) ≡ true → AreExcuses n s p k J rep
 
 excuses_decides : (n s p k : ℕ) (J : List Entry) (rep : WireRep) → Decides (list_all (is_excuse n s rep J) (sources s n rep (Act p k ∷ deeds_at s J))) (AreExcuses n s p k J rep)
-excuses_decides n s p k J rep = all_decides (is_excuse n s rep J) (λ copy. is_excuse n s rep J copy ≡ true) (λ copy. (λ h. h, λ h. h)) (sources s n rep (Act p k ∷ deeds_at s J))
+excuses_decides n s p k J rep = all_decides (is_excuse n s rep J) (λ (source : Source). is_excuse n s rep J source ≡ true) (λ source. (λ h. h, λ h. h)) (sources s n rep (Act p k ∷ deeds_at s J))
 
 if_lost : (lost all : Bool) → (not lost || all) ≡ true → lost ≡ true → all ≡ true
 if_lost true all h is = h
