@@ -23,6 +23,7 @@ pub mod Giving
 pub mod Entries
 pub mod OneSession
 pub mod BySession
+pub mod Coming
 pub mod Frames
 pub mod Pairs
 pub mod Bools
