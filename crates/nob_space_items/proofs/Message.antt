@@ -288,7 +288,7 @@ module _ {s n : ℕ} {limits : Limits} {st : State} {D : List Deed} (stands : St
 
   same_message : (m : Message) → message_after s n (Act p k ∷ D) m ≡ message_after s n D m
   unfolding message_after
-  same_message m = λ i. record { from = m.from; number = m.number; item = m.item; copies = map (λ copy. same_copy copy i) m.copies }
+  same_message m = λ i. record { from = m.from; session = m.session; number = m.number; item = m.item; copies = map (λ copy. same_copy copy i) m.copies }
 
   same_run : (run : Run) → run_after s n (Act p k ∷ D) run ≡ run_after s n D run
   unfolding run_after

@@ -72,10 +72,10 @@ call_is_job j p k call target method value copies = record {
 -- the job that a message is has its contents
 pub job_is_of : (j : ℕ) (message : Message) (job : Job) → job_of j message.from message.item ≡ Ok (answers.Job job) → IsOf j message job
 unfolding job_of
-job_is_of j message job is = elim message.item as (λ item. job_of j message.from item ≡ Ok (answers.Job job) → IsOf j (record { from = message.from; number = message.number; item = item; copies = message.copies }) job) [
+job_is_of j message job is = elim message.item as (λ item. job_of j message.from item ≡ Ok (answers.Job job) → IsOf j (record { from = message.from; session = message.session; number = message.number; item = item; copies = message.copies }) job) [
   | items.Call call target method value ↦ λ e.
       let same : record { job = j; call = call; target = target; client = message.from; method = method; value = value } ≡ job = cc in
-      subst (IsOf j (record { from = message.from; number = message.number; item = items.Call call target method value; copies = message.copies })) same (call_is_job j message.from message.number call target method value message.copies)
+      subst (IsOf j (record { from = message.from; session = message.session; number = message.number; item = items.Call call target method value; copies = message.copies })) same (call_is_job j message.from message.number call target method value message.copies)
   | items.Reply call status value ↦ λ e. absurd (cc)
   | items.Settle item ↦ λ e. absurd (cc)
   | items.Dirty index ↦ λ e. absurd (cc)
