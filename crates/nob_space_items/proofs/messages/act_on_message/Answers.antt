@@ -71,9 +71,9 @@ receive-requires-clause-can c =
     (subst (λ (reps : List WireRep). message_refusal st reps ≡ None) reps_are c.in_ok-wanted.ensures.free) small new c.grow.ensures.same
     (subst (λ (reps : List WireRep). HaveRoom (length reps) new.sessions reps) given c.in_ok-grow.ensures.sessions)
     (subst (λ (reps : List WireRep). length reps ≤ new.table.surrogate_room) given c.in_ok-grow.ensures.table) in
-    subst (λ (here : Here). CanReceive here.space new (record { from = c.args.peer; session = c.number.result; number = c.args.number; item = c.args.item; copies = c.in_ok-copies.copies }) c.in_ok-dirties.dirties.items) (sym c.grow.ensures.here)
-    (subst (λ (copies : List RefCopy). CanReceive s new (record { from = c.args.peer; session = c.number.result; number = c.args.number; item = c.args.item; copies = copies }) c.in_ok-dirties.dirties.items) (sym c.in_ok-copies.ensures)
-    (subst (λ (session : ℕ). CanReceive s new (record { from = c.args.peer; session = session; number = c.args.number; item = c.args.item; copies = new_copies s n st (counted_in c.args.item) }) c.in_ok-dirties.dirties.items) (sym c.number.ensures)
+    subst (λ (here : Here). CanReceive here.space new (record { from = c.args.peer; session = c.number-session.result; number = c.args.number; item = c.args.item; copies = c.in_ok-copies.copies }) c.in_ok-dirties.dirties.items) (sym c.grow.ensures.here)
+    (subst (λ (copies : List RefCopy). CanReceive s new (record { from = c.args.peer; session = c.number-session.result; number = c.args.number; item = c.args.item; copies = copies }) c.in_ok-dirties.dirties.items) (sym c.in_ok-copies.ensures)
+    (subst (λ (session : ℕ). CanReceive s new (record { from = c.args.peer; session = session; number = c.args.number; item = c.args.item; copies = new_copies s n st (counted_in c.args.item) }) c.in_ok-dirties.dirties.items) (sym c.number-session.ensures)
     (subst (CanReceive s new (message_of s n st c.args.peer c.args.number c.args.item)) (sym dirties_are) can)))
 
 pub receive-requires-clause-new : goal.receive-requires-clause-new
@@ -87,8 +87,8 @@ receive-requires-clause-new c =
     let each = stands.ends.each in
     let small : n < 18446744073709551616 = omega (arith, fits, each) in
     let reps_are : c.in_ok-wanted.wanted ≡ wanted_refs s n st (counted_in c.args.item) = c.in_ok-wanted.ensures.wanted in
-    subst (λ (copies : List RefCopy). IsNew c.grow.new.parts.waiting (record { from = c.args.peer; session = c.number.result; number = c.args.number; item = c.args.item; copies = copies })) (sym c.in_ok-copies.ensures)
-    (subst (λ (session : ℕ). IsNew c.grow.new.parts.waiting (record { from = c.args.peer; session = session; number = c.args.number; item = c.args.item; copies = new_copies s n st (counted_in c.args.item) })) (sym c.number.ensures)
+    subst (λ (copies : List RefCopy). IsNew c.grow.new.parts.waiting (record { from = c.args.peer; session = c.number-session.result; number = c.args.number; item = c.args.item; copies = copies })) (sym c.in_ok-copies.ensures)
+    (subst (λ (session : ℕ). IsNew c.grow.new.parts.waiting (record { from = c.args.peer; session = session; number = c.args.number; item = c.args.item; copies = new_copies s n st (counted_in c.args.item) })) (sym c.number-session.ensures)
     (new_ready stands c.args.peer c.args.number c.args.item (c.requires.front c.requires.state.0 D stands) c.requires.message
     (subst (λ (reps : List WireRep). message_refusal st reps ≡ None) reps_are c.in_ok-wanted.ensures.free) small (state_of c.grow.new.parts) c.grow.ensures.same c.grow.new.parts.waiting refl refl))
 
@@ -112,9 +112,9 @@ returns-clause-stands c limits D stands =
     let dirties_are : c.in_ok-dirties.dirties.items ≡ wanted_refs s n st (counted_in c.args.item) = c.in_ok-dirties.ensures ∙ c.as_slice.ensures ∙ reps_are in
     let receives : Receives s grown new (message_of s n st c.args.peer c.args.number c.args.item) (wanted_refs s n st (counted_in c.args.item)) =
     subst (Receives s grown new (message_of s n st c.args.peer c.args.number c.args.item)) dirties_are
-    (subst (λ (session : ℕ). Receives s grown new (record { from = c.args.peer; session = session; number = c.args.number; item = c.args.item; copies = new_copies s n st (counted_in c.args.item) }) c.in_ok-dirties.dirties.items) c.number.ensures
-    (subst (λ (copies : List RefCopy). Receives s grown new (record { from = c.args.peer; session = c.number.result; number = c.args.number; item = c.args.item; copies = copies }) c.in_ok-dirties.dirties.items) c.in_ok-copies.ensures
-    (subst (λ (here : Here). Receives here.space grown new (record { from = c.args.peer; session = c.number.result; number = c.args.number; item = c.args.item; copies = c.in_ok-copies.copies }) c.in_ok-dirties.dirties.items) c.grow.ensures.here c.receive.ensures.receives))) in
+    (subst (λ (session : ℕ). Receives s grown new (record { from = c.args.peer; session = session; number = c.args.number; item = c.args.item; copies = new_copies s n st (counted_in c.args.item) }) c.in_ok-dirties.dirties.items) c.number-session.ensures
+    (subst (λ (copies : List RefCopy). Receives s grown new (record { from = c.args.peer; session = c.number-session.result; number = c.args.number; item = c.args.item; copies = copies }) c.in_ok-dirties.dirties.items) c.in_ok-copies.ensures
+    (subst (λ (here : Here). Receives here.space grown new (record { from = c.args.peer; session = c.number-session.result; number = c.args.number; item = c.args.item; copies = c.in_ok-copies.copies }) c.in_ok-dirties.dirties.items) c.grow.ensures.here c.receive.ensures.receives))) in
     same_space c.receive.new.parts.here c.args.parts.now.here (c.receive.ensures.here ∙ c.grow.ensures.here) (receives_stand stands c.args.peer c.args.number c.args.item front c.requires.message
     (grown_receives stands c.args.peer c.args.number c.args.item front c.requires.message
     (subst (λ (reps : List WireRep). message_refusal st reps ≡ None) reps_are c.in_ok-wanted.ensures.free) small grown c.grow.ensures.same new receives)
