@@ -1,5 +1,5 @@
 -- Messages that wait came in the present session with their sender: a close of that takes them away.
-use Rattle.std.proofs.Common.{◌≡◌, ℕ, Bool, true, false, cond, List, [], ◌∷◌, ◌++◌, map, filter, find, Option, Some, None, if◌then◌else◌, refl}
+use Rattle.std.proofs.Common.{◌≡◌, ℕ, Bool, true, false, List, [], ◌∷◌, ◌++◌, map, find, Option, Some, None, if◌then◌else◌, refl}
 use Rattle.std.specs.List.{AllByRecursion}
 use Rattle.nob_item.specs.declared.item.Item.{Item}
 use Rattle.nob_item.specs.declared.item.Item.TheVariants as items
@@ -10,7 +10,7 @@ use Rattle.nob_model_types.specs.declared.message.Message.{Message}
 use Rattle.nob_model_types.specs.Sessions.{number, item_at}
 use Rattle.nob_model_types.specs.Messages.{new_message, message_after, is_of, is_not_from, is_job, is_lost_message}
 use Rattle.nob_model_work.specs.declared.work.Outstanding.{Outstanding}
-use Rattle.nob_model_work.specs.Work.{without_first, is_none_of, wait, make_ready, make_reply, with_calls, call_after_reply, lost_reply, is_not_reply, after_message, after_act, after_settlement, without_waiting, after_settle, after_claim, after_finish, after_take, after_end, after_call, after_close, work_after, with_loans, work}
+use Rattle.nob_model_work.specs.Work.{without_first, is_none_of, wait, make_ready, make_reply, with_calls, call_after_reply, is_not_reply, after_message, after_act, after_settlement, without_waiting, after_settle, after_claim, after_finish, after_take, after_end, after_call, after_close, work_after, with_loans, work}
 use Rattle.nob_model.proofs.Carrying.{all_filter}
 use Rattle.nob_model_holdings.proofs.Lists.{all_append}
 

@@ -4,7 +4,7 @@ use Rattle.std.proofs.Common.{◌≡◌, ℕ, zero, suc, ◌+◌, ◌≤◌, ◌
 use Rattle.std.specs.Prelude.{◌==◌, ◌≢◌}
 use Rattle.std.specs.List.{AllByRecursion, list_any, slice_get, cons_option}
 use Rattle.std.proofs.lemmas.Bool.{eqb-true, and_parts}
-use Rattle.std.proofs.lemmas.List.{length-append, length_push, append-nil, drop-append-le}
+use Rattle.std.proofs.lemmas.List.{length-append, length_push, drop-append-le}
 use Rattle.std.proofs.lemmas.List.Elements.{filter_map-append}
 use Rattle.nob_ids.specs.Names.{is_same, is_counted}
 use Rattle.nob_ids.specs.declared.limits.Limits.{Limits}
@@ -42,7 +42,7 @@ use Rattle.nob_model.proofs.Doing.{was_answered}
 use Rattle.nob_model.proofs.Accepted.{call_tells, finish_tells}
 use Rattle.nob_model.proofs.Carrying.{all_filter}
 use Rattle.nob_model.proofs.Waiting.{all_weaker}
-use Rattle.nob_model_journal.specs.Journals.{deeds_at, history_at, number_at, are_in_one, sent_in, sent_to, acted_from}
+use Rattle.nob_model_journal.specs.Journals.{deeds_at, number_at, are_in_one, sent_in, sent_to, acted_from}
 use Rattle.nob_model_journal.specs.Runs.{WorldRun}
 use Rattle.nob_model_journal.specs.Fronts.{with_numbers}
 use Rattle.nob_model_invariant.specs.Typed.{AreOfTypes}

@@ -1,5 +1,5 @@
 -- A Settle that comes next has no fault.
-use Rattle.std.proofs.Common.{◌≡◌, ℕ, zero, suc, ◌-◌, ◌&&◌, Bool, true, false, cond, List, [], ◌∷◌, ◌++◌, filter, Some, None, refl, sym, ap, subst, ◌∙◌}
+use Rattle.std.proofs.Common.{◌≡◌, ℕ, zero, suc, ◌+◌, ◌-◌, ◌&&◌, Bool, true, false, cond, List, [], ◌∷◌, ◌++◌, length, filter, Option, Some, None, refl, sym, ap, subst, ◌∙◌}
 use Rattle.std.specs.Prelude.{◌==◌}
 use Rattle.std.specs.List.{AllByRecursion, slice_get}
 use Rattle.std.proofs.lemmas.Bool.{eq-eqb, and_from, not_from_false, false_from_ne_true}
@@ -20,7 +20,7 @@ use Rattle.nob_model_invariant.specs.Asking.{items_among}
 use Rattle.nob_model_invariant.specs.Settles.{settles_among, settle_in, AreOnce, IsCarrying}
 use Rattle.nob_model_holdings.proofs.Lists.{all_split, place_in_whole, some_same}
 use Rattle.nob_model_invariant.proofs.Listings.{items_split}
-use Rattle.nob_model_invariant.proofs.Order.{in_order_now}
+use Rattle.nob_model_invariant.proofs.Order.{ActsNow, in_order_now}
 use Rattle.nob_model_invariant.proofs.Places.{IsNext, rest_next}
 use Rattle.nob_model_invariant.proofs.OneSession.{numbers_alike, sent_alike}
 use Rattle.nob_model_invariant.proofs.SafetyPoints.{settlements}
@@ -52,19 +52,23 @@ pinned_by : (b k : ℕ) (D : List Deed) (one : SentItem) → one.to ≡ b → on
 pinned_by b k D one to session is some unsettled up =
     and_from _ _ (and_from _ _ (and_from _ _ some (eq-eqb one.session (number one.to D) (session ∙ ap (λ (p : ℕ). number p D) (sym to)))) (not_from_false _ (ap (λ (p : ℕ). is_settled p one.number D) to ∙ ap (λ (j : ℕ). is_settled b j D) is ∙ unsettled))) (not_from_false _ (ap (λ (p : ℕ). closed p D) to ∙ up))
 
+-- what was settled, and what is settled by a Settle that comes next and behind it, is all that b settled in its session
+settles_split : (n a b k : ℕ) (J : List Entry) (begins : ActsNow n b a J) (rest : List (ℕ × Option Item)) → begins.0 ≡ (1 + length (acted_from b a J), Some (items.Settle k)) ∷ rest → settles_among (items_among (acted_from b a J)) ++ k ∷ settles_among (items_among rest) ≡ settles_among (sent_now n b a J)
+settles_split n a b k J begins rest is =
+    let heard : List Item = items_among (acted_from b a J) in
+    let behind : settles_among heard ++ k ∷ settles_among (items_among rest) ≡ settles_among heard ++ settles_among (items_among begins.0) = ap (λ pairs. settles_among heard ++ settles_among (items_among pairs)) (sym is) in
+    let joined : settles_among heard ++ settles_among (items_among begins.0) ≡ settles_among (heard ++ items_among begins.0) = sym (filter_map-append settle_in heard (items_among begins.0)) in
+    let all : settles_among (heard ++ items_among begins.0) ≡ settles_among (sent_now n b a J) = ap settles_among (items_split n b a J begins ∙ sym (sent_alike n b a J)) in
+    behind ∙ joined ∙ all
+
 -- a Settle that comes next on a session that is open here is of a bundle
 pub settle_bundle : (n a b k : ℕ) (limits : ℕ → Limits) (J : List Entry) → WorldRun n limits J → AreOfTypes J → closed_at a b J ≡ false → IsNext n b a (items.Settle k) J → has_bundle b k (history_at a n J) ≡ true
 settle_bundle n a b k limits J run typed up next =
     let begins = in_order_now n limits J run typed b a in
     let rest = rest_next n b a (items.Settle k) J begins next in
-    let heard : List Item = items_among (acted_from b a J) in
-    let ks : List ℕ = settles_among heard in
+    let ks : List ℕ = settles_among (items_among (acted_from b a J)) in
     let more : List ℕ = settles_among (items_among rest.0) in
-    let split : ks ++ k ∷ more ≡ settles_among (sent_now n b a J) =
-    ap (λ pairs. ks ++ settles_among (items_among pairs)) (sym rest.1)
-    ∙ sym (filter_map-append settle_in heard (items_among begins.0))
-    ∙ ap settles_among (items_split n b a J begins)
-    ∙ ap settles_among (sym (sent_alike n b a J)) in
+    let split : ks ++ k ∷ more ≡ settles_among (sent_now n b a J) = settles_split n a b k J begins rest.0 rest.1 in
     let points = settlements n limits J run in
     let once : AreOnce (ks ++ k ∷ more) = subst AreOnce (sym split) (points.once a b) in
     let carry : IsCarrying (acted_from a b J) k = (all_split (IsCarrying (acted_from a b J)) ks (k ∷ more) (subst (AllByRecursion (IsCarrying (acted_from a b J))) (sym split) (points.carried a b))).1.0 in
