@@ -80,22 +80,6 @@ put_places r rep places rows =
     ap found_places (put_at is_same same_ref same_self r rep places rows)
     ∙ places_if (is_same r rep) places (lookup (is_same r) rows)
 
--- what is put in twice is there as it was put in last
-put_twice : {K V : Type 0} (eq : K → K → Bool) → ((a : K) → eq a a ≡ true) → (k : K) (v w : V) (es : List (K × V)) → insert_entry eq (insert_entry eq es k v) k w ≡ insert_entry eq es k w
-put_twice eq own k v w [] = ap (λ (b : Bool). if b then (k, w) ∷ [] else (k, v) ∷ (k, w) ∷ []) (own k)
-put_twice {K} {V} eq own k v w (e ∷ es) = by (put_twice eq own k v w es) (eq k e.0) refl
-  where
-    by : insert_entry eq (insert_entry eq es k v) k w ≡ insert_entry eq es k w → (t : Bool) → eq k e.0 ≡ t → insert_entry eq (insert_entry eq (e ∷ es) k v) k w ≡ insert_entry eq (e ∷ es) k w
-    by rest true here =
-        ap (λ (b : Bool). insert_entry eq (if b then (e.0, v) ∷ es else e ∷ insert_entry eq es k v) k w) here
-        ∙ ap (λ (b : Bool). if b then (e.0, w) ∷ es else (e.0, v) ∷ insert_entry eq es k w) here
-        ∙ sym (ap (λ (b : Bool). if b then (e.0, w) ∷ es else e ∷ insert_entry eq es k w) here)
-    by rest false other =
-        ap (λ (b : Bool). insert_entry eq (if b then (e.0, v) ∷ es else e ∷ insert_entry eq es k v) k w) other
-        ∙ ap (λ (b : Bool). if b then (e.0, w) ∷ insert_entry eq es k v else e ∷ insert_entry eq (insert_entry eq es k v) k w) other
-        ∙ ap (λ (xs : List (K × V)). e ∷ xs) rest
-        ∙ sym (ap (λ (b : Bool). if b then (e.0, w) ∷ es else e ∷ insert_entry eq es k w) other)
-
 -- the places of a reference put in where it had none
 pub place_put : (rep : WireRep) (places : List Place) (rows : List (WireRep × List Place)) → with_places rep places (with_places rep [] rows) ≡ with_places rep places rows
 place_put rep places rows = put_twice is_same same_self rep [] places rows
