@@ -10,7 +10,9 @@ use Rattle.nob_ids.specs.declared.wire_rep.WireRep.{WireRep}
 use Rattle.nob_model_types.specs.Sessions.{number}
 use Rattle.nob_model_types.specs.Turns.{carries}
 use Rattle.nob_model_types.specs.declared.deed.Deed.{Deed}
-use Rattle.nob_model_history.specs.Transit.{is_sent_to, count_to, owner_session}
+use Rattle.nob_item.specs.Kinds.{counted_in}
+use Rattle.nob_model_work.specs.declared.gifts.Gift.{Gift}
+use Rattle.nob_model_history.specs.Transit.{is_sent_to, count_to, owner_session, owner_sessions}
 use Rattle.nob_model_history.specs.declared.transit.SentItem.{SentItem}
 use Rattle.nob_check_index.specs.ActedSessions.{is_same_session}
 use Rattle.nob_check_ledgers.specs.declared.sent.Place.{Place}
@@ -66,6 +68,10 @@ PlaceTest = Place → Bool
 -- where an item was sent, and in which session with the owner of a reference
 abbrev pub place_of : WireRep → SentItem → Place
 place_of rep sent_item = record { to = sent_item.to; session = sent_item.session; number = sent_item.number; with_owner = owner_session rep sent_item }
+
+-- what is sent as a gift under number k after what was done
+abbrev pub item_by : List Deed → Gift → ℕ → SentItem
+item_by D gift k = record { to = gift.to; session = number gift.to D; number = k; item = gift.item; owners = owner_sessions D (counted_in gift.item) }
 
 -- ---- items by their names
 

@@ -4,6 +4,7 @@
 ghost use Rattle.std.specs.Prelude.{◌≡◌, ◌∷◌, ◌++◌, ◌&&◌, [], find, IfOk};
 ghost use Rattle.std.specs.List.{list_any};
 ghost use Rattle.std.specs.Option.{option_map};
+ghost use Rattle.nob_item.specs.Kinds.{counted_in};
 ghost use Rattle.nob_model_types.specs.Turns.{carries};
 ghost use Rattle.nob_model_history.specs.Transit.{count_to as count_word, next_sent as next_word, owner_sessions as owners_word};
 ghost use Rattle.nob_check_ledgers.specs.Sent as words;
@@ -262,6 +263,42 @@ fn owner_sessions(
         .collect(alloc)
 }
 
+// These once each reference of a gift was sent by the item of this number.
+fn with_places(
+    alloc: Global,
+    past: &DeedIndex,
+    gift: &Gift,
+    count: u64,
+    carriers: Carriers,
+) -> Result<Carriers, AllocError>
+    ensures { IfOk result (λ more. more
+        ≡ words.with_all past.now.deeds gift.now.to count (counted_in gift.now.item) carriers) }
+{
+    let reps = nob_item::counted_refs(alloc, &gift.item)?;
+    with_all(alloc, past, gift.to, ItemNo::new(count), reps.as_slice(), carriers)
+}
+
+// What is sent as a gift under this number after what was done.
+fn next_item(
+    alloc: Global,
+    past: &DeedIndex,
+    gift: &Gift,
+    count: u64,
+) -> Result<SentItem, AllocError>
+    ensures { IfOk result (λ next. next ≡ words.item_by past.now.deeds gift.now count) }
+{
+    let reps = nob_item::counted_refs(alloc, &gift.item)?;
+    let owners = owner_sessions(alloc, past, reps.as_slice())?;
+    let item = gift.item.copy()?;
+    Ok(SentItem {
+        to: gift.to,
+        session: past.number(gift.to),
+        number: ItemNo::new(count),
+        item,
+        owners: List::from_vec(owners),
+    })
+}
+
 /// What a space sent, with the numbers, the first first. Contracts see the list.
 pub struct SentItems {
     sent_items: Vec<SentItem>,
@@ -374,30 +411,20 @@ impl SentItems {
             carriers,
             standings,
         } = self;
-        let to = gift.to;
-        let session = past.number(to);
-        let Some(count) = counts.count(to, session).checked_add(1) else {
+        let session = past.number(gift.to);
+        let Some(count) = counts.count(gift.to, session).checked_add(1) else {
             return Err(AllocError);
         };
-        let number = ItemNo::new(count);
-        let reps = nob_item::counted_refs(alloc, &gift.item)?;
-        let carriers = with_all(alloc, past, to, number, reps.as_slice(), carriers)?;
-        let counts = counts.with_count(to, session, count)?;
+        let carriers = with_places(alloc, past, gift, count, carriers)?;
+        let counts = counts.with_count(gift.to, session, count)?;
         let name = ItemName {
-            to,
+            to: gift.to,
             session,
             number: count,
         };
         let standings = standings.with_standing(name, sent_items.len())?;
-        let owners = List::from_vec(owner_sessions(alloc, past, reps.as_slice())?);
-        let item = gift.item.copy()?;
-        sent_items.push(SentItem {
-            to,
-            session,
-            number,
-            item,
-            owners,
-        })?;
+        let item = next_item(alloc, past, gift, count)?;
+        sent_items.push(item)?;
         Ok(SentItems {
             sent_items,
             counts,
