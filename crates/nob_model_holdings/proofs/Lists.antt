@@ -1,5 +1,5 @@
 -- Lists: what holds of all elements, elements at a place, and beginnings.
-use Rattle.std.proofs.Common.{◌≡◌, Bool, true, false, cond, filter, ℕ, zero, suc, ◌+◌, List, [], ◌∷◌, ◌++◌, length, map, Some, None, refl, sym, ap, subst, ◌∙◌, append_assoc, arith}
+use Rattle.std.proofs.Common.{◌≡◌, Bool, true, false, cond, filter, ℕ, zero, suc, List, [], ◌∷◌, ◌++◌, length, map, Some, None, refl, sym, ap, subst, ◌∙◌, append_assoc}
 use Rattle.std.specs.List.{AllByRecursion, slice_get}
 use Rattle.nob_model_session.specs.Pair.{IsBeginning}
 
