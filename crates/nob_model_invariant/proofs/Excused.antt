@@ -32,30 +32,31 @@ use Rattle.nob_model_history.proofs.Turning.{same_ref, named_ref, shapes, after_
 use Rattle.nob_model.specs.Lists.{AreRightDeeds}
 use Rattle.nob_model.proofs.Premises.{took_turns}
 use Rattle.nob_model.proofs.Waiting.{act_open, all_weaker}
-use Rattle.nob_model_journal.specs.Fronts.{with_numbers}
-use Rattle.nob_model_journal.specs.Journals.{deeds_at, history_at, closed_at, number_at, are_in_one, both_open, sent_in, sent_now, sent_to, acted_from}
+use Rattle.nob_model_journal.specs.Fronts.{with_numbers, ActsInOrder}
+use Rattle.nob_model_journal.specs.Journals.{deeds_at, history_at, closed_at, number_at, are_in_one, both_open, sent_in, sent_now, sent_to, acted_in, acted_from}
 use Rattle.nob_model_journal.specs.Losses.{is_carried, is_loss, is_source, was_with_owner, is_open_source, is_excuse, sources, LosesExcused}
 use Rattle.nob_model_journal.specs.declared.losses.Source.{Source}
 use Rattle.nob_model_journal.specs.Safety.{is_with_owner}
 use Rattle.nob_model_journal.specs.Runs.{WorldRun}
-use Rattle.nob_model_invariant.specs.Asking.{answer_in, answers_among, items_among, last_word, word_of, turns_by, has_no, asked, heard, gave}
+use Rattle.nob_model_invariant.specs.Asking.{answer_in, answers_among, items_among, last_word, word_of, turns_by, has_no, asked, heard, gave_to}
 use Rattle.nob_model_invariant.specs.Settles.{settle_in, settles_among, is_in}
 use Rattle.nob_model_invariant.specs.Typed.{AreOfTypes}
 use Rattle.nob_model_invariant.proofs.Bundles.{settled_in}
-use Rattle.nob_model_invariant.proofs.OneSession.{numbers_alike, sent_alike, number_kept}
+use Rattle.nob_model_invariant.proofs.BySession.{acted_from_is}
+use Rattle.nob_model_invariant.proofs.EachSession.{number_kept}
 use Rattle.nob_model_invariant.proofs.Entries.{grows, grows_own, right_deeds_at}
 use Rattle.nob_model_holdings.proofs.Holdings.{pins_stand}
-use Rattle.nob_model_invariant.proofs.Listings.{items_begin, answers_begin, listings}
+use Rattle.nob_model_invariant.proofs.Listings.{split_in, items_begin, answers_begin, listings}
 use Rattle.nob_model_holdings.proofs.Lists.{all_both, place_in_whole, some_same}
 use Rattle.nob_model_invariant.proofs.Numbered.{numbered_at}
-use Rattle.nob_model_invariant.proofs.Order.{acts_on_next, all_fit, in_order_now}
+use Rattle.nob_model_invariant.proofs.Order.{acts_on_next, all_fit, in_order, in_order_now}
 use Rattle.nob_model_invariant.proofs.SafetyPoints.{clients, owners, holdings, living, settlements}
 use Rattle.nob_model_invariant.specs.Copies.{is_waiting}
 use Rattle.nob_model_invariant.specs.LossInvariant.{has_left}
 use Rattle.nob_model_invariant.specs.LossLaws.{LossesLaw}
 use Rattle.nob_model_invariant.proofs.Sent.{IsSentAs, has_it, sent_as}
 use Rattle.nob_model_invariant.proofs.Copied.{IsCopyOf, Rests, new_source, are_copied, copies_acted}
-use Rattle.nob_model_invariant.proofs.Denied.{IsSettledTo, carried_has, carried_some, denied_settled}
+use Rattle.nob_model_invariant.proofs.Denied.{IsSettledIn, carried_has, carried_some, denied_in}
 use Rattle.nob_model_invariant.proofs.Resting.{or_false}
 use Rattle.nob_model_invariant.proofs.Standing.{was_refused}
 
@@ -87,17 +88,13 @@ heard_no : (answers : List Bool) → (is_no said.Pending ≡ true) ⊎ (has_no a
 heard_no answers (inl refuses) = cc
 heard_no answers (inr refuses) = refuses
 
--- what the owner denied in the client's session it denied in its own
-denied_alike : (n o b x : ℕ) (J : List Entry) → has_no (answers_among x (sent_to n o b J)) ≡ true → has_no (gave n o b x J) ≡ true
-denied_alike n o b x J refuses = ap (λ more. has_no (answers_among x more)) (sent_alike n o b J) ∙ refuses
-
--- where a client is refused, the owner denied it
-refused_denied : (n : ℕ) (limits : ℕ → Limits) (J : List Entry) → WorldRun n limits J → AreOfTypes J → (b : ℕ) (rep : WireRep) → is_refused (turns b n rep (deeds_at b J)) ≡ true → has_no (gave n rep.owner b rep.index J) ≡ true
+-- where a client is refused, the owner denied it in the client's session
+refused_denied : (n : ℕ) (limits : ℕ → Limits) (J : List Entry) → WorldRun n limits J → AreOfTypes J → (b : ℕ) (rep : WireRep) → is_refused (turns b n rep (deeds_at b J)) ≡ true → has_no (gave_to n rep.owner b rep.index J) ≡ true
 refused_denied n limits J run typed b rep refused =
     let by : is_refused (turns_by (asked n b rep J) (heard b rep J)) ≡ true = ap is_refused (sym ((clients n limits J run).turns_are b rep)) ∙ refused in
     let refuses : has_no (heard b rep J) ≡ true = heard_no (heard b rep J) (no_last said.Pending (heard b rep J) (and_parts _ _ by).1) in
     let begins = answers_begin rep.index (items_among (acted_from rep.owner b J)) (sent_to n rep.owner b J) (items_begin n rep.owner b J (in_order_now n limits J run typed rep.owner b)) in
-    denied_alike n rep.owner b rep.index J (ap has_no (sym begins.1) ∙ list_any-append not (heard b rep J) begins.0 ∙ or_left (has_no (heard b rep J)) (has_no begins.0) refuses)
+    ap has_no (sym begins.1) ∙ list_any-append not (heard b rep J) begins.0 ∙ or_left (has_no (heard b rep J)) (has_no begins.0) refuses
 
 -- ---- a copy that wasn't settled
 
@@ -109,6 +106,13 @@ not_settled n a b k J order one none =
     let split : settles_among (items_among (acted_from b a J)) ++ settles_among begins.0 ≡ settles_among (sent_now n b a J) = sym (filter_map-append settle_in (items_among (acted_from b a J)) begins.0) ∙ ap settles_among begins.1 ∙ ap (λ (m : ℕ). settles_among (sent_in n b a m J)) one in
     both_ways (is_in k (settles_among (sent_now n b a J))) none
     (ap (is_in k) (sym split) ∙ list_any-append (λ j. j == k) (settles_among (items_among (acted_from b a J))) (settles_among begins.0) ∙ or_left _ _ (settled_in b k (deeds_at a J) settled)))
+
+-- what was settled at a in a session is among what b sent it in that
+settles_sent : (n a b session k : ℕ) (J : List Entry) → ActsInOrder n b a session J → is_in k (settles_among (items_among (acted_in b a session J))) ≡ true → is_in k (settles_among (sent_in n b a session J)) ≡ true
+settles_sent n a b session k J order settled =
+    let ks : List ℕ = settles_among (items_among (acted_in b a session J)) in
+    let split : ks ++ settles_among (items_among order.0) ≡ settles_among (sent_in n b a session J) = sym (filter_map-append settle_in (items_among (acted_in b a session J)) (items_among order.0)) ∙ ap settles_among (split_in n b a session J order) in
+    ap (is_in k) (sym split) ∙ list_any-append (λ j. j == k) ks (settles_among (items_among order.0)) ∙ or_left _ _ settled
 
 other_granted : (own granted : Bool) → own ≡ false → (own || granted) ≡ true → granted ≡ true
 other_granted true granted none is = absurd (both_ways true none refl)
@@ -141,7 +145,7 @@ open_source n b rep J copy is =
     }
 
 -- a copy of what was denied that came in the session in which b is and wasn't settled is excused
-unsettled_excused : (n b : ℕ) (limits : ℕ → Limits) (J : List Entry) (rep : WireRep) (copy : Source) (item : Item) → WorldRun n limits J → AreOfTypes J → has_no (gave n rep.owner b rep.index J) ≡ true → slice_get (with_numbers 1 (sent_to n copy.from b J)) (copy.number - 1) ≡ Some (copy.number, Some item) → carries rep item ≡ true → is_in copy.number (settles_among (sent_now n b copy.from J)) ≡ false → is_excuse n b rep J copy ≡ true
+unsettled_excused : (n b : ℕ) (limits : ℕ → Limits) (J : List Entry) (rep : WireRep) (copy : Source) (item : Item) → WorldRun n limits J → AreOfTypes J → has_no (gave_to n rep.owner b rep.index J) ≡ true → slice_get (with_numbers 1 (sent_to n copy.from b J)) (copy.number - 1) ≡ Some (copy.number, Some item) → carries rep item ≡ true → is_in copy.number (settles_among (sent_now n b copy.from J)) ≡ false → is_excuse n b rep J copy ≡ true
 unsettled_excused n b limits J rep copy item run typed refuses there carried none = and_from _ _ (not_from_false _ not_own) (not_from_false _ not_open)
   where
     a : ℕ
@@ -162,16 +166,13 @@ unsettled_excused n b limits J rep copy item run typed refuses there carried non
     carries_it : carries rep its.one.item ≡ true
     carries_it = ap (λ (i : Item). carries rep i) its.same ∙ carried
 
-    sent_now_to : number_at a b J ≡ session → is_sent_to b (number_at a b J) its.one ≡ true
-    sent_now_to one = and_from (its.one.to == b) (its.one.session == number_at a b J) (eq-eqb its.one.to b its.to) (eq-eqb its.one.session (number_at a b J) (its.of_session ∙ sym one))
-
     at_owner : rep.owner ≡ a → ⊥
     at_owner same =
-        let one : number_at a b J ≡ session = numbers_alike a b J in
-        let denied : has_no (gave n a b rep.index J) ≡ true = subst (λ (o : ℕ). has_no (gave n o b rep.index J) ≡ true) same refuses in
-        let settled : IsSettledTo a b rep.index (deeds_at a J) its.one = has_it n a b session k item J its (IsSettledTo a b rep.index (deeds_at a J)) (denied_settled a n (limits a) b rep.index (deeds_at a J) (right_deeds_at n limits J run a) denied) in
+        let denied : has_no (gave_to n a b rep.index J) ≡ true = subst (λ (o : ℕ). has_no (gave_to n o b rep.index J) ≡ true) same refuses in
+        let settled : IsSettledIn a b rep.index session (deeds_at a J) its.one = has_it n a b session k item J its (IsSettledIn a b rep.index session (deeds_at a J)) (denied_in a n (limits a) b rep.index session (deeds_at a J) (right_deeds_at n limits J run a) denied) in
         let own : carries (record { owner = a; index = rep.index }) its.one.item ≡ true = subst (λ (o : ℕ). carries (record { owner = o; index = rep.index }) its.one.item ≡ true) same carries_it in
-        both_ways (is_settled b k (deeds_at a J)) (unsettled one) (ap (λ (j : ℕ). is_settled b j (deeds_at a J)) (sym its.number) ∙ settled (sent_now_to one) own)
+        let there : is_in k (settles_among (items_among (acted_in b a session J))) ≡ true = ap (λ (j : ℕ). is_in j (settles_among (items_among (acted_in b a session J)))) (sym its.number) ∙ settled (and_from (its.one.to == b) (its.one.session == session) (eq-eqb its.one.to b its.to) (eq-eqb its.one.session session its.of_session)) own in
+        both_ways (is_in k (settles_among (sent_now n b a J))) none (settles_sent n a b session k J (in_order n limits J run typed b a session) there)
 
     not_own : is_own a rep ≡ false
     not_own = false_from_ne_true (is_own a rep) (λ own. at_owner (eqb-true rep.owner a own))
@@ -198,7 +199,7 @@ unsettled_excused n b limits J rep copy item run typed refuses there carried non
     never open_both =
         let granted : is_granted (turns a n rep (deeds_at a J)) ≡ true = other_granted (is_own a rep) (is_granted (turns a n rep (deeds_at a J))) not_own ((holdings n limits J run).pinned_granted a rep (some open_both)) in
         let lives = (living n limits J run).listed_live rep.owner rep.index a ((listings n limits J run typed).granted_listed a rep granted open_both.with_owner open_both.owner_up) in
-        both_ways (is_live rep.owner rep.index (deeds_at rep.owner J)) ((owners n limits J run).denied rep.owner b rep.index refuses).1 lives
+        both_ways (is_live rep.owner rep.index (deeds_at rep.owner J)) ((owners n limits J run).denied rep.owner b rep.index (number_at b rep.owner J) refuses).1 lives
 
     not_open : is_open_source n b rep J copy ≡ false
     not_open = false_from_ne_true (is_open_source n b rep J copy) (λ is. never (open_source n b rep J copy is))
@@ -224,7 +225,7 @@ left_excused n b J rep copy not_own left = and_from _ _ (not_from_false (is_own 
         (or_from (closed_at b copy.from J) (not (copy.session == number_at b copy.from J)) its.back (ap not (eq-eqb copy.session (number_at b copy.from J) its.there))) left
 
 -- a copy that waits, or came in a session that b has left, is excused where the owner says no
-rest_excused : (n b : ℕ) (limits : ℕ → Limits) (J : List Entry) (rep : WireRep) → WorldRun n limits J → AreOfTypes J → has_no (gave n rep.owner b rep.index J) ≡ true → closed_at b rep.owner J ≡ false → (copy : Source) → IsCopyOf rep (deeds_at b J) copy → Rests b n (deeds_at b J) copy → is_excuse n b rep J copy ≡ true
+rest_excused : (n b : ℕ) (limits : ℕ → Limits) (J : List Entry) (rep : WireRep) → WorldRun n limits J → AreOfTypes J → has_no (gave_to n rep.owner b rep.index J) ≡ true → closed_at b rep.owner J ≡ false → (copy : Source) → IsCopyOf rep (deeds_at b J) copy → Rests b n (deeds_at b J) copy → is_excuse n b rep J copy ≡ true
 rest_excused n b limits J rep run typed refuses up copy its rest = by (has_left b copy J) refl
   where
     not_own : has_left b copy J ≡ true → is_own copy.from rep ≡ false
@@ -248,7 +249,7 @@ rest_excused n b limits J rep run typed refuses up copy its rest = by (has_left 
         (waits_unsettled copy.from copy.number (settles_among (sent_now n b copy.from J)) (work b n (deeds_at b J)).waiting ((settlements n limits J run).none_waits copy.from b) (waits stays))
 
 -- where the owner of what is pending says no, all copies are excused
-pending_excused : (n b : ℕ) (limits : ℕ → Limits) (J : List Entry) (rep : WireRep) → WorldRun n limits J → AreOfTypes J → has_no (gave n rep.owner b rep.index J) ≡ true → closed_at b rep.owner J ≡ false → is_pending (turns b n rep (deeds_at b J)) ≡ true → AllByRecursion (λ copy. is_excuse n b rep J copy ≡ true) (sources b n rep (deeds_at b J))
+pending_excused : (n b : ℕ) (limits : ℕ → Limits) (J : List Entry) (rep : WireRep) → WorldRun n limits J → AreOfTypes J → has_no (gave_to n rep.owner b rep.index J) ≡ true → closed_at b rep.owner J ≡ false → is_pending (turns b n rep (deeds_at b J)) ≡ true → AllByRecursion (λ copy. is_excuse n b rep J copy ≡ true) (sources b n rep (deeds_at b J))
 pending_excused n b limits J rep run typed refuses up pending =
     let D : List Deed = deeds_at b J in
     let right = right_deeds_at n limits J run b in
@@ -275,7 +276,7 @@ new_excused n p b k limits J rep item run typed right is refused carried =
     let there : slice_get (with_numbers 1 (sent_to n p b J)) (k - 1) ≡ Some (k, Some item) =
     ap (slice_get (with_numbers 1 (sent_to n p b J))) place ∙ numbered_at 1 (sent_to n p b J) t next.item next.was_sent ∙ ap (λ (m : ℕ). Some (m, Some next.item)) (let one : 1 + t ≡ k = omega (arith, number) in one) ∙ ap (λ (i : Item). Some (k, Some i)) same in
     unsettled_excused n b limits J rep (new_source p k (deeds_at b J)) item run typed (refused_denied n limits J run typed b rep refused) there carried
-    (above_none t k (settles_among (sent_now n b p J)) ((settlements n limits J run).were_acted p b) number)
+    (above_none t k (settles_among (sent_now n b p J)) (subst (λ pairs. AllByRecursion (λ j. j ≤ length pairs) (settles_among (sent_now n b p J))) (sym (acted_from_is p b J)) ((settlements n limits J run).were_acted p b (number_at b p J))) number)
 
 -- ---- a loss
 
@@ -301,9 +302,9 @@ act_excused n p b k limits J rep run typed before right (Some (items.DirtyNo ind
     let next = acts_on_next p b n k limits J run (all_fit n limits J run typed p) right.0 in
     let item : next.item ≡ items.DirtyNo index = some_same next.item (items.DirtyNo index) (sym next.found ∙ is) in
     let denies : answer_in rep.index next.item ≡ Some false = ap (answer_in rep.index) item ∙ ap (λ (b : Bool). cond b (Some false) None) (eq-eqb index rep.index (sym same)) in
-    let refuses : has_no (gave n p b rep.index J) ≡ true = denied_alike n p b rep.index J (no_at rep.index (sent_to n p b J) (length (acted_from p b J)) next.item next.was_sent denies) in
+    let refuses : has_no (gave_to n p b rep.index J) ≡ true = no_at rep.index (sent_to n p b J) (length (acted_from p b J)) next.item next.was_sent denies in
     let asks : AnswersPending b n p (Some (items.DirtyNo index)) (deeds_at b J) = subst (λ (one : Option Item). AnswersPending b n p one (deeds_at b J)) is (took_turns b n (limits b) (did.Act p k ∷ deeds_at b J) right).0 in
-    pending_excused n b limits J rep run typed (subst (λ (o : ℕ). has_no (gave n o b rep.index J) ≡ true) (sym owner) refuses)
+    pending_excused n b limits J rep run typed (subst (λ (o : ℕ). has_no (gave_to n o b rep.index J) ≡ true) (sym owner) refuses)
     (ap (λ (q : ℕ). closed q (deeds_at b J)) owner ∙ act_open b n (limits b) p k (deeds_at b J) right.0)
     (subst (λ (r : WireRep). is_pending (turns b n r (deeds_at b J)) ≡ true) (named_ref rep p index loss) asks)
 act_excused n p b k limits J rep run typed before right (Some (items.Clean index)) is loss = cc

@@ -51,7 +51,7 @@ use Rattle.nob_model_holdings.proofs.Lists.{all_map, all_both, all_pass, place_i
 use Rattle.nob_model_holdings.proofs.Typing.{next_none, refs_held}
 use Rattle.nob_model_invariant.proofs.Entries.{grows, right_deeds_at}
 use Rattle.nob_model_invariant.proofs.BySession.{sent_in_more, sent_in_same, sent_grows, sent_one}
-use Rattle.nob_model_invariant.proofs.OneSession.{number_kept}
+use Rattle.nob_model_invariant.proofs.EachSession.{number_kept}
 use Rattle.nob_model_invariant.proofs.Order.{ActsNow, IsNextOf, acts_on_next, all_fit, in_order_now}
 use Rattle.nob_model_holdings.proofs.Granted.{is_owned, held_owned}
 use Rattle.nob_model_holdings.proofs.Holdings.{holds_owned}

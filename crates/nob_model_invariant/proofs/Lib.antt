@@ -21,8 +21,8 @@ pub mod Numbered
 pub mod Reading
 pub mod Giving
 pub mod Entries
-pub mod OneSession
 pub mod BySession
+pub mod EachSession
 pub mod Coming
 pub mod Frames
 pub mod Pairs

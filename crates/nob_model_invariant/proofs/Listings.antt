@@ -11,8 +11,8 @@ use Rattle.nob_model_types.specs.declared.entry.Entry.{Entry}
 use Rattle.nob_model_types.specs.declared.turns.OwnerAnswer.TheVariants as said
 use Rattle.nob_model_types.specs.declared.turns.Turns.{Turns}
 use Rattle.nob_model_types.specs.Turns.{turns, is_granted, is_yes}
-use Rattle.nob_model_journal.specs.Journals.{deeds_at, are_in_one, sent_now, sent_to, acted_from}
-use Rattle.nob_model_journal.specs.Fronts.{with_numbers}
+use Rattle.nob_model_journal.specs.Journals.{deeds_at, are_in_one, sent_in, sent_now, sent_to, acted_in, acted_from}
+use Rattle.nob_model_journal.specs.Fronts.{with_numbers, ActsInOrder}
 use Rattle.nob_model_invariant.specs.Asking.{ask_in, answer_in, asks_among, answers_among, items_among, dirties_in, last_or, last_word, turns_by, asked, heard, was_asked, gave}
 use Rattle.nob_model_invariant.specs.SafetyLaws.{ListingsLaw}
 use Rattle.nob_model_invariant.proofs.BySession.{sent_one, sent_back}
@@ -25,7 +25,11 @@ items_numbered : (k : ℕ) (items : List Item) → items_among (with_numbers k i
 items_numbered k [] = refl
 items_numbered k (item ∷ items) = ap (λ more. item ∷ more) (items_numbered (k + 1) items)
 
--- what was acted on and what stands behind it is what was sent
+-- what was acted on in a session and what stands behind it is what was sent in it
+pub split_in : (n a b k : ℕ) (J : List Entry) → (begins : ActsInOrder n a b k J) → items_among (acted_in a b k J) ++ items_among begins.0 ≡ sent_in n a b k J
+split_in n a b k J begins = sym (filter_map-append (λ (pair : ℕ × Option Item). pair.1) (acted_in a b k J) begins.0) ∙ ap items_among begins.1 ∙ items_numbered 1 (sent_in n a b k J)
+
+-- so it is in the one in which the space is that acts
 pub items_split : (n a b : ℕ) (J : List Entry) → (begins : ActsNow n a b J) → items_among (acted_from a b J) ++ items_among begins.0 ≡ sent_to n a b J
 items_split n a b J begins = sym (filter_map-append (λ (pair : ℕ × Option Item). pair.1) (acted_from a b J) begins.0) ∙ ap items_among begins.1 ∙ items_numbered 1 (sent_to n a b J)
 
