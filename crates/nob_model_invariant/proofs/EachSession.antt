@@ -1,7 +1,7 @@
 -- What is true of the session in which a space is, is true of each in which it has been: a deed sends and acts in that session alone
 -- to which it comes, and a session that it opens is above.
 use Rattle.std.proofs.Common.{◌≡◌, ℕ, ◌≤◌, ◌&&◌, Bool, true, false, cond, List, [], ◌∷◌, ◌++◌, Option, refl, sym, ap, subst, ◌∙◌, ◌⊎◌, inl, inr, arith}
-use Rattle.std.specs.Prelude.{◌==◌, ◌<◌}
+use Rattle.std.specs.Prelude.{◌==◌, ◌≢◌, ◌<◌}
 use Rattle.std.proofs.lemmas.Bool.{eqb-true, ne_eqb, or_right}
 use Rattle.std.proofs.lemmas.List.{append-nil}
 use Rattle.nob_ids.specs.declared.limits.Limits.{Limits}
@@ -125,3 +125,27 @@ none_acted_above s n p k limits [] right above = refl
 none_acted_above s n p k limits (deed ∷ D) right above =
     acted_stays p k deed D (above_other k (number p (deed ∷ D)) above)
     ∙ none_acted_above s n p k limits D right.1 (let low = deed_rises s n p limits deed D right.0 in omega (arith, low, above))
+
+opens_acting : (p k : ℕ) (deed : Deed) (D : List Deed) → number p D < number p (deed ∷ D) → acted_during p k (deed ∷ D) ≡ acted_during p k D
+opens_acting p k (did.Act q j) D above = absurd (omega (arith, above))
+opens_acting p k deed D above = refl
+
+-- so nothing was acted on in a session that an entry opens
+pub none_acted_new : (n a b : ℕ) (limits : ℕ → Limits) (entry : Entry) (J : List Entry) → WorldRun n limits (entry ∷ J) → number_at b a J < number_at b a (entry ∷ J) → acted_in a b (number_at b a (entry ∷ J)) (entry ∷ J) ≡ []
+none_acted_new n a b limits entry J run above = elim (grows b entry J) [
+  | inl same ↦ absurd (let stays = ap (number a) same in omega (arith, above, stays))
+  | inr more ↦
+      let k : ℕ = number_at b a (entry ∷ J) in
+      let new : number a (deeds_at b J) < number a (more.0 ∷ deeds_at b J) = subst (λ D. number a (deeds_at b J) < number a D) more.3 above in
+      ap (acted_during a k) more.3 ∙ opens_acting a k more.0 (deeds_at b J) new ∙ none_acted_above b n a k (limits b) (deeds_at b J) (right_deeds_at n limits J run.1 b) above
+]
+
+-- and another space sent by that entry nothing
+pub sent_apart : (n a b : ℕ) (limits : ℕ → Limits) (entry : Entry) (J : List Entry) → a ≢ b → number_at b a J < number_at b a (entry ∷ J) → (k : ℕ) → sent_in n a b k (entry ∷ J) ≡ sent_in n a b k J
+sent_apart n a b limits entry J apart above k = elim (grows b entry J) [
+  | inl same ↦ absurd (let stays = ap (number a) same in omega (arith, above, stays))
+  | inr more ↦ elim (grows a entry J) [
+    | inl same ↦ ap (λ D. items_sent_in b k (sent (history_of a n D))) same
+    | inr also ↦ absurd (apart (sym also.1 ∙ more.1))
+  ]
+]
