@@ -52,10 +52,6 @@ rises n a b limits entry J run = no_less b (deeds_at a J) (deeds_at a (entry ∷
 pub deed_rises : (s n p : ℕ) (limits : Limits) (deed : Deed) (D : List Deed) → IsRightDeed s n limits deed D → number p D ≤ number p (deed ∷ D)
 deed_rises s n p limits deed D right = no_less p D (deed ∷ D) (deed_goes_on s n p limits deed D right)
 
--- an entry leaves each space in its session
-pub number_kept : (a b : ℕ) (entry : Entry) (J : List Entry) → number_at a b (entry ∷ J) ≡ number_at a b J
-number_kept a b entry J = elim (grows a entry J) [ inl same ↦ ap (number b) same | inr more ↦ ap (number b) more.3 ]
-
 -- ---- what a deed gives and acts on
 
 -- a deed leaves the number of each session, or it gives nothing

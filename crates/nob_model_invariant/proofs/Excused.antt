@@ -1,7 +1,7 @@
 -- Where an owner refuses a reference each copy of it that came is excused, so no reference is lost without a cause.
 use Rattle.std.proofs.Common.{◌≡◌, ℕ, zero, suc, ◌+◌, ◌-◌, ◌≤◌, ◌&&◌, ◌||◌, not, Bool, true, false, cond, List, [], ◌∷◌, ◌++◌, length, find, Option, Some, None, refl, sym, ap, subst, ◌∙◌, arith, ◌⊎◌, inl, inr}
 use Rattle.std.specs.Prelude.{◌==◌}
-use Rattle.std.specs.List.{AllByRecursion, slice_get, cons_option}
+use Rattle.std.specs.List.{AllByRecursion, list_any, slice_get, cons_option}
 use Rattle.std.proofs.lemmas.Bool.{eqb-true, eq-eqb, ne_eqb, and_parts, and_from, or_left, or_right, or_parts, or_from, not-false, not-true, not_from_false, both_ways, false_from_ne_true}
 use Rattle.std.proofs.lemmas.List.Elements.{filter_map-append}
 use Rattle.std.proofs.lemmas.List.Folds.{list_any-append}
@@ -31,6 +31,7 @@ use Rattle.nob_model_history.proofs.Sending.{sent_more}
 use Rattle.nob_model_history.proofs.Turning.{same_ref, named_ref, shapes, after_clean}
 use Rattle.nob_model.specs.Lists.{AreRightDeeds}
 use Rattle.nob_model.proofs.Premises.{took_turns}
+use Rattle.nob_model.proofs.Carrying.{all_found}
 use Rattle.nob_model.proofs.Waiting.{act_open, all_weaker}
 use Rattle.nob_model_journal.specs.Fronts.{with_numbers, ActsInOrder}
 use Rattle.nob_model_journal.specs.Journals.{deeds_at, history_at, closed_at, number_at, are_in_one, both_open, sent_in, sent_now, sent_to, acted_in, acted_from}
@@ -43,7 +44,8 @@ use Rattle.nob_model_invariant.specs.Settles.{settle_in, settles_among, is_in}
 use Rattle.nob_model_invariant.specs.Typed.{AreOfTypes}
 use Rattle.nob_model_invariant.proofs.Bundles.{settled_in}
 use Rattle.nob_model_invariant.proofs.BySession.{acted_from_is}
-use Rattle.nob_model_invariant.proofs.EachSession.{number_kept}
+use Rattle.nob_model_invariant.proofs.EachSession.{GoesOn, goes_on}
+use Rattle.nob_model_invariant.proofs.Numbers.{IsCome, owners_reached, deed_come, copies_come}
 use Rattle.nob_model_invariant.proofs.Entries.{grows, grows_own, right_deeds_at}
 use Rattle.nob_model_holdings.proofs.Holdings.{pins_stand}
 use Rattle.nob_model_invariant.proofs.Listings.{split_in, items_begin, answers_begin, listings}
@@ -52,7 +54,7 @@ use Rattle.nob_model_invariant.proofs.Numbered.{numbered_at}
 use Rattle.nob_model_invariant.proofs.Order.{acts_on_next, all_fit, in_order, in_order_now}
 use Rattle.nob_model_invariant.proofs.SafetyPoints.{clients, owners, holdings, living, settlements}
 use Rattle.nob_model_invariant.specs.Copies.{is_waiting}
-use Rattle.nob_model_invariant.specs.LossInvariant.{has_left}
+use Rattle.nob_model_invariant.specs.LossInvariant.{IsReached, has_left}
 use Rattle.nob_model_invariant.specs.LossLaws.{LossesLaw}
 use Rattle.nob_model_invariant.proofs.Sent.{IsSentAs, has_it, sent_as}
 use Rattle.nob_model_invariant.proofs.Copied.{IsCopyOf, Rests, new_source, are_copied, copies_acted}
@@ -311,30 +313,29 @@ act_excused n p b k limits J rep run typed before right (Some (items.Clean index
 
 -- ---- one entry more
 
--- a session that closed stays closed
-closed_later : (a b : ℕ) (entry : Entry) (J : List Entry) → closed_at a b J ≡ true → closed_at a b (entry ∷ J) ≡ true
-closed_later a b entry J shut = elim (grows a entry J) [
-  | inl same ↦ ap (closed b) same ∙ shut
-  | inr more ↦ ap (closed b) more.3 ∙ stays more.0
-]
+-- of a session that wasn't above the one in which a space was and in which it is: it was in it, and left it no less closed
+kept_low : (n p q k : ℕ) (limits : ℕ → Limits) (entry : Entry) (J : List Entry) → WorldRun n limits (entry ∷ J) → k ≤ number_at p q J → k ≡ number_at p q (entry ∷ J) → (number_at p q (entry ∷ J) ≡ number_at p q J) × (closed_at p q J ≡ true → closed_at p q (entry ∷ J) ≡ true)
+kept_low n p q k limits entry J run low is = by (goes_on n p q limits entry J run)
   where
-    stays : (deed : Deed) → closed b (deed ∷ deeds_at a J) ≡ true
-    stays (did.Closing q reason cause) = or_right (q == b) (closed b (deeds_at a J)) shut
-    stays deed = shut
+    by : GoesOn q (deeds_at p J) (deeds_at p (entry ∷ J)) → (number_at p q (entry ∷ J) ≡ number_at p q J) × (closed_at p q J ≡ true → closed_at p q (entry ∷ J) ≡ true)
+    by (inl stays) = stays
+    by (inr above) = absurd (omega (arith, above, low, is))
 
 -- so what is open was open before
-open_earlier : (a b : ℕ) (entry : Entry) (J : List Entry) → closed_at a b (entry ∷ J) ≡ false → closed_at a b J ≡ false
-open_earlier a b entry J up = false_from_ne_true (closed_at a b J) (λ shut. both_ways (closed_at a b (entry ∷ J)) up (closed_later a b entry J shut))
+open_earlier : (p q : ℕ) (entry : Entry) (J : List Entry) → (closed_at p q J ≡ true → closed_at p q (entry ∷ J) ≡ true) → closed_at p q (entry ∷ J) ≡ false → closed_at p q J ≡ false
+open_earlier p q entry J stays up = false_from_ne_true (closed_at p q J) (λ shut. both_ways (closed_at p q (entry ∷ J)) up (stays shut))
 
-both_earlier : (a b : ℕ) (entry : Entry) (J : List Entry) → both_open a b (entry ∷ J) ≡ true → both_open a b J ≡ true
-both_earlier a b entry J is =
-    let parts = and_parts (are_in_one a b (entry ∷ J)) (not (closed_at a b (entry ∷ J)) && not (closed_at b a (entry ∷ J))) is in
+both_earlier : (n a b k : ℕ) (limits : ℕ → Limits) (entry : Entry) (J : List Entry) → WorldRun n limits (entry ∷ J) → IsReached k a b J → k ≡ number_at a b (entry ∷ J) → both_open a b (entry ∷ J) ≡ true → both_open a b J ≡ true
+both_earlier n a b k limits entry J run low is open_now =
+    let parts = and_parts (are_in_one a b (entry ∷ J)) (not (closed_at a b (entry ∷ J)) && not (closed_at b a (entry ∷ J))) open_now in
     let up = and_parts (not (closed_at a b (entry ∷ J))) (not (closed_at b a (entry ∷ J))) parts.1 in
-    let one : are_in_one a b J ≡ are_in_one a b (entry ∷ J) = λ i. sym (number_kept a b entry J) i == sym (number_kept b a entry J) i in
-    and_from (are_in_one a b J) _ (one ∙ parts.0)
+    let one : number_at a b (entry ∷ J) ≡ number_at b a (entry ∷ J) = eqb-true (number_at a b (entry ∷ J)) (number_at b a (entry ∷ J)) parts.0 in
+    let here = kept_low n a b k limits entry J run low.0 is in
+    let there = kept_low n b a k limits entry J run low.1 (is ∙ one) in
+    and_from (are_in_one a b J) _ (eq-eqb (number_at a b J) (number_at b a J) (sym here.0 ∙ one ∙ there.0))
     (and_from (not (closed_at a b J)) (not (closed_at b a J))
-    (not_from_false (closed_at a b J) (open_earlier a b entry J (not-true (closed_at a b (entry ∷ J)) up.0)))
-    (not_from_false (closed_at b a J) (open_earlier b a entry J (not-true (closed_at b a (entry ∷ J)) up.1))))
+    (not_from_false (closed_at a b J) (open_earlier a b entry J here.1 (not-true (closed_at a b (entry ∷ J)) up.0)))
+    (not_from_false (closed_at b a J) (open_earlier b a entry J there.1 (not-true (closed_at b a (entry ∷ J)) up.1))))
 
 -- ---- the item in which a copy came
 
@@ -355,32 +356,42 @@ sent_found n a test entry J one found = elim (grows a entry J) [
       ∙ found_on test (sent (history_at a n J)) _ one found
 ]
 
-with_owner_earlier : (a : ℕ) (rep : WireRep) (entry : Entry) (J : List Entry) (one : SentItem) → is_with_owner a rep (entry ∷ J) one ≡ true → is_with_owner a rep J one ≡ true
-with_owner_earlier a rep entry J one is = ap (λ (m : ℕ). is_own a rep || owner_session rep one == m) (sym (number_kept a rep.owner entry J)) ∙ is
+any_found : {X : Type 0} (test : X → Bool) (xs : List X) → list_any test xs ≡ true → (x : X) × (find test xs ≡ Some x)
+any_found test [] there = cc
+any_found {X = X} test (y ∷ xs) there = by (test y) (any_found test xs) there
+  where
+    by : (b : Bool) → (list_any test xs ≡ true → (x : X) × (find test xs ≡ Some x)) → (b || list_any test xs) ≡ true → (x : X) × (cond b (Some y) (find test xs) ≡ Some x)
+    by true rest either = (y, refl)
+    by false rest either = rest either
 
-was_earlier : (n b : ℕ) (rep : WireRep) (entry : Entry) (J : List Entry) (copy : Source) (found : Option SentItem) → find (is_source b copy) (sent (history_at copy.from n J)) ≡ found → was_with_owner copy.from rep (entry ∷ J) (find (is_source b copy) (sent (history_at copy.from n (entry ∷ J)))) ≡ true → was_with_owner copy.from rep J found ≡ true
-was_earlier n b rep entry J copy None none is = refl
-was_earlier n b rep entry J copy (Some one) found is =
-    with_owner_earlier copy.from rep entry J one
-    (ap (was_with_owner copy.from rep (entry ∷ J)) (sym (sent_found n copy.from (is_source b copy) entry J one found)) ∙ is)
-
--- a copy whose sessions are open came in sessions that were open before
-source_earlier : (n b : ℕ) (rep : WireRep) (entry : Entry) (J : List Entry) (copy : Source) → is_open_source n b rep (entry ∷ J) copy ≡ true → is_open_source n b rep J copy ≡ true
-source_earlier n b rep entry J copy is =
+-- a copy whose sessions are open came in sessions that were open before, if its sender isn't the owner
+source_earlier : (n b : ℕ) (limits : ℕ → Limits) (rep : WireRep) (entry : Entry) (J : List Entry) (copy : Source) → WorldRun n limits (entry ∷ J) → AreOfTypes J → IsCome n b J copy → is_own copy.from rep ≡ false → is_open_source n b rep (entry ∷ J) copy ≡ true → is_open_source n b rep J copy ≡ true
+source_earlier n b limits rep entry J copy run typed its not_own is =
     let a : ℕ = copy.from in
+    let all : List SentItem = sent (history_at a n J) in
     let parts = and_parts (copy.session == number_at a b (entry ∷ J) && both_open a b (entry ∷ J)) _ is in
     let first = and_parts (copy.session == number_at a b (entry ∷ J)) (both_open a b (entry ∷ J)) parts.0 in
     let second = and_parts (was_with_owner a rep (entry ∷ J) (find (is_source b copy) (sent (history_at a n (entry ∷ J))))) (both_open a rep.owner (entry ∷ J)) parts.1 in
+    let here : copy.session ≡ number_at a b (entry ∷ J) = eqb-true copy.session (number_at a b (entry ∷ J)) first.0 in
+    let stays = kept_low n a b copy.session limits entry J run its.0.0 here in
+    let found = any_found (is_source b copy) all its.1 in
+    let k : ℕ = owner_session rep found.0 in
+    let low : IsReached k a rep.owner J = all_found (λ one. IsReached (owner_session rep one) a rep.owner J) (is_source b copy) all found.0 found.1 (owners_reached n limits J run.1 typed a rep) in
+    let then_with : is_with_owner a rep (entry ∷ J) found.0 ≡ true = ap (was_with_owner a rep (entry ∷ J)) (sym (sent_found n a (is_source b copy) entry J found.0 found.1)) ∙ second.0 in
+    let with_owner : k ≡ number_at a rep.owner (entry ∷ J) = eqb-true k (number_at a rep.owner (entry ∷ J)) (other_granted (is_own a rep) (k == number_at a rep.owner (entry ∷ J)) not_own then_with) in
+    let stays_with = kept_low n a rep.owner k limits entry J run low.0 with_owner in
+    let was_with : was_with_owner a rep J (find (is_source b copy) all) ≡ true = ap (was_with_owner a rep J) found.1 ∙ or_right (is_own a rep) (k == number_at a rep.owner J) (eq-eqb k (number_at a rep.owner J) (with_owner ∙ stays_with.0)) in
     and_from _ _
-    (and_from (copy.session == number_at a b J) (both_open a b J) (ap (λ (m : ℕ). copy.session == m) (sym (number_kept a b entry J)) ∙ first.0) (both_earlier a b entry J first.1))
-    (and_from _ (both_open a rep.owner J) (was_earlier n b rep entry J copy (find (is_source b copy) (sent (history_at a n J))) refl second.0) (both_earlier a rep.owner entry J second.1))
+    (and_from (copy.session == number_at a b J) (both_open a b J) (eq-eqb copy.session (number_at a b J) (here ∙ stays.0)) (both_earlier n a b copy.session limits entry J run its.0 here first.1))
+    (and_from _ (both_open a rep.owner J) was_with (both_earlier n a rep.owner k limits entry J run low with_owner second.1))
 
 -- what is excused stays so
-excused_later : (n b : ℕ) (rep : WireRep) (entry : Entry) (J : List Entry) (copy : Source) → is_excuse n b rep J copy ≡ true → is_excuse n b rep (entry ∷ J) copy ≡ true
-excused_later n b rep entry J copy is =
+excused_later : (n b : ℕ) (limits : ℕ → Limits) (rep : WireRep) (entry : Entry) (J : List Entry) → WorldRun n limits (entry ∷ J) → AreOfTypes J → (copy : Source) → IsCome n b J copy → is_excuse n b rep J copy ≡ true → is_excuse n b rep (entry ∷ J) copy ≡ true
+excused_later n b limits rep entry J run typed copy its is =
     let parts = and_parts (not (is_own copy.from rep)) (not (is_open_source n b rep J copy)) is in
+    let not_own : is_own copy.from rep ≡ false = not-true (is_own copy.from rep) parts.0 in
     and_from _ _ parts.0
-    (not_from_false _ (false_from_ne_true (is_open_source n b rep (entry ∷ J) copy) (λ still. both_ways (is_open_source n b rep J copy) (not-true (is_open_source n b rep J copy) parts.1) (source_earlier n b rep entry J copy still))))
+    (not_from_false _ (false_from_ne_true (is_open_source n b rep (entry ∷ J) copy) (λ still. both_ways (is_open_source n b rep J copy) (not-true (is_open_source n b rep J copy) parts.1) (source_earlier n b limits rep entry J copy run typed its not_own still))))
 
 -- what is refused after an Act
 act_refused : (n p b k : ℕ) (limits : ℕ → Limits) (J : List Entry) (rep : WireRep) → WorldRun n limits J → AreOfTypes J → RefusedExcused n J → AreRightDeeds b n (limits b) (did.Act p k ∷ deeds_at b J) → is_refused (turns b n rep (did.Act p k ∷ deeds_at b J)) ≡ true → AllByRecursion (λ copy. is_excuse n b rep J copy ≡ true) (sources b n rep (did.Act p k ∷ deeds_at b J))
@@ -418,14 +429,15 @@ pub refused_excused : (n : ℕ) (limits : ℕ → Limits) (J : List Entry) → W
 refused_excused n limits [] run typed b rep refused = tt
 refused_excused n limits (entry ∷ J) run typed b rep refused =
     let before : RefusedExcused n J = refused_excused n limits J run.1 typed.1 in
+    let come = copies_come n limits J run.1 typed.1 b rep in
     elim (grows b entry J) [
       | inl same ↦
           subst (λ D. AllByRecursion (λ copy. is_excuse n b rep (entry ∷ J) copy ≡ true) (sources b n rep D)) (sym same)
-          (all_weaker (λ copy. is_excuse n b rep J copy ≡ true) (λ copy. is_excuse n b rep (entry ∷ J) copy ≡ true) (excused_later n b rep entry J) (sources b n rep (deeds_at b J)) (before b rep (ap (λ D. is_refused (turns b n rep D)) (sym same) ∙ refused)))
+          (all_both (IsCome n b J) (λ copy. is_excuse n b rep J copy ≡ true) (λ copy. is_excuse n b rep (entry ∷ J) copy ≡ true) (excused_later n b limits rep entry J run typed.1) (sources b n rep (deeds_at b J)) come (before b rep (ap (λ D. is_refused (turns b n rep D)) (sym same) ∙ refused)))
       | inr more ↦
           let right : AreRightDeeds b n (limits b) (more.0 ∷ deeds_at b J) = subst (AreRightDeeds b n (limits b)) more.3 (right_deeds_at n limits (entry ∷ J) run b) in
           subst (λ D. AllByRecursion (λ copy. is_excuse n b rep (entry ∷ J) copy ≡ true) (sources b n rep D)) (sym more.3)
-          (all_weaker (λ copy. is_excuse n b rep J copy ≡ true) (λ copy. is_excuse n b rep (entry ∷ J) copy ≡ true) (excused_later n b rep entry J) (sources b n rep (more.0 ∷ deeds_at b J)) (deed_refused n b limits J rep more.0 run.1 typed.1 before right (ap (λ D. is_refused (turns b n rep D)) (sym more.3) ∙ refused)))
+          (all_both (IsCome n b J) (λ copy. is_excuse n b rep J copy ≡ true) (λ copy. is_excuse n b rep (entry ∷ J) copy ≡ true) (excused_later n b limits rep entry J run typed.1) (sources b n rep (more.0 ∷ deeds_at b J)) (deed_come n b limits J rep more.0 run.1 typed.1 right come) (deed_refused n b limits J rep more.0 run.1 typed.1 before right (ap (λ D. is_refused (turns b n rep D)) (sym more.3) ∙ refused)))
     ]
 
 -- each reference that an entry loses is excused

@@ -183,7 +183,7 @@ module _ (s n : ℕ) (limits : Limits) (D : List Deed) (right : AreRightDeeds s 
   ref_owned rep counted held = held_owned s n limits rep D right (holds_owned s n limits D right) counted held
 
   -- the counted references of a value that may be sent
-  value_owned : (value : Value) → value_refused s (history_of s n D) value ≡ None → AllByRecursion (λ rep. is_owned s n rep D ≡ true) (filter is_counted (refs_in value))
+  pub value_owned : (value : Value) → value_refused s (history_of s n D) value ≡ None → AllByRecursion (λ rep. is_owned s n rep D ≡ true) (filter is_counted (refs_in value))
   value_owned value e =
       let held = refs_held s (history_of s n D) (filter is_counted (refs_in value)) (next_none (is_faulty (pickle_of value)) refusals.TooBig (refs_refused s (history_of s n D) (filter is_counted (refs_in value))) e).1 in
       all_both (λ rep. is_counted rep ≡ true) (λ rep. is_held s rep (history_of s n D) ≡ true) (λ rep. is_owned s n rep D ≡ true) ref_owned (filter is_counted (refs_in value)) (all_pass is_counted (refs_in value)) held

@@ -13,6 +13,7 @@ pub mod Known
 pub mod Denied
 pub mod Standing
 pub mod Copied
+pub mod Numbers
 pub mod Excused
 pub mod Points
 pub mod Placed

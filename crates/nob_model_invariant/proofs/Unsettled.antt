@@ -79,4 +79,4 @@ settle_bundle n a b k limits J run typed up next =
     let all : List SentItem = sent (history_at a n J) in
     some_passes (is_sent_to b session) (is_pinned (deeds_at a J)) (λ (o : SentItem). o.to == b && o.number == k) all (k - 1) one its.place
     (pinned_by b k (deeds_at a J) one its.to its.of_session its.number (ap (λ (i : Item). is_some_of (counted_in i)) its.same ∙ carry.2) unsettled up)
-    (and_from _ _ (eq-eqb one.to b its.to) (eq-eqb one.number k its.number))
+    (and_from (one.to == b) (one.number == k) (eq-eqb one.to b its.to) (eq-eqb one.number k its.number))
