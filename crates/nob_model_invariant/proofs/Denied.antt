@@ -35,8 +35,7 @@ use Rattle.nob_model_invariant.specs.Settles.{settles_among, is_in}
 use Rattle.nob_model_holdings.proofs.Holdings.{pins_stand}
 use Rattle.nob_model_holdings.proofs.Lists.{all_append}
 use Rattle.nob_model_invariant.proofs.Owners.{gave_of, asked_of, are_answered}
-use Rattle.nob_model_invariant.proofs.BySession.{acted_is}
-use Rattle.nob_model_invariant.proofs.EachSession.{given_elsewhere, sent_stays, acted_stays}
+use Rattle.nob_model_invariant.proofs.BySession.{given_elsewhere, sent_stays, acted_is, acted_stays}
 use Rattle.nob_model_invariant.proofs.Bundles.{settled_in}
 
 -- what went to client c in the session in which space s is, with a reference to the object of an index, is settled

@@ -21,7 +21,7 @@ use Rattle.nob_model.specs.Lists.{IsRightDeed, AreRightDeeds}
 use Rattle.nob_model_journal.specs.Journals.{deeds_at, number_at, closed_at, sent_in, acted_during, acted_in}
 use Rattle.nob_model_journal.specs.Runs.{WorldRun}
 use Rattle.nob_model_invariant.proofs.Entries.{grows, right_deeds_at}
-use Rattle.nob_model_invariant.proofs.BySession.{sent_in_more, sent_in_same}
+use Rattle.nob_model_invariant.proofs.BySession.{sent_stays, acted_stays}
 
 -- ---- the number of a session, by one deed more
 
@@ -51,44 +51,6 @@ rises n a b limits entry J run = no_less b (deeds_at a J) (deeds_at a (entry ∷
 
 pub deed_rises : (s n p : ℕ) (limits : Limits) (deed : Deed) (D : List Deed) → IsRightDeed s n limits deed D → number p D ≤ number p (deed ∷ D)
 deed_rises s n p limits deed D right = no_less p D (deed ∷ D) (deed_goes_on s n p limits deed D right)
-
--- ---- what a deed gives and acts on
-
--- a deed leaves the number of each session, or it gives nothing
-number_or_none : (s n p : ℕ) (deed : Deed) (D : List Deed) → (number p (deed ∷ D) ≡ number p D) ⊎ (gifts s n deed D (work s n D) ≡ [])
-number_or_none s n p deed D = inl refl
-
-pub given_elsewhere : (s n p k : ℕ) (deed : Deed) (D : List Deed) → (number p (deed ∷ D) == k) ≡ false → ((number p D == k) ≡ false) ⊎ (gifts s n deed D (work s n D) ≡ [])
-given_elsewhere s n p k deed D other = by (number_or_none s n p deed D)
-  where
-    by : (number p (deed ∷ D) ≡ number p D) ⊎ (gifts s n deed D (work s n D) ≡ []) → ((number p D == k) ≡ false) ⊎ (gifts s n deed D (work s n D) ≡ [])
-    by (inl same) = inl (ap (λ (m : ℕ). m == k) (sym same) ∙ other)
-    by (inr none) = inr none
-
-either_none : (b : Bool) (more : List Item) → more ≡ [] → cond b more [] ≡ []
-either_none true more none = none
-either_none false more none = refl
-
--- nothing is sent in another session than the one in which a space is then
-pub sent_stays : (s n p k : ℕ) (deed : Deed) (D : List Deed) → (number p (deed ∷ D) == k) ≡ false → items_sent_in p k (sent (history_of s n (deed ∷ D))) ≡ items_sent_in p k (sent (history_of s n D))
-sent_stays s n p k deed D other = by (given_elsewhere s n p k deed D other)
-  where
-    by : ((number p D == k) ≡ false) ⊎ (gifts s n deed D (work s n D) ≡ []) → items_sent_in p k (sent (history_of s n (deed ∷ D))) ≡ items_sent_in p k (sent (history_of s n D))
-    by (inl elsewhere) = sent_in_same s n p k deed D elsewhere
-    by (inr none) =
-        sent_in_more s n p k deed D
-        ∙ ap (λ more. items_sent_in p k (sent (history_of s n D)) ++ more) (either_none (number p D == k) _ (ap (items_to p) none))
-        ∙ append-nil (items_sent_in p k (sent (history_of s n D)))
-
--- and nothing is acted on
-pub acted_stays : (p k : ℕ) (deed : Deed) (D : List Deed) → (number p (deed ∷ D) == k) ≡ false → acted_during p k (deed ∷ D) ≡ acted_during p k D
-acted_stays p k (did.Act q j) D other = by (q == p) (number p D == k) other
-  where
-    by : (own now : Bool) → now ≡ false → cond (own && now) (acted_during p k D ++ (j, item_at p j D) ∷ []) (acted_during p k D) ≡ acted_during p k D
-    by own true is = cc
-    by true false is = refl
-    by false false is = refl
-acted_stays p k deed D other = refl
 
 -- ---- each session
 

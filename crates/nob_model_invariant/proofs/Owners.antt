@@ -38,7 +38,7 @@ use Rattle.nob_model.proofs.Accepted.{act_tells}
 use Rattle.nob_model.proofs.Premises.{in_turn, item_acted, no_fault}
 use Rattle.nob_model.proofs.Carrying.{all_filter}
 use Rattle.nob_model_invariant.specs.Asking.{ask_in, answer_in, asks_among, answers_among, items_among, dirties_in, last_or, word_of, last_word, has_no, OkFirst, AnsweredInTurn}
-use Rattle.nob_model_invariant.proofs.EachSession.{sent_stays}
+use Rattle.nob_model_invariant.proofs.BySession.{sent_stays}
 use Rattle.nob_model_invariant.proofs.Bools.{dirties_push, last_push, word_push}
 
 -- what space s answered a client for an index in the session in which it is, and what the client asked

@@ -16,8 +16,8 @@ pub fn waiting()
     ensures { WaitingLaw }
 {}
 
-/// In every run of a world, where an owner answered a client by DirtyNo, all that it sent that
-/// client in their session with a reference to the object is settled.
+/// In every run of a world, where an owner answered a client by DirtyNo in a session, all that it
+/// sent that client in it with a reference to the object is settled by what it acted on in it.
 #[tactic(auto, using(crate::proofs::Points::denials))]
 pub fn denials()
     ensures { DenialsLaw }
